@@ -71,7 +71,7 @@ def schema_of(text):
 
 
 def beats_of(rows):
-    """The records of a tuple file by their cycle, and the cycle of the end."""
+    """The records of a tuple file by their cycle, a tick as ['tick'], and the cycle of the end."""
     beats, last, end = {}, 0, None
     for row in rows:
         last = int(row[0])
@@ -90,18 +90,23 @@ def ports_of(text):
     return re.search(r'module (\w+)', text).group(1), [(n, int(w or 0) + 1) for w, n in outs if n not in ('out__valid', 'out__eos')]
 
 
-def inputs_of(schema):
-    """The input ports of a schema's streams, in order, with their widths."""
+def has_tick(text):
+    """Whether a module has the port of ticks, as those of windows of time have it."""
+    return bool(re.search(r'input wire (?:\[0:0\] )?tick\b', text))
+
+
+def inputs_of(schema, ticks=False):
+    """The input ports of a schema's streams, in order, with their widths, and that of ticks where the module has it."""
     ports = []
     for stream, columns in schema:
         ports += [(f'in__{stream}__valid', 1)] + [(f'in__{stream}__{column}', width_of(kind)) for column, kind in columns]
-    return ports
+    return ports + [('tick', 1)] * ticks
 
 
-def harness(module, schema, outs, shown, steps, more=()):
+def harness(module, schema, outs, shown, steps, more=(), ticks=False):
     """A testbench: `shown` is what is done with outputs in the middle of a cycle, `steps` sets the inputs right behind the edge that begins one,
-    `more` stands behind the declarations."""
-    inputs = inputs_of(schema)
+    `more` stands behind the declarations, `ticks` says whether the module has the port of ticks."""
+    inputs = inputs_of(schema, ticks)
     lines = ['module testbench;', 'reg clk = 0, rst = 1, eos = 0, told = 0;', 'integer cycle = -1;']
     lines += [f'reg [{w - 1}:0] {name} = 0;' for name, w in inputs]
     lines += ['wire out__valid, out__eos, fault__group, fault__queue;'] + [f'wire [{w - 1}:0] {name};' for name, w in outs] + list(more)
@@ -112,15 +117,23 @@ def harness(module, schema, outs, shown, steps, more=()):
     return '\n'.join(lines + ['end', 'endmodule', ''])
 
 
-def steps_of(schema, beats, end):
+def inputs_at(schema, records, ticks=False):
+    """The inputs that the records of a beat set, each with its width and its word. A tick sets none where the module has no port for it."""
+    for stream, *values in records:
+        if stream == 'tick':
+            yield from [('tick', 1, 1)] * ticks
+            continue
+        yield f'in__{stream}__valid', 1, 1
+        for (column, kind), value in zip(dict(schema)[stream], values):
+            yield f'in__{stream}__{column}', width_of(kind), word_of(value, kind)
+
+
+def steps_of(schema, beats, end, ticks=False):
     """The statements that set the inputs of each cycle that has a beat."""
     steps = ['case (cycle)']
     for cycle in sorted(set(beats) | {end}):
         steps.append(f'{cycle}: begin')
-        for stream, *values in beats.get(cycle, []):
-            steps.append(f'in__{stream}__valid = 1;')
-            for (column, kind), value in zip(dict(schema)[stream], values):
-                steps.append(f"in__{stream}__{column} = {width_of(kind)}'d{word_of(value, kind)};")
+        steps += [f"{name} = {width}'d{word};" for name, width, word in inputs_at(schema, beats.get(cycle, []), ticks)]
         steps += ['eos = 1;'] if cycle == end else []
         steps.append('end')
     return steps + ['default: ;', 'endcase']

@@ -4,7 +4,7 @@ A query is a dict. Its 'sort' is
     read            the rows of 'name'
     UNION, CONCAT   of 'left' and 'right'
     select          'items' [(name, expression)], None for *; or 'totals' [(name, aggregate, expression, weights)]; over 'source', with
-                    'window' (size, advance), 'filter' and 'group' (key, groups), each None where it is missing
+                    'window' (size, advance, 'TUPLES' or 'TIME'), 'filter' and 'group' (key, groups), each None where it is missing
     each            'body' over 'source' by its 'window' or its 'group', as 'var'
 and each has its 'columns' [(name, kind)]. An expression is (sort, kind, part, ..): ('column', kind, name, name),
 ('literal', kind, word, text), ('NOT', kind, e), ('CAST', kind, e), and (operator, kind, e, e).
@@ -208,9 +208,15 @@ def of_parts(found, cut, body, spills=lambda rows: False):
     return {spill: either(trees) for spill, trees in out.items()}
 
 
-def windowed(found, window, body):
-    size, advance = window
-    return of_parts(found, lambda rows: [rows[at:at + size] for at in range(0, len(rows), advance)], body)
+def windowed(query, found, clock, body):
+    size, advance, measure = query['window']
+    if measure == 'TUPLES':
+        return of_parts(found, lambda rows: [rows[at:at + size] for at in range(0, len(rows), advance)], body)
+    times, ticks = clock[0][query['source']['name']], clock[1]
+
+    def cut(rows):
+        return [tuple(row for row, time in zip(rows, times, strict=True) if at <= time < at + size) for at in range(0, ticks + 1, advance)]
+    return of_parts(found, cut, body)
 
 
 def grouped(found, at, most, body):
@@ -243,27 +249,31 @@ def selected(query, columns, found):
     return found
 
 
-def outcomes_of(query, sources):
-    """All right outcomes of a query over the rows of its sources, by name; TooMany where there are too many."""
+def outcomes_of(query, sources, clock):
+    """All right outcomes of a query over the rows of its sources, by name; TooMany where there are too many.
+
+    The clock is the times of the rows of each stream, by name, and the number of all ticks.
+    """
     SPENT[0] = 0
-    return results(query, sources)
+    return results(query, sources, clock)
 
 
-def results(query, sources):
+def results(query, sources, clock=None):
     sort = query['sort']
     if sort == 'read':
         return {False: ('rows', *sources[query['name']])}
     if sort in ('UNION', 'CONCAT'):
-        return both(results(query['left'], sources), results(query['right'], sources), merge if sort == 'UNION' else beside)
-    columns, found = query['source']['columns'], results(query['source'], sources)
+        left, right = results(query['left'], sources, clock), results(query['right'], sources, clock)
+        return both(left, right, merge if sort == 'UNION' else beside)
+    columns, found = query['source']['columns'], results(query['source'], sources, clock)
     if sort == 'select':
-        return windowed(found, query['window'], lambda rows: selected(query, columns, {False: ('rows', *rows)})) if query['window'] else \
+        return windowed(query, found, clock, lambda rows: selected(query, columns, {False: ('rows', *rows)})) if query['window'] else \
             selected(query, columns, found)
 
     def body(rows):
         return results(query['body'], {query['var']: rows})
     if query['window']:
-        return windowed(found, query['window'], body)
+        return windowed(query, found, clock, body)
     return grouped(found, [name for name, _ in columns].index(query['group'][0]), query['group'][1], body)
 
 
@@ -299,7 +309,7 @@ def source_text(query):
 
 
 def window_text(window):
-    return f' [SIZE {window[0]} ADVANCE {window[1]} TUPLES]' if window else ''
+    return f' [SIZE {window[0]} ADVANCE {window[1]} {window[2]}]' if window else ''
 
 
 def query_text(query):
@@ -324,7 +334,7 @@ def forms_of(query):
         return {sort} | forms_of(query['left']) | forms_of(query['right'])
     if sort == 'read':
         return set()
-    out = {name for name, found in (('WHERE', query['filter']), ('aggregates', query['totals']), ('windows', query['window']), ('groups', query['group'])) if found}
+    out = {name for name, found in (('WHERE', query['filter']), ('aggregates', query['totals']), ('windows', query['window']), ('windows of time', query['window'] and query['window'][2] == 'TIME'), ('groups', query['group'])) if found}
     out |= {'nested'} if query['source']['sort'] != 'read' or sort == 'each' else set()
     out |= {'plain'} if sort == 'select' and not query['totals'] else set()
     return out | forms_of(query['source']) | (forms_of(query['body']) if query['body'] else set())

@@ -4,10 +4,10 @@ use Rattle.std.proofs.Math.Nat.{zero-mul}
 use Rattle.std.proofs.lemmas.Grind.{div_ceil_times}
 use Rattle.gl_algebra.specs.declared.figures.Figures.{Figures}
 use Rattle.gl_algebra.specs.declared.node.PlanNode.{PlanNode}
-use Rattle.gl_algebra.specs.declared.node.PlanNode.TheVariants.{Stream, Body, Compute, Select, Project, Aggregate, Union, Beside, Window, Group}
+use Rattle.gl_algebra.specs.declared.node.PlanNode.TheVariants.{Stream, Body, Compute, Select, Project, Aggregate, Union, Beside, Window, TimeWindow, Group}
 use Rattle.gl_algebra.specs.Nodewise.{named_by}
 use Rattle.gl_algebra.specs.Shapes.{Shape, shape_from, shape_of, is_closing}
-use Rattle.gl_algebra.specs.Views.{copies_of_window}
+use Rattle.gl_algebra.specs.Views.{copies_of_time, copies_of_window}
 use Rattle.gl_algebra.specs.FigureTable.{IsSound, input_figures, settled, delayed, last_of, wait_of, delay_of_aggs, window_gap, group_gap, needs_spacer, spacer_figures, spaced, is_fixed, in_step, at_end, joined, figures_from, figures_of}
 use Rattle.gl_algebra.specs.Laws.{RowsKeepSound, FiguresAreSound, ClosingNodesWait}
 use Rattle.gl_bits.proofs.Bools.{and_parts}
@@ -28,6 +28,7 @@ figures_local s t v w (Aggregate child aggs) g h = rw (g.0, h.0)
 figures_local s t v w (Union left right) g h = rw (h.0, h.1.0)
 figures_local s t v w (Beside left right) g h = rw (h.0, h.1.0)
 figures_local s t v w (Window source body size advance) g h = rw (h.0, h.1.0)
+figures_local s t v w (TimeWindow source body size advance) g h = rw (h.0, h.1.0)
 figures_local s t v w (Group source body key groups) g h = rw (h.0, h.1.0)
 
 -- where tuples come without the end, the last cycle is the last
@@ -50,6 +51,9 @@ some_from_product (suc n) size advance h g = omega arith
 pub one_copy : (size advance : ℕ) → 1 ≤ size → 1 ≤ advance → 1 ≤ copies_of_window size advance
 one_copy size advance h g =
     some_from_product (copies_of_window size advance) size advance h (div_ceil_times size advance g).0
+
+pub one_in_time : (size advance : ℕ) → 1 ≤ copies_of_time size advance
+one_in_time size advance = omega arith
 
 input_sound : IsSound input_figures
 input_sound = record {
@@ -80,6 +84,11 @@ rows_keep_sound s f (Beside left right) suits sound =
 rows_keep_sound s f (Window source body size advance) suits sound =
     windows_sound (copies_of_window size advance) (spaced (window_gap (f body)) (f source)) (f body)
     (one_copy size advance suits.1.least suits.2.least)
+    (spaced_sound (window_gap (f body)) (f source) (sound 0 0 (lit< tt)))
+    (sound 1 0 (lit< tt))
+rows_keep_sound s f (TimeWindow source body size advance) suits sound =
+    windows_sound (copies_of_time size advance) (spaced (window_gap (f body)) (f source)) (f body)
+    (one_in_time size advance)
     (spaced_sound (window_gap (f body)) (f source) (sound 0 0 (lit< tt)))
     (sound 1 0 (lit< tt))
 rows_keep_sound s f (Group source body key groups) suits sound =
@@ -144,6 +153,7 @@ rows_wait s f (Beside left right) wait closing =
     joined-nt (delayed (wait_of (f left) (f right)) (f left)) (delayed (wait_of (f right) (f left)) (f right)) (wait 0 0 (lit< tt) sides.0)
 rows_wait s f (Window source body size advance) wait closing =
     rw (spaced-nt (window_gap (f body)) (f source), wait 0 0 (lit< tt) closing) (zero-mul (f body).ne)
+rows_wait s f (TimeWindow source body size advance) wait closing = absurd (cc)
 rows_wait s f (Group source body key groups) wait closing = refl
 
 pub closing_nodes_wait : ClosingNodesWait

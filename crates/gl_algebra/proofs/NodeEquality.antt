@@ -28,7 +28,7 @@ use Rattle.gl_algebra.specs.declared.node.PlanAgg.TheVariants.{Count, Sum, Min, 
 use Rattle.gl_algebra.specs.contracts.node.PlanAggPartialEq.TheImpl as OfPlanAgg
 use Rattle.gl_algebra.specs.contracts.node.PlanAggEq.TheImpl.Laws as PlanAggLaws
 use Rattle.gl_algebra.specs.declared.node.PlanNode.{PlanNode}
-use Rattle.gl_algebra.specs.declared.node.PlanNode.TheVariants.{Stream, Body, Compute, Select, Project, Aggregate, Union, Beside, Window, Group}
+use Rattle.gl_algebra.specs.declared.node.PlanNode.TheVariants.{Stream, Body, Compute, Select, Project, Aggregate, Union, Beside, Window, TimeWindow, Group}
 use Rattle.gl_algebra.specs.contracts.node.PlanNodeEq.TheImpl.Laws as PlanNodeLaws
 
 -- a test that holds of one thing alone, and of each thing and itself, decides
@@ -135,6 +135,11 @@ same_node-is (Window a b m n) (Window c d p q) h =
     let second = and_parts (nat_eq b d) (nat_eq m p && nat_eq n q) first.1 in
     let third = and_parts (nat_eq m p) (nat_eq n q) second.1 in
     λ i. Window (number a c first.0 i) (number b d second.0 i) (number m p third.0 i) (number n q third.1 i)
+same_node-is (TimeWindow a b m n) (TimeWindow c d p q) h =
+    let first = and_parts (nat_eq a c) (nat_eq b d && (nat_eq m p && nat_eq n q)) h in
+    let second = and_parts (nat_eq b d) (nat_eq m p && nat_eq n q) first.1 in
+    let third = and_parts (nat_eq m p) (nat_eq n q) second.1 in
+    λ i. TimeWindow (number a c first.0 i) (number b d second.0 i) (number m p third.0 i) (number n q third.1 i)
 same_node-is (Group a b m n) (Group c d p q) h =
     let first = and_parts (nat_eq a c) (nat_eq b d && (nat_eq m p && nat_eq n q)) h in
     let second = and_parts (nat_eq b d) (nat_eq m p && nat_eq n q) first.1 in

@@ -1,16 +1,18 @@
--- A node whose leaves are all a body's input reads that input alone.
-use Rattle.std.proofs.Common.{◌≡◌, ℕ, List, [], ◌∷◌, Bool, false, All, refl, ◌∙◌, lit<}
+-- A node whose leaves are all a body's input reads that input alone, and without a window of time no node reads the time.
+use Rattle.std.proofs.Common.{◌≡◌, ℕ, List, [], ◌∷◌, Bool, true, false, All, Some, slice_get, refl, sym, ap, ◌∙◌, subst, lit<}
+use Rattle.std.proofs.lemmas.Bool.{false_from_ne_true}
 use Rattle.gl_bits.specs.declared.kind.Kind.{Kind}
 use Rattle.gl_bits.specs.Lists.{slices, Group as GroupOf, IsInterleaving}
 use Rattle.gl_algebra.specs.declared.node.PlanNode.{PlanNode}
-use Rattle.gl_algebra.specs.declared.node.PlanNode.TheVariants.{Stream, Body, Compute, Select, Project, Aggregate, Union, Beside, Window, Group}
-use Rattle.gl_algebra.specs.Fits.{Suits}
-use Rattle.gl_algebra.specs.Laws.{BodiesReadTheirInput}
+use Rattle.gl_algebra.specs.declared.node.PlanNode.TheVariants.{Stream, Body, Compute, Select, Project, Aggregate, Union, Beside, Window, TimeWindow, Group}
+use Rattle.gl_algebra.specs.Fits.{IsOverStream, IsPlan, Suits}
+use Rattle.gl_algebra.specs.Laws.{BodiesReadTheirInput, HaveSameRows, UntimedResults}
 use Rattle.gl_algebra.specs.Nodewise.{named_by}
 use Rattle.gl_bits.specs.Results.{Row, Results, IsChanged, IsOfBoth, AreBeside, AreJoined, IsOfParts, IsOfGroup}
 use Rattle.gl_algebra.specs.Results.{Inputs, Meaning, given, meaning_from, IsPlanResult}
 use Rattle.gl_algebra.specs.Shapes.{Shape, shape_of, shape_from}
-use Rattle.gl_algebra.proofs.ListLemmas.{all_left, all_right}
+use Rattle.gl_algebra.specs.Views.{is_time, reads_time}
+use Rattle.gl_algebra.proofs.ListLemmas.{all_left, all_right, any_at}
 use Rattle.gl_algebra.proofs.PlanLemmas.{by_nodes}
 use Rattle.gl_algebra.proofs.TableLemmas.{nodes_follow_tables}
 
@@ -60,34 +62,47 @@ abbrev Reads : (ℕ → Shape) → (ℕ → Meaning) → ℕ → Type 0
 Reads shapes meanings child = (kinds : List Kind) → All (λ leaf. leaf ≡ Body kinds) (shapes child).leaves
     → (inputs others : Inputs) → inputs.body ≡ others.body → Within (meanings child inputs) (meanings child others)
 
-row_reads : (s : ℕ → Shape) (m : ℕ → Meaning) (node : PlanNode) → Suits s node → All (Reads s m) (named_by node)
+-- the rows of a window of time come from a stream
+abbrev ComesOfStream : (ℕ → Shape) → PlanNode → Type 0
+ComesOfStream s (TimeWindow source body size advance) = (number : ℕ) × (kinds : List Kind) × ((s source).leaves ≡ Stream number kinds ∷ [])
+ComesOfStream s node = Unit {0}
+
+of_stream : (nodes : List PlanNode) (node : PlanNode) → IsPlan nodes → IsOverStream nodes node → ComesOfStream (shape_of nodes) node
+of_stream nodes (TimeWindow source body size advance) plan over =
+    (over.0, over.1, ap (λ (x : Shape). x.leaves) (nodes_follow_tables nodes source (Stream over.0 over.1) plan over.2).shape)
+of_stream nodes _ plan over = tt
+
+row_reads : (s : ℕ → Shape) (m : ℕ → Meaning) (node : PlanNode) → Suits s node → ComesOfStream s node → All (Reads s m) (named_by node)
     → (kinds : List Kind) → All (λ leaf. leaf ≡ Body kinds) (shape_from s node).leaves
     → (inputs others : Inputs) → inputs.body ≡ others.body → Within (meaning_from s m node inputs) (meaning_from s m node others)
-row_reads s m (Stream number columns) suits reads kinds leaves inputs others same =
+row_reads s m (Stream number columns) suits timed reads kinds leaves inputs others same =
     absurd (let is : Stream number columns ≡ Body kinds = leaves 0 (Body kinds) (lit< tt) in cc)
-row_reads s m (Body columns) suits reads kinds leaves inputs others same =
+row_reads s m (Body columns) suits timed reads kinds leaves inputs others same =
     λ out spill r. record { rows = r.rows ∙ same; kept = r.kept }
-row_reads s m (Compute child ops) suits reads kinds leaves inputs others same =
+row_reads s m (Compute child ops) suits timed reads kinds leaves inputs others same =
     changed_within _ _ _ (reads 0 0 (lit< tt) kinds leaves inputs others same)
-row_reads s m (Select child column) suits reads kinds leaves inputs others same =
+row_reads s m (Select child column) suits timed reads kinds leaves inputs others same =
     changed_within _ _ _ (reads 0 0 (lit< tt) kinds leaves inputs others same)
-row_reads s m (Project child items) suits reads kinds leaves inputs others same =
+row_reads s m (Project child items) suits timed reads kinds leaves inputs others same =
     changed_within _ _ _ (reads 0 0 (lit< tt) kinds leaves inputs others same)
-row_reads s m (Aggregate child aggs) suits reads kinds leaves inputs others same =
+row_reads s m (Aggregate child aggs) suits timed reads kinds leaves inputs others same =
     changed_within _ _ _ (reads 0 0 (lit< tt) kinds leaves inputs others same)
-row_reads s m (Union left right) suits reads kinds leaves inputs others same =
+row_reads s m (Union left right) suits timed reads kinds leaves inputs others same =
     both_within _ _ _ _ IsInterleaving
     (reads 0 0 (lit< tt) kinds (all_left (λ leaf. leaf ≡ Body kinds) (s left).leaves (s right).leaves leaves) inputs others same)
     (reads 1 0 (lit< tt) kinds (all_right (λ leaf. leaf ≡ Body kinds) (s left).leaves (s right).leaves leaves) inputs others same)
-row_reads s m (Beside left right) suits reads kinds leaves inputs others same =
+row_reads s m (Beside left right) suits timed reads kinds leaves inputs others same =
     both_within _ _ _ _ AreBeside
     (reads 0 0 (lit< tt) kinds (all_left (λ leaf. leaf ≡ Body kinds) (s left).leaves (s right).leaves leaves) inputs others same)
     (reads 1 0 (lit< tt) kinds (all_right (λ leaf. leaf ≡ Body kinds) (s left).leaves (s right).leaves leaves) inputs others same)
-row_reads s m (Window source body size advance) suits reads kinds leaves inputs others same =
+row_reads s m (Window source body size advance) suits timed reads kinds leaves inputs others same =
     parts_within _ _ (slices size advance) (λ slice. m body (given inputs slice)) (λ slice. m body (given others slice)) (λ rows. false)
     (reads 0 0 (lit< tt) kinds leaves inputs others same)
     (λ slice. reads 1 0 (lit< tt) (s source).kinds suits.0.leaves (given inputs slice) (given others slice) refl)
-row_reads s m (Group source body key count) suits reads kinds leaves inputs others same =
+row_reads s m (TimeWindow source body size advance) suits timed reads kinds leaves inputs others same =
+    let own = subst (λ (ls : List PlanNode). All (λ leaf. leaf ≡ Body kinds) ls) timed.2 leaves in
+    absurd (let is : Stream timed.0 timed.1 ≡ Body kinds = own 0 (Body kinds) (lit< tt) in cc)
+row_reads s m (Group source body key count) suits timed reads kinds leaves inputs others same =
     parts_within _ _ _ (IsOfGroup (λ rows. m body (given inputs rows))) (IsOfGroup (λ rows. m body (given others rows))) _
     (reads 0 0 (lit< tt) kinds leaves inputs others same)
     (λ (group : GroupOf Row). changed_within _ _ _
@@ -99,6 +114,49 @@ body_reads nodes number plan within =
     (λ n node is fits before kinds leaves inputs others same out spill r.
     let follows = nodes_follow_tables nodes n node plan is in
     (follows.results others out spill).1
-    (row_reads (shape_of nodes) (IsPlanResult nodes) node fits.suits (λ k d h. before _ (fits.before k d h)) kinds
+    (row_reads (shape_of nodes) (IsPlanResult nodes) node fits.suits (of_stream nodes node plan fits.timed) (λ k d h. before _ (fits.before k d h)) kinds
     (rw follows.shape at leaves) inputs others same out spill ((follows.results inputs out spill).0 r)))
+    number within
+
+-- ---- without a window of time
+
+abbrev Untimed : (ℕ → Meaning) → ℕ → Type 0
+Untimed meanings child = (inputs others : Inputs) → HaveSameRows inputs others → Within (meanings child inputs) (meanings child others)
+
+row_untimed : (s : ℕ → Shape) (m : ℕ → Meaning) (node : PlanNode) → is_time node ≡ false → All (Untimed m) (named_by node)
+    → (inputs others : Inputs) → HaveSameRows inputs others → Within (meaning_from s m node inputs) (meaning_from s m node others)
+row_untimed s m (Stream number kinds) none each inputs others same = λ out spill r. record { rows = r.rows ∙ same.streams number; kept = r.kept }
+row_untimed s m (Body kinds) none each inputs others same = λ out spill r. record { rows = r.rows ∙ same.body; kept = r.kept }
+row_untimed s m (Compute child ops) none each inputs others same = changed_within _ _ _ (each 0 0 (lit< tt) inputs others same)
+row_untimed s m (Select child column) none each inputs others same = changed_within _ _ _ (each 0 0 (lit< tt) inputs others same)
+row_untimed s m (Project child items) none each inputs others same = changed_within _ _ _ (each 0 0 (lit< tt) inputs others same)
+row_untimed s m (Aggregate child aggs) none each inputs others same = changed_within _ _ _ (each 0 0 (lit< tt) inputs others same)
+row_untimed s m (Union left right) none each inputs others same =
+    both_within _ _ _ _ IsInterleaving (each 0 0 (lit< tt) inputs others same) (each 1 0 (lit< tt) inputs others same)
+row_untimed s m (Beside left right) none each inputs others same =
+    both_within _ _ _ _ AreBeside (each 0 0 (lit< tt) inputs others same) (each 1 0 (lit< tt) inputs others same)
+row_untimed s m (Window source body size advance) none each inputs others same =
+    parts_within _ _ (slices size advance) (λ slice. m body (given inputs slice)) (λ slice. m body (given others slice)) (λ rows. false)
+    (each 0 0 (lit< tt) inputs others same)
+    (λ slice. each 1 0 (lit< tt) (given inputs slice) (given others slice) (record { streams = same.streams; body = refl }))
+row_untimed s m (TimeWindow source body size advance) none each inputs others same = absurd (let z : true ≡ false = none in cc)
+row_untimed s m (Group source body key count) none each inputs others same =
+    parts_within _ _ _ (IsOfGroup (λ rows. m body (given inputs rows))) (IsOfGroup (λ rows. m body (given others rows))) _
+    (each 0 0 (lit< tt) inputs others same)
+    (λ (group : GroupOf Row). changed_within _ _ _
+    (each 1 0 (lit< tt) (given inputs group.rows) (given others group.rows) (record { streams = same.streams; body = refl })))
+
+-- no node is one where none reads the time
+no_time : (nodes : List PlanNode) (n : ℕ) (node : PlanNode) → reads_time nodes ≡ false → slice_get nodes n ≡ Some node → is_time node ≡ false
+no_time nodes n node none is =
+    false_from_ne_true (is_time node) (λ h. let z : true ≡ false = sym (any_at is_time nodes n node is h) ∙ none in absurd (cc))
+
+pub results_are_untimed : UntimedResults
+results_are_untimed nodes number plan within none =
+    by_nodes nodes plan (Untimed (IsPlanResult nodes))
+    (λ n node is fits before inputs others same out spill r.
+    let follows = nodes_follow_tables nodes n node plan is in
+    (follows.results others out spill).1
+    (row_untimed (shape_of nodes) (IsPlanResult nodes) node (no_time nodes n node none is) (λ k d h. before _ (fits.before k d h)) inputs others same out spill
+    ((follows.results inputs out spill).0 r)))
     number within

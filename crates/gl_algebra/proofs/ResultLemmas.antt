@@ -1,12 +1,13 @@
 -- The meaning of a node is its row over the meanings of the nodes that it names, and later nodes change none.
 use Rattle.std.proofs.Common.{◌≡◌, ℕ, ◌<◌, Bool, false, List, map, slice_get, slice_index, refl, subst, arith}
 use Rattle.gl_bits.specs.Lists.{slices, groups, has_further, IsInterleaving}
+use Rattle.gl_bits.specs.Times.{tslices}
 use Rattle.gl_algebra.specs.declared.node.PlanNode.{PlanNode}
-use Rattle.gl_algebra.specs.declared.node.PlanNode.TheVariants.{Stream, Body, Compute, Select, Project, Aggregate, Union, Beside, Window, Group}
+use Rattle.gl_algebra.specs.declared.node.PlanNode.TheVariants.{Stream, Body, Compute, Select, Project, Aggregate, Union, Beside, Window, TimeWindow, Group}
 use Rattle.gl_algebra.specs.Nodewise.{named_by}
 use Rattle.gl_algebra.specs.Shapes.{Shape, shape_of}
 use Rattle.gl_bits.specs.Results.{Row, IsChanged, IsOfBoth, IsOfParts, IsOfGroup, AreBeside}
-use Rattle.gl_algebra.specs.Results.{Inputs, given, Meaning, NoMeaning, computed, selected, projected, totalled, meaning_from, IsPlanResult}
+use Rattle.gl_algebra.specs.Results.{Inputs, given, Meaning, NoMeaning, computed, selected, projected, times_with, totalled, meaning_from, IsPlanResult}
 use Rattle.gl_algebra.proofs.NodewiseLemmas.{Agree, AreInOrder, SameSteps, agree, agree_self, nodewise-kept, nodewise-node, FollowsRow}
 use Rattle.gl_algebra.proofs.ShapeLemmas.{shape-kept}
 
@@ -23,6 +24,9 @@ meaning_local s t v w (Union left right) g h = λ i inputs. IsOfBoth (h.0 i inpu
 meaning_local s t v w (Beside left right) g h = λ i inputs. IsOfBoth (h.0 i inputs) (h.1.0 i inputs) AreBeside
 meaning_local s t v w (Window source body size advance) g h = λ i inputs.
     IsOfParts (h.0 i inputs) (slices size advance) (λ slice. h.1.0 i (given inputs slice)) (λ rows. false)
+meaning_local s t v w (TimeWindow source body size advance) g h = λ i inputs.
+    IsOfParts (h.0 i inputs) (tslices size advance (times_with (g.0 i).pace inputs) inputs.ticks)
+    (λ slice. h.1.0 i (given inputs slice)) (λ rows. false)
 meaning_local s t v w (Group source body key count) g h = λ i inputs.
     IsOfParts (h.0 i inputs) (groups count (λ row. slice_index row key))
     (IsOfGroup (λ rows. h.1.0 i (given inputs rows))) (has_further count (λ row. slice_index row key))

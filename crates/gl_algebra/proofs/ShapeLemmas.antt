@@ -1,11 +1,11 @@
 -- Shapes and fitting: later nodes change neither.
-use Rattle.std.proofs.Common.{◌≡◌, ℕ, ◌<◌, ◌≤◌, List, Some, slice_get, All, refl, ap, subst, arith}
+use Rattle.std.proofs.Common.{◌≡◌, ℕ, ◌<◌, ◌≤◌, List, Some, slice_get, All, refl, ap, ◌∙◌, subst, arith, lit<}
 use Rattle.gl_algebra.specs.declared.node.PlanNode.{PlanNode}
-use Rattle.gl_algebra.specs.declared.node.PlanNode.TheVariants.{Stream, Body, Compute, Select, Project, Aggregate, Union, Beside, Window, Group}
+use Rattle.gl_algebra.specs.declared.node.PlanNode.TheVariants.{Stream, Body, Compute, Select, Project, Aggregate, Union, Beside, Window, TimeWindow, Group}
 use Rattle.gl_algebra.specs.Columns.{bit_kind, OpFits, OperandFits, AggFits}
 use Rattle.gl_algebra.specs.Nodewise.{named_by}
 use Rattle.gl_algebra.specs.Shapes.{Shape, no_shape, shape_from, shape_of}
-use Rattle.gl_algebra.specs.Fits.{Suits, Fits}
+use Rattle.gl_algebra.specs.Fits.{Suits, Fits, IsOverStream}
 use Rattle.gl_algebra.proofs.NodewiseLemmas.{Agree, AreInOrder, SameSteps, agree, nodewise-kept, nodewise-node, FollowsRow}
 
 module _ (s t : ℕ → Shape) where
@@ -20,6 +20,7 @@ module _ (s t : ℕ → Shape) where
   shape_local (Union left right) h = rw (h.0, h.1.0)
   shape_local (Beside left right) h = rw (h.0, h.1.0)
   shape_local (Window source body size advance) h = rw (h.0, h.1.0)
+  shape_local (TimeWindow source body size advance) h = rw (h.0, h.1.0)
   shape_local (Group source body key groups) h = rw (h.0, h.1.0)
 
   -- so does whether it suits them
@@ -33,6 +34,7 @@ module _ (s t : ℕ → Shape) where
   suits_local (Union left right) h suits = rw (← h.0, ← h.1.0) suits
   suits_local (Beside left right) h suits = rw (← h.0, ← h.1.0) suits
   suits_local (Window source body size advance) h suits = rw (← h.0, ← h.1.0) suits
+  suits_local (TimeWindow source body size advance) h suits = rw (← h.0, ← h.1.0) suits
   suits_local (Group source body key groups) h suits = rw (← h.0, ← h.1.0) suits
 
 pub shape_steps : (nodes : List PlanNode) (limit : ℕ) → SameSteps shape_from shape_from nodes limit
@@ -46,6 +48,14 @@ module _ (nodes nodes' : List PlanNode) (limit : ℕ) (order : AreInOrder nodes 
   shape-kept number below =
       nodewise-kept shape_from shape_from no_shape nodes nodes' limit order (shape_steps nodes limit) kept number below
 
+  -- the source of a window of time is the same stream there
+  stream-kept : (number : ℕ) (node : PlanNode) → number ≤ limit → All (λ child. child < number) (named_by node) → IsOverStream nodes node
+      → IsOverStream nodes' node
+  stream-kept number (TimeWindow source body size advance) within before over =
+      let below : source < number = before 0 0 (lit< tt) in
+      (over.0, over.1, kept source (omega arith) ∙ over.2)
+  stream-kept number _ within before over = tt
+
   -- and a node that names nodes below it fits one as it fits the other
   pub fits-kept : (number : ℕ) (node : PlanNode) → number ≤ limit → Fits nodes number node → Fits nodes' number node
   fits-kept number node within fits = record {
@@ -53,6 +63,7 @@ module _ (nodes nodes' : List PlanNode) (limit : ℕ) (order : AreInOrder nodes 
     suits = suits_local (shape_of nodes) (shape_of nodes') node
         (agree (shape_of nodes) (shape_of nodes') number (λ child below. shape-kept child (omega arith)) (named_by node) fits.before)
         fits.suits;
+    timed = stream-kept number node within fits.before fits.timed;
   }
 
 pub shape-node : FollowsRow shape_of (λ nodes. shape_from)

@@ -2,7 +2,7 @@
 use Rattle.std.proofs.Common.{◌≡◌, ℕ, ◌<◌, List, ◌++◌, length, Some, slice_get, refl, sym, arith}
 use Rattle.gl_algebra.specs.declared.figures.Figures.{Figures}
 use Rattle.gl_algebra.specs.declared.node.PlanNode.{PlanNode}
-use Rattle.gl_algebra.specs.declared.node.PlanNode.TheVariants.{Stream, Body, Compute, Select, Project, Aggregate, Union, Beside, Window, Group}
+use Rattle.gl_algebra.specs.declared.node.PlanNode.TheVariants.{Stream, Body, Compute, Select, Project, Aggregate, Union, Beside, Window, TimeWindow, Group}
 use Rattle.gl_algebra.specs.FigureTable.{figures_of}
 use Rattle.gl_algebra.specs.Laws.{NodesFollowTables, EarlierNodesAreKept}
 use Rattle.gl_algebra.specs.Nodewise.{named_by}
@@ -30,6 +30,7 @@ weight_local s t f g v w (Aggregate child aggs) a b c = rw (a.0, c.0)
 weight_local s t f g v w (Union left right) a b c = rw (a.0, b.0, b.1.0, c.0, c.1.0)
 weight_local s t f g v w (Beside left right) a b c = rw (a.0, a.1.0, b.0, b.1.0, c.0, c.1.0)
 weight_local s t f g v w (Window source body size advance) a b c = rw (a.0, a.1.0, b.0, b.1.0, c.0, c.1.0)
+weight_local s t f g v w (TimeWindow source body size advance) a b c = rw (a.0, a.1.0, b.0, b.1.0, c.0, c.1.0)
 weight_local s t f g v w (Group source body key groups) a b c = rw (a.0, a.1.0, b.0, b.1.0, c.0, c.1.0)
 
 copies_local : (v w : ℕ → ℕ) (node : PlanNode) → Agree v w (named_by node) → copies_from v node ≡ copies_from w node
@@ -42,6 +43,7 @@ copies_local v w (Aggregate child aggs) h = rw h.0
 copies_local v w (Union left right) h = rw (h.0, h.1.0)
 copies_local v w (Beside left right) h = rw (h.0, h.1.0)
 copies_local v w (Window source body size advance) h = rw (h.0, h.1.0)
+copies_local v w (TimeWindow source body size advance) h = rw (h.0, h.1.0)
 copies_local v w (Group source body key groups) h = rw (h.0, h.1.0)
 
 lean_local : (s : ℕ → Shape) (f : ℕ → Figures) (o : ℕ → Form) (v w : ℕ → ℕ) (node : PlanNode) → Agree v w (named_by node)
@@ -55,6 +57,7 @@ lean_local s f o v w (Aggregate child aggs) h = rw h.0
 lean_local s f o v w (Union left right) h = rw (h.0, h.1.0)
 lean_local s f o v w (Beside left right) h = rw (h.0, h.1.0)
 lean_local s f o v w (Window source body size advance) h = rw (h.0, h.1.0)
+lean_local s f o v w (TimeWindow source body size advance) h = rw (h.0, h.1.0)
 lean_local s f o v w (Group source body key groups) h = rw (h.0, h.1.0)
 
 form_local : (s : ℕ → Shape) (v w : ℕ → Form) (node : PlanNode) → Agree v w (named_by node) → form_from s v node ≡ form_from s w node
@@ -67,6 +70,7 @@ form_local s v w (Aggregate child aggs) h = rw h.0
 form_local s v w (Union left right) h = refl
 form_local s v w (Beside left right) h = refl
 form_local s v w (Window source body size advance) h = refl
+form_local s v w (TimeWindow source body size advance) h = refl
 form_local s v w (Group source body key groups) h = refl
 
 keys_local : (s : ℕ → Shape) (o : ℕ → Form) (v w : ℕ → ℕ) (node : PlanNode) → Agree v w (named_by node) → keys_from s o v node ≡ keys_from s o w node
@@ -79,6 +83,7 @@ keys_local s o v w (Aggregate child aggs) h = rw h.0
 keys_local s o v w (Union left right) h = rw (h.0, h.1.0)
 keys_local s o v w (Beside left right) h = rw (h.0, h.1.0)
 keys_local s o v w (Window source body size advance) h = rw (h.0, h.1.0)
+keys_local s o v w (TimeWindow source body size advance) h = rw (h.0, h.1.0)
 keys_local s o v w (Group source body key groups) h = rw (h.0, h.1.0)
 
 store_local : (s : ℕ → Shape) (f : ℕ → Figures) (o : ℕ → Form) (v w : ℕ → ℕ) (node : PlanNode) → Agree v w (named_by node)
@@ -92,6 +97,7 @@ store_local s f o v w (Aggregate child aggs) h = rw h.0
 store_local s f o v w (Union left right) h = rw (h.0, h.1.0)
 store_local s f o v w (Beside left right) h = rw (h.0, h.1.0)
 store_local s f o v w (Window source body size advance) h = rw (h.0, h.1.0)
+store_local s f o v w (TimeWindow source body size advance) h = rw (h.0, h.1.0)
 store_local s f o v w (Group source body key groups) h = rw (h.0, h.1.0)
 
 module _ (nodes : List PlanNode) (limit : ℕ) (order : AreInOrder nodes limit) (number : ℕ) (node : PlanNode)

@@ -1,15 +1,16 @@
 -- A node without a union has one result at most.
 use Rattle.std.proofs.Common.{◌≡◌, ℕ, suc, ◌<◌, Bool, false, ◌||◌, ◌∷◌, map, slice_index, All, refl, sym, ◌∙◌, arith, lit<}
 use Rattle.gl_bits.specs.Lists.{slices, groups, Group as GroupOf, has_further}
+use Rattle.gl_bits.specs.Times.{tslices}
 use Rattle.gl_algebra.specs.declared.node.PlanNode.{PlanNode}
-use Rattle.gl_algebra.specs.declared.node.PlanNode.TheVariants.{Stream, Body, Compute, Select, Project, Aggregate, Union, Beside, Window, Group}
+use Rattle.gl_algebra.specs.declared.node.PlanNode.TheVariants.{Stream, Body, Compute, Select, Project, Aggregate, Union, Beside, Window, TimeWindow, Group}
 use Rattle.gl_algebra.specs.Laws.{has_union_from, has_union, ResultsAreUnique}
 use Rattle.gl_algebra.specs.Nodewise.{named_by}
 use Rattle.gl_algebra.specs.Shapes.{Shape, shape_of}
 use Rattle.gl_bits.specs.Results.{Row, IsOfGroup}
 use Rattle.gl_bits.proofs.Bools.{neither_parts}
 use Rattle.gl_bits.proofs.Unique.{HasOne, one_input, one_changed, one_of_parts, one_of_both}
-use Rattle.gl_algebra.specs.Results.{Inputs, given, Meaning, computed, selected, projected, totalled, meaning_from, IsPlanResult}
+use Rattle.gl_algebra.specs.Results.{Inputs, given, Meaning, computed, selected, projected, times_with, totalled, meaning_from, IsPlanResult}
 use Rattle.gl_algebra.proofs.NodewiseLemmas.{Agree, nodewise-node, FollowsRow}
 use Rattle.gl_algebra.proofs.PlanLemmas.{in_order, by_nodes}
 use Rattle.gl_algebra.proofs.ResultLemmas.{meaning-node, moved}
@@ -41,6 +42,10 @@ rows_one s m u (Window source body size advance) one none inputs =
     let sides = none_of_two (u source) (u body) none in
     one_of_parts (m source inputs) (slices size advance) (λ slice. m body (given inputs slice)) (λ rows. false)
     (one 0 0 (lit< tt) sides.0 inputs) (λ slice. one 1 0 (lit< tt) sides.1 (given inputs slice))
+rows_one s m u (TimeWindow source body size advance) one none inputs =
+    let sides = none_of_two (u source) (u body) none in
+    one_of_parts (m source inputs) (tslices size advance (times_with (s source).pace inputs) inputs.ticks) (λ slice. m body (given inputs slice))
+    (λ rows. false) (one 0 0 (lit< tt) sides.0 inputs) (λ slice. one 1 0 (lit< tt) sides.1 (given inputs slice))
 rows_one s m u (Group source body key count) one none inputs =
     let sides = none_of_two (u source) (u body) none in
     one_of_parts (m source inputs) (groups count (λ row. slice_index row key))
@@ -59,6 +64,7 @@ union_local v w (Aggregate child aggs) h = λ i. h.0 i || false
 union_local v w (Union left right) h = refl
 union_local v w (Beside left right) h = λ i. h.0 i || (h.1.0 i || false)
 union_local v w (Window source body size advance) h = λ i. h.0 i || (h.1.0 i || false)
+union_local v w (TimeWindow source body size advance) h = λ i. h.0 i || (h.1.0 i || false)
 union_local v w (Group source body key count) h = λ i. h.0 i || (h.1.0 i || false)
 
 union-node : FollowsRow has_union (λ nodes. has_union_from)

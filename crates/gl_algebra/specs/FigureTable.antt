@@ -4,13 +4,13 @@ use Rattle.gl_bits.specs.Kinds.{width_of}
 use Rattle.gl_bits.specs.declared.kind.Kind.{Kind}
 use Rattle.gl_algebra.specs.declared.figures.Figures.{Figures}
 use Rattle.gl_algebra.specs.declared.node.PlanNode.{PlanNode}
-use Rattle.gl_algebra.specs.declared.node.PlanNode.TheVariants.{Stream, Body, Compute, Select, Project, Aggregate, Union, Beside, Window, Group}
+use Rattle.gl_algebra.specs.declared.node.PlanNode.TheVariants.{Stream, Body, Compute, Select, Project, Aggregate, Union, Beside, Window, TimeWindow, Group}
 use Rattle.gl_algebra.specs.declared.node.PlanAgg.{PlanAgg}
 use Rattle.gl_algebra.specs.declared.node.PlanAgg.TheVariants.{Count, Sum, Min, Max, Avg, Wsum}
 use Rattle.gl_algebra.specs.Columns.{kind_of_operand}
 use Rattle.gl_algebra.specs.Nodewise.{nodewise}
 use Rattle.gl_algebra.specs.Shapes.{Shape, shape_of}
-use Rattle.gl_algebra.specs.Views.{copies_of_window}
+use Rattle.gl_algebra.specs.Views.{copies_of_time, copies_of_window}
 
 -- sound figures: intervals end after they begin, those of two beats never overlap, and after a beat with the end there
 -- is room for a tuple and the gap is no less than after a beat without it
@@ -178,10 +178,12 @@ group_gap body = body.gt
 -- the cycles that the copies of a node's body need from one tuple to the next, 0 where it has no body
 abbrev pub gap_in : (ℕ → Figures) → PlanNode → ℕ
 gap_in figures (Window source body size advance) = window_gap (figures body)
+gap_in figures (TimeWindow source body size advance) = window_gap (figures body)
 gap_in figures (Group source body key groups) = group_gap (figures body)
 gap_in figures node = 0
 
--- windows of this many copies, over a source that is spaced already
+-- windows of this many copies, over a source that is spaced already. Windows of time are over a stream: a beat brings
+-- one tick at most, as it brings one tuple at most, and so one window ends with it, or with an end all that are open
 abbrev pub windows_over : ℕ → Figures → Figures → Figures
 windows_over copies f body =
     let a = f.a + body.a + 2 in
@@ -226,6 +228,8 @@ figures_from shapes figures (Union left right) = union_figures (figures left) (f
 figures_from shapes figures (Beside left right) = beside_figures (figures left) (figures right)
 figures_from shapes figures (Window source body size advance) =
     window_figures (copies_of_window size advance) (figures source) (figures body)
+figures_from shapes figures (TimeWindow source body size advance) =
+    window_figures (copies_of_time size advance) (figures source) (figures body)
 figures_from shapes figures (Group source body key groups) =
     group_figures groups (figures source) (figures body)
 

@@ -4,11 +4,11 @@ use Rattle.gl_bits.specs.Limits.{most_copies, most_groups, most_rows}
 use Rattle.gl_bits.specs.Kinds.{IsKind}
 use Rattle.gl_bits.specs.declared.kind.Kind.{Kind}
 use Rattle.gl_algebra.specs.declared.node.PlanNode.{PlanNode}
-use Rattle.gl_algebra.specs.declared.node.PlanNode.TheVariants.{Stream, Body, Compute, Select, Project, Aggregate, Union, Beside, Window, Group}
+use Rattle.gl_algebra.specs.declared.node.PlanNode.TheVariants.{Stream, Body, Compute, Select, Project, Aggregate, Union, Beside, Window, TimeWindow, Group}
 use Rattle.gl_algebra.specs.Columns.{bit_kind, OperandFits, OpFits, AggFits}
 use Rattle.gl_algebra.specs.Nodewise.{named_by}
 use Rattle.gl_algebra.specs.Shapes.{Shape, unsteady, shape_of, kinds_of}
-use Rattle.gl_algebra.specs.Views.{copies_of_window}
+use Rattle.gl_algebra.specs.Views.{copies_of_time, copies_of_window}
 
 -- a number from 1 to a limit
 pub record IsWithin (limit number : ℕ) : Type 0 where
@@ -33,14 +33,24 @@ Suits shapes (Beside left right) = ((shapes left).pace ≡ (shapes right).pace) 
 Suits shapes (Window source body size advance) =
     IsBodyFor (shapes source) (shapes body)
     × IsWithin most_rows size × IsWithin most_rows advance × (copies_of_window size advance ≤ most_copies)
+Suits shapes (TimeWindow source body size advance) =
+    IsBodyFor (shapes source) (shapes body)
+    × IsWithin most_rows size × IsWithin most_rows advance × (copies_of_time size advance ≤ most_copies)
 Suits shapes (Group source body key groups) =
     IsBodyFor (shapes source) (shapes body)
     × (key < length (shapes source).kinds) × IsWithin most_groups groups
+
+-- a window of time is over a stream itself, whose rows have times
+abbrev pub IsOverStream : List PlanNode → PlanNode → Type 0
+IsOverStream nodes (TimeWindow source body size advance) =
+    (number : ℕ) × (kinds : List Kind) × (slice_get nodes source ≡ Some (Stream number kinds))
+IsOverStream nodes node = Unit {0}
 
 -- a node fits as the node of this number: the nodes that it names stand before it, and it suits them
 pub record Fits (nodes : List PlanNode) (number : ℕ) (node : PlanNode) : Type 0 where
   pub before : All (λ child. child < number) (named_by node)
   pub suits : Suits (shape_of nodes) node
+  pub timed : IsOverStream nodes node
 
 -- a plan: each node fits, and no two are equal
 pub record IsPlan (nodes : List PlanNode) : Type 0 where

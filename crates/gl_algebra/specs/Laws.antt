@@ -14,6 +14,7 @@ use Rattle.gl_algebra.specs.Results.{Inputs, meaning_from, IsPlanResult}
 use Rattle.gl_algebra.specs.Shapes.{Shape, kinds_of, Pace, unsteady, once, with_stream, with_body, shape_from, shape_of, is_closing}
 use Rattle.gl_algebra.specs.Cost.{keys_from, keys_of, lean_from, lean_of, store_from, store_of}
 use Rattle.gl_algebra.specs.Direct.{form_from, form_of}
+use Rattle.gl_algebra.specs.Views.{reads_time}
 use Rattle.gl_algebra.specs.Weights.{weight_from, weight_of, copies_from, copies_of}
 
 -- each row of the table gives sound figures from sound ones
@@ -64,6 +65,18 @@ abbrev pub BodiesReadTheirInput : Type 0
 BodiesReadTheirInput = (nodes : List PlanNode) (number : ℕ) → IsPlan nodes → number < length nodes
     → (kinds : List Kind) → All (λ leaf. leaf ≡ Body kinds) (shape_of nodes number).leaves
     → (inputs others : Inputs) → inputs.body ≡ others.body
+    → (out : List Row) (spill : Bool) → IsPlanResult nodes number inputs out spill
+    → IsPlanResult nodes number others out spill
+
+-- inputs that give the same rows, whatever their times and ticks are
+pub record HaveSameRows (inputs others : Inputs) : Type 0 where
+  pub streams : (number : ℕ) → inputs.streams number ≡ others.streams number
+  pub body : inputs.body ≡ others.body
+
+-- without a window of time a plan has the same results for them
+abbrev pub UntimedResults : Type 0
+UntimedResults = (nodes : List PlanNode) (number : ℕ) → IsPlan nodes → number < length nodes → reads_time nodes ≡ false
+    → (inputs others : Inputs) → HaveSameRows inputs others
     → (out : List Row) (spill : Bool) → IsPlanResult nodes number inputs out spill
     → IsPlanResult nodes number others out spill
 

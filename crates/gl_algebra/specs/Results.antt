@@ -5,6 +5,7 @@ use Rattle.gl_bits.specs.Kinds.{width_of}
 use Rattle.gl_bits.specs.Lists.{slices, groups, has_further, IsInterleaving}
 use Rattle.gl_bits.specs.Results.{Row, Results, IsInput, IsChanged, IsOfBoth, AreBeside, IsOfParts, IsOfGroup}
 use Rattle.gl_bits.specs.Totals.{count_of, sum_total, least_of, greatest_of, average_of, weighted_sum}
+use Rattle.gl_bits.specs.Times.{tslices}
 use Rattle.gl_bits.specs.Words.{bits_of}
 use Rattle.gl_bits.specs.declared.kind.Kind.{Kind}
 use Rattle.gl_algebra.specs.declared.node.ColOp.{ColOp}
@@ -15,12 +16,15 @@ use Rattle.gl_algebra.specs.declared.node.PlanNode.{PlanNode}
 use Rattle.gl_algebra.specs.declared.node.PlanNode.TheVariants as Node
 use Rattle.gl_algebra.specs.Columns.{kind_of_operand}
 use Rattle.gl_algebra.specs.Nodewise.{nodewise}
-use Rattle.gl_algebra.specs.Shapes.{Shape, shape_of}
+use Rattle.gl_algebra.specs.Shapes.{Shape, shape_of, Pace, with_stream}
 use Rattle.gl_algebra.specs.Values.{value_of_operand, value_of_op}
 
--- what the leaves give: the rows of each stream, by its number, and those of a body's input
+-- what the leaves give: the rows of each stream, by its number, with their times and the number of all ticks, and the
+-- rows of a body's input
 pub record Inputs : Type 0 where
   pub streams : ℕ → List Row
+  pub times : ℕ → List ℕ
+  pub ticks : ℕ
   pub body : List Row
 
 -- the inputs of a body that is given these rows
@@ -30,6 +34,11 @@ given inputs rows = record inputs { body = rows }
 -- the results for inputs
 abbrev pub Meaning : Type 1
 Meaning = Inputs → Results
+
+-- the times of rows that come one with each of a stream's
+abbrev pub times_with : Pace → Inputs → List ℕ
+times_with (with_stream number) inputs = inputs.times number
+times_with pace inputs = []
 
 -- the value of an aggregate over rows whose columns have these kinds
 abbrev pub total_of : List Kind → List Row → PlanAgg → ℕ
@@ -77,6 +86,9 @@ meaning_from shapes meanings (Node.Beside left right) inputs =
 meaning_from shapes meanings (Node.Window source body size advance) inputs =
     IsOfParts (meanings source inputs) (slices size advance) (λ slice. meanings body (given inputs slice))
     (λ rows. false)
+meaning_from shapes meanings (Node.TimeWindow source body size advance) inputs =
+    IsOfParts (meanings source inputs) (tslices size advance (times_with (shapes source).pace inputs) inputs.ticks)
+    (λ slice. meanings body (given inputs slice)) (λ rows. false)
 meaning_from shapes meanings (Node.Group source body key count) inputs =
     IsOfParts (meanings source inputs) (groups count (λ row. slice_index row key))
     (IsOfGroup (λ rows. meanings body (given inputs rows))) (has_further count (λ row. slice_index row key))

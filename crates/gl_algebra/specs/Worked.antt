@@ -7,7 +7,7 @@ use Rattle.gl_bits.specs.declared.op.Op.TheVariants as Op
 use Rattle.gl_algebra.specs.declared.node.ColOp.TheVariants.{Binary}
 use Rattle.gl_algebra.specs.declared.node.PlanAgg.TheVariants.{Count, Sum, Max, Avg}
 use Rattle.gl_algebra.specs.declared.node.PlanNode.{PlanNode}
-use Rattle.gl_algebra.specs.declared.node.PlanNode.TheVariants.{Stream, Body, Compute, Select, Project, Aggregate, Union, Beside, Window, Group}
+use Rattle.gl_algebra.specs.declared.node.PlanNode.TheVariants.{Stream, Body, Compute, Select, Project, Aggregate, Union, Beside, Window, TimeWindow, Group}
 use Rattle.gl_algebra.specs.Cost.{keys_of}
 use Rattle.gl_algebra.specs.FigureTable.{figures_of}
 use Rattle.gl_algebra.specs.Roots.{copies_with_spare, gap_of, latency_of, most_memory, most_registers, weight_with_output}
@@ -65,6 +65,10 @@ price_beside_sum =
     Stream 0 trade_kinds ∷ Project 0 (Column 1 ∷ []) ∷ Compute 0 (Binary Op.Add (Column 1) (Column 2) ∷ [])
     ∷ Project 2 (Column 3 ∷ []) ∷ Beside 1 3 ∷ []
 
+-- counts in windows of 2 ticks, of which 2 are open at once
+abbrev pub counts_in_time : List PlanNode
+counts_in_time = Stream 0 trade_kinds ∷ Body trade_kinds ∷ Aggregate 1 (Count ∷ []) ∷ TimeWindow 0 2 2 2 ∷ []
+
 -- sums by symbol, of 4 symbols
 abbrev pub sums_by_symbol : List PlanNode
 sums_by_symbol = Stream 0 trade_kinds ∷ Body trade_kinds ∷ Aggregate 1 (Sum (Column 2) ∷ []) ∷ Group 0 2 0 4 ∷ []
@@ -96,6 +100,7 @@ pub record WorkedFigures : Type 0 where
   pub counts_of_both : Has counts_of_both 6 11 2 4
   pub sum_beside_count : Has sum_beside_count 7 4 1 0
   pub price_beside_sum : Has price_beside_sum 4 2 1 0
+  pub counts_in_time : Has counts_in_time 3 6 1 2
   pub sums_by_symbol : Has sums_by_symbol 3 8 1 4
   pub prices_of_both : Has prices_of_both 4 4 2 0
 

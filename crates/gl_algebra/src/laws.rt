@@ -1,6 +1,6 @@
 //! Laws of plans, each of which stands in a function's contract.
 
-ghost use Rattle.gl_algebra.specs.Laws.{RowsKeepSound, SpacersKeepSound, FiguresAreSound, ClosingNodesWait, ColumnsHaveKinds, PacesFixFigures, BodiesReadTheirInput, ResultsAreUnique, NodesFollowTables, EarlierNodesAreKept};
+ghost use Rattle.gl_algebra.specs.Laws.{RowsKeepSound, SpacersKeepSound, FiguresAreSound, ClosingNodesWait, ColumnsHaveKinds, PacesFixFigures, BodiesReadTheirInput, UntimedResults, ResultsAreUnique, NodesFollowTables, EarlierNodesAreKept};
 
 /// Each row of the table of figures gives sound figures from sound ones, and so does a spacer.
 pub fn rows_keep_sound()
@@ -32,6 +32,11 @@ pub fn paces_fix_figures()
 /// A node all of whose leaves are a body's input reads that input alone.
 pub fn bodies_read_their_input()
     ensures { BodiesReadTheirInput }
+{}
+
+/// Without a window of time a plan has the same results whatever the times and ticks of its inputs are.
+pub fn results_are_untimed()
+    ensures { UntimedResults }
 {}
 
 /// A node without a union below it has one result at most.

@@ -101,6 +101,14 @@ pub enum PlanNode {
         size: u32,
         advance: u32,
     },
+    /// What the body makes of each window of time of the source, a stream: of the rows whose time is within `size` ticks from
+    /// every multiple of `advance` on, up to the number of all ticks.
+    TimeWindow {
+        source: PlanId,
+        body: PlanId,
+        size: u32,
+        advance: u32,
+    },
     /// What the body makes of each of the first `groups` groups of the source by the column `key`, the key first in each row.
     Group {
         source: PlanId,

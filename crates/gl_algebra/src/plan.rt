@@ -6,6 +6,7 @@ ghost use Rattle.gl_algebra.specs.Added.{added, has_node, place_of, placed_at, w
 ghost use Rattle.gl_algebra.specs.Fits.{Fits, IsPlan};
 ghost use Rattle.gl_algebra.specs.Nodewise.{named_by};
 ghost use Rattle.gl_algebra.specs.Shapes.{kinds_of, kinds_over};
+ghost use Rattle.gl_algebra.specs.Views.{is_time, reads_time};
 
 use crate::columns::{
     columns_of_aggs, columns_of_both, columns_of_items, columns_with_key, columns_with_ops,
@@ -93,6 +94,13 @@ impl Plan {
         self.columns[id.number()].as_slice()
     }
 
+    /// Whether a node is a window of time.
+    pub fn reads_time(&self) -> bool
+        ensures { result ≡ reads_time self.now }
+    {
+        self.nodes.as_slice().iter().any(|node| is_time(node))
+    }
+
     /// The id of a node by its number.
     pub fn id(&self, number: usize) -> PlanId
         requires { number < length self.now }
@@ -136,6 +144,7 @@ impl Plan {
                 self.kinds(*right),
             ),
             PlanNode::Window { body, .. } => same_columns(alloc, self.kinds(*body)),
+            PlanNode::TimeWindow { body, .. } => same_columns(alloc, self.kinds(*body)),
             PlanNode::Group {
                 source,
                 body,
@@ -147,6 +156,13 @@ impl Plan {
             }
         }
     }
+}
+
+// Whether a node is a window of time.
+fn is_time(node: &PlanNode) -> bool
+    ensures { result ≡ is_time node.now }
+{
+    matches!(node, PlanNode::TimeWindow { .. })
 }
 
 // The place of the node among these nodes; where they lack it, it then stands last, with its kinds beside it.

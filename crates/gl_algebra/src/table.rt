@@ -1,8 +1,9 @@
 //! The table of figures, row by row: each answers None exactly where a figure would reach 2^32.
 
 ghost use Rattle.std.specs.Prelude.{◌≡◌, ◌≤◌};
+ghost use Rattle.gl_bits.specs.Limits.{most_rows};
 ghost use Rattle.gl_algebra.specs.FigureTable.{aggregate_figures, beside_figures, delay_of_agg, delay_of_aggs, delayed, group_figures, input_figures, settled, spaced, union_figures, wait_of, window_figures};
-ghost use Rattle.gl_algebra.specs.Views.{copies_of_window};
+ghost use Rattle.gl_algebra.specs.Views.{copies_of_time, copies_of_window};
 ghost use Rattle.gl_algebra.specs.Small.{small_of};
 
 use crate::columns::kind_of_operand;
@@ -112,6 +113,15 @@ pub fn copies_of_window(size: u32, advance: u32) -> u32
     ensures { result ≡ copies_of_window size advance }
 {
     size.div_ceil(advance)
+}
+
+/// The windows of time that can be open at once.
+pub fn copies_of_time(size: u32, advance: u32) -> u32
+    requires size { size ≤ most_rows }
+    requires advance { 1 ≤ advance }
+    ensures { result ≡ copies_of_time size advance }
+{
+    size / advance + 1
 }
 
 /// Windows of so many copies.

@@ -98,8 +98,9 @@ outputs_out : (cs : List Column) → AllByRecursion (λ (p : ProfilePort). p.dir
 outputs_out [] = (refl, (refl, (refl, tt)))
 outputs_out (c ∷ cs) = (refl, outputs_out cs)
 
-profile_shown : (schema : Schema) (columns : List Column) → AreShown 0 (profile false schema columns)
-profile_shown schema columns = inputs_shown (output_ports columns) (λ j. outputs_shown (output_ports columns) j (refl, outputs_out columns)) (input_ports false schema) 0 (inputs_aside schema) (inputs_in schema)
+profile_shown : (ticks : Bool) (schema : Schema) (columns : List Column) → AreShown 0 (profile ticks schema columns)
+profile_shown ticks schema columns =
+    inputs_shown (output_ports columns) (λ j. outputs_shown (output_ports columns) j (refl, outputs_out columns)) (input_ports ticks schema) 0 (inputs_aside ticks schema) (inputs_in ticks schema)
 
 others_shown : (ps : List Port) (i : ℕ) → AllByRecursion (λ (p : Port). bytes_eq clk p.name ≡ false) ps → AreOther (shown_names (signals_from i ps))
 others_shown [] i h = tt
@@ -109,21 +110,22 @@ others_shown (p ∷ ps) i h = by (shows_column (signal_at i p)) (others_shown ps
     by true rest = (h.0, rest)
     by false rest = rest
 
-module _ (m : Module) (schema : Schema) (columns : List Column) (distinct : AreDistinct m.declarations) (has : HasProfile m schema columns) where
+module _ (ticks : Bool) (m : Module) (schema : Schema) (columns : List Column) (distinct : AreDistinct m.declarations)
+    (has : HasProfile ticks m schema columns) where
   abbrev all : List Signal
   all = signals_from 0 (ports_of m)
 
-  are : ports_of m ≡ map port_in (profile false schema columns)
-  are = ports_are m schema columns distinct has
+  are : ports_of m ≡ map port_in (profile ticks schema columns)
+  are = ports_are ticks m schema columns distinct has
 
   names_are : shown_names all ≡ result_names m
   names_are =
-      ap (λ (ps : List Port). shown_names (signals_from 0 ps)) are ∙ (profile_shown schema columns).names
+      ap (λ (ps : List Port). shown_names (signals_from 0 ps)) are ∙ (profile_shown ticks schema columns).names
       ∙ sym (ap (λ (ds : List Declaration). map (λ (d : Declaration). d.name) (filter face.shows_column ds)) has)
 
   kinds_are : shown_kinds all ≡ map Unsigned (result_widths m)
   kinds_are =
-      ap (λ (ps : List Port). shown_kinds (signals_from 0 ps)) are ∙ (profile_shown schema columns).kinds
+      ap (λ (ps : List Port). shown_kinds (signals_from 0 ps)) are ∙ (profile_shown ticks schema columns).kinds
       ∙ sym (ap (λ (ds : List Declaration). map Unsigned (map (λ (d : Declaration). d.width) (filter face.shows_column ds))) has)
 
   others : AreOther (result_names m)

@@ -11,7 +11,7 @@ use Rattle.gl_schema.specs.declared.schema.Stream.{Stream}
 use Rattle.gl_schema.specs.declared.schema.Schema.{Schema}
 use Rattle.gl_schema.specs.Schemas.{IsSchema, IsStream, kinds_of}
 use Rattle.gl_schema.specs.Ports.{eos, out_column, out_eos, fault_group, fault_queue}
-use Rattle.gl_schema.specs.Profile.{ProfilePort, clk, column_inputs, column_outputs, input, input_ports, output, output_ports, profile, stream_inputs, streams_inputs}
+use Rattle.gl_schema.specs.Profile.{ProfilePort, clk, column_inputs, column_outputs, input, input_ports, output, output_ports, profile, stream_inputs, streams_inputs, tick_input}
 use Rattle.gl_query.specs.Shapes.{query_shape}
 use Rattle.gl_query.proofs.Real.{real_columns}
 use Rattle.gl_verilog.specs.Module.{Module, Declaration}
@@ -77,8 +77,9 @@ among_profile (p ∷ ps) h = rw h.0 (ap (λ (xs : List Port). port_in p ∷ xs) 
 behind_clock : (ps : List ProfilePort) → AreDistinct (map declared (input clk 1 ∷ ps)) → ports_among (map declared (input clk 1 ∷ ps)) ≡ map port_in ps
 behind_clock ps h = rw (bytes_own clk) (among_profile ps (differ_clock ps h.0))
 
-pub ports_are : (m : Module) (schema : Schema) (columns : List Column) → AreDistinct m.declarations → HasProfile m schema columns → ports_of m ≡ map port_in (profile false schema columns)
-ports_are m schema columns distinct face = ap ports_among face ∙ behind_clock (profile false schema columns) (subst AreDistinct face (distinct_take m.ports m.declarations distinct))
+pub ports_are : (ticks : Bool) (m : Module) (schema : Schema) (columns : List Column) → AreDistinct m.declarations → HasProfile ticks m schema columns
+    → ports_of m ≡ map port_in (profile ticks schema columns)
+ports_are ticks m schema columns distinct face = ap ports_among face ∙ behind_clock (profile ticks schema columns) (subst AreDistinct face (distinct_take m.ports m.declarations distinct))
 
 -- ---- how many they are
 
@@ -90,13 +91,18 @@ streams_many : (ss : List Stream) → AllByRecursion IsStream ss → length (str
 streams_many [] h = omega arith
 streams_many (s ∷ ss) h = omega (arith, length-append (stream_inputs s) (streams_inputs ss), columns_many s.name s.columns, h.0.most, streams_many ss h.1)
 
-profile_many : (schema : Schema) (columns : List Column) → IsSchema schema → length columns ≤ 32 → length (profile false schema columns) ≤ 8836
-profile_many schema columns fine few =
+tick_few : (ticks : Bool) → length (tick_input ticks) ≤ 1
+tick_few true = omega arith
+tick_few false = omega arith
+
+profile_many : (ticks : Bool) (schema : Schema) (columns : List Column) → IsSchema schema → length columns ≤ 32 → length (profile ticks schema columns) ≤ 8836
+profile_many ticks schema columns fine few =
     let tail = output out_eos 1 ∷ output fault_group 1 ∷ output fault_queue 1 ∷ [] in
     omega (
       arith,
-      length-append (input_ports false schema) (output_ports columns),
-      length-append (streams_inputs schema.streams) (input eos 1 ∷ []),
+      length-append (input_ports ticks schema) (output_ports columns),
+      length-append (streams_inputs schema.streams) (input eos 1 ∷ tick_input ticks),
+      tick_few ticks,
       length-append (column_outputs columns) tail,
       length_map (λ (c : Column). output (out_column c.name) (width_of c.kind)) columns,
       streams_many schema.streams fine.streams,
@@ -106,16 +112,16 @@ profile_many schema columns fine few =
 
 -- ---- a dump can tell them
 
-dumpable_text : (text : List ℕ) (m : Module) (schema : Schema) (columns : List Column) → HasModule text m → HasProfile m schema columns → IsSchema schema → length columns ≤ 32 → AllByRecursion IsKind (kinds_of columns) → IsDumpable m
-dumpable_text text m schema columns has face fine few kinds =
-    let are : ports_of m ≡ map port_in (profile false schema columns) = ports_are m schema columns has.valid.names face in
+dumpable_text : (ticks : Bool) (text : List ℕ) (m : Module) (schema : Schema) (columns : List Column) → HasModule text m → HasProfile ticks m schema columns → IsSchema schema → length columns ≤ 32 → AllByRecursion IsKind (kinds_of columns) → IsDumpable m
+dumpable_text ticks text m schema columns has face fine few kinds =
+    let are : ports_of m ≡ map port_in (profile ticks schema columns) = ports_are ticks m schema columns has.valid.names face in
     record {
       named = module_named text m has;
       names = all_mapped (λ (n : List ℕ). is_named n ≡ true) (λ (p : Port). p.name) (ports_of m) (all_among (λ (p : Port). is_named p.name ≡ true) (take m.ports m.declarations) (ports_named text m has));
       apart = ports_apart (take m.ports m.declarations) (distinct_take m.ports m.declarations has.valid.names);
       widths = all_among (λ (p : Port). IsWidth p.width) (take m.ports m.declarations) (all_take (λ (d : Declaration). IsWidth d.width) m.ports m.declarations (all_weaker HasSize (λ (d : Declaration). IsWidth d.width) (λ d h. h.0) m.declarations has.valid.sizes));
-      few = omega (arith, ap length are, length_map port_in (profile false schema columns), profile_many schema columns fine few);
-      shows = ap (λ (ps : List Port). show_none (signals_from 0 ps)) are ∙ profile_shows schema columns few kinds;
+      few = omega (arith, ap length are, length_map port_in (profile ticks schema columns), profile_many ticks schema columns fine few);
+      shows = ap (λ (ps : List Port). show_none (signals_from 0 ps)) are ∙ profile_shows ticks schema columns few kinds;
     }
 
 -- a dump can tell the module of a compiled query
@@ -124,4 +130,4 @@ dumpable c m is has =
     let real = real_columns c.schema (query_shape c.statement.query) is.fine is.meets.accepted in
     let columns = result_columns c.schema c.statement in
     let same : is.meets.design ≡ m = one_module c.text.items is.meets.design m is.meets.has has in
-    subst IsDumpable same (dumpable_text c.text.items is.meets.design c.schema columns is.meets.has is.meets.face is.fine real.result.most (all_kinds columns real.kinds))
+    subst IsDumpable same (dumpable_text _ c.text.items is.meets.design c.schema columns is.meets.has is.meets.face is.fine real.result.most (all_kinds columns real.kinds))

@@ -14,7 +14,7 @@ use Rattle.gl_verilog_orders.proofs.EventRuns.{is_run}
 use Rattle.gl_verilog_ports.specs.Profile.{HasProfile, result_names}
 use Rattle.gl_dumps.specs.Written.{dump_text, ports_of}
 use Rattle.gl_compiler_text.specs.declared.compiling.Compiled.{Compiled}
-use Rattle.gl_compiler_text.specs.Meets.{Drives, result_columns}
+use Rattle.gl_compiler_text.specs.Meets.{Drives, result_columns, takes_ticks}
 use Rattle.gl_runner.specs.Prints.{IsEnd, IsRunOver}
 use Rattle.gl_runner.specs.Watches.{rows_to}
 use Rattle.gl_compiler.specs.Dumpable.{DumpsTell, TellsRun}
@@ -24,8 +24,8 @@ use Rattle.gl_compiler.proofs.DumpLines.{lines_are}
 use Rattle.gl_compiler.proofs.ReadBack.{read_rows, with_clock}
 
 -- the module of a compiled query has its profile
-faced : (c : Compiled) (m : Module) (is : IsRunnable c) → HasModule c.text.items m → HasProfile m c.schema (result_columns c.schema c.statement)
-faced c m is has = subst (λ (x : Module). HasProfile x c.schema (result_columns c.schema c.statement)) (one_module c.text.items is.meets.design m is.meets.has has) is.meets.face
+faced : (c : Compiled) (m : Module) (is : IsRunnable c) → HasModule c.text.items m → HasProfile (takes_ticks c.statement) m c.schema (result_columns c.schema c.statement)
+faced c m is has = subst (λ (x : Module). HasProfile (takes_ticks c.statement) x c.schema (result_columns c.schema c.statement)) (one_module c.text.items is.meets.design m is.meets.has has) is.meets.face
 
 -- up to each cycle that a dump has room for
 pub tells_run : (c : Compiled) (m : Module) (value : ℕ → Nets) (word : ℕ → Memories) (n : ℕ) → IsRunnable c → HasModule c.text.items m → IsEventRun m value word → n + 1 ≤ 67108864
@@ -38,7 +38,7 @@ tells_run c m value word n is has run short =
       shows = record {
         dump = back.shows.dump;
         reads = back.shows.reads;
-        is = back.shows.is ∙ lines_are m c.schema (result_columns c.schema c.statement) has.valid.names (faced c m is has) (port_of m value) n;
+        is = back.shows.is ∙ lines_are (takes_ticks c.statement) m c.schema (result_columns c.schema c.statement) has.valid.names (faced c m is has) (port_of m value) n;
       };
     }
 

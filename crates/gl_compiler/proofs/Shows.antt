@@ -9,8 +9,8 @@ use Rattle.gl_schema.specs.declared.schema.Column.{Column}
 use Rattle.gl_schema.specs.declared.schema.Stream.{Stream}
 use Rattle.gl_schema.specs.declared.schema.Schema.{Schema}
 use Rattle.gl_schema.specs.Schemas.{kinds_of}
-use Rattle.gl_schema.specs.Ports.{rst, eos, in_valid, in_column, out_valid, out_column, out_eos, fault_group, fault_queue}
-use Rattle.gl_schema.specs.Profile.{ProfilePort, column_inputs, column_outputs, input, input_ports, output, output_ports, profile, stream_inputs, streams_inputs}
+use Rattle.gl_schema.specs.Ports.{rst, eos, tick, in_valid, in_column, out_valid, out_column, out_eos, fault_group, fault_queue}
+use Rattle.gl_schema.specs.Profile.{ProfilePort, column_inputs, column_outputs, input, input_ports, output, output_ports, profile, stream_inputs, streams_inputs, tick_input}
 use Rattle.gl_dumps.specs.Dumped.{Port}
 use Rattle.gl_dumps.specs.RoundTrip.{signal_at, signals_from}
 use Rattle.gl_dumps.specs.Signals.{Signal, are_columns, columns_of, has_line, has_wide, show_none, shows_column}
@@ -66,8 +66,14 @@ eos_aside : IsAside (input eos 1)
 unfolding eos fault_group out_valid out_eos
 eos_aside = (refl, refl)
 
-pub inputs_aside : (schema : Schema) → AllByRecursion IsAside (input_ports false schema)
-inputs_aside schema = (rst_aside, all_append IsAside (streams_inputs schema.streams) (input eos 1 ∷ []) (streams_aside schema.streams) (eos_aside, tt))
+tick_aside : (ticks : Bool) → AllByRecursion IsAside (tick_input ticks)
+unfolding tick fault_group out_valid out_eos
+tick_aside true = ((refl, refl), tt)
+tick_aside false = tt
+
+pub inputs_aside : (ticks : Bool) (schema : Schema) → AllByRecursion IsAside (input_ports ticks schema)
+inputs_aside ticks schema =
+    (rst_aside, all_append IsAside (streams_inputs schema.streams) (input eos 1 ∷ tick_input ticks) (streams_aside schema.streams) (eos_aside, tick_aside ticks))
 
 valid_out : IsAside (output out_valid 1)
 unfolding fault_group out_valid out_eos
@@ -128,20 +134,20 @@ outputs_few (c ∷ cs) i h =
     record { few = both.0; narrow = both.1 }
 
 -- the profile shows a result
-pub profile_shows : (schema : Schema) (columns : List Column) → length columns ≤ 32 → AllByRecursion IsKind (kinds_of columns) → show_none (signals_from 0 (map port_in (profile false schema columns))) ≡ false
+pub profile_shows : (ticks : Bool) (schema : Schema) (columns : List Column) → length columns ≤ 32 → AllByRecursion IsKind (kinds_of columns) → show_none (signals_from 0 (map port_in (profile ticks schema columns))) ≡ false
 unfolding show_none
-profile_shows schema columns few kinds =
-    let all = signals 0 (profile false schema columns) in
-    let valid : has_line all out_valid ≡ true = line_behind out_valid (output_ports columns) (λ j. line_here out_valid (column_outputs columns ++ tail) j) (input_ports false schema) 0 in
+profile_shows ticks schema columns few kinds =
+    let all = signals 0 (profile ticks schema columns) in
+    let valid : has_line all out_valid ≡ true = line_behind out_valid (output_ports columns) (λ j. line_here out_valid (column_outputs columns ++ tail) j) (input_ports ticks schema) 0 in
     let end : has_line all out_eos ≡ true =
     line_behind out_eos (output_ports columns)
     (λ j. or_right (bytes_eq out_valid out_eos && true) (has_line (signals (j + 1) (column_outputs columns ++ tail)) out_eos) (line_behind out_eos tail (λ k. line_here out_eos (output fault_group 1 ∷ output fault_queue 1 ∷ []) k) (column_outputs columns) (j + 1)))
-    (input_ports false schema) 0 in
+    (input_ports ticks schema) 0 in
     let wide : has_wide all fault_group ≡ false =
-    none_wide (output_ports columns) (λ j. none_wide (column_outputs columns ++ tail) (outputs_wide columns) (output out_valid 1 ∷ []) j (valid_out, tt)) (input_ports false schema) 0 (inputs_aside schema) in
+    none_wide (output_ports columns) (λ j. none_wide (column_outputs columns ++ tail) (outputs_wide columns) (output out_valid 1 ∷ []) j (valid_out, tt)) (input_ports ticks schema) 0 (inputs_aside ticks schema) in
     let fine : AreFew (length columns) all =
     few_behind (length columns) (output_ports columns)
-    (λ j. few_behind (length columns) (column_outputs columns ++ tail) (λ k. outputs_few columns k kinds) (output out_valid 1 ∷ []) j (valid_out, tt)) (input_ports false schema) 0 (inputs_aside schema) in
+    (λ j. few_behind (length columns) (column_outputs columns ++ tail) (λ k. outputs_few columns k kinds) (output out_valid 1 ∷ []) j (valid_out, tt)) (input_ports ticks schema) 0 (inputs_aside ticks schema) in
     let many : nat_le (length (columns_of all)) 32 ≡ true = le-leb (length (columns_of all)) 32 (omega (arith, fine.few, few)) in
     let shown : are_columns all ≡ true = rw (many, fine.narrow) refl in
     rw (valid, end, wide, shown) refl

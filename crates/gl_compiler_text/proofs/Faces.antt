@@ -1,5 +1,5 @@
 -- The ports of an emitted netlist are those of the profile.
-use Rattle.std.proofs.Common.{◌≡◌, ℕ, not, List, [], ◌∷◌, ◌++◌, map, refl, ap, ◌∙◌, false}
+use Rattle.std.proofs.Common.{◌≡◌, ℕ, not, Bool, true, false, List, [], ◌∷◌, ◌++◌, map, refl, ap, ◌∙◌}
 use Rattle.std.specs.Prelude.{◌==◌}
 use Rattle.std.proofs.lemmas.List.{map-append}
 use Rattle.gl_bits.specs.Kinds.{width_of}
@@ -19,7 +19,7 @@ use Rattle.gl_verilog.specs.Module.{Module, Declaration, Kind}
 use Rattle.gl_verilog_writer.specs.Meaning.{declaration_of, clock, kind_of}
 use Rattle.gl_wiring.specs.Leaves.{widths_of}
 use Rattle.gl_wiring.specs.EmittedPorts.{input, output, column_inputs, stream_inputs, streams_inputs}
-use Rattle.gl_wiring.specs.Output.{input_ports, named_outputs, output_ports, plan_ports}
+use Rattle.gl_wiring.specs.Output.{input_ports, named_outputs, output_ports, plan_ports, tick_input}
 use Rattle.gl_verilog_ports.specs.Profile.{HasProfile, declared, declared_kind, ports_of}
 
 -- a port of a netlist as one of the profile
@@ -55,10 +55,16 @@ streams_in (s ∷ ss) =
     ∙ ap (λ (x : List ProfilePort). profile.input (in_valid s.name) 1 ∷ (x ++ map port_like (streams_inputs ss))) (columns_in s.name s.columns)
     ∙ ap (λ (x : List ProfilePort). profile.stream_inputs s ++ x) (streams_in ss)
 
-inputs_are : (schema : Schema) → map port_like (input_ports schema) ≡ profile.input_ports false schema
-inputs_are schema =
+tick_is : (ticks : Bool) → map port_like (tick_input ticks) ≡ profile.tick_input ticks
+tick_is true = refl
+tick_is false = refl
+
+inputs_are : (ticks : Bool) (schema : Schema) → map port_like (input_ports ticks schema) ≡ profile.input_ports ticks schema
+inputs_are ticks schema =
     ap (λ (x : List ProfilePort). profile.input rst 1 ∷ x)
-    (map-append port_like (streams_inputs schema.streams) (input eos 1 ∷ []) ∙ ap (λ (x : List ProfilePort). x ++ profile.input eos 1 ∷ []) (streams_in schema.streams))
+    (map-append port_like (streams_inputs schema.streams) (input eos 1 ∷ tick_input ticks)
+    ∙ ap (λ (x : List ProfilePort). x ++ profile.input eos 1 ∷ map port_like (tick_input ticks)) (streams_in schema.streams)
+    ∙ ap (λ (x : List ProfilePort). profile.streams_inputs schema.streams ++ profile.input eos 1 ∷ x) (tick_is ticks))
 
 columns_out : (cs : List Column) → map port_like (named_outputs (widths_of (kinds_of cs)) (column_names cs)) ≡ profile.column_outputs cs
 columns_out [] = refl
@@ -70,14 +76,16 @@ outputs_are cs =
     ap (λ (x : List ProfilePort). profile.output out_valid 1 ∷ x)
     (map-append port_like (named_outputs (widths_of (kinds_of cs)) (column_names cs)) tail ∙ ap (λ (x : List ProfilePort). x ++ map port_like tail) (columns_out cs))
 
-plan_profile : (schema : Schema) (cs : List Column) → map port_like (plan_ports schema (kinds_of cs) (column_names cs)) ≡ profile.profile false schema cs
-plan_profile schema cs =
-    map-append port_like (input_ports schema) (output_ports (widths_of (kinds_of cs)) (column_names cs))
-    ∙ ap (λ (x : List ProfilePort). x ++ map port_like (output_ports (widths_of (kinds_of cs)) (column_names cs))) (inputs_are schema)
-    ∙ ap (λ (x : List ProfilePort). profile.input_ports false schema ++ x) (outputs_are cs)
+plan_profile : (ticks : Bool) (schema : Schema) (cs : List Column) → map port_like (plan_ports ticks schema (kinds_of cs) (column_names cs))
+    ≡ profile.profile ticks schema cs
+plan_profile ticks schema cs =
+    map-append port_like (input_ports ticks schema) (output_ports (widths_of (kinds_of cs)) (column_names cs))
+    ∙ ap (λ (x : List ProfilePort). x ++ map port_like (output_ports (widths_of (kinds_of cs)) (column_names cs))) (inputs_are ticks schema)
+    ∙ ap (λ (x : List ProfilePort). profile.input_ports ticks schema ++ x) (outputs_are cs)
 
 -- the module of its text has the profile
-pub profile_of : (n : Net) (m : Module) (schema : Schema) (cs : List Column) → ports_of m ≡ clock ∷ map (declaration_of n) n.ports → port_shapes n ≡ plan_ports schema (kinds_of cs) (column_names cs) → HasProfile m schema cs
+pub profile_of : (ticks : Bool) (n : Net) (m : Module) (schema : Schema) (cs : List Column) → ports_of m ≡ clock ∷ map (declaration_of n) n.ports
+    → port_shapes n ≡ plan_ports ticks schema (kinds_of cs) (column_names cs) → HasProfile ticks m schema cs
 unfolding port_shapes clk
-profile_of n m schema cs e ports =
-    e ∙ ap (λ (x : List Declaration). clock ∷ x) (declared_same n n.ports ∙ ap (λ (x : List PortShape). map declared (map port_like x)) ports ∙ ap (map declared) (plan_profile schema cs))
+profile_of ticks n m schema cs e ports =
+    e ∙ ap (λ (x : List Declaration). clock ∷ x) (declared_same n n.ports ∙ ap (λ (x : List PortShape). map declared (map port_like x)) ports ∙ ap (map declared) (plan_profile ticks schema cs))

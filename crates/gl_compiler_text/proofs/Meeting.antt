@@ -1,5 +1,5 @@
 -- The text of a plan's netlist meets its statement.
-use Rattle.std.proofs.Common.{◌≡◌, ℕ, zero, suc, ◌+◌, false, List, [], ◌∷◌, ◌++◌, map, Option, Some, None, refl, sym, ap, subst, ◌∙◌, codes}
+use Rattle.std.proofs.Common.{◌≡◌, ℕ, zero, suc, ◌+◌, Bool, false, List, [], ◌∷◌, ◌++◌, map, Option, Some, None, refl, sym, ap, subst, ◌∙◌, codes}
 use Rattle.std.specs.Prelude.{bytes_eq}
 use Rattle.std.specs.List.{AllByRecursion}
 use Rattle.gl_bits.proofs.Options.{some_same}
@@ -26,12 +26,14 @@ use Rattle.gl_verilog_writer.specs.Meaning.{IsTextOf}
 use Rattle.gl_verilog_ports.specs.Profile.{FitsSchema, HasProfile}
 use Rattle.gl_verilog_ports.proofs.Fits.{finds_ok}
 use Rattle.gl_verilog_ports.proofs.Profiled.{fits, names_shown}
+use Rattle.gl_algebra.specs.Views.{reads_time}
 use Rattle.gl_elaborate.specs.Plans.{plan_of}
+use Rattle.gl_elaborate.proofs.TimeLemmas.{plans-time}
 use Rattle.gl_wiring.specs.Output.{plan_ports}
 use Rattle.gl_wiring.specs.Wired.{KeepsGroup, OverBeats, plan_means}
 use Rattle.gl_testbench.specs.Runs.{HasRunsOver}
 use Rattle.gl_testbench.proofs.Runs.{runs_over}
-use Rattle.gl_compiler_text.specs.Meets.{Meets, WhereDriven, result_columns}
+use Rattle.gl_compiler_text.specs.Meets.{Meets, WhereDriven, result_columns, takes_ticks}
 use Rattle.gl_compiler_text.specs.Built.{gap_of, latency_of}
 use Rattle.gl_compiler_text.proofs.Faces.{profile_of}
 use Rattle.gl_compiler_text.proofs.KnownOf.{Known}
@@ -84,7 +86,7 @@ outs_other (n ∷ ns) = (refl, outs_other ns)
 -- ---- the text
 
 module _ (schema : Schema) (statement : Statement) (net : Net) (text : List ℕ) (k : Known schema statement) (is : IsChecked schema statement) (t : IsTextOf net text)
-    (ports : port_shapes net ≡ plan_ports schema (kinds_of_node (plan_of schema statement).nodes (plan_of schema statement).root) (column_names (result_columns schema statement))) where
+    (ports : port_shapes net ≡ plan_ports (reads_time (plan_of schema statement).nodes) schema (kinds_of_node (plan_of schema statement).nodes (plan_of schema statement).root) (column_names (result_columns schema statement))) where
   abbrev columns : List Column
   columns = result_columns schema statement
 
@@ -101,11 +103,16 @@ module _ (schema : Schema) (statement : Statement) (net : Net) (text : List ℕ)
   abbrev means : Meaning
   means = plan_means (plan_of schema statement).nodes (plan_of schema statement).root
 
-  face : HasProfile t.design schema columns
-  face = profile_of net t.design schema columns t.declared (ports ∙ ap (λ (x : Shape). plan_ports schema x.kinds (column_names columns)) k.right.shape)
+  abbrev ticks : Bool
+  ticks = takes_ticks statement
+
+  face : HasProfile ticks t.design schema columns
+  face = profile_of ticks net t.design schema columns t.declared (ports
+      ∙ ap (λ (b : Bool). plan_ports b schema (kinds_of_node (plan_of schema statement).nodes (plan_of schema statement).root) (column_names columns)) (plans-time schema statement)
+      ∙ ap (λ (x : Shape). plan_ports ticks schema x.kinds (column_names columns)) k.right.shape)
 
   fit : FitsSchema t.design schema
-  fit = fits t.design schema columns t.has.valid.names face text t.has k.columns.most k.real
+  fit = fits ticks t.design schema columns t.has.valid.names face text t.has k.columns.most k.real
 
   text_runs : HasRunsOver t.design schema
   text_runs = runs_over t.design schema t.has.valid is.of_schema (finds_ok text t.design schema t.has fit) (has_event_runs t.design t.has.valid)
@@ -120,7 +127,7 @@ module _ (schema : Schema) (statement : Statement) (net : Net) (text : List ℕ)
       let there = port_values net r.run in
       let stimulus = stimulus_same schema beats (input_values t.design value) (circuit.input_values net r.run) r.inputs (pins_other schema beats) driven.stimulus in
       let same = λ (n : ℕ). sym (shown_same port there outs r.ports (outs_other (column_names columns)) n) in
-      subst (λ (names : List (List ℕ)). Q beats names port) (sym (names_shown t.design schema columns t.has.valid.names face))
+      subst (λ (names : List (List ℕ)). Q beats names port) (sym (names_shown ticks t.design schema columns t.has.valid.names face))
       (goes beats there port driven.are same (holds r.run beats r.trace driven.are driven.keep stimulus))
 
   text_right : OverBeats schema gap (λ all port. IsRight means latency all outs port) net → WhereDriven t.design schema gap (IsRight (IsResult schema statement) latency)

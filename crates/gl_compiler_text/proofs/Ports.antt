@@ -20,10 +20,10 @@ module _ (schema : Schema) (statement : Statement) (latency gap : ℕ) (text : L
   ports_fit fine m =
       let real = real_columns schema (query_shape statement.query) fine m.accepted in
       finds_ok text m.design schema m.has
-      (fits m.design schema (result_columns schema statement) m.has.valid.names m.face text m.has real.result.most (all_kinds (result_columns schema statement) real.kinds))
+      (fits _ m.design schema (result_columns schema statement) m.has.valid.names m.face text m.has real.result.most (all_kinds (result_columns schema statement) real.kinds))
 
   pub names_are : (m : Meets schema statement latency gap text) → result_names m.design ≡ map out_column (column_names (result_columns schema statement))
-  names_are m = names_shown m.design schema (result_columns schema statement) m.has.valid.names m.face
+  names_are m = names_shown _ m.design schema (result_columns schema statement) m.has.valid.names m.face
 
   pub widths_are : (m : Meets schema statement latency gap text) → result_widths m.design ≡ map width_of (kinds_of (result_columns schema statement))
-  widths_are m = widths_shown m.design schema (result_columns schema statement) m.has.valid.names m.face
+  widths_are m = widths_shown _ m.design schema (result_columns schema statement) m.has.valid.names m.face

@@ -3,14 +3,15 @@ use Rattle.std.proofs.Common.{◌≡◌, ℕ, List, sym, subst, ◌∙◌}
 use Rattle.gl_schema.specs.declared.schema.Column.{Column}
 use Rattle.gl_schema.specs.declared.schema.Stream.{Stream}
 use Rattle.gl_schema.specs.Schemas.{kinds_of}
+use Rattle.gl_query.specs.declared.tree.Measure.{Measure}
 use Rattle.gl_query.specs.Shapes.{QueryShape}
 use Rattle.gl_query.specs.Shapes as shape
 use Rattle.gl_query.specs.Values.{column_number}
 use Rattle.gl_query.specs.Columns.{columns_of, variable}
 use Rattle.gl_algebra.specs.declared.node.PlanNode.{PlanNode}
-use Rattle.gl_algebra.specs.declared.node.PlanNode.TheVariants.{Body, Window, Group}
+use Rattle.gl_algebra.specs.declared.node.PlanNode.TheVariants.{Body, Group}
 use Rattle.gl_algebra.specs.Added.{added, placed_at}
-use Rattle.gl_elaborate.specs.Plans.{placed}
+use Rattle.gl_elaborate.specs.Plans.{placed, window_node}
 use Rattle.gl_elaborate.specs.Fitting.{FitsNext, PlacedFit}
 
 -- the source and the body, each placed behind the other, by queries, names and columns that code has
@@ -27,14 +28,14 @@ module _ (read : List ℕ → PlanNode) (sources : List Stream) (whole source so
   inside : placed_at n2 into ≡ placed (λ n. Body (kinds_of (columns_of sources source))) (variable var (columns_of sources source)) body (placed read sources source nodes).nodes
   inside = q ∙ (λ i. placed (λ n. Body (kinds_of (columns i))) (variable (v i) (columns i)) (e i) (first i).nodes)
 
-  pub each-root : (size advance root : ℕ) (n3 : List PlanNode) → whole ≡ shape.Each var source size advance body
-      → placed_at n3 root ≡ added n2 (Window from into size advance) → placed_at n3 root ≡ placed read sources whole nodes
-  each-root size advance root n3 w r =
-      r ∙ (λ i. added (inside i).nodes (Window (first i).root (inside i).root size advance)) ∙ sym (λ i. placed read sources (w i) nodes)
+  pub each-root : (measure : Measure) (size advance root : ℕ) (n3 : List PlanNode) → whole ≡ shape.Each measure var source size advance body
+      → placed_at n3 root ≡ added n2 (window_node measure from into size advance) → placed_at n3 root ≡ placed read sources whole nodes
+  each-root measure size advance root n3 w r =
+      r ∙ (λ i. added (inside i).nodes (window_node measure (first i).root (inside i).root size advance)) ∙ sym (λ i. placed read sources (w i) nodes)
 
-  pub each-fits : (size advance : ℕ) → whole ≡ shape.Each var source size advance body → PlacedFit read sources whole nodes → FitsNext n2 (Window from into size advance)
-  each-fits size advance w fits =
-      subst (λ (X : Type 0). X) (sym (λ i. FitsNext (inside i).nodes (Window (first i).root (inside i).root size advance)))
+  pub each-fits : (measure : Measure) (size advance : ℕ) → whole ≡ shape.Each measure var source size advance body → PlacedFit read sources whole nodes → FitsNext n2 (window_node measure from into size advance)
+  each-fits measure size advance w fits =
+      subst (λ (X : Type 0). X) (sym (λ i. FitsNext (inside i).nodes (window_node measure (first i).root (inside i).root size advance)))
       (subst (λ (x : QueryShape). PlacedFit read sources x nodes) w fits).2
 
   pub group-root : (key : List ℕ) (count number root : ℕ) (n3 : List PlanNode) → whole ≡ shape.PerGroup var source key count body → number ≡ column_number own key

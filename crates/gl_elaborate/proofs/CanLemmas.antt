@@ -1,5 +1,5 @@
 -- Code can place a checked statement: its columns have numbers of 16 bits.
-use Rattle.std.proofs.Common.{◌≡◌, ℕ, zero, suc, ◌+◌, ◌*◌, ◌≤◌, List, [], ◌∷◌, length, Option, Some, None, refl, ap, arith, map, lit≤}
+use Rattle.std.proofs.Common.{◌≡◌, ℕ, zero, suc, ◌+◌, ◌*◌, ◌≤◌, Bool, true, false, List, [], ◌∷◌, length, Option, Some, None, refl, ap, arith, map, lit≤}
 use Rattle.std.specs.Prelude.{option_to_list}
 use Rattle.std.specs.List.{AllByRecursion, range_with_len}
 use Rattle.std.proofs.lemmas.List.{length-map}
@@ -109,17 +109,17 @@ items-are : (columns : List NamedColumn) (items : List AggItemShape) → AreKind
     → AllByRecursion (λ (i : AggItemShape). IsKind (agg_kind columns i.agg)) items
 items-are columns items h = all_of_mapped (λ (c : NamedColumn). IsKind c.kind) (agg_column columns) items h
 
-can : (q : QueryShape) (sources : List Stream) → length sources ≤ 8 → IsScope (record { sources = sources })
-    → IsAcceptedOver (record { sources = sources }) q → QueryIsSmall q → CanPlace sources q
-can (shape.Read name) sources most is a s = most
-can (shape.Rows pick condition source) sources most is a s =
+can : (q : QueryShape) (sources : List Stream) (timed : Bool) → length sources ≤ 8 → IsScope (record { sources = sources; timed = timed })
+    → IsAcceptedOver (record { sources = sources; timed = timed }) q → QueryIsSmall q → CanPlace sources q
+can (shape.Read name) sources timed most is a s = most
+can (shape.Rows pick condition source) sources timed most is a s =
     let columns = columns_of sources source in
-    let own = real source (record { sources = sources }) is a.0 in
+    let own = real source (record { sources = sources; timed = timed }) is a.0 in
     let narrow = own.result.most in
     let picks = pick-ops columns pick a.1.picks s.1 in
     let filters = filter-ops columns condition s.2 in
     let both = ops-both (picked_terms columns pick) (option_to_list (filter_of columns condition)) in (
-      can source sources most is a.0 s.0,
+      can source sources timed most is a.0 s.0,
       record {
         rows = a.1;
         terms = pick-fits columns own.kinds pick a.1.picks;
@@ -127,15 +127,15 @@ can (shape.Rows pick condition source) sources most is a s =
         room = omega arith;
       },
     )
-can (shape.Total aggs source) sources most is a s =
+can (shape.Total aggs source) sources timed most is a s =
     let columns = columns_of sources source in
-    let own = real source (record { sources = sources }) is a.0 in
-    let whole = real (shape.Total aggs source) (record { sources = sources }) is a in
+    let own = real source (record { sources = sources; timed = timed }) is a.0 in
+    let whole = real (shape.Total aggs source) (record { sources = sources; timed = timed }) is a in
     let narrow = own.result.most in
     let all = arguments-ops columns aggs s.1 in
     let short = a.1.columns.most in
     let same = length-map aggs (agg_column columns) in (
-      can source sources most is a.0 s.0,
+      can source sources timed most is a.0 s.0,
       record {
         typed = a.1.typed;
         kinds = items-are columns aggs whole.kinds;
@@ -143,31 +143,31 @@ can (shape.Total aggs source) sources most is a s =
         room = omega arith;
       },
     )
-can (shape.Each var source size advance body) sources most is a s =
+can (shape.Each measure var source size advance body) sources timed most is a s =
     let columns = columns_of sources source in
-    let own = real source (record { sources = sources }) is a.0 in (
-      can source sources most is a.0 s.0,
-      can body (variable var columns) (lit≤ tt) (body_is var columns own.result own.kinds) a.2 s.1,
+    let own = real source (record { sources = sources; timed = timed }) is a.0 in (
+      can source sources timed most is a.0 s.0,
+      can body (variable var columns) false (lit≤ tt) (body_is var columns own.result own.kinds) a.2 s.1,
       a.1.most_size,
       a.1.most_advance,
     )
-can (shape.PerGroup var source key count body) sources most is a s =
+can (shape.PerGroup var source key count body) sources timed most is a s =
     let columns = columns_of sources source in
-    let own = real source (record { sources = sources }) is a.0 in
+    let own = real source (record { sources = sources; timed = timed }) is a.0 in
     let narrow = own.result.most in
     let known = column-fits columns own.kinds key a.1.known in
     let same = length-map columns (λ (c : NamedColumn). c.kind) in (
-      can source sources most is a.0 s.0,
-      can body (variable var columns) (lit≤ tt) (body_is var columns own.result own.kinds) a.2 s.1,
+      can source sources timed most is a.0 s.0,
+      can body (variable var columns) false (lit≤ tt) (body_is var columns own.result own.kinds) a.2 s.1,
       omega arith,
       a.1.most_groups,
     )
-can (shape.Union l r) sources most is a s = (can l sources most is a.0 s.0, can r sources most is a.1 s.1)
-can (shape.Concat l r) sources most is a s = (can l sources most is a.0 s.0, can r sources most is a.1 s.1)
+can (shape.Union l r) sources timed most is a s = (can l sources timed most is a.0 s.0, can r sources timed most is a.1 s.1)
+can (shape.Concat l r) sources timed most is a s = (can l sources timed most is a.0 s.0, can r sources timed most is a.1 s.1)
 
 pub can-place : (schema : Schema) (statement : Statement) → IsChecked schema statement → CanPlace schema.streams (query_shape statement.query)
 can-place schema statement checked =
-    can (query_shape statement.query) schema.streams checked.of_schema.most (schema-reader schema checked.of_schema).scope checked.accepted checked.small
+    can (query_shape statement.query) schema.streams true checked.of_schema.most (schema-reader schema checked.of_schema).scope checked.accepted checked.small
 
 pub all-fit : (schema : Schema) (statement : Statement) → IsChecked schema statement
     → PlacedFit (stream_node schema.streams) schema.streams (query_shape statement.query) []

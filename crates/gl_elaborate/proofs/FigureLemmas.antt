@@ -1,5 +1,5 @@
 -- The figures of a query's plan are the query's.
-use Rattle.std.proofs.Common.{◌≡◌, ℕ, zero, suc, ◌+◌, ◌<◌, List, [], ◌∷◌, ◌++◌, length, Option, Some, None, refl, sym, ap, subst, ◌∙◌, arith, map, max}
+use Rattle.std.proofs.Common.{◌≡◌, ℕ, zero, suc, ◌+◌, ◌<◌, Bool, false, List, [], ◌∷◌, ◌++◌, length, Option, Some, None, refl, sym, ap, subst, ◌∙◌, arith, map, max}
 use Rattle.std.specs.Prelude.{is_some, option_map, option_to_list}
 use Rattle.std.specs.List.{range_with_len}
 use Rattle.gl_bits.specs.declared.kind.Kind.{Kind}
@@ -7,6 +7,8 @@ use Rattle.gl_bits.specs.declared.kind.Kind.TheVariants.{Unsigned}
 use Rattle.gl_schema.specs.declared.schema.Column.{Column as NamedColumn}
 use Rattle.gl_schema.specs.declared.schema.Stream.{Stream}
 use Rattle.gl_schema.specs.Schemas.{kinds_of}
+use Rattle.gl_query.specs.declared.tree.Measure.{Measure}
+use Rattle.gl_query.specs.declared.tree.Measure.TheVariants.{Tuples, Time}
 use Rattle.gl_query.specs.Shapes.{ExprShape, ItemShape, AggShape, AggItemShape, PickShape, QueryShape}
 use Rattle.gl_query.specs.Shapes as shape
 use Rattle.gl_query.specs.Values.{kind_alone, operand_place}
@@ -17,14 +19,14 @@ use Rattle.gl_algebra.specs.declared.node.PlanNode.{PlanNode}
 use Rattle.gl_algebra.specs.declared.node.PlanNode.TheVariants as node
 use Rattle.gl_algebra.specs.FigureTable.{input_figures, settled, delayed, aggregate_figures, union_figures, beside_figures, window_figures, group_figures, figures_from, figures_of}
 use Rattle.gl_algebra.specs.Fits.{IsPlan}
-use Rattle.gl_algebra.specs.Views.{copies_of_window}
+use Rattle.gl_query.specs.Windows.{copies_of}
 use Rattle.gl_algebra.specs.Shapes.{Shape, shape_of}
 use Rattle.gl_algebra.proofs.FigureLemmas.{figures-kept}
 use Rattle.gl_algebra.proofs.PlanLemmas.{in_order}
 use Rattle.gl_elaborate.specs.Terms.{Term, Column, depth_of, depth_of_all, term_of}
 use Rattle.gl_elaborate.specs.Levels.{level_of, reduced, operand_of}
 use Rattle.gl_algebra.specs.Added.{Placed, added}
-use Rattle.gl_elaborate.specs.Plans.{levels, levelled, placed, condition_of, filter_of, picked_terms, aggs_of, arguments_of, arguments_of_all, selected, rows_over, totals_over, column_under, with_filter}
+use Rattle.gl_elaborate.specs.Plans.{levels, levelled, placed, condition_of, filter_of, picked_terms, aggs_of, arguments_of, arguments_of_all, selected, rows_over, totals_over, column_under, window_node, with_filter}
 use Rattle.gl_elaborate.specs.Fitting.{FitsNext, LevelsFit, SelectFits, RowsFit, TotalsFit}
 use Rattle.gl_elaborate.specs.Figures.{expr_depth, filter_depth, items_depth, pick_depth, condition_depth, agg_depth, aggs_depth, aggs_delay, computed_figures, filtered_figures, query_figures}
 use Rattle.gl_elaborate.proofs.PlacedLemmas.{IsOver, is_added}
@@ -188,66 +190,72 @@ read-figures (node.Aggregate child aggs) kinds s v h = absurd h
 read-figures (node.Union left right) kinds s v h = absurd h
 read-figures (node.Beside left right) kinds s v h = absurd h
 read-figures (node.Window source body size advance) kinds s v h = absurd h
+read-figures (node.TimeWindow source body size advance) kinds s v h = absurd h
 read-figures (node.Group source body key groups) kinds s v h = absurd h
 
-pub figures-right : (q : QueryShape) (read : List ℕ → PlanNode) (sources : List Stream) (nodes : List PlanNode) → IsReader read sources → IsAcceptedOver (record { sources = sources }) q
+window-figured : (measure : Measure) (source body size advance : ℕ) (s : ℕ → Shape) (v : ℕ → Figures)
+    → figures_from s v (window_node measure source body size advance) ≡ window_figures (copies_of measure size advance) (v source) (v body)
+window-figured Tuples source body size advance s v = refl
+window-figured Time source body size advance s v = refl
+
+pub figures-right : (q : QueryShape) (read : List ℕ → PlanNode) (sources : List Stream) (timed : Bool) (nodes : List PlanNode) → IsReader read sources timed → IsAcceptedOver (record { sources = sources; timed = timed }) q
     → IsPlan nodes → HasFigures (placed read sources q nodes) (query_figures sources q)
-figures-right (shape.Read name) read sources nodes reader a plan =
-    let done = right (shape.Read name) read sources nodes reader a plan in
+figures-right (shape.Read name) read sources timed nodes reader a plan =
+    let done = right (shape.Read name) read sources timed nodes reader a plan in
     let new = is_added nodes (read name) plan done.0 in
     record {
       plan = new.over.plan;
       is = new.figures ∙ read-figures (read name) _ (shape_of nodes) (figures_of nodes) (reader.leaf name a);
     }
-figures-right (shape.Rows pick condition source) read sources nodes reader a plan =
-    let done = right (shape.Rows pick condition source) read sources nodes reader a plan in
+figures-right (shape.Rows pick condition source) read sources timed nodes reader a plan =
+    let done = right (shape.Rows pick condition source) read sources timed nodes reader a plan in
     rows-figures (columns_of sources source) pick condition (placed read sources source nodes) (query_figures sources source)
-    (figures-right source read sources nodes reader a.0 plan) done.0.1
-figures-right (shape.Total aggs source) read sources nodes reader a plan =
-    let done = right (shape.Total aggs source) read sources nodes reader a plan in
+    (figures-right source read sources timed nodes reader a.0 plan) done.0.1
+figures-right (shape.Total aggs source) read sources timed nodes reader a plan =
+    let done = right (shape.Total aggs source) read sources timed nodes reader a plan in
     totals-figures (columns_of sources source) aggs (placed read sources source nodes) (query_figures sources source)
-    (figures-right source read sources nodes reader a.0 plan) done.0.1 (total-delay aggs source read sources nodes reader a plan)
-figures-right (shape.Each var source size advance body) read sources nodes reader a plan =
+    (figures-right source read sources timed nodes reader a.0 plan) done.0.1 (total-delay aggs source read sources timed nodes reader a plan)
+figures-right (shape.Each measure var source size advance body) read sources timed nodes reader a plan =
     let columns = columns_of sources source in
     let inner : List ℕ → PlanNode = λ name. node.Body (kinds_of columns) in
-    let done = right (shape.Each var source size advance body) read sources nodes reader a plan in
-    let below = right source read sources nodes reader a.0 plan in
+    let done = right (shape.Each measure var source size advance body) read sources timed nodes reader a plan in
+    let below = right source read sources timed nodes reader a.0 plan in
     let from = placed read sources source nodes in
-    let kinds = body-reader var columns (columns-are source read sources reader a.0) in
-    let inside = right body inner (variable var columns) from.nodes kinds a.2 below.1.over.plan in
+    let kinds = body-reader var columns (columns-are source read sources timed reader a.0) in
+    let inside = right body inner (variable var columns) false from.nodes kinds a.2 below.1.over.plan in
     let into = placed inner (variable var columns) body from.nodes in
     both-figures from into (query_figures sources source) (query_figures (variable var columns) body)
-    (node.Window from.root into.root size advance) (window_figures (copies_of_window size advance))
-    (figures-right source read sources nodes reader a.0 plan) (figures-right body inner (variable var columns) from.nodes kinds a.2 below.1.over.plan)
-    below.1.over.within inside.1.over done.0.2 (λ s v. refl)
-figures-right (shape.PerGroup var source key count body) read sources nodes reader a plan =
+    (window_node measure from.root into.root size advance) (window_figures (copies_of measure size advance))
+    (figures-right source read sources timed nodes reader a.0 plan) (figures-right body inner (variable var columns) false from.nodes kinds a.2 below.1.over.plan)
+    below.1.over.within inside.1.over done.0.2 (window-figured measure from.root into.root size advance)
+figures-right (shape.PerGroup var source key count body) read sources timed nodes reader a plan =
     let columns = columns_of sources source in
     let inner : List ℕ → PlanNode = λ name. node.Body (kinds_of columns) in
-    let done = right (shape.PerGroup var source key count body) read sources nodes reader a plan in
-    let below = right source read sources nodes reader a.0 plan in
+    let done = right (shape.PerGroup var source key count body) read sources timed nodes reader a plan in
+    let below = right source read sources timed nodes reader a.0 plan in
     let from = placed read sources source nodes in
-    let kinds = body-reader var columns (columns-are source read sources reader a.0) in
-    let inside = right body inner (variable var columns) from.nodes kinds a.2 below.1.over.plan in
+    let kinds = body-reader var columns (columns-are source read sources timed reader a.0) in
+    let inside = right body inner (variable var columns) false from.nodes kinds a.2 below.1.over.plan in
     let into = placed inner (variable var columns) body from.nodes in
     both-figures from into (query_figures sources source) (query_figures (variable var columns) body)
     (node.Group from.root into.root (Rattle.gl_query.specs.Values.column_number columns key) count) (group_figures count)
-    (figures-right source read sources nodes reader a.0 plan) (figures-right body inner (variable var columns) from.nodes kinds a.2 below.1.over.plan)
+    (figures-right source read sources timed nodes reader a.0 plan) (figures-right body inner (variable var columns) false from.nodes kinds a.2 below.1.over.plan)
     below.1.over.within inside.1.over done.0.2 (λ s v. refl)
-figures-right (shape.Union l r) read sources nodes reader a plan =
-    let done = right (shape.Union l r) read sources nodes reader a plan in
-    let first = right l read sources nodes reader a.0 plan in
+figures-right (shape.Union l r) read sources timed nodes reader a plan =
+    let done = right (shape.Union l r) read sources timed nodes reader a plan in
+    let first = right l read sources timed nodes reader a.0 plan in
     let left = placed read sources l nodes in
-    let second = right r read sources left.nodes reader a.1 first.1.over.plan in
+    let second = right r read sources timed left.nodes reader a.1 first.1.over.plan in
     let both = placed read sources r left.nodes in
     both-figures left both (query_figures sources l) (query_figures sources r) (node.Union left.root both.root) union_figures
-    (figures-right l read sources nodes reader a.0 plan) (figures-right r read sources left.nodes reader a.1 first.1.over.plan)
+    (figures-right l read sources timed nodes reader a.0 plan) (figures-right r read sources timed left.nodes reader a.1 first.1.over.plan)
     first.1.over.within second.1.over done.0.2 (λ s v. refl)
-figures-right (shape.Concat l r) read sources nodes reader a plan =
-    let done = right (shape.Concat l r) read sources nodes reader a plan in
-    let first = right l read sources nodes reader a.0 plan in
+figures-right (shape.Concat l r) read sources timed nodes reader a plan =
+    let done = right (shape.Concat l r) read sources timed nodes reader a plan in
+    let first = right l read sources timed nodes reader a.0 plan in
     let left = placed read sources l nodes in
-    let second = right r read sources left.nodes reader a.1 first.1.over.plan in
+    let second = right r read sources timed left.nodes reader a.1 first.1.over.plan in
     let both = placed read sources r left.nodes in
     both-figures left both (query_figures sources l) (query_figures sources r) (node.Beside left.root both.root) beside_figures
-    (figures-right l read sources nodes reader a.0 plan) (figures-right r read sources left.nodes reader a.1 first.1.over.plan)
+    (figures-right l read sources timed nodes reader a.0 plan) (figures-right r read sources timed left.nodes reader a.1 first.1.over.plan)
     first.1.over.within second.1.over done.0.2 (λ s v. refl)

@@ -8,6 +8,7 @@ pub mod TwoLemmas
 pub mod QueryLemmas
 pub mod FigureLemmas
 pub mod StatementLemmas
+pub mod TimeLemmas
 pub mod StepLemmas
 pub mod CanLemmas
 pub mod BodyLemmas

@@ -1,9 +1,8 @@
 -- Rows that are as long as columns are many: in parts of a list, and in results.
-use Rattle.std.proofs.Common.{◌≡◌, ℕ, ◌*◌, Bool, List, [], ◌∷◌, length, sym, subst, map, take, drop, nat_lt, nat_eq}
-use Rattle.std.specs.List.{AllByRecursion, filter_map, range_with_len}
-use Rattle.gl_bits.specs.Lists.{Group, groups, keys_of, rows_with, slice_at, slices}
+use Rattle.std.proofs.Common.{◌≡◌, ℕ, Bool, List, [], ◌∷◌, sym, subst, map, take, nat_eq}
+use Rattle.std.specs.List.{AllByRecursion}
+use Rattle.gl_bits.specs.Lists.{Group, groups, keys_of, rows_with}
 use Rattle.gl_bits.specs.Results.{Row}
-use Rattle.gl_bits.proofs.Bools.{by_cases}
 use Rattle.gl_schema.specs.declared.schema.Column.{Column}
 use Rattle.gl_schema.specs.declared.schema.Stream.{Stream}
 use Rattle.gl_query.specs.Shapes.{QueryShape}
@@ -12,7 +11,7 @@ use Rattle.gl_query.specs.Accepted.{IsAcceptedOver}
 use Rattle.gl_query.specs.Results.{Env, IsResultIn, streams_of}
 use Rattle.gl_query.specs.Laws.{HoldsIn, IsLongAs}
 use Rattle.gl_query.proofs.Lengths.{long}
-use Rattle.gl_query.proofs.Holding.{all_filter, all_take, all_drop}
+use Rattle.gl_query.proofs.Holding.{all_filter}
 
 abbrev pub AreLong : List Column → List Row → Type 0
 AreLong columns rows = AllByRecursion (IsLongAs columns) rows
@@ -20,18 +19,6 @@ AreLong columns rows = AllByRecursion (IsLongAs columns) rows
 -- ---- parts of a list
 
 module _ (P : Row → Type 0) where
-  slices_at : (size advance : ℕ) (rows : List Row) (places : List ℕ) → AllByRecursion P rows
-      → AllByRecursion (AllByRecursion P) (filter_map (slice_at size advance rows) places)
-  slices_at size advance rows [] h = tt
-  slices_at size advance rows (j ∷ places) h =
-      by_cases (nat_lt (j * advance) (length rows))
-      (λ e. rw e (all_take P size (drop (j * advance) rows) (all_drop P (j * advance) rows h), slices_at size advance rows places h))
-      (λ e. rw e (slices_at size advance rows places h))
-
-  pub in-slices : (size advance : ℕ) (rows : List Row) → AllByRecursion P rows → AllByRecursion (AllByRecursion P) (slices size advance rows)
-  unfolding slices
-  in-slices size advance rows h = slices_at size advance rows (range_with_len 0 (length rows)) h
-
   groups_of : (key_of : Row → ℕ) (rows : List Row) (keys : List ℕ) → AllByRecursion P rows
       → AllByRecursion (λ (g : Group Row). AllByRecursion P g.rows) (map (λ key. record { key = key; rows = rows_with key_of rows key }) keys)
   groups_of key_of rows [] h = tt
@@ -44,9 +31,9 @@ module _ (P : Row → Type 0) where
 
 -- ---- results
 
-pub results-long : (q : QueryShape) (sources : List Stream) (env : Env) (out : List Row) (spill : Bool)
-    → IsAcceptedOver (record { sources = sources }) q → streams_of env ≡ sources → HoldsIn IsLongAs env → IsResultIn q env out spill
+pub results-long : (q : QueryShape) (sources : List Stream) (timed : Bool) (env : Env) (out : List Row) (spill : Bool)
+    → IsAcceptedOver (record { sources = sources; timed = timed }) q → streams_of env ≡ sources → HoldsIn IsLongAs env → IsResultIn q env out spill
     → AreLong (columns_of sources q) out
-results-long q sources env out spill a same h r =
+results-long q sources timed env out spill a same h r =
     subst (λ (s : List Stream). AreLong (columns_of s q) out) same
-    (long q env out spill (subst (λ (s : List Stream). IsAcceptedOver (record { sources = s }) q) (sym same) a) h r)
+    (long q env timed out spill (subst (λ (s : List Stream). IsAcceptedOver (record { sources = s; timed = timed }) q) (sym same) a) h r)

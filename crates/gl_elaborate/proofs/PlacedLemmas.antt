@@ -1,5 +1,5 @@
 -- What adding nodes to a plan gives.
-use Rattle.std.proofs.Common.{◌≡◌, ℕ, ◌<◌, ◌≤◌, List, length, slice_get, sym, ◌∙◌, arith}
+use Rattle.std.proofs.Common.{◌≡◌, ℕ, ◌<◌, ◌≤◌, List, Some, length, slice_get, sym, ◌∙◌, arith}
 use Rattle.std.proofs.lemmas.Option.{slice_get_within}
 use Rattle.gl_algebra.specs.declared.node.PlanNode.{PlanNode}
 use Rattle.gl_algebra.specs.Fits.{Fits, IsPlan}
@@ -32,6 +32,7 @@ over-then old at next a b = record {
 -- a node that was added: its shape and its meaning are its row's, over the nodes before
 pub record IsAdded (nodes : List PlanNode) (node : PlanNode) : Type 1 where
   pub over : IsOver nodes (added nodes node)
+  pub there : slice_get (added nodes node).nodes (added nodes node).root ≡ Some node
   pub shape : shape_of (added nodes node).nodes (added nodes node).root ≡ shape_from (shape_of nodes) node
   pub figures : figures_of (added nodes node).nodes (added nodes node).root ≡ figures_from (shape_of nodes) (figures_of nodes) node
   pub means : IsPlanResult (added nodes node).nodes (added nodes node).root ≡ meaning_from (shape_of nodes) (IsPlanResult nodes) node
@@ -57,6 +58,7 @@ module _ (nodes : List PlanNode) (node : PlanNode) (plan : IsPlan nodes) (fits :
             ∙ figures_local (shape_of new) (shape_of nodes) (figures_of new) (figures_of nodes) node
             (agree (shape_of new) (shape_of nodes) (length nodes) shapes (named_by node) fits.before)
             (agree (figures_of new) (figures_of nodes) (length nodes) figured (named_by node) fits.before);
+        there = at;
         over = record { plan = plan'; within = within; longer = length-grown nodes new node plan inserted.grows; kept = kept };
         shape = (shape-made nodes new node plan inserted.grows root at plan' fits).is;
         means = meaning-node new (length new) (in_order new plan' (length new)) root node within at

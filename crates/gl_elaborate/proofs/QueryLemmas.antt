@@ -3,32 +3,37 @@ use Rattle.std.proofs.Common.{◌≡◌, ◌≢◌, ℕ, Bool, true, false, ◌&
 use Rattle.std.specs.List.{AllByRecursion}
 use Rattle.std.specs.Prelude.{IsSome}
 use Rattle.std.proofs.lemmas.List.{map-append}
-use Rattle.gl_bits.specs.Lists.{Group, groups, has_further, slices}
+use Rattle.gl_bits.specs.Lists.{Group, groups, has_further}
 use Rattle.gl_bits.specs.Results.{Row, Results, AreBeside, AreJoined, IsOfBoth, IsOfGroup, IsOfParts}
 use Rattle.gl_bits.specs.declared.kind.Kind.{Kind}
 use Rattle.gl_schema.specs.declared.schema.Stream.{Stream}
 use Rattle.gl_schema.specs.Schemas.{kinds_of}
+use Rattle.gl_query.specs.declared.tree.Measure.{Measure}
+use Rattle.gl_query.specs.declared.tree.Measure.TheVariants.{Tuples, Time}
 use Rattle.gl_query.specs.Shapes.{ExprShape, AggItemShape, QueryShape}
 use Rattle.gl_query.specs.Shapes as shape
 use Rattle.gl_query.specs.Values.{column_number}
 use Rattle.gl_query.specs.Columns.{columns_of, source_columns, variable, is_closing, pace_of, unfiltered, picked_columns}
 use Rattle.gl_query.specs.Columns as query
-use Rattle.gl_query.specs.Accepted.{IsAcceptedOver}
-use Rattle.gl_query.specs.Results.{IsResultIn, only, picked, kept, total_row}
+use Rattle.gl_query.specs.Accepted.{IsAcceptedOver, can_measure}
+use Rattle.gl_query.specs.Windows.{parts_of}
+use Rattle.gl_query.specs.Results.{Env, IsResultIn, only, picked, kept, ticks_in, times_in, total_row}
+use Rattle.gl_query.proofs.Holding.{all_parts}
 use Rattle.gl_query.proofs.Real.{AreReal, real}
 use Rattle.gl_algebra.specs.declared.node.PlanNode.{PlanNode}
 use Rattle.gl_algebra.specs.declared.node.PlanNode.TheVariants as node
-use Rattle.gl_algebra.specs.Fits.{IsPlan}
+use Rattle.gl_algebra.specs.Fits.{IsPlan, IsOverStream}
 use Rattle.gl_algebra.specs.Shapes.{Pace, unsteady, shape_of}
-use Rattle.gl_algebra.specs.Added.{added}
-use Rattle.gl_algebra.specs.Results.{given, IsPlanResult}
+use Rattle.gl_algebra.specs.Added.{Placed, added}
+use Rattle.gl_algebra.specs.Results.{Inputs, given, times_with, IsPlanResult}
 use Rattle.gl_elaborate.proofs.TermLemmas.{kind-column}
 use Rattle.gl_elaborate.proofs.AcceptedLemmas.{column-fits}
-use Rattle.gl_elaborate.specs.Plans.{placed, rows_over, totals_over}
+use Rattle.gl_elaborate.specs.Plans.{placed, rows_over, totals_over, window_node}
 use Rattle.gl_elaborate.specs.Fitting.{PlacedFit}
 use Rattle.gl_elaborate.specs.Right.{plan_pace, leaves_of, shape_for}
-use Rattle.gl_elaborate.proofs.LongLemmas.{AreLong, in-groups, in-slices, results-long}
-use Rattle.gl_elaborate.proofs.ReadLemmas.{IsReader, means_for, all-kinds, read-shape, read-fits, read-means, body-reader, body-sees, body-leaves}
+use Rattle.gl_elaborate.proofs.LongLemmas.{AreLong, in-groups, results-long}
+use Rattle.gl_elaborate.proofs.ReadLemmas.{IsReader, Sees, means_for, all-kinds, read-shape, read-fits, read-means, body-reader, body-sees, body-leaves}
+use Rattle.gl_elaborate.proofs.PlacedLemmas.{IsOver, is_added}
 use Rattle.gl_elaborate.proofs.StandsLemmas.{Stands, weaker}
 use Rattle.gl_elaborate.proofs.RowsLemmas.{IsPicked, pace_under, rows-stand}
 use Rattle.gl_elaborate.proofs.TotalsLemmas.{IsTotalled, HasDelay, totals-stand}
@@ -50,26 +55,50 @@ rows-pace : (read : List ℕ → PlanNode) (condition : Option ExprShape) (pace 
 rows-pace read None pace = refl
 rows-pace read (Some e) pace = refl
 
-some-pace : (read : List ℕ → PlanNode) (sources : List Stream) → IsReader read sources → (pace : Option query.Pace) → IsSome pace
+some-pace : (read : List ℕ → PlanNode) (sources : List Stream) (timed : Bool) → IsReader read sources timed → (pace : Option query.Pace) → IsSome pace
     → plan_pace read pace ≢ unsteady
-some-pace read sources reader None some e = cc
-some-pace read sources reader (Some query.Once) some e = absurd (cc)
-some-pace read sources reader (Some (query.Step name)) some e = reader.steady name e
+some-pace read sources timed reader None some e = cc
+some-pace read sources timed reader (Some query.Once) some e = absurd (cc)
+some-pace read sources timed reader (Some (query.Step name)) some e = reader.steady name e
 
 -- ---- queries
 
-pub columns-are : (q : QueryShape) (read : List ℕ → PlanNode) (sources : List Stream) → IsReader read sources
-    → IsAcceptedOver (record { sources = sources }) q → AreReal (columns_of sources q)
-columns-are q read sources reader a = real q (record { sources = sources }) reader.scope a
+pub columns-are : (q : QueryShape) (read : List ℕ → PlanNode) (sources : List Stream) (timed : Bool) → IsReader read sources timed
+    → IsAcceptedOver (record { sources = sources; timed = timed }) q → AreReal (columns_of sources q)
+columns-are q read sources timed reader a = real q (record { sources = sources; timed = timed }) reader.scope a
 
-module _ (read : List ℕ → PlanNode) (sources : List Stream) where
+module _ (read : List ℕ → PlanNode) (sources : List Stream) (timed : Bool) where
   abbrev pub IsRight : QueryShape → List PlanNode → Type 0
-  IsRight q nodes = PlacedFit read sources q nodes × Stands nodes (placed read sources q nodes) (shape_for read sources q) (means_for read sources q)
+  IsRight q nodes = PlacedFit read sources q nodes × Stands nodes (placed read sources q nodes) (shape_for read sources q) (means_for read sources timed q)
+
+-- a window of time is over a stream's node
+over-stream : (measure : Measure) (source : QueryShape) (read : List ℕ → PlanNode) (sources : List Stream) (timed : Bool) (nodes : List PlanNode) (at : Placed)
+    (size advance : ℕ) → IsReader read sources timed → IsAcceptedOver (record { sources = sources; timed = timed }) source
+    → can_measure measure (record { sources = sources; timed = timed }) source ≡ true → IsPlan nodes → IsOver (placed read sources source nodes).nodes at
+    → IsOverStream at.nodes (window_node measure (placed read sources source nodes).root at.root size advance)
+over-stream Tuples source read sources timed nodes at size advance reader a can plan over = tt
+over-stream Time (shape.Read name) read sources timed nodes at size advance reader a can plan over =
+    let fits = read-fits (read name) (kinds_of (source_columns sources name)) nodes (reader.leaf name a) (all-kinds (source_columns sources name) (reader.scope.kinds name)) in
+    let new = is_added nodes (read name) plan fits in
+    let stream = reader.streams can name in
+    (stream.0, stream.1, over.kept (added nodes (read name)).root new.over.within ∙ new.there ∙ ap Some stream.2)
+over-stream Time source read sources timed nodes at size advance reader a can plan over = absurd (cc)
+
+-- its rows have the times that the plan sees
+same-parts : (measure : Measure) (source : QueryShape) (read : List ℕ → PlanNode) (sources : List Stream) (timed : Bool) (env : Env) (inputs : Inputs)
+    (size advance : ℕ) (rows : List Row) → IsAcceptedOver (record { sources = sources; timed = timed }) source
+    → can_measure measure (record { sources = sources; timed = timed }) source ≡ true → Sees read sources timed env inputs
+    → parts_of measure size advance (times_with (plan_pace read (pace_of source)) inputs) inputs.ticks rows
+    ≡ parts_of measure size advance (times_in env source) (ticks_in env source) rows
+same-parts Tuples source read sources timed env inputs size advance rows a can sees = refl
+same-parts Time (shape.Read name) read sources timed env inputs size advance rows a can sees =
+    (λ i. parts_of Time size advance (sees.times can name a i) (sees.ticks can name a i) rows)
+same-parts Time source read sources timed env inputs size advance rows a can sees = absurd (cc)
 
 -- the plan of an accepted query
-pub right : (q : QueryShape) (read : List ℕ → PlanNode) (sources : List Stream) (nodes : List PlanNode) → IsReader read sources
-    → IsAcceptedOver (record { sources = sources }) q → IsPlan nodes → IsRight read sources q nodes
-right (shape.Read name) read sources nodes reader a plan =
+pub right : (q : QueryShape) (read : List ℕ → PlanNode) (sources : List Stream) (timed : Bool) (nodes : List PlanNode) → IsReader read sources timed
+    → IsAcceptedOver (record { sources = sources; timed = timed }) q → IsPlan nodes → IsRight read sources timed q nodes
+right (shape.Read name) read sources timed nodes reader a plan =
     let leaf = reader.leaf name a in
     let fits = read-fits (read name) (kinds_of (source_columns sources name)) nodes leaf (all-kinds (source_columns sources name) (reader.scope.kinds name)) in
     let new = behind nodes (read name) plan fits in (
@@ -83,65 +112,67 @@ right (shape.Read name) read sources nodes reader a plan =
             record { rows = given.0 ∙ sees.reads name a; kept = given.1 };
       },
     )
-right (shape.Rows pick condition source) read sources nodes reader a plan =
+right (shape.Rows pick condition source) read sources timed nodes reader a plan =
     let columns = columns_of sources source in
-    let below = right source read sources nodes reader a.0 plan in
-    let are = columns-are source read sources reader a.0 in
-    let done = rows-stand columns are.kinds nodes (placed read sources source nodes) (shape_for read sources source) (means_for read sources source) refl
+    let below = right source read sources timed nodes reader a.0 plan in
+    let are = columns-are source read sources timed reader a.0 in
+    let done = rows-stand columns are.kinds nodes (placed read sources source nodes) (shape_for read sources source) (means_for read sources timed source) refl
     pick condition a.1 below.1 in
     let at = rows_over columns pick condition (placed read sources source nodes) in
     let paced = subst (λ (p : Pace). Stands nodes at (record (shape_for read sources source) { kinds = kinds_of (picked_columns columns pick); pace = p })
-    (λ inputs. IsPicked columns pick condition (means_for read sources source inputs))) (rows-pace read condition (pace_of source)) done.1 in (
+    (λ inputs. IsPicked columns pick condition (means_for read sources timed source inputs))) (rows-pace read condition (pace_of source)) done.1 in (
       (below.0, done.0),
-      weaker nodes at (shape_for read sources (shape.Rows pick condition source)) (λ inputs. IsPicked columns pick condition (means_for read sources source inputs))
-          (means_for read sources (shape.Rows pick condition source)) paced
+      weaker nodes at (shape_for read sources (shape.Rows pick condition source)) (λ inputs. IsPicked columns pick condition (means_for read sources timed source inputs))
+          (means_for read sources timed (shape.Rows pick condition source)) paced
           (λ inputs out spill r env sees.
           let result = r.of_source env sees in
           record {
             rows = r.rows;
             of_source = result;
             changed = subst (λ (s : List Stream). out ≡ map (picked (columns_of s source) pick) (kept (columns_of s source) condition r.rows))
-                (sym sees.streams) (r.made (results-long source sources env r.rows spill a.0 sees.streams sees.are_long result));
+                (sym sees.streams) (r.made (results-long source sources timed env r.rows spill a.0 sees.streams sees.are_long result));
           }),
     )
-right (shape.Total aggs source) read sources nodes reader a plan =
+right (shape.Total aggs source) read sources timed nodes reader a plan =
     let columns = columns_of sources source in
-    let below = right source read sources nodes reader a.0 plan in
-    let are = columns-are source read sources reader a.0 in
-    let done = totals-stand columns are.kinds nodes (placed read sources source nodes) (shape_for read sources source) (means_for read sources source) refl
+    let below = right source read sources timed nodes reader a.0 plan in
+    let are = columns-are source read sources timed reader a.0 in
+    let done = totals-stand columns are.kinds nodes (placed read sources source nodes) (shape_for read sources source) (means_for read sources timed source) refl
     aggs a.1.typed below.1 in
     let at = totals_over columns aggs (placed read sources source nodes) in (
       (below.0, done.0),
-      weaker nodes at (shape_for read sources (shape.Total aggs source)) (λ inputs. IsTotalled columns aggs (means_for read sources source inputs))
-          (means_for read sources (shape.Total aggs source)) done.2
+      weaker nodes at (shape_for read sources (shape.Total aggs source)) (λ inputs. IsTotalled columns aggs (means_for read sources timed source inputs))
+          (means_for read sources timed (shape.Total aggs source)) done.2
           (λ inputs out spill r env sees.
           let result = r.of_source env sees in
           record {
             rows = r.rows;
             of_source = result;
             changed = subst (λ (s : List Stream). out ≡ total_row (columns_of s source) aggs r.rows ∷ [])
-                (sym sees.streams) (r.made (results-long source sources env r.rows spill a.0 sees.streams sees.are_long result));
+                (sym sees.streams) (r.made (results-long source sources timed env r.rows spill a.0 sees.streams sees.are_long result));
           }),
     )
-right (shape.Each var source size advance body) read sources nodes reader a plan =
+right (shape.Each measure var source size advance body) read sources timed nodes reader a plan =
     let columns = columns_of sources source in
     let inner : List ℕ → PlanNode = λ name. node.Body (kinds_of columns) in
-    let below = right source read sources nodes reader a.0 plan in
-    let are = columns-are source read sources reader a.0 in
+    let below = right source read sources timed nodes reader a.0 plan in
+    let are = columns-are source read sources timed reader a.0 in
     let from = placed read sources source nodes in
-    let inside = right body inner (variable var columns) from.nodes (body-reader var columns are) a.2 below.1.over.plan in
+    let inside = right body inner (variable var columns) false from.nodes (body-reader var columns are) a.2 below.1.over.plan in
     let at = placed inner (variable var columns) body from.nodes in
+    let timely = over-stream measure source read sources timed nodes at size advance reader a.0 a.4 plan inside.1.over in
     let two = window-stands nodes from at (shape_for read sources source) (shape_for inner (variable var columns) body)
-    (means_for read sources source) (means_for inner (variable var columns) body) below.1 inside.1 size advance a.1 a.3 (body-leaves (node.Body (kinds_of columns)) body) in
+    (means_for read sources timed source) (means_for inner (variable var columns) false body) below.1 inside.1 measure size advance a.1 timely a.3 (body-leaves (node.Body (kinds_of columns)) body) in
     let s = left_still nodes from at (shape_for read sources source) (shape_for inner (variable var columns) body)
-    (means_for read sources source) (means_for inner (variable var columns) body) below.1 inside.1 in (
+    (means_for read sources timed source) (means_for inner (variable var columns) false body) below.1 inside.1 in (
       (below.0, inside.0, two.fits),
-      weaker nodes (added at.nodes (node.Window from.root at.root size advance)) (shape_for read sources (shape.Each var source size advance body)) _
-          (means_for read sources (shape.Each var source size advance body)) two.stands
+      weaker nodes (added at.nodes (window_node measure from.root at.root size advance)) (shape_for read sources (shape.Each measure var source size advance body)) _
+          (means_for read sources timed (shape.Each measure var source size advance body)) two.stands
           (λ inputs out spill r env sees.
           let result = s.means inputs r.rows r.source_spill r.of_source env sees in
-          let long = results-long source sources env r.rows r.source_spill a.0 sees.streams sees.are_long result in
-          subst (λ (ss : List Stream). IsOfParts (IsResultIn source env) (slices size advance)
+          let long = results-long source sources timed env r.rows r.source_spill a.0 sees.streams sees.are_long result in
+          let parts = same-parts measure source read sources timed env inputs size advance r.rows a.0 a.4 sees in
+          subst (λ (ss : List Stream). IsOfParts (IsResultIn source env) (parts_of measure size advance (times_in env source) (ticks_in env source))
           (λ rows. IsResultIn body (only var (columns_of ss source) rows)) (λ rows. false) out spill) (sym sees.streams)
           (record {
             rows = r.rows;
@@ -150,24 +181,26 @@ right (shape.Each var source size advance body) read sources nodes reader a plan
             of_source = result;
             of_parts = joined-means (AreLong columns) _ (λ rows. IsResultIn body (only var columns rows))
                 (λ rows o sp h is. inside.1.means (given inputs rows) o sp is (only var columns rows) (body-sees var columns inputs rows h))
-                (slices size advance r.rows) out r.parts_spill (in-slices (IsLongAs columns) size advance r.rows long) r.of_parts;
+                (parts_of measure size advance (times_in env source) (ticks_in env source) r.rows) out r.parts_spill
+                (all_parts (IsLongAs columns) measure size advance (times_in env source) (ticks_in env source) r.rows long)
+                (subst (λ (ps : List (List Row)). AreJoined (λ slice. IsPlanResult at.nodes at.root (given inputs slice)) ps out r.parts_spill) parts r.of_parts);
             any = r.any;
           })),
     )
-right (shape.PerGroup var source key count body) read sources nodes reader a plan =
+right (shape.PerGroup var source key count body) read sources timed nodes reader a plan =
     let columns = columns_of sources source in
     let inner : List ℕ → PlanNode = λ name. node.Body (kinds_of columns) in
-    let below = right source read sources nodes reader a.0 plan in
-    let are = columns-are source read sources reader a.0 in
+    let below = right source read sources timed nodes reader a.0 plan in
+    let are = columns-are source read sources timed reader a.0 in
     let from = placed read sources source nodes in
-    let inside = right body inner (variable var columns) from.nodes (body-reader var columns are) a.2 below.1.over.plan in
+    let inside = right body inner (variable var columns) false from.nodes (body-reader var columns are) a.2 below.1.over.plan in
     let at = placed inner (variable var columns) body from.nodes in
     let number = column_number columns key in
     let two = group-stands nodes from at (shape_for read sources source) (shape_for inner (variable var columns) body)
-    (means_for read sources source) (means_for inner (variable var columns) body) below.1 inside.1 number count (column-fits columns are.kinds key a.1.known)
+    (means_for read sources timed source) (means_for inner (variable var columns) false body) below.1 inside.1 number count (column-fits columns are.kinds key a.1.known)
     a.1.some_groups a.1.most_groups a.3 (body-leaves (node.Body (kinds_of columns)) body) in
     let s = left_still nodes from at (shape_for read sources source) (shape_for inner (variable var columns) body)
-    (means_for read sources source) (means_for inner (variable var columns) body) below.1 inside.1 in
+    (means_for read sources timed source) (means_for inner (variable var columns) false body) below.1 inside.1 in
     let stands = subst (λ (k : Kind). Stands nodes (added at.nodes (node.Group from.root at.root number count))
     (record (shape_for read sources source) { kinds = k ∷ kinds_of (columns_of (variable var columns) body); closing = true; pace = unsteady })
     (λ inputs. IsOfParts (IsPlanResult at.nodes from.root inputs) (groups count (λ row. slice_index row number))
@@ -175,10 +208,10 @@ right (shape.PerGroup var source key count body) read sources nodes reader a pla
     (kind-column columns key) two.stands in (
       (below.0, inside.0, two.fits),
       weaker nodes (added at.nodes (node.Group from.root at.root number count)) (shape_for read sources (shape.PerGroup var source key count body)) _
-          (means_for read sources (shape.PerGroup var source key count body)) stands
+          (means_for read sources timed (shape.PerGroup var source key count body)) stands
           (λ inputs out spill r env sees.
           let result = s.means inputs r.rows r.source_spill r.of_source env sees in
-          let long = results-long source sources env r.rows r.source_spill a.0 sees.streams sees.are_long result in
+          let long = results-long source sources timed env r.rows r.source_spill a.0 sees.streams sees.are_long result in
           subst (λ (ss : List Stream). IsOfParts (IsResultIn source env) (groups count (λ row. slice_index row (column_number (columns_of ss source) key)))
           (IsOfGroup (λ rows. IsResultIn body (only var (columns_of ss source) rows)))
           (has_further count (λ row. slice_index row (column_number (columns_of ss source) key))) out spill) (sym sees.streams)
@@ -198,15 +231,15 @@ right (shape.PerGroup var source key count body) read sources nodes reader a pla
             any = r.any;
           })),
     )
-right (shape.Union l r) read sources nodes reader a plan =
-    let first = right l read sources nodes reader a.0 plan in
+right (shape.Union l r) read sources timed nodes reader a plan =
+    let first = right l read sources timed nodes reader a.0 plan in
     let left = placed read sources l nodes in
-    let second = right r read sources left.nodes reader a.1 first.1.over.plan in
+    let second = right r read sources timed left.nodes reader a.1 first.1.over.plan in
     let both = placed read sources r left.nodes in
-    let two = union-stands nodes left both (shape_for read sources l) (shape_for read sources r) (means_for read sources l) (means_for read sources r) first.1 second.1 a.2 in
-    let s = left_still nodes left both (shape_for read sources l) (shape_for read sources r) (means_for read sources l) (means_for read sources r) first.1 second.1 in (
+    let two = union-stands nodes left both (shape_for read sources l) (shape_for read sources r) (means_for read sources timed l) (means_for read sources timed r) first.1 second.1 a.2 in
+    let s = left_still nodes left both (shape_for read sources l) (shape_for read sources r) (means_for read sources timed l) (means_for read sources timed r) first.1 second.1 in (
       (first.0, second.0, two.fits),
-      weaker nodes (added both.nodes (node.Union left.root both.root)) (shape_for read sources (shape.Union l r)) _ (means_for read sources (shape.Union l r)) two.stands
+      weaker nodes (added both.nodes (node.Union left.root both.root)) (shape_for read sources (shape.Union l r)) _ (means_for read sources timed (shape.Union l r)) two.stands
           (λ inputs out spill x env sees. record {
             left = x.left;
             right = x.right;
@@ -218,20 +251,20 @@ right (shape.Union l r) read sources nodes reader a plan =
             either = x.either;
           }),
     )
-right (shape.Concat l r) read sources nodes reader a plan =
-    let first = right l read sources nodes reader a.0 plan in
+right (shape.Concat l r) read sources timed nodes reader a plan =
+    let first = right l read sources timed nodes reader a.0 plan in
     let left = placed read sources l nodes in
-    let second = right r read sources left.nodes reader a.1 first.1.over.plan in
+    let second = right r read sources timed left.nodes reader a.1 first.1.over.plan in
     let both = placed read sources r left.nodes in
-    let two = beside-stands nodes left both (shape_for read sources l) (shape_for read sources r) (means_for read sources l) (means_for read sources r) first.1 second.1
-    (ap (plan_pace read) a.2.same) (some-pace read sources reader (pace_of l) a.2.paced) in
-    let s = left_still nodes left both (shape_for read sources l) (shape_for read sources r) (means_for read sources l) (means_for read sources r) first.1 second.1 in
+    let two = beside-stands nodes left both (shape_for read sources l) (shape_for read sources r) (means_for read sources timed l) (means_for read sources timed r) first.1 second.1
+    (ap (plan_pace read) a.2.same) (some-pace read sources timed reader (pace_of l) a.2.paced) in
+    let s = left_still nodes left both (shape_for read sources l) (shape_for read sources r) (means_for read sources timed l) (means_for read sources timed r) first.1 second.1 in
     let stands = subst (λ (k : List Kind). Stands nodes (added both.nodes (node.Beside left.root both.root))
     (record { kinds = k; closing = is_closing l && is_closing r; pace = plan_pace read (pace_of l); leaves = leaves_of read l ++ leaves_of read r })
     (λ inputs. IsOfBoth (IsPlanResult both.nodes left.root inputs) (IsPlanResult both.nodes both.root inputs) AreBeside))
     (sym (map-append (λ c. c.kind) (columns_of sources l) (columns_of sources r))) two.stands in (
       (first.0, second.0, two.fits),
-      weaker nodes (added both.nodes (node.Beside left.root both.root)) (shape_for read sources (shape.Concat l r)) _ (means_for read sources (shape.Concat l r)) stands
+      weaker nodes (added both.nodes (node.Beside left.root both.root)) (shape_for read sources (shape.Concat l r)) _ (means_for read sources timed (shape.Concat l r)) stands
           (λ inputs out spill x env sees. record {
             left = x.left;
             right = x.right;
@@ -244,12 +277,12 @@ right (shape.Concat l r) read sources nodes reader a plan =
           }),
     )
 
-pub total-delay : (aggs : List AggItemShape) (source : QueryShape) (read : List ℕ → PlanNode) (sources : List Stream) (nodes : List PlanNode)
-    → IsReader read sources → IsAcceptedOver (record { sources = sources }) (shape.Total aggs source) → IsPlan nodes
+pub total-delay : (aggs : List AggItemShape) (source : QueryShape) (read : List ℕ → PlanNode) (sources : List Stream) (timed : Bool) (nodes : List PlanNode)
+    → IsReader read sources timed → IsAcceptedOver (record { sources = sources; timed = timed }) (shape.Total aggs source) → IsPlan nodes
     → HasDelay (columns_of sources source) aggs (placed read sources source nodes)
-total-delay aggs source read sources nodes reader a plan =
+total-delay aggs source read sources timed nodes reader a plan =
     let columns = columns_of sources source in
-    let below = right source read sources nodes reader a.0 plan in
-    let are = columns-are source read sources reader a.0 in
-    (totals-stand columns are.kinds nodes (placed read sources source nodes) (shape_for read sources source) (means_for read sources source) refl
+    let below = right source read sources timed nodes reader a.0 plan in
+    let are = columns-are source read sources timed reader a.0 in
+    (totals-stand columns are.kinds nodes (placed read sources source nodes) (shape_for read sources source) (means_for read sources timed source) refl
     aggs a.1.typed below.1).1

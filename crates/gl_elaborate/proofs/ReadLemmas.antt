@@ -14,13 +14,13 @@ use Rattle.gl_schema.specs.Schemas.{kinds_of, has_stream}
 use Rattle.gl_query.specs.Shapes.{QueryShape}
 use Rattle.gl_query.specs.Shapes as shape
 use Rattle.gl_query.specs.Columns.{source_columns, variable}
-use Rattle.gl_query.specs.Results.{Env, IsResultIn, only, rows_of, streams_of}
+use Rattle.gl_query.specs.Results.{Env, IsResultIn, only, rows_of, streams_of, ticks_in, times_in}
 use Rattle.gl_query.specs.Laws.{AreKinds, HoldsIn, IsLongAs}
 use Rattle.gl_query.proofs.Real.{AreReal, IsScope, body_is}
 use Rattle.gl_algebra.specs.declared.node.PlanNode.{PlanNode}
 use Rattle.gl_algebra.specs.declared.node.PlanNode.TheVariants as node
 use Rattle.gl_algebra.specs.Shapes.{Shape, unsteady, shape_from}
-use Rattle.gl_algebra.specs.Results.{Inputs, Meaning, given, meaning_from}
+use Rattle.gl_algebra.specs.Results.{Inputs, Meaning, given, meaning_from, times_with}
 use Rattle.gl_elaborate.specs.Fitting.{FitsNext}
 use Rattle.gl_elaborate.specs.Right.{pace_at, leaves_of}
 use Rattle.gl_elaborate.proofs.LongLemmas.{AreLong}
@@ -36,6 +36,7 @@ IsLeafOf (node.Aggregate child aggs) kinds = ⊥
 IsLeafOf (node.Union left right) kinds = ⊥
 IsLeafOf (node.Beside left right) kinds = ⊥
 IsLeafOf (node.Window source body size advance) kinds = ⊥
+IsLeafOf (node.TimeWindow source body size advance) kinds = ⊥
 IsLeafOf (node.Group source body key groups) kinds = ⊥
 
 -- the rows that a leaf gives
@@ -49,23 +50,32 @@ leaf_rows (node.Aggregate child aggs) inputs = []
 leaf_rows (node.Union left right) inputs = []
 leaf_rows (node.Beside left right) inputs = []
 leaf_rows (node.Window source body size advance) inputs = []
+leaf_rows (node.TimeWindow source body size advance) inputs = []
 leaf_rows (node.Group source body key groups) inputs = []
 
+-- a stream's node
+abbrev pub IsStreamNode : PlanNode → Type 0
+IsStreamNode n = (number : ℕ) × (kinds : List Kind) × (n ≡ node.Stream number kinds)
+
 -- the leaves of sources by their names
-pub record IsReader (read : List ℕ → PlanNode) (sources : List Stream) : Type 0 where
-  pub scope : IsScope (record { sources = sources })
+pub record IsReader (read : List ℕ → PlanNode) (sources : List Stream) (timed : Bool) : Type 0 where
+  pub scope : IsScope (record { sources = sources; timed = timed })
   pub leaf : (name : List ℕ) → has_stream sources name ≡ true → IsLeafOf (read name) (kinds_of (source_columns sources name))
   pub steady : (name : List ℕ) → pace_at (read name) ≢ unsteady
+  pub streams : timed ≡ true → (name : List ℕ) → IsStreamNode (read name)
 
 -- what the leaves of sources give is what an environment has
-pub record Sees (read : List ℕ → PlanNode) (sources : List Stream) (env : Env) (inputs : Inputs) : Type 0 where
+pub record Sees (read : List ℕ → PlanNode) (sources : List Stream) (timed : Bool) (env : Env) (inputs : Inputs) : Type 0 where
   pub streams : streams_of env ≡ sources
   pub are_long : HoldsIn IsLongAs env
   pub reads : (name : List ℕ) → has_stream sources name ≡ true → leaf_rows (read name) inputs ≡ rows_of env name
+  pub times : timed ≡ true → (name : List ℕ) → has_stream sources name ≡ true
+      → times_with (pace_at (read name)) inputs ≡ times_in env (shape.Read name)
+  pub ticks : timed ≡ true → (name : List ℕ) → has_stream sources name ≡ true → inputs.ticks ≡ ticks_in env (shape.Read name)
 
 -- the results of a query over what its leaves give
-abbrev pub means_for : (List ℕ → PlanNode) → List Stream → QueryShape → Meaning
-means_for read sources q inputs out spill = (env : Env) → Sees read sources env inputs → IsResultIn q env out spill
+abbrev pub means_for : (List ℕ → PlanNode) → List Stream → Bool → QueryShape → Meaning
+means_for read sources timed q inputs out spill = (env : Env) → Sees read sources timed env inputs → IsResultIn q env out spill
 
 -- ---- one leaf
 
@@ -83,16 +93,19 @@ read-shape (node.Aggregate child aggs) kinds s h = absurd h
 read-shape (node.Union left right) kinds s h = absurd h
 read-shape (node.Beside left right) kinds s h = absurd h
 read-shape (node.Window source body size advance) kinds s h = absurd h
+read-shape (node.TimeWindow source body size advance) kinds s h = absurd h
 read-shape (node.Group source body key groups) kinds s h = absurd h
 
 pub read-fits : (n : PlanNode) (kinds : List Kind) (nodes : List PlanNode) → IsLeafOf n kinds → AllByRecursion IsKind kinds → FitsNext nodes n
 read-fits (node.Stream k own) kinds nodes h a = record {
   before = All-nil (λ child. child < length nodes);
   suits = All-from_recursion IsKind own (subst (AllByRecursion IsKind) (sym h) a);
+  timed = tt;
 }
 read-fits (node.Body own) kinds nodes h a = record {
   before = All-nil (λ child. child < length nodes);
   suits = All-from_recursion IsKind own (subst (AllByRecursion IsKind) (sym h) a);
+  timed = tt;
 }
 read-fits (node.Compute child ops) kinds nodes h a = absurd h
 read-fits (node.Select child column) kinds nodes h a = absurd h
@@ -101,6 +114,7 @@ read-fits (node.Aggregate child aggs) kinds nodes h a = absurd h
 read-fits (node.Union left right) kinds nodes h a = absurd h
 read-fits (node.Beside left right) kinds nodes h a = absurd h
 read-fits (node.Window source body size advance) kinds nodes h a = absurd h
+read-fits (node.TimeWindow source body size advance) kinds nodes h a = absurd h
 read-fits (node.Group source body key groups) kinds nodes h a = absurd h
 
 pub read-means : (n : PlanNode) (kinds : List Kind) (s : ℕ → Shape) (m : ℕ → Meaning) (inputs : Inputs) (out : List Row) (spill : Bool) → IsLeafOf n kinds
@@ -114,32 +128,36 @@ read-means (node.Aggregate child aggs) kinds s m inputs out spill h r = absurd h
 read-means (node.Union left right) kinds s m inputs out spill h r = absurd h
 read-means (node.Beside left right) kinds s m inputs out spill h r = absurd h
 read-means (node.Window source body size advance) kinds s m inputs out spill h r = absurd h
+read-means (node.TimeWindow source body size advance) kinds s m inputs out spill h r = absurd h
 read-means (node.Group source body key groups) kinds s m inputs out spill h r = absurd h
 
 lost : (var : List ℕ) (columns : List NamedColumn) (name : List ℕ) → bytes_eq name var ≡ false → has_stream (variable var columns) name ≡ true → ⊥
 unfolding has_stream
 lost var columns name e has = let both = rw e at has in cc
 
-pub body-reader : (var : List ℕ) (columns : List NamedColumn) → AreReal columns → IsReader (λ name. node.Body (kinds_of columns)) (variable var columns)
+pub body-reader : (var : List ℕ) (columns : List NamedColumn) → AreReal columns → IsReader (λ name. node.Body (kinds_of columns)) (variable var columns) false
 body-reader var columns are = record {
   scope = body_is var columns are.result are.kinds;
   leaf = λ name has. by_cases (bytes_eq name var) (λ e. rw e refl) (λ e. absurd (lost var columns name e has));
   steady = λ name e. absurd (cc);
+  streams = λ t name. absurd (cc);
 }
 
 pub body-sees : (var : List ℕ) (columns : List NamedColumn) (inputs : Inputs) (rows : List Row) → AreLong columns rows
-    → Sees (λ name. node.Body (kinds_of columns)) (variable var columns) (only var columns rows) (given inputs rows)
+    → Sees (λ name. node.Body (kinds_of columns)) (variable var columns) false (only var columns rows) (given inputs rows)
 body-sees var columns inputs rows long = record {
   streams = refl;
   are_long = λ name. by_cases (bytes_eq name var) (λ e. rw e long) (λ e. rw e tt);
   reads = λ name has. by_cases (bytes_eq name var) (λ e. rw e refl) (λ e. absurd (lost var columns name e has));
+  times = λ t name has. absurd (cc);
+  ticks = λ t name has. absurd (cc);
 }
 
 pub body-leaves : (n : PlanNode) (q : QueryShape) → AllByRecursion (λ leaf. leaf ≡ n) (leaves_of (λ name. n) q)
 body-leaves n (shape.Read name) = (refl, tt)
 body-leaves n (shape.Rows pick condition source) = body-leaves n source
 body-leaves n (shape.Total aggs source) = body-leaves n source
-body-leaves n (shape.Each var source size advance body) = body-leaves n source
+body-leaves n (shape.Each measure var source size advance body) = body-leaves n source
 body-leaves n (shape.PerGroup var source key groups body) = body-leaves n source
 body-leaves n (shape.Union l r) = all_append (λ leaf. leaf ≡ n) (leaves_of (λ name. n) l) (leaves_of (λ name. n) r) (body-leaves n l) (body-leaves n r)
 body-leaves n (shape.Concat l r) = all_append (λ leaf. leaf ≡ n) (leaves_of (λ name. n) l) (leaves_of (λ name. n) r) (body-leaves n l) (body-leaves n r)

@@ -74,24 +74,28 @@ module _ (old : List PlanNode) (at : Placed) (shape : Shape) (Means : Meaning) (
   compute-fits ops fits = record {
     before = before;
     suits = subst (λ (x : Shape). All (OpFits x.kinds) ops) (sym s.is) (All-from_recursion (OpFits shape.kinds) ops fits);
+    timed = tt;
   }
 
   pub select-fits : (column : ℕ) → slice_get shape.kinds column ≡ Some bit_kind → Fits at.nodes (length at.nodes) (node.Select at.root column)
   select-fits column fits = record {
     before = before;
     suits = subst (λ (x : Shape). slice_get x.kinds column ≡ Some bit_kind) (sym s.is) fits;
+    timed = tt;
   }
 
   pub project-fits : (items : List Operand) → AllByRecursion (OperandFits shape.kinds) items → Fits at.nodes (length at.nodes) (node.Project at.root items)
   project-fits items fits = record {
     before = before;
     suits = subst (λ (x : Shape). All (OperandFits x.kinds) items) (sym s.is) (All-from_recursion (OperandFits shape.kinds) items fits);
+    timed = tt;
   }
 
   pub aggregate-fits : (aggs : List PlanAgg) → AllByRecursion (AggFits shape.kinds) aggs → Fits at.nodes (length at.nodes) (node.Aggregate at.root aggs)
   aggregate-fits aggs fits = record {
     before = before;
     suits = subst (λ (x : Shape). All (AggFits x.kinds) aggs) (sym s.is) (All-from_recursion (AggFits shape.kinds) aggs fits);
+    timed = tt;
   }
 
   pub aggregate-stands : (aggs : List PlanAgg) → AllByRecursion (AggFits shape.kinds) aggs

@@ -5,10 +5,11 @@ use Rattle.gl_bits.specs.Results.{Row}
 use Rattle.std.proofs.Math.Numerals.{one-add}
 use Rattle.gl_schema.specs.declared.schema.Stream.{Stream}
 use Rattle.gl_schema.specs.declared.schema.Schema.{Schema}
-use Rattle.gl_schema.specs.Schemas.{IsSchema, has_stream}
+use Rattle.gl_schema.specs.Schemas.{IsSchema, has_stream, kinds_of}
 use Rattle.gl_query.specs.Shapes.{query_shape}
+use Rattle.gl_query.specs.Shapes as shape
 use Rattle.gl_query.specs.Columns.{source_columns}
-use Rattle.gl_query.specs.Results.{env_of, numbered, rows_of, streams_of}
+use Rattle.gl_query.specs.Results.{env_of, numbered, rows_of, streams_of, ticks_in, times_in}
 use Rattle.gl_algebra.specs.Fits.{IsPlan}
 use Rattle.gl_bits.proofs.Bools.{by_cases}
 use Rattle.gl_schema.specs.Beats as beats
@@ -20,11 +21,12 @@ use Rattle.gl_elaborate.proofs.ReadLemmas.{IsReader, Sees}
 use Rattle.gl_elaborate.proofs.QueryLemmas.{right}
 use Rattle.gl_elaborate.proofs.FigureLemmas.{figures-right}
 
-pub schema-reader : (schema : Schema) → IsSchema schema → IsReader (stream_node schema.streams) schema.streams
+pub schema-reader : (schema : Schema) → IsSchema schema → IsReader (stream_node schema.streams) schema.streams true
 schema-reader schema is = record {
   scope = schema_is schema.streams is.streams;
   leaf = λ name has. refl;
   steady = λ name e. absurd (cc);
+  streams = λ t name. (stream_number schema.streams name, kinds_of (source_columns schema.streams name), refl);
 }
 
 numbered-streams : (k : ℕ) (streams : List Stream) (inputs : beats.Inputs) → streams_of (numbered k streams inputs) ≡ streams
@@ -42,6 +44,24 @@ numbered-rows k (s ∷ streams) inputs name has =
     rw (e, one-add)
     (ap inputs.rows (let z : k + suc (stream_number streams name) ≡ k + 1 + stream_number streams name = omega arith in z) ∙ rest))
 
+numbered-times : (k : ℕ) (streams : List Stream) (inputs : beats.Inputs) (name : List ℕ) → has_stream streams name ≡ true
+    → inputs.times (k + stream_number streams name) ≡ times_in (numbered k streams inputs) (shape.Read name)
+unfolding has_stream
+numbered-times k [] inputs name has = absurd (cc)
+numbered-times k (s ∷ streams) inputs name has =
+    by_cases (bytes_eq name s.name) (λ e. rw e (ap inputs.times (let z : k + 0 ≡ k = omega arith in z)))
+    (λ e.
+    let rest = numbered-times (k + 1) streams inputs name (rw e at has) in
+    rw (e, one-add)
+    (ap inputs.times (let z : k + suc (stream_number streams name) ≡ k + 1 + stream_number streams name = omega arith in z) ∙ rest))
+
+numbered-ticks : (k : ℕ) (streams : List Stream) (inputs : beats.Inputs) (name : List ℕ) → has_stream streams name ≡ true
+    → inputs.ticks ≡ ticks_in (numbered k streams inputs) (shape.Read name)
+unfolding has_stream
+numbered-ticks k [] inputs name has = absurd (cc)
+numbered-ticks k (s ∷ streams) inputs name has =
+    by_cases (bytes_eq name s.name) (λ e. rw e refl) (λ e. rw e (numbered-ticks (k + 1) streams inputs name (rw e at has)))
+
 numbered-long : (k : ℕ) (streams : List Stream) (inputs : beats.Inputs) (name : List ℕ)
     → ((i : ℕ) (s : Stream) → slice_get streams i ≡ Some s → AreLong s.columns (inputs.rows (k + i)))
     → AreLong (source_columns streams name) (rows_of (numbered k streams inputs) name)
@@ -53,7 +73,7 @@ numbered-long k (s ∷ streams) inputs name h =
     (λ i t is. subst (λ (j : ℕ). AreLong t.columns (inputs.rows j)) (let z : k + suc i ≡ k + 1 + i = omega arith in z) (h (suc i) t is))))
 
 schema-sees : (schema : Schema) (inputs : beats.Inputs) (body : List Row) → AreLongRows schema inputs.rows
-    → Sees (stream_node schema.streams) schema.streams (env_of schema inputs) (leaf_inputs inputs body)
+    → Sees (stream_node schema.streams) schema.streams true (env_of schema inputs) (leaf_inputs inputs body)
 schema-sees schema inputs body rows = record {
   streams = numbered-streams 0 schema.streams inputs;
   are_long = λ name. subst (λ (s : List Stream). AreLong (source_columns s name) (rows_of (env_of schema inputs) name))
@@ -63,6 +83,10 @@ schema-sees schema inputs body rows = record {
   reads = λ name has.
       ap inputs.rows (let z : stream_number schema.streams name ≡ 0 + stream_number schema.streams name = omega arith in z)
       ∙ numbered-rows 0 schema.streams inputs name has;
+  times = λ t name has.
+      ap inputs.times (let z : stream_number schema.streams name ≡ 0 + stream_number schema.streams name = omega arith in z)
+      ∙ numbered-times 0 schema.streams inputs name has;
+  ticks = λ t name has. numbered-ticks 0 schema.streams inputs name has;
 }
 
 pub empty : IsPlan []
@@ -71,12 +95,12 @@ empty = record { fits = λ number node is. absurd (cc); distinct = λ i j node i
 pub plans-right : PlansAreRight
 plans-right schema statement checked =
     let reader = schema-reader schema checked.of_schema in
-    let done = right (query_shape statement.query) (stream_node schema.streams) schema.streams [] reader checked.accepted empty in
+    let done = right (query_shape statement.query) (stream_node schema.streams) schema.streams true [] reader checked.accepted empty in
     record {
       fit = done.0;
       plan = done.1.over.plan;
       within = done.1.over.within;
       shape = done.1.is;
-      figures = (figures-right (query_shape statement.query) (stream_node schema.streams) schema.streams [] reader checked.accepted empty).is;
+      figures = (figures-right (query_shape statement.query) (stream_node schema.streams) schema.streams true [] reader checked.accepted empty).is;
       results = λ inputs body out spill rows r. done.1.means (leaf_inputs inputs body) out spill r (env_of schema inputs) (schema-sees schema inputs body rows);
     }

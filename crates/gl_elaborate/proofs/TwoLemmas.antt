@@ -1,24 +1,26 @@
 -- A node of two nodes, of which the second was placed behind the first.
-use Rattle.std.proofs.Common.{◌≡◌, ◌≢◌, ℕ, ◌+◌, ◌*◌, ◌/◌, ◌%◌, ◌<◌, ◌≤◌, Bool, true, false, ◌&&◌, List, [], ◌∷◌, ◌++◌, length, slice_index, refl, sym, ap, subst, ◌∙◌, arith, All, inl, inr}
+use Rattle.std.proofs.Common.{◌≡◌, ◌≢◌, ℕ, ◌<◌, ◌≤◌, Bool, true, false, ◌&&◌, List, [], ◌∷◌, ◌++◌, length, slice_index, refl, sym, ap, subst, ◌∙◌, arith, All}
 use Rattle.std.specs.List.{AllByRecursion}
-use Rattle.std.proofs.lemmas.Bool.{cases_lt}
-use Rattle.std.proofs.Math.Nat.{div-le_of_le-mul}
+use Rattle.std.specs.Prelude.{not}
 use Rattle.std.proofs.lemmas.List.Elements.{All-cons, All-nil, All-from_recursion}
-use Rattle.gl_bits.specs.Lists.{IsInterleaving, groups, has_further, slices}
+use Rattle.gl_bits.specs.Lists.{IsInterleaving, groups, has_further}
 use Rattle.gl_bits.specs.Results.{Row, IsOfBoth, AreBeside, IsOfParts, IsOfGroup}
+use Rattle.gl_query.specs.declared.tree.Measure.{Measure}
+use Rattle.gl_query.specs.declared.tree.Measure.TheVariants.{Tuples, Time}
 use Rattle.gl_query.specs.Accepted.{IsWindow}
+use Rattle.gl_query.specs.Windows.{is_time, parts_of}
 use Rattle.gl_algebra.specs.declared.node.PlanNode.{PlanNode}
 use Rattle.gl_algebra.specs.declared.node.PlanNode.TheVariants as node
 use Rattle.gl_algebra.specs.Columns.{kind_of_column}
-use Rattle.gl_algebra.specs.Fits.{IsPlan, IsBodyFor}
-use Rattle.gl_algebra.specs.Views.{copies_of_window}
+use Rattle.gl_algebra.specs.Fits.{IsPlan, IsBodyFor, IsOverStream}
 use Rattle.gl_algebra.specs.Shapes.{Shape, unsteady, shape_from, shape_of}
 use Rattle.gl_algebra.specs.Added.{Placed, added}
-use Rattle.gl_algebra.specs.Results.{Inputs, Meaning, given, IsPlanResult, meaning_from}
+use Rattle.gl_algebra.specs.Results.{Inputs, Meaning, given, times_with, IsPlanResult, meaning_from}
 use Rattle.gl_algebra.proofs.PlanLemmas.{in_order}
 use Rattle.gl_algebra.proofs.ResultLemmas.{moved, meaning-kept}
 use Rattle.gl_algebra.proofs.ShapeLemmas.{shape-kept}
 use Rattle.gl_elaborate.specs.Fitting.{FitsNext}
+use Rattle.gl_elaborate.specs.Plans.{window_node}
 use Rattle.gl_elaborate.proofs.PlacedLemmas.{IsOver, over-then, is_added}
 use Rattle.gl_elaborate.proofs.StandsLemmas.{Stands}
 
@@ -62,20 +64,6 @@ two-before : (nodes : List PlanNode) (a b : ℕ) → a < length nodes → b < le
 two-before nodes a b h k =
     All-cons (λ child. child < length nodes) a (b ∷ []) h (All-cons (λ child. child < length nodes) b [] k (All-nil (λ child. child < length nodes)))
 
--- a window's copies: the size by the advance, rounded up
-copies : (size advance : ℕ) → 1 ≤ advance → size ≤ 64 * advance → copies_of_window size advance ≤ 64
-copies size advance some most =
-    let least : size / advance ≤ 64 = div-le_of_le-mul advance (let e : size ≤ advance * 64 = omega arith in e) in
-    elim (cases_lt (size / advance) 64) [
-      | inl below ↦ omega arith
-      | inr all ↦
-          let whole : size / advance ≡ 64 = omega arith in
-          let split : advance * (size / advance) + size % advance ≡ size = omega arith in
-          let same : advance * (size / advance) ≡ advance * 64 = ap (λ (q : ℕ). advance * q) whole in
-          let none : size % advance ≡ 0 = omega (arith, split, same, most) in
-          rw (whole, none) (omega arith)
-    ]
-
 -- ---- nodes of two nodes
 
 module _ (old : List PlanNode) (l r : Placed) (sl sr : Shape) (ML MR : Meaning) (a : Stands old l sl ML) (b : Stands l.nodes r sr MR) where
@@ -92,7 +80,7 @@ module _ (old : List PlanNode) (l r : Placed) (sl sr : Shape) (ML MR : Meaning) 
 
   of_two : (n : PlanNode) (row : Shape → Shape → Shape) (Means : (ℕ → Meaning) → Meaning) → FitsNext r.nodes n
       → ((x : ℕ → Shape) → shape_from x n ≡ row (x l.root) (x r.root))
-      → ((x : ℕ → Shape) (m : ℕ → Meaning) (inputs : Inputs) (out : List Row) (spill : Bool) → meaning_from x m n inputs out spill → Means m inputs out spill)
+      → ((m : ℕ → Meaning) (inputs : Inputs) (out : List Row) (spill : Bool) → meaning_from (shape_of r.nodes) m n inputs out spill → Means m inputs out spill)
       → IsOfTwo n (row sl sr) Means
   of_two n row Means fits local means =
       let new = behind r.nodes n b.over.plan fits in
@@ -101,7 +89,7 @@ module _ (old : List PlanNode) (l r : Placed) (sl sr : Shape) (ML MR : Meaning) 
         stands = record {
           over = over-then old r (added r.nodes n) (over-then old l r a.over b.over) new.over;
           is = new.shape ∙ local (shape_of r.nodes) ∙ (λ i. row (left_still.is i) (right_still.is i));
-          means = λ inputs out spill result. means (shape_of r.nodes) (IsPlanResult r.nodes) inputs out spill (new.result inputs out spill result);
+          means = λ inputs out spill result. means (IsPlanResult r.nodes) inputs out spill (new.result inputs out spill result);
         };
       }
 
@@ -114,8 +102,9 @@ module _ (old : List PlanNode) (l r : Placed) (sl sr : Shape) (ML MR : Meaning) 
       (record {
         before = two-before r.nodes l.root r.root left_still.within right_still.within;
         suits = ap (λ (x : Shape). x.kinds) left_still.is ∙ same ∙ sym (ap (λ (x : Shape). x.kinds) right_still.is);
+        timed = tt;
       })
-      (λ x. refl) (λ x m inputs out spill result. result)
+      (λ x. refl) (λ m inputs out spill result. result)
 
   pub beside-stands : sl.pace ≡ sr.pace → sl.pace ≢ unsteady
       → IsOfTwo (node.Beside l.root r.root) (record { kinds = sl.kinds ++ sr.kinds; closing = sl.closing && sr.closing; pace = sl.pace; leaves = sl.leaves ++ sr.leaves })
@@ -129,8 +118,9 @@ module _ (old : List PlanNode) (l r : Placed) (sl sr : Shape) (ML MR : Meaning) 
           ap (λ (x : Shape). x.pace) left_still.is ∙ same ∙ sym (ap (λ (x : Shape). x.pace) right_still.is),
           λ e. steady (sym (ap (λ (x : Shape). x.pace) left_still.is) ∙ e),
         );
+        timed = tt;
       })
-      (λ x. refl) (λ x m inputs out spill result. result)
+      (λ x. refl) (λ m inputs out spill result. result)
 
   body-for : sr.closing ≡ true → AllByRecursion (λ leaf. leaf ≡ node.Body sl.kinds) sr.leaves → IsBodyFor (shape_of r.nodes l.root) (shape_of r.nodes r.root)
   body-for closing leaves = record {
@@ -141,22 +131,40 @@ module _ (old : List PlanNode) (l r : Placed) (sl sr : Shape) (ML MR : Meaning) 
         (All-from_recursion (λ leaf. leaf ≡ node.Body sl.kinds) sr.leaves leaves));
   }
 
-  pub window-stands : (size advance : ℕ) → IsWindow size advance → sr.closing ≡ true → AllByRecursion (λ leaf. leaf ≡ node.Body sl.kinds) sr.leaves
-      → IsOfTwo (node.Window l.root r.root size advance) (record sl { kinds = sr.kinds; pace = unsteady })
-      (λ m inputs. IsOfParts (m l.root inputs) (slices size advance) (λ slice. m r.root (given inputs slice)) (λ rows. false))
-  window-stands size advance is closing leaves =
-      of_two (node.Window l.root r.root size advance) (λ x y. record x { kinds = y.kinds; pace = unsteady })
-      (λ m inputs. IsOfParts (m l.root inputs) (slices size advance) (λ slice. m r.root (given inputs slice)) (λ rows. false))
-      (record {
-        before = two-before r.nodes l.root r.root left_still.within right_still.within;
-        suits = (
-          body-for closing leaves,
-          record { least = is.some_size; most = is.most_size },
-          record { least = is.some_advance; most = is.most_advance },
-          copies size advance is.some_advance is.copies,
-        );
-      })
-      (λ x. refl) (λ x m inputs out spill result. result)
+  window-row : (measure : Measure) (size advance : ℕ) (x : ℕ → Shape) → shape_from x (window_node measure l.root r.root size advance)
+      ≡ record (x l.root) { kinds = (x r.root).kinds; closing = not (is_time measure) && (x l.root).closing; pace = unsteady }
+  window-row Tuples size advance x = refl
+  window-row Time size advance x = refl
+
+  window-means : (measure : Measure) (size advance : ℕ) (m : ℕ → Meaning) (inputs : Inputs) (out : List Row) (spill : Bool)
+      → meaning_from (shape_of r.nodes) m (window_node measure l.root r.root size advance) inputs out spill
+      → IsOfParts (m l.root inputs) (parts_of measure size advance (times_with sl.pace inputs) inputs.ticks) (λ slice. m r.root (given inputs slice)) (λ rows. false) out spill
+  window-means Tuples size advance m inputs out spill result = result
+  window-means Time size advance m inputs out spill result =
+      subst (λ (x : Shape). IsOfParts (m l.root inputs) (parts_of Time size advance (times_with x.pace inputs) inputs.ticks) (λ slice. m r.root (given inputs slice)) (λ rows. false) out spill)
+      left_still.is result
+
+  window-fits : (measure : Measure) (size advance : ℕ) → IsWindow measure size advance → IsOverStream r.nodes (window_node measure l.root r.root size advance)
+      → IsBodyFor (shape_of r.nodes l.root) (shape_of r.nodes r.root) → FitsNext r.nodes (window_node measure l.root r.root size advance)
+  window-fits Tuples size advance is timed body = record {
+    before = two-before r.nodes l.root r.root left_still.within right_still.within;
+    suits = (body, record { least = is.some_size; most = is.most_size }, record { least = is.some_advance; most = is.most_advance }, is.copies);
+    timed = timed;
+  }
+  window-fits Time size advance is timed body = record {
+    before = two-before r.nodes l.root r.root left_still.within right_still.within;
+    suits = (body, record { least = is.some_size; most = is.most_size }, record { least = is.some_advance; most = is.most_advance }, is.copies);
+    timed = timed;
+  }
+
+  pub window-stands : (measure : Measure) (size advance : ℕ) → IsWindow measure size advance → IsOverStream r.nodes (window_node measure l.root r.root size advance)
+      → sr.closing ≡ true → AllByRecursion (λ leaf. leaf ≡ node.Body sl.kinds) sr.leaves
+      → IsOfTwo (window_node measure l.root r.root size advance) (record sl { kinds = sr.kinds; closing = not (is_time measure) && sl.closing; pace = unsteady })
+      (λ m inputs. IsOfParts (m l.root inputs) (parts_of measure size advance (times_with sl.pace inputs) inputs.ticks) (λ slice. m r.root (given inputs slice)) (λ rows. false))
+  window-stands measure size advance is timed closing leaves =
+      of_two (window_node measure l.root r.root size advance) (λ x y. record x { kinds = y.kinds; closing = not (is_time measure) && x.closing; pace = unsteady })
+      (λ m inputs. IsOfParts (m l.root inputs) (parts_of measure size advance (times_with sl.pace inputs) inputs.ticks) (λ slice. m r.root (given inputs slice)) (λ rows. false))
+      (window-fits measure size advance is timed (body-for closing leaves)) (window-row measure size advance) (window-means measure size advance)
 
   pub group-stands : (key count : ℕ) → key < length sl.kinds → 1 ≤ count → count ≤ 256 → sr.closing ≡ true → AllByRecursion (λ leaf. leaf ≡ node.Body sl.kinds) sr.leaves
       → IsOfTwo (node.Group l.root r.root key count) (record sl { kinds = kind_of_column sl.kinds key ∷ sr.kinds; closing = true; pace = unsteady })
@@ -169,5 +177,6 @@ module _ (old : List PlanNode) (l r : Placed) (sl sr : Shape) (ML MR : Meaning) 
       (record {
         before = two-before r.nodes l.root r.root left_still.within right_still.within;
         suits = (body-for closing leaves, subst (λ (x : Shape). key < length x.kinds) (sym left_still.is) known, record { least = some; most = most });
+        timed = tt;
       })
-      (λ x. refl) (λ x m inputs out spill result. result)
+      (λ x. refl) (λ m inputs out spill result. result)

@@ -18,7 +18,7 @@ use Rattle.gl_algebra.specs.Fits.{Fits}
 use Rattle.gl_algebra.specs.Added.{Placed, added}
 use Rattle.gl_elaborate.specs.Terms.{Term, depth_of_all, ops_in_all, term_of, IsTerm}
 use Rattle.gl_elaborate.specs.Levels.{level_of, reduced, operand_of}
-use Rattle.gl_elaborate.specs.Plans.{levelled, selected, column_under, picked_terms, filter_of, with_filter, arguments_of_all, aggs_of, placed}
+use Rattle.gl_elaborate.specs.Plans.{levelled, selected, column_under, picked_terms, filter_of, with_filter, arguments_of_all, aggs_of, placed, window_node}
 
 -- a node fits behind these
 abbrev pub FitsNext : List PlanNode → PlanNode → Type 0
@@ -76,13 +76,13 @@ PlacedFit read sources (shape.Rows pick filter source) nodes =
     (placed read sources source nodes)
 PlacedFit read sources (shape.Total aggs source) nodes =
     PlacedFit read sources source nodes × TotalsFit (columns_of sources source) aggs (placed read sources source nodes)
-PlacedFit read sources (shape.Each var source size advance body) nodes =
+PlacedFit read sources (shape.Each measure var source size advance body) nodes =
     let columns = columns_of sources source in
     let from = placed read sources source nodes in
     let inside = placed (λ name. node.Body (kinds_of columns)) (variable var columns) body from.nodes in
     PlacedFit read sources source nodes × PlacedFit (λ name. node.Body (kinds_of columns)) (variable var columns)
     body from.nodes
-    × FitsNext inside.nodes (node.Window from.root inside.root size advance)
+    × FitsNext inside.nodes (window_node measure from.root inside.root size advance)
 PlacedFit read sources (shape.PerGroup var source key groups body) nodes =
     let columns = columns_of sources source in
     let from = placed read sources source nodes in
@@ -125,7 +125,7 @@ CanPlace sources (shape.Read name) = length sources ≤ 8
 CanPlace sources (shape.Rows pick filter source) =
     CanPlace sources source × CanPlaceRows (columns_of sources source) pick filter
 CanPlace sources (shape.Total aggs source) = CanPlace sources source × CanPlaceTotal (columns_of sources source) aggs
-CanPlace sources (shape.Each var source size advance body) =
+CanPlace sources (shape.Each measure var source size advance body) =
     CanPlace sources source × CanPlace (variable var (columns_of sources source)) body × (size ≤ 65536)
     × (advance ≤ 65536)
 CanPlace sources (shape.PerGroup var source key groups body) =

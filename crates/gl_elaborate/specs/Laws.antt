@@ -9,10 +9,12 @@ use Rattle.gl_query.specs.declared.tree.Statement.{Statement}
 use Rattle.gl_query.specs.Shapes.{query_shape}
 use Rattle.gl_query.specs.Results.{IsResult}
 use Rattle.gl_query.specs.Checked.{IsChecked}
+use Rattle.gl_query.specs.Windows.{has_time}
 use Rattle.gl_query.specs.Laws.{IsLongAs}
 use Rattle.gl_algebra.specs.Fits.{IsPlan}
 use Rattle.gl_algebra.specs.Shapes.{shape_of}
 use Rattle.gl_algebra.specs.FigureTable.{figures_of}
+use Rattle.gl_algebra.specs.Views.{reads_time}
 use Rattle.gl_algebra.specs.Results.{Inputs, IsPlanResult}
 use Rattle.gl_elaborate.specs.Fitting.{PlacedFit}
 use Rattle.gl_elaborate.specs.Plans.{plan_of, stream_node}
@@ -26,7 +28,8 @@ AreLongRows schema rows = (number : ℕ) (s : Stream) → slice_get schema.strea
 
 -- what comes in to a query, as what the leaves of its plan give, beside the rows of a body
 abbrev pub leaf_inputs : beats.Inputs → List Row → Inputs
-leaf_inputs inputs body = record { streams = inputs.rows; body = body }
+leaf_inputs inputs body =
+    record { streams = inputs.rows; times = inputs.times; ticks = inputs.ticks; body = body }
 
 -- the plan of a statement over a schema: each node fits where it is added, and the root has the query's shape, its
 -- figures, and no result that is not one of the statement
@@ -45,3 +48,8 @@ pub record IsRightPlan (schema : Schema) (statement : Statement) : Type 0 where
 
 abbrev pub PlansAreRight : Type 0
 PlansAreRight = (schema : Schema) (statement : Statement) → IsChecked schema statement → IsRightPlan schema statement
+
+-- the plan of a statement has a window of time exactly where the statement has one
+abbrev pub PlansTellTime : Type 0
+PlansTellTime = (schema : Schema) (statement : Statement)
+    → reads_time (plan_of schema statement).nodes ≡ has_time (query_shape statement.query)

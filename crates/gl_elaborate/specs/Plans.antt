@@ -9,6 +9,8 @@ use Rattle.gl_schema.specs.declared.schema.Column.{Column as NamedColumn}
 use Rattle.gl_schema.specs.declared.schema.Stream.{Stream}
 use Rattle.gl_schema.specs.declared.schema.Schema.{Schema}
 use Rattle.gl_schema.specs.Schemas.{kinds_of}
+use Rattle.gl_query.specs.declared.tree.Measure.{Measure}
+use Rattle.gl_query.specs.declared.tree.Measure.TheVariants.{Tuples, Time}
 use Rattle.gl_query.specs.declared.tree.Statement.{Statement}
 use Rattle.gl_query.specs.Shapes.{ExprShape, AggShape, ItemShape, AggItemShape, PickShape, QueryShape, query_shape}
 use Rattle.gl_query.specs.Shapes as shape
@@ -139,6 +141,11 @@ totals_over columns aggs at =
 
 -- ---- queries
 
+-- the windows of a source, over tuples or over time
+abbrev pub window_node : Measure → ℕ → ℕ → ℕ → ℕ → PlanNode
+window_node Tuples source body size advance = node.Window source body size advance
+window_node Time source body size advance = node.TimeWindow source body size advance
+
 -- the plan of a query behind a plan's nodes. `read` is the node of a source by its name
 abbrev pub placed : (List ℕ → PlanNode) → List Stream → QueryShape → List PlanNode → Placed
 placed read sources (shape.Read name) nodes = added nodes (read name)
@@ -146,11 +153,11 @@ placed read sources (shape.Rows pick filter source) nodes =
     rows_over (columns_of sources source) pick filter (placed read sources source nodes)
 placed read sources (shape.Total aggs source) nodes =
     totals_over (columns_of sources source) aggs (placed read sources source nodes)
-placed read sources (shape.Each var source size advance body) nodes =
+placed read sources (shape.Each measure var source size advance body) nodes =
     let columns = columns_of sources source in
     let from = placed read sources source nodes in
     let inside = placed (λ name. node.Body (kinds_of columns)) (variable var columns) body from.nodes in
-    added inside.nodes (node.Window from.root inside.root size advance)
+    added inside.nodes (window_node measure from.root inside.root size advance)
 placed read sources (shape.PerGroup var source key groups body) nodes =
     let columns = columns_of sources source in
     let from = placed read sources source nodes in

@@ -21,6 +21,7 @@ pace_at (node.Aggregate child aggs) = unsteady
 pace_at (node.Union left right) = unsteady
 pace_at (node.Beside left right) = unsteady
 pace_at (node.Window source body size advance) = unsteady
+pace_at (node.TimeWindow source body size advance) = unsteady
 pace_at (node.Group source body key groups) = unsteady
 
 abbrev pub plan_pace : (List ℕ → PlanNode) → Option query.Pace → Pace
@@ -33,7 +34,7 @@ abbrev pub leaves_of : (List ℕ → PlanNode) → QueryShape → List PlanNode
 leaves_of read (shape.Read name) = read name ∷ []
 leaves_of read (shape.Rows pick filter source) = leaves_of read source
 leaves_of read (shape.Total aggs source) = leaves_of read source
-leaves_of read (shape.Each var source size advance body) = leaves_of read source
+leaves_of read (shape.Each measure var source size advance body) = leaves_of read source
 leaves_of read (shape.PerGroup var source key groups body) = leaves_of read source
 leaves_of read (shape.Union l r) = leaves_of read l ++ leaves_of read r
 leaves_of read (shape.Concat l r) = leaves_of read l ++ leaves_of read r

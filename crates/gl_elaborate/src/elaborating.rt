@@ -8,7 +8,7 @@ ghost use Rattle.gl_query.specs.Sources.{scope_of};
 ghost use Rattle.gl_algebra.specs.Added.{added, placed_at};
 ghost use Rattle.gl_algebra.specs.declared.node.PlanNode.TheVariants as node;
 ghost use Rattle.gl_elaborate.specs.Fitting.{CanPlace, FitsNext, PlacedFit};
-ghost use Rattle.gl_elaborate.specs.Plans.{placed, plan_of};
+ghost use Rattle.gl_elaborate.specs.Plans.{placed, plan_of, window_node};
 ghost use Rattle.gl_elaborate.specs.Sources.{read_of};
 
 use crate::levels::put;
@@ -21,7 +21,7 @@ use gl_query::columns::{
     agg_columns, group_columns, joined_columns, picked_columns, source_columns,
 };
 use gl_query::kinds::column_number;
-use gl_query::{Query, Sources};
+use gl_query::{Measure, Query, Sources};
 use gl_query_check::Checked;
 use gl_schema::Columns;
 use std::alloc::Global;
@@ -29,6 +29,7 @@ use std::alloc::Global;
 // Adds the windows of a source.
 fn put_window(
     plan: &mut Plan,
+    measure: Measure,
     source: PlanId,
     body: PlanId,
     size: u128,
@@ -36,21 +37,32 @@ fn put_window(
 ) -> Result<PlanId, Memory>
     requires most_size { size ≤ 65536 }
     requires most_advance { advance ≤ 65536 }
-    requires fits { FitsNext plan.old (node.Window source body size advance) }
+    requires fits { FitsNext plan.old (window_node measure source body size advance) }
     ensures { IfOk result (λ id.
-        placed_at plan.new id ≡ added plan.old (node.Window source body size advance)) }
+        placed_at plan.new id ≡ added plan.old (window_node measure source body size advance)) }
 {
     let size = size as u32;
     let advance = advance as u32;
-    put(
-        plan,
-        PlanNode::Window {
-            source,
-            body,
-            size,
-            advance,
-        },
-    )
+    match measure {
+        Measure::Tuples => put(
+            plan,
+            PlanNode::Window {
+                source,
+                body,
+                size,
+                advance,
+            },
+        ),
+        Measure::Time => put(
+            plan,
+            PlanNode::TimeWindow {
+                source,
+                body,
+                size,
+                advance,
+            },
+        ),
+    }
 }
 
 // Adds the groups of a source.
@@ -130,7 +142,21 @@ pub fn query_into(
             let (from, columns) = query_into(alloc, sources, source, plan)?;
             let inside = Sources::Variable(var.text.as_slice(), columns.as_slice());
             let (into, own) = query_into(alloc, inside, body, plan)?;
-            let root = put_window(plan, from, into, size.value, advance.value)?;
+            let root = put_window(plan, Measure::Tuples, from, into, size.value, advance.value)?;
+            Ok((root, own))
+        }
+        Query::EachTime {
+            var,
+            source,
+            size,
+            advance,
+            body,
+            ..
+        } => {
+            let (from, columns) = query_into(alloc, sources, source, plan)?;
+            let inside = Sources::Variable(var.text.as_slice(), columns.as_slice());
+            let (into, own) = query_into(alloc, inside, body, plan)?;
+            let root = put_window(plan, Measure::Time, from, into, size.value, advance.value)?;
             Ok((root, own))
         }
         Query::PerGroup {

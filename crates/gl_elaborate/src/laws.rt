@@ -1,10 +1,15 @@
 //! Laws of elaboration. The contract of each function is the law; it does nothing.
 
-ghost use Rattle.gl_elaborate.specs.Laws.{PlansAreRight};
+ghost use Rattle.gl_elaborate.specs.Laws.{PlansAreRight, PlansTellTime};
 
 /// The plan of a checked statement is a plan whose nodes fit where they are added; its root has the query's
 /// columns, closing, pace, leaves and figures; and each of the root's results, with its spill, is one of the
 /// statement.
 pub fn plans_are_right()
     ensures { PlansAreRight }
+{}
+
+/// The plan of a statement has a window of time exactly where the statement has one.
+pub fn plans_tell_time()
+    ensures { PlansTellTime }
 {}

@@ -70,6 +70,8 @@ words_of schema (node.Union left right) = codes "union" ++ node_text left ++ nod
 words_of schema (node.Beside left right) = codes "beside" ++ node_text left ++ node_text right
 words_of schema (node.Window source body size advance) =
     codes "window" ++ node_text source ++ node_text body ++ numbered (codes " ") size ++ numbered (codes " ") advance
+words_of schema (node.TimeWindow source body size advance) =
+    codes "times" ++ node_text source ++ node_text body ++ numbered (codes " ") size ++ numbered (codes " ") advance
 words_of schema (node.Group source body key groups) =
     codes "group" ++ node_text source ++ node_text body ++ column_text key ++ numbered (codes " ") groups
 

@@ -158,6 +158,16 @@ fn put_words(text: &mut Vec<u8>, schema: &Schema, node: &PlanNode) -> Result<(),
             put_number(text, b" ", u128::from(*size))?;
             put_number(text, b" ", u128::from(*advance))
         }
+        PlanNode::TimeWindow {
+            source,
+            body,
+            size,
+            advance,
+        } => {
+            put_two(text, b"times", *source, *body)?;
+            put_number(text, b" ", u128::from(*size))?;
+            put_number(text, b" ", u128::from(*advance))
+        }
         PlanNode::Group {
             source,
             body,

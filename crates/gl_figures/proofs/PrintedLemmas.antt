@@ -6,7 +6,7 @@ use Rattle.gl_bits.specs.Limits.{most_weight}
 use Rattle.gl_algebra.specs.declared.figures.Figures.{Figures}
 use Rattle.gl_algebra.specs.declared.figures.Spare.{Spare}
 use Rattle.gl_algebra.specs.declared.node.PlanNode.{PlanNode}
-use Rattle.gl_algebra.specs.declared.node.PlanNode.TheVariants.{Stream, Body, Compute, Select, Project, Aggregate, Union, Beside, Window, Group}
+use Rattle.gl_algebra.specs.declared.node.PlanNode.TheVariants.{Stream, Body, Compute, Select, Project, Aggregate, Union, Beside, Window, TimeWindow, Group}
 use Rattle.gl_algebra.specs.FigureTable.{AreSmall, figures_of, stride_of}
 use Rattle.gl_algebra.specs.Fits.{IsPlan}
 use Rattle.gl_algebra.specs.Nodewise.{value_at_node}
@@ -42,6 +42,7 @@ none_inside nodes root node at not = sym (inside_there nodes root node at ∙ by
     by (Aggregate child aggs) not = refl
     by (Union left right) not = refl
     by (Beside left right) not = refl
+    by (TimeWindow source body size advance) not = refl
     by (Group source body key groups) not = refl
 
 -- without spare copies
@@ -126,6 +127,7 @@ module _ (nodes : List PlanNode) (root : ℕ) (plan : IsPlan nodes) (small : Are
   by_node (Aggregate child aggs) it at h = small.le
   by_node (Union left right) it at h = small.le
   by_node (Beside left right) it at h = small.le
+  by_node (TimeWindow source body size advance) it at h = small.le
   by_node (Group source body key groups) it at h = small.le
 
   by_spare : root < length nodes → (o : Option Spare) → spare_at nodes root ≡ o → (root_figures nodes root).le < 2 ^ 32

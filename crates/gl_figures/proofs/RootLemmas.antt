@@ -9,7 +9,7 @@ use Rattle.gl_bits.specs.Limits.{most_rows, most_weight}
 use Rattle.gl_algebra.specs.declared.figures.Figures.{Figures}
 use Rattle.gl_algebra.specs.declared.figures.Spare.{Spare}
 use Rattle.gl_algebra.specs.declared.node.PlanNode.{PlanNode}
-use Rattle.gl_algebra.specs.declared.node.PlanNode.TheVariants.{Stream, Body, Compute, Select, Project, Aggregate, Union, Beside, Window, Group}
+use Rattle.gl_algebra.specs.declared.node.PlanNode.TheVariants.{Stream, Body, Compute, Select, Project, Aggregate, Union, Beside, Window, TimeWindow, Group}
 use Rattle.gl_algebra.specs.FigureTable.{IsSound, figures_of}
 use Rattle.gl_algebra.specs.Fits.{IsPlan, IsWithin}
 use Rattle.gl_algebra.specs.Nodewise.{value_at_node}
@@ -114,6 +114,7 @@ module _ (nodes : List PlanNode) (root : ℕ) (node : PlanNode) (at : slice_get 
       by (Aggregate child aggs) not = refl
       by (Union left right) not = refl
       by (Beside left right) not = refl
+      by (TimeWindow source body size advance) not = refl
       by (Group source body key groups) not = refl
 
   pub is_light : (it : Spare) (weight : ℕ) → spare_in (figures_of nodes) node ≡ Some it
@@ -180,6 +181,7 @@ module _ (nodes : List PlanNode) (root : ℕ) (plan : IsPlan nodes) (within : ro
   closer (Aggregate child aggs) it at h = absurd (cc (h))
   closer (Union left right) it at h = absurd (cc (h))
   closer (Beside left right) it at h = absurd (cc (h))
+  closer (TimeWindow source body size advance) it at h = absurd (cc (h))
   closer (Group source body key groups) it at h = absurd (cc (h))
 
   with_spare : (it : Spare) → spare_at nodes root ≡ Some it → gap_of nodes root < (figures_of nodes root).gt

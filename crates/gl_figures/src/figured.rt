@@ -11,8 +11,8 @@ ghost use Rattle.gl_figures.specs.Known.{small_over, HasFigures};
 
 use crate::Limit;
 use gl_algebra::table::{
-    aggregate_figures, beside_figures, copies_of_window, delay_of_aggs, group_figures,
-    input_figures, picked_figures, row_figures, union_figures, window_figures,
+    aggregate_figures, beside_figures, copies_of_time, copies_of_window, delay_of_aggs,
+    group_figures, input_figures, picked_figures, row_figures, union_figures, window_figures,
 };
 use gl_algebra::{Figures, Plan, PlanId, PlanNode};
 
@@ -80,6 +80,18 @@ fn figures_over(plan: &Plan, figures: &[Figures], number: usize, node: &PlanNode
         } => {
             window_figures(
                 copies_of_window(*size, *advance),
+                &figures_at(plan, figures, number, *source),
+                &figures_at(plan, figures, number, *body),
+            )
+        }
+        PlanNode::TimeWindow {
+            source,
+            body,
+            size,
+            advance,
+        } => {
+            window_figures(
+                copies_of_time(*size, *advance),
                 &figures_at(plan, figures, number, *source),
                 &figures_at(plan, figures, number, *body),
             )

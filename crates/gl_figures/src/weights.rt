@@ -3,6 +3,7 @@
 ghost use Rattle.std.specs.Prelude.{◌≡◌, ◌<◌, ◌≤◌, ◌+◌, ◌*◌, ◌^◌, All, length, sum_by};
 ghost use Rattle.std.specs.List.{AllByRecursion};
 ghost use Rattle.gl_algebra.specs.Columns.{AggFits};
+ghost use Rattle.gl_algebra.specs.FigureTable.{figures_of, window_gap};
 ghost use Rattle.gl_algebra.specs.Fits.{Fits};
 ghost use Rattle.gl_algebra.specs.Nodewise.{named_by};
 ghost use Rattle.gl_algebra.specs.Shapes.{shape_of};
@@ -11,7 +12,7 @@ ghost use Rattle.gl_figures.specs.Known.{capped, capped_at, own_weight_by, weigh
 
 use crate::copied::{cap, times};
 use crate::figured::figures_at;
-use gl_algebra::table::{copies_of_window, delay_of_agg, delay_of_aggs, wait_of};
+use gl_algebra::table::{copies_of_time, copies_of_window, delay_of_agg, delay_of_aggs, wait_of};
 use gl_algebra::{Figures, Plan, PlanAgg, PlanId, PlanNode};
 use gl_bits::Kind;
 
@@ -116,6 +117,7 @@ fn weight_of_children(plan: &Plan, weights: &[u64], number: usize, node: &PlanNo
         PlanNode::Project { child, .. } => weight_at(plan, weights, number, *child),
         PlanNode::Aggregate { child, .. } => weight_at(plan, weights, number, *child),
         PlanNode::Window { source, .. } => weight_at(plan, weights, number, *source),
+        PlanNode::TimeWindow { source, .. } => weight_at(plan, weights, number, *source),
         PlanNode::Group { source, .. } => weight_at(plan, weights, number, *source),
         PlanNode::Union { left, right } => {
             weight_at(plan, weights, number, *left) + weight_at(plan, weights, number, *right)
@@ -124,6 +126,39 @@ fn weight_of_children(plan: &Plan, weights: &[u64], number: usize, node: &PlanNo
             weight_at(plan, weights, number, *left) + weight_at(plan, weights, number, *right)
         }
     }
+}
+
+// The own part of windows that have so many copies of this body over this source, as the node of this number, which has so many
+// lines.
+fn weight_of_windows(
+    plan: &Plan,
+    figures: &[Figures],
+    weights: &[u64],
+    number: usize,
+    own: u128,
+    source: PlanId,
+    body: PlanId,
+    copies: u32,
+) -> u128
+    requires within { number < length plan.now }
+    requires source { source < number }
+    requires body { body < number }
+    requires figured { HasFigures plan.now figures.now number }
+    requires known { HasValues (weight_of plan.now) weights.now number }
+    requires own { own < 2 ^ 65 }
+    ensures value { result
+        ≡ weight_of_copies copies (capped (weight_of plan.now body)) (lines_of (shape_of plan.now source)) own
+        + 4 * (figures_of plan.now body).a
+        + weight_of_spacer (window_gap (figures_of plan.now body)) (figures_of plan.now source)
+        (lines_of (shape_of plan.now source)) }
+    ensures below { result < 2 ^ 113 }
+{
+    let inside = figures_at(plan, figures, number, body);
+    let around = figures_at(plan, figures, number, source);
+    let lines = lines_of(plan, source);
+    let spacer = weight_of_spacer(inside.gt.max(inside.ge), &around, lines);
+    let weight = weight_at(plan, weights, number, body);
+    weight_of_copies(copies, weight, lines, own) + 4 * inside.a as u128 + spacer
 }
 
 // The own part of the node of this number, which has so many lines.
@@ -173,13 +208,17 @@ fn own_weight(
             size,
             advance,
         } => {
-            let inside = figures_at(plan, figures, number, *body);
-            let around = figures_at(plan, figures, number, *source);
-            let lines = lines_of(plan, *source);
-            let spacer = weight_of_spacer(inside.gt.max(inside.ge), &around, lines);
             let copies = copies_of_window(*size, *advance);
-            let weight = weight_at(plan, weights, number, *body);
-            weight_of_copies(copies, weight, lines, own) + 4 * inside.a as u128 + spacer
+            weight_of_windows(plan, figures, weights, number, own, *source, *body, copies)
+        }
+        PlanNode::TimeWindow {
+            source,
+            body,
+            size,
+            advance,
+        } => {
+            let copies = copies_of_time(*size, *advance);
+            weight_of_windows(plan, figures, weights, number, own, *source, *body, copies)
         }
         PlanNode::Group {
             source,

@@ -16,6 +16,7 @@ use Rattle.gl_wire.specs.Spills.{Lines, ServedWithLines, both_lines}
 use Rattle.gl_wire.specs.Wire.{Carried, stream}
 use Rattle.gl_wire.proofs.FurtherLemmas.{served_further}
 use Rattle.gl_wire.proofs.ServingLemmas.{serving_as, serving_then}
+use Rattle.gl_wire_copies.specs.Coming.{by_tuples}
 use Rattle.gl_wire_copies.specs.Lift.{Visits, tuple_of_any}
 use Rattle.gl_wire_copies.specs.Rotates.{OverCopies, Rotates, delay_of_whole, lines_of_all, turns_of}
 use Rattle.gl_wire_copies.specs.Timed.{Origin, Rested, Timed}
@@ -45,7 +46,7 @@ flush_fits : (count : ℕ) (s : Figures) → 1 ≤ count → IsSound s → count
 flush_fits count s some sound = omega (arith, all_turns count (stride_of s) some, sound.end_gap)
 
 module _ (s : Figures) (sound : IsSound s) (count : ℕ) (key : Row → ℕ) (a : Carried) (ins : ℕ → Carried) (law : AreSlots count key (stride_of s) a ins)
-    (some : 1 ≤ count) (timed : Timed (group_gap s) (rest_gap count s) a) where
+    (some : 1 ≤ count) (timed : Timed (group_gap s) (rest_gap count s) a (by_tuples a)) where
   pub stride_some : 1 ≤ stride_of s
   stride_some = omega arith
 
@@ -81,13 +82,13 @@ module _ (s : Figures) (sound : IsSound s) (count : ℕ) (key : Row → ℕ) (a 
   abbrev pub visit_group : ℕ × List Row → Group Row
   visit_group = of_group setting
 
-  origin : (v k : ℕ) → group_visits v ≡ Some k → Origin (turns_of count s) (group_gap s) (stride_of s) a v
+  origin : (v k : ℕ) → group_visits v ≡ Some k → Origin (turns_of count s) (group_gap s) (stride_of s) a (by_tuples a) v
   origin v k h =
       let x = slot_origin setting v k h in
       let y = x.1 in
-      record { of = x.0; carries = an_end x.1; low = x.2; high = x.3; at_once = λ e. absurd (cc (e, y)) }
+      record { of = x.0; comes = an_end x.1; low = x.2; high = x.3; at_once = λ e. absurd (cc (e, y)) }
 
-  pub rotates : Rotates s count (group_gap s) (λ n. 0) (λ n. count) visit_group (groups count key) a group_visits ins
+  pub rotates : Rotates s count (group_gap s) (λ n. 0) (λ n. count) visit_group a (by_tuples a) (λ u. groups count key (stream a u)) group_visits ins
   rotates = record {
     schedules = slots_schedule setting s refl (omega arith) refl;
     origin = origin;
@@ -172,16 +173,16 @@ module _ (f s : Figures) (sound_f : IsSound f) (sound_s : IsSound s) (closing : 
   close_first : (c : ℕ) → c < s.le + turns_of count s + 2 → close c ≡ false
   close_first c l = closes.before c (omega (arith, l, late))
 
-  closes_late : Timed (group_gap s) (rest_gap count s) a → (c : ℕ) → close (c + (s.le + turns_of count s + 2)) ≡ a.ends c
+  closes_late : Timed (group_gap s) (rest_gap count s) a (by_tuples a) → (c : ℕ) → close (c + (s.le + turns_of count s + 2)) ≡ a.ends c
   closes_late timed c =
       ap (λ (n : ℕ). close (c + n)) (sym late)
       ∙ closes.later (λ u d p q l. let y = timed.after u d p (an_end q) l in omega (arith, y)) c
 
-  in_time : (beats : Beats) → Spaced h beats → Fits f beats a → CarriesApart (group_gap s) a → Timed (group_gap s) (rest_gap count s) a
+  in_time : (beats : Beats) → Spaced h beats → Fits f beats a → CarriesApart (group_gap s) a → Timed (group_gap s) (rest_gap count s) a (by_tuples a)
   in_time beats spaced fits near = timed_by f h (group_gap s) (rest_gap count s) beats a sound_f (omega (arith, sound_s.tuples_gap)) (omega arith) (omega arith) spaced fits near
 
   -- a copy's wire with keys gives what the body makes of the groups of its visits
-  shown : (timed : Timed (group_gap s) (rest_gap count s) a) (k : ℕ) → k < count → Spaced s (beats_of (ins k))
+  shown : (timed : Timed (group_gap s) (rest_gap count s) a (by_tuples a)) (k : ℕ) → k < count → Spaced s (beats_of (ins k))
       → Serving s (λ t. Body (stream (ins k) t)) (lines k) (beats_of (ins k)) (outs k)
       → Serving s (λ t. IsOfGroup Body (visit_group s sound_s count key a ins law some timed (t, stream (ins k) t))) (lines k) (beats_of (ins k)) (with_keys keys outs k)
   shown timed k l spaced x =
@@ -216,9 +217,9 @@ module _ (f s : Figures) (sound_f : IsSound f) (sound_s : IsSound s) (closing : 
       let lifted = lift_spills s (λ u xs. IsOfGroup Body (visit_group s sound_s count key a ins law some timed (u, xs))) count (who_slots count key (stride_of s) a) lines ins (with_keys keys outs) sound_s closing rot.schedules
       (λ k l. shown timed k l (rot.schedules.spaced k l) (served k l (rot.schedules.spaced k l)))
       in
-      whole_lines f s h count (group_gap s) (rest_gap count s) (λ n. 0) (λ n. count) (visit_group s sound_s count key a ins law some timed) (groups count key) (group_table count f s some sound_s)
-      sound_f sound_s (groups_sound count f s some sound_f sound_s) some beats spaced a fits timed (who_slots count key (stride_of s) a) ins (with_keys keys outs) rot
-      (IsOfGroup Body) lines lifted b close back close_first (closes_late timed)
+      whole_lines f s h count (group_gap s) (rest_gap count s) (λ n. 0) (λ n. count) (visit_group s sound_s count key a ins law some timed) (group_table count f s some sound_s)
+      sound_f sound_s (groups_sound count f s some sound_f sound_s) some beats spaced a fits (who_slots count key (stride_of s) a) ins (with_keys keys outs)
+      (IsOfGroup Body) lines lifted b close back close_first (closes_late timed) (groups count key) timed rot
 
   pub groups_served : (beats : Beats) → Spaced h beats → Fits f beats a → CarriesApart (group_gap s) a
       → ((k : ℕ) → k < count → Spaced s (beats_of (ins k)) → Serving s (λ t. Body (stream (ins k) t)) (lines k) (beats_of (ins k)) (outs k))
@@ -227,7 +228,7 @@ module _ (f s : Figures) (sound_f : IsSound f) (sound_s : IsSound s) (closing : 
       served_further f h (λ xs ys p. AreJoined (IsOfGroup Body) (groups count key xs) ys p) (has_further count key) further (lines_of_all lines count) beats a b fits told so last
       (groups_joined beats spaced fits near served)
     where
-      timed : Timed (group_gap s) (rest_gap count s) a
+      timed : Timed (group_gap s) (rest_gap count s) a (by_tuples a)
       timed = in_time beats spaced fits near
 
       line : (c : ℕ) → further c ≡ came_further count key a c

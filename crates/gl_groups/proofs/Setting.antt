@@ -2,6 +2,7 @@
 use Rattle.std.specs.Prelude.{ℕ, ◌+◌, ◌-◌, ◌*◌, ◌≤◌}
 use Rattle.gl_bits.specs.Results.{Row}
 use Rattle.gl_wire.specs.Wire.{Carried}
+use Rattle.gl_wire_copies.specs.Coming.{by_tuples}
 use Rattle.gl_wire_copies.specs.Timed.{Timed}
 use Rattle.gl_groups.specs.Slots.{AreSlots}
 
@@ -18,7 +19,7 @@ pub record Setting : Type 0 where
   pub law : AreSlots count key stride a ins
   pub slots_some : 1 ≤ count
   pub stride_some : 1 ≤ stride
-  pub timed : Timed g1 g2 a
+  pub timed : Timed g1 g2 a (by_tuples a)
   pub wide : count * stride + 1 ≤ g2
   pub strides : stride ≤ gap_end
   pub far : (count - 1) * stride + gap_end + 1 ≤ g2

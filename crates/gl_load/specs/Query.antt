@@ -5,6 +5,7 @@ use Rattle.gl_bits.specs.declared.kind.Kind.TheVariants.{Unsigned, Text}
 use Rattle.gl_bits.specs.declared.op.Op.TheVariants.{Eq}
 use Rattle.gl_schema.specs.declared.schema.Column.{Column as NamedColumn}
 use Rattle.gl_schema.specs.declared.schema.Schema.{Schema}
+use Rattle.gl_query.specs.declared.tree.Measure.TheVariants.{Tuples}
 use Rattle.gl_query.specs.declared.tree.Name.{Name}
 use Rattle.gl_query.specs.declared.tree.Num.{Num}
 use Rattle.gl_query_tokens.specs.declared.token.Fold.TheVariants.{Sum, Max}
@@ -51,7 +52,7 @@ abbrev pub load_written : Statement
 load_written = record {
   query =
       Select (Items load_items) (Stream (name (codes "trades") 62))
-      (Some (record { at = 70; size = number 600 75; advance = number 60 87 }))
+      (Some (record { at = 70; size = number 600 75; advance = number 60 87; measure = Tuples }))
       (Some (Binary Eq 111 (Column (name (codes "symbol") 104)) (Letters (codes "UBSN") 113))) None;
   name = name (codes "load") 125;
   closed = false;

@@ -140,6 +140,15 @@ fn push_node(out: &mut String, schema: &Schema, node: &PlanNode) -> Result<(), A
             write!(out, "window p{} p{}", source.number(), body.number())?;
             write!(out, " {} {}", *size, *advance)?;
         }
+        PlanNode::TimeWindow {
+            source,
+            body,
+            size,
+            advance,
+        } => {
+            write!(out, "times p{} p{}", source.number(), body.number())?;
+            write!(out, " {} {}", *size, *advance)?;
+        }
         PlanNode::Group {
             source,
             body,

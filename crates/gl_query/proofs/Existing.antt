@@ -44,7 +44,7 @@ paced (shape.Rows pick None source) env out spill r =
     let same = ap length r.changed ∙ length-map _ _ ∙ ap length (all_kept r.rows) in
     paced_alike env (pace_of source) r.rows out same (paced source env r.rows spill r.of_source)
 paced (shape.Total aggs source) env out spill r = ap length r.changed
-paced (shape.Each var source size advance body) env out spill r = tt
+paced (shape.Each measure var source size advance body) env out spill r = tt
 paced (shape.PerGroup var source key n body) env out spill r = tt
 paced (shape.Union l r) env out spill both = tt
 paced (shape.Concat l r) env out spill both =
@@ -112,25 +112,25 @@ some_of_both left right Join x y rows join = record {
   };
 }
 
-some_result : (q : QueryShape) (env : Env) → IsAcceptedOver (scope_of env) q → HasSome (IsResultIn q env)
-some_result (shape.Read name) env a = record { rows = rows_of env name; spill = false; is = record { rows = refl; kept = refl } }
-some_result (shape.Rows pick filter source) env a = some_changed (IsResultIn source env) _ (some_result source env a.0)
-some_result (shape.Total aggs source) env a = some_changed (IsResultIn source env) _ (some_result source env a.0)
-some_result (shape.Each var source size advance body) env a =
-    some_of_parts (IsResultIn source env) _ _ _ (some_result source env a.0) (λ rows. some_result body _ a.2)
-some_result (shape.PerGroup var source key n body) env a =
-    some_of_parts (IsResultIn source env) _ _ _ (some_result source env a.0) (λ g. some_changed _ _ (some_result body _ a.2))
-some_result (shape.Union l r) env a =
-    let x = some_result l env a.0 in
-    let y = some_result r env a.1 in
+some_result : (q : QueryShape) (env : Env) (timed : Bool) → IsAcceptedOver (scope_of env timed) q → HasSome (IsResultIn q env)
+some_result (shape.Read name) env timed a = record { rows = rows_of env name; spill = false; is = record { rows = refl; kept = refl } }
+some_result (shape.Rows pick filter source) env timed a = some_changed (IsResultIn source env) _ (some_result source env timed a.0)
+some_result (shape.Total aggs source) env timed a = some_changed (IsResultIn source env) _ (some_result source env timed a.0)
+some_result (shape.Each measure var source size advance body) env timed a =
+    some_of_parts (IsResultIn source env) _ _ _ (some_result source env timed a.0) (λ rows. some_result body _ false a.2)
+some_result (shape.PerGroup var source key n body) env timed a =
+    some_of_parts (IsResultIn source env) _ _ _ (some_result source env timed a.0) (λ g. some_changed _ _ (some_result body _ false a.2))
+some_result (shape.Union l r) env timed a =
+    let x = some_result l env timed a.0 in
+    let y = some_result r env timed a.1 in
     some_of_both (IsResultIn l env) (IsResultIn r env) IsInterleaving x y (x.rows ++ y.rows) (first_then_second x.rows y.rows)
-some_result (shape.Concat l r) env a =
-    let x = some_result l env a.0 in
-    let y = some_result r env a.1 in
+some_result (shape.Concat l r) env timed a =
+    let x = some_result l env timed a.0 in
+    let y = some_result r env timed a.1 in
     let at_left = paced l env x.rows x.spill x.is in
     let at_right = subst (λ pace. IsPaced env pace y.rows) (sym a.2.same) (paced r env y.rows y.spill y.is) in
     let same = one_pace env (pace_of l) x.rows y.rows a.2.paced at_left at_right in
     some_of_both (IsResultIn l env) (IsResultIn r env) AreBeside x y (beside x.rows y.rows) (record { paired = same; rows = refl })
 
 pub existing : AcceptedHaveResults
-existing q env a = let r = some_result q env a in record { rows = r.rows; spill = r.spill; is = r.is }
+existing q env timed a = let r = some_result q env timed a in record { rows = r.rows; spill = r.spill; is = r.is }

@@ -1,5 +1,5 @@
 -- A statement has no first fault exactly where it is accepted.
-use Rattle.std.proofs.Common.{◌≡◌, ℕ, ◌*◌, ◌<◌, ◌≤◌, true, false, List, [], ◌∷◌, length, map, Option, Some, None, refl, sym, ap, subst, arith, lit≤}
+use Rattle.std.proofs.Common.{◌≡◌, ℕ, ◌<◌, ◌≤◌, true, false, List, [], ◌∷◌, length, map, Option, Some, None, refl, sym, ap, subst, arith, lit≤}
 use Rattle.std.specs.Prelude.{not, IsSome, bytes_eq, nat_le, nat_lt}
 use Rattle.std.specs.List.{AllByRecursion, IsDistinct, list_any}
 use Rattle.std.proofs.lemmas.Bool.{leb-true, le-leb, ltb-true, lt-ltb}
@@ -8,6 +8,7 @@ use Rattle.gl_bits.proofs.AllLists.{length_map}
 use Rattle.gl_bits.proofs.Bools.{and_both, and_parts, bytes_own, bytes_same, neither, neither_parts, not_false, not_true}
 use Rattle.gl_schema.specs.declared.schema.Column.{Column as NamedColumn}
 use Rattle.gl_schema.specs.Schemas.{column_names, has_column, has_stream, kinds_of}
+use Rattle.gl_query.specs.declared.tree.Measure.{Measure}
 use Rattle.gl_query.specs.declared.tree.Name.{Name}
 use Rattle.gl_query.specs.declared.tree.Num.{Num}
 use Rattle.gl_query.specs.Trees as tree
@@ -16,7 +17,8 @@ use Rattle.gl_query.specs.Alike.{expr_alike, agg_alike, item_alike, agg_item_ali
 use Rattle.gl_query.specs.Shapes.{QueryShape}
 use Rattle.gl_query.specs.Values.{HasKind, kind_alone}
 use Rattle.gl_query.specs.Columns.{Pace, Once, Step, agg_column, is_closing, item_column, pace_of}
-use Rattle.gl_query.specs.Accepted.{AreResultColumns, IsAcceptedOver, IsAgg, IsPick, IsTotal, IsWindow, KeepPace, Scope, body_scope, columns_under}
+use Rattle.gl_query.specs.Accepted.{AreResultColumns, IsAcceptedOver, IsAgg, IsPick, IsTotal, IsWindow, KeepPace, Scope, body_scope, can_measure, columns_under}
+use Rattle.gl_query.specs.Windows.{copies_of}
 use Rattle.gl_query.specs.Faults.{unless, agg_fault, are_distinct, aggs_fault, beside_fault, is_within, key_fault, pick_fault, query_fault, same_kinds, same_pace, whole_fault, window_fault}
 use Rattle.gl_query.specs.Laws.{FirstFaultsAreExact}
 use Rattle.gl_query.proofs.Deciding.{Decides, agg_decides, always, both, change, equal_lists, filter_decides, is_within_of, lists_equal, named_decides, rule, test, whole_decides, within}
@@ -116,14 +118,15 @@ total_decides items columns =
 
 -- ---- parts of queries
 
-window_decides : (size advance : Num) → Decides (window_fault size advance) (IsWindow size.value advance.value)
-window_decides size advance =
+window_decides : (measure : Measure) (size advance : Num) → Decides (window_fault measure size advance) (IsWindow measure size.value advance.value)
+window_decides measure size advance =
     let s = size.value in
     let a = advance.value in
+    let open' = copies_of measure s a in
     change _
     (both (unless (is_within s 65536) _) _ (rule (is_within s 65536) _ ((1 ≤ s) × (s ≤ 65536)) (within s 65536) (is_within_of s 65536))
     (λ p. both (unless (is_within a 65536) _) _ (rule (is_within a 65536) _ ((1 ≤ a) × (a ≤ 65536)) (within a 65536) (is_within_of a 65536))
-    (λ q. rule (nat_le s (64 * a)) _ (s ≤ 64 * a) (leb-true s (64 * a)) (le-leb s (64 * a)))))
+    (λ q. rule (nat_le open' 64) _ (open' ≤ 64) (leb-true open' 64) (le-leb open' 64))))
     (λ h. record { some_size = h.0.0; most_size = h.0.1; some_advance = h.1.0.0; most_advance = h.1.0.1; copies = h.1.1 })
     (λ w. ((w.some_size, w.most_size), ((w.some_advance, w.most_advance), w.copies)))
 
@@ -179,15 +182,16 @@ query_decides (tree.Rows pick filter source) scope s =
 query_decides (tree.Total aggs source) scope s =
     let columns = columns_under scope (query_alike source) in
     both (query_fault scope source) _ (query_decides source scope s) (λ a. total_decides aggs columns)
-query_decides (tree.Each var source size advance body at) scope s =
+query_decides (tree.Each measure var source size advance body at) scope s =
     let columns = columns_under scope (query_alike source) in
     let inside = body_scope var.text columns in
     change _
     (both (query_fault scope source) _ (query_decides source scope s)
     (λ a. let r = real (query_alike source) scope s a in
-    both (window_fault size advance) _ (window_decides size advance)
-    (λ w. both (query_fault inside body) _ (query_decides body inside (body_is var.text columns r.result r.kinds)) (λ b. test (is_closing (query_alike body)) _))))
-    (λ h. (h.0, h.1.0, h.1.1.0, h.1.1.1)) (λ a. (a.0, (a.1, (a.2, a.3))))
+    both (unless (can_measure measure scope (query_alike source)) _) _ (test (can_measure measure scope (query_alike source)) _)
+    (λ t. both (window_fault measure size advance) _ (window_decides measure size advance)
+    (λ w. both (query_fault inside body) _ (query_decides body inside (body_is var.text columns r.result r.kinds)) (λ b. test (is_closing (query_alike body)) _)))))
+    (λ h. (h.0, h.1.1.0, h.1.1.1.0, h.1.1.1.1, h.1.0)) (λ a. (a.0, (a.4, (a.1, (a.2, a.3)))))
 query_decides (tree.PerGroup var source key groups body at) scope s =
     let columns = columns_under scope (query_alike source) in
     let inside = body_scope var.text columns in
@@ -225,5 +229,5 @@ query_decides (tree.Concat l r at) scope s =
 
 pub exact : FirstFaultsAreExact
 exact schema s h =
-    let d = query_decides s.query (record { sources = schema.streams }) (schema_is schema.streams h.streams) in
+    let d = query_decides s.query (record { sources = schema.streams; timed = true }) (schema_is schema.streams h.streams) in
     (d.sound, d.complete)

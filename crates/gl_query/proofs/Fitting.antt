@@ -252,4 +252,4 @@ fit_kept = record {
 }
 
 pub fitting : ResultsFit
-fitting q env out spill a h r = results_hold IsRowOf fit_kept q env out spill a h r
+fitting q env timed out spill a h r = results_hold IsRowOf fit_kept q env timed out spill a h r

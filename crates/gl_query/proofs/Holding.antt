@@ -1,19 +1,23 @@
 -- A property of rows that each step from the sources to the result of a query keeps holds of the rows of the result.
-use Rattle.std.proofs.Common.{◌≡◌, ℕ, zero, suc, ◌*◌, Bool, List, [], ◌∷◌, ◌++◌, length, refl, sym, subst, map, filter, take, drop, nat_lt, nat_eq}
-use Rattle.std.specs.Prelude.{IsTrue, bytes_eq, not, slice_index}
+use Rattle.std.proofs.Common.{◌≡◌, ℕ, zero, suc, ◌+◌, ◌*◌, ◌/◌, Bool, false, List, [], ◌∷◌, ◌++◌, length, refl, sym, subst, map, filter, take, drop, nat_lt, nat_eq}
+use Rattle.std.specs.Prelude.{◌&&◌, nat_le, IsTrue, bytes_eq, not, slice_index}
 use Rattle.std.specs.List.{AllByRecursion, filter_map, range_with_len}
 use Rattle.gl_bits.specs.Lists.{Group, IsInterleaving, nothing, from_first, from_second, distinct, groups, keys_of, rows_with, slice_at, slices}
 use Rattle.gl_bits.specs.Results.{Row, Results, AreJoined, IsOfGroup, beside}
+use Rattle.gl_bits.specs.Times.{tfirsts, tpart}
 use Rattle.gl_bits.proofs.AllLists.{all_append, all_weaker}
 use Rattle.gl_bits.proofs.Bools.{by_cases}
 use Rattle.gl_schema.specs.declared.schema.Column.{Column}
 use Rattle.gl_schema.specs.Schemas.{has_column, kinds_of}
+use Rattle.gl_query.specs.declared.tree.Measure.{Measure}
+use Rattle.gl_query.specs.declared.tree.Measure.TheVariants.{Tuples, Time}
 use Rattle.gl_query.specs.Shapes.{AggItemShape, PickShape}
 use Rattle.gl_query.specs.Shapes as shape
 use Rattle.gl_query.specs.Values.{column_kind, column_number}
 use Rattle.gl_query.specs.Columns.{agg_column, columns_of, picked_columns, source_columns, variable}
 use Rattle.gl_query.specs.Accepted.{IsAgg, IsPick}
-use Rattle.gl_query.specs.Results.{IsResultIn, columns_in, keeps, kept, only, picked, streams_of, total_row}
+use Rattle.gl_query.specs.Results.{IsResultIn, columns_in, keeps, kept, only, picked, streams_of, ticks_in, times_in, total_row}
+use Rattle.gl_query.specs.Windows.{parts_of}
 use Rattle.gl_query.specs.Laws.{HoldsIn, HoldsOfResults}
 
 -- each step keeps it
@@ -54,6 +58,24 @@ all_slices_at P size advance rows (j ∷ places) h =
 pub all_slices : (P : Row → Type 0) (size advance : ℕ) (rows : List Row) → AllByRecursion P rows → AllByRecursion (AllByRecursion P) (slices size advance rows)
 unfolding slices
 all_slices P size advance rows h = all_slices_at P size advance rows (range_with_len 0 (length rows)) h
+
+all_tpart : (P : Row → Type 0) (from size : ℕ) (times : List ℕ) (rows : List Row) → AllByRecursion P rows → AllByRecursion P (tpart from size times rows)
+all_tpart P from size [] rows h = tt
+all_tpart P from size (t ∷ ts) [] h = tt
+all_tpart P from size (t ∷ ts) (row ∷ rows) h =
+    by_cases (nat_le from t && nat_lt t (from + size)) (λ e. rw e (h.0, all_tpart P from size ts rows h.1)) (λ e. rw e (all_tpart P from size ts rows h.1))
+
+all_tfirsts : (P : Row → Type 0) (size advance n : ℕ) (times : List ℕ) (rows : List Row) → AllByRecursion P rows
+    → AllByRecursion (AllByRecursion P) (tfirsts size advance n times rows)
+all_tfirsts P size advance zero times rows h = tt
+all_tfirsts P size advance (suc n) times rows h =
+    all_append (AllByRecursion P) (tfirsts size advance n times rows) (tpart (n * advance) size times rows ∷ []) (all_tfirsts P size advance n times rows h)
+    (all_tpart P (n * advance) size times rows h, tt)
+
+pub all_parts : (P : Row → Type 0) (measure : Measure) (size advance : ℕ) (times : List ℕ) (ticks : ℕ) (rows : List Row) → AllByRecursion P rows
+    → AllByRecursion (AllByRecursion P) (parts_of measure size advance times ticks rows)
+all_parts P Tuples size advance times ticks rows h = all_slices P size advance rows h
+all_parts P Time size advance times ticks rows h = all_tfirsts P size advance (suc (ticks / advance)) times rows h
 
 -- ---- groups
 
@@ -116,45 +138,46 @@ holds_within : (P : List Column → Row → Type 0) (var : List ℕ) (columns : 
 holds_within P var columns rows h name = by_cases (bytes_eq name var) (λ e. rw e h) (λ e. rw e tt)
 
 pub results_hold : (P : List Column → Row → Type 0) → IsKept P → HoldsOfResults P
-results_hold P k (shape.Read name) env out spill a h r = subst (AllByRecursion (P (source_columns (streams_of env) name))) (sym r.rows) (h name)
-results_hold P k (shape.Rows pick condition source) env out spill a h r =
+results_hold P k (shape.Read name) env timed out spill a h r = subst (AllByRecursion (P (source_columns (streams_of env) name))) (sym r.rows) (h name)
+results_hold P k (shape.Rows pick condition source) env timed out spill a h r =
     let columns = columns_in env source in
-    let rows = results_hold P k source env r.rows spill a.0 h r.of_source in
+    let rows = results_hold P k source env timed r.rows spill a.0 h r.of_source in
     subst (AllByRecursion (P (picked_columns columns pick))) (sym r.changed)
     (all_under (P columns) (P (picked_columns columns pick)) (picked columns pick) (λ row p. k.picks columns pick row a.1.picks p)
     (kept columns condition r.rows) (all_filter (P columns) (keeps columns condition) r.rows rows))
-results_hold P k (shape.Total aggs source) env out spill a h r =
+results_hold P k (shape.Total aggs source) env timed out spill a h r =
     let columns = columns_in env source in
-    let rows = results_hold P k source env r.rows spill a.0 h r.of_source in
+    let rows = results_hold P k source env timed r.rows spill a.0 h r.of_source in
     subst (AllByRecursion (P (map (agg_column columns) aggs))) (sym r.changed) (k.totals columns aggs r.rows a.1.typed rows, tt)
-results_hold P k (shape.Each var source size advance body) env out spill a h r =
+results_hold P k (shape.Each measure var source size advance body) env timed out spill a h r =
     let columns = columns_in env source in
-    let rows = results_hold P k source env r.rows r.source_spill a.0 h r.of_source in
+    let rows = results_hold P k source env timed r.rows r.source_spill a.0 h r.of_source in
     all_joined (P (columns_of (variable var columns) body)) (AllByRecursion (P columns)) (λ part. IsResultIn body (only var columns part))
-    (λ part o s p is. results_hold P k body (only var columns part) o s a.2 (holds_within P var columns part p) is)
-    (slices size advance r.rows) out r.parts_spill (all_slices (P columns) size advance r.rows rows) r.of_parts
-results_hold P k (shape.PerGroup var source key n body) env out spill a h r =
+    (λ part o s p is. results_hold P k body (only var columns part) false o s a.2 (holds_within P var columns part p) is)
+    (parts_of measure size advance (times_in env source) (ticks_in env source) r.rows) out r.parts_spill
+    (all_parts (P columns) measure size advance (times_in env source) (ticks_in env source) r.rows rows) r.of_parts
+results_hold P k (shape.PerGroup var source key n body) env timed out spill a h r =
     let columns = columns_in env source in
     let more = columns_of (variable var columns) body in
     let key_of : Row → ℕ = λ row. slice_index row (column_number columns key) in
-    let rows = results_hold P k source env r.rows r.source_spill a.0 h r.of_source in
+    let rows = results_hold P k source env timed r.rows r.source_spill a.0 h r.of_source in
     let Whole : Row → Type 0 = P (record { name = key; kind = column_kind columns key } ∷ more) in
     all_joined Whole (IsGroupOf (P columns) key_of) (IsOfGroup (λ part. IsResultIn body (only var columns part)))
     (λ (g : Group Row) o s p is.
-    let inner = results_hold P k body (only var columns g.rows) is.rows s a.2 (holds_within P var columns g.rows p.rows) is.of_source in
+    let inner = results_hold P k body (only var columns g.rows) false is.rows s a.2 (holds_within P var columns g.rows p.rows) is.of_source in
     let one : (rest : Row) → P more rest → Whole (g.key ∷ rest) =
     λ rest held. subst (λ (first : ℕ). Whole (first ∷ rest)) p.key.is (k.keyed columns more key p.key.row rest a.1.known p.key.holds held) in
     subst (AllByRecursion Whole) (sym is.changed) (all_under (P more) Whole (λ row. g.key ∷ row) one is.rows inner))
     (groups n key_of r.rows) out r.parts_spill (all_groups (P columns) n key_of r.rows rows) r.of_parts
-results_hold P k (shape.Union l r) env out spill a h is =
+results_hold P k (shape.Union l r) env timed out spill a h is =
     let columns = columns_in env l in
-    let left = results_hold P k l env is.left is.left_spill a.0 h is.of_left in
-    let right = results_hold P k r env is.right is.right_spill a.1 h is.of_right in
+    let left = results_hold P k l env timed is.left is.left_spill a.0 h is.of_left in
+    let right = results_hold P k r env timed is.right is.right_spill a.1 h is.of_right in
     let alike = all_weaker (P (columns_in env r)) (P columns) (λ row p. k.alike columns (columns_in env r) row a.2 p) is.right right in
     all_interleaved (P columns) is.left is.right out left alike is.join
-results_hold P k (shape.Concat l r) env out spill a h is =
-    let left = results_hold P k l env is.left is.left_spill a.0 h is.of_left in
-    let right = results_hold P k r env is.right is.right_spill a.1 h is.of_right in
+results_hold P k (shape.Concat l r) env timed out spill a h is =
+    let left = results_hold P k l env timed is.left is.left_spill a.0 h is.of_left in
+    let right = results_hold P k r env timed is.right is.right_spill a.1 h is.of_right in
     let Whole : Row → Type 0 = P (columns_in env l ++ columns_in env r) in
     subst (AllByRecursion Whole) (sym is.join.rows)
     (all_beside (P (columns_in env l)) (P (columns_in env r)) Whole (λ x y p q. k.joined (columns_in env l) (columns_in env r) x y p q) is.left is.right left right)

@@ -39,4 +39,4 @@ long_kept = record {
 }
 
 pub long : ResultsAreLong
-long q env out spill a h r = results_hold IsLongAs long_kept q env out spill a h r
+long q env timed out spill a h r = results_hold IsLongAs long_kept q env timed out spill a h r

@@ -144,7 +144,7 @@ real (shape.Rows (shape.Items items) filter source) scope s a =
 real (shape.Total aggs source) scope s a =
     let r = real source scope s a.0 in
     record { result = a.1.columns; kinds = aggs_are aggs (columns_under scope source) r.kinds a.1.typed }
-real (shape.Each var source size advance body) scope s a =
+real (shape.Each measure var source size advance body) scope s a =
     let r = real source scope s a.0 in
     real body (body_scope var (columns_under scope source)) (body_is var (columns_under scope source) r.result r.kinds) a.2
 real (shape.PerGroup var source key groups body) scope s a =
@@ -174,7 +174,7 @@ stream_columns (s ∷ streams) name h =
     (λ e. rw e (record { result = record { most = h.0.most; distinct = h.0.distinct }; kinds = column_kinds s.columns h.0.columns }))
     (λ e. rw e (stream_columns streams name h.1))
 
-pub schema_is : (streams : List Stream) → AreStreams streams → IsScope (record { sources = streams })
+pub schema_is : (streams : List Stream) → AreStreams streams → IsScope (record { sources = streams; timed = true })
 schema_is streams h = record {
   columns = λ name. (stream_columns streams name h).result;
   kinds = λ name. (stream_columns streams name h).kinds;
@@ -194,7 +194,7 @@ body_some var columns h name t =
     not_true_false : false ≡ true → ⊥
     not_true_false e = cc
 
-streams_some : (streams : List Stream) → AreStreams streams → HasSome (record { sources = streams })
+streams_some : (streams : List Stream) → AreStreams streams → HasSome (record { sources = streams; timed = true })
 unfolding HasSome has_stream
 streams_some [] h name t = absurd (cc)
 streams_some (s ∷ streams) h name t =
@@ -208,7 +208,7 @@ some (shape.Rows shape.All filter source) scope s i a = some source scope s i.0 
 some (shape.Rows (shape.Items items) filter source) scope s i a =
     subst (λ (k : ℕ). 1 ≤ k) (sym (length_map (item_column (columns_under scope source)) items)) i.1
 some (shape.Total aggs source) scope s i a = subst (λ (k : ℕ). 1 ≤ k) (sym (length_map (agg_column (columns_under scope source)) aggs)) i.1
-some (shape.Each var source size advance body) scope s i a =
+some (shape.Each measure var source size advance body) scope s i a =
     some body (body_scope var (columns_under scope source)) (body_some var (columns_under scope source) (some source scope s i.0 a.0)) i.1 a.2
 some (shape.PerGroup var source key groups body) scope s i a = omega arith
 some (shape.Union l r) scope s i a = some l scope s i.0 a.0
@@ -219,9 +219,9 @@ some (shape.Concat l r) scope s i a =
 
 pub real_columns : AcceptedHaveRealColumns
 real_columns schema q s a =
-    let r = real q (record { sources = schema.streams }) (schema_is schema.streams s.streams) a in
+    let r = real q (record { sources = schema.streams; timed = true }) (schema_is schema.streams s.streams) a in
     record {
-      some' = λ i. some q (record { sources = schema.streams }) (streams_some schema.streams s.streams) i a;
+      some' = λ i. some q (record { sources = schema.streams; timed = true }) (streams_some schema.streams s.streams) i a;
       result = r.result;
       kinds = r.kinds;
     }

@@ -1,18 +1,70 @@
--- Results go by the rows of the streams.
-use Rattle.std.proofs.Common.{◌≡◌, ℕ, ◌+◌, List, [], ◌∷◌, refl, ap, ◌∙◌, subst}
-use Rattle.gl_bits.specs.Results.{Row}
+-- Without a window of time, results go by the rows of the streams.
+use Rattle.std.proofs.Common.{◌≡◌, ℕ, ◌+◌, false, List, [], ◌∷◌, refl, ap, ◌∙◌, subst}
+use Rattle.std.specs.Prelude.{bytes_eq, map, slice_index}
+use Rattle.gl_bits.specs.Lists.{IsInterleaving, groups, has_further, slices}
+use Rattle.gl_bits.specs.Results.{Row, Results, AreBeside, IsChanged, IsInput, IsOfBoth, IsOfGroup, IsOfParts}
+use Rattle.gl_bits.proofs.Bools.{by_cases, neither_parts}
 use Rattle.gl_schema.specs.declared.schema.Stream.{Stream}
 use Rattle.gl_schema.specs.Beats.{Inputs}
+use Rattle.gl_query.specs.declared.tree.Measure.TheVariants.{Tuples, Time}
+use Rattle.gl_query.specs.Columns.{columns_of}
 use Rattle.gl_query.specs.Laws.{ResultsGoByRows}
-use Rattle.gl_query.specs.Results.{Env, Source, IsResultIn, numbered}
-use Rattle.gl_query.specs.Shapes.{query_shape}
+use Rattle.gl_query.specs.Results.{Env, IsResultIn, env_of, kept, numbered, only, picked, rows_of, streams_of, total_row}
+use Rattle.gl_query.specs.Shapes.{QueryShape, query_shape}
+use Rattle.gl_query.specs.Shapes as shape
+use Rattle.gl_query.specs.Values.{column_number}
+use Rattle.gl_query.specs.Windows.{HasNoTime, has_time}
 
-numbered_same : (k : ℕ) (streams : List Stream) (inputs others : Inputs) → ((i : ℕ) → inputs.rows i ≡ others.rows i) → numbered k streams inputs ≡ numbered k streams others
-numbered_same k [] inputs others same = refl
-numbered_same k (s ∷ streams) inputs others same =
-    let source : List Row → Source = λ rows. record { stream = s; rows = rows } in
-    ap (λ (rows : List Row). source rows ∷ numbered (k + 1) streams inputs) (same k) ∙ ap (λ (env : Env). source (others.rows k) ∷ env) (numbered_same (k + 1) streams inputs others same)
+-- the same streams with the same rows
+record HaveRows (env other : Env) : Type 0 where
+  pub streams : streams_of env ≡ streams_of other
+  pub rows : (name : List ℕ) → rows_of env name ≡ rows_of other name
+
+same_results : (q : QueryShape) → HasNoTime q → (env other : Env) → HaveRows env other → IsResultIn q env ≡ IsResultIn q other
+same_results (shape.Read name) t env other h = ap IsInput (h.rows name)
+same_results (shape.Rows pick filter source) t env other h =
+    let step : List Stream → Results → Results =
+    λ s r. IsChanged r (λ rows. map (picked (columns_of s source) pick) (kept (columns_of s source) filter rows)) in
+    ap (λ (s : List Stream). step s (IsResultIn source env)) h.streams ∙ ap (step (streams_of other)) (same_results source t env other h)
+same_results (shape.Total aggs source) t env other h =
+    let step : List Stream → Results → Results = λ s r. IsChanged r (λ rows. total_row (columns_of s source) aggs rows ∷ []) in
+    ap (λ (s : List Stream). step s (IsResultIn source env)) h.streams ∙ ap (step (streams_of other)) (same_results source t env other h)
+same_results (shape.Each Time var source size advance body) t env other h = absurd (cc)
+same_results (shape.Each Tuples var source size advance body) t env other h =
+    let apart = neither_parts (has_time source) (has_time body) t in
+    let step : List Stream → Results → Results =
+    λ s r. IsOfParts r (slices size advance) (λ rows. IsResultIn body (only var (columns_of s source) rows)) (λ rows. false) in
+    ap (λ (s : List Stream). step s (IsResultIn source env)) h.streams ∙ ap (step (streams_of other)) (same_results source apart.0 env other h)
+same_results (shape.PerGroup var source key n body) t env other h =
+    let apart = neither_parts (has_time source) (has_time body) t in
+    let step : List Stream → Results → Results =
+    λ s r. IsOfParts r (groups n (λ (row : Row). slice_index row (column_number (columns_of s source) key)))
+    (IsOfGroup (λ rows. IsResultIn body (only var (columns_of s source) rows)))
+    (has_further n (λ (row : Row). slice_index row (column_number (columns_of s source) key))) in
+    ap (λ (s : List Stream). step s (IsResultIn source env)) h.streams ∙ ap (step (streams_of other)) (same_results source apart.0 env other h)
+same_results (shape.Union l r) t env other h =
+    let apart = neither_parts (has_time l) (has_time r) t in
+    ap (λ (x : Results). IsOfBoth x (IsResultIn r env) IsInterleaving) (same_results l apart.0 env other h)
+    ∙ ap (λ (x : Results). IsOfBoth (IsResultIn l other) x IsInterleaving) (same_results r apart.1 env other h)
+same_results (shape.Concat l r) t env other h =
+    let apart = neither_parts (has_time l) (has_time r) t in
+    ap (λ (x : Results). IsOfBoth x (IsResultIn r env) AreBeside) (same_results l apart.0 env other h)
+    ∙ ap (λ (x : Results). IsOfBoth (IsResultIn l other) x AreBeside) (same_results r apart.1 env other h)
+
+-- ---- inputs with the same rows
+
+numbered_streams : (k : ℕ) (streams : List Stream) (inputs others : Inputs) → streams_of (numbered k streams inputs) ≡ streams_of (numbered k streams others)
+numbered_streams k [] inputs others = refl
+numbered_streams k (s ∷ streams) inputs others = ap (λ (l : List Stream). s ∷ l) (numbered_streams (k + 1) streams inputs others)
+
+numbered_rows : (k : ℕ) (streams : List Stream) (inputs others : Inputs) → ((i : ℕ) → inputs.rows i ≡ others.rows i) → (name : List ℕ)
+    → rows_of (numbered k streams inputs) name ≡ rows_of (numbered k streams others) name
+numbered_rows k [] inputs others same name = refl
+numbered_rows k (s ∷ streams) inputs others same name =
+    by_cases (bytes_eq name s.name) (λ e. rw e (same k)) (λ e. rw e (numbered_rows (k + 1) streams inputs others same name))
 
 pub go_by_rows : ResultsGoByRows
-go_by_rows schema statement inputs others out spill same result =
-    subst (λ (env : Env). IsResultIn (query_shape statement.query) env out spill) (numbered_same 0 schema.streams inputs others same) result
+go_by_rows schema statement inputs others out spill timeless same result =
+    let alike : HaveRows (env_of schema inputs) (env_of schema others) =
+    record { streams = numbered_streams 0 schema.streams inputs others; rows = numbered_rows 0 schema.streams inputs others same } in
+    subst (λ (r : Results). r out spill) (same_results (query_shape statement.query) timeless (env_of schema inputs) (env_of schema others) alike) result

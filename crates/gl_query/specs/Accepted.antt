@@ -1,5 +1,5 @@
 -- Which statements are accepted over a schema.
-use Rattle.std.specs.Prelude.{◌≡◌, ℕ, ◌*◌, ◌≤◌, List, length, Option, Some, None, IsSome, IsTrue, bytes_eq}
+use Rattle.std.specs.Prelude.{◌≡◌, ℕ, ◌≤◌, Bool, true, false, List, length, Option, Some, None, IsSome, IsTrue, bytes_eq}
 use Rattle.std.specs.List.{AllByRecursion, IsDistinct}
 use Rattle.gl_bits.specs.Kinds.{is_number}
 use Rattle.gl_bits.specs.Limits as limit
@@ -8,11 +8,14 @@ use Rattle.gl_schema.specs.declared.schema.Column.{Column}
 use Rattle.gl_schema.specs.declared.schema.Stream.{Stream}
 use Rattle.gl_schema.specs.declared.schema.Schema.{Schema}
 use Rattle.gl_schema.specs.Schemas.{column_names, has_column, has_stream, kinds_of}
+use Rattle.gl_query.specs.declared.tree.Measure.{Measure}
+use Rattle.gl_query.specs.declared.tree.Measure.TheVariants.{Tuples, Time}
 use Rattle.gl_query.specs.declared.tree.Statement.{Statement}
 use Rattle.gl_query.specs.Shapes.{ExprShape, AggShape, ItemShape, AggItemShape, PickShape, QueryShape, query_shape}
 use Rattle.gl_query.specs.Shapes as shape
 use Rattle.gl_query.specs.Values.{HasKind, IsNumberOf, kind_alone, kind_of}
 use Rattle.gl_query.specs.Columns.{columns_of, picked_columns, is_closing, pace_of, variable}
+use Rattle.gl_query.specs.Windows.{copies_of}
 
 -- at most 32 columns, no two of one name
 pub record AreResultColumns (columns : List Column) : Type 0 where
@@ -57,12 +60,12 @@ IsFilter columns None = Unit {0}
 IsFilter columns (Some e) = IsCondition columns e
 
 -- SIZE and ADVANCE are 1 to 65,536, and at most 64 windows are open at once
-pub record IsWindow (size advance : ℕ) : Type 0 where
+pub record IsWindow (measure : Measure) (size advance : ℕ) : Type 0 where
   pub some_size : 1 ≤ size
   pub most_size : size ≤ limit.most_rows
   pub some_advance : 1 ≤ advance
   pub most_advance : advance ≤ limit.most_rows
-  pub copies : size ≤ limit.most_copies * advance
+  pub copies : copies_of measure size advance ≤ limit.most_copies
 
 pub record IsRows (source : List Column) (pick : PickShape) (filter : Option ExprShape) : Type 0 where
   pub picks : IsPick source pick
@@ -84,15 +87,27 @@ pub record KeepPace (l r : QueryShape) : Type 0 where
   pub paced : IsSome (pace_of l)
   pub same : pace_of l ≡ pace_of r
 
--- what a query may read: the streams of a schema, or the variable of the body around alone
+-- what a query may read: the streams of a schema, whose rows have times, or the variable of the body around alone, whose
+-- rows have none
 pub record Scope : Type 0 where
   pub sources : List Stream
+  pub timed : Bool
 
 abbrev pub schema_scope : Schema → Scope
-schema_scope schema = record { sources = schema.streams }
+schema_scope schema = record { sources = schema.streams; timed = true }
 
 abbrev pub body_scope : List ℕ → List Column → Scope
-body_scope var columns = record { sources = variable var columns }
+body_scope var columns = record { sources = variable var columns; timed = false }
+
+-- the rows of a query have times: it is a stream of the schema itself
+abbrev pub has_times : Scope → QueryShape → Bool
+has_times scope (shape.Read name) = scope.timed
+has_times scope q = false
+
+-- a window of time is over rows that have times
+abbrev pub can_measure : Measure → Scope → QueryShape → Bool
+can_measure Tuples scope source = true
+can_measure Time scope source = has_times scope source
 
 -- the columns of a query in a scope
 abbrev pub columns_under : Scope → QueryShape → List Column
@@ -106,9 +121,10 @@ IsAcceptedOver scope (shape.Rows pick filter source) =
 IsAcceptedOver scope (shape.Total aggs source) =
     IsAcceptedOver scope source × IsTotal (columns_under scope source) aggs
     (columns_under scope (shape.Total aggs source))
-IsAcceptedOver scope (shape.Each var source size advance body) =
-    IsAcceptedOver scope source × IsWindow size advance
+IsAcceptedOver scope (shape.Each measure var source size advance body) =
+    IsAcceptedOver scope source × IsWindow measure size advance
     × IsAcceptedOver (body_scope var (columns_under scope source)) body × IsTrue (is_closing body)
+    × IsTrue (can_measure measure scope source)
 IsAcceptedOver scope (shape.PerGroup var source key groups body) =
     IsAcceptedOver scope source
     × IsGrouping (columns_under scope source) key groups

@@ -38,8 +38,8 @@ query_alike (tree.Read name) = shape.Read name.text
 query_alike (tree.Rows pick filter source) =
     shape.Rows (pick_alike pick) (option_map expr_alike filter) (query_alike source)
 query_alike (tree.Total aggs source) = shape.Total (map agg_item_alike aggs) (query_alike source)
-query_alike (tree.Each var source size advance body at) =
-    shape.Each var.text (query_alike source) size.value advance.value (query_alike body)
+query_alike (tree.Each measure var source size advance body at) =
+    shape.Each measure var.text (query_alike source) size.value advance.value (query_alike body)
 query_alike (tree.PerGroup var source key groups body at) =
     shape.PerGroup var.text (query_alike source) key.text groups.value (query_alike body)
 query_alike (tree.Union l r at) = shape.Union (query_alike l) (query_alike r)

@@ -1,5 +1,5 @@
 -- The columns of a query, when it closes, and its pace.
-use Rattle.std.specs.Prelude.{ℕ, Bool, true, false, ◌&&◌, List, [], ◌∷◌, ◌++◌, map, Option, Some, None, find, unwrap_or, option_map, bytes_eq}
+use Rattle.std.specs.Prelude.{ℕ, Bool, true, false, not, ◌&&◌, List, [], ◌∷◌, ◌++◌, map, Option, Some, None, find, unwrap_or, option_map, bytes_eq}
 use Rattle.gl_bits.specs.declared.kind.Kind.{Kind}
 use Rattle.gl_bits.specs.declared.kind.Kind.TheVariants.{Unsigned}
 use Rattle.gl_schema.specs.declared.schema.Column.{Column}
@@ -7,6 +7,7 @@ use Rattle.gl_schema.specs.declared.schema.Stream.{Stream}
 use Rattle.gl_query.specs.Shapes.{AggShape, ItemShape, AggItemShape, PickShape, QueryShape}
 use Rattle.gl_query.specs.Shapes as shape
 use Rattle.gl_query.specs.Values.{column_kind, kind_alone, kind_of}
+use Rattle.gl_query.specs.Windows.{is_time}
 
 -- the columns of a source by its name
 abbrev pub source_columns : List Stream → List ℕ → List Column
@@ -40,7 +41,7 @@ abbrev pub columns_of : List Stream → QueryShape → List Column
 columns_of sources (shape.Read name) = source_columns sources name
 columns_of sources (shape.Rows pick filter source) = picked_columns (columns_of sources source) pick
 columns_of sources (shape.Total aggs source) = map (agg_column (columns_of sources source)) aggs
-columns_of sources (shape.Each var source size advance body) =
+columns_of sources (shape.Each measure var source size advance body) =
     columns_of (variable var (columns_of sources source)) body
 columns_of sources (shape.PerGroup var source key groups body) =
     record { name = key; kind = column_kind (columns_of sources source) key } ∷ columns_of
@@ -53,7 +54,7 @@ abbrev pub is_closing : QueryShape → Bool
 is_closing (shape.Read name) = false
 is_closing (shape.Rows pick filter source) = is_closing source
 is_closing (shape.Total aggs source) = true
-is_closing (shape.Each var source size advance body) = is_closing source
+is_closing (shape.Each measure var source size advance body) = not (is_time measure) && is_closing source
 is_closing (shape.PerGroup var source key groups body) = true
 is_closing (shape.Union l r) = is_closing l && is_closing r
 is_closing (shape.Concat l r) = is_closing l && is_closing r
@@ -72,7 +73,7 @@ abbrev pub pace_of : QueryShape → Option Pace
 pace_of (shape.Read name) = Some (Step name)
 pace_of (shape.Rows pick filter source) = unfiltered filter (pace_of source)
 pace_of (shape.Total aggs source) = Some Once
-pace_of (shape.Each var source size advance body) = None
+pace_of (shape.Each measure var source size advance body) = None
 pace_of (shape.PerGroup var source key groups body) = None
 pace_of (shape.Union l r) = None
 pace_of (shape.Concat l r) = pace_of l

@@ -1,6 +1,6 @@
 -- The first rule of acceptance that a statement breaks, with its place: the sources of a query come first, then its own
 -- parts.
-use Rattle.std.specs.Prelude.{ℕ, ◌*◌, pos, Bool, true, false, not, ◌&&◌, List, [], ◌∷◌, ◌++◌, length, Option, Some, None, bytes_eq, nat_le, nat_lt, slice_get, if◌then◌else◌}
+use Rattle.std.specs.Prelude.{ℕ, pos, Bool, true, false, not, ◌&&◌, List, [], ◌∷◌, ◌++◌, length, Option, Some, None, bytes_eq, nat_le, nat_lt, slice_get, if◌then◌else◌}
 use Rattle.std.specs.List.{list_any}
 use Rattle.gl_bits.specs.Kinds.{can_cast, has_negative, in_range, is_number, is_text}
 use Rattle.gl_bits.specs.Limits.{most_columns, most_copies, most_groups, most_rows, most_weights}
@@ -13,7 +13,8 @@ use Rattle.gl_schema.specs.declared.schema.Column.{Column as NamedColumn}
 use Rattle.gl_schema.specs.declared.schema.Schema.{Schema}
 use Rattle.gl_schema.specs.Schemas.{column_names, has_column, has_stream, kinds_of}
 use Rattle.gl_query.specs.declared.fault.QueryFault.{QueryFault}
-use Rattle.gl_query.specs.declared.fault.QueryFault.TheVariants.{UnknownStream, UnknownColumn, KindsDiffer, LiteralTooWide, NotCondition, TwiceNamed, ColumnsDiffer, PaceDiffers, NotClosing, OutOfRange}
+use Rattle.gl_query.specs.declared.fault.QueryFault.TheVariants.{UnknownStream, UnknownColumn, KindsDiffer, LiteralTooWide, NotCondition, TwiceNamed, ColumnsDiffer, PaceDiffers, NotClosing, OutOfRange, NoTime}
+use Rattle.gl_query.specs.declared.tree.Measure.{Measure}
 use Rattle.gl_query.specs.declared.tree.Name.{Name}
 use Rattle.gl_query.specs.declared.tree.Num.{Num}
 use Rattle.gl_query.specs.Trees.{ExprTree, AggTree, ItemTree, AggItemTree, PickTree, QueryTree, StatementTree, Column, Number, Minus, Letters, Not, Cast, Binary, Count, Sum, Min, Max, Avg, Wsum, All, Items, Read, Rows, Total, Each, PerGroup, Union, Concat}
@@ -21,7 +22,8 @@ use Rattle.gl_query.specs.Shapes.{QueryShape}
 use Rattle.gl_query.specs.Alike.{expr_alike, query_alike}
 use Rattle.gl_query.specs.Values.{is_loose, kind_alone, kind_of, letters_fit, operand_place}
 use Rattle.gl_query.specs.Columns.{Pace, Once, Step, is_closing, pace_of}
-use Rattle.gl_query.specs.Accepted.{Scope, body_scope, columns_under, schema_scope}
+use Rattle.gl_query.specs.Accepted.{Scope, body_scope, can_measure, columns_under, schema_scope}
+use Rattle.gl_query.specs.Windows.{copies_of}
 
 -- the first of two faults, where there is one
 abbrev pub or_else : Option QueryFault → Option QueryFault → Option QueryFault
@@ -178,11 +180,11 @@ aggs_fault columns earlier items =
 -- ---- queries
 
 -- SIZE, ADVANCE, and SIZE again for the windows that are open at once
-abbrev pub window_fault : Num → Num → Option QueryFault
-window_fault size advance =
+abbrev pub window_fault : Measure → Num → Num → Option QueryFault
+window_fault measure size advance =
     or_else (unless (is_within size.value most_rows) (OutOfRange size.at))
     (or_else (unless (is_within advance.value most_rows) (OutOfRange advance.at))
-    (unless (nat_le size.value (most_copies * advance.value)) (OutOfRange size.at)))
+    (unless (nat_le (copies_of measure size.value advance.value) most_copies) (OutOfRange size.at)))
 
 -- the key's name and the count of columns, behind all faults of the body
 abbrev pub key_fault : Name → List NamedColumn → Option QueryFault
@@ -203,11 +205,12 @@ query_fault scope (Rows pick filter source) =
     or_else (query_fault scope source) (or_else (pick_fault columns pick) (filter_fault columns filter))
 query_fault scope (Total aggs source) =
     or_else (query_fault scope source) (aggs_fault (columns_under scope (query_alike source)) [] aggs)
-query_fault scope (Each var source size advance body at) =
+query_fault scope (Each measure var source size advance body at) =
     let inside = body_scope var.text (columns_under scope (query_alike source)) in
     or_else (query_fault scope source)
-    (or_else (window_fault size advance) (or_else (query_fault inside body)
-    (unless (is_closing (query_alike body)) (NotClosing at))))
+    (or_else (unless (can_measure measure scope (query_alike source)) (NoTime at))
+    (or_else (window_fault measure size advance) (or_else (query_fault inside body)
+    (unless (is_closing (query_alike body)) (NotClosing at)))))
 query_fault scope (PerGroup var source key groups body at) =
     let columns = columns_under scope (query_alike source) in
     let inside = body_scope var.text columns in

@@ -6,7 +6,7 @@ use Rattle.gl_query.specs.Shapes as shape
 use Rattle.gl_bits.specs.Kinds.{IsKind}
 use Rattle.gl_bits.specs.Results.{Row, AreSame}
 use Rattle.gl_query.specs.declared.tree.Statement.{Statement}
-use Rattle.gl_query.specs.Shapes.{statement_shape}
+use Rattle.gl_query.specs.Shapes.{query_shape, statement_shape}
 use Rattle.gl_query.specs.Trees.{StatementTree, statement_tree}
 use Rattle.gl_query.specs.Alike.{query_alike, statement_alike}
 use Rattle.gl_schema.specs.declared.schema.Column.{Column}
@@ -18,13 +18,14 @@ use Rattle.gl_query.specs.Sizes.{HasItems}
 use Rattle.gl_query.specs.Faults.{first_fault}
 use Rattle.gl_query.specs.Results.{Env, IsResult, IsResultIn, columns_in, rows_of, streams_of}
 use Rattle.gl_query.specs.Accepted.{AreResultColumns, Scope, IsAcceptedOver, schema_scope}
+use Rattle.gl_query.specs.Windows.{HasNoTime}
 
 -- no UNION stands in a query
 abbrev pub HasNoUnion : QueryShape → Type 0
 HasNoUnion (shape.Read name) = Unit {0}
 HasNoUnion (shape.Rows pick filter source) = HasNoUnion source
 HasNoUnion (shape.Total aggs source) = HasNoUnion source
-HasNoUnion (shape.Each var source size advance body) = HasNoUnion source × HasNoUnion body
+HasNoUnion (shape.Each measure var source size advance body) = HasNoUnion source × HasNoUnion body
 HasNoUnion (shape.PerGroup var source key groups body) = HasNoUnion source × HasNoUnion body
 HasNoUnion (shape.Union l r) = ⊥
 HasNoUnion (shape.Concat l r) = HasNoUnion l × HasNoUnion r
@@ -41,13 +42,14 @@ pub record HasResult (q : QueryShape) (env : Env) : Type 0 where
   pub spill : Bool
   pub is : IsResultIn q env rows spill
 
--- what a query may read in an environment
-abbrev pub scope_of : Env → Scope
-scope_of env = record { sources = streams_of env }
+-- what a query may read in an environment, where its rows count as timed or not
+abbrev pub scope_of : Env → Bool → Scope
+scope_of env timed = record { sources = streams_of env; timed = timed }
 
 -- an accepted query has a result, whatever the rows of its sources
 abbrev pub AcceptedHaveResults : Type 0
-AcceptedHaveResults = (q : QueryShape) (env : Env) → IsAcceptedOver (scope_of env) q → HasResult q env
+AcceptedHaveResults =
+    (q : QueryShape) (env : Env) (timed : Bool) → IsAcceptedOver (scope_of env timed) q → HasResult q env
 
 -- a property of rows of these columns holds of the rows of each source
 abbrev pub HoldsIn : (List Column → Row → Type 0) → Env → Type 0
@@ -55,8 +57,8 @@ HoldsIn P env = (name : List ℕ) → AllByRecursion (P (source_columns (streams
 
 -- and of the rows of each result of an accepted query
 abbrev pub HoldsOfResults : (List Column → Row → Type 0) → Type 0
-HoldsOfResults P = (q : QueryShape) (env : Env) (out : List Row) (spill : Bool)
-    → IsAcceptedOver (scope_of env) q → HoldsIn P env → IsResultIn q env out spill
+HoldsOfResults P = (q : QueryShape) (env : Env) (timed : Bool) (out : List Row) (spill : Bool)
+    → IsAcceptedOver (scope_of env timed) q → HoldsIn P env → IsResultIn q env out spill
     → AllByRecursion (P (columns_in env q)) out
 
 -- a row has as many numbers as there are columns
@@ -71,11 +73,11 @@ ResultsAreLong = HoldsOfResults IsLongAs
 abbrev pub ResultsFit : Type 0
 ResultsFit = HoldsOfResults IsRowOf
 
--- a result goes by the rows of the streams: no query reads their times, or ticks
+-- without a window of time a result goes by the rows of the streams alone, whatever their times, or ticks
 abbrev pub ResultsGoByRows : Type 0
 ResultsGoByRows =
     (schema : Schema) (statement : Statement) (inputs others : Inputs) (out : List Row) (spill : Bool)
-    → ((k : ℕ) → inputs.rows k ≡ others.rows k)
+    → HasNoTime (query_shape statement.query) → ((k : ℕ) → inputs.rows k ≡ others.rows k)
     → IsResult schema statement inputs out spill → IsResult schema statement others out spill
 
 -- a statement without its places is the tree without them

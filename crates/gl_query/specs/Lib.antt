@@ -1,4 +1,5 @@
 pub mod Shapes
+pub mod Windows
 pub mod Trees
 pub mod Alike
 pub mod Values

@@ -3,7 +3,7 @@
 use Rattle.std.specs.Prelude.{ℕ, ◌+◌, Bool, true, false, List, [], ◌∷◌, map, filter, find, Option, Some, None, unwrap_or, option_map, bytes_eq, nat_eq, slice_index}
 use Rattle.gl_bits.specs.declared.kind.Kind.TheVariants.{Unsigned}
 use Rattle.gl_bits.specs.Kinds.{width_of}
-use Rattle.gl_bits.specs.Lists.{IsInterleaving, groups, has_further, slices}
+use Rattle.gl_bits.specs.Lists.{IsInterleaving, groups, has_further}
 use Rattle.gl_bits.specs.Results.{Row, Results, IsInput, IsChanged, IsOfBoth, AreBeside, IsOfParts, IsOfGroup}
 use Rattle.gl_bits.specs.Totals.{average_of, count_of, greatest_of, least_of, sum_total, weighted_sum}
 use Rattle.gl_schema.specs.declared.schema.Column.{Column}
@@ -15,6 +15,7 @@ use Rattle.gl_query.specs.Shapes.{ExprShape, AggShape, ItemShape, AggItemShape, 
 use Rattle.gl_query.specs.Shapes as shape
 use Rattle.gl_query.specs.Values.{column_number, kind_alone, kind_of, value_of}
 use Rattle.gl_query.specs.Columns.{columns_of}
+use Rattle.gl_query.specs.Windows.{parts_of}
 
 -- ---- one step on rows
 
@@ -52,10 +53,12 @@ total_row columns aggs rows = map (λ (i : AggItemShape). agg_value columns rows
 
 -- ---- what a query sees
 
--- a source that a query may read, and its rows
+-- a source that a query may read, and its rows; a stream's have times, and there are so many ticks in all
 pub record Source : Type 0 where
   pub stream : Stream
   pub rows : List Row
+  pub times : List ℕ
+  pub ticks : ℕ
 
 abbrev pub Env : Type 0
 Env = List Source
@@ -64,23 +67,38 @@ Env = List Source
 abbrev pub streams_of : Env → List Stream
 streams_of env = map (λ (s : Source). s.stream) env
 
+-- what is said of a source by its name
+abbrev pub said_of : {A : Type 0} → (Source → A) → A → Env → List ℕ → A
+said_of said none env name = unwrap_or (option_map said (find (λ (s : Source). bytes_eq name s.stream.name) env)) none
+
 -- the rows of a source by its name
 abbrev pub rows_of : Env → List ℕ → List Row
-rows_of env name =
-    unwrap_or (option_map (λ (s : Source). s.rows) (find (λ (s : Source). bytes_eq name s.stream.name) env)) []
+rows_of env name = said_of (λ (s : Source). s.rows) [] env name
+
+-- the times of the rows of a query that is a source itself, and the ticks that it sees
+abbrev pub times_in : Env → QueryShape → List ℕ
+times_in env (shape.Read name) = said_of (λ (s : Source). s.times) [] env name
+times_in env q = []
+
+abbrev pub ticks_in : Env → QueryShape → ℕ
+ticks_in env (shape.Read name) = said_of (λ (s : Source). s.ticks) 0 env name
+ticks_in env q = 0
 
 -- the columns of a query in an environment
 abbrev pub columns_in : Env → QueryShape → List Column
 columns_in env q = columns_of (streams_of env) q
 
--- a body sees its own variable alone
+-- a body sees its own variable alone, whose rows have no times
 abbrev pub only : List ℕ → List Column → List Row → Env
-only var columns rows = record { stream = record { name = var; columns = columns }; rows = rows } ∷ []
+only var columns rows =
+    record { stream = record { name = var; columns = columns }; rows = rows; times = []; ticks = 0 } ∷ []
 
 -- the streams of a schema with their inputs, which go by the streams' numbers
 abbrev pub numbered : ℕ → List Stream → Inputs → Env
 numbered k [] inputs = []
-numbered k (s ∷ streams) inputs = record { stream = s; rows = inputs.rows k } ∷ numbered (k + 1) streams inputs
+numbered k (s ∷ streams) inputs =
+    record { stream = s; rows = inputs.rows k; times = inputs.times k; ticks = inputs.ticks }
+    ∷ numbered (k + 1) streams inputs
 
 abbrev pub env_of : Schema → Inputs → Env
 env_of schema inputs = numbered 0 schema.streams inputs
@@ -96,10 +114,10 @@ IsResultIn (shape.Rows pick filter source) env =
 IsResultIn (shape.Total aggs source) env =
     let columns = columns_in env source in
     IsChanged (IsResultIn source env) (λ rows. total_row columns aggs rows ∷ [])
-IsResultIn (shape.Each var source size advance body) env =
+IsResultIn (shape.Each measure var source size advance body) env =
     let columns = columns_in env source in
-    IsOfParts (IsResultIn source env) (slices size advance) (λ rows. IsResultIn body (only var columns rows))
-    (λ rows. false)
+    IsOfParts (IsResultIn source env) (parts_of measure size advance (times_in env source) (ticks_in env source))
+    (λ rows. IsResultIn body (only var columns rows)) (λ rows. false)
 IsResultIn (shape.PerGroup var source key n body) env =
     let columns = columns_in env source in
     let key_of : Row → ℕ = λ row. slice_index row (column_number columns key) in

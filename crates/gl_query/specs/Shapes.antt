@@ -2,6 +2,8 @@
 use Rattle.std.specs.Prelude.{ℕ, List, map, Option, option_map}
 use Rattle.gl_bits.specs.declared.kind.Kind.{Kind}
 use Rattle.gl_bits.specs.declared.op.Op.{Op}
+use Rattle.gl_query.specs.declared.tree.Measure.{Measure}
+use Rattle.gl_query.specs.declared.tree.Measure.TheVariants.{Tuples, Time}
 use Rattle.gl_query.specs.declared.tree.Num.{Num}
 use Rattle.gl_query.specs.declared.tree.Expr.{Expr}
 use Rattle.gl_query.specs.declared.tree.Expr.TheVariants as expr
@@ -53,7 +55,7 @@ pub data QueryShape : Type 0 where
   Read : (name : List ℕ) → QueryShape
   Rows : (pick : PickShape) (filter : Option ExprShape) (source : QueryShape) → QueryShape
   Total : (aggs : List AggItemShape) (source : QueryShape) → QueryShape
-  Each : (var : List ℕ) (source : QueryShape) (size advance : ℕ) (body : QueryShape) → QueryShape
+  Each : (measure : Measure) (var : List ℕ) (source : QueryShape) (size advance : ℕ) (body : QueryShape) → QueryShape
   PerGroup : (var : List ℕ) (source : QueryShape) (key : List ℕ) (groups : ℕ) (body : QueryShape) → QueryShape
   Union : (l r : QueryShape) → QueryShape
   Concat : (l r : QueryShape) → QueryShape
@@ -97,7 +99,9 @@ query_shape (query.Rows' pick filter p source) =
     Rows (pick_shape pick) (option_map expr_shape filter) (query_shape source)
 query_shape (query.Total' aggs p source) = Total (map agg_item_shape aggs) (query_shape source)
 query_shape (query.Each' var p source size advance q body at) =
-    Each var.text (query_shape source) size.value advance.value (query_shape body)
+    Each Tuples var.text (query_shape source) size.value advance.value (query_shape body)
+query_shape (query.EachTime' var p source size advance q body at) =
+    Each Time var.text (query_shape source) size.value advance.value (query_shape body)
 query_shape (query.PerGroup' var p source key groups q body at) =
     PerGroup var.text (query_shape source) key.text groups.value (query_shape body)
 query_shape (query.Union' p l q r at) = Union (query_shape l) (query_shape r)

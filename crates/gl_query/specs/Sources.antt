@@ -1,10 +1,11 @@
 -- What a query may read, as code has it.
 -- A middle layer, proved equal to `Columns`: no promise rests on it.
+use Rattle.std.specs.Prelude.{true, false}
 use Rattle.gl_query.specs.Columns.{variable}
 use Rattle.gl_query.specs.Accepted.{Scope}
 use Rattle.gl_query.specs.declared.columns.Sources.{Sources}
 use Rattle.gl_query.specs.declared.columns.Sources.TheVariants.{Schema, Variable}
 
 abbrev pub scope_of : Sources → Scope
-scope_of (Schema streams) = record { sources = streams.now }
-scope_of (Variable name columns) = record { sources = variable name.now columns.now }
+scope_of (Schema streams) = record { sources = streams.now; timed = true }
+scope_of (Variable name columns) = record { sources = variable name.now columns.now; timed = false }

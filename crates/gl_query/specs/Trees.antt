@@ -2,6 +2,8 @@
 use Rattle.std.specs.Prelude.{ℕ, List, map, Option, option_map}
 use Rattle.gl_bits.specs.declared.kind.Kind.{Kind}
 use Rattle.gl_bits.specs.declared.op.Op.{Op}
+use Rattle.gl_query.specs.declared.tree.Measure.{Measure}
+use Rattle.gl_query.specs.declared.tree.Measure.TheVariants.{Tuples, Time}
 use Rattle.gl_query.specs.declared.tree.Name.{Name}
 use Rattle.gl_query.specs.declared.tree.Num.{Num}
 use Rattle.gl_query.specs.declared.tree.Expr.{Expr}
@@ -49,7 +51,7 @@ pub data QueryTree : Type 0 where
   Read : (name : Name) → QueryTree
   Rows : (pick : PickTree) (filter : Option ExprTree) (source : QueryTree) → QueryTree
   Total : (aggs : List AggItemTree) (source : QueryTree) → QueryTree
-  Each : (var : Name) (source : QueryTree) (size advance : Num) (body : QueryTree) (at : ℕ) → QueryTree
+  Each : (measure : Measure) (var : Name) (source : QueryTree) (size advance : Num) (body : QueryTree) (at : ℕ) → QueryTree
   PerGroup : (var : Name) (source : QueryTree) (key : Name) (groups : Num) (body : QueryTree) (at : ℕ) → QueryTree
   Union : (l r : QueryTree) (at : ℕ) → QueryTree
   Concat : (l r : QueryTree) (at : ℕ) → QueryTree
@@ -93,7 +95,9 @@ query_tree (query.Read name) = Read name
 query_tree (query.Rows' pick filter p source) = Rows (pick_tree pick) (filter_tree filter) (query_tree source)
 query_tree (query.Total' aggs p source) = Total (map agg_item_tree aggs) (query_tree source)
 query_tree (query.Each' var p source size advance q body at) =
-    Each var (query_tree source) size advance (query_tree body) at
+    Each Tuples var (query_tree source) size advance (query_tree body) at
+query_tree (query.EachTime' var p source size advance q body at) =
+    Each Time var (query_tree source) size advance (query_tree body) at
 query_tree (query.PerGroup' var p source key groups q body at) =
     PerGroup var (query_tree source) key groups (query_tree body) at
 query_tree (query.Union' p l q r at) = Union (query_tree l) (query_tree r) at

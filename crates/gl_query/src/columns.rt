@@ -180,6 +180,12 @@ pub fn columns_of(alloc: Global, sources: Sources<'_>, query: &Query) -> Result<
             source,
             body,
             ..
+        }
+        | Query::EachTime {
+            var,
+            source,
+            body,
+            ..
         } => {
             let columns = columns_of(alloc, sources, source)?;
             let inside = Sources::Variable(var.text.as_slice(), columns.as_slice());

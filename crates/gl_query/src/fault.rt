@@ -48,6 +48,9 @@ pub enum QueryFault {
     /// A bracket, an operator or a union more than may be open or stand in one text.
     #[error("too deep at byte {at}")]
     TooDeep { at: u64 },
+    /// A window of time over what is no stream of the schema.
+    #[error("no time at byte {at}")]
+    NoTime { at: u64 },
     /// Memory ran out.
     #[error("out of memory")]
     Memory,

@@ -24,7 +24,8 @@ pub fn results_fit()
     ensures { ResultsFit }
 {}
 
-/// A result goes by the rows of the streams alone: no query reads their times, or ticks.
+/// A result of a query without a window of time goes by the rows of the streams alone, whatever their
+/// times, or ticks.
 pub fn results_go_by_rows()
     ensures { ResultsGoByRows }
 {}

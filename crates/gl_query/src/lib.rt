@@ -12,6 +12,6 @@ pub use columns::Sources;
 pub use fault::QueryFault;
 pub use gl_bits::{Op, Sort};
 pub use tree::{
-    Agg, AggItem, AggItems, Expr, Item, ItemList, Name, Num, Nums, Pick, Query, Statement,
+    Agg, AggItem, AggItems, Expr, Item, ItemList, Measure, Name, Num, Nums, Pick, Query, Statement,
     TextBytes,
 };

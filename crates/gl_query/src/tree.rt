@@ -107,6 +107,15 @@ pub enum Pick {
     Items(ItemList),
 }
 
+/// What the sizes and the advances of windows count.
+#[derive(Clone, Copy, PartialEq, Eq, Debug)]
+pub enum Measure {
+    /// The rows of the source.
+    Tuples,
+    /// The ticks of the clock.
+    Time,
+}
+
 /// A query: what it reads and what it makes of it.
 #[derive(Drop, Debug)]
 pub enum Query {
@@ -125,6 +134,15 @@ pub enum Query {
     },
     /// The body over each window of the source.
     Each {
+        var: Name,
+        source: Box<Query>,
+        size: Num,
+        advance: Num,
+        body: Box<Query>,
+        at: u64,
+    },
+    /// The body over each window of time of the source, a stream.
+    EachTime {
         var: Name,
         source: Box<Query>,
         size: Num,

@@ -1,13 +1,16 @@
 //! Faults of queries, and the columns of those that have none.
 
-ghost use Rattle.std.specs.Prelude.{◌≡◌, ◌*◌, [], map, nat_le, option_map, IfOk};
-ghost use Rattle.gl_bits.specs.Limits.{most_copies};
+ghost use Rattle.std.specs.Prelude.{◌≡◌, ◌≤◌, [], map, nat_le, option_map, IfOk};
+ghost use Rattle.gl_bits.specs.Limits.{most_copies, most_rows};
+ghost use Rattle.gl_query.specs.Accepted as accepted;
 ghost use Rattle.gl_query.specs.Accepted.{columns_under};
 ghost use Rattle.gl_query.specs.Alike.{agg_item_alike, pick_alike, query_alike};
 ghost use Rattle.gl_query.specs.Columns as columns;
 ghost use Rattle.gl_query.specs.Faults as faults;
+ghost use Rattle.gl_query.specs.declared.fault.QueryFault.TheVariants as fault;
 ghost use Rattle.gl_query.specs.Sources.{scope_of};
 ghost use Rattle.gl_query.specs.Columns.{agg_column, picked_columns};
+ghost use Rattle.gl_query.specs.Windows.{copies_of};
 ghost use Rattle.gl_query.specs.Trees.{agg_item_tree, filter_tree, pick_tree, query_tree};
 ghost use Rattle.gl_query_check.specs.Answers.{Answers};
 ghost use Rattle.gl_query_check.specs.Paces.{pace};
@@ -22,7 +25,7 @@ use gl_bits::limits::{MOST_COLUMNS, MOST_COPIES, MOST_GROUPS, MOST_ROWS};
 use gl_query::columns::{
     agg_columns, group_columns, joined_columns, picked_columns, source_columns,
 };
-use gl_query::{AggItem, AggItems, Expr, Name, Num, Pick, Query, QueryFault, Sources};
+use gl_query::{AggItem, AggItems, Expr, Measure, Name, Num, Pick, Query, QueryFault, Sources};
 use gl_schema::{Column, Columns};
 use std::alloc::Global;
 
@@ -36,42 +39,72 @@ fn is_closing(query: &Query) -> bool
         Query::Rows { source, .. } => is_closing(source),
         Query::Total { .. } => true,
         Query::Each { source, .. } => is_closing(source),
+        Query::EachTime { .. } => false,
         Query::PerGroup { .. } => true,
         Query::Union { left, right, .. } => is_closing(left) && is_closing(right),
         Query::Concat { left, right, .. } => is_closing(left) && is_closing(right),
     }
 }
 
+// Whether the rows of a query have times: it is a stream of the schema itself.
+#[tactic(auto, using(gl_query::proofs::Alike::query_same))]
+fn has_times(sources: Sources<'_>, query: &Query) -> bool
+    ensures { result ≡ accepted.has_times (scope_of sources.entry)
+        (query_alike (query_tree query.now)) }
+{
+    match query {
+        Query::Read(_) => match sources {
+            Sources::Schema(_) => true,
+            Sources::Variable(..) => false,
+        },
+        Query::Rows { .. }
+        | Query::Total { .. }
+        | Query::Each { .. }
+        | Query::EachTime { .. }
+        | Query::PerGroup { .. }
+        | Query::Union { .. }
+        | Query::Concat { .. } => false,
+    }
+}
+
+// Whether no more windows are open at once than may be.
+fn keeps_copies(measure: Measure, size: u128, advance: u128) -> bool
+    requires { 1 ≤ advance }
+    ensures { result ≡ nat_le (copies_of measure size advance) most_copies }
+{
+    match measure {
+        Measure::Tuples => size.div_ceil(advance) <= MOST_COPIES,
+        Measure::Time => size / advance < MOST_COPIES,
+    }
+}
+
+// The first fault of a window's advance, and of how many are open at once.
+fn advance_fault(measure: Measure, size: Num, advance: Num) -> Option<QueryFault>
+    ensures { let within = faults.is_within advance.value most_rows in
+        let keeps = nat_le (copies_of measure size.value advance.value) most_copies in
+        result ≡ faults.or_else (faults.unless within (fault.OutOfRange advance.at))
+        (faults.unless keeps (fault.OutOfRange size.at)) }
+{
+    if !is_within(advance.value, MOST_ROWS) {
+        return Some(QueryFault::OutOfRange { at: advance.at });
+    }
+    unless(
+        keeps_copies(measure, size.value, advance.value),
+        QueryFault::OutOfRange { at: size.at },
+    )
+}
+
 // The first fault of a window's numbers.
-fn window_fault(size: Num, advance: Num) -> Option<QueryFault>
-    ensures { result ≡ faults.window_fault size advance }
+fn window_fault(measure: Measure, size: Num, advance: Num) -> Option<QueryFault>
+    ensures { result ≡ faults.window_fault measure size advance }
 {
     or_else(
         unless(
             is_within(size.value, MOST_ROWS),
             QueryFault::OutOfRange { at: size.at },
         ),
-        or_else(
-            unless(
-                is_within(advance.value, MOST_ROWS),
-                QueryFault::OutOfRange { at: advance.at },
-            ),
-            unless(
-                keeps_copies(size.value, advance.value),
-                QueryFault::OutOfRange { at: size.at },
-            ),
-        ),
+        advance_fault(measure, size, advance),
     )
-}
-
-// Whether no more windows are open at once than may be.
-fn keeps_copies(size: u128, advance: u128) -> bool
-    ensures { result ≡ nat_le size (most_copies * advance) }
-{
-    match advance.checked_mul(MOST_COPIES) {
-        Some(most) => size <= most,
-        None => true,
-    }
 }
 
 /// How many rows a query gives: one, or one for each row of a source.
@@ -92,7 +125,10 @@ fn pace_of(query: &Query) -> Option<Pace<'_>>
             Some(_) => None,
         },
         Query::Total { .. } => Some(Pace::Once),
-        Query::Each { .. } | Query::PerGroup { .. } | Query::Union { .. } => None,
+        Query::Each { .. }
+        | Query::EachTime { .. }
+        | Query::PerGroup { .. }
+        | Query::Union { .. } => None,
         Query::Concat { left, .. } => pace_of(left),
     }
 }
@@ -222,7 +258,24 @@ pub fn columns_checked(
             at,
         } => {
             let columns = columns_checked(alloc, sources, source)?;
-            refuse(window_fault(*size, *advance))?;
+            refuse(window_fault(Measure::Tuples, *size, *advance))?;
+            let inside = Sources::Variable(var.text.as_slice(), columns.as_slice());
+            let out = columns_checked(alloc, inside, body)?;
+            refuse(unless(is_closing(body), QueryFault::NotClosing { at: *at }))?;
+            Ok(out)
+        }
+        Query::EachTime {
+            var,
+            source,
+            size,
+            advance,
+            body,
+            at,
+        } => {
+            let columns = columns_checked(alloc, sources, source)?;
+            let timed = has_times(sources, source);
+            refuse(unless(timed, QueryFault::NoTime { at: *at }))?;
+            refuse(window_fault(Measure::Time, *size, *advance))?;
             let inside = Sources::Variable(var.text.as_slice(), columns.as_slice());
             let out = columns_checked(alloc, inside, body)?;
             refuse(unless(is_closing(body), QueryFault::NotClosing { at: *at }))?;

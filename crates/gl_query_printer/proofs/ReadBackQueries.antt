@@ -3,6 +3,7 @@ use Rattle.std.proofs.Common.{◌≡◌, ℕ, Bool, true, false, List, [], ◌�
 use Rattle.std.specs.List.{AllByRecursion}
 use Rattle.std.proofs.lemmas.Bool.{true≢false}
 use Rattle.gl_bits.specs.declared.op.Op.TheVariants as op
+use Rattle.gl_query.specs.declared.tree.Measure.{Measure}
 use Rattle.gl_query.specs.Shapes.{ExprShape, ItemShape, AggItemShape, PickShape, QueryShape}
 use Rattle.gl_query.specs.Shapes as shape
 use Rattle.gl_query_tokens.specs.declared.token.Join.{Join}
@@ -13,7 +14,7 @@ use Rattle.gl_query_tokens.specs.declared.token.Token.TheVariants as token
 use Rattle.gl_query_reader.specs.declared.written.Window.{Window}
 use Rattle.gl_query_reader.specs.declared.written.Grouping.{Grouping}
 use Rattle.gl_query_reader.specs.Written as written
-use Rattle.gl_query_reader.specs.Written.{AreItems, IsPick, IsFilter, IsQuery, IsSource, IsTerm, spell, spell_items, spell_pick, spell_window, spell_filter, spell_grouping, spell_query}
+use Rattle.gl_query_reader.specs.Written.{AreItems, IsPick, IsFilter, IsQuery, IsSource, IsTerm, measure_word, spell, spell_items, spell_pick, spell_window, spell_filter, spell_grouping, spell_query}
 use Rattle.gl_query.specs.Trees as meant
 use Rattle.gl_query_reader.specs.Meaning.{expr_meaning, is_total, by_pick, by_items, query_meaning, join_meaning}
 use Rattle.gl_query_reader.specs.Mixed.{first_other, mixed_plain, mixed_pick, mixed_in, least}
@@ -96,27 +97,29 @@ read_filter (Some e) c us h =
 
 -- ---- queries
 
-pub record ReadWindow (us : List Token) (size advance : ℕ) : Type 0 where
+pub record ReadWindow (us : List Token) (measure : Measure) (size advance : ℕ) : Type 0 where
   pub window : Window
   pub spelled : spell_window window ≡ us
+  pub measure_is : window.measure ≡ measure
   pub size_is : window.size.value ≡ size
   pub advance_is : window.advance.value ≡ advance
 
-read_window : (size advance : ℕ) (us : List Token) → map placeless us ≡ spell_window (window_of size advance) → ReadWindow us size advance
-read_window size advance us h =
+read_window : (measure : Measure) (size advance : ℕ) (us : List Token) → map placeless us ≡ spell_window (window_of measure size advance) → ReadWindow us measure size advance
+read_window measure size advance us h =
     let end : List Token = token.Plain plain.RightSquare ∷ [] in
-    let after_size : List Token = token.Plain plain.Advance ∷ token.Number (num_of advance) ∷ token.Plain plain.Tuples ∷ end in
+    let after_size : List Token = token.Plain plain.Advance ∷ token.Number (num_of advance) ∷ token.Plain (measure_word measure) ∷ end in
     let a = first us (token.Plain plain.LeftSquare) (token.Size 0 ∷ token.Number (num_of size) ∷ after_size) h in
     let b = first a.rest (token.Size 0) (token.Number (num_of size) ∷ after_size) a.rest_is in
     let s = first b.rest (token.Number (num_of size)) after_size b.rest_is in
-    let c = first s.rest (token.Plain plain.Advance) (token.Number (num_of advance) ∷ token.Plain plain.Tuples ∷ end) s.rest_is in
-    let d = first c.rest (token.Number (num_of advance)) (token.Plain plain.Tuples ∷ end) c.rest_is in
-    let t = first d.rest (token.Plain plain.Tuples) end d.rest_is in
+    let c = first s.rest (token.Plain plain.Advance) (token.Number (num_of advance) ∷ token.Plain (measure_word measure) ∷ end) s.rest_is in
+    let d = first c.rest (token.Number (num_of advance)) (token.Plain (measure_word measure) ∷ end) c.rest_is in
+    let t = first d.rest (token.Plain (measure_word measure)) end d.rest_is in
     let k = alone t.rest (token.Plain plain.RightSquare) t.rest_is in
     record {
-      window = record { at = b.at; size = record { value = size; at = s.at }; advance = record { value = advance; at = d.at } };
+      window = record { at = b.at; size = record { value = size; at = s.at }; advance = record { value = advance; at = d.at }; measure = measure };
       spelled = cons (token.Plain plain.LeftSquare) us a.rest _ a.whole (cons (token.Size b.at) a.rest b.rest _ b.whole (cons (token.Number (record { value = size; at = s.at })) b.rest s.rest _ s.whole
-          (cons (token.Plain plain.Advance) s.rest c.rest _ c.whole (cons (token.Number (record { value = advance; at = d.at })) c.rest d.rest _ d.whole (cons (token.Plain plain.Tuples) d.rest t.rest _ t.whole (sym k.whole))))));
+          (cons (token.Plain plain.Advance) s.rest c.rest _ c.whole (cons (token.Number (record { value = advance; at = d.at })) c.rest d.rest _ d.whole (cons (token.Plain (measure_word measure)) d.rest t.rest _ t.whole (sym k.whole))))));
+      measure_is = refl;
       size_is = refl;
       advance_is = refl;
     }
@@ -171,7 +174,7 @@ no_stream : (q : QueryShape) → is_stream (query_of q) ≡ false → IsNoStream
 no_stream (shape.Read name) h = absurd (true≢false h)
 no_stream (shape.Rows pick filter source) h = tt
 no_stream (shape.Total aggs source) h = tt
-no_stream (shape.Each var source size advance body) h = tt
+no_stream (shape.Each measure var source size advance body) h = tt
 no_stream (shape.PerGroup var source key groups body) h = tt
 no_stream (shape.Union l r) h = tt
 no_stream (shape.Concat l r) h = tt
@@ -258,8 +261,9 @@ alike_rows : (p : written.Pick) (f : Option written.Expr) (s : written.Query) (p
 alike_rows p f s pick filter source a b c =
     a (option_map expr_meaning f) (query_meaning s) ∙ ap (λ (o : Option ExprShape). shape.Rows pick o (query_alike (query_meaning s))) b ∙ ap (shape.Rows pick filter) c
 
-alike_each : (var : List ℕ) (a b s m : ℕ) (x y source body : QueryShape) → x ≡ source → a ≡ s → b ≡ m → y ≡ body → shape.Each var x a b y ≡ shape.Each var source s m body
-alike_each var a b s m x y source body e f g h = rw (e, f, g, h) refl
+alike_each : (by measure : Measure) (var : List ℕ) (a b s m : ℕ) (x y source body : QueryShape) → by ≡ measure → x ≡ source → a ≡ s → b ≡ m → y ≡ body
+    → shape.Each by var x a b y ≡ shape.Each measure var source s m body
+alike_each by measure var a b s m x y source body d e f g h = rw (d, e, f, g, h) refl
 
 alike_groups : (var k key : List ℕ) (a n : ℕ) (x y source body : QueryShape) → x ≡ source → k ≡ key → a ≡ n → y ≡ body → shape.PerGroup var x k a y ≡ shape.PerGroup var source key n body
 alike_groups var k key a n x y source body e f g h = rw (e, f, g, h) refl
@@ -355,12 +359,12 @@ read_query (shape.Total aggs source) c us h =
       mixed = none_mixed (mixed_pick x.tree None) (mixed_in y.tree) x.mixed y.mixed;
       alike = x.alike (query_meaning y.tree) ∙ ap (shape.Total aggs) y.alike;
     }
-read_query (shape.Each var source size advance body) c us h =
+read_query (shape.Each measure var source size advance body) c us h =
     let end : List Token = token.Open 0 ∷ (spell_query (query_of body) ++ token.Plain plain.Close ∷ []) in
-    let windows = spell_window (window_of size advance) in
+    let windows = spell_window (window_of measure size advance) in
     let a = read_head var source (windows ++ end) (λ vs k. read_query source c.1 vs k) us h in
     let p = parts a.rest windows end a.rest_is in
-    let w = read_window size advance p.front p.front_is in
+    let w = read_window measure size advance p.front p.front_is in
     let b = read_body body c.5 (λ vs k. read_query body c.4 vs k) p.back p.back_is in
     record {
       tree = written.Windows a.at (record { text = var; at = a.name_at }) a.tree w.window b.at b.tree;
@@ -369,7 +373,7 @@ read_query (shape.Each var source size advance body) c us h =
       bare = λ e. absurd (true≢false (sym e));
       term = λ n e. (a.grammar, b.grammar);
       mixed = none_mixed (mixed_in a.tree) (mixed_in b.tree) a.mixed b.mixed;
-      alike = alike_each var w.window.size.value w.window.advance.value size advance (query_alike (query_meaning a.tree)) (query_alike (query_meaning b.tree)) source body a.alike w.size_is w.advance_is b.alike;
+      alike = alike_each w.window.measure measure var w.window.size.value w.window.advance.value size advance (query_alike (query_meaning a.tree)) (query_alike (query_meaning b.tree)) source body w.measure_is a.alike w.size_is w.advance_is b.alike;
     }
 read_query (shape.PerGroup var source key groups body) c us h =
     let end : List Token = token.Open 0 ∷ (spell_query (query_of body) ++ token.Plain plain.Close ∷ []) in

@@ -4,6 +4,8 @@ use Rattle.std.specs.Prelude.{codes, if◌then◌else◌}
 use Rattle.std.specs.List.{AllByRecursion}
 use Rattle.gl_bits.specs.declared.op.Op.{Op}
 use Rattle.gl_bits.specs.declared.op.Op.TheVariants as op
+use Rattle.gl_query.specs.declared.tree.Measure.{Measure}
+use Rattle.gl_query.specs.declared.tree.Measure.TheVariants.{Tuples, Time}
 use Rattle.gl_query.specs.Shapes.{ExprShape, AggShape, ItemShape, AggItemShape, PickShape, QueryShape, StatementShape}
 use Rattle.gl_query.specs.Shapes as shape
 use Rattle.gl_query_tokens.specs.declared.token.Fold.{Fold}
@@ -17,7 +19,7 @@ use Rattle.gl_query_tokens.specs.declared.token.Token.TheVariants as token
 use Rattle.gl_query_tokens.specs.Tokens.{class_of, follow_of, sign_token}
 use Rattle.gl_query_tokens.specs.Words.{is_keyword, word_token}
 use Rattle.gl_query_reader.specs.Written as written
-use Rattle.gl_query_reader.specs.Written.{spell, spell_numbers, spell_agg, spell_item, spell_items, spell_pick, spell_window, spell_filter, spell_grouping, spell_query}
+use Rattle.gl_query_reader.specs.Written.{measure_word, spell, spell_numbers, spell_agg, spell_item, spell_items, spell_pick, spell_window, spell_filter, spell_grouping, spell_query}
 use Rattle.gl_query_printer.specs.Canonical.{name_of, num_of, fitted, expr_of, agg_of, is_bare, item_of, agg_item_of, pick_of, bracketed_unless, source_of, term_of, window_of, grouping_of, query_of, canonical_tokens}
 use Rattle.gl_query_printer.specs.declared.text.Behind.{Behind}
 use Rattle.gl_query_printer.specs.declared.text.Behind.TheVariants.{Opening, Aggregate, Operand, Sign, Other}
@@ -87,6 +89,10 @@ advance_readable = no_number refl (λ p. plain_readable plain.Advance refl (λ a
 tuples_readable : Readable (token.Plain plain.Tuples)
 unfolding token_text plain_text place_behind class_of word_token is_keyword
 tuples_readable = no_number refl (λ p. plain_readable plain.Tuples refl (λ at. refl))
+
+time_readable : Readable (token.Plain plain.Time)
+unfolding token_text plain_text place_behind class_of word_token is_keyword
+time_readable = no_number refl (λ p. plain_readable plain.Time refl (λ at. refl))
 
 into_readable : Readable (token.Plain plain.Into)
 unfolding token_text plain_text place_behind class_of word_token is_keyword
@@ -232,8 +238,12 @@ bracketed : (b : Bool) (q : written.Query) → AreReadable (spell_query q) → A
 bracketed true q h = h
 bracketed false q h = (open_readable, join (spell_query q) _ h closed)
 
-window_readable : (size advance : ℕ) → IsSmall size → IsSmall advance → AreReadable (spell_window (window_of size advance))
-window_readable size advance s a = (left_readable, (size_readable, (number_readable size s, (advance_readable, (number_readable advance a, (tuples_readable, (right_readable, tt)))))))
+measure_readable : (measure : Measure) → Readable (token.Plain (measure_word measure))
+measure_readable Tuples = tuples_readable
+measure_readable Time = time_readable
+
+window_readable : (measure : Measure) (size advance : ℕ) → IsSmall size → IsSmall advance → AreReadable (spell_window (window_of measure size advance))
+window_readable measure size advance s a = (left_readable, (size_readable, (number_readable size s, (advance_readable, (number_readable advance a, (measure_readable measure, (right_readable, tt)))))))
 
 grouping_readable : (key : List ℕ) (groups : ℕ) → IsNameWord key → IsSmall groups → AreReadable (spell_grouping (grouping_of key groups))
 grouping_readable key groups k g = (by_readable, (name_readable key k, (groups_readable, (number_readable groups g, tt))))
@@ -250,14 +260,14 @@ query_readable (shape.Rows pick filter source) c =
     (select_readable, join (spell_pick (pick_of pick)) _ (pick_readable pick c.0) (from_readable, join (spell_query (source_of (query_of source))) _ (bracketed _ (query_of source) (query_readable source c.2)) (join (spell_filter (option_map expr_of filter)) [] (filter_readable filter c.1) tt)))
 query_readable (shape.Total aggs source) c =
     (select_readable, join (spell_items (map agg_item_of aggs)) _ (items_readable agg_item_of CanBeAggItem agg_item_readable aggs c.1) (from_readable, join (spell_query (source_of (query_of source))) [] (bracketed _ (query_of source) (query_readable source c.2)) tt))
-query_readable (shape.Each var source size advance body) c = (
+query_readable (shape.Each measure var source size advance body) c = (
   each_readable,
   (
     name_readable var c.0,
     (
       in_readable,
       join (spell_query (source_of (query_of source))) _ (bracketed _ (query_of source) (query_readable source c.1))
-          (join (spell_window (window_of size advance)) (in_brackets (query_of body)) (window_readable size advance c.2 c.3) (body_readable (query_of body) (query_readable body c.4))),
+          (join (spell_window (window_of measure size advance)) (in_brackets (query_of body)) (window_readable measure size advance c.2 c.3) (body_readable (query_of body) (query_readable body c.4))),
     ),
   ),
 )

@@ -77,7 +77,7 @@ abbrev pub IsNoStream : QueryShape → Type 0
 IsNoStream (shape.Read name) = ⊥
 IsNoStream (shape.Rows pick filter source) = Unit {0}
 IsNoStream (shape.Total aggs source) = Unit {0}
-IsNoStream (shape.Each var source size advance body) = Unit {0}
+IsNoStream (shape.Each measure var source size advance body) = Unit {0}
 IsNoStream (shape.PerGroup var source key groups body) = Unit {0}
 IsNoStream (shape.Union l r) = Unit {0}
 IsNoStream (shape.Concat l r) = Unit {0}
@@ -86,7 +86,7 @@ abbrev pub CanBeSource : QueryShape → Type 0
 CanBeSource (shape.Read name) = IsNameWord name
 CanBeSource (shape.Rows pick filter source) = CanBePick pick × CanBeFilter filter × CanBeSource source
 CanBeSource (shape.Total aggs source) = Some' aggs × AllByRecursion CanBeAggItem aggs × CanBeSource source
-CanBeSource (shape.Each var source size advance body) = IsNameWord var × CanBeSource source × IsSmall size × IsSmall advance × CanBeSource body × IsNoStream body
+CanBeSource (shape.Each measure var source size advance body) = IsNameWord var × CanBeSource source × IsSmall size × IsSmall advance × CanBeSource body × IsNoStream body
 CanBeSource (shape.PerGroup var source key groups body) = IsNameWord var × CanBeSource source × IsNameWord key × IsSmall groups × CanBeSource body × IsNoStream body
 CanBeSource (shape.Union l r) = CanBeSource l × IsNoStream l × CanBeSource r × IsNoStream r
 CanBeSource (shape.Concat l r) = CanBeSource l × IsNoStream l × CanBeSource r × IsNoStream r

@@ -1,6 +1,7 @@
 -- The statement that the canonical text writes: brackets stand exactly where the grammar needs them.
 use Rattle.std.specs.Prelude.{ℕ, Bool, true, false, List, map, bytes_eq, nat_le, nat_lt, None, option_map, if◌then◌else◌}
 use Rattle.gl_schema.specs.SchemaText.{kind_text}
+use Rattle.gl_query.specs.declared.tree.Measure.{Measure}
 use Rattle.gl_query.specs.declared.tree.Name.{Name}
 use Rattle.gl_query.specs.declared.tree.Num.{Num}
 use Rattle.gl_query.specs.Shapes.{ExprShape, AggShape, ItemShape, AggItemShape, PickShape, QueryShape, StatementShape}
@@ -73,8 +74,9 @@ source_of q = bracketed_unless (is_stream q) q
 abbrev pub term_of : Query → Query
 term_of q = bracketed_unless (is_term q) q
 
-abbrev pub window_of : ℕ → ℕ → Window
-window_of size advance = record { at = 0; size = num_of size; advance = num_of advance }
+abbrev pub window_of : Measure → ℕ → ℕ → Window
+window_of measure size advance =
+    record { at = 0; size = num_of size; advance = num_of advance; measure = measure }
 
 abbrev pub grouping_of : List ℕ → ℕ → Grouping
 grouping_of key groups = record { at = 0; key = name_of key; groups = num_of groups }
@@ -84,8 +86,8 @@ query_of (shape.Read name) = Stream (name_of name)
 query_of (shape.Rows pick filter source) =
     Select (pick_of pick) (source_of (query_of source)) None (option_map expr_of filter) None
 query_of (shape.Total aggs source) = Select (Items (map agg_item_of aggs)) (source_of (query_of source)) None None None
-query_of (shape.Each var source size advance body) =
-    Windows 0 (name_of var) (source_of (query_of source)) (window_of size advance) 0 (query_of body)
+query_of (shape.Each measure var source size advance body) =
+    Windows 0 (name_of var) (source_of (query_of source)) (window_of measure size advance) 0 (query_of body)
 query_of (shape.PerGroup var source key groups body) =
     Groups 0 (name_of var) (source_of (query_of source)) (grouping_of key groups) 0 (query_of body)
 query_of (shape.Union l r) = Join' Union 0 (query_of l) (term_of (query_of r))

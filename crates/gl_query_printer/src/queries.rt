@@ -13,7 +13,7 @@ use crate::expressions::put_expr;
 use crate::items::{put_aggs, put_pick};
 use crate::tokens::{close_unless, open_unless, put, put_name, put_number, put_open, put_plain};
 use gl_bits::Memory;
-use gl_query::{AggItem, Expr, Name, Num, Pick, Query, Statement};
+use gl_query::{AggItem, Expr, Measure, Name, Num, Pick, Query, Statement};
 use gl_query_tokens::{Join, Plain, Token};
 use std::alloc::Global;
 
@@ -91,17 +91,32 @@ fn begin_each(alloc: Global, tokens: &mut Vec<Token>, var: &Name, bare: bool) ->
     open_unless(tokens, bare)
 }
 
+// The word for what a window counts.
+fn measure_word(measure: Measure) -> Plain
+    ensures { result ≡ written.measure_word measure }
+{
+    match measure {
+        Measure::Tuples => Plain::Tuples,
+        Measure::Time => Plain::Time,
+    }
+}
+
 // Puts a window, and the bracket of the body.
-fn put_window(tokens: &mut Vec<Token>, size: Num, advance: Num) -> Result<(), Memory>
-    ensures { OnOk result (tokens.new.items ≡ tokens.old.items
-        ++ written.spell_window (window_of size.value advance.value) ++ token.Open 0 ∷ []) }
+fn put_window(
+    tokens: &mut Vec<Token>,
+    measure: Measure,
+    size: Num,
+    advance: Num,
+) -> Result<(), Memory>
+    ensures { OnOk result (tokens.new.items ≡ tokens.old.items ++ written.spell_window
+        (window_of measure size.value advance.value) ++ token.Open 0 ∷ []) }
 {
     put_plain(tokens, Plain::LeftSquare)?;
     put(tokens, Token::Size { at: 0 })?;
     put_number(tokens, size.value)?;
     put_plain(tokens, Plain::Advance)?;
     put_number(tokens, advance.value)?;
-    put_plain(tokens, Plain::Tuples)?;
+    put_plain(tokens, measure_word(measure))?;
     put_plain(tokens, Plain::RightSquare)?;
     put_open(tokens)
 }
@@ -166,7 +181,22 @@ fn put_query(alloc: Global, tokens: &mut Vec<Token>, query: &Query) -> Result<()
             begin_each(alloc, tokens, var, is_stream(source))?;
             put_query(alloc, tokens, source)?;
             close_unless(tokens, is_stream(source))?;
-            put_window(tokens, *size, *advance)?;
+            put_window(tokens, Measure::Tuples, *size, *advance)?;
+            put_query(alloc, tokens, body)?;
+            put_plain(tokens, Plain::Close)
+        }
+        Query::EachTime {
+            var,
+            source,
+            size,
+            advance,
+            body,
+            ..
+        } => {
+            begin_each(alloc, tokens, var, is_stream(source))?;
+            put_query(alloc, tokens, source)?;
+            close_unless(tokens, is_stream(source))?;
+            put_window(tokens, Measure::Time, *size, *advance)?;
             put_query(alloc, tokens, body)?;
             put_plain(tokens, Plain::Close)
         }

@@ -6,6 +6,7 @@ use Rattle.gl_schema.specs.SchemaText.{kind_text}
 use Rattle.gl_schema.specs.SchemaFaults.{kind_named}
 use Rattle.gl_schema.specs.Written.{is_written, kinds}
 use Rattle.gl_schema.proofs.KindTable.{kind_is_named}
+use Rattle.gl_query.specs.declared.tree.Measure.TheVariants.{Tuples}
 use Rattle.gl_query.specs.declared.tree.Name.{Name}
 use Rattle.gl_query.specs.declared.tree.Num.{Num}
 use Rattle.gl_bits.specs.declared.op.Op.TheVariants as op
@@ -17,8 +18,8 @@ use Rattle.gl_query_tokens.specs.Sorts.{plain_eq, is_plain}
 use Rattle.gl_query_reader.specs.declared.written.Window.{Window}
 use Rattle.gl_query_reader.specs.declared.written.Grouping.{Grouping}
 use Rattle.gl_query_reader.specs.Written.{Expr, Column, Brackets, Cast, Not, Binary, Agg, Fold', Wsum, Item, Pick, All, Items, Query, Stream, InBrackets, Select, Groups, Join', Statement}
-use Rattle.gl_query_reader.specs.States.{State, Frame, Head, BodyHead, GroupsHead, Unnamed, SelectHead, EachHead, WindowsHead, GroupsHead', SelectGroups, EachGroups, UnnamedExpr, UnnamedAgg, LeftOf, NotOf, BracketOf, InCast, InItem, InFold, InWsum, InFilter, JoinOf, InQuery, InSource, InBody, WantKind, WantWeightsOpen, WantWeight, HaveWeight, WantWsumClose, WantAs, WantItemName, HaveItem, WantSource, HaveSource, HaveEachSource, WantSize, WantSizeNumber, WantAdvance, WantAdvanceNumber, WantTuples, WantWindowClose, WantKey, WantGroups, WantGroupsNumber, WantBody, HaveTerm, WantName, HaveName, WantEnd}
-use Rattle.gl_query_reader.specs.Machine.{Reduced, reduced, have_term, after_expr, after_source, after_window, after_groups, body_of, under_name, is_operator, step, finish}
+use Rattle.gl_query_reader.specs.States.{after_window, measured, State, Frame, Head, BodyHead, GroupsHead, Unnamed, SelectHead, EachHead, WindowsHead, GroupsHead', SelectGroups, EachGroups, UnnamedExpr, UnnamedAgg, LeftOf, NotOf, BracketOf, InCast, InItem, InFold, InWsum, InFilter, JoinOf, InQuery, InSource, InBody, WantKind, WantWeightsOpen, WantWeight, HaveWeight, WantWsumClose, WantAs, WantItemName, HaveItem, WantSource, HaveSource, HaveEachSource, WantSize, WantSizeNumber, WantAdvance, WantAdvanceNumber, WantMeasure, WantWindowClose, WantKey, WantGroups, WantGroupsNumber, WantBody, HaveTerm, WantName, HaveName, WantEnd}
+use Rattle.gl_query_reader.specs.Machine.{Reduced, reduced, have_term, after_expr, after_source, after_groups, body_of, under_name, is_operator, step, finish}
 use Rattle.gl_query_reader.proofs.Steps.{steps, state, is-machine}
 use Rattle.gl_query_reader.proofs.ReadExpressions.{wanting, having, reduced-not, reduced-binary, looseness-le}
 use Rattle.gl_query_reader.proofs.ReadQueries.{Follows, close-follows, into-follows, have-source, have-whole, term-alone}
@@ -310,22 +311,19 @@ window_close_step fs head source w = refl
 pub window_close_ends : (fs : List Frame) (head : Head) (source : Query) (w : Window) → Fits fs → InTerm fs → Ends (state (WantWindowClose head source w) fs)
 window_close_ends fs head source w f i = by_token _ (state (after_window head source w) fs) (token.Plain plain.RightSquare) (window_close_step fs head source w) (after_window_ends fs head source w f i)
 
-tuples_step : (fs : List Frame) (head : Head) (source : Query) (w : Window) → step (state (WantTuples head source w) fs) (token.Plain plain.Tuples) ≡ Some (state (WantWindowClose head source w) fs)
-unfolding step plain_eq
-tuples_step fs head source w = refl
+measure_step : (fs : List Frame) (head : Head) (source : Query) (at : ℕ) (size advance : Num) → step (state (WantMeasure head source at size advance) fs) (token.Plain plain.Tuples) ≡ Some (state (WantWindowClose head source (measured at size advance Tuples)) fs)
+unfolding step
+measure_step fs head source at size advance = refl
 
-pub tuples_ends : (fs : List Frame) (head : Head) (source : Query) (w : Window) → Fits fs → InTerm fs → Ends (state (WantTuples head source w) fs)
-tuples_ends fs head source w f i = by_token _ (state (WantWindowClose head source w) fs) (token.Plain plain.Tuples) (tuples_step fs head source w) (window_close_ends fs head source w f i)
+pub measure_ends : (fs : List Frame) (head : Head) (source : Query) (at : ℕ) (size advance : Num) → Fits fs → InTerm fs → Ends (state (WantMeasure head source at size advance) fs)
+measure_ends fs head source at size advance f i = by_token _ (state (WantWindowClose head source (measured at size advance Tuples)) fs) (token.Plain plain.Tuples) (measure_step fs head source at size advance) (window_close_ends fs head source (measured at size advance Tuples) f i)
 
-abbrev pub window_at : ℕ → Num → Window
-window_at at size = record { at = at; size = size; advance = some_number }
-
-advance_number_step : (fs : List Frame) (head : Head) (source : Query) (at : ℕ) (size : Num) → step (state (WantAdvanceNumber head source at size) fs) (token.Number some_number) ≡ Some (state (WantTuples head source (window_at at size)) fs)
+advance_number_step : (fs : List Frame) (head : Head) (source : Query) (at : ℕ) (size : Num) → step (state (WantAdvanceNumber head source at size) fs) (token.Number some_number) ≡ Some (state (WantMeasure head source at size some_number) fs)
 unfolding step
 advance_number_step fs head source at size = refl
 
 pub advance_number_ends : (fs : List Frame) (head : Head) (source : Query) (at : ℕ) (size : Num) → Fits fs → InTerm fs → Ends (state (WantAdvanceNumber head source at size) fs)
-advance_number_ends fs head source at size f i = by_token _ (state (WantTuples head source (window_at at size)) fs) (token.Number some_number) (advance_number_step fs head source at size) (tuples_ends fs head source (window_at at size) f i)
+advance_number_ends fs head source at size f i = by_token _ (state (WantMeasure head source at size some_number) fs) (token.Number some_number) (advance_number_step fs head source at size) (measure_ends fs head source at size some_number f i)
 
 advance_step : (fs : List Frame) (head : Head) (source : Query) (at : ℕ) (size : Num) → step (state (WantAdvance head source at size) fs) (token.Plain plain.Advance) ≡ Some (state (WantAdvanceNumber head source at size) fs)
 unfolding step plain_eq

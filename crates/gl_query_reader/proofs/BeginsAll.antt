@@ -10,14 +10,14 @@ use Rattle.gl_query_tokens.specs.declared.token.Token.TheVariants as token
 use Rattle.gl_query_tokens.specs.Sorts.{plain_eq}
 use Rattle.gl_query_reader.specs.declared.written.Window.{Window}
 use Rattle.gl_query_reader.specs.Written.{Expr, Column, Minus, Cast, Count, Item, Pick, All, Query, Stream}
-use Rattle.gl_query_reader.specs.States.{State, Control, Frame, SelectHead, EachHead, SelectGroups, InCast, InItem, InFold, InWsum, WantTerm, WantItem, WantOperand, WantMinus, HaveExpr, WantCastOpen, WantKind, WantCastClose, WantCountOpen, WantCountClose, WantFoldOpen, WantWsumOpen, WantWeightsOpen, WantWeight, HaveWeight, WantWsumClose, WantAs, WantItemName, HaveItem, WantFrom, WantSource, HaveSource, HaveEachSource, WantSize, WantSizeNumber, WantAdvance, WantAdvanceNumber, WantTuples, WantWindowClose, WantBy, WantKey, WantGroups, WantGroupsNumber, WantVar, WantIn, WantBody, HaveTerm, WantName, HaveName, WantEnd}
+use Rattle.gl_query_reader.specs.States.{State, Control, Frame, SelectHead, EachHead, SelectGroups, InCast, InItem, InFold, InWsum, WantTerm, WantItem, WantOperand, WantMinus, HaveExpr, WantCastOpen, WantKind, WantCastClose, WantCountOpen, WantCountClose, WantFoldOpen, WantWsumOpen, WantWeightsOpen, WantWeight, HaveWeight, WantWsumClose, WantAs, WantItemName, HaveItem, WantFrom, WantSource, HaveSource, HaveEachSource, WantSize, WantSizeNumber, WantAdvance, WantAdvanceNumber, WantMeasure, WantWindowClose, WantBy, WantKey, WantGroups, WantGroupsNumber, WantVar, WantIn, WantBody, HaveTerm, WantName, HaveName, WantEnd}
 use Rattle.gl_query_reader.specs.Machine.{step}
 use Rattle.gl_query_reader.proofs.Steps.{steps, state}
 use Rattle.gl_query_reader.proofs.ReadExpressions.{wanting, having}
 use Rattle.gl_query_reader.specs.Grammar.{CanBegin}
 use Rattle.gl_query_reader.proofs.Said.{InTerm, Fits, Holds, Read}
 use Rattle.gl_query_reader.proofs.Sound.{sound_steps, sound_finish}
-use Rattle.gl_query_reader.proofs.Begins.{some_name, some_number, some_word, Ends, by_token, by_tokens, all_text, named_ends, closed_ends, unnamed_ends, have_term_ends, have_source_ends, want_body_ends, have_each_ends, have_item_ends, item_name_ends, as_ends, wsum_close_ends, have_weight_ends, weight_ends, weights_open_ends, kind_then, expr_ends, have_expr_ends, operand_ends, want_source_ends, window_close_ends, tuples_ends, advance_number_ends, advance_ends, size_number_ends, size_ends, groups_number_ends, groups_ends, key_ends}
+use Rattle.gl_query_reader.proofs.Begins.{some_name, some_number, some_word, Ends, by_token, by_tokens, all_text, named_ends, closed_ends, unnamed_ends, have_term_ends, have_source_ends, want_body_ends, have_each_ends, have_item_ends, item_name_ends, as_ends, wsum_close_ends, have_weight_ends, weight_ends, weights_open_ends, kind_then, expr_ends, have_expr_ends, operand_ends, want_source_ends, window_close_ends, measure_ends, advance_number_ends, advance_ends, size_number_ends, size_ends, groups_number_ends, groups_ends, key_ends}
 
 -- ---- single tokens before these
 
@@ -108,7 +108,7 @@ state_ends (WantSize head source) fs f h = size_ends fs head source f h.0
 state_ends (WantSizeNumber head source at) fs f h = size_number_ends fs head source at f h.0
 state_ends (WantAdvance head source at size) fs f h = advance_ends fs head source at size f h.0
 state_ends (WantAdvanceNumber head source at size) fs f h = advance_number_ends fs head source at size f h.0
-state_ends (WantTuples head source w) fs f h = tuples_ends fs head source w f h.0
+state_ends (WantMeasure head source at size advance) fs f h = measure_ends fs head source at size advance f h.0
 state_ends (WantWindowClose head source w) fs f h = window_close_ends fs head source w f h.0
 state_ends (WantBy pick source window filter) fs f h = by_token _ (state (WantKey (SelectGroups pick source window filter) 0) fs) (token.By 0) (by_step fs pick source window filter) (key_ends fs (SelectGroups pick source window filter) 0 f h.0)
 state_ends (WantKey head at) fs f h = key_ends fs head at f h.0

@@ -1,6 +1,8 @@
 -- The items of a select, and what else it has beside its source: within the limits exactly where the counts of its tokens keep them.
 use Rattle.std.proofs.Common.{ℕ, ◌+◌, ◌-◌, ◌≤◌, Bool, true, false, List, [], ◌∷◌, ◌++◌, max, Option, Some, None, refl, arith}
 use Rattle.std.specs.List.{AllByRecursion}
+use Rattle.gl_query.specs.declared.tree.Measure.{Measure}
+use Rattle.gl_query.specs.declared.tree.Measure.TheVariants.{Tuples, Time}
 use Rattle.gl_query.specs.declared.tree.Num.{Num}
 use Rattle.gl_query_tokens.specs.declared.token.Plain.TheVariants as plain
 use Rattle.gl_query_tokens.specs.declared.token.Token.{Token}
@@ -9,6 +11,7 @@ use Rattle.gl_query_reader.specs.declared.written.Window.{Window}
 use Rattle.gl_query_reader.specs.declared.written.Grouping.{Grouping}
 use Rattle.gl_query_reader.specs.Limits.{IsSmall}
 use Rattle.gl_query_reader.specs.Sizes.{expr_depth, agg_depth, item_depth, items_depth, pick_depth, filter_depth, operators_of, AggIsShort, ItemIsShort, PickIsShort, FilterIsShort}
+use Rattle.gl_query_reader.specs.States.{measured}
 use Rattle.gl_query_reader.specs.Written.{Expr, Agg, Count, Fold', Wsum, Item, Bare, Named, Total, Pick, All, Items, spell, spell_numbers, spell_agg, spell_item, spell_items, spell_pick, spell_window, spell_if_window, spell_filter, spell_grouping, spell_if_grouping}
 use Rattle.gl_query_reader.proofs.Limiting.{counts, Keeps, over, under, parted, paired, keeps_at, small_at, limited, limits}
 
@@ -179,13 +182,23 @@ pub limits_pick : (p : Pick) (b j : ℕ) (rest : List Token) → j ≤ 64 → b 
 limits_pick (All at) b j rest g m s h = under (small_at b 0 j true (omega arith) (omega arith) g) (h 0 true (omega arith))
 limits_pick (Items items) b j rest g m s h = limits_items items b j rest g m s h
 
-pub window_to : (w : Window) (b o j : ℕ) (d : Bool) (rest : List Token) → Keeps (counts b o j d) (spell_window w ++ rest) → Keeps (counts b o j false) rest
-window_to w b o j d rest h = (over (over (over (over (over (over (over h).1).1).1).1).1).1).1
+words_to : (at : ℕ) (size advance : Num) (m : Measure) (b o j : ℕ) (d : Bool) (rest : List Token) → Keeps (counts b o j d) (spell_window (measured at size advance m) ++ rest) → Keeps (counts b o j false) rest
+words_to at size advance Tuples b o j d rest h = (over (over (over (over (over (over (over h).1).1).1).1).1).1).1
+words_to at size advance Time b o j d rest h = (over (over (over (over (over (over (over h).1).1).1).1).1).1).1
 
-pub window_from : (w : Window) (b o j : ℕ) (d : Bool) (rest : List Token) → b ≤ 32 → o ≤ 256 → j ≤ 64 → Keeps (counts b o j false) rest → Keeps (counts b o j d) (spell_window w ++ rest)
-window_from w b o j d rest e f g h =
+words_from : (at : ℕ) (size advance : Num) (m : Measure) (b o j : ℕ) (d : Bool) (rest : List Token) → b ≤ 32 → o ≤ 256 → j ≤ 64 → Keeps (counts b o j false) rest → Keeps (counts b o j d) (spell_window (measured at size advance m) ++ rest)
+words_from at size advance Tuples b o j d rest e f g h =
     let s = small_at b o j false e f g in
     under (small_at b o j true e f g) (under s (under s (under s (under s (under s (under s h))))))
+words_from at size advance Time b o j d rest e f g h =
+    let s = small_at b o j false e f g in
+    under (small_at b o j true e f g) (under s (under s (under s (under s (under s (under s h))))))
+
+pub window_to : (w : Window) (b o j : ℕ) (d : Bool) (rest : List Token) → Keeps (counts b o j d) (spell_window w ++ rest) → Keeps (counts b o j false) rest
+window_to w b o j d rest h = words_to w.at w.size w.advance w.measure b o j d rest h
+
+pub window_from : (w : Window) (b o j : ℕ) (d : Bool) (rest : List Token) → b ≤ 32 → o ≤ 256 → j ≤ 64 → Keeps (counts b o j false) rest → Keeps (counts b o j d) (spell_window w ++ rest)
+window_from w b o j d rest e f g h = words_from w.at w.size w.advance w.measure b o j d rest e f g h
 
 pub grouping_to : (g : Grouping) (b o j : ℕ) (d : Bool) (rest : List Token) → Keeps (counts b o j d) (spell_grouping g ++ rest) → Keeps (counts b o j false) rest
 grouping_to g b o j d rest h = (over (over (over (over h).1).1).1).1

@@ -1,6 +1,9 @@
 -- A query that is spelled is read again, and no tokens have two statements.
 use Rattle.std.proofs.Common.{◌≡◌, ℕ, Bool, true, false, List, [], ◌∷◌, ◌++◌, Option, Some, None, refl, sym, ap, ◌∙◌, append_assoc, arith}
+use Rattle.gl_query.specs.declared.tree.Measure.{Measure}
+use Rattle.gl_query.specs.declared.tree.Measure.TheVariants.{Tuples, Time}
 use Rattle.gl_query.specs.declared.tree.Name.{Name}
+use Rattle.gl_query.specs.declared.tree.Num.{Num}
 use Rattle.gl_query_tokens.specs.declared.token.Join.{Join}
 use Rattle.gl_query_tokens.specs.declared.token.Plain.TheVariants as plain
 use Rattle.gl_query_tokens.specs.declared.token.Token.{Token}
@@ -8,8 +11,8 @@ use Rattle.gl_query_tokens.specs.declared.token.Token.TheVariants as token
 use Rattle.gl_query_tokens.specs.Sorts.{plain_eq, is_plain}
 use Rattle.gl_query_reader.specs.declared.written.Window.{Window}
 use Rattle.gl_query_reader.specs.declared.written.Grouping.{Grouping}
-use Rattle.gl_query_reader.specs.Written.{Expr, Pick, Query, Stream, InBrackets, Select, Windows, Groups, Join', Statement, IsPick, IsQuery, IsSource, IsTerm, IsFilter, spell, spell_pick, spell_window, spell_if_window, spell_filter, spell_grouping, spell_if_grouping, spell_query, spell_end, spell_statement}
-use Rattle.gl_query_reader.specs.States.{State, Frame, InFilter, JoinOf, InQuery, InSource, InBody, Head, SelectHead, EachHead, WindowsHead, GroupsHead', WantTerm, WantSource, HaveSource, HaveEachSource, HaveTerm, WantName, HaveName, WantEnd, start}
+use Rattle.gl_query_reader.specs.Written.{Expr, Pick, Query, Stream, InBrackets, Select, Windows, Groups, Join', Statement, IsPick, IsQuery, IsSource, IsTerm, IsFilter, measure_word, spell, spell_pick, spell_window, spell_if_window, spell_filter, spell_grouping, spell_if_grouping, spell_query, spell_end, spell_statement}
+use Rattle.gl_query_reader.specs.States.{after_window, measured, State, Frame, InFilter, JoinOf, InQuery, InSource, InBody, Head, SelectHead, EachHead, WindowsHead, GroupsHead', WantSize, WantTerm, WantSource, HaveSource, HaveEachSource, HaveTerm, WantName, HaveName, WantEnd, start}
 use Rattle.gl_query_reader.specs.Machine.{Joined, reduced, joined, after_source, after_query, have_term, is_operator, step, finish}
 use Rattle.gl_query_reader.specs.Grammar.{Derives}
 use Rattle.gl_query_reader.proofs.Steps.{steps, state, is-machine}
@@ -105,10 +108,18 @@ source-open : (head : Head) (at : ℕ) (fs : List Frame) (rest : List Token) →
 unfolding steps step
 source-open head at fs rest = refl
 
+-- the words of a window are read
+reads_words : (head : Head) (source : Query) (at : ℕ) (size advance : Num) (m : Measure) (fs : List Frame) (rest : List Token)
+    → steps (state (WantSize head source) fs) (token.Size at ∷ token.Number size ∷ token.Plain plain.Advance ∷ token.Number advance ∷ token.Plain (measure_word m) ∷ token.Plain plain.RightSquare ∷ rest)
+    ≡ steps (state (after_window head source (measured at size advance m)) fs) rest
+unfolding steps step plain_eq
+reads_words head source at size advance Tuples fs rest = refl
+reads_words head source at size advance Time fs rest = refl
+
 reads_window : (pick : Pick) (source : Query) (w : Option Window) (fs : List Frame) (rest : List Token) → steps (state (HaveSource pick source None) fs) (spell_if_window w ++ rest) ≡ steps (state (HaveSource pick source w) fs) rest
 unfolding steps step plain_eq
 reads_window pick source None fs rest = refl
-reads_window pick source (Some w) fs rest = refl
+reads_window pick source (Some w) fs rest = reads_words (SelectHead pick) source w.at w.size w.advance w.measure fs rest
 
 reads_grouping : (pick : Pick) (source : Query) (w : Option Window) (g : Grouping) (fs : List Frame) (rest : List Token) → steps (state (HaveSource pick source w) fs) (spell_if_grouping (Some g) ++ rest) ≡ steps (state (HaveTerm (Select pick source w None (Some g))) fs) rest
 unfolding steps step plain_eq
@@ -142,7 +153,7 @@ begin-each at var fs rest = refl
 each-window : (at : ℕ) (var : Name) (source : Query) (w : Window) (open' : ℕ) (fs : List Frame) (rest : List Token)
     → steps (state (HaveEachSource at var source) fs) (spell_window w ++ token.Open open' ∷ rest) ≡ steps (state WantTerm (InBody (WindowsHead at var source w) open' ∷ fs)) rest
 unfolding steps step plain_eq
-each-window at var source w open' fs rest = refl
+each-window at var source w open' fs rest = reads_words (EachHead at var) source w.at w.size w.advance w.measure fs (token.Open open' ∷ rest)
 
 each-groups : (at : ℕ) (var : Name) (source : Query) (g : Grouping) (open' : ℕ) (fs : List Frame) (rest : List Token)
     → steps (state (HaveEachSource at var source) fs) (spell_grouping g ++ token.Open open' ∷ rest) ≡ steps (state WantTerm (InBody (GroupsHead' at var source g) open' ∷ fs)) rest

@@ -4,6 +4,8 @@ use Rattle.std.specs.Prelude.{option_and_then}
 use Rattle.std.proofs.lemmas.Bool.{false≢true}
 use Rattle.std.proofs.lemmas.List.{append-nil}
 use Rattle.gl_schema.specs.SchemaFaults.{kind_named}
+use Rattle.gl_query.specs.declared.tree.Measure.{Measure}
+use Rattle.gl_query.specs.declared.tree.Measure.TheVariants.{Tuples, Time}
 use Rattle.gl_query.specs.declared.tree.Name.{Name}
 use Rattle.gl_query.specs.declared.tree.Num.{Num}
 use Rattle.gl_bits.specs.declared.op.Op.TheVariants as op
@@ -12,8 +14,8 @@ use Rattle.gl_query_tokens.specs.declared.token.Plain.TheVariants as plain
 use Rattle.gl_query_tokens.specs.declared.token.Token.{Token}
 use Rattle.gl_query_tokens.specs.declared.token.Token.TheVariants as token
 use Rattle.gl_query_tokens.specs.Sorts.{plain_eq, is_plain, name_in, number_in, open_in, size_in, by_in}
-use Rattle.gl_query_reader.specs.Written.{Wsum, Item, Items, Query, left_looseness, looseness, level, IsExpr, IsAgg, AreItems, IsPick, IsFilter, IsQuery, IsSource, IsTerm, spell, spell_numbers, spell_agg, spell_items, spell_pick, spell_window, spell_if_window, spell_filter, spell_grouping, spell_query}
-use Rattle.gl_query_reader.specs.States.{State, Control, Frame, Head, BodyHead, GroupsHead, Unnamed, SelectHead, EachHead, WindowsHead, GroupsHead', SelectGroups, EachGroups, UnnamedExpr, UnnamedAgg, LeftOf, NotOf, BracketOf, InCast, InItem, InFold, InWsum, InFilter, JoinOf, InQuery, InSource, InBody, WantTerm, WantItem, WantOperand, WantMinus, HaveExpr, WantCastOpen, WantKind, WantCastClose, WantCountOpen, WantCountClose, WantFoldOpen, WantWsumOpen, WantWeightsOpen, WantWeight, HaveWeight, WantWsumClose, WantAs, WantItemName, HaveItem, WantFrom, WantSource, HaveSource, HaveEachSource, WantSize, WantSizeNumber, WantAdvance, WantAdvanceNumber, WantTuples, WantWindowClose, WantBy, WantKey, WantGroups, WantGroupsNumber, WantVar, WantIn, WantBody, HaveTerm, WantName, HaveName, WantEnd}
+use Rattle.gl_query_reader.specs.Written.{Wsum, Item, Items, Query, left_looseness, looseness, level, IsExpr, IsAgg, AreItems, IsPick, IsFilter, IsQuery, IsSource, IsTerm, spell, spell_numbers, spell_agg, spell_items, measure_word, spell_pick, spell_window, spell_if_window, spell_filter, spell_grouping, spell_query}
+use Rattle.gl_query_reader.specs.States.{measure_in, State, Control, Frame, Head, BodyHead, GroupsHead, Unnamed, SelectHead, EachHead, WindowsHead, GroupsHead', SelectGroups, EachGroups, UnnamedExpr, UnnamedAgg, LeftOf, NotOf, BracketOf, InCast, InItem, InFold, InWsum, InFilter, JoinOf, InQuery, InSource, InBody, WantTerm, WantItem, WantOperand, WantMinus, HaveExpr, WantCastOpen, WantKind, WantCastClose, WantCountOpen, WantCountClose, WantFoldOpen, WantWsumOpen, WantWeightsOpen, WantWeight, HaveWeight, WantWsumClose, WantAs, WantItemName, HaveItem, WantFrom, WantSource, HaveSource, HaveEachSource, WantSize, WantSizeNumber, WantAdvance, WantAdvanceNumber, WantMeasure, WantWindowClose, WantBy, WantKey, WantGroups, WantGroupsNumber, WantVar, WantIn, WantBody, HaveTerm, WantName, HaveName, WantEnd}
 use Rattle.gl_query_reader.specs.Machine.{room}
 use Rattle.gl_query_reader.proofs.Steps.{state}
 use Rattle.gl_query_reader.proofs.ReadQueries.{NoJoin}
@@ -102,8 +104,8 @@ control_text (WantSize head source) = in_source head source (token.Plain plain.L
 control_text (WantSizeNumber head source at) = in_source head source (token.Plain plain.LeftSquare ∷ token.Size at ∷ [])
 control_text (WantAdvance head source at size) = in_source head source (token.Plain plain.LeftSquare ∷ token.Size at ∷ token.Number size ∷ [])
 control_text (WantAdvanceNumber head source at size) = in_source head source (token.Plain plain.LeftSquare ∷ token.Size at ∷ token.Number size ∷ token.Plain plain.Advance ∷ [])
-control_text (WantTuples head source w) = in_source head source (token.Plain plain.LeftSquare ∷ token.Size w.at ∷ token.Number w.size ∷ token.Plain plain.Advance ∷ token.Number w.advance ∷ [])
-control_text (WantWindowClose head source w) = in_source head source (token.Plain plain.LeftSquare ∷ token.Size w.at ∷ token.Number w.size ∷ token.Plain plain.Advance ∷ token.Number w.advance ∷ token.Plain plain.Tuples ∷ [])
+control_text (WantMeasure head source at size advance) = in_source head source (token.Plain plain.LeftSquare ∷ token.Size at ∷ token.Number size ∷ token.Plain plain.Advance ∷ token.Number advance ∷ [])
+control_text (WantWindowClose head source w) = in_source head source (token.Plain plain.LeftSquare ∷ token.Size w.at ∷ token.Number w.size ∷ token.Plain plain.Advance ∷ token.Number w.advance ∷ token.Plain (measure_word w.measure) ∷ [])
 control_text (WantBy pick source window filter) = groups_text (SelectGroups pick source window filter)
 control_text (WantKey head at) = groups_text head ++ token.By at ∷ []
 control_text (WantGroups head at key) = groups_text head ++ token.By at ∷ token.Name key ∷ []
@@ -201,7 +203,7 @@ Holds (WantSize head source) fs = InTerm fs × IsHead head × IsSource source
 Holds (WantSizeNumber head source at) fs = InTerm fs × IsHead head × IsSource source
 Holds (WantAdvance head source at size) fs = InTerm fs × IsHead head × IsSource source
 Holds (WantAdvanceNumber head source at size) fs = InTerm fs × IsHead head × IsSource source
-Holds (WantTuples head source w) fs = InTerm fs × IsHead head × IsSource source
+Holds (WantMeasure head source at size advance) fs = InTerm fs × IsHead head × IsSource source
 Holds (WantWindowClose head source w) fs = InTerm fs × IsHead head × IsSource source
 Holds (WantBy pick source window filter) fs = InTerm fs × IsGroupsHead (SelectGroups pick source window filter)
 Holds (WantKey head at) fs = InTerm fs × IsGroupsHead head
@@ -275,6 +277,12 @@ by_open t f s' done e g = absurd cc
 pub by_size : (t : Token) (f : ℕ → Option State) (s' : State) (done : List Token) → option_and_then f (size_in t) ≡ Some s' → ((n : ℕ) → f n ≡ Some s' → Read s' (done ++ token.Size n ∷ [])) → Read s' (done ++ t ∷ [])
 by_size (token.Size n) f s' done e g = g n e
 by_size t f s' done e g = absurd cc
+
+pub by_measure : (t : Token) (f : Measure → Option State) (s' : State) (done : List Token) → option_and_then f (measure_in t) ≡ Some s' → ((m : Measure) → f m ≡ Some s' → Read s' (done ++ token.Plain (measure_word m) ∷ [])) → Read s' (done ++ t ∷ [])
+by_measure (token.Plain plain.Tuples) f s' done e g = g Tuples e
+by_measure (token.Plain plain.Time) f s' done e g = g Time e
+by_measure (token.Plain p) f s' done e g = absurd cc
+by_measure t f s' done e g = absurd cc
 
 pub by_by : (t : Token) (f : ℕ → Option State) (s' : State) (done : List Token) → option_and_then f (by_in t) ≡ Some s' → ((n : ℕ) → f n ≡ Some s' → Read s' (done ++ token.By n ∷ [])) → Read s' (done ++ t ∷ [])
 by_by (token.By n) f s' done e g = g n e

@@ -7,11 +7,11 @@ use Rattle.gl_query_tokens.specs.declared.token.Plain.TheVariants as plain
 use Rattle.gl_query_tokens.specs.declared.token.Token.{Token}
 use Rattle.gl_query_tokens.specs.declared.token.Token.TheVariants as token
 use Rattle.gl_query_reader.specs.declared.written.Window.{Window}
-use Rattle.gl_query_reader.specs.Written.{Expr, Pick, Query, Stream, InBrackets, Select, Windows, Groups, Join', IsQuery, IsTerm, spell_pick, spell_window, spell_if_window, spell_filter, spell_grouping, spell_query}
-use Rattle.gl_query_reader.specs.States.{State, Control, Frame, Head, BodyHead, GroupsHead, SelectHead, EachHead, WindowsHead, GroupsHead', SelectGroups, EachGroups, InFilter, JoinOf, InQuery, InSource, InBody, WantTerm, WantItem, WantOperand, WantSource, HaveSource, HaveEachSource, WantSize, WantSizeNumber, WantAdvance, WantAdvanceNumber, WantTuples, WantWindowClose, WantBy, WantKey, WantGroups, WantGroupsNumber, WantVar, WantIn, WantBody, HaveTerm, WantName, HaveName, WantEnd}
+use Rattle.gl_query_reader.specs.Written.{Expr, Pick, Query, Stream, InBrackets, Select, Windows, Groups, Join', IsQuery, IsTerm, measure_word, spell_pick, spell_window, spell_if_window, spell_filter, spell_grouping, spell_query}
+use Rattle.gl_query_reader.specs.States.{measured, State, Control, Frame, Head, BodyHead, GroupsHead, SelectHead, EachHead, WindowsHead, GroupsHead', SelectGroups, EachGroups, InFilter, JoinOf, InQuery, InSource, InBody, WantTerm, WantItem, WantOperand, WantSource, HaveSource, HaveEachSource, WantSize, WantSizeNumber, WantAdvance, WantAdvanceNumber, WantMeasure, WantWindowClose, WantBy, WantKey, WantGroups, WantGroupsNumber, WantVar, WantIn, WantBody, HaveTerm, WantName, HaveName, WantEnd}
 use Rattle.gl_query_reader.specs.Machine.{have_term, after_query, close_query, end_query, begin_window, step_at}
 use Rattle.gl_query_reader.proofs.ReadQueries.{NoJoin}
-use Rattle.gl_query_reader.proofs.Said.{head_text, body_text, groups_text, before, control_text, InTerm, Fits, Holds, Read, by_some, by_if, by_plain, by_name, by_number, by_open, by_size, by_by, go_on, go_in}
+use Rattle.gl_query_reader.proofs.Said.{head_text, body_text, groups_text, before, control_text, InTerm, Fits, Holds, Read, by_some, by_if, by_plain, by_name, by_number, by_open, by_measure, by_size, by_by, go_on, go_in}
 
 -- a control that keeps what was read, whatever token comes
 abbrev pub Keeps : Control → Type 0
@@ -174,17 +174,17 @@ pub keeps_advance : (head : Head) (source : Query) (at : ℕ) (size : Num) → K
 keeps_advance head source at size fs t s' f h e = by_plain plain.Advance t _ s' _ e (go_on (control_text (WantAdvance head source at size)) (WantAdvanceNumber head source at size) fs (token.Plain plain.Advance) f h (behind_source (head_text head) (spell_query source) (token.Plain plain.LeftSquare ∷ token.Size at ∷ token.Number size ∷ []) (token.Plain plain.Advance)))
 
 pub keeps_advance_number : (head : Head) (source : Query) (at : ℕ) (size : Num) → Keeps (WantAdvanceNumber head source at size)
-keeps_advance_number head source at size fs t s' f h e = by_number t _ s' _ e (λ n d. by_some _ s' _ d (go_on (control_text (WantAdvanceNumber head source at size)) (WantTuples head source (record { at = at; size = size; advance = n })) fs (token.Number n) f h (behind_source (head_text head) (spell_query source) (token.Plain plain.LeftSquare ∷ token.Size at ∷ token.Number size ∷ token.Plain plain.Advance ∷ []) (token.Number n))))
+keeps_advance_number head source at size fs t s' f h e = by_number t _ s' _ e (λ n d. by_some _ s' _ d (go_on (control_text (WantAdvanceNumber head source at size)) (WantMeasure head source at size n) fs (token.Number n) f h (behind_source (head_text head) (spell_query source) (token.Plain plain.LeftSquare ∷ token.Size at ∷ token.Number size ∷ token.Plain plain.Advance ∷ []) (token.Number n))))
 
-pub keeps_tuples : (head : Head) (source : Query) (w : Window) → Keeps (WantTuples head source w)
-keeps_tuples head source w fs t s' f h e = by_plain plain.Tuples t _ s' _ e (go_on (control_text (WantTuples head source w)) (WantWindowClose head source w) fs (token.Plain plain.Tuples) f h (behind_source (head_text head) (spell_query source) (token.Plain plain.LeftSquare ∷ token.Size w.at ∷ token.Number w.size ∷ token.Plain plain.Advance ∷ token.Number w.advance ∷ []) (token.Plain plain.Tuples)))
+pub keeps_measure : (head : Head) (source : Query) (at : ℕ) (size advance : Num) → Keeps (WantMeasure head source at size advance)
+keeps_measure head source at size advance fs t s' f h e = by_measure t _ s' _ e (λ m d. by_some _ s' _ d (go_on (control_text (WantMeasure head source at size advance)) (WantWindowClose head source (measured at size advance m)) fs (token.Plain (measure_word m)) f h (behind_source (head_text head) (spell_query source) (token.Plain plain.LeftSquare ∷ token.Size at ∷ token.Number size ∷ token.Plain plain.Advance ∷ token.Number advance ∷ []) (token.Plain (measure_word m)))))
 
 close_select_window : (p q : List Token) (more : List Token) (t : Token) → ((token.Plain plain.Select ∷ (p ++ token.Plain plain.From ∷ [])) ++ (q ++ more)) ++ t ∷ [] ≡ token.Plain plain.Select ∷ (p ++ token.Plain plain.From ∷ (q ++ (more ++ t ∷ [])))
 close_select_window p q more t = simp append_assoc
 
 pub keeps_window_close : (head : Head) (source : Query) (w : Window) → Keeps (WantWindowClose head source w)
-keeps_window_close (SelectHead pick) source w fs t s' f h e = by_plain plain.RightSquare t _ s' _ e (go_on (control_text (WantWindowClose (SelectHead pick) source w)) (HaveSource pick source (Some w)) fs (token.Plain plain.RightSquare) f h (close_select_window (spell_pick pick) (spell_query source) (token.Plain plain.LeftSquare ∷ token.Size w.at ∷ token.Number w.size ∷ token.Plain plain.Advance ∷ token.Number w.advance ∷ token.Plain plain.Tuples ∷ []) (token.Plain plain.RightSquare)))
-keeps_window_close (EachHead at var) source w fs t s' f h e = by_plain plain.RightSquare t _ s' _ e (go_on (control_text (WantWindowClose (EachHead at var) source w)) (WantBody (WindowsHead at var source w)) fs (token.Plain plain.RightSquare) f (h.0, h.2) (behind_source (head_text (EachHead at var)) (spell_query source) (token.Plain plain.LeftSquare ∷ token.Size w.at ∷ token.Number w.size ∷ token.Plain plain.Advance ∷ token.Number w.advance ∷ token.Plain plain.Tuples ∷ []) (token.Plain plain.RightSquare)))
+keeps_window_close (SelectHead pick) source w fs t s' f h e = by_plain plain.RightSquare t _ s' _ e (go_on (control_text (WantWindowClose (SelectHead pick) source w)) (HaveSource pick source (Some w)) fs (token.Plain plain.RightSquare) f h (close_select_window (spell_pick pick) (spell_query source) (token.Plain plain.LeftSquare ∷ token.Size w.at ∷ token.Number w.size ∷ token.Plain plain.Advance ∷ token.Number w.advance ∷ token.Plain (measure_word w.measure) ∷ []) (token.Plain plain.RightSquare)))
+keeps_window_close (EachHead at var) source w fs t s' f h e = by_plain plain.RightSquare t _ s' _ e (go_on (control_text (WantWindowClose (EachHead at var) source w)) (WantBody (WindowsHead at var source w)) fs (token.Plain plain.RightSquare) f (h.0, h.2) (behind_source (head_text (EachHead at var)) (spell_query source) (token.Plain plain.LeftSquare ∷ token.Size w.at ∷ token.Number w.size ∷ token.Plain plain.Advance ∷ token.Number w.advance ∷ token.Plain (measure_word w.measure) ∷ []) (token.Plain plain.RightSquare)))
 
 -- ---- groups
 

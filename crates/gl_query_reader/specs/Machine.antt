@@ -16,7 +16,7 @@ use Rattle.gl_query_tokens.specs.Sorts.{is_plain, name_in, number_in, open_in, s
 use Rattle.gl_query_reader.specs.declared.written.Window.{Window}
 use Rattle.gl_query_reader.specs.declared.written.Grouping.{Grouping}
 use Rattle.gl_query_reader.specs.Written.{Expr, Column, Number, Minus, Letters, Brackets, Cast, Not, Binary, Count, Fold', Wsum, Item, Bare, Named, Total, Pick, All, Items, Query, Stream, InBrackets, Select, Windows, Groups, Join', Statement, looseness, left_looseness}
-use Rattle.gl_query_reader.specs.States.{Head, SelectHead, EachHead, BodyHead, WindowsHead, GroupsHead', GroupsHead, SelectGroups, EachGroups, Unnamed, UnnamedExpr, UnnamedAgg, Frame, Control, State, goes, expected, LeftOf, NotOf, BracketOf, InCast, InItem, InFold, InWsum, InFilter, JoinOf, InQuery, InSource, InBody, WantTerm, WantItem, WantOperand, WantMinus, HaveExpr, WantCastOpen, WantKind, WantCastClose, WantCountOpen, WantCountClose, WantFoldOpen, WantWsumOpen, WantWeightsOpen, WantWeight, HaveWeight, WantWsumClose, WantAs, WantItemName, HaveItem, WantFrom, WantSource, HaveSource, HaveEachSource, WantSize, WantSizeNumber, WantAdvance, WantAdvanceNumber, WantTuples, WantWindowClose, WantBy, WantKey, WantGroups, WantGroupsNumber, WantVar, WantIn, WantBody, HaveTerm, WantName, HaveName, WantEnd}
+use Rattle.gl_query_reader.specs.States.{Head, after_window, measure_in, measured, SelectHead, EachHead, BodyHead, WindowsHead, GroupsHead', GroupsHead, SelectGroups, EachGroups, Unnamed, UnnamedExpr, UnnamedAgg, Frame, Control, State, goes, expected, LeftOf, NotOf, BracketOf, InCast, InItem, InFold, InWsum, InFilter, JoinOf, InQuery, InSource, InBody, WantTerm, WantItem, WantOperand, WantMinus, HaveExpr, WantCastOpen, WantKind, WantCastClose, WantCountOpen, WantCountClose, WantFoldOpen, WantWsumOpen, WantWeightsOpen, WantWeight, HaveWeight, WantWsumClose, WantAs, WantItemName, HaveItem, WantFrom, WantSource, HaveSource, HaveEachSource, WantSize, WantSizeNumber, WantAdvance, WantAdvanceNumber, WantMeasure, WantWindowClose, WantBy, WantKey, WantGroups, WantGroupsNumber, WantVar, WantIn, WantBody, HaveTerm, WantName, HaveName, WantEnd}
 
 -- ---- expressions
 
@@ -300,11 +300,11 @@ want_size_number fs head source at t = option_and_then (λ n. goes (WantAdvance 
 
 abbrev pub want_advance_number : List Frame → Head → Query → ℕ → Num → Token → Option State
 want_advance_number fs head source at size t =
-    option_and_then (λ n. goes (WantTuples head source (record { at = at; size = size; advance = n })) fs) (number_in t)
+    option_and_then (λ n. goes (WantMeasure head source at size n) fs) (number_in t)
 
-abbrev pub after_window : Head → Query → Window → Control
-after_window (SelectHead pick) source window = HaveSource pick source (Some window)
-after_window (EachHead at var) source window = WantBody (WindowsHead at var source window)
+abbrev pub want_measure : List Frame → Head → Query → ℕ → Num → Num → Token → Option State
+want_measure fs head source at size advance t =
+    option_and_then (λ m. goes (WantWindowClose head source (measured at size advance m)) fs) (measure_in t)
 
 abbrev pub want_by : List Frame → Pick → Query → Option Window → Option Expr → Token → Option State
 want_by fs pick source window filter t =
@@ -357,7 +357,7 @@ step_at (WantSize head source) fs t = want_size fs head source t
 step_at (WantSizeNumber head source at) fs t = want_size_number fs head source at t
 step_at (WantAdvance head source at size) fs t = expected plain.Advance (WantAdvanceNumber head source at size) fs t
 step_at (WantAdvanceNumber head source at size) fs t = want_advance_number fs head source at size t
-step_at (WantTuples head source window) fs t = expected plain.Tuples (WantWindowClose head source window) fs t
+step_at (WantMeasure head source at size advance) fs t = want_measure fs head source at size advance t
 step_at (WantWindowClose head source window) fs t = expected plain.RightSquare (after_window head source window) fs t
 step_at (WantBy pick source window filter) fs t = want_by fs pick source window filter t
 step_at (WantKey head at) fs t = want_key fs head at t

@@ -86,7 +86,7 @@ grouped p filter (Some g) source =
 abbrev pub select_meaning : written.Pick → Option Window → Option ExprTree → Option Grouping → QueryTree → QueryTree
 select_meaning p None filter g source = grouped p filter g source
 select_meaning p (Some w) filter g source =
-    Each (it w.at) source w.size w.advance (grouped p filter g (Read (it w.at))) w.at
+    Each w.measure (it w.at) source w.size w.advance (grouped p filter g (Read (it w.at))) w.at
 
 abbrev pub join_meaning : Join → QueryTree → QueryTree → ℕ → QueryTree
 join_meaning join.Union l r at = Union l r at
@@ -98,7 +98,7 @@ query_meaning (written.InBrackets at q) = query_meaning q
 query_meaning (written.Select p source window filter grouping) =
     select_meaning p window (option_map expr_meaning filter) grouping (query_meaning source)
 query_meaning (written.Windows at var source window open' body) =
-    Each var (query_meaning source) window.size window.advance (query_meaning body) at
+    Each window.measure var (query_meaning source) window.size window.advance (query_meaning body) at
 query_meaning (written.Groups at var source grouping open' body) =
     PerGroup var (query_meaning source) grouping.key grouping.groups (query_meaning body) at
 query_meaning (written.Join' j at l r) = join_meaning j (query_meaning l) (query_meaning r) at

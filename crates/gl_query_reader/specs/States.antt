@@ -1,13 +1,17 @@
 -- What the reader has read so far: what may follow, and what is open on a stack.
 use Rattle.std.specs.Prelude.{ℕ, List, [], Option, Some, None, if◌then◌else◌}
 use Rattle.gl_bits.specs.declared.kind.Kind.{Kind}
+use Rattle.gl_query.specs.declared.tree.Measure.{Measure}
+use Rattle.gl_query.specs.declared.tree.Measure.TheVariants.{Tuples, Time}
 use Rattle.gl_query.specs.declared.tree.Name.{Name}
 use Rattle.gl_query.specs.declared.tree.Num.{Num}
 use Rattle.gl_bits.specs.declared.op.Op.{Op}
 use Rattle.gl_query_tokens.specs.declared.token.Fold.{Fold}
 use Rattle.gl_query_tokens.specs.declared.token.Join.{Join}
 use Rattle.gl_query_tokens.specs.declared.token.Plain.{Plain}
+use Rattle.gl_query_tokens.specs.declared.token.Plain.TheVariants as plain
 use Rattle.gl_query_tokens.specs.declared.token.Token.{Token}
+use Rattle.gl_query_tokens.specs.declared.token.Token.TheVariants as token
 use Rattle.gl_query_tokens.specs.Sorts.{is_plain}
 use Rattle.gl_query_reader.specs.declared.written.Window.{Window}
 use Rattle.gl_query_reader.specs.declared.written.Grouping.{Grouping}
@@ -77,7 +81,7 @@ pub data Control : Type 0 where
   WantSizeNumber : (head : Head) (source : Query) (at : ℕ) → Control
   WantAdvance : (head : Head) (source : Query) (at : ℕ) (size : Num) → Control
   WantAdvanceNumber : (head : Head) (source : Query) (at : ℕ) (size : Num) → Control
-  WantTuples : (head : Head) (source : Query) (window : Window) → Control
+  WantMeasure : (head : Head) (source : Query) (at : ℕ) (size advance : Num) → Control
   WantWindowClose : (head : Head) (source : Query) (window : Window) → Control
   WantBy : (pick : Pick) (source : Query) (window : Option Window) (filter : Option Expr) → Control
   WantKey : (head : GroupsHead) (at : ℕ) → Control
@@ -105,3 +109,19 @@ goes control fs = Some (record { control = control; frames = fs })
 -- a keyword or a sign leads on
 abbrev pub expected : Plain → Control → List Frame → Token → Option State
 expected wanted next fs t = if is_plain wanted t then goes next fs else None
+
+-- ---- windows
+
+-- what a window counts, by its word
+abbrev pub measure_in : Token → Option Measure
+measure_in (token.Plain plain.Tuples) = Some Tuples
+measure_in (token.Plain plain.Time) = Some Time
+measure_in t = None
+
+abbrev pub measured : ℕ → Num → Num → Measure → Window
+measured at size advance measure = record { at = at; size = size; advance = advance; measure = measure }
+
+-- what follows a window
+abbrev pub after_window : Head → Query → Window → Control
+after_window (SelectHead pick) source window = HaveSource pick source (Some window)
+after_window (EachHead at var) source window = WantBody (WindowsHead at var source window)

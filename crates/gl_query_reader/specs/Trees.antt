@@ -94,7 +94,7 @@ query_of (query.Join' join at p l q r) = Join' join at (query_of l) (query_of r)
 
 -- what an EACH means over what its source means, with what its body means
 abbrev pub over_tree : Over → ℕ → Name → QueryTree → QueryTree → QueryTree
-over_tree (over.Windows w) at var source body = Each var source w.size w.advance body at
+over_tree (over.Windows w) at var source body = Each w.measure var source w.size w.advance body at
 over_tree (over.Groups g) at var source body = PerGroup var source g.key g.groups body at
 
 unfoldable pub each_tree : WrittenEach → QueryTree → QueryTree → QueryTree
@@ -179,7 +179,8 @@ window_control_of (window_control.WantAdvance h at size) =
     states.WantAdvance (head_of h.head) (query_of h.source) at size
 window_control_of (window_control.WantAdvanceNumber h at size) =
     states.WantAdvanceNumber (head_of h.head) (query_of h.source) at size
-window_control_of (window_control.WantTuples h window) = states.WantTuples (head_of h.head) (query_of h.source) window
+window_control_of (window_control.WantMeasure h at size advance) =
+    states.WantMeasure (head_of h.head) (query_of h.source) at size advance
 window_control_of (window_control.WantWindowClose h window) =
     states.WantWindowClose (head_of h.head) (query_of h.source) window
 

@@ -2,12 +2,15 @@
 use Rattle.std.specs.Prelude.{◌≡◌, ℕ, ◌<◌, ◌≤◌, Bool, true, false, List, [], ◌∷◌, ◌++◌, Option, Some, None}
 use Rattle.gl_bits.specs.declared.kind.Kind.{Kind}
 use Rattle.gl_schema.specs.SchemaFaults.{kind_named}
+use Rattle.gl_query.specs.declared.tree.Measure.{Measure}
+use Rattle.gl_query.specs.declared.tree.Measure.TheVariants.{Tuples, Time}
 use Rattle.gl_query.specs.declared.tree.Name.{Name}
 use Rattle.gl_query.specs.declared.tree.Num.{Num}
 use Rattle.gl_bits.specs.declared.op.Op.{Op}
 use Rattle.gl_bits.specs.declared.op.Op.TheVariants as op
 use Rattle.gl_query_tokens.specs.declared.token.Fold.{Fold}
 use Rattle.gl_query_tokens.specs.declared.token.Join.{Join}
+use Rattle.gl_query_tokens.specs.declared.token.Plain.{Plain}
 use Rattle.gl_query_tokens.specs.declared.token.Plain.TheVariants as plain
 use Rattle.gl_query_tokens.specs.declared.token.Token.{Token}
 use Rattle.gl_query_tokens.specs.declared.token.Token.TheVariants as token
@@ -203,11 +206,15 @@ abbrev pub spell_pick : Pick → List Token
 spell_pick (All at) = token.Operator op.Mul at ∷ []
 spell_pick (Items items) = spell_items items
 
--- `[ SIZE n ADVANCE m TUPLES ]`
+abbrev pub measure_word : Measure → Plain
+measure_word Tuples = plain.Tuples
+measure_word Time = plain.Time
+
+-- `[ SIZE n ADVANCE m TUPLES ]`, or with TIME
 abbrev pub spell_window : Window → List Token
 spell_window w =
     token.Plain plain.LeftSquare ∷ token.Size w.at ∷ token.Number w.size ∷ token.Plain plain.Advance
-    ∷ token.Number w.advance ∷ token.Plain plain.Tuples ∷ token.Plain plain.RightSquare ∷ []
+    ∷ token.Number w.advance ∷ token.Plain (measure_word w.measure) ∷ token.Plain plain.RightSquare ∷ []
 
 abbrev pub spell_if_window : Option Window → List Token
 spell_if_window None = []

@@ -6,7 +6,7 @@ ghost use Rattle.gl_query.specs.Trees.{query_tree, statement_tree};
 ghost use Rattle.gl_query_reader.specs.Trees.{each_tree, query_of, statement_of};
 
 use crate::keeping::{Beside, Both, keep_beside, take_both};
-use crate::select_meaning::select_meaning;
+use crate::select_meaning::{each_over, select_meaning};
 use crate::written::{Over, WrittenEach, WrittenQuery, WrittenStatement};
 use gl_bits::boxes::{TwoBoxes, two_boxes};
 use gl_query::{Query, Statement};
@@ -36,14 +36,7 @@ fn each_meaning(
         open: _,
     } = each;
     match over {
-        Over::Windows(window) => Ok(Query::Each {
-            var,
-            source,
-            size: window.size,
-            advance: window.advance,
-            body,
-            at,
-        }),
+        Over::Windows(window) => Ok(each_over(window, var, source, body, at)),
         Over::Groups(grouping) => Ok(Query::PerGroup {
             var,
             source,

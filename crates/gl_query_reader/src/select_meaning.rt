@@ -12,7 +12,7 @@ use crate::written::{
     Grouping, Window, WrittenExpr, WrittenItem, WrittenItems, WrittenPick, WrittenSelect,
 };
 use gl_bits::boxes::{OneBox, TwoBoxes, one_box, two_boxes};
-use gl_query::{Expr, Name, Pick, Query};
+use gl_query::{Expr, Measure, Name, Pick, Query};
 use gl_schema::NameText;
 use std::alloc::{AllocError, Global};
 
@@ -225,33 +225,56 @@ fn window_body(
     grouped(alloc, pick, filter, grouping, Query::Read(name))
 }
 
+/// A body over each window of a source.
+pub fn each_over(window: Window, var: Name, source: Box<Query>, body: Box<Query>, at: u64) -> Query
+    ensures { query_tree result ≡ Each window.measure var (query_tree source.value) window.size
+        window.advance (query_tree body.value) at }
+{
+    let Window {
+        at: _,
+        size,
+        advance,
+        measure,
+    } = window;
+    match measure {
+        Measure::Tuples => Query::Each {
+            var,
+            source,
+            size,
+            advance,
+            body,
+            at,
+        },
+        Measure::Time => Query::EachTime {
+            var,
+            source,
+            size,
+            advance,
+            body,
+            at,
+        },
+    }
+}
+
 fn each_window(
     alloc: Global,
     window: Window,
     source: Query,
     body: Query,
 ) -> Result<Query, AllocError>
-    ensures { IfOk result (λ q. query_tree q ≡ Each (meaning.it window.at) (query_tree source)
-        window.size window.advance (query_tree body) window.at) }
+    ensures { IfOk result (λ q. query_tree q ≡ Each window.measure (meaning.it window.at)
+        (query_tree source) window.size window.advance (query_tree body) window.at) }
 {
-    let Window { at, size, advance } = window;
     let TwoBoxes {
-        kept: at,
+        kept: window,
         first: source,
         second: body,
-    } = two_boxes(alloc, at, source, body)?;
+    } = two_boxes(alloc, window, source, body)?;
     let Beside {
         kept: (source, body),
         made: var,
-    } = keep_beside((source, body), it(alloc, at))?;
-    Ok(Query::Each {
-        var,
-        source,
-        size,
-        advance,
-        body,
-        at,
-    })
+    } = keep_beside((source, body), it(alloc, window.at))?;
+    Ok(each_over(window, var, source, body, window.at))
 }
 
 // A window makes a body for each window.

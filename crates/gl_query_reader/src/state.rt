@@ -268,12 +268,14 @@ pub enum WindowControl {
         at: u64,
         size: Num,
     },
-    /// TUPLES.
-    WantTuples {
+    /// TUPLES or TIME.
+    WantMeasure {
         head: WindowHead,
-        window: Window,
+        at: u64,
+        size: Num,
+        advance: Num,
     },
-    /// `]` behind TUPLES.
+    /// `]` behind TUPLES or TIME.
     WantWindowClose {
         head: WindowHead,
         window: Window,

@@ -10,7 +10,7 @@ use crate::state::{
     BodyHead, Control, Head, QueryControl, SelectFrom, SourceControl, WindowControl, WindowHead,
 };
 use crate::written::{Over, Window};
-use gl_query::Num;
+use gl_query::{Measure, Num};
 use gl_query_tokens::sorts::{number_in, size_in};
 use gl_query_tokens::{Plain, Token};
 
@@ -43,9 +43,48 @@ fn want_advance_number(head: WindowHead, at: u64, size: Num, token: &Token) -> O
         token.now }
 {
     match number_in(token) {
-        Some(advance) => {
-            let window = Window { at, size, advance };
-            Some(Control::Window(WindowControl::WantTuples { head, window }))
+        Some(advance) => Some(Control::Window(WindowControl::WantMeasure {
+            head,
+            at,
+            size,
+            advance,
+        })),
+        None => refuse(head),
+    }
+}
+
+// What a window counts, by its word.
+fn measure_in(token: &Token) -> Option<Measure>
+    ensures { result ≡ states.measure_in token.now }
+{
+    match token {
+        Token::Plain(Plain::Tuples) => Some(Measure::Tuples),
+        Token::Plain(Plain::Time) => Some(Measure::Time),
+        _ => None,
+    }
+}
+
+// TUPLES or TIME.
+fn want_measure(
+    head: WindowHead,
+    at: u64,
+    size: Num,
+    advance: Num,
+    token: &Token,
+) -> Option<Control>
+    ensures { (fs : List states.Frame) → leads result fs
+        ≡ machine.want_measure fs (head_of head.head) (query_of head.source) at size advance
+        token.now }
+{
+    match measure_in(token) {
+        Some(measure) => {
+            let window = Window {
+                at,
+                size,
+                advance,
+                measure,
+            };
+            Some(Control::Window(WindowControl::WantWindowClose { head, window }))
         }
         None => refuse(head),
     }
@@ -54,7 +93,7 @@ fn want_advance_number(head: WindowHead, at: u64, size: Num, token: &Token) -> O
 // What may stand behind a window.
 fn after_window(head: WindowHead, window: Window) -> Control
     ensures { control_of result
-        ≡ machine.after_window (head_of head.head) (query_of head.source) window }
+        ≡ states.after_window (head_of head.head) (query_of head.source) window }
 {
     let WindowHead { head, source } = head;
     match head {
@@ -89,10 +128,12 @@ pub fn step_window(control: WindowControl, token: &Token) -> Option<Control>
         WindowControl::WantAdvanceNumber { head, at, size } => {
             want_advance_number(head, at, size, token)
         }
-        WindowControl::WantTuples { head, window } => {
-            let next = Control::Window(WindowControl::WantWindowClose { head, window });
-            expect(token, Plain::Tuples, next)
-        }
+        WindowControl::WantMeasure {
+            head,
+            at,
+            size,
+            advance,
+        } => want_measure(head, at, size, advance, token),
         WindowControl::WantWindowClose { head, window } => {
             expect(token, Plain::RightSquare, after_window(head, window))
         }

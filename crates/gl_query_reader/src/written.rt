@@ -2,7 +2,7 @@
 //! that every tree of their form has, and the places that a statement keeps.
 
 use gl_bits::{Kind, Listed};
-use gl_query::{Name, Num, Nums, Op, TextBytes};
+use gl_query::{Measure, Name, Num, Nums, Op, TextBytes};
 use gl_query_tokens::{Fold, Join};
 
 /// The items of a select, as written.
@@ -86,12 +86,13 @@ pub enum WrittenPick {
     Items(WrittenItems),
 }
 
-/// A window: the place of SIZE, and its two numbers.
+/// A window: the place of SIZE, its two numbers, and what they count.
 #[derive(Clone, Copy)]
 pub struct Window {
     pub at: u64,
     pub size: Num,
     pub advance: Num,
+    pub measure: Measure,
 }
 
 /// The place of BY, the name behind it, and the number of groups.

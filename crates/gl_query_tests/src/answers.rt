@@ -4,17 +4,20 @@ use gl_bits::{Kind, Listed, Memory, Table};
 use gl_query::columns::columns_of;
 use gl_query::{Sources, Statement};
 use gl_query_reader::read_query;
-use gl_reference::{Answer, evaluate};
+use gl_reference::{Answer, Times, evaluate};
 use gl_schema::value::text_number;
 use gl_schema::{Column, Schema, read_schema};
 use std::alloc::{AllocError, Global};
 
-/// The text of the schema, and the rows that come in on two streams.
+/// The text of the schema, the rows that come in on two streams, the times of the first one's, and
+/// how many ticks come in all.
 #[derive(Drop)]
 pub struct Given {
     pub schema: String,
     pub trades: String,
     pub other: String,
+    pub times: String,
+    pub ticks: String,
 }
 
 // The letters of a field as a number, if the kind has so many; 0 otherwise.
@@ -80,15 +83,47 @@ fn rows_on<'a>(given: &'a Given, name: &[u8]) -> &'a str {
     }
 }
 
+// Times, parted by spaces.
+fn times_of(alloc: Global, text: &str) -> Result<Times, Memory> {
+    let mut times = Listed::new(alloc);
+    for time in text.split_whitespace() {
+        times.push(time.parse::<u64>().unwrap_or(0))?;
+    }
+    Ok(times)
+}
+
+// The times of what comes in on the stream of a name.
+fn times_on<'a>(given: &'a Given, name: &[u8]) -> &'a str {
+    match name {
+        b"trades" => given.times.as_str(),
+        _ => "",
+    }
+}
+
+// What comes in on all streams.
+#[derive(Drop)]
+struct Inputs {
+    tables: Listed<Table>,
+    times: Listed<Times>,
+    ticks: u64,
+}
+
 // What comes in on each stream.
-fn inputs_of(alloc: Global, schema: &Schema, given: &Given) -> Result<Listed<Table>, Memory> {
-    let mut inputs = Listed::new(alloc);
+fn inputs_of(alloc: Global, schema: &Schema, given: &Given) -> Result<Inputs, Memory> {
+    let mut tables = Listed::new(alloc);
+    let mut times = Listed::new(alloc);
     for stream in schema.streams.as_slice() {
         let rows = rows_on(given, stream.name.as_slice());
         let table = table_of(alloc, stream.columns.as_slice(), rows)?;
-        inputs.push(table)?;
+        tables.push(table)?;
+        times.push(times_of(alloc, times_on(given, stream.name.as_slice()))?)?;
     }
-    Ok(inputs)
+    let ticks = given.ticks.as_str().parse::<u64>().unwrap_or(0);
+    Ok(Inputs {
+        tables,
+        times,
+        ticks,
+    })
 }
 
 // Adds a number, which may be below 0.
@@ -155,12 +190,15 @@ fn evaluated(
     schema: &Schema,
     statement: &Statement,
     columns: &[Column],
-    inputs: &[Table],
+    inputs: &Inputs,
 ) -> Result<String, AllocError> {
-    if inputs.len() != schema.streams.len() {
+    let tables = inputs.tables.as_slice();
+    let times = inputs.times.as_slice();
+    let count = schema.streams.len();
+    if tables.len() != count || times.len() != count {
         return String::from_str(alloc, "no inputs");
     }
-    match evaluate(alloc, schema, statement, inputs) {
+    match evaluate(alloc, schema, statement, tables, times, inputs.ticks) {
         Ok(answer) => answer_told(alloc, columns, &answer),
         Err(_) => String::from_str(alloc, "no answer"),
     }
@@ -175,7 +213,7 @@ fn answered_with(
     given: &Given,
 ) -> Result<String, AllocError> {
     match inputs_of(alloc, schema, given) {
-        Ok(inputs) => evaluated(alloc, schema, statement, columns, inputs.as_slice()),
+        Ok(inputs) => evaluated(alloc, schema, statement, columns, &inputs),
         Err(_) => String::from_str(alloc, "out of memory"),
     }
 }

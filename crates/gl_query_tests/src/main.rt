@@ -6,8 +6,9 @@
 //! and of what. A line `schema T` sets the schema, and `check T` checks a statement over it: a fault and its
 //! place, or `accepted`. `print T` prints the canonical text of a statement, and `where C` that of a select
 //! with the condition C. A line `trades ROWS` or `other ROWS` sets the rows that come in on the stream of this
-//! name, and `answer T` prints the rows of a statement over them, with `spill` where groups are left out. In a
-//! text `\009` is the byte 9, and `` `9*T` `` stands for nine times T. Every other line is a remark.
+//! name, a line `times T` the times of those on trades, and `ticks N` how many ticks come in all. `answer T`
+//! prints the rows of a statement over them, with `spill` where groups are left out. In a text `\009` is the
+//! byte 9, and `` `9*T` `` stands for nine times T. Every other line is a remark.
 #![tactic(auto)]
 
 mod answers;
@@ -65,6 +66,8 @@ fn main(rt: HostRuntime) -> io::Result<()> {
         schema: String::new(rt.alloc()),
         trades: String::new(rt.alloc()),
         other: String::new(rt.alloc()),
+        times: String::new(rt.alloc()),
+        ticks: String::new(rt.alloc()),
     };
     for line in rt.lines(rt.alloc()) {
         let line = line?;
@@ -73,6 +76,8 @@ fn main(rt: HostRuntime) -> io::Result<()> {
             "schema" => given.schema = text.to_string(rt.alloc())?,
             "trades" => given.trades = text.to_string(rt.alloc())?,
             "other" => given.other = text.to_string(rt.alloc())?,
+            "times" => given.times = text.to_string(rt.alloc())?,
+            "ticks" => given.ticks = text.to_string(rt.alloc())?,
             _ => print_told(&rt, &given, &line, command, text)?,
         }
     }

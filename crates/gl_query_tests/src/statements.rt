@@ -54,7 +54,7 @@ fn word_of(query: &Query) -> &'static str {
     match query {
         Query::Read(_) => "stream",
         Query::Rows { .. } | Query::Total { .. } => "SELECT",
-        Query::Each { .. } | Query::PerGroup { .. } => "EACH",
+        Query::Each { .. } | Query::EachTime { .. } | Query::PerGroup { .. } => "EACH",
         Query::Union { .. } => "UNION",
         Query::Concat { .. } => "CONCAT",
     }

@@ -14,6 +14,14 @@ accepted = record {
     record { some_size = lit≤ tt; most_size = lit≤ tt; some_advance = lit≤ tt; most_advance = lit≤ tt; copies = lit≤ tt },
     ((refl, record { picks = tt; filters = record { typed = (refl, (refl, refl), refl); bit = refl } }), record { typed = (tt, tt); columns = record { most = lit≤ tt; distinct = (tt, tt) } }),
     refl,
+    refl,
+  );
+  timed = (
+    refl,
+    record { some_size = lit≤ tt; most_size = lit≤ tt; some_advance = lit≤ tt; most_advance = lit≤ tt; copies = lit≤ tt },
+    (refl, record { typed = (tt, tt); columns = record { most = lit≤ tt; distinct = (tt, tt) } }),
+    refl,
+    refl,
   );
   summed = (
     (refl, record { picks = record { typed = (refl, tt); result = record { most = lit≤ tt; distinct = (tt, tt) } }; filters = tt }),
@@ -33,4 +41,7 @@ refused = record {
   unpaced = λ a. let e = a.2.same in cc;
   open' = λ a. let e = a.3 in cc;
   many = λ a. let h = a.1.copies in omega (arith, h);
+  many_times = λ a. let h = a.1.copies in omega (arith, h);
+  no_time = λ a. let e = a.4 in cc;
+  no_time_inside = λ a. let e = a.4 in cc;
 }

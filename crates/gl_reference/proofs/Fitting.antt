@@ -1,5 +1,5 @@
 -- What the parts of an accepted query see over sources whose rows fit, and that their results fit.
-use Rattle.std.proofs.Common.{◌≡◌, ℕ, zero, suc, ◌+◌, ◌<◌, Bool, List, [], ◌∷◌, length, refl, sym, ap, subst, ◌∙◌, map, take, nat_eq, get_or, arith}
+use Rattle.std.proofs.Common.{◌≡◌, ℕ, zero, suc, ◌+◌, ◌<◌, Bool, true, List, [], ◌∷◌, length, refl, sym, ap, subst, ◌∙◌, map, take, nat_eq, get_or, arith}
 use Rattle.std.specs.Prelude.{bytes_eq, slice_index, Option}
 use Rattle.std.specs.List.{AllByRecursion}
 use Rattle.gl_bits.specs.Lists.{Group as GroupOf}
@@ -28,19 +28,19 @@ use Rattle.gl_query.proofs.Holding.{all_filter}
 
 -- ---- sources
 
-scope_is : (env : Env) → AreSources env → IsScope (scope_of env)
-scope_is env s = record { columns = s.columns; kinds = s.kinds }
+scope_is : (env : Env) (timed : Bool) → AreSources env → IsScope (scope_of env timed)
+scope_is env timed s = record { columns = s.columns; kinds = s.kinds }
 
 -- the columns of an accepted query are real, and the rows of its results fit them
-pub rows_fit : (env : Env) (q : QueryShape) (out : List Row) (spill : Bool) → AreSources env → IsAcceptedOver (scope_of env) q → IsResultIn q env out spill
+pub rows_fit : (env : Env) (timed : Bool) (q : QueryShape) (out : List Row) (spill : Bool) → AreSources env → IsAcceptedOver (scope_of env timed) q → IsResultIn q env out spill
     → AreRows (columns_in env q) out
-rows_fit env q out spill s a is = record { kinds = (real q (scope_of env) (scope_is env s) a).kinds; fit = fitting q env out spill a s.rows is }
+rows_fit env timed q out spill s a is = record { kinds = (real q (scope_of env timed) (scope_is env timed s) a).kinds; fit = fitting q env timed out spill a s.rows is }
 
 -- a body over the columns of an accepted query
-pub body_fits : (env : Env) (var : List ℕ) (source body : QueryShape) → AreSources env → IsAcceptedOver (scope_of env) source
+pub body_fits : (env : Env) (timed : Bool) (var : List ℕ) (source body : QueryShape) → AreSources env → IsAcceptedOver (scope_of env timed) source
     → IsAcceptedOver (body_scope var (columns_in env source)) body → IsBody var (columns_in env source) body
-body_fits env var source body s a b =
-    let r = real source (scope_of env) (scope_is env s) a in
+body_fits env timed var source body s a b =
+    let r = real source (scope_of env timed) (scope_is env timed s) a in
     record { result = r.result; kinds = r.kinds; accepted = b }
 
 -- what it sees
@@ -83,12 +83,13 @@ numbered_streams k [] inputs = refl
 numbered_streams k (s ∷ streams) inputs = ap (λ l. s ∷ l) (numbered_streams (k + 1) streams inputs)
 
 -- a statement that is accepted over a schema, over rows that fit it
-pub statement_fits : (schema : Schema) (statement : Statement) (tables : List (List Row)) (env : Env) → IsFit schema statement tables
-    → env ≡ env_of schema (given_inputs tables) → AreSources env × IsAcceptedOver (scope_of env) (query_shape statement.query)
-statement_fits schema statement tables env fit e =
-    let given = ap scope_of e in
-    let named = ap (λ (l : List Stream). schema_scope (record { streams = l })) (numbered_streams 0 schema.streams (given_inputs tables)) in
-    let scope : scope_of env ≡ schema_scope schema = given ∙ named in
+pub statement_fits : (schema : Schema) (statement : Statement) (tables : List (List Row)) (times : List (List ℕ)) (ticks : ℕ) (env : Env)
+    → IsFit schema statement tables times ticks → env ≡ env_of schema (given_inputs tables times ticks)
+    → AreSources env × IsAcceptedOver (scope_of env true) (query_shape statement.query)
+statement_fits schema statement tables times ticks env fit e =
+    let given = ap (λ (z : Env). scope_of z true) e in
+    let named = ap (λ (l : List Stream). schema_scope (record { streams = l })) (numbered_streams 0 schema.streams (given_inputs tables times ticks)) in
+    let scope : scope_of env true ≡ schema_scope schema = given ∙ named in
     let is = subst IsScope (sym scope) (schema_is schema.streams fit.of_schema.streams) in (
       record { columns = is.columns; kinds = is.kinds; rows = subst (HoldsIn IsRowOf) (sym e) fit.rows },
       subst (λ (x : Scope). IsAcceptedOver x (query_shape statement.query)) (sym scope) fit.accepted,

@@ -1,29 +1,31 @@
 -- The result of a form, from the results of its parts.
 use Rattle.std.proofs.Common.{◌≡◌, ℕ, List, ◌++◌, Bool, false, sym, ap, subst, ◌∙◌}
 use Rattle.std.specs.Prelude.{◌||◌, slice_index}
-use Rattle.gl_bits.specs.Lists.{Group, IsInterleaving, groups, has_further, slices}
+use Rattle.gl_bits.specs.Lists.{Group, IsInterleaving, groups, has_further}
 use Rattle.gl_bits.specs.Tables.{keyed_groups}
 use Rattle.gl_bits.specs.declared.lists.Group.{Group as Keyed}
 use Rattle.gl_schema.specs.declared.schema.Column.{Column}
+use Rattle.gl_query.specs.declared.tree.Measure.{Measure}
 use Rattle.gl_query.specs.Shapes.{QueryShape}
 use Rattle.gl_query.specs.Shapes as shape
 use Rattle.gl_query.specs.Values.{column_number}
 use Rattle.gl_bits.specs.Results.{Row, AreBeside}
-use Rattle.gl_query.specs.Results.{Env, IsResultIn, columns_in}
+use Rattle.gl_query.specs.Results.{Env, IsResultIn, columns_in, ticks_in, times_in}
+use Rattle.gl_query.specs.Windows.{parts_of}
 use Rattle.gl_query.proofs.Existing.{first_then_second}
 use Rattle.gl_reference.specs.Joins.{AreOverGroups, AreOverSlices, IsOverGroup}
 use Rattle.gl_reference.proofs.Joining.{joined_map}
 
-pub each_made : (env : Env) (var : List ℕ) (source : QueryShape) (size advance : ℕ) (body : QueryShape) (from : List Row) (before : Bool) (seen : QueryShape) (named : List ℕ) (columns : List Column) (parts : List (List Row)) (inside out : List Row) (within spill : Bool)
-    → IsResultIn source env from before → seen ≡ body → named ≡ var → columns ≡ columns_in env source → parts ≡ slices size advance from
+pub each_made : (measure : Measure) (env : Env) (var : List ℕ) (source : QueryShape) (size advance : ℕ) (body : QueryShape) (from : List Row) (before : Bool) (seen : QueryShape) (named : List ℕ) (columns : List Column) (parts : List (List Row)) (inside out : List Row) (within spill : Bool)
+    → IsResultIn source env from before → seen ≡ body → named ≡ var → columns ≡ columns_in env source → parts ≡ parts_of measure size advance (times_in env source) (ticks_in env source) from
     → AreOverSlices seen named columns parts inside within → out ≡ inside → spill ≡ (before || within || false)
-    → IsResultIn (shape.Each var source size advance body) env out spill
-each_made env var source size advance body from before seen named columns parts inside out within spill is eb ev ec ep j eo es =
+    → IsResultIn (shape.Each measure var source size advance body) env out spill
+each_made measure env var source size advance body from before seen named columns parts inside out within spill is eb ev ec ep j eo es =
     let a = subst (λ (b : QueryShape). AreOverSlices b named columns parts inside within) eb j in
     let b = subst (λ (v : List ℕ). AreOverSlices body v columns parts inside within) ev a in
     let c = subst (λ (k : List Column). AreOverSlices body var k parts inside within) ec b in
     let d = subst (λ (p : List (List Row)). AreOverSlices body var (columns_in env source) p inside within) ep c in
-    let e = subst (λ (o : List Row). AreOverSlices body var (columns_in env source) (slices size advance from) o within) (sym eo) d in
+    let e = subst (λ (o : List Row). AreOverSlices body var (columns_in env source) (parts_of measure size advance (times_in env source) (ticks_in env source) from) o within) (sym eo) d in
     record { rows = from; source_spill = before; parts_spill = within; of_source = is; of_parts = e; any = es }
 
 pub groups_made : (env : Env) (var : List ℕ) (source : QueryShape) (key : List ℕ) (n : ℕ) (body : QueryShape) (from : List Row) (before : Bool) (seen : QueryShape) (named : List ℕ) (columns : List Column) (most column : ℕ) (parts : List Keyed) (inside out : List Row) (within further spill : Bool)

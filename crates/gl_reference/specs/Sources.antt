@@ -1,6 +1,6 @@
 -- What a query may read, as the code is given it, and what it is answered.
 -- A middle layer, proved equal to gl_query (`Results`): no promise rests on it.
-use Rattle.std.specs.Prelude.{List, [], map, slice_get, unwrap_or}
+use Rattle.std.specs.Prelude.{ℕ, List, [], map, Option, None, Some, slice_get, unwrap_or}
 use Rattle.gl_bits.specs.Results.{Row}
 use Rattle.gl_schema.specs.Beats.{Inputs}
 use Rattle.gl_schema.specs.declared.schema.Column.{Column}
@@ -8,18 +8,37 @@ use Rattle.gl_query.specs.declared.tree.Query.{Query}
 use Rattle.gl_query.specs.Shapes.{QueryShape, query_shape}
 use Rattle.gl_query.specs.Results.{Env, IsResultIn, Source, columns_in}
 use Rattle.gl_reference.specs.declared.answers.Answer.{Answer}
+use Rattle.gl_reference.specs.declared.columns.Clock.{Clock}
 use Rattle.gl_reference.specs.declared.columns.Source.{Source as Given}
+
+-- what a clock shows; without one no row has a time
+abbrev pub times_on : Option Clock → List ℕ
+times_on None = []
+times_on (Some clock) = clock.times.now
+
+abbrev pub ticks_on : Option Clock → ℕ
+ticks_on None = 0
+ticks_on (Some clock) = clock.ticks
 
 -- the environment of a list of sources
 abbrev pub source_of : Given → Source
-source_of s = record { stream = record { name = s.name.now; columns = s.columns.now }; rows = s.rows.now }
+source_of s = record {
+  stream = record { name = s.name.now; columns = s.columns.now };
+  rows = s.rows.now;
+  times = times_on s.clock;
+  ticks = ticks_on s.clock;
+}
 
 abbrev pub env_view : List Given → Env
 env_view sources = map source_of sources
 
--- the inputs that are given, one for each stream
-abbrev pub given_inputs : List (List Row) → Inputs
-given_inputs tables = record { rows = λ k. unwrap_or (slice_get tables k) []; times = λ k. []; ticks = 0 }
+-- the inputs that are given: rows and their times for each stream, and all ticks
+abbrev pub given_inputs : List (List Row) → List (List ℕ) → ℕ → Inputs
+given_inputs tables times ticks = record {
+  rows = λ k. unwrap_or (slice_get tables k) [];
+  times = λ k. unwrap_or (slice_get times k) [];
+  ticks = ticks;
+}
 
 -- the columns of a query over sources
 abbrev pub columns_over : List Given → Query → List Column

@@ -7,6 +7,7 @@ ghost use Rattle.gl_query.specs.Shapes.{agg_item_shape, expr_shape, pick_shape, 
 ghost use Rattle.gl_query.specs.Shapes as shape;
 ghost use Rattle.gl_bits.specs.Results.{AreBeside};
 ghost use Rattle.gl_query.specs.Accepted.{IsRows, IsWindow};
+ghost use Rattle.gl_query.specs.declared.tree.Measure.TheVariants.{Tuples};
 ghost use Rattle.gl_reference.specs.Fits.{AreAggs, AreRows, IsOrMemory};
 ghost use Rattle.gl_reference.specs.Sources.{IsAnswer, columns_over};
 
@@ -104,7 +105,7 @@ pub fn windows_of<'a>(
     rows: &'a [Listed<u128>],
 ) -> Result<Vec<&'a [Listed<u128>]>, Fault>
     ensures value { IfOk result (λ v. map (λ s. s.now) v.items ≡ slices size advance rows.now) }
-    ensures fits { IsWindow size advance → IsOrMemory result }
+    ensures fits { IsWindow Tuples size advance → IsOrMemory result }
 {
     if size > MOST_ROWS || advance == 0 || advance > MOST_ROWS {
         return Err(Fault::Unfit);

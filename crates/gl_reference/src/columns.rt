@@ -9,6 +9,15 @@ use gl_query::{Query, Sources};
 use gl_schema::{Column, Columns, Stream, Streams};
 use std::alloc::Global;
 
+/// The times of a stream's rows, and how many ticks come in all.
+#[derive(Clone, Copy)]
+pub struct Clock<'a> {
+    /// A time for each row.
+    pub times: &'a [u64],
+    /// All ticks.
+    pub ticks: u64,
+}
+
 /// A source that a query may read, and its rows.
 #[derive(Clone, Copy)]
 pub struct Source<'a> {
@@ -18,6 +27,8 @@ pub struct Source<'a> {
     pub columns: &'a [Column],
     /// Its rows.
     pub rows: &'a [Listed<u128>],
+    /// Its clock; a body's variable has none.
+    pub clock: Option<Clock<'a>>,
 }
 
 ghost use Rattle.gl_reference.specs.Sources.{columns_over, env_view, source_of};

@@ -8,9 +8,10 @@ pub mod columns;
 pub mod results;
 pub mod rows;
 pub mod values;
+pub mod windows;
 pub mod worked;
 
 pub use answers::Answer;
-pub use columns::Source;
-pub use results::evaluate;
+pub use columns::{Clock, Source};
+pub use results::{Times, evaluate};
 pub use rows::Fault;

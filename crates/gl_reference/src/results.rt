@@ -1,6 +1,6 @@
 //! One result of a query over lists of rows.
 
-ghost use Rattle.std.specs.Prelude.{◌≡◌, IfOk, length, map};
+ghost use Rattle.std.specs.Prelude.{◌≡◌, Bool, IfOk, length, map};
 ghost use Rattle.gl_query.specs.Shapes.{query_shape};
 ghost use Rattle.std.specs.List.{AllByRecursion};
 ghost use Rattle.gl_bits.specs.declared.lists.Group.{Group};
@@ -15,8 +15,9 @@ ghost use Rattle.gl_reference.specs.Joins.{AreOverGroups, AreOverSlices};
 use crate::answers::{
     Answer, concat_of, groups_wanted, of_parts, read, rows_from, total_from, union_of, windows_of,
 };
-use crate::columns::{Source, columns_of};
+use crate::columns::{Clock, Source, columns_of};
 use crate::rows::{Fault, joined, with_key};
+use crate::windows::{clock_of, slices_in, time_windows_of};
 use gl_bits::lists::{groups_of, some_further};
 use gl_bits::{Group, Listed, Memory, Table};
 use gl_query::kinds::column_number;
@@ -26,12 +27,12 @@ use std::alloc::Global;
 
 /// A body over each slice, its results joined in order.
 #[cycle(results)]
-fn over_slices(
+fn over_slices<'a>(
     alloc: Global,
     body: &Query,
-    var: &[u8],
-    columns: &[Column],
-    slices: &[&[Listed<u128>]],
+    var: &'a [u8],
+    columns: &'a [Column],
+    slices: &'a [&'a [Listed<u128>]],
 ) -> Result<Answer, Fault>
     ensures value { IfOk result (λ a. AreOverSlices (query_shape body.now) var.now columns.now
         (map (λ s. s.now) slices.now) a.rows a.spill) }
@@ -46,6 +47,7 @@ fn over_slices(
             name: var,
             columns,
             rows: slice,
+            clock: None,
         };
         let part = result_of(alloc, &[inside], body)?;
         rows = joined(rows, part.rows)?;
@@ -56,12 +58,12 @@ fn over_slices(
 
 /// A body over each group, its results joined in order, the key first in each row.
 #[cycle(results)]
-fn over_groups(
+fn over_groups<'a>(
     alloc: Global,
     body: &Query,
-    var: &[u8],
-    columns: &[Column],
-    groups: &[Group],
+    var: &'a [u8],
+    columns: &'a [Column],
+    groups: &'a [Group],
 ) -> Result<Answer, Fault>
     ensures value { IfOk result (λ a. AreOverGroups (query_shape body.now) var.now columns.now
         groups.now a.rows a.spill) }
@@ -76,6 +78,7 @@ fn over_groups(
             name: var,
             columns,
             rows: group.rows.as_slice(),
+            clock: None,
         };
         let part = result_of(alloc, &[inside], body)?;
         let keyed = with_key(alloc, group.key, part.rows.as_slice())?;
@@ -90,8 +93,8 @@ fn over_groups(
 #[cycle(results)]
 pub fn result_of(alloc: Global, sources: &[Source<'_>], query: &Query) -> Result<Answer, Fault>
     ensures value { IfOk result (IsAnswer sources.now (query_shape query.now)) }
-    ensures fits { AreSources (env_view sources.now)
-        → IsAcceptedOver (scope_of (env_view sources.now)) (query_shape query.now)
+    ensures fits { (timed : Bool) → AreSources (env_view sources.now)
+        → IsAcceptedOver (scope_of (env_view sources.now) timed) (query_shape query.now)
         → IsOrMemory result }
 {
     match query {
@@ -125,6 +128,29 @@ pub fn result_of(alloc: Global, sources: &[Source<'_>], query: &Query) -> Result
                 var.text.as_slice(),
                 columns.as_slice(),
                 slices.as_slice(),
+            )?;
+            Ok(of_parts(from.spill, inside, false))
+        }
+        Query::EachTime {
+            var,
+            source,
+            size,
+            advance,
+            body,
+            ..
+        } => {
+            let from = result_of(alloc, sources, source)?;
+            let columns = columns_of(alloc, sources, source)?;
+            let clock = clock_of(sources, source);
+            let rows = from.rows.as_slice();
+            let tables = time_windows_of(alloc, size.value, advance.value, clock, rows)?;
+            let parts = slices_in(alloc, tables.as_slice())?;
+            let inside = over_slices(
+                alloc,
+                body,
+                var.text.as_slice(),
+                columns.as_slice(),
+                parts.as_slice(),
             )?;
             Ok(of_parts(from.spill, inside, false))
         }
@@ -164,15 +190,21 @@ pub fn result_of(alloc: Global, sources: &[Source<'_>], query: &Query) -> Result
     }
 }
 
-/// The streams of a schema, each with its rows.
+/// The times of a stream's rows, one for each.
+pub type Times = Listed<u64>;
+
+/// The streams of a schema, each with its rows and their times.
 fn sources_of<'a>(
     alloc: Global,
     streams: &'a [Stream],
     inputs: &'a [Table],
+    times: &'a [Times],
+    ticks: u64,
 ) -> Result<Vec<Source<'a>>, Memory>
-    requires { length inputs.now ≡ length streams.now }
+    requires inputs { length inputs.now ≡ length streams.now }
+    requires times { length times.now ≡ length streams.now }
     ensures { IfOk result (λ v. env_view v.items
-        ≡ numbered 0 streams.now (given_inputs inputs.now)) }
+        ≡ numbered 0 streams.now (given_inputs inputs.now times.now ticks)) }
 {
     let mut out = Vec::new(alloc);
     for (i, stream) in streams.iter().enumerate() {
@@ -180,24 +212,32 @@ fn sources_of<'a>(
             name: stream.name.as_slice(),
             columns: stream.columns.as_slice(),
             rows: inputs[i].as_slice(),
+            clock: Some(Clock {
+                times: times[i].as_slice(),
+                ticks,
+            }),
         })?;
     }
     Ok(out)
 }
 
-/// One result of an accepted statement over a schema: the inputs are those of the streams, in
-/// order.
+/// One result of an accepted statement over a schema: the inputs and their times are those of the
+/// streams, in order, and so many ticks come in all.
 pub fn evaluate(
     alloc: Global,
     schema: &Schema,
     statement: &Statement,
     inputs: &[Table],
+    times: &[Times],
+    ticks: u64,
 ) -> Result<Answer, Fault>
-    requires { length inputs.now ≡ length schema.now.streams }
-    ensures value { IfOk result (λ a. IsResult schema.now statement.now (given_inputs inputs.now)
-        a.rows a.spill) }
-    ensures fits { IsFit schema.now statement.now inputs.now → IsOrMemory result }
+    requires inputs { length inputs.now ≡ length schema.now.streams }
+    requires times { length times.now ≡ length schema.now.streams }
+    ensures value { IfOk result (λ a. IsResult schema.now statement.now
+        (given_inputs inputs.now times.now ticks) a.rows a.spill) }
+    ensures fits { IsFit schema.now statement.now inputs.now times.now ticks
+        → IsOrMemory result }
 {
-    let sources = sources_of(alloc, schema.streams.as_slice(), inputs)?;
+    let sources = sources_of(alloc, schema.streams.as_slice(), inputs, times, ticks)?;
     result_of(alloc, sources.as_slice(), &statement.query)
 }

@@ -85,6 +85,7 @@ query_kind (query.PaceDiffers at) = codes "PaceDiffers"
 query_kind (query.NotClosing at) = codes "NotClosing"
 query_kind (query.OutOfRange at) = codes "OutOfRange"
 query_kind (query.TooDeep at) = codes "TooDeep"
+query_kind (query.NoTime at) = codes "NoTime"
 query_kind query.Memory = codes "Memory"
 
 abbrev pub query_place : QueryFault → ℕ
@@ -101,6 +102,7 @@ query_place (query.PaceDiffers at) = at
 query_place (query.NotClosing at) = at
 query_place (query.OutOfRange at) = at
 query_place (query.TooDeep at) = at
+query_place (query.NoTime at) = at
 query_place query.Memory = 0
 
 unfoldable pub verilog_kind : VerilogFault → List ℕ

@@ -57,6 +57,7 @@ pub fn query_kind(fault: &QueryFault) -> &'static [u8]
         QueryFault::NotClosing { .. } => b"NotClosing",
         QueryFault::OutOfRange { .. } => b"OutOfRange",
         QueryFault::TooDeep { .. } => b"TooDeep",
+        QueryFault::NoTime { .. } => b"NoTime",
         QueryFault::Memory => b"Memory",
     }
 }
@@ -78,7 +79,8 @@ pub fn query_place(fault: &QueryFault) -> u64
         | QueryFault::PaceDiffers { at }
         | QueryFault::NotClosing { at }
         | QueryFault::OutOfRange { at }
-        | QueryFault::TooDeep { at } => *at,
+        | QueryFault::TooDeep { at }
+        | QueryFault::NoTime { at } => *at,
         QueryFault::Memory => 0,
     }
 }

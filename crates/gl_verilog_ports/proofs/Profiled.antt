@@ -97,8 +97,12 @@ streams_in : (ss : List Stream) → AllByRecursion IsIn (streams_inputs ss)
 streams_in [] = tt
 streams_in (s ∷ ss) = all_append IsIn (stream_inputs s) (streams_inputs ss) (refl, columns_in s.name s.columns) (streams_in ss)
 
-pub inputs_in : (schema : Schema) → AllByRecursion (λ (p : ProfilePort). p.direction ≡ In) (input_ports false schema)
-inputs_in schema = (refl, all_append IsIn (streams_inputs schema.streams) (input eos 1 ∷ []) (streams_in schema.streams) (refl, tt))
+tick_in : (ticks : Bool) → AllByRecursion IsIn (tick_input ticks)
+tick_in true = (refl, tt)
+tick_in false = tt
+
+pub inputs_in : (ticks : Bool) (schema : Schema) → AllByRecursion (λ (p : ProfilePort). p.direction ≡ In) (input_ports ticks schema)
+inputs_in ticks schema = (refl, all_append IsIn (streams_inputs schema.streams) (input eos 1 ∷ tick_input ticks) (streams_in schema.streams) (refl, tick_in ticks))
 
 abbrev tail : List ProfilePort
 tail = output out_eos 1 ∷ output fault_group 1 ∷ output fault_queue 1 ∷ []
@@ -122,6 +126,11 @@ with_tick schema = ap (λ (ps : List ProfilePort). input rst 1 ∷ ps) (sym (app
 
 find_front : {A : Type 0} (test : A → Bool) (xs ys : List A) (x : A) → find test xs ≡ Some x → find test (xs ++ ys) ≡ Some x
 find_front test xs ys x e = find-append test xs ys ∙ ap (λ o. option_or o (find test ys)) e
+
+find_asked : (ticks : Bool) (schema : Schema) (test : ProfilePort → Bool) (p : ProfilePort) → find test (input_ports ticks schema) ≡ Some p
+    → find test (input_ports true schema) ≡ Some p
+find_asked true schema test p e = e
+find_asked false schema test p e = ap (find test) (with_tick schema) ∙ find_front test (input_ports false schema) (tick_input true) p e
 
 -- ---- which ports show columns
 
@@ -175,22 +184,23 @@ kinds_narrow (k ∷ ks) h = (h.0.1, kinds_narrow ks h.1)
 
 -- ---- the module
 
-module _ (m : Module) (schema : Schema) (columns : List Column) (distinct : AreDistinct m.declarations) (face : HasProfile m schema columns) where
+module _ (ticks : Bool) (m : Module) (schema : Schema) (columns : List Column) (distinct : AreDistinct m.declarations)
+    (face : HasProfile ticks m schema columns) where
   abbrev behind : List ProfilePort
-  behind = profile false schema columns
+  behind = profile ticks schema columns
 
   all_distinct : IsDistinct bytes_eq (port_names (input clk 1 ∷ behind))
   all_distinct = names_distinct (input clk 1 ∷ behind) (subst AreDistinct face (distinct_take m.ports m.declarations distinct))
 
   -- reset, the streams and the end; the outputs
-  parts_named : IsDistinct bytes_eq (port_names (input_ports false schema) ++ port_names (output_ports columns))
+  parts_named : IsDistinct bytes_eq (port_names (input_ports ticks schema) ++ port_names (output_ports columns))
   unfolding IsDistinct
-  parts_named = subst (λ (x : List (List ℕ)). IsDistinct bytes_eq x) (map-append (λ (p : ProfilePort). p.name) (input_ports false schema) (output_ports columns)) all_distinct.1
+  parts_named = subst (λ (x : List (List ℕ)). IsDistinct bytes_eq x) (map-append (λ (p : ProfilePort). p.name) (input_ports ticks schema) (output_ports columns)) all_distinct.1
 
   outputs_named : IsDistinct bytes_eq (out_valid ∷ (port_names (column_outputs columns) ++ port_names tail))
   outputs_named =
       subst (λ (x : List (List ℕ)). IsDistinct bytes_eq (out_valid ∷ x)) (map-append (λ (p : ProfilePort). p.name) (column_outputs columns) tail)
-      (distinct_back (port_names (input_ports false schema)) (port_names (output_ports columns)) parts_named)
+      (distinct_back (port_names (input_ports ticks schema)) (port_names (output_ports columns)) parts_named)
 
   all_seen : Seen (column_outputs columns)
   unfolding IsDistinct
@@ -202,7 +212,7 @@ module _ (m : Module) (schema : Schema) (columns : List Column) (distinct : AreD
   columns_shown =
       let none : filter shows_column (map declared (tail ++ [])) ≡ [] = filter_hidden tail [] tail_hidden in
       ap (filter shows_column) face
-      ∙ filter_hidden (input_ports false schema) (output_ports columns) (in_hidden (input_ports false schema) (inputs_in schema))
+      ∙ filter_hidden (input_ports ticks schema) (output_ports columns) (in_hidden (input_ports ticks schema) (inputs_in ticks schema))
       ∙ filter_hidden (output out_valid 1 ∷ []) (column_outputs columns ++ tail) (valid_hidden, tt)
       ∙ filter_seen (column_outputs columns) tail all_seen
       ∙ ap (λ (x : List Declaration). map declared (column_outputs columns) ++ x) none ∙ append-nil (map declared (column_outputs columns))
@@ -219,7 +229,7 @@ module _ (m : Module) (schema : Schema) (columns : List Column) (distinct : AreD
   -- a line of the result
   line_there : (name : List ℕ) → Stands (output name 1) (output_ports columns) → port_named m name ≡ Some (declared (output name 1))
   line_there name s =
-      let all = stands_next (output name 1) (input clk 1) behind (stands_behind (output name 1) (input_ports false schema) (output_ports columns) s) in
+      let all = stands_next (output name 1) (input clk 1) behind (stands_behind (output name 1) (input_ports ticks schema) (output_ports columns) s) in
       ap (find (λ (d : Declaration). bytes_eq d.name name)) face
       ∙ found_named {A = Declaration} (λ d. d.name) declared (λ x. refl) (input clk 1 ∷ behind) all.place (output name 1) all_distinct all.there
 
@@ -229,14 +239,14 @@ module _ (m : Module) (schema : Schema) (columns : List Column) (distinct : AreD
   line_is : (name : List ℕ) → IsLine (declared (output name 1))
   line_is name = record { output = refl; bit = refl }
 
-  asked_width : (i : ℕ) (p : ProfilePort) → slice_get (input_ports false schema) i ≡ Some p → input_width schema p.name ≡ Some p.width
+  asked_width : (i : ℕ) (p : ProfilePort) → slice_get (input_ports ticks schema) i ≡ Some p → input_width schema p.name ≡ Some p.width
   asked_width i p h =
-      let own = distinct_front (port_names (input_ports false schema)) (port_names (output_ports columns)) parts_named in
+      let own = distinct_front (port_names (input_ports ticks schema)) (port_names (output_ports columns)) parts_named in
       let is_named : ProfilePort → Bool = λ q. bytes_eq q.name p.name in
-      let here : find is_named (input_ports false schema) ≡ Some p =
-      ap (find is_named) (sym (map_same (input_ports false schema)))
-      ∙ found_named {A = ProfilePort} (λ q. q.name) (λ q. q) (λ x. refl) (input_ports false schema) i p own h in
-      ap (option_map (λ (q : ProfilePort). q.width)) (ap (find is_named) (with_tick schema) ∙ find_front is_named (input_ports false schema) (tick_input true) p here)
+      let here : find is_named (input_ports ticks schema) ≡ Some p =
+      ap (find is_named) (sym (map_same (input_ports ticks schema)))
+      ∙ found_named {A = ProfilePort} (λ q. q.name) (λ q. q) (λ x. refl) (input_ports ticks schema) i p own h in
+      ap (option_map (λ (q : ProfilePort). q.width)) (find_asked ticks schema is_named p here)
     where
       map_same : (ps : List ProfilePort) → map (λ (q : ProfilePort). q) ps ≡ ps
       map_same [] = refl
@@ -251,7 +261,7 @@ module _ (m : Module) (schema : Schema) (columns : List Column) (distinct : AreD
   input_fits (suc i) d h is other =
       let p = get_unmapped declared behind i d h in
       let kind : declared_kind p.0.direction ≡ Input = ap (λ (x : Declaration). x.kind) p.2 ∙ is in
-      let front = in_front (input_ports false schema) (output_ports columns) i p.0 (refl, outputs_out columns) p.1 kind in
+      let front = in_front (input_ports ticks schema) (output_ports columns) i p.0 (refl, outputs_out columns) p.1 kind in
       subst (λ (x : Declaration). input_width schema x.name ≡ Some x.width) p.2 (asked_width i p.0 front)
 
   -- the schema is fitted by the module of a text, where the columns are as few and as narrow as those of a result

@@ -93,7 +93,7 @@ declared_kind Out = OutputWire
 abbrev pub declared : ProfilePort → Declaration
 declared p = record { name = p.name; width = p.width; is_vector = not (p.width == 1); kind = declared_kind p.direction }
 
--- the ports of the module are, in this order, the clock and the profile of this schema and of a result with these
--- columns; it asks for no tick
-abbrev pub HasProfile : Module → Schema → List Column → Type 0
-HasProfile m schema columns = ports_of m ≡ map declared (input clk 1 ∷ profile false schema columns)
+-- the ports of the module are, in this order, the clock and the profile of this schema, with the tick where it is asked
+-- for, and of a result with these columns
+abbrev pub HasProfile : Bool → Module → Schema → List Column → Type 0
+HasProfile ticks m schema columns = ports_of m ≡ map declared (input clk 1 ∷ profile ticks schema columns)

@@ -2,6 +2,7 @@
 use Rattle.std.proofs.Common.{◌≡◌, ℕ, zero, suc, ◌-◌, ◌<◌, ◌≤◌, List, length, Some, None, Bool, true, false, refl, sym, ap, ◌∙◌, subst, arith}
 use Rattle.std.specs.Prelude.{nat_eq, not, ◌&&◌, ◌||◌, if◌then◌else◌}
 use Rattle.std.proofs.Math.Nat.{zero-mod}
+use Rattle.std.proofs.lemmas.Bool.{and_right}
 use Rattle.gl_bits.specs.Results.{Row}
 use Rattle.gl_bits.proofs.Bools.{eq_turned}
 use Rattle.gl_net.specs.declared.node.Bus.{Bus}
@@ -17,7 +18,7 @@ use Rattle.gl_wire_registers.specs.declared.lines.LineOp.TheVariants.{Both, Eith
 use Rattle.gl_wire_registers.specs.Lines.{line_of, carried_of, pointed, pairs, with_line, AddsLines}
 use Rattle.gl_wire_registers.specs.Counters.{IsPointer}
 use Rattle.gl_wire_registers.specs.Rows.{AddsWires, HoldsRow}
-use Rattle.gl_wire_registers.proofs.LineLemmas.{any_same}
+use Rattle.gl_wire_registers.proofs.LineLemmas.{any_same, line_of-first}
 use Rattle.gl_windows.specs.Turns.{AddsRotation, Rotating}
 use Rattle.gl_windows.specs.Rotations.{AreFronts}
 use Rattle.gl_windows.specs.Parts.{IsOpening, IsFlush, IsTrigger, IsTail, TakesOf, AddsOpening, AddsFlush, AddsTrigger, AddsTail}
@@ -54,9 +55,9 @@ takes_of n0 n1 n2 n3 n4 valid eos tail alone mids ends each last takes g count a
 
 module _ (run : Run) (w : Wire) (size advance count stride : ℕ) (hs : 1 ≤ size) (ha : 1 ≤ advance) (hc : 1 ≤ count)
     (o : Opening) (f : Flush) (g : Trigger) (h : Tail) (opened : Bus) (r : OpenCopies) (row : List Bus) (takes : List Bit) (ins : List Wire)
-    (is_o : IsOpening run w.valid w.eos advance o) (is_f : IsFlush run w.valid w.eos stride f) (is_g : IsTrigger run w.valid w.eos f.due size advance g) (is_h : IsTail run w.valid w.eos f.idle h)
+    (is_o : IsOpening run w.valid w.eos 0 advance o) (is_f : IsFlush run w.valid w.eos stride f) (is_g : IsTrigger run w.valid w.eos f.due size advance g) (is_h : IsTail run w.valid w.eos f.idle h)
     (is_opened : (t : ℕ) → (held_at 0 run opened t ≤ count - 1) × (held_at 0 run opened (suc t) ≡ turned (count - 1) (line_at run o.opens t) (held_at 0 run opened t)))
-    (is_r : Rotating run count o.opens opened g.trigger r)
+    (is_r : Rotating run count 0 0 o.opens opened g.trigger r)
     (is_row : (t : ℕ) → row_at run (suc (suc t)) row ≡ (if line_at run w.valid (suc t) then row_at run (suc t) w.columns else row_at run (suc t) row))
     (is_takes : (k t : ℕ) → k < count → line_of run takes k t ≡ ((line_of run r.mids k t && (line_at run w.valid t && not (line_at run w.eos t))) || (line_of run r.ends k t && line_at run h.tail t)))
     (first_tuple : (k : ℕ) → k < count → (carried_of run ins k).tuple 0 ≡ None)
@@ -111,6 +112,11 @@ module _ (run : Run) (w : Wire) (size advance count stride : ℕ) (hs : 1 ≤ si
       ∙ ap (λ b. (mid_of (v c) (at c) k && (v c && not (e c))) || (end_of (e c) (v c) (at c) k && b)) (is_h.tail c)
       ∙ ap (λ b. (mid_of (v c) (at c) k && (v c && not (e c))) || (end_of (e c) (v c) (at c) k && ((e c && v c) || ((b && line_at run h.held c) && not (e c))))) (idle_is c)
 
+  -- in the reset cycle no copy is open, and reset opens none
+  flag_next : (k c : ℕ) → k < count → line_of run r.flags k (suc c) ≡ (line_of run r.mids k c && not (line_of run r.ends k c))
+  flag_next k zero l = is_r.flag_first k l ∙ and_right (nat_eq k (count - 1)) false refl ∙ sym (ap (λ b. b && not (line_of run r.ends k 0)) (line_of-first run r.mids k))
+  flag_next k (suc c) l = is_r.flag k c l
+
   row_step : (c : ℕ) → (v c || line_at run f.flush c) ≡ true → row_at run (suc c) row ≡ (if v c then x c else row_at run c row)
   unfolding line_at
   row_step zero q = absurd (cc)
@@ -122,7 +128,7 @@ module _ (run : Run) (w : Wire) (size advance count stride : ℕ) (hs : 1 ≤ si
     left = is_g.next c;
     opened = (is_opened c).1 ∙ ap (λ b. turned (count - 1) b (held_at 0 run opened c)) (is_o.opens c);
     oldest = is_r.oldest c ∙ ap (λ b. turned (count - 1) b (held_at 0 run r.oldest c)) (any_same count (λ k. line_of run r.ends k c) (end_of (e c) (v c) (at c)) (λ k l. ends_are k c l));
-    flags = λ k l. is_r.flag k c l ∙ ap (λ b. b && not (line_of run r.ends k c)) (mids_are k c l) ∙ ap (λ b. mid_of (v c) (at c) k && not b) (ends_are k c l);
+    flags = λ k l. flag_next k c l ∙ ap (λ b. b && not (line_of run r.ends k c)) (mids_are k c l) ∙ ap (λ b. mid_of (v c) (at c) k && not b) (ends_are k c l);
     flush = is_f.next c;
     wait = is_f.next_wait c ∙ ap (λ b. counted_down (stride - 1) (stride - 1) (e c) b (held_at 0 run f.wait c)) (idle_is c);
     held = is_h.next c;
@@ -139,7 +145,7 @@ module _ (run : Run) (w : Wire) (size advance count stride : ℕ) (hs : 1 ≤ si
     left = omega (arith, hs);
     opened = sym (zero-mod count);
     oldest = sym (zero-mod count);
-    flags = λ k l. is_r.flag_first k l;
+    flags = λ k l. line_of-first run r.flags k;
     flush = refl;
     wait = refl;
     held = λ q. absurd (cc);
@@ -166,8 +172,8 @@ module _ (run : Run) (w : Wire) (size advance count stride : ℕ) (hs : 1 ≤ si
 -- one after another the parts are a front
 module _ (n0 n1 n2 n3 n4 n5 n6 n7 n8 n9 : Net) (w : Wire) (size advance count stride last : ℕ) (hs : 1 ≤ size) (ha : 1 ≤ advance) (hc : 1 ≤ count) (last_is : last ≡ count - 1)
     (o : Opening) (f : Flush) (g : Trigger) (h : Tail) (opened : Bus) (r : OpenCopies) (takes : List Bit) (row : List Bus) (ws : List Wire)
-    (is_o : AddsOpening n0 n1 w.valid w.eos advance o) (is_f : AddsFlush n1 n2 w.valid w.eos stride f) (is_g : AddsTrigger n2 n3 w.valid w.eos f.due size advance g)
-    (is_h : AddsTail n3 n4 w.valid w.eos f.idle h) (is_p : IsPointer n4 n5 o.opens 32 last opened) (is_r : AddsRotation n5 n6 count o.opens opened g.trigger r)
+    (is_o : AddsOpening n0 n1 w.valid w.eos 0 advance o) (is_f : AddsFlush n1 n2 w.valid w.eos stride f) (is_g : AddsTrigger n2 n3 w.valid w.eos f.due size advance g)
+    (is_h : AddsTail n3 n4 w.valid w.eos f.idle h) (is_p : IsPointer n4 n5 o.opens 32 last opened) (is_r : AddsRotation n5 n6 count 0 0 o.opens opened g.trigger r)
     (is_t : TakesOf n6 n7 w.valid w.eos h.tail r.mids r.ends takes) (is_row : HoldsRow n7 n8 w.valid w.columns row) (is_w : AddsWires n8 n9 (length takes) takes r.ends row ws) where
   k79 : Keeps n7 n9
   k79 = keeps_then n7 n8 n9 is_row.keeps is_w.keeps

@@ -30,7 +30,7 @@ turned_next count n some = elim (cases_lt (n % count + 1) count) [
 ]
 
 -- a Boolean that tells which pointer comes next
-turned_if : (count n : ℕ) (b : Bool) → 1 ≤ count → turned (count - 1) b (n % count) ≡ (if b then suc n else n) % count
+pub turned_if : (count n : ℕ) (b : Bool) → 1 ≤ count → turned (count - 1) b (n % count) ≡ (if b then suc n else n) % count
 turned_if count n true some = turned_next count n some
 turned_if count n false some = refl
 
@@ -134,7 +134,7 @@ closing_by count false true x t l w f a b c =
 closing_by count false false x t l w f a b c = rw (b, c, and-true f) refl
 
 -- the line of one copy is that of the oldest one, at that copy
-at_oldest : (q k : ℕ) (x : Bool) (m : ℕ → Bool) → ((x && nat_eq q k) && m k) ≡ ((x && m q) && nat_eq q k)
+pub at_oldest : (q k : ℕ) (x : Bool) (m : ℕ → Bool) → ((x && nat_eq q k) && m k) ≡ ((x && m q) && nat_eq q k)
 at_oldest q k x m = elim (eqb_tells q k) [
   | inl h ↦ (let a = h.0 in rw (a, and-true x, and-true (x && m q)) (ap (λ n. x && m n) (sym h.1)))
   | inr h ↦ (let a = h.0 in rw (a, and-false x, and-false (x && m q)) refl)
@@ -149,7 +149,7 @@ count_down_left size advance (suc n) false true hs ha =
     rw (a, b) (omega arith)
 count_down_left size advance l false false hs ha = refl
 
-if_same : {A : Type 0} (b : Bool) (x : A) → (if b then x else x) ≡ x
+pub if_same : {A : Type 0} (b : Bool) (x : A) → (if b then x else x) ≡ x
 if_same true x = refl
 if_same false x = refl
 

@@ -8,14 +8,15 @@ use Rattle.gl_wire.specs.Wire.{line_at}
 use Rattle.gl_wire_registers.specs.Held.{held_at, counted_down}
 use Rattle.gl_windows.specs.Parts.{IsTail, IsTrigger}
 
-pub left_is : (run : Run) (valid eos due : Bit) (size advance rows again : ℕ) (left : Bus) (last may trigger : Bit) → rows ≡ size - 1 → again ≡ advance - 1
-    → ((t : ℕ) → held_at rows run left (suc t) ≡ counted_down rows again (line_at run eos t) (line_at run valid t) (held_at rows run left t))
-    → ((reset t : ℕ) → line_at run last t ≡ (line_at run valid t && nat_eq (held_at reset run left t) 0))
+pub left_is : (run : Run) (unit eos due : Bit) (size advance rows again : ℕ) (left : Bus) (last may trigger : Bit) → rows ≡ size - 1 → again ≡ advance - 1
+    → ((t : ℕ) → held_at rows run left (suc t) ≡ counted_down rows again (line_at run eos t) (line_at run unit t) (held_at rows run left t))
+    → ((reset t : ℕ) → line_at run last t ≡ (line_at run unit t && nat_eq (held_at reset run left t) 0))
     → ((t : ℕ) → line_at run may t ≡ (line_at run last t || line_at run due t)) → ((t : ℕ) → line_at run trigger t ≡ (line_at run eos t || line_at run may t))
-    → IsTrigger run valid eos due size advance (record { left = left; trigger = trigger })
-left_is run valid eos due size advance rows again left last may trigger is_rows is_again next is_last is_may is_trigger = record {
-  next = subst (λ (m : ℕ). (t : ℕ) → held_at (size - 1) run left (suc t) ≡ counted_down (size - 1) m (line_at run eos t) (line_at run valid t) (held_at (size - 1) run left t)) is_again
-      (subst (λ (n : ℕ). (t : ℕ) → held_at n run left (suc t) ≡ counted_down n again (line_at run eos t) (line_at run valid t) (held_at n run left t)) is_rows next);
+    → IsTrigger run unit eos due size advance (record { left = left; last = last; trigger = trigger })
+left_is run unit eos due size advance rows again left last may trigger is_rows is_again next is_last is_may is_trigger = record {
+  next = subst (λ (m : ℕ). (t : ℕ) → held_at (size - 1) run left (suc t) ≡ counted_down (size - 1) m (line_at run eos t) (line_at run unit t) (held_at (size - 1) run left t)) is_again
+      (subst (λ (n : ℕ). (t : ℕ) → held_at n run left (suc t) ≡ counted_down n again (line_at run eos t) (line_at run unit t) (held_at n run left t)) is_rows next);
+  last = is_last (size - 1);
   trigger = λ t. is_trigger t ∙ ap (λ (b : Bool). line_at run eos t || b) (is_may t) ∙ ap (λ (b : Bool). line_at run eos t || (b || line_at run due t)) (is_last (size - 1) t);
 }
 

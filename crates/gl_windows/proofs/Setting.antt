@@ -2,6 +2,7 @@
 use Rattle.std.specs.Prelude.{◌≡◌, ℕ, ◌+◌, ◌-◌, ◌*◌, ◌<◌, ◌≤◌, true}
 use Rattle.gl_wire.specs.Apart.{Carries}
 use Rattle.gl_wire.specs.Wire.{Carried}
+use Rattle.gl_wire_copies.specs.Coming.{by_tuples}
 use Rattle.gl_wire_copies.specs.Timed.{Timed}
 use Rattle.gl_windows.specs.Front.{IsFront}
 
@@ -30,7 +31,7 @@ pub record Spacing (front : Setting) : Type 0 where
   pub g1 : ℕ
   pub g2 : ℕ
   pub gap_end : ℕ
-  pub timed : Timed g1 g2 front.a
+  pub timed : Timed g1 g2 front.a (by_tuples front.a)
   pub near : gap_end ≤ g1
   pub strides : front.stride ≤ gap_end
   pub far : (front.most - 1) * front.stride + gap_end + 1 ≤ g2

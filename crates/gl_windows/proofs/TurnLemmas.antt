@@ -2,7 +2,8 @@
 use Rattle.std.proofs.Common.{◌≡◌, ℕ, zero, suc, ◌+◌, ◌-◌, ◌*◌, ◌<◌, ◌≤◌, List, [], ◌∷◌, ◌++◌, length, Some, Bool, false, refl, sym, ap, ◌∙◌, subst, arith, inl, inr, length-append, replicate, take, drop}
 use Rattle.std.specs.List.{sum}
 use Rattle.std.specs.Option.{option_map}
-use Rattle.std.specs.Prelude.{slice_get, slice_index_or, map, ◌&&◌, ◌||◌}
+use Rattle.std.specs.Prelude.{slice_get, slice_index_or, map, nat_eq, ◌&&◌, ◌||◌}
+use Rattle.std.proofs.lemmas.Bool.{and_left, cases_lt, eq-eqb, ne_eqb}
 use Rattle.gl_bits.specs.Words.{Word}
 use Rattle.gl_net.specs.declared.node.Bus.{Bus}
 use Rattle.gl_net.specs.declared.node.Bit.{Bit}
@@ -16,7 +17,6 @@ use Rattle.gl_wire_registers.specs.Lines.{line_of, any_to, AreBits, AddsLine, Ad
 use Rattle.gl_wire_registers.specs.Counters.{IsNextPointer}
 use Rattle.gl_windows.specs.Turns.{Turns, Rotating, AddsRotation}
 use Rattle.gl_windows.specs.declared.turns.Turn.{Turn}
-use Rattle.gl_wire.proofs.StageLemmas.{line_later}
 use Rattle.std.proofs.lemmas.Option.{slice_get-map}
 use Rattle.gl_net.proofs.Lists.{get_push_cases}
 use Rattle.gl_bits.proofs.AllLists.{get_below, get_front, get_last, length_map, get_there, get_unmapped}
@@ -75,27 +75,61 @@ take_get [] (suc n) k x h l = absurd (cc)
 take_get (y ∷ xs) (suc n) zero x h l = h
 take_get (y ∷ xs) (suc n) (suc k) x h l = take_get xs n k x h (omega (arith, l))
 
-any_false : (n : ℕ) (f : ℕ → Bool) → ((k : ℕ) → f k ≡ false) → any_to n f ≡ false
+pub any_false : (n : ℕ) (f : ℕ → Bool) → ((k : ℕ) → f k ≡ false) → any_to n f ≡ false
 any_false zero f h = refl
 any_false (suc n) f h = rw (any_false n f h, h n) refl
 
+-- the words of the flags: one for each copy, that of the last one apart
+abbrev pub flag_words : ℕ → Word → Word → List Word
+flag_words others z l = replicate others z ++ l ∷ []
+
 -- the bits of a flag for each copy and of a pointer
-bits_of_words : (count : ℕ) (z f : Word) → z.width ≡ 1 → f.width ≡ 32 → sum (word_widths (replicate count z ++ f ∷ [])) ≡ count + 32
-bits_of_words count z f hz hf = widths_more (replicate count z) f ∙ omega (arith, same_bits count z, ap (λ n. count * n) hz, hf)
+bits_of_words : (others : ℕ) (z l f : Word) → z.width ≡ 1 → l.width ≡ 1 → f.width ≡ 32 → sum (word_widths (flag_words others z l ++ f ∷ [])) ≡ others + 1 + 32
+bits_of_words others z l f hz hl hf =
+    widths_more (flag_words others z l) f ∙ omega (arith, widths_more (replicate others z) l, same_bits others z, ap (λ n. others * n) hz, hl, hf)
 
-module _ (n0 n1 : Net) (count : ℕ) (zero_word first : Word) (regs : List Bus) (zero_bits : zero_word.bits ≡ 0) (zero_width : zero_word.width ≡ 1) (first_bits : first.bits ≡ 0) (first_width : first.width ≡ 32)
-    (o : Opens n0 n1 (replicate count zero_word ++ first ∷ []) regs) where
+module _ (n0 n1 : Net) (count last_number first_number : ℕ) (some : 1 ≤ count) (below : first_number < count) (zero_word last first : Word) (regs : List Bus)
+    (zero_bits : zero_word.bits ≡ 0) (zero_width : zero_word.width ≡ 1) (last_bits : last.bits ≡ last_number) (last_width : last.width ≡ 1) (first_bits : first.bits ≡ first_number) (first_width : first.width ≡ 32)
+    (o : Opens n0 n1 (flag_words (count - 1) zero_word last ++ first ∷ []) regs) where
+  abbrev words : List Word
+  words = flag_words (count - 1) zero_word last
+
+  words_length : length words ≡ count
+  words_length = length-append (replicate (count - 1) zero_word) (last ∷ []) ∙ omega (arith, length_replicate (count - 1) zero_word, some)
+
   regs_length : length regs ≡ count + 1
-  regs_length = o.count ∙ length-append (replicate count zero_word) (first ∷ []) ∙ ap (λ n. n + 1) (length_replicate count zero_word)
+  regs_length = o.count ∙ length-append words (first ∷ []) ∙ ap (λ n. n + 1) words_length
 
-  word_of : (k : ℕ) → k < count → slice_get (replicate count zero_word ++ first ∷ []) k ≡ Some zero_word
-  word_of k l = get_front (replicate count zero_word) (first ∷ []) k zero_word (get_replicate count zero_word k l)
+  -- the word of a flag, and what it is
+  record FlagWord (k : ℕ) : Type 0 where
+    word : Word
+    at : slice_get (words ++ first ∷ []) k ≡ Some word
+    width : word.width ≡ 1
+    is : nat_eq word.bits 1 ≡ (nat_eq k (count - 1) && nat_eq last_number 1)
 
-  word_last : slice_get (replicate count zero_word ++ first ∷ []) count ≡ Some first
-  word_last = ap (slice_get (replicate count zero_word ++ first ∷ [])) (sym (length_replicate count zero_word)) ∙ get_last (replicate count zero_word) first
+  flag_word : (k : ℕ) → k < count → FlagWord k
+  flag_word k l = elim (cases_lt k (count - 1)) [
+    | inl m ↦ record {
+      word = zero_word;
+      at = get_front words (first ∷ []) k zero_word (get_front (replicate (count - 1) zero_word) (last ∷ []) k zero_word (get_replicate (count - 1) zero_word k m));
+      width = zero_width;
+      is = ap (λ n. nat_eq n 1) zero_bits ∙ sym (and_left _ _ (ne_eqb k (count - 1) (λ e. omega (arith, e, m))));
+    }
+    | inr m ↦
+        let e : count - 1 ≡ k = omega (arith, l, m) in
+        record {
+          word = last;
+          at = get_front words (first ∷ []) k last (ap (slice_get words) (sym (length_replicate (count - 1) zero_word ∙ e)) ∙ get_last (replicate (count - 1) zero_word) last);
+          width = last_width;
+          is = ap (λ n. nat_eq n 1) last_bits ∙ sym (ap (λ b. b && nat_eq last_number 1) (eq-eqb k (count - 1) (sym e)));
+        }
+  ]
+
+  word_last : slice_get (words ++ first ∷ []) count ≡ Some first
+  word_last = ap (slice_get (words ++ first ∷ [])) (sym words_length) ∙ get_last words first
 
   flag_width : (k : ℕ) (b : Bus) → slice_get regs k ≡ Some b → k < count → b.width ≡ 1
-  flag_width k b h l = o.widths k b zero_word h (word_of k l) ∙ zero_width
+  flag_width k b h l = let w = flag_word k l in o.widths k b w.word h w.at ∙ w.width
 
   pub flags_are : AreBits n1 (map to_bit (take count regs))
   flags_are = record {
@@ -153,12 +187,12 @@ module _ (n0 n1 : Net) (count : ℕ) (zero_word first : Word) (regs : List Bus) 
       bits_after : (bs : List Bit) → AreBits n2 bs → AreBits n3 bs
       bits_after bs h = record { each = λ k b e. record { there = d.grows.shapes b.node _ (h.each k b e).there } }
 
-      rotation_law : (run : Run) → IsRun n3 run → Rotating run count opens opened trigger (record { flags = map to_bit (take count regs); oldest = oldest; mids = r.mids; ends = r.ends })
-      unfolding nexts held_at
+      rotation_law : (run : Run) → IsRun n3 run → Rotating run count last_number first_number opens opened trigger (record { flags = map to_bit (take count regs); oldest = oldest; mids = r.mids; ends = r.ends })
+      unfolding nexts held_at line_at
       rotation_law run r3 =
           let r2 = d.grows.runs run r3 in
           let r1 = turns.keeps.runs run r2 in
-          let held = pointer_by run oldest (count - 1) (λ t. any_to count (λ k. line_of run r.ends k t)) (any_false count (λ k. line_of run r.ends k 0) (line_of-first run r.ends))
+          let held = pointer_by run oldest first_number (count - 1) (λ t. any_to count (λ k. line_of run r.ends k t)) (any_false count (λ k. line_of run r.ends k 0) (line_of-first run r.ends)) (omega (arith, below))
           (o.start count oldest first has word_last run r1 ∙ first_bits)
           (λ t l. d.value count oldest r.next has next_last run r3 t ∙ turns.turn run r2 t l) in
           record {
@@ -167,24 +201,28 @@ module _ (n0 n1 : Net) (count : ℕ) (zero_word first : Word) (regs : List Bus) 
             flag = λ k t l.
                 let at = get_there regs k (let e = regs_length in omega (arith, e, l)) in
                 let kept = get_there r.kept k (omega (arith, l, turns.kept_count)) in
-                line_of-get run (map to_bit (take count regs)) k (to_bit at.0) (suc t) (slice_get-map to_bit (take count regs) k ∙ ap (option_map to_bit) (take_get regs count k at.0 at.1 l))
-                ∙ line_later run kept.0 (to_bit at.0) (o.start k at.0 zero_word at.1 (word_of k l) run r1 ∙ zero_bits) (λ u. d.value k at.0 (to_bus kept.0) at.1 (next_of k kept.0 kept.1) run r3 u) t
-                ∙ sym (line_of-get run r.kept k kept.0 t kept.1) ∙ turns.stays run r2 k t l;
-            flag_first = λ k l. line_of-first run (map to_bit (take count regs)) k;
+                line_of-get run (map to_bit (take count regs)) k (to_bit at.0) (suc (suc t)) (slice_get-map to_bit (take count regs) k ∙ ap (option_map to_bit) (take_get regs count k at.0 at.1 l))
+                ∙ ap (λ n. nat_eq n 1) (d.value k at.0 (to_bus kept.0) at.1 (next_of k kept.0 kept.1) run r3 t)
+                ∙ sym (line_of-get run r.kept k kept.0 (suc t) kept.1) ∙ turns.stays run r2 k (suc t) l;
+            flag_first = λ k l.
+                let at = get_there regs k (let e = regs_length in omega (arith, e, l)) in
+                let w = flag_word k l in
+                line_of-get run (map to_bit (take count regs)) k (to_bit at.0) 1 (slice_get-map to_bit (take count regs) k ∙ ap (option_map to_bit) (take_get regs count k at.0 at.1 l))
+                ∙ ap (λ n. nat_eq n 1) (o.start k at.0 w.word at.1 w.at run r1) ∙ w.is;
             below = λ t. (held t).0;
             oldest = λ t. (held t).1;
           }
 
-      pub rotation_adds : AddsRotation n0 n3 count opens opened trigger (record { flags = map to_bit (take count regs); oldest = oldest; mids = r.mids; ends = r.ends })
+      pub rotation_adds : AddsRotation n0 n3 count last_number first_number opens opened trigger (record { flags = map to_bit (take count regs); oldest = oldest; mids = r.mids; ends = r.ends })
       rotation_adds = record {
-        keeps = closed_up n0 n1 n2 n3 (replicate count zero_word ++ first ∷ []) regs (map to_bus r.kept ++ r.next ∷ []) o turns.keeps d;
+        keeps = closed_up n0 n1 n2 n3 (words ++ first ∷ []) regs (map to_bus r.kept ++ r.next ∷ []) o turns.keeps d;
         mids = bits_after r.mids turns.mids;
         ends = bits_after r.ends turns.ends;
         mids_count = turns.mids_count;
         ends_count = turns.ends_count;
         cost = record {
-          nodes = omega (arith, d.cost.nodes, turns.cost.nodes, o.cost.nodes, length-append (replicate count zero_word) (first ∷ []), length_replicate count zero_word);
-          registers = omega (arith, d.cost.registers, turns.cost.registers, o.cost.registers, bits_of_words count zero_word first zero_width first_width);
+          nodes = omega (arith, d.cost.nodes, turns.cost.nodes, o.cost.nodes, length-append words (first ∷ []), words_length);
+          registers = omega (arith, d.cost.registers, turns.cost.registers, o.cost.registers, bits_of_words (count - 1) zero_word last first zero_width last_width first_width, some);
           memories = omega (arith, d.cost.memories, turns.cost.memories, o.cost.memories);
         };
         rotating = rotation_law;
@@ -196,8 +234,9 @@ drop_get (x ∷ xs) zero d l = refl
 drop_get (x ∷ xs) (suc n) d l = drop_get xs n d (omega (arith, l))
 
 -- the register behind the flags
-pub oldest_at : (n0 n1 : Net) (count : ℕ) (z f : Word) (regs ys : List Bus) (d : Bus) → Opens n0 n1 (replicate count z ++ f ∷ []) regs → ys ≡ drop count regs → slice_get regs count ≡ Some (slice_index_or ys 0 d)
-oldest_at n0 n1 count z f regs ys d o e =
-    let l = length-append (replicate count z) (f ∷ []) in
-    let m = length_replicate count z in
-    drop_get regs count d (omega (arith, o.count, l, m)) ∙ ap (λ (zs : List Bus). Some (slice_index_or zs 0 d)) (sym e)
+pub oldest_at : (n0 n1 : Net) (count : ℕ) (z w f : Word) (regs ys : List Bus) (d : Bus) → 1 ≤ count → Opens n0 n1 (flag_words (count - 1) z w ++ f ∷ []) regs → ys ≡ drop count regs → slice_get regs count ≡ Some (slice_index_or ys 0 d)
+oldest_at n0 n1 count z w f regs ys d some o e =
+    let l = length-append (flag_words (count - 1) z w) (f ∷ []) in
+    let n = length-append (replicate (count - 1) z) (w ∷ []) in
+    let m = length_replicate (count - 1) z in
+    drop_get regs count d (omega (arith, o.count, l, m, n, some)) ∙ ap (λ (zs : List Bus). Some (slice_index_or zs 0 d)) (sym e)

@@ -19,6 +19,7 @@ use Rattle.gl_wire.specs.Shapes.{IsDelayed}
 use Rattle.gl_wire.specs.Spills.{Relation, Lines, ServedWithLines, both_lines}
 use Rattle.gl_wire.proofs.ServingLemmas.{serving_then, serving_as}
 use Rattle.gl_wire_copies.specs.Lift.{tuple_of_any}
+use Rattle.gl_wire_copies.specs.Coming.{by_tuples}
 use Rattle.gl_wire_copies.specs.Timed.{Origin, Timed}
 use Rattle.gl_wire_copies.specs.Rotates.{Rotates, OverCopies, lines_of_all, flush_of, turns_of}
 use Rattle.gl_wire_copies.proofs.LiftSpillLemmas.{lift_spills}
@@ -42,7 +43,7 @@ flush_fits : (count : ℕ) (s : Figures) → 1 ≤ count → IsSound s → count
 flush_fits count s some sound = omega (arith, all_turns count (stride_of s) some, sound.end_gap)
 
 module _ (s : Figures) (sound : IsSound s) (size advance count : ℕ) (a : Carried) (ins : ℕ → Carried) (law : IsFront size advance count (stride_of s) a ins)
-    (rows_some : 1 ≤ size) (step_some : 1 ≤ advance) (copies_some : 1 ≤ count) (cover : size ≤ count * advance) (timed : Timed (window_gap s) (rest_gap count s) a) where
+    (rows_some : 1 ≤ size) (step_some : 1 ≤ advance) (copies_some : 1 ≤ count) (cover : size ≤ count * advance) (timed : Timed (window_gap s) (rest_gap count s) a (by_tuples a)) where
   abbrev g1 : ℕ
   g1 = window_gap s
 
@@ -93,24 +94,24 @@ module _ (s : Figures) (sound : IsSound s) (size advance count : ℕ) (a : Carri
   abbrev pub whole_visit : ℕ × List Row → List Row
   whole_visit v = v.1
 
-  origin : (v k : ℕ) → window_visits v ≡ Some k → Origin ((count - 1) * stride_of s) g1 (stride_of s) a v
+  origin : (v k : ℕ) → window_visits v ≡ Some k → Origin ((count - 1) * stride_of s) g1 (stride_of s) a (by_tuples a) v
   origin zero k h = absurd (cc)
   origin (suc x) k h =
       let c = visit_source setting x k h in
       by (source setting x c.0)
     where
-      by : Source setting x → Origin ((count - 1) * stride_of s) g1 (stride_of s) a (suc x)
-      by (comes q) = record { of = x; carries = q; low = omega arith; high = omega arith; at_once = λ e. (refl, omega (arith, near, strides)) }
+      by : Source setting x → Origin ((count - 1) * stride_of s) g1 (stride_of s) a (by_tuples a) (suc x)
+      by (comes q) = record { of = x; comes = q; low = omega arith; high = omega arith; at_once = λ e. (refl, omega (arith, near, strides)) }
       by (in_turn q) =
           let z : q.i * stride_of s ≤ (count - 1) * stride_of s = mul-le-mul_right (stride_of s) (omega (arith, q.less)) in
           let y = q.end in
-          record { of = q.u; carries = an_end q.end; low = omega (arith, q.time); high = omega (arith, q.time, z); at_once = λ e. absurd (cc (e, y)) }
+          record { of = q.u; comes = an_end q.end; low = omega (arith, q.time); high = omega (arith, q.time, z); at_once = λ e. absurd (cc (e, y)) }
 
   caused : (k c : ℕ) (r : Row) → k < count → (ins k).tuple c ≡ Some r → (ins k).ends c ≡ false → (x : ℕ) × (c ≡ suc x) × Carries a x
   caused k zero r l h n = absurd (let z = law.no_tuple k l in cc (z, h))
   caused k (suc x) r l h n = (x, refl, a_tuple r (tuple_source setting k x r l h n).1)
 
-  pub rotates : Rotates s count g1 (λ n. n) (λ n. max n 1 - 1 + count) whole_visit (slices size advance) a window_visits ins
+  pub rotates : Rotates s count g1 (λ n. n) (λ n. max n 1 - 1 + count) whole_visit a (by_tuples a) (λ u. slices size advance (stream a u)) window_visits ins
   rotates = record {
     schedules = schedules setting spacing s refl (omega arith) refl;
     origin = origin;
@@ -154,7 +155,7 @@ module _ (f s : Figures) (sound_f : IsSound f) (sound_s : IsSound s) (closing : 
   close_first : (c : ℕ) → c < s.le + turns_of count s + 2 → close c ≡ false
   close_first c l = closes.before c (omega (arith, l, late))
 
-  closes_late : Timed (window_gap s) (rest_gap count s) a → (c : ℕ) → close (c + (s.le + turns_of count s + 2)) ≡ a.ends c
+  closes_late : Timed (window_gap s) (rest_gap count s) a (by_tuples a) → (c : ℕ) → close (c + (s.le + turns_of count s + 2)) ≡ a.ends c
   closes_late timed c =
       ap (λ (n : ℕ). close (c + n)) (sym late)
       ∙ closes.later (λ u d p q l. let y = timed.after u d p (an_end q) l in omega (arith, y, flush_fits count s copies_some sound_s)) c
@@ -162,12 +163,12 @@ module _ (f s : Figures) (sound_f : IsSound f) (sound_s : IsSound s) (closing : 
   pub windows_served : (beats : Beats) → Spaced h beats → Fits f beats a → CarriesApart (window_gap s) a → ((k : ℕ) → k < count → Spaced s (beats_of (ins k)) → Serving s (λ t. m (stream (ins k) t)) (lines k) (beats_of (ins k)) (outs k))
       → ServedWithLines f h (λ xs ys p. AreJoined m (slices size advance xs) ys p) (lines_of_all lines count) beats a b
   windows_served beats spaced fits near served =
-      let timed : Timed (window_gap s) (rest_gap count s) a = timed_by f h (window_gap s) (rest_gap count s) beats a sound_f (omega (arith, sound_s.end_gap)) (omega arith) (omega arith) spaced fits near in
+      let timed : Timed (window_gap s) (rest_gap count s) a (by_tuples a) = timed_by f h (window_gap s) (rest_gap count s) beats a sound_f (omega (arith, sound_s.end_gap)) (omega arith) (omega arith) spaced fits near in
       let rot = rotates s sound_s size advance count a ins law rows_some step_some copies_some cover timed in
       let lifted = lift_spills s (λ u. m) count (who_ends size advance count (stride_of s) a) lines ins outs sound_s closing rot.schedules (λ k l. served k l (rot.schedules.spaced k l)) in
-      whole_lines f s h count (window_gap s) (rest_gap count s) (λ n. n) (λ n. max n 1 - 1 + count) (λ (v : ℕ × List Row). v.1) (slices size advance) (window_table count f s copies_some sound_s)
-      sound_f sound_s (windows_sound count f s copies_some sound_f sound_s) copies_some beats spaced a fits timed (who_ends size advance count (stride_of s) a) ins outs rot
-      m lines lifted b close back close_first (closes_late timed)
+      whole_lines f s h count (window_gap s) (rest_gap count s) (λ n. n) (λ n. max n 1 - 1 + count) (λ (v : ℕ × List Row). v.1) (window_table count f s copies_some sound_s)
+      sound_f sound_s (windows_sound count f s copies_some sound_f sound_s) copies_some beats spaced a fits (who_ends size advance count (stride_of s) a) ins outs
+      m lines lifted b close back close_first (closes_late timed) (slices size advance) timed rot
 
   -- over what the source's wire gives, and the copies' over their own
   pub windows_serving : (means : ℕ → Results) (before : Lines) (beats : Beats) → Spaced h beats → Serving f means before beats a → CarriesApart (window_gap s) a

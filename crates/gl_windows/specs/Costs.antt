@@ -15,10 +15,28 @@ cost_of_front copies delay source = record {
   memories = 0;
 }
 
+-- a front of windows of time, whose copies take no tuple with the tick that ends them, with its timer
+abbrev pub cost_of_time_front : ℕ → ℕ → List ℕ → Cost
+cost_of_time_front copies delay source = record {
+  nodes = copies * 17 + length source * 2 + delay + 112;
+  registers = copies * 3 + sum source + delay + 228;
+  memories = 0;
+}
+
 -- both
 abbrev pub cost_of_rotation : ℕ → ℕ → List ℕ → List ℕ → Cost
 cost_of_rotation copies delay source own =
     let front = cost_of_front copies delay source in
+    let back = cost_of_back copies own in
+    record {
+      nodes = front.nodes + back.nodes;
+      registers = front.registers + back.registers;
+      memories = front.memories + back.memories;
+    }
+
+abbrev pub cost_of_time_rotation : ℕ → ℕ → List ℕ → List ℕ → Cost
+cost_of_time_rotation copies delay source own =
+    let front = cost_of_time_front copies delay source in
     let back = cost_of_back copies own in
     record {
       nodes = front.nodes + back.nodes;
@@ -41,4 +59,11 @@ abbrev pub RotationsAreCounted : Type 0
 RotationsAreCounted =
     (copies delay : ℕ) (source own : List ℕ) → AreNarrow source → AreNarrow own
     → IsCounted (cost_of_rotation copies delay source own) (counted_for copies delay source own)
+    (counted_for copies delay source own)
+
+-- nor is that of windows of time more
+abbrev pub TimesAreCounted : Type 0
+TimesAreCounted =
+    (copies delay : ℕ) (source own : List ℕ) → AreNarrow source → AreNarrow own
+    → IsCounted (cost_of_time_rotation copies delay source own) (counted_for copies delay source own)
     (counted_for copies delay source own)

@@ -1,9 +1,14 @@
 pub mod Front
+pub mod Ticks
+pub mod TimeFront
 pub mod Values
 pub mod Turns
 pub mod Parts
 pub mod Firsts
 pub mod Costs
 pub mod Rotations
+pub mod TimeRotations
 pub mod Laws
 pub mod Worked
+pub mod Taking
+pub mod WorkedTimes

@@ -11,17 +11,17 @@ use Rattle.gl_windows.specs.declared.parts.Flush.{Flush}
 use Rattle.gl_windows.specs.declared.parts.Trigger.{Trigger}
 use Rattle.gl_windows.specs.declared.parts.Tail.{Tail}
 
--- when a copy opens: at a tuple, where none is to come before
-pub record IsOpening (run : Run) (valid eos : Bit) (advance : ℕ) (o : Opening) : Type 0 where
-  pub next : (t : ℕ) → held_at 0 run o.until (suc t) ≡ counted_down 0 (advance - 1) (line_at run eos t)
-      (line_at run valid t) (held_at 0 run o.until t)
-  pub opens : (t : ℕ) → line_at run o.opens t ≡ (line_at run valid t && nat_eq (held_at 0 run o.until t) 0)
+-- when a copy opens: at a unit, where none is to come before; so many are to come before the first one of a stream
+pub record IsOpening (run : Run) (unit eos : Bit) (before advance : ℕ) (o : Opening) : Type 0 where
+  pub next : (t : ℕ) → held_at before run o.until (suc t) ≡ counted_down before (advance - 1) (line_at run eos t)
+      (line_at run unit t) (held_at before run o.until t)
+  pub opens : (t : ℕ) → line_at run o.opens t ≡ (line_at run unit t && nat_eq (held_at before run o.until t) 0)
 
-pub record AddsOpening (old new : Net) (valid eos : Bit) (advance : ℕ) (o : Opening) : Type 0 where
+pub record AddsOpening (old new : Net) (unit eos : Bit) (before advance : ℕ) (o : Opening) : Type 0 where
   pub keeps : Keeps old new
   pub bit : IsBit new o.opens
   pub cost : Costs old new (with_registers 13 32)
-  pub law : (run : Run) → IsRun new run → IsOpening run valid eos advance o
+  pub law : (run : Run) → IsRun new run → IsOpening run unit eos before advance o
 
 -- the flush after an end, up to the next tuple: in which cycles a copy has its turn
 pub record IsFlush (run : Run) (valid eos : Bit) (stride : ℕ) (f : Flush) : Type 0 where
@@ -40,20 +40,22 @@ pub record AddsFlush (old new : Net) (valid eos : Bit) (stride : ℕ) (f : Flush
   pub cost : Costs old new (with_registers 17 33)
   pub law : (run : Run) → IsRun new run → IsFlush run valid eos stride f
 
--- when the oldest copy ends, if it is open: with the end, with its last tuple, or in its turn
-pub record IsTrigger (run : Run) (valid eos due : Bit) (size advance : ℕ) (r : Trigger) : Type 0 where
+-- when the oldest copy ends, if it is open: with the end, with the unit that completes it, or in its turn
+pub record IsTrigger (run : Run) (unit eos due : Bit) (size advance : ℕ) (r : Trigger) : Type 0 where
   pub next : (t : ℕ)
       → held_at (size - 1) run r.left (suc t) ≡ counted_down (size - 1) (advance - 1) (line_at run eos t)
-      (line_at run valid t) (held_at (size - 1) run r.left t)
+      (line_at run unit t) (held_at (size - 1) run r.left t)
+  pub last : (t : ℕ) → line_at run r.last t ≡ (line_at run unit t && nat_eq (held_at (size - 1) run r.left t) 0)
   pub trigger : (t : ℕ)
       → line_at run r.trigger t ≡ (line_at run eos t
-      || ((line_at run valid t && nat_eq (held_at (size - 1) run r.left t) 0) || line_at run due t))
+      || ((line_at run unit t && nat_eq (held_at (size - 1) run r.left t) 0) || line_at run due t))
 
-pub record AddsTrigger (old new : Net) (valid eos due : Bit) (size advance : ℕ) (r : Trigger) : Type 0 where
+pub record AddsTrigger (old new : Net) (unit eos due : Bit) (size advance : ℕ) (r : Trigger) : Type 0 where
   pub keeps : Keeps old new
+  pub last : IsBit new r.last
   pub bit : IsBit new r.trigger
   pub cost : Costs old new (with_registers 15 32)
-  pub law : (run : Run) → IsRun new run → IsTrigger run valid eos due size advance r
+  pub law : (run : Run) → IsRun new run → IsTrigger run unit eos due size advance r
 
 -- whether the copy that ends takes the row that came with the end
 pub record IsTail (run : Run) (valid eos idle : Bit) (r : Tail) : Type 0 where

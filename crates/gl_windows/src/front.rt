@@ -32,12 +32,21 @@ pub fn put_front(
 {
     let v = wire.valid;
     let e = wire.eos;
-    let opening = count_openings(net, v, e, advance)?;
+    let opening = count_openings(net, v, e, 0, advance)?;
     let flush = count_flush(net, v, e, stride)?;
     let trigger = count_left(net, v, e, flush.due, size, advance)?;
     let tail = keep_tail(net, v, e, flush.idle)?;
     let opened = pointer(net, opening.opens, 32, u128::from(count - 1))?;
-    let open = rotate(alloc, net, opening.opens, opened, trigger.trigger, count)?;
+    let open = rotate(
+        alloc,
+        net,
+        opening.opens,
+        opened,
+        trigger.trigger,
+        0,
+        0,
+        count,
+    )?;
     let takes = take_rows(alloc, net, v, e, tail.tail, &open.mids, &open.ends)?;
     let row = hold_all(alloc, net, v, &wire.columns)?;
     // Named, since a goal speaks of the value.

@@ -14,9 +14,9 @@ use std::alloc::Global;
 /// When a copy opens.
 #[derive(Clone, Copy, PartialEq, Eq, Debug)]
 pub struct Opening {
-    /// The tuples before the next window opens.
+    /// The units before the next window opens.
     pub until: Bus,
-    /// 1 with the tuple that opens one.
+    /// 1 with the unit that opens one.
     pub opens: Bit,
 }
 
@@ -36,8 +36,10 @@ pub struct Flush {
 /// When the oldest copy ends, if it is open.
 #[derive(Clone, Copy, PartialEq, Eq, Debug)]
 pub struct Trigger {
-    /// The tuples before the one that completes the oldest window.
+    /// The units before the one that completes the oldest window.
     pub left: Bus,
+    /// 1 with that one.
+    pub last: Bit,
     /// 1 where it ends.
     pub trigger: Bit,
 }
@@ -51,21 +53,23 @@ pub struct Tail {
     pub tail: Bit,
 }
 
-/// Counts the tuples to the next opening.
+/// Counts the units to the next opening: so many of each stream come before the first one.
 pub fn count_openings(
     net: &mut NetBuilder,
-    valid: Bit,
+    unit: Bit,
     eos: Bit,
+    before: u32,
     advance: u32,
 ) -> Result<Opening, Memory>
-    requires valid { IsBit net.old valid }
+    requires unit { IsBit net.old unit }
     requires eos { IsBit net.old eos }
     requires advance { 1 ≤ advance }
-    ensures { IfOk result (AddsOpening net.old net.new valid eos advance) }
+    ensures { IfOk result (AddsOpening net.old net.new unit eos before advance) }
 {
+    let first = u128::from(before);
     let again = u128::from(advance - 1);
-    let until = count_down(net, eos, valid, 32, 0, 0, again)?;
-    let opens = when_equal(net, valid, until, 0)?;
+    let until = count_down(net, eos, unit, 32, first, first, again)?;
+    let opens = when_equal(net, unit, until, 0)?;
     Ok(Opening { until, opens })
 }
 
@@ -89,29 +93,33 @@ pub fn count_flush(net: &mut NetBuilder, valid: Bit, eos: Bit, stride: u32) -> R
     })
 }
 
-/// Counts the tuples to the one that completes the oldest window.
+/// Counts the units to the one that completes the oldest window.
 pub fn count_left(
     net: &mut NetBuilder,
-    valid: Bit,
+    unit: Bit,
     eos: Bit,
     due: Bit,
     size: u32,
     advance: u32,
 ) -> Result<Trigger, Memory>
-    requires valid { IsBit net.old valid }
+    requires unit { IsBit net.old unit }
     requires eos { IsBit net.old eos }
     requires due { IsBit net.old due }
     requires size { 1 ≤ size }
     requires advance { 1 ≤ advance }
-    ensures { IfOk result (AddsTrigger net.old net.new valid eos due size advance) }
+    ensures { IfOk result (AddsTrigger net.old net.new unit eos due size advance) }
 {
     let rows = u128::from(size - 1);
     let again = u128::from(advance - 1);
-    let left = count_down(net, eos, valid, 32, rows, rows, again)?;
-    let last = when_equal(net, valid, left, 0)?;
+    let left = count_down(net, eos, unit, 32, rows, rows, again)?;
+    let last = when_equal(net, unit, left, 0)?;
     let may = either(net, last, due)?;
     let trigger = either(net, eos, may)?;
-    Ok(Trigger { left, trigger })
+    Ok(Trigger {
+        left,
+        last,
+        trigger,
+    })
 }
 
 /// Keeps whether a tuple came with the end.

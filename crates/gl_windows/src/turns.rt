@@ -1,6 +1,6 @@
 //! Copies that open one after another and end one after another.
 
-ghost use Rattle.std.specs.Prelude.{◌≡◌, ◌∷◌, ◌++◌, ◌≤◌, [], IfOk, length, replicate};
+ghost use Rattle.std.specs.Prelude.{◌≡◌, ◌∷◌, ◌++◌, ◌<◌, ◌≤◌, [], IfOk, length, replicate};
 ghost use Rattle.gl_net.specs.Net.{IsBit, IsBus};
 ghost use Rattle.gl_wire_registers.specs.Lines.{AreBits};
 ghost use Rattle.gl_windows.specs.Turns.{AddsRotation, Turns};
@@ -77,26 +77,37 @@ pub fn take_turn(
     })
 }
 
-// Reset words: a bit for each copy, and the pointer.
-fn resets(alloc: Global, zero: Word, first: Word, count: usize) -> Result<Vec<Word>, Memory>
-    ensures { IfOk result (λ v. v.items ≡ replicate count zero ++ first ∷ []) }
+// Reset words: a bit for each copy, that of the last one apart, and the pointer.
+fn resets(
+    alloc: Global,
+    zero: Word,
+    last: Word,
+    first: Word,
+    others: usize,
+) -> Result<Vec<Word>, Memory>
+    ensures { IfOk result (λ v. v.items ≡ (replicate others zero ++ last ∷ []) ++ first ∷ []) }
 {
-    let Ok(mut all) = vec![in alloc; zero; count] else {
+    let Ok(mut all) = vec![in alloc; zero; others] else {
         return Err(Memory);
     };
+    if all.push(last).is_err() {
+        return Err(Memory);
+    }
     match all.push(first) {
         Ok(()) => Ok(all),
         Err(_) => Err(Memory),
     }
 }
 
-/// The copies, in registers that reset clears.
+/// The copies, in registers that reset clears, but for the last copy's flag and the pointer to the oldest one.
 pub fn rotate(
     alloc: Global,
     net: &mut NetBuilder,
     opens: Bit,
     opened: Bus,
     trigger: Bit,
+    last: u32,
+    first: u32,
     count: u32,
 ) -> Result<OpenCopies, Memory>
     requires opens { IsBit net.old opens }
@@ -104,14 +115,18 @@ pub fn rotate(
     requires opened_width { opened.width ≡ 32 }
     requires trigger { IsBit net.old trigger }
     requires some_copy { 1 ≤ count }
-    ensures { IfOk result (AddsRotation net.old net.new count opens opened trigger) }
+    requires last { last ≤ 1 }
+    requires first { first < count }
+    ensures { IfOk result (AddsRotation net.old net.new count last first opens opened trigger) }
 {
     let copies = count as usize;
-    let resets = resets(alloc, word(0, 1), word(0, 32), copies)?;
+    let flag = word(u128::from(last), 1);
+    let pointer = word(u128::from(first), 32);
+    let resets = resets(alloc, word(0, 1), flag, pointer, copies - 1)?;
     let registers = open_all(alloc, net, resets.as_slice())?;
-    let (first, last) = registers.as_slice().split_at(copies);
-    let oldest = last[0];
-    let flags = Bits::from_vec(lines_of(alloc, first)?);
+    let (bits, pointers) = registers.as_slice().split_at(copies);
+    let oldest = pointers[0];
+    let flags = Bits::from_vec(lines_of(alloc, bits)?);
     let turn = take_turn(alloc, net, opens, opened, trigger, &flags, oldest, count)?;
     let nexts = buses_with(alloc, turn.kept.as_slice(), turn.next)?;
     drive_all(net, registers.as_slice(), nexts.as_slice())?;

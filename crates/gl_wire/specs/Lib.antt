@@ -3,6 +3,7 @@ pub mod Beats
 pub mod Serves
 pub mod Shapes
 pub mod Spills
+pub mod Ticks
 pub mod Serving
 pub mod Once
 pub mod Pace

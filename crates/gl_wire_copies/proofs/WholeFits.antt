@@ -4,13 +4,12 @@ use Rattle.std.proofs.lemmas.Bool.{cases_lt, cases_Bool}
 use Rattle.gl_algebra.specs.declared.figures.Figures.{Figures}
 use Rattle.gl_algebra.specs.FigureTable.{IsSound, stride_of}
 use Rattle.gl_bits.specs.Results.{Row}
-use Rattle.gl_wire.specs.Apart.{Carries, a_tuple, an_end}
 use Rattle.gl_wire.specs.Beats.{Beats, last, most, gap, Spaced}
 use Rattle.gl_wire.specs.Wire.{Carried, rows}
 use Rattle.gl_wire.specs.Serves.{HasEnd, OneEnd, Caused, Fits}
 use Rattle.gl_wire.specs.Shapes.{IsDelayed}
-use Rattle.gl_wire.proofs.ApartLemmas.{carried_beat}
 use Rattle.gl_wire.proofs.RowsLemmas.{rows-part, rows-one}
+use Rattle.gl_wire_copies.specs.Coming.{Coming, KeepsBeats}
 use Rattle.gl_wire_copies.specs.Lift.{Visits, visits, tuple_of_any, all_of}
 use Rattle.gl_wire_copies.specs.Timed.{Origin, NoEnd, Rested, Timed}
 use Rattle.gl_wire_copies.specs.Rotates.{Rotates, OverCopies, turns_of, delay_of_whole}
@@ -19,10 +18,10 @@ use Rattle.gl_wire_copies.proofs.LiftLemmas.{joined, Apart}
 use Rattle.gl_wire_copies.proofs.TimeLemmas.{same_beat}
 use Rattle.gl_wire_copies.proofs.WholeTime.{Cause, IsWhole}
 
-module _ (f s h : Figures) (count g1 g2 : ℕ) (few many : ℕ → ℕ) {Part : Type 0} (of : ℕ × List Row → Part) (parts : List Row → List Part) (figs : OverCopies f s h count g1 g2 few many)
+module _ (f s h : Figures) (count g1 g2 : ℕ) (few many : ℕ → ℕ) {Part : Type 0} (of : ℕ × List Row → Part) (parts : ℕ → List Part) (figs : OverCopies f s h count g1 g2 few many)
     (sound_f : IsSound f) (sound_s : IsSound s) (sound : IsSound h) (copies_some : 1 ≤ count)
-    (beats : Beats) (spaced : Spaced h beats) (a : Carried) (fits : Fits f beats a) (timed : Timed g1 g2 a)
-    (who : Visits) (ins outs : ℕ → Carried) (rot : Rotates s count g1 few many of parts a who ins)
+    (beats : Beats) (spaced : Spaced h beats) (a : Carried) (fits : Fits f beats a) (what : Coming) (keeps : KeepsBeats f beats a what) (timed : Timed g1 g2 a what)
+    (who : Visits) (ins outs : ℕ → Carried) (rot : Rotates s count g1 few many of a what parts who ins)
     (near : (k c : ℕ) (r : Row) → k < count → (outs k).tuple c ≡ Some r → (u : ℕ) × (who u ≡ Some k) × (u + s.a ≤ c) × (c ≤ u + s.le))
     (few_rows : (u k : ℕ) → who u ≡ Some k → length (rows (all_of outs count) (u + s.a) (suc s.le - s.a)) ≤ s.ne)
     (b : Carried) (close : ℕ → Bool) (back : IsDelayed 1 (record { tuple = tuple_of_any outs count; ends = close }) b)
@@ -66,7 +65,7 @@ module _ (f s h : Figures) (count g1 g2 : ℕ) (few many : ℕ → ℕ) {Part : 
   -- a tuple of the whole, in the interval of the beat of what let its visit end
   record Traced (c : ℕ) : Type 0 where
     of_cause : Cause s who c
-    origin : Origin turns g1 (stride_of s) a (of_cause).v
+    origin : Origin turns g1 (stride_of s) a what (of_cause).v
     beat : ℕ
     end : Bool
     is : beats beat ≡ Some end
@@ -87,16 +86,16 @@ module _ (f s h : Figures) (count g1 g2 : ℕ) (few many : ℕ → ℕ) {Part : 
   }
 
   traced : (c : ℕ) (r : Row) → b.tuple c ≡ Some r → Traced c
-  traced c r e = by (cases_Bool (a.ends o.of)) o.carries
+  traced c r e = by (cases_Bool (a.ends o.of))
     where
       z : Cause s who c
       z = cause c r e
 
-      o : Origin turns g1 (stride_of s) a (z).v
+      o : Origin turns g1 (stride_of s) a what (z).v
       o = rot.origin z.v z.k z.visit
 
-      by : ((a.ends o.of ≡ true) ⊎ (a.ends o.of ≡ false)) → Carries a o.of → Traced c
-      by (inl x) k =
+      by : ((a.ends o.of ≡ true) ⊎ (a.ends o.of ≡ false)) → Traced c
+      by (inl x) =
           let q = fits.ends o.of x in
           record {
             of_cause = z;
@@ -110,11 +109,10 @@ module _ (f s h : Figures) (count g1 g2 : ℕ) (few many : ℕ → ℕ) {Part : 
             high = omega (arith, q.high, figs.le, z.high, o.high);
             at_once = λ y. absurd (cc);
           }
-      by (inr x) (an_end y) = absurd (cc (x, y))
-      by (inr x) (a_tuple w y) = tuple (fits.tuples o.of w y) (fits.tuples o.of w y).end refl
+      by (inr x) = without (keeps.caused o.of o.comes) (keeps.caused o.of o.comes).end refl
         where
-          tuple : (q : Caused f beats o.of) (d : Bool) → q.end ≡ d → Traced c
-          tuple q true p =
+          without : (q : Caused f beats o.of) (d : Bool) → q.end ≡ d → Traced c
+          without q true p =
               let is : beats q.beat ≡ Some true = rw p at q.is in
               let up : o.of ≤ q.beat + f.le = rw p at q.high in
               record {
@@ -129,18 +127,18 @@ module _ (f s h : Figures) (count g1 g2 : ℕ) (few many : ℕ → ℕ) {Part : 
                 high = omega (arith, up, figs.le, z.high, o.high);
                 at_once = λ y. absurd (cc);
               }
-          tuple q false p =
+          without q false p =
               let is : beats q.beat ≡ Some false = rw p at q.is in
               let up : o.of ≤ q.beat + f.lt = rw p at q.high in
               let now = o.at_once x in
               let seen : who (suc o.of) ≡ Some z.k = ap who (sym now.0) ∙ z.visit in
               let one : length (visits who ins (suc o.of) 1) ≡ 1 = rw seen refl in
               let quiet : NoEnd a o.of (o.of + 1) = record { none = λ i l m. let g : o.of ≡ i = omega (arith, l, m) in ap a.ends (sym g) ∙ x } in
-              let rest : Rested (count * stride_of s) a o.of = record { over = λ u g l. omega (arith, timed.after u o.of g o.carries l, figs.flush) } in
+              let rest : Rested (count * stride_of s) a o.of = record { over = λ u g l. omega (arith, timed.after u o.of g o.comes l, figs.flush) } in
               let bound = rot.few_visits o.of 1 rest quiet in
-              let part = rows-part a (q.beat + f.a) (suc f.lt - f.a) o.of 1 q.low (omega (arith, up, q.low)) in
-              let most_rows : length (rows a (q.beat + f.a) (suc f.lt - f.a)) ≤ f.nt = fits.few q.beat false is in
-              let more = figs.few_more (length (rows a o.of 1)) f.nt (omega (arith, part, most_rows)) in
+              let part = keeps.part (q.beat + f.a) (suc f.lt - f.a) o.of 1 q.low (omega (arith, up, q.low)) in
+              let most_units : what.units (q.beat + f.a) (suc f.lt - f.a) ≤ f.nt = keeps.few q.beat false is in
+              let more = figs.few_more (what.units o.of 1) f.nt (omega (arith, part, most_units)) in
               let some : 1 ≤ few f.nt = omega (arith, one, bound, more) in
               let product : 1 * s.ne ≤ few f.nt * s.ne = mul-le-mul_right s.ne some in
               let there : 1 ≤ few f.nt * s.ne = omega (arith, product, z.enough) in
@@ -158,33 +156,29 @@ module _ (f s h : Figures) (count g1 g2 : ℕ) (few many : ℕ → ℕ) {Part : 
               }
 
   -- what comes after an end comes in a later beat
-  later_beat : (t u y : ℕ) → beats t ≡ Some true → HasEnd f a t u → Carries a y → u < y → t + f.le + g2 ≤ y
+  later_beat : (t u y : ℕ) → beats t ≡ Some true → HasEnd f a t u → what.comes y → u < y → t + f.le + g2 ≤ y
   later_beat t u y p e k l =
-      let q = carried_beat f beats a fits y k in
+      let q = keeps.caused y k in
       elim (cases_lt t q.beat) [
         | inl x ↦ (let w = spaced.apart t q.beat true q.end p q.is x in omega (arith, w, figs.ge, q.low, sound_f.tuples_last, sound_f.end_last))
         | inr x ↦ elim (cases_lt q.beat t) [
           | inl z ↦ absurd (let w = spaced.apart q.beat t q.end true q.is p z in let v = short q.end in omega (arith, w, v, q.high, e.low, l))
-          | inr z ↦ absurd (let g : q.beat ≡ t = omega (arith, x, z) in same k (omega (arith, q.high, last_high q.end, g)))
+          | inr z ↦ absurd (let g : q.beat ≡ t = omega (arith, x, z) in keeps.after t u y p e l (omega (arith, q.high, last_high q.end, g)) k)
         ]
       ]
-    where
-      same : Carries a y → y ≤ t + f.le → ⊥
-      same (a_tuple r x) m = let o = fits.end t p in let w = o.only u e in let z = o.after y (omega (arith, l, w)) m in cc (x, z)
-      same (an_end x) m = let o = fits.end t p in let w = o.only u e in let z = o.only y (record { is = x; low = omega (arith, e.low, l); high = m }) in omega (arith, w, z, l)
 
   -- the visits of earlier beats are over where a beat's begin
   before_beat : (t : ℕ) (e : Bool) → beats t ≡ Some e → (v k : ℕ) → who v ≡ Some k → v < t + f.a + 1 → v + (s.le + 1) ≤ t + f.a + 1 + s.a
   before_beat t e p v k w l = by (cases_Bool (a.ends o.of))
     where
-      o : Origin turns g1 (stride_of s) a v
+      o : Origin turns g1 (stride_of s) a what v
       o = rot.origin v k w
 
       by : ((a.ends o.of ≡ true) ⊎ (a.ends o.of ≡ false)) → v + (s.le + 1) ≤ t + f.a + 1 + s.a
       by (inl x) = let y = (rested t e p).over o.of x (omega (arith, o.low, l)) in omega (arith, y, o.high, all_turns, sound_s.tuples_last, sound_s.end_last)
       by (inr x) =
           let now = o.at_once x in
-          let q = carried_beat f beats a fits o.of o.carries in
+          let q = keeps.caused o.of o.comes in
           elim (cases_lt q.beat t) [
             | inl m ↦ (let y = spaced.apart q.beat t q.end e q.is p m in let g = far q.end in omega (arith, y, g, q.high, now.0, now.1, last_low q.end, sound_s.tuples_last, sound_s.end_last))
             | inr m ↦ absurd (omega (arith, q.low, o.low, l, m))
@@ -230,8 +224,8 @@ module _ (f s h : Figures) (count g1 g2 : ℕ) (few many : ℕ → ℕ) {Part : 
         let len : f.lt - f.a + 1 + (s.le - s.a) ≡ suc h.lt - h.a = omega (arith, figs.a, lt, sound_f.tuples_last, sound_s.tuples_last, sound_s.end_last) in
         let visited = rot.few_visits (t + f.a) (f.lt - f.a + 1) (rested t false p) quiet in
         let whole : f.lt - f.a + 1 ≡ suc f.lt - f.a = omega (arith, sound_f.tuples_last) in
-        let most_rows : length (rows a (t + f.a) (f.lt - f.a + 1)) ≤ f.nt = rw whole (fits.few t false p) in
-        let more = figs.few_more _ f.nt most_rows in
+        let most_units : what.units (t + f.a) (f.lt - f.a + 1) ≤ f.nt = rw whole (keeps.few t false p) in
+        let more = figs.few_more _ f.nt most_units in
         let product : length (visits who ins (suc (t + f.a)) (f.lt - f.a + 1)) * s.ne ≤ few f.nt * s.ne = mul-le-mul_right s.ne (omega (arith, visited, more)) in
         let there : length (rows b (t + h.a) (suc h.lt - h.a)) ≤ length (visits who ins (suc (t + f.a)) (f.lt - f.a + 1)) * s.ne = rw (sym at, sym len) bound in
         omega (arith, there, product, figs.nt)
@@ -252,7 +246,7 @@ module _ (f s h : Figures) (count g1 g2 : ℕ) (few many : ℕ → ℕ) {Part : 
       after : stride_of s ≤ g1 → (v k : ℕ) → who v ≡ Some k → t + f.lt + 2 ≤ v → suc (t + f.a) + (f.lt - f.a + 1) + s.le ≤ v + s.a
       after wide v k w l =
           let o = rot.origin v k w in
-          let q = carried_beat f beats a fits o.of o.carries in
+          let q = keeps.caused o.of o.comes in
           elim (cases_lt q.beat t) [
             | inl y ↦ (let g = before_beat t false p v k w (early o (cases_Bool (a.ends o.of)) q y) in absurd (omega (arith, early o (cases_Bool (a.ends o.of)) q y, l, sound_f.tuples_last)))
             | inr y ↦ elim (cases_lt t q.beat) [
@@ -261,7 +255,7 @@ module _ (f s h : Figures) (count g1 g2 : ℕ) (few many : ℕ → ℕ) {Part : 
             ]
           ]
         where
-          early : (o : Origin turns g1 (stride_of s) a v) → ((a.ends o.of ≡ true) ⊎ (a.ends o.of ≡ false)) → (q : Caused f beats o.of) → q.beat < t → v < t + f.a + 1
+          early : (o : Origin turns g1 (stride_of s) a what v) → ((a.ends o.of ≡ true) ⊎ (a.ends o.of ≡ false)) → (q : Caused f beats o.of) → q.beat < t → v < t + f.a + 1
           early o (inl x) q y =
               let gone : o.of < t + f.a = (let w = spaced.apart q.beat t q.end false q.is p y in let g = short q.end in omega (arith, w, g, q.high, last_low q.end)) in
               let z = (rested t false p).over o.of x gone in omega (arith, z, o.high, all_turns)
@@ -269,7 +263,7 @@ module _ (f s h : Figures) (count g1 g2 : ℕ) (few many : ℕ → ℕ) {Part : 
               let gone : o.of < t + f.a = (let w = spaced.apart q.beat t q.end false q.is p y in let g = short q.end in omega (arith, w, g, q.high, last_low q.end)) in
               let z = (o.at_once x).0 in omega (arith, z, gone)
 
-          mine : (o : Origin turns g1 (stride_of s) a v) (q : Caused f beats o.of) → q.beat ≡ t → ((a.ends o.of ≡ true) ⊎ (a.ends o.of ≡ false)) → ⊥
+          mine : (o : Origin turns g1 (stride_of s) a what v) (q : Caused f beats o.of) → q.beat ≡ t → ((a.ends o.of ≡ true) ⊎ (a.ends o.of ≡ false)) → ⊥
           mine o q g (inl x) =
               let y = fits.ends o.of x in
               let low : t + f.a ≤ o.of = omega (arith, q.low, g) in
@@ -293,9 +287,9 @@ module _ (f s h : Figures) (count g1 g2 : ℕ) (few many : ℕ → ℕ) {Part : 
       let at : suc (suc (t + f.a)) + s.a ≡ t + h.a = omega (arith, figs.a) in
       let len : f.le - f.a + turns + 2 + (s.le - s.a) ≡ suc h.le - h.a = omega (arith, figs.a, figs.le, sound_f.tuples_last, sound_f.end_last, sound_s.tuples_last, sound_s.end_last) in
       let visited = rot.many_visits (t + f.a) o.at (f.le - f.a + turns + 2) (rested t true p) o.here.low (omega (arith, o.here.high, sound_f.tuples_last, sound_f.end_last)) quiet o.here.is (λ y l m k. silent y k l (omega (arith, m, sound_f.tuples_last, sound_f.end_last))) in
-      let part = rows-part a (t + f.a) (suc f.le - f.a) (t + f.a) (suc (o.at - (t + f.a))) (omega arith) (omega (arith, o.here.low, o.here.high)) in
-      let most_rows : length (rows a (t + f.a) (suc f.le - f.a)) ≤ f.ne = fits.few t true p in
-      let more = figs.many_more (length (rows a (t + f.a) (suc (o.at - (t + f.a))))) f.ne (omega (arith, part, most_rows)) in
+      let part = keeps.part (t + f.a) (suc f.le - f.a) (t + f.a) (suc (o.at - (t + f.a))) (omega arith) (omega (arith, o.here.low, o.here.high)) in
+      let most_units : what.units (t + f.a) (suc f.le - f.a) ≤ f.ne = keeps.few t true p in
+      let more = figs.many_more (what.units (t + f.a) (suc (o.at - (t + f.a)))) f.ne (omega (arith, part, most_units)) in
       let product : length (visits who ins (suc (t + f.a)) (f.le - f.a + turns + 2)) * s.ne ≤ many f.ne * s.ne = mul-le-mul_right s.ne (omega (arith, visited, more)) in
       let there : length (rows b (t + h.a) (suc h.le - h.a)) ≤ length (visits who ins (suc (t + f.a)) (f.le - f.a + turns + 2)) * s.ne = rw (sym at, sym len) bound in
       omega (arith, there, product, figs.ne)
@@ -304,14 +298,14 @@ module _ (f s h : Figures) (count g1 g2 : ℕ) (few many : ℕ → ℕ) {Part : 
       calm x l m false e = e
       calm x l m true e = absurd (let o = fits.end t p in let z = o.only x (record { is = e; low = l; high = omega (arith, m, o.here.high) }) in omega (arith, z, m))
 
-      silent : (y : ℕ) → Carries a y → (fits.end t p).at < y → y < t + f.le + turns + 2 → ⊥
+      silent : (y : ℕ) → what.comes y → (fits.end t p).at < y → y < t + f.le + turns + 2 → ⊥
       silent y k l m = let z = later_beat t (fits.end t p).at y p (fits.end t p).here k l in omega (arith, z, m, figs.flush, all_turns)
 
       after : (v k : ℕ) → who v ≡ Some k → t + f.le + turns + 3 ≤ v → suc (t + f.a) + (f.le - f.a + turns + 2) + s.le ≤ v + s.a
       after v k w l =
           let o = rot.origin v k w in
           let e = fits.end t p in
-          let z = later_beat t e.at o.of p e.here o.carries (omega (arith, o.high, l, e.here.high)) in
+          let z = later_beat t e.at o.of p e.here o.comes (omega (arith, o.high, l, e.here.high)) in
           omega (arith, z, o.low, figs.flush, all_turns, sound_f.tuples_last, sound_f.end_last, sound_s.tuples_last, sound_s.end_last)
 
   -- the whole's ends
@@ -353,7 +347,7 @@ module _ (f s h : Figures) (count g1 g2 : ℕ) (few many : ℕ → ℕ) {Part : 
           let z = traced c r e in
           let of = z.origin in
           let up = z.of_cause in
-          let k = later_beat t o.at of.of p o.here of.carries (omega (arith, l, up.high, of.high)) in
+          let k = later_beat t o.at of.of p o.here of.comes (omega (arith, l, up.high, of.high)) in
           let same = same_beat f h beats spaced sound z.beat t c z.end true z.is p z.low z.high (omega (arith, l, o.here.low, figs.a, sound_s.tuples_last, sound_s.end_last)) m in
           absurd (omega (arith, k, same, z.of_high, last_high z.end, figs.flush))
 

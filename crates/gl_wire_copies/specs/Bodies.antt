@@ -5,7 +5,7 @@ use Rattle.gl_algebra.specs.Results.{Inputs, IsPlanResult}
 use Rattle.gl_bits.specs.Results.{Row, Results}
 
 abbrev pub alone : List Row → Inputs
-alone rows = record { streams = λ number. []; body = rows }
+alone rows = record { streams = λ number. []; times = λ number. []; ticks = 0; body = rows }
 
 abbrev pub OfBody : List PlanNode → ℕ → List Row → Results
 OfBody nodes body rows = IsPlanResult nodes body (alone rows)

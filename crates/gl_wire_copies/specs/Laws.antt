@@ -6,6 +6,7 @@ use Rattle.gl_wire.specs.Apart.{CarriesApart}
 use Rattle.gl_wire.specs.Beats.{Beats, Spaced}
 use Rattle.gl_wire.specs.Serves.{Fits}
 use Rattle.gl_wire.specs.Wire.{Carried}
+use Rattle.gl_wire_copies.specs.Coming.{by_tuples}
 use Rattle.gl_wire_copies.specs.Timed.{Timed}
 
 -- a wire that fits, and carries so far apart, is in time for a front, where beats leave room for a whole after an end
@@ -13,4 +14,4 @@ abbrev pub FitsIsTimed : Type 0
 FitsIsTimed =
     (f h : Figures) (g1 g2 : ℕ) (beats : Beats) (a : Carried) → IsSound f
     → f.lt - f.a + 1 ≤ h.gt → f.le - f.a + 1 ≤ h.ge → f.le - f.a + g2 ≤ h.ge
-    → Spaced h beats → Fits f beats a → CarriesApart g1 a → Timed g1 g2 a
+    → Spaced h beats → Fits f beats a → CarriesApart g1 a → Timed g1 g2 a (by_tuples a)

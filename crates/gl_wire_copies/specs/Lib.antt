@@ -1,4 +1,5 @@
 pub mod Lift
+pub mod Coming
 pub mod Timed
 pub mod Rotates
 pub mod Laws

@@ -4,9 +4,9 @@ use Rattle.std.specs.Prelude.{◌≡◌, ℕ, zero, suc, ◌+◌, ◌-◌, ◌*�
 use Rattle.gl_algebra.specs.declared.figures.Figures.{Figures}
 use Rattle.gl_algebra.specs.FigureTable.{stride_of}
 use Rattle.gl_bits.specs.Results.{Row}
-use Rattle.gl_wire.specs.Apart.{Carries}
 use Rattle.gl_wire.specs.Spills.{Lines}
-use Rattle.gl_wire.specs.Wire.{Carried, pending, stream, rows}
+use Rattle.gl_wire.specs.Wire.{Carried, pending}
+use Rattle.gl_wire_copies.specs.Coming.{Coming}
 use Rattle.gl_wire_copies.specs.Lift.{Visits, visits, Schedules}
 use Rattle.gl_wire_copies.specs.Timed.{Begins, Origin, NoEnd, Rested}
 
@@ -22,27 +22,26 @@ flush_of count body = count * stride_of body
 abbrev pub delay_of_whole : ℕ → Figures → ℕ
 delay_of_whole count body = body.le + turns_of count body + 3
 
--- a front over copies of a body, which cuts each stream of its source into parts
+-- a front over copies of a body, at which this comes, and which cuts the stream that ends in a cycle into parts
 pub record Rotates (body : Figures) (count g1 : ℕ) (few many : ℕ → ℕ) {Part : Type 0} (of : ℕ × List Row → Part)
-    (parts : List Row → List Part)
-    (a : Carried) (who : Visits) (ins : ℕ → Carried) : Type 0 where
-  -- it schedules visits, each of which something of the source lets end
+    (a : Carried) (what : Coming) (parts : ℕ → List Part) (who : Visits) (ins : ℕ → Carried) : Type 0 where
+  -- it schedules visits, each of which something that came lets end
   pub schedules : Schedules body count who ins
-  pub origin : (v k : ℕ) → who v ≡ Some k → Origin (turns_of count body) g1 (stride_of body) a v
+  pub origin : (v k : ℕ) → who v ≡ Some k → Origin (turns_of count body) g1 (stride_of body) a what v
   -- the visits of a stream begin here and, in order, are of its parts
   pub from : ℕ → ℕ
   pub begins : (u : ℕ) → a.ends u ≡ true → Begins (flush_of count body) a (from u) u
   pub parted : (u : ℕ) → a.ends u ≡ true
-      → map of (visits who ins (from u) (u + turns_of count body + 2 - from u)) ≡ parts (stream a u)
+      → map of (visits who ins (from u) (u + turns_of count body + 2 - from u)) ≡ parts u
   -- few visits end while no end of the source comes, and not too many with it
   pub few_visits : (x n : ℕ) → Rested (flush_of count body) a x → NoEnd a x (x + n)
-      → length (visits who ins (suc x) n) ≤ few (length (rows a x n))
+      → length (visits who ins (suc x) n) ≤ few (what.units x n)
   pub many_visits : (x u n : ℕ) → Rested (flush_of count body) a x → x ≤ u → u < x + n → NoEnd a x u → a.ends u ≡ true
-      → ((y : ℕ) → u < y → y < x + n → Carries a y → ⊥)
-      → length (visits who ins (suc x) n) ≤ many (length (rows a x (suc (u - x))))
-  -- a copy's tuple without an end came one cycle before, and after a flush no copy has begun a stream
+      → ((y : ℕ) → u < y → y < x + n → what.comes y → ⊥)
+      → length (visits who ins (suc x) n) ≤ many (what.units x (suc (u - x)))
+  -- a copy's tuple without an end is of what came one cycle before, and after a flush no copy has begun a stream
   pub caused : (k c : ℕ) (r : Row) → k < count → (ins k).tuple c ≡ Some r → (ins k).ends c ≡ false → (x : ℕ)
-      × (c ≡ suc x) × Carries a x
+      × (c ≡ suc x) × what.comes x
   pub empties : (u k : ℕ) → a.ends u ≡ true → k < count → pending (ins k) (u + turns_of count body + 2) ≡ []
 
 -- the figures h of a whole over a source's f: in time for the flush, and with room for the tuples of all visits

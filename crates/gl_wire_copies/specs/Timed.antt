@@ -1,12 +1,12 @@
 -- What a front of copies asks of time, and what it says of the cycles in which visits begin and end.
 use Rattle.std.specs.Prelude.{◌≡◌, ℕ, suc, ◌+◌, ◌<◌, ◌≤◌, true, false}
-use Rattle.gl_wire.specs.Apart.{Carries, CarriesApart}
 use Rattle.gl_wire.specs.Wire.{Carried}
+use Rattle.gl_wire_copies.specs.Coming.{Coming}
 
--- what a wire carries is so far apart, and what comes after an end is as far behind it as the second number
-pub record Timed (g1 g2 : ℕ) (a : Carried) : Type 0 where
-  pub apart : CarriesApart g1 a
-  pub after : (u d : ℕ) → a.ends u ≡ true → Carries a d → u < d → u + g2 ≤ d
+-- what comes is so far apart, and what comes after an end of the source is as far behind it as the second number
+pub record Timed (g1 g2 : ℕ) (a : Carried) (what : Coming) : Type 0 where
+  pub apart : (c d : ℕ) → what.comes c → what.comes d → c < d → c + g1 ≤ d
+  pub after : (u d : ℕ) → a.ends u ≡ true → what.comes d → u < d → u + g2 ≤ d
 
 -- where the visits of the stream that ends in a cycle begin: at the start, or where the flush of the stream before is
 -- over
@@ -16,9 +16,9 @@ pub data Begins (flush : ℕ) (a : Carried) (lo c : ℕ) : Type 0 where
       → Begins flush a lo c
 
 -- what lets a visit end: something came the cycle before, or it is the visit's turn of a flush
-pub record Origin (turns g1 stride : ℕ) (a : Carried) (v : ℕ) : Type 0 where
+pub record Origin (turns g1 stride : ℕ) (a : Carried) (what : Coming) (v : ℕ) : Type 0 where
   pub of : ℕ
-  pub carries : Carries a of
+  pub comes : what.comes of
   pub low : suc of ≤ v
   pub high : v ≤ suc of + turns
   pub at_once : a.ends of ≡ false → (v ≡ suc of) × (stride ≤ g1)

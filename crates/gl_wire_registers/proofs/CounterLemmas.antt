@@ -49,21 +49,21 @@ turned_below last v true l = by (nat_eq v last) refl
     by false e = elim (cases_lt v last) [ inl h ↦ omega (arith, h) | inr h ↦ (let q : v ≡ last = omega (arith, h, l) in let z = eq-eqb v last q in absurd (cc)) ]
 
 -- a pointer stays below its last value, so that its step is that of numbers
-module _ (run : Run) (b : Bus) (last : ℕ) (tick : ℕ → Bool) (calm : tick 0 ≡ false) (first : run.at 1 b.node ≡ 0)
+module _ (run : Run) (b : Bus) (start last : ℕ) (tick : ℕ → Bool) (calm : tick 0 ≡ false) (low : start ≤ last) (first : run.at 1 b.node ≡ start)
     (next : (t : ℕ) → run.at (suc t) b.node ≤ last → run.at (suc (suc t)) b.node ≡ turned last (tick (suc t)) (run.at (suc t) b.node)) where
   pointer_below : (t : ℕ) → run.at (suc t) b.node ≤ last
-  pointer_below zero = omega (arith, first)
+  pointer_below zero = omega (arith, first, low)
   pointer_below (suc t) = let l = pointer_below t in rw (next t l) (turned_below last (run.at (suc t) b.node) (tick (suc t)) l)
 
-  pub pointer_by : (t : ℕ) → (held_at 0 run b t ≤ last) × (held_at 0 run b (suc t) ≡ turned last (tick t) (held_at 0 run b t))
+  pub pointer_by : (t : ℕ) → (held_at start run b t ≤ last) × (held_at start run b (suc t) ≡ turned last (tick t) (held_at start run b t))
   unfolding held_at
-  pointer_by zero = (omega arith, rw calm first)
+  pointer_by zero = (low, rw calm first)
   pointer_by (suc t) = (pointer_below t, next t (pointer_below t))
 
 pub pointer_at : (run : Run) (b : Bus) (last : ℕ) (tick : Bit) → run.at 1 b.node ≡ 0 → ((t : ℕ) → run.at (suc t) b.node ≤ last → run.at (suc (suc t)) b.node ≡ turned last (line_at run tick (suc t)) (run.at (suc t) b.node))
     → (t : ℕ) → (held_at 0 run b t ≤ last) × (held_at 0 run b (suc t) ≡ turned last (line_at run tick t) (held_at 0 run b t))
 unfolding line_at
-pointer_at run b last tick first next = pointer_by run b last (line_at run tick) refl first next
+pointer_at run b last tick first next = pointer_by run b 0 last (line_at run tick) refl (omega arith) first next
 
 -- the latch
 pub latch_at : (run : Run) (b set clear kept next : Bit) → run.at 1 b.node ≡ 0 → ((t : ℕ) → run.at (suc (suc t)) b.node ≡ run.at (suc t) next.node)

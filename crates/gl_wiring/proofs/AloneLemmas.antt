@@ -1,5 +1,5 @@
 -- The circuit of a root that has no spare copies: its node's own.
-use Rattle.std.proofs.Common.{◌≡◌, ℕ, ◌+◌, ◌*◌, ◌<◌, ◌≤◌, List, length, None, sym, subst, arith}
+use Rattle.std.proofs.Common.{◌≡◌, ℕ, ◌+◌, ◌*◌, ◌<◌, ◌≤◌, List, length, None, sym, subst, arith, Option}
 use Rattle.gl_bits.proofs.AllLists.{get_there}
 use Rattle.gl_algebra.specs.declared.figures.Figures.{Figures}
 use Rattle.gl_algebra.specs.declared.node.PlanNode.{PlanNode}
@@ -9,11 +9,12 @@ use Rattle.gl_algebra.specs.Results.{IsPlanResult}
 use Rattle.gl_algebra.specs.Roots.{root_figures, spare_at}
 use Rattle.gl_algebra.proofs.FigureLemmas.{figures_are_sound}
 use Rattle.gl_figures.proofs.RootLemmas.{figures_there}
+use Rattle.gl_net.specs.declared.node.Bit.{Bit}
 use Rattle.gl_net.specs.Net.{Net, Run, IsRun}
 use Rattle.gl_wire.specs.declared.emitted.Emitted.{Emitted}
 use Rattle.gl_wire.specs.declared.wire.Wire.{Wire}
 use Rattle.gl_wire.specs.Beats.{Spaced}
-use Rattle.gl_wire.specs.Faults.{lines_of}
+use Rattle.gl_wire.specs.Faults.{line_of, lines_of}
 use Rattle.gl_wire.specs.Once.{ServingOnce}
 use Rattle.gl_wire.specs.Serving.{inputs_at}
 use Rattle.gl_wire.specs.Wire.{carried}
@@ -32,9 +33,9 @@ behind new old own further h = omega (arith, h)
 bits_behind : (new old own further keys more : ℕ) → new ≤ old + (64 * own + keys) → new ≤ old + (64 * (own + further) + (keys + more))
 bits_behind new old own further keys more h = omega (arith, h)
 
-pub root_alone : (nodes : List PlanNode) (root : ℕ) (old new : Net) (leaves : List Wire) (e : Emitted) → IsPlan nodes → root < length nodes
-    → spare_at nodes root ≡ None → IsPut nodes root old new leaves e → IsRootPut nodes root old new leaves e
-root_alone nodes root old new leaves e plan within none put =
+pub root_alone : (nodes : List PlanNode) (root : ℕ) (old new : Net) (tick : Option Bit) (leaves : List Wire) (e : Emitted) → IsPlan nodes → root < length nodes
+    → spare_at nodes root ≡ None → IsPut nodes root old new tick leaves e → IsRootPut nodes root old new tick leaves e
+root_alone nodes root old new tick leaves e plan within none put =
     record {
       keeps = put.keeps;
       cost = record {
@@ -42,17 +43,17 @@ root_alone nodes root old new leaves e plan within none put =
         registers = bits_behind _ _ (lean_of nodes root) (further_lean nodes root) (keys_of nodes root) (further_keys nodes root) put.cost.registers;
         memories = behind _ _ _ _ put.cost.memories;
       };
-      columns = put_columns nodes root old new leaves e put;
+      columns = put_columns nodes root old new tick leaves e put;
       once = once;
     }
   where
     same : root_figures nodes root ≡ figures_of nodes root
     same = let here = get_there nodes root within in figures_there nodes root here.0 None here.1 none
 
-    once : (run : Run) → IsRun new run → ServesOnceIn nodes root leaves e run
+    once : (run : Run) → IsRun new run → ServesOnceIn nodes root tick leaves e run
     once run is beats last one spaced has =
         let own = subst (λ (g : Figures). Spaced g beats) same spaced in
-        subst (λ (g : Figures). ServingOnce g (IsPlanResult nodes root (inputs_at (leaf run leaves) (leaf run leaves 0) last)) (lines_of run e.faults) last
+        subst (λ (g : Figures). ServingOnce g (IsPlanResult nodes root (inputs_at (line_of run tick) (leaf run leaves) (leaf run leaves 0) last)) (lines_of run e.faults) last
         (carried run e.wire)) (sym same)
-        (serving_once (figures_of nodes root) (λ t. IsPlanResult nodes root (inputs_at (leaf run leaves) (leaf run leaves 0) t)) (lines_of run e.faults)
+        (serving_once (figures_of nodes root) (λ t. IsPlanResult nodes root (inputs_at (line_of run tick) (leaf run leaves) (leaf run leaves 0) t)) (lines_of run e.faults)
         beats (carried run e.wire) last (figures_are_sound nodes root plan within) own one (put.gives.serving run is beats own has))

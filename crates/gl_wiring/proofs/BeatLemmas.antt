@@ -6,7 +6,7 @@ use Rattle.std.proofs.lemmas.Bool.{ne_eqb, cases_eq}
 use Rattle.gl_schema.specs.Beats.{Beat, AreInOrder, row_in, input_of, last_cycle, beat_at, ends_at}
 use Rattle.gl_wiring.specs.Bringing.{row_at}
 
-last_late : (b : Beat) (bs : List Beat) → AreInOrder (b ∷ bs) → b.cycle ≤ last_cycle (b ∷ bs)
+pub last_late : (b : Beat) (bs : List Beat) → AreInOrder (b ∷ bs) → b.cycle ≤ last_cycle (b ∷ bs)
 last_late b [] k = omega arith
 last_late b (c ∷ bs) k = omega (arith, k.1, last_late c bs k.2)
 

@@ -1,5 +1,5 @@
 -- Copies of a body behind the wires of a front, each over the beats of its own wire, and the source before them.
-use Rattle.std.proofs.Common.{◌≡◌, ℕ, zero, suc, ◌+◌, ◌<◌, List, [], ◌∷◌, length, Some, slice_get, refl, sym, ap, ◌∙◌, subst, arith}
+use Rattle.std.proofs.Common.{◌≡◌, ℕ, zero, suc, ◌+◌, ◌<◌, List, [], ◌∷◌, length, Some, None, slice_get, refl, sym, ap, ◌∙◌, subst, arith, Option}
 use Rattle.gl_bits.proofs.AllLists.{get_there}
 use Rattle.gl_algebra.specs.declared.figures.Figures.{Figures}
 use Rattle.gl_algebra.specs.declared.node.PlanNode.{PlanNode}
@@ -8,6 +8,7 @@ use Rattle.gl_algebra.specs.Fits.{IsBodyFor, IsPlan}
 use Rattle.gl_algebra.specs.Results.{IsPlanResult}
 use Rattle.gl_algebra.specs.Shapes.{kinds_of, shape_of}
 use Rattle.gl_algebra.proofs.ReadLemmas.{body_reads}
+use Rattle.gl_net.specs.declared.node.Bit.{Bit}
 use Rattle.gl_net.specs.Net.{Net, Run, IsRun, Keeps}
 use Rattle.gl_net.proofs.Determined.{keeps_then}
 use Rattle.gl_wire_copies.specs.Bodies.{OfBody, alone}
@@ -19,7 +20,7 @@ use Rattle.gl_wire.specs.declared.wire.Wire.{Wire}
 use Rattle.gl_wire.specs.Apart.{CarriesApart}
 use Rattle.gl_wire.specs.Beats.{Beats, Spaced, beats_of}
 use Rattle.gl_wire.specs.Costs.{Cost, Costs, CostsAtMost}
-use Rattle.gl_wire.specs.Faults.{lines_of}
+use Rattle.gl_wire.specs.Faults.{line_of, lines_of}
 use Rattle.gl_wire.specs.Serving.{Serving, inputs_at}
 use Rattle.gl_wire.specs.Spills.{Lines}
 use Rattle.gl_wire.specs.Wire.{Carried, carried, stream, widths}
@@ -45,7 +46,7 @@ no_more old new cost h = record { nodes = omega (arith, h.nodes); registers = om
 
 -- before a front, which keeps what stood before it, the source's rows are far enough apart
 module _ (nodes : List PlanNode) (source gap : ℕ) (g : Figures) (room : LeavesRoom gap (spaced gap (figures_of nodes source)) g)
-    (old mid net new : Net) (leaves : List Wire) (below between : Emitted) (h : IsPut nodes source old mid leaves below)
+    (old mid net new : Net) (tick : Option Bit) (leaves : List Wire) (below between : Emitted) (h : IsPut nodes source old mid tick leaves below)
     (sp : IsSpacedFor mid net gap (figures_of nodes source) below between) (keeps : Keeps net new) where
   abbrev p : Figures
   p = figures_of nodes source
@@ -78,12 +79,12 @@ module _ (nodes : List PlanNode) (source gap : ℕ) (g : Figures) (room : Leaves
       subst (λ (cs : List ℕ). CostsAtMost mid net (cost_of_spaced gap p cs)) columns sp.behind.cost in
       costs_then old net new _ _ (costs_then old mid net _ _ h.cost spacer) cost
 
-  pub source_gives : GivesAs (paceless (shape_of nodes source)) f (IsPlanResult nodes source) new leaves between
+  pub source_gives : GivesAs (paceless (shape_of nodes source)) f (IsPlanResult nodes source) new tick leaves between
   source_gives =
-      gives_kept _ f _ net new leaves between keeps
-      (behind_same (shape_of nodes source) p f (IsPlanResult nodes source) mid net leaves below between _ _ h.gives sp.behind columns (no_closer gap p))
+      gives_kept _ f _ net new tick leaves between keeps
+      (behind_same (shape_of nodes source) p f (IsPlanResult nodes source) mid net tick leaves below between _ _ h.gives sp.behind columns (no_closer gap p))
 
-  pub source_apart : (run : Run) → IsRun new run → (beats : Beats) → Spaced g beats → LeavesFit run leaves beats
+  pub source_apart : (run : Run) → IsRun new run → (beats : Beats) → Spaced g beats → LeavesFit run tick leaves beats
       → CarriesApart gap (carried run between.wire)
   source_apart run r beats spaced_beats has =
       let run_net = keeps.runs run r in
@@ -106,9 +107,9 @@ module _ (nodes : List PlanNode) (source body : ℕ) (plan : IsPlan nodes) (in_b
       → CopyServes nodes body s (carried run wire) (lines_of run x.faults) (carried run x.wire)
   copy_serving mid net run wires count copies r are k wire x at_wire at_copy spaced_beats =
       let ls : ℕ → Carried = leaf run (wire ∷ []) in
-      serving_as s (λ t. IsPlanResult nodes body (inputs_at ls (ls 0) t)) (λ u. OfBody nodes body (stream (carried run wire) u)) (lines_of run x.faults)
+      serving_as s (λ t. IsPlanResult nodes body (inputs_at (line_of run None) ls (ls 0) t)) (λ u. OfBody nodes body (stream (carried run wire) u)) (lines_of run x.faults)
       (beats_of (carried run wire)) (carried run x.wire)
-      (λ t ys p h. body_reads nodes body plan in_body (kinds_of nodes source) for.leaves (inputs_at ls (ls 0) t) (alone (stream (carried run wire) t)) refl ys p h)
+      (λ t ys p h. body_reads nodes body plan in_body (kinds_of nodes source) for.leaves (inputs_at (line_of run None) ls (ls 0) t) (alone (stream (carried run wire) t)) refl ys p h)
       ((are.gives k wire x at_wire at_copy).serving run r (beats_of (carried run wire)) spaced_beats (copy_fits run wire))
 
   pub copies_serve : (mid net : Net) (run : Run) (wires : List Wire) (c : ℕ) (copies : List Emitted) → IsRun net run → AreBodies nodes body mid net wires c copies

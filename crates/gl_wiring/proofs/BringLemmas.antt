@@ -7,6 +7,7 @@ use Rattle.gl_bits.proofs.Options.{some_same}
 use Rattle.gl_bits.specs.Words.{bit}
 use Rattle.gl_net.specs.Net.{Net, Run}
 use Rattle.gl_net.specs.PortValues.{input_values}
+use Rattle.gl_net.specs.declared.node.Bit.{Bit}
 use Rattle.gl_net.specs.declared.node.Bus.{Bus}
 use Rattle.gl_schema.specs.Beats.{Beat, AreBeats, AreRowsOf, IsBeat, beat_at, ends_at, input_of, row_in, rows_at, ticks_at}
 use Rattle.gl_schema.specs.Ports.{Pin, pin, column_pins, stream_pins, streams_pins, IsStimulus, eos, tick, in_valid, in_column}
@@ -18,9 +19,10 @@ use Rattle.gl_wire.specs.Wire as wire
 use Rattle.gl_wire.specs.Wire.{carried, line_at, tuple_at}
 use Rattle.gl_wire.specs.declared.wire.Wire.{Wire}
 use Rattle.gl_wire.proofs.StageLemmas.{line_first, tuple_by}
-use Rattle.gl_wiring.specs.Bringing.{Brings, row_at}
+use Rattle.gl_wire.specs.Faults.{line_of}
+use Rattle.gl_wiring.specs.Bringing.{Brings, BringsTicks, row_at}
 use Rattle.gl_wiring.specs.Emitted.{AreInputs}
-use Rattle.gl_wiring.specs.StreamWires.{IsStreamWire}
+use Rattle.gl_wiring.specs.StreamWires.{IsStreamWire, IsTickLine}
 use Rattle.gl_wiring.proofs.Following as ports
 use Rattle.gl_wiring.proofs.Following.{Carries, bit_high, row_of-beat, stream_at}
 use Rattle.gl_wiring.proofs.Outputs.{AreApart, has_input, input_is}
@@ -131,3 +133,22 @@ module _ (schema : Schema) (k : ℕ) (s : Stream) (there : slice_get schema.stre
     tuples = λ n. tuple_is n (row_at k beats n) refl;
     ends = end_line;
   }
+
+-- ---- the line of ticks
+
+module _ (schema : Schema) (beats : List Beat) (net : Net) (run : Run) (apart : AreApart net) (stimulus : IsStimulus schema beats (input_values net run)) where
+  tick_line : (b : Bit) → IsTickLine net true (Some b) → (n : ℕ) → line_at run b (suc n) ≡ ticks_at beats n
+  unfolding line_at
+  tick_line b is n =
+      let P : Pin → Type 0 = Carries (input_values net run) (suc n) in
+      let all = (stimulus.carries (suc n)).1 in
+      let own = (all_back P (streams_pins schema.streams (rows_at beats n)) (pin eos (bit (ends_at beats n)) ∷ pin tick (bit (ticks_at beats n)) ∷ []) all).1.0 in
+      let here : run.at (suc n) b.node ≡ bit (ticks_at beats n) =
+      sym (input_is net run (suc n) tick b.node apart is.1)
+      ∙ ports.carried (input_values net run) (suc n) tick _ (has_input net run tick b.node apart is.1) own in
+      ap (λ (v : ℕ). nat_eq v 1) here ∙ bit_high (ticks_at beats n)
+
+  pub ticks_come : (reads : Bool) (line : Option Bit) → IsTickLine net reads line → BringsTicks reads beats (line_of run line)
+  ticks_come true None is = absurd is
+  ticks_come true (Some b) is = record { first = line_first run b; ticks = λ r. tick_line b is; none = λ r. absurd (cc) }
+  ticks_come false line is = rw is (record { first = refl; ticks = λ r. absurd (cc); none = λ r c. refl })

@@ -1,5 +1,5 @@
 -- Circuits of a body behind the wires of a front.
-use Rattle.std.proofs.Common.{◌≡◌, ℕ, zero, suc, ◌+◌, ◌*◌, List, [], ◌∷◌, ◌++◌, length, Some, All, slice_get, length-append, refl, sym, ap, ◌∙◌, subst, arith}
+use Rattle.std.proofs.Common.{◌≡◌, ℕ, zero, suc, ◌+◌, ◌*◌, List, [], ◌∷◌, ◌++◌, length, Some, None, All, slice_get, length-append, refl, sym, ap, ◌∙◌, subst, arith, Option}
 use Rattle.std.proofs.lemmas.List.Elements.{All-head, All-tail}
 use Rattle.std.proofs.lemmas.Option.{slice_get_within}
 use Rattle.std.proofs.Math.Nat.{add-mul}
@@ -13,6 +13,7 @@ use Rattle.gl_algebra.specs.Fits.{IsBodyFor, IsPlan}
 use Rattle.gl_algebra.specs.Nodewise.{named_by}
 use Rattle.gl_algebra.specs.Shapes.{kinds_of, shape_of}
 use Rattle.gl_algebra.proofs.ListLemmas.{earlier, last, place_in_append}
+use Rattle.gl_net.specs.declared.node.Bit.{Bit}
 use Rattle.gl_net.specs.Net.{Net, Run, Keeps}
 use Rattle.gl_net.proofs.Determined.{keeps_then}
 use Rattle.gl_net.proofs.Growth.{same_keeps}
@@ -39,35 +40,37 @@ body_leaves net w kinds is columns (x ∷ xs) h = (
 )
 
 -- the one leaf of a copy fits the beats of its own wire
-pub copy_fits : (run : Run) (w : Wire) → LeavesFit run (w ∷ []) (beats_of (carried run w))
-copy_fits run w = record { each = each }
+pub copy_fits : (run : Run) (w : Wire) → LeavesFit run None (w ∷ []) (beats_of (carried run w))
+copy_fits run w = record { each = each; ticks = record { each = λ c h. absurd (cc) } }
   where
     each : (place : ℕ) (wire : Wire) → slice_get (w ∷ []) place ≡ Some wire → Fits input_figures (beats_of (carried run w)) (carried run wire)
     each zero wire h = let same : w ≡ wire = cc in subst (λ (x : Wire). Fits input_figures (beats_of (carried run w)) (carried run x)) same (own_fits (carried run w))
     each (suc place) wire h = absurd (cc)
 
 -- behind wires with the columns of its source a body can be put
-pub can_copies : (nodes : List PlanNode) (figures : List Figures) (id source body : ℕ) (node : PlanNode) (old net : Net) (leaves wires : List Wire)
+pub can_copies : (nodes : List PlanNode) (figures : List Figures) (id source body : ℕ) (node : PlanNode) (old net : Net) (tick : Option Bit) (leaves wires : List Wire)
     → IsPlan nodes → slice_get nodes id ≡ Some node → named_by node ≡ source ∷ body ∷ [] → IsBodyFor (shape_of nodes source) (shape_of nodes body)
-    → CanPut nodes figures id old leaves
+    → CanPut nodes figures id old tick leaves
     → ((k : ℕ) (wire : Wire) → slice_get wires k ≡ Some wire → IsWire net wire × (widths wire.columns ≡ widths_of (kinds_of nodes source)))
     → CanCopy nodes figures body net wires
-can_copies nodes figures id source body node old net leaves wires plan at named for can has = record {
+can_copies nodes figures id source body node old net tick leaves wires plan at named for can has = record {
   each = λ k wire at_wire.
       let x = has k wire at_wire in
-      (can_body nodes figures id node old leaves plan at can source body wire net named
-      (body_leaves net wire (kinds_of nodes source) x.0 x.1 (shape_of nodes body).leaves for.leaves)).can;
+      (can_body nodes figures id node old tick leaves plan at can source body wire (kinds_of nodes source) net named
+      (body_leaves net wire (kinds_of nodes source) x.0 x.1 (shape_of nodes body).leaves for.leaves) for.leaves).can;
 }
 
 -- also once others are put
 pub can_copy : (nodes : List PlanNode) (figures : List Figures) (body : ℕ) (old new : Net) (wires : List Wire) (k : ℕ) (w : Wire) → Keeps old new
-    → CanCopy nodes figures body old wires → slice_get wires k ≡ Some w → CanPut nodes figures body new (w ∷ [])
+    → CanCopy nodes figures body old wires → slice_get wires k ≡ Some w → CanPut nodes figures body new None (w ∷ [])
 can_copy nodes figures body old new wires k w keeps h at =
     let x = h.each k w at in
     record {
       within = x.within;
       figured = x.figured;
       leaved = leaves_kept old new (w ∷ []) (shape_of nodes body).leaves keeps x.leaved;
+      ticked = tt;
+      timed = x.timed;
     }
 
 pub bodies_none : (nodes : List PlanNode) (body : ℕ) (net : Net) (wires : List Wire) → AreBodies nodes body net net wires 0 []
@@ -80,7 +83,7 @@ bodies_none nodes body net wires = record {
 
 -- one more
 pub bodies_more : (nodes : List PlanNode) (body : ℕ) (old mid new : Net) (wires : List Wire) (n : ℕ) (copies : List Emitted) (w : Wire) (e : Emitted)
-    → AreBodies nodes body old mid wires n copies → slice_get wires n ≡ Some w → IsPut nodes body mid new (w ∷ []) e → AreBodies nodes body old new wires (n + 1) (copies ++ e ∷ [])
+    → AreBodies nodes body old mid wires n copies → slice_get wires n ≡ Some w → IsPut nodes body mid new None (w ∷ []) e → AreBodies nodes body old new wires (n + 1) (copies ++ e ∷ [])
 bodies_more nodes body old mid new wires n copies w e are at h = record {
   keeps = keeps_then old mid new are.keeps h.keeps;
   cost = record {
@@ -90,7 +93,7 @@ bodies_more nodes body old mid new wires n copies w e are at h = record {
   };
   as_many = length-append copies (e ∷ []) ∙ ap (λ (k : ℕ). k + 1) are.as_many;
   gives = λ k v x at_wire at_copy. elim (place_in_append copies e k x at_copy) [
-    | earlier below is ↦ gives_kept _ _ _ mid new (v ∷ []) x h.keeps (are.gives k v x at_wire is)
+    | earlier below is ↦ gives_kept _ _ _ mid new None (v ∷ []) x h.keeps (are.gives k v x at_wire is)
     | last place same ↦ (let here : v ≡ w = (let z : slice_get wires n ≡ Some v = ap (slice_get wires) (sym (place ∙ are.as_many)) ∙ at_wire in cc) in
         rw (same, here) h.gives)
   ];

@@ -9,8 +9,9 @@ use Rattle.gl_wire.specs.Beats.{Spaced, gap, last, most}
 use Rattle.gl_wire.specs.Once.{OneStream}
 use Rattle.gl_wire.specs.Serves.{Fits, Caused}
 use Rattle.gl_wire.specs.Wire.{Carried, stream, rows}
-use Rattle.gl_schema.specs.Beats.{Beat, AreInOrder, KeepsGap, input_of, last_cycle, beat_at, ends_at}
-use Rattle.gl_wiring.specs.Bringing.{Brings, beats_in}
+use Rattle.gl_schema.specs.Beats.{Beat, AreInOrder, KeepsGap, input_of, last_cycle, beat_at, ends_at, ticks_at}
+use Rattle.gl_wire.specs.Ticks.{TicksFit}
+use Rattle.gl_wiring.specs.Bringing.{Brings, BringsTicks, beats_in}
 use Rattle.gl_wiring.proofs.RootLemmas.{first_stream}
 use Rattle.gl_wiring.proofs.BeatLemmas.{after_none, before_none, ends_last, ends_only, file_rows, rows_from}
 
@@ -31,6 +32,19 @@ flag_end beats n h = by (beat_at beats n) refl
 
 end_flag : (beats : List Beat) (n : ℕ) → option_map (λ (b : Beat). b.end) (beat_at beats n) ≡ Some true → ends_at beats n ≡ true
 end_flag beats n h = let x = flag_of beats n true h in rw x.1 x.2
+
+-- each tick comes with a beat
+pub ticks_fit : (beats : List Beat) (line : ℕ → Bool) (reads : Bool) → BringsTicks reads beats line → TicksFit line (beats_in beats)
+ticks_fit beats line false b = record { each = λ c h. absurd (let z = b.none refl c in cc) }
+ticks_fit beats line true b = record { each = each }
+  where
+    at_beat : (n : ℕ) (o : Option Beat) → beat_at beats n ≡ o → ticks_at beats n ≡ true → (e : Bool) × (option_map (λ (x : Beat). x.end) (beat_at beats n) ≡ Some e)
+    at_beat n None p h = absurd (let z : false ≡ true = rw p at h in cc)
+    at_beat n (Some x) p h = (x.end, rw p refl)
+
+    each : (c : ℕ) → line c ≡ true → (e : Bool) × (beats_in beats c ≡ Some e)
+    each zero h = absurd (let z = b.first in cc)
+    each (suc n) h = at_beat n (beat_at beats n) refl (sym (b.ticks refl n) ∙ h)
 
 -- beats are the gap apart
 far : (gap : ℕ) (beats : List Beat) (n m : ℕ) (b d : Beat) → AreInOrder beats → KeepsGap gap beats

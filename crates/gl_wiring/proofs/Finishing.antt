@@ -1,5 +1,5 @@
 -- A netlist with the ports of an emitted module can be finished.
-use Rattle.std.proofs.Common.{◌≡◌, ℕ, zero, suc, true, false, List, [], ◌∷◌, ◌++◌, Some, None, refl, sym, ap, subst, ◌∙◌, codes}
+use Rattle.std.proofs.Common.{◌≡◌, ℕ, zero, suc, Bool, true, false, List, [], ◌∷◌, ◌++◌, Some, None, refl, sym, ap, subst, ◌∙◌, codes}
 use Rattle.std.specs.Prelude.{map, slice_get, bytes_eq}
 use Rattle.std.specs.List.{AllByRecursion, IsDistinct}
 use Rattle.std.proofs.lemmas.Slice.Eq.{bytes_eq-Decides}
@@ -37,18 +37,18 @@ clock_differs : (n : List ℕ) → bytes_eq n clock_name ≡ false → n ≡ clo
 clock_differs n h e = let t = (bytes_eq-Decides n clock_name).1 e in let f : true ≡ false = sym t ∙ h in cc
 
 -- no two ports of the netlist have one name
-pub apart : (s : Schema) (cs : List (List ℕ)) (net : Net) → IsSchema s → AllByRecursion schema.IsName cs → IsDistinct bytes_eq cs → names_of net ≡ port_names s cs → (i j : ℕ) (p q : Port) → slice_get net.ports i ≡ Some p → slice_get net.ports j ≡ Some q → p.name ≡ q.name → i ≡ j
-apart s cs net is all distinct names i j p q at there e =
-    ports_apart net.ports i j p q (subst AreApart (sym names) (apart_distinct (port_names s cs) (port_names-distinct s cs is all distinct))) at there e
+pub apart : (ticks : Bool) (s : Schema) (cs : List (List ℕ)) (net : Net) → IsSchema s → AllByRecursion schema.IsName cs → IsDistinct bytes_eq cs → names_of net ≡ port_names ticks s cs → (i j : ℕ) (p q : Port) → slice_get net.ports i ≡ Some p → slice_get net.ports j ≡ Some q → p.name ≡ q.name → i ≡ j
+apart ticks s cs net is all distinct names i j p q at there e =
+    ports_apart net.ports i j p q (subst AreApart (sym names) (apart_distinct (port_names ticks s cs) (port_names-distinct ticks s cs is all distinct))) at there e
 
-pub finished : (s : Schema) (cs : List (List ℕ)) (into : List ℕ) (net : Net) → IsSchema s → AllByRecursion schema.IsName cs → IsDistinct bytes_eq cs → schema.IsName into → names_of net ≡ port_names s cs → net.name ≡ Some (codes "q__" ++ into) → ((n : ℕ) → open_at net n ≡ None) → HasReset net → IsFinished net
-finished s cs into net is all distinct named names name driven reset =
-    let each : AllByRecursion IsPortName (names_of net) = subst (AllByRecursion IsPortName) (sym names) (ports_named s cs is all) in
+pub finished : (ticks : Bool) (s : Schema) (cs : List (List ℕ)) (into : List ℕ) (net : Net) → IsSchema s → AllByRecursion schema.IsName cs → IsDistinct bytes_eq cs → schema.IsName into → names_of net ≡ port_names ticks s cs → net.name ≡ Some (codes "q__" ++ into) → ((n : ℕ) → open_at net n ≡ None) → HasReset net → IsFinished net
+finished ticks s cs into net is all distinct named names name driven reset =
+    let each : AllByRecursion IsPortName (names_of net) = subst (AllByRecursion IsPortName) (sym names) (ports_named ticks s cs is all) in
     record {
       driven = driven;
       module_name = rw name (module_name-name into named);
       port_names = λ place p at. (port_is IsPortName net.ports place p each at).name;
       no_clock = λ place p at. clock_differs p.name (port_is IsPortName net.ports place p each at).clock;
-      distinct = apart s cs net is all distinct names;
+      distinct = apart ticks s cs net is all distinct names;
       reset = λ needs. reset;
     }

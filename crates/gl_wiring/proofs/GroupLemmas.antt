@@ -1,5 +1,5 @@
 -- The circuits of groups.
-use Rattle.std.proofs.Common.{◌≡◌, ℕ, ◌<◌, ◌≤◌, false, List, [], ◌∷◌, length, refl, sym, ap, ◌∙◌, subst, arith}
+use Rattle.std.proofs.Common.{◌≡◌, ℕ, ◌<◌, ◌≤◌, false, List, [], ◌∷◌, length, refl, sym, ap, ◌∙◌, subst, arith, Option}
 use Rattle.std.specs.List.{All}
 use Rattle.std.proofs.lemmas.Option.{slice_get_within}
 use Rattle.std.specs.Prelude.{slice_index}
@@ -20,6 +20,7 @@ use Rattle.gl_algebra.proofs.KindLemmas.{columns_have_kinds}
 use Rattle.gl_algebra.proofs.ReadLemmas.{body_reads}
 use Rattle.gl_algebra.proofs.SoundLemmas.{spaced_sound}
 use Rattle.gl_algebra.proofs.TableLemmas.{nodes_follow_tables}
+use Rattle.gl_net.specs.declared.node.Bit.{Bit}
 use Rattle.gl_net.specs.Net.{Net}
 use Rattle.gl_net.proofs.Determined.{keeps_then}
 use Rattle.gl_wire.specs.Counted.{AreNarrow}
@@ -36,7 +37,7 @@ use Rattle.gl_wire.specs.declared.emitted.Emitted.{Emitted}
 use Rattle.gl_wire.specs.declared.wire.Wire.{Wire}
 use Rattle.gl_wire.specs.Apart.{CarriesApart}
 use Rattle.gl_wire.specs.Costs.{CostsAtMost}
-use Rattle.gl_wire.specs.Faults.{lines_of}
+use Rattle.gl_wire.specs.Faults.{line_of, lines_of}
 use Rattle.gl_wire.specs.Serving.{inputs_at}
 use Rattle.gl_wire.specs.Spills.{Lines, both_lines}
 use Rattle.gl_wire.specs.Wire.{carried, line_at, widths}
@@ -118,37 +119,37 @@ module _ (nodes : List PlanNode) (g : GroupOf) (plan : IsPlan nodes) (at : IsGro
       omega (arith, fits.suits.1, as_many between.wire.columns (kinds_of nodes g.source) (same ∙ of_source))
 
   -- the source spaced, and the front behind it
-  pub front_put : (old mid net new : Net) (leaves : List Wire) (below between : Emitted) (front : Fronted) → IsPut nodes g.source old mid leaves below
+  pub front_put : (old mid net new : Net) (tick : Option Bit) (leaves : List Wire) (below between : Emitted) (front : Fronted) → IsPut nodes g.source old mid tick leaves below
       → IsSpacedFor mid net (group_gap s) (figures_of nodes g.source) below between → IsFronted net new (grouping_of nodes g) between front
-      → IsGroupFront nodes g old new leaves front
-  front_put old mid net new leaves below between front put sp fr =
+      → IsGroupFront nodes g old new tick leaves front
+  front_put old mid net new tick leaves below between front put sp fr =
       let gap = group_gap s in
-      let columns = columns_between nodes g.source gap h room old mid net new leaves below between put sp fr.keeps in
+      let columns = columns_between nodes g.source gap h room old mid net new tick leaves below between put sp fr.keeps in
       let fore : CostsAtMost net new (cost_of_front g.groups g.key (widths_of (kinds_of nodes g.source))) =
       subst (λ (cs : List ℕ). CostsAtMost net new (cost_of_front g.groups g.key cs)) columns (no_more net new _ fr.cost) in
       record {
-        keeps = source_keeps nodes g.source gap h room old mid net new leaves below between put sp fr.keeps;
-        cost = source_cost nodes g.source gap h room old mid net new leaves below between put sp fr.keeps _ fore;
-        gives = subst (GivesAs (paceless (shape_of nodes g.source)) f (IsPlanResult nodes g.source) new leaves) (sym fr.same)
-            (source_gives nodes g.source gap h room old mid net new leaves below between put sp fr.keeps);
+        keeps = source_keeps nodes g.source gap h room old mid net new tick leaves below between put sp fr.keeps;
+        cost = source_cost nodes g.source gap h room old mid net new tick leaves below between put sp fr.keeps _ fore;
+        gives = subst (GivesAs (paceless (shape_of nodes g.source)) f (IsPlanResult nodes g.source) new tick leaves) (sym fr.same)
+            (source_gives nodes g.source gap h room old mid net new tick leaves below between put sp fr.keeps);
         apart = λ run r beats spaced_beats has.
             subst (λ (e : Emitted). CarriesApart gap (carried run e.wire)) (sym fr.same)
-            (source_apart nodes g.source gap h room old mid net new leaves below between put sp fr.keeps run r beats spaced_beats has);
+            (source_apart nodes g.source gap h room old mid net new tick leaves below between put sp fr.keeps run r beats spaced_beats has);
         fronts = fr.fronts;
       }
 
   -- behind the front the body can be put
-  pub group_copies : (figures : List Figures) (old mid net : Net) (leaves : List Wire) (front : Fronted) → CanPut nodes figures g.id old leaves
-      → IsGroupFront nodes g mid net leaves front → CanCopy nodes figures g.body net front.wires
-  group_copies figures old mid net leaves front can fr =
-      can_copies nodes figures g.id g.source g.body node old net leaves front.wires plan at refl fits.suits.0 can
+  pub group_copies : (figures : List Figures) (old mid net : Net) (tick : Option Bit) (leaves : List Wire) (front : Fronted) → CanPut nodes figures g.id old tick leaves
+      → IsGroupFront nodes g mid net tick leaves front → CanCopy nodes figures g.body net front.wires
+  group_copies figures old mid net tick leaves front can fr =
+      can_copies nodes figures g.id g.source g.body node old net tick leaves front.wires plan at refl fits.suits.0 can
       (λ k wire at_wire. let x = fr.fronts.wires k wire at_wire in (x.0, x.1 ∙ fr.gives.same_widths))
 
   -- the columns of the whole: the key, and those of the body
-  own_columns : (mid net new : Net) (leaves : List Wire) (front : Fronted) (copies : List Emitted) → GivesAs (paceless (shape_of nodes g.source)) f (IsPlanResult nodes g.source) new leaves front.source
+  own_columns : (mid net new : Net) (tick : Option Bit) (leaves : List Wire) (front : Fronted) (copies : List Emitted) → GivesAs (paceless (shape_of nodes g.source)) f (IsPlanResult nodes g.source) new tick leaves front.source
       → AreBodies nodes g.body mid net front.wires g.groups copies → length front.wires ≡ g.groups
       → key_width (grouping_of nodes g) front.source ∷ columns_of copies ≡ widths_of (kind_of_column (kinds_of nodes g.source) g.key ∷ kinds_of nodes g.body)
-  own_columns mid net new leaves front copies gives are many =
+  own_columns mid net new tick leaves front copies gives are many =
       let first = get_there copies 0 (omega (arith, fits.suits.2.least, are.as_many)) in
       let bodies : AreBodies nodes g.body mid net front.wires (length front.wires) copies = subst (λ (n : ℕ). AreBodies nodes g.body mid net front.wires n copies) (sym many) are in
       let columns : columns_of copies ≡ widths_of (kinds_of nodes g.body) = bodies_columns nodes g.body mid net front.wires copies bodies 0 first.0 first.1 in
@@ -157,14 +158,14 @@ module _ (nodes : List PlanNode) (g : GroupOf) (plan : IsPlan nodes) (at : IsGro
       rw (key, columns) refl
 
   -- the back behind the copies
-  pub back_put : (old mid net new : Net) (leaves : List Wire) (front : Fronted) (copies : List Emitted) (e : Emitted) → IsGroupFront nodes g old mid leaves front
+  pub back_put : (old mid net new : Net) (tick : Option Bit) (leaves : List Wire) (front : Fronted) (copies : List Emitted) (e : Emitted) → IsGroupFront nodes g old mid tick leaves front
       → AreBodies nodes g.body mid net front.wires (length front.wires) copies → IsBacked net new (grouping_of nodes g) front copies e
-      → is_direct (form_of nodes g.body) ≡ false → IsPut nodes g.id old new leaves e
-  back_put old mid net new leaves front copies e fr bodies b copied =
+      → is_direct (form_of nodes g.body) ≡ false → IsPut nodes g.id old new tick leaves e
+  back_put old mid net new tick leaves front copies e fr bodies b copied =
       let many : length front.wires ≡ g.groups = fr.fronts.as_many in
       let are : AreBodies nodes g.body mid net front.wires g.groups copies =
       subst (λ (n : ℕ). AreBodies nodes g.body mid net front.wires n copies) many bodies in
-      let own = own_columns mid net mid leaves front copies fr.gives are many in
+      let own = own_columns mid net mid tick leaves front copies fr.gives are many in
       let rear : CostsAtMost net new (cost_of_back g.groups (widths_of (kind_of_column (kinds_of nodes g.source) g.key ∷ kinds_of nodes g.body))) =
       subst (λ (cs : List ℕ). CostsAtMost net new (cost_of_back g.groups cs)) own b.cost in
       record {
@@ -183,7 +184,7 @@ module _ (nodes : List PlanNode) (g : GroupOf) (plan : IsPlan nodes) (at : IsGro
               let source = fr.gives.serving run run_mid beats (spaced_closer f h beats room.closer spaced_beats) has in
               let whole = b.serves run r f sound_source nodes g.body beats spaced_beats source.fits (fr.apart run run_mid beats spaced_beats has)
               (λ k l own_beats. copies_serve nodes g.source g.body plan in_body fits.suits.0 mid net run front.wires g.groups copies run_net are many k l own_beats) in
-              let ins : ℕ → Inputs = inputs_at (leaf run leaves) (leaf run leaves 0) in
+              let ins : ℕ → Inputs = inputs_at (line_of run tick) (leaf run leaves) (leaf run leaves 0) in
               let told : Lines = both_lines (lines_of_all (told_of run copies) g.groups) (line_of_further (line_at run front.further)) in
               let lines : Lines = both_lines (lines_of run front.source.faults) told in
               serving_lines h (λ t. IsPlanResult nodes g.id (ins t)) (lines_of run e.faults) lines beats (carried run e.wire) (b.told run r)

@@ -24,6 +24,7 @@ use Rattle.gl_algebra.specs.Shapes.{Shape, kinds_of, shape_of}
 use Rattle.gl_algebra.proofs.KindLemmas.{columns_have_kinds}
 use Rattle.gl_algebra.proofs.ReadLemmas.{body_reads}
 use Rattle.gl_algebra.proofs.TableLemmas.{nodes_follow_tables}
+use Rattle.gl_net.specs.declared.node.Bit.{Bit}
 use Rattle.gl_net.specs.declared.node.Bus.{Bus}
 use Rattle.gl_net.specs.Net.{Net, Run, IsRun, Keeps}
 use Rattle.gl_net.proofs.Determined.{keeps_then}
@@ -43,7 +44,7 @@ use Rattle.gl_wire.specs.declared.wire.Wire.{Wire}
 use Rattle.gl_wire.specs.Apart.{Carries}
 use Rattle.gl_wire.specs.Beats.{Beats, Spaced}
 use Rattle.gl_wire.specs.Costs.{Costs, CostsAtMost}
-use Rattle.gl_wire.specs.Faults.{AreBoth, lines_of}
+use Rattle.gl_wire.specs.Faults.{AreBoth, line_of, lines_of}
 use Rattle.gl_wire.specs.Serves.{Fits}
 use Rattle.gl_wire.specs.Serving.{inputs_at}
 use Rattle.gl_wire.specs.Spills.{Lines, SameLines, ServedWithLines, both_lines, no_lines}
@@ -146,39 +147,39 @@ module _ (nodes : List PlanNode) (g : GroupOf) (plan : IsPlan nodes) (at : IsGro
   h = group_whole nodes g
 
   -- the source spaced, and the lane behind it
-  pub lane_behind : (old mid net new : Net) (leaves : List Wire) (below between : Emitted) (l : Lane) → IsPut nodes g.source old mid leaves below
+  pub lane_behind : (old mid net new : Net) (tick : Option Bit) (leaves : List Wire) (below between : Emitted) (l : Lane) → IsPut nodes g.source old mid tick leaves below
       → IsSpacedFor mid net (group_gap s) (figures_of nodes g.source) below between → IsLaned net new (grouping_of nodes g) between.wire l
-      → IsGroupLane nodes g old new leaves (record { source = between; lane = l })
-  lane_behind old mid net new leaves below between l put sp is =
+      → IsGroupLane nodes g old new tick leaves (record { source = between; lane = l })
+  lane_behind old mid net new tick leaves below between l put sp is =
       let gap = group_gap s in
       let apart = room nodes g plan at in
-      let columns = columns_between nodes g.source gap h apart old mid net new leaves below between put sp is.keeps in
+      let columns = columns_between nodes g.source gap h apart old mid net new tick leaves below between put sp is.keeps in
       let fore : CostsAtMost net new (cost_of_lane g.groups g.key (widths_of (kinds_of nodes g.source))) =
       subst (λ (cs : List ℕ). CostsAtMost net new (cost_of_lane g.groups g.key cs)) columns (no_more net new _ is.cost) in
       record {
-        keeps = source_keeps nodes g.source gap h apart old mid net new leaves below between put sp is.keeps;
-        cost = source_cost nodes g.source gap h apart old mid net new leaves below between put sp is.keeps _ fore;
-        gives = source_gives nodes g.source gap h apart old mid net new leaves below between put sp is.keeps;
-        apart = source_apart nodes g.source gap h apart old mid net new leaves below between put sp is.keeps;
+        keeps = source_keeps nodes g.source gap h apart old mid net new tick leaves below between put sp is.keeps;
+        cost = source_cost nodes g.source gap h apart old mid net new tick leaves below between put sp is.keeps _ fore;
+        gives = source_gives nodes g.source gap h apart old mid net new tick leaves below between put sp is.keeps;
+        apart = source_apart nodes g.source gap h apart old mid net new tick leaves below between put sp is.keeps;
         lane = is.lane;
       }
 
   -- it is the input of the body
-  pub lane_leaves : (old new : Net) (leaves : List Wire) (l : Laned) → IsGroupLane nodes g old new leaves l
+  pub lane_leaves : (old new : Net) (tick : Option Bit) (leaves : List Wire) (l : Laned) → IsGroupLane nodes g old new tick leaves l
       → HaveLeaves new (l.lane.wire ∷ []) (shape_of nodes g.body).leaves
-  lane_leaves old new leaves l is =
+  lane_leaves old new tick leaves l is =
       body_leaves new l.lane.wire (kinds_of nodes g.source) is.lane.wire (is.lane.same_widths ∙ is.gives.same_widths) (shape_of nodes g.body).leaves
       (fits nodes g plan at).suits.0.leaves
 
-  pub few_slots : (old new : Net) (leaves : List Wire) (l : Laned) → IsGroupLane nodes g old new leaves l → l.lane.slot.width ≤ 8
-  few_slots old new leaves l is = let few = few_bits g.groups (fits nodes g plan at).suits.2.most in omega (arith, is.lane.slot_width, few)
+  pub few_slots : (old new : Net) (tick : Option Bit) (leaves : List Wire) (l : Laned) → IsGroupLane nodes g old new tick leaves l → l.lane.slot.width ≤ 8
+  few_slots old new tick leaves l is = let few = few_bits g.groups (fits nodes g plan at).suits.2.most in omega (arith, is.lane.slot_width, few)
 
-  pub some_slots : (old new : Net) (leaves : List Wire) (l : Laned) → IsGroupLane nodes g old new leaves l → 1 ≤ l.lane.slot.width
-  some_slots old new leaves l is = let some = some_bits g.groups in omega (arith, is.lane.slot_width, some)
+  pub some_slots : (old new : Net) (tick : Option Bit) (leaves : List Wire) (l : Laned) → IsGroupLane nodes g old new tick leaves l → 1 ≤ l.lane.slot.width
+  some_slots old new tick leaves l is = let some = some_bits g.groups in omega (arith, is.lane.slot_width, some)
 
   -- also once the body is put
-  pub lane_there : (old mid new : Net) (leaves : List Wire) (l : Laned) → Keeps mid new → IsGroupLane nodes g old mid leaves l → HasLane new g.groups l
-  lane_there old mid new leaves l keeps is = record {
+  pub lane_there : (old mid new : Net) (tick : Option Bit) (leaves : List Wire) (l : Laned) → Keeps mid new → IsGroupLane nodes g old mid tick leaves l → HasLane new g.groups l
+  lane_there old mid new tick leaves l keeps is = record {
     close = bit_kept mid new l.lane.close keeps is.lane.close;
     keys = record {
       each = λ k b e. bus_kept mid new b keeps (is.lane.keys k b e).0;
@@ -191,7 +192,7 @@ module _ (nodes : List PlanNode) (g : GroupOf) (plan : IsPlan nodes) (at : IsGro
 
   -- ---- what gathers the totals of its slots
 
-  module _ (old mid net last new : Net) (leaves : List Wire) (l : Laned) (out : TableOut) (wire : Wire) (faults : Faults) (is : IsGroupLane nodes g old mid leaves l)
+  module _ (old mid net last new : Net) (tick : Option Bit) (leaves : List Wire) (l : Laned) (out : TableOut) (wire : Wire) (faults : Faults) (is : IsGroupLane nodes g old mid tick leaves l)
       (direct : is_direct (form_of nodes g.body) ≡ true) (t : IsBodyTable nodes g.body mid net l.lane.wire (place_of l.lane) out)
       (ga : IsGathered net last (grouping_of nodes g) l.lane out wire)
       (both : AreBoth last new l.source.faults (record { passed = None; further = Some l.lane.further }) faults) where
@@ -339,7 +340,7 @@ module _ (nodes : List PlanNode) (g : GroupOf) (plan : IsPlan nodes) (at : IsGro
           (line_at run l.lane.further) (line_at run l.lane.close) nodes g.body (sound_source nodes g plan at) (fits nodes g plan at).suits.2.least laned t.means beats
           (subst (λ (z : Figures). Spaced (groups_over g.groups f z) beats) t.figures spaced_beats) fitting)
 
-    pub gathered_put : IsPut nodes g.id old new leaves (record { wire = wire; faults = faults })
+    pub gathered_put : IsPut nodes g.id old new tick leaves (record { wire = wire; faults = faults })
     gathered_put = record {
       keeps = keeps_then old mid new is.keeps (keeps_then mid net new t.keeps (keeps_then net last new ga.keeps both.keeps));
       cost = cost;
@@ -351,7 +352,7 @@ module _ (nodes : List PlanNode) (g : GroupOf) (plan : IsPlan nodes) (at : IsGro
         serving = λ run r beats spaced_beats has.
             let source = is.gives.serving run (run_mid run r) beats (spaced_closer f h beats (room nodes g plan at).closer spaced_beats) has in
             let whole = served run r beats spaced_beats source.fits in
-            let ins : ℕ → Inputs = inputs_at (leaf run leaves) (leaf run leaves 0) in
+            let ins : ℕ → Inputs = inputs_at (line_of run tick) (leaf run leaves) (leaf run leaves 0) in
             let further : Lines = line_of_further (line_at run l.lane.further) in
             let told : Lines = both_lines (lines_of_all (λ k. no_lines) g.groups) further in
             let lines : Lines = both_lines (lines_of run l.source.faults) told in

@@ -1,5 +1,5 @@
 -- The circuits of leaves.
-use Rattle.std.proofs.Common.{◌≡◌, ℕ, ◌+◌, ◌<◌, List, Some, Bool, length, slice_get, sym, ap, subst, arith}
+use Rattle.std.proofs.Common.{◌≡◌, ℕ, ◌+◌, ◌<◌, List, Some, Bool, length, slice_get, sym, ap, subst, arith, Option}
 use Rattle.std.specs.Prelude.{is_some}
 use Rattle.std.proofs.lemmas.Option.{slice_get_within}
 use Rattle.gl_bits.specs.declared.kind.Kind.{Kind}
@@ -11,6 +11,7 @@ use Rattle.gl_algebra.specs.Fits.{IsPlan}
 use Rattle.gl_algebra.specs.Results.{Meaning, IsPlanResult}
 use Rattle.gl_algebra.specs.Shapes.{Shape, shape_of}
 use Rattle.gl_algebra.proofs.TableLemmas.{nodes_follow_tables}
+use Rattle.gl_net.specs.declared.node.Bit.{Bit}
 use Rattle.gl_net.specs.Net.{Net}
 use Rattle.gl_net.proofs.Growth.{same_keeps}
 use Rattle.gl_wire.specs.declared.emitted.Emitted.{Emitted}
@@ -26,12 +27,12 @@ use Rattle.gl_wiring.specs.Leaves.{HasLeaf, HaveLeaves, carried_by, leaf, leaf_k
 use Rattle.gl_wiring.specs.Put.{GivesAs, IsPut, counted}
 
 -- a leaf's wire gives the leaf
-leaf_gives : (s : Shape) (m : Meaning) (k : ℕ) (net : Net) (leaves : List Wire) (e : Emitted) → slice_get leaves k ≡ Some e.wire → e.faults ≡ no_faults
+leaf_gives : (s : Shape) (m : Meaning) (k : ℕ) (net : Net) (tick : Option Bit) (leaves : List Wire) (e : Emitted) → slice_get leaves k ≡ Some e.wire → e.faults ≡ no_faults
     → IsWire net e.wire → widths e.wire.columns ≡ widths_of s.kinds
     → ((ls : ℕ → Carried) → KeepsPace s.pace 0 ls (ls k))
-    → ((ls : ℕ → Carried) (t : ℕ) (ys : List Row) (p : Bool) → IsInput (stream (ls k) t) ys p → m (inputs_at ls (ls 0) t) ys p)
-    → GivesAs s input_figures m net leaves e
-leaf_gives s m k net leaves e at none is columns pace results = record {
+    → ((ticks : ℕ → Bool) (ls : ℕ → Carried) (t : ℕ) (ys : List Row) (p : Bool) → IsInput (stream (ls k) t) ys p → m (inputs_at ticks ls (ls 0) t) ys p)
+    → GivesAs s input_figures m net tick leaves e
+leaf_gives s m k net tick leaves e at none is columns pace results = record {
   wire = is;
   same_widths = columns;
   lines = subst (AreLines net) (sym none) (record { passed = tt; further = tt });
@@ -39,8 +40,8 @@ leaf_gives s m k net leaves e at none is columns pace results = record {
   serving = λ run r beats spaced fits.
       let same : leaf run leaves k ≡ carried run e.wire = ap (carried_by run) at in
       let ls : ℕ → Carried = leaf run leaves in
-      serving_as input_figures _ (λ t. m (inputs_at ls (ls 0) t)) (lines_of run e.faults) beats (carried run e.wire)
-      (λ t ys p x. results ls t ys p (subst (λ (c : Carried). IsInput (stream c t) ys p) (sym same) x))
+      serving_as input_figures _ (λ t. m (inputs_at (line_of run tick) ls (ls 0) t)) (lines_of run e.faults) beats (carried run e.wire)
+      (λ t ys p x. results (line_of run tick) ls t ys p (subst (λ (c : Carried). IsInput (stream c t) ys p) (sym same) x))
       (leaf_serving (lines_of run e.faults) beats (carried run e.wire) (fits.each k e.wire at)
       (λ c. ap (λ (f : Faults). line_of run f.passed c) none) (λ c. ap (λ (f : Faults). line_of run f.further c) none));
 }
@@ -61,7 +62,7 @@ leaf_wire net leaves node w h at = let same : h.wire ≡ w = let z = h.there in 
 no_cost : (nodes : List PlanNode) (id : ℕ) (net : Net) → CostsAtMost net net (counted nodes id)
 no_cost nodes id net = record { nodes = omega arith; registers = omega arith; memories = omega arith }
 
-module _ (nodes : List PlanNode) (id : ℕ) (net : Net) (leaves : List Wire) (plan : IsPlan nodes) (has : HaveLeaves net leaves (shape_of nodes id).leaves) where
+module _ (nodes : List PlanNode) (id : ℕ) (net : Net) (tick : Option Bit) (leaves : List Wire) (plan : IsPlan nodes) (has : HaveLeaves net leaves (shape_of nodes id).leaves) where
   pub stream_there : (number : ℕ) (kinds : List Kind) → slice_get nodes id ≡ Some (Stream number kinds) → number < length leaves
   stream_there number kinds at =
       let follows = nodes_follow_tables nodes id (Stream number kinds) plan at in
@@ -73,25 +74,25 @@ module _ (nodes : List PlanNode) (id : ℕ) (net : Net) (leaves : List Wire) (pl
       let h = (rw follows.shape at has).0 in slice_get_within leaves 0 h.wire h.there
 
   pub stream_put : (e : Emitted) (number : ℕ) (kinds : List Kind) → slice_get nodes id ≡ Some (Stream number kinds)
-      → slice_get leaves number ≡ Some e.wire → e.faults ≡ no_faults → IsPut nodes id net net leaves e
+      → slice_get leaves number ≡ Some e.wire → e.faults ≡ no_faults → IsPut nodes id net net tick leaves e
   stream_put e number kinds at there none =
       let follows = nodes_follow_tables nodes id (Stream number kinds) plan at in
       let h = leaf_wire net leaves (Stream number kinds) e.wire (rw follows.shape at has).0 there in
       record {
         keeps = same_keeps net;
         cost = no_cost nodes id net;
-        gives = rw (follows.shape, follows.figures) (leaf_gives _ (IsPlanResult nodes id) number net leaves e there none h.0 h.1
-            (λ ls. at_once (ls number)) (λ ls t ys p x. (follows.results (inputs_at ls (ls 0) t) ys p).1 x));
+        gives = rw (follows.shape, follows.figures) (leaf_gives _ (IsPlanResult nodes id) number net tick leaves e there none h.0 h.1
+            (λ ls. at_once (ls number)) (λ ticks ls t ys p x. (follows.results (inputs_at ticks ls (ls 0) t) ys p).1 x));
       }
 
   pub body_put : (e : Emitted) (kinds : List Kind) → slice_get nodes id ≡ Some (Body kinds)
-      → slice_get leaves 0 ≡ Some e.wire → e.faults ≡ no_faults → IsPut nodes id net net leaves e
+      → slice_get leaves 0 ≡ Some e.wire → e.faults ≡ no_faults → IsPut nodes id net net tick leaves e
   body_put e kinds at there none =
       let follows = nodes_follow_tables nodes id (Body kinds) plan at in
       let h = leaf_wire net leaves (Body kinds) e.wire (rw follows.shape at has).0 there in
       record {
         keeps = same_keeps net;
         cost = no_cost nodes id net;
-        gives = rw (follows.shape, follows.figures) (leaf_gives _ (IsPlanResult nodes id) 0 net leaves e there none h.0 h.1
-            (λ ls. at_once (ls 0)) (λ ls t ys p x. (follows.results (inputs_at ls (ls 0) t) ys p).1 x));
+        gives = rw (follows.shape, follows.figures) (leaf_gives _ (IsPlanResult nodes id) 0 net tick leaves e there none h.0 h.1
+            (λ ls. at_once (ls 0)) (λ ticks ls t ys p x. (follows.results (inputs_at ticks ls (ls 0) t) ys p).1 x));
       }

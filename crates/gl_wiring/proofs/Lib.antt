@@ -11,6 +11,7 @@ pub mod StreamLemmas
 pub mod BringLemmas
 pub mod RootLemmas
 pub mod FileLemmas
+pub mod ClockLemmas
 pub mod TopLemmas
 pub mod ShownLemmas
 pub mod OutputLemmas
@@ -36,6 +37,9 @@ pub mod SpacedLemmas
 pub mod TotalCosts
 pub mod WindowCosts
 pub mod WindowLemmas
+pub mod TickLemmas
+pub mod TimeWindowCosts
+pub mod TimeWindowLemmas
 pub mod AloneLemmas
 pub mod SpareCosts
 pub mod SpareLemmas

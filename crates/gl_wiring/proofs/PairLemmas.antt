@@ -1,5 +1,5 @@
 -- The circuits of nodes of two children.
-use Rattle.std.proofs.Common.{◌≡◌, ℕ, List, [], ◌∷◌, ◌++◌, length, All, Some, Bool, ◌||◌, ◌&&◌, true, false, slice_get, refl, sym, ap, ◌∙◌, subst, arith}
+use Rattle.std.proofs.Common.{◌≡◌, ℕ, List, [], ◌∷◌, ◌++◌, length, All, Some, Bool, ◌||◌, ◌&&◌, true, false, slice_get, refl, sym, ap, ◌∙◌, subst, arith, Option}
 use Rattle.std.specs.Prelude.{if◌then◌else◌}
 use Rattle.std.proofs.lemmas.List.{length-map, map-append}
 use Rattle.std.proofs.lemmas.Option.{slice_get_within}
@@ -17,6 +17,7 @@ use Rattle.gl_algebra.specs.Shapes.{Pace, Shape, kinds_of, shape_of}
 use Rattle.gl_algebra.proofs.KindLemmas.{columns_have_kinds}
 use Rattle.gl_algebra.proofs.PaceLemmas.{pace_fixed}
 use Rattle.gl_algebra.proofs.TableLemmas.{nodes_follow_tables}
+use Rattle.gl_net.specs.declared.node.Bit.{Bit}
 use Rattle.gl_net.specs.Net.{Net}
 use Rattle.gl_net.proofs.Determined.{keeps_then}
 use Rattle.gl_queue.specs.Joiners.{IsJoinerOf, cost_of_joiner, joined_pace, joins_when}
@@ -51,10 +52,10 @@ joined_closer' : (p q : Figures) (b : Bool)
 joined_closer' p q true = record { gt = omega arith; ge = omega arith }
 joined_closer' p q false = record { gt = omega arith; ge = omega arith }
 
-module _ (nodes : List PlanNode) (id : ℕ) (old mid net new : Net) (leaves : List Wire) (first second e : Emitted) (plan : IsPlan nodes) where
-  pub union_put : (left right : ℕ) → slice_get nodes id ≡ Some (Union left right) → IsPut nodes left old mid leaves first
-      → IsPut nodes right mid net leaves second → IsUnionOf net new (figures_of nodes left) (figures_of nodes right) first second e
-      → IsPut nodes id old new leaves e
+module _ (nodes : List PlanNode) (id : ℕ) (old mid net new : Net) (tick : Option Bit) (leaves : List Wire) (first second e : Emitted) (plan : IsPlan nodes) where
+  pub union_put : (left right : ℕ) → slice_get nodes id ≡ Some (Union left right) → IsPut nodes left old mid tick leaves first
+      → IsPut nodes right mid net tick leaves second → IsUnionOf net new (figures_of nodes left) (figures_of nodes right) first second e
+      → IsPut nodes id old new tick leaves e
   union_put left right at h h' u =
       let b = u.behind in
       let follows = nodes_follow_tables nodes id (Union left right) plan at in
@@ -72,8 +73,8 @@ module _ (nodes : List PlanNode) (id : ℕ) (old mid net new : Net) (leaves : Li
             (costs_then old mid net (counted nodes left) (counted nodes right) h.cost h'.cost) cost
             (unions_are_counted (shape_of nodes) (figures_of nodes) left right (widths_of kinds) (narrow_kinds kinds (columns_have_kinds nodes left plan within)));
         gives = rw (follows.shape, follows.figures) (behind2 (shape_of nodes left) (shape_of nodes right) _ p q (union_figures p q)
-            (IsPlanResult nodes left) (IsPlanResult nodes right) (IsPlanResult nodes id) (never2 IsInterleaving) always any_pace net new leaves first second e _ _
-            (gives_kept _ p _ mid net leaves first h'.keeps h.gives) h'.gives b h.gives.same_widths
+            (IsPlanResult nodes left) (IsPlanResult nodes right) (IsPlanResult nodes id) (never2 IsInterleaving) always any_pace net new tick leaves first second e _ _
+            (gives_kept _ p _ mid net tick leaves first h'.keeps h.gives) h'.gives b h.gives.same_widths
             (record { gt = omega arith; ge = omega arith }) (record { gt = omega arith; ge = omega arith })
             (λ ls beats x y fx fy px py. tt)
             (λ ls x y o w px py. tt)
@@ -81,9 +82,9 @@ module _ (nodes : List PlanNode) (id : ℕ) (old mid net new : Net) (leaves : Li
             (record { left = xs; right = ys; left_spill = s; right_spill = t; of_left = l; of_right = r; join = m.0; either = or_none (s || t) u m.1 })));
       }
 
-  pub beside_put : (left right : ℕ) → slice_get nodes id ≡ Some (Beside left right) → IsPut nodes left old mid leaves first
-      → IsPut nodes right mid net leaves second → IsJoinerOf net new (figures_of nodes left) (figures_of nodes right) first second e
-      → IsPut nodes id old new leaves e
+  pub beside_put : (left right : ℕ) → slice_get nodes id ≡ Some (Beside left right) → IsPut nodes left old mid tick leaves first
+      → IsPut nodes right mid net tick leaves second → IsJoinerOf net new (figures_of nodes left) (figures_of nodes right) first second e
+      → IsPut nodes id old new tick leaves e
   beside_put left right at h h' j =
       let b = j.behind in
       let follows = nodes_follow_tables nodes id (Beside left right) plan at in
@@ -112,8 +113,8 @@ module _ (nodes : List PlanNode) (id : ℕ) (old mid net new : Net) (leaves : Li
             (joiners_are_counted (shape_of nodes) (figures_of nodes) left right (widths_of kinds) (narrow_kinds kinds own));
         gives = rw (follows.shape, follows.figures) (behind2 (shape_of nodes left) (shape_of nodes right) _ p q (beside_figures p q)
             (IsPlanResult nodes left) (IsPlanResult nodes right) (IsPlanResult nodes id) (never2 AreBeside) (joins_when p q fixed) (joined_pace p q fixed)
-            net new leaves first second e _ _
-            (gives_kept _ p _ mid net leaves first h'.keeps h.gives) h'.gives b columns
+            net new tick leaves first second e _ _
+            (gives_kept _ p _ mid net tick leaves first h'.keeps h.gives) h'.gives b columns
             (joined_closer p q both) (joined_closer' p q both)
             (λ ls beats x y fx fy px py. sides_alike pace p q suits.1 fp fq ls beats x y fx fy px (subst (λ (z : Pace). KeepsPace z q.a ls y) (sym suits.0) py) fixed refl)
             (λ ls x y o w px py. joins_pace pace p q fp fq ls x y o fixed refl w px)

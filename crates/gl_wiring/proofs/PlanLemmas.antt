@@ -1,11 +1,12 @@
 -- The netlist of a plan: the names of its ports, what it costs, and that its runs are right.
-use Rattle.std.proofs.Common.{◌≡◌, ℕ, suc, ◌*◌, ◌<◌, ◌≤◌, List, [], ◌∷◌, ◌++◌, length, map, Some, None, refl, sym, ap, subst, ◌∙◌, append_assoc, arith}
+use Rattle.std.proofs.Common.{◌≡◌, ℕ, suc, Bool, true, false, ◌*◌, ◌<◌, ◌≤◌, List, [], ◌∷◌, ◌++◌, length, map, Some, None, refl, sym, ap, subst, ◌∙◌, append_assoc, arith}
 use Rattle.std.specs.Prelude.{slice_get}
 use Rattle.std.specs.List.{sum}
 use Rattle.std.proofs.lemmas.List.{map-append}
 use Rattle.gl_algebra.specs.Fits.{IsPlan}
 use Rattle.gl_algebra.specs.Results.{IsPlanResult}
 use Rattle.gl_algebra.specs.Shapes.{kinds_of}
+use Rattle.gl_algebra.specs.Views.{reads_time}
 use Rattle.gl_algebra.specs.declared.node.PlanNode.{PlanNode}
 use Rattle.gl_algebra.specs.Roots.{gap_of, latency_of, most_memory, most_registers, root_figures, weight_with_output}
 use Rattle.gl_algebra.proofs.KindLemmas.{columns_have_kinds}
@@ -18,7 +19,7 @@ use Rattle.gl_wiring.specs.Leaves.{widths_of}
 use Rattle.gl_wiring.specs.Roots.{root_counted}
 use Rattle.gl_wiring.proofs.CostLemmas.{bits_within}
 use Rattle.gl_schema.specs.Beats.{Beat, AreBeats, KeepsGap, inputs_of, last_cycle}
-use Rattle.gl_schema.specs.Ports.{IsStimulus, rst, eos, out_valid, out_column, out_eos, fault_group, fault_queue}
+use Rattle.gl_schema.specs.Ports.{IsStimulus, rst, eos, tick, out_valid, out_column, out_eos, fault_group, fault_queue}
 use Rattle.gl_schema.specs.Right.{IsRight}
 use Rattle.gl_schema.specs.declared.schema.Schema.{Schema}
 use Rattle.gl_wire.specs.Costs.{CostsAtMost}
@@ -28,12 +29,12 @@ use Rattle.gl_wire.proofs.StageLemmas.{line_first, tuple_by}
 use Rattle.gl_wiring.specs.Bringing.{Brings}
 use Rattle.gl_wiring.specs.Emitted.{CostsNothing, names_of}
 use Rattle.gl_wiring.specs.EmittedPorts.{input, output, streams_inputs}
-use Rattle.gl_wiring.specs.Output.{input_ports, named_outputs, output_cost, output_ports, plan_ports}
+use Rattle.gl_wiring.specs.Output.{input_ports, named_outputs, output_cost, output_ports, plan_ports, tick_input}
 use Rattle.gl_wiring.specs.PlanNet.{IsEmpty, IsPlanNet}
-use Rattle.gl_wiring.specs.PortNames.{port_names, result_ports, streams_ports}
+use Rattle.gl_wiring.specs.PortNames.{port_names, result_ports, streams_ports, tick_port}
 use Rattle.gl_wiring.specs.Root.{ShowsRight}
 use Rattle.gl_wiring.specs.Wired.{KeepsGroup, OverBeats, plan_inputs, plan_means}
-use Rattle.gl_wiring.proofs.BringLemmas.{brings, no_input}
+use Rattle.gl_wiring.proofs.BringLemmas.{brings, no_input, ticks_come}
 use Rattle.gl_wiring.proofs.Outputs.{AreApart}
 use Rattle.gl_wiring.proofs.Resetting.{is_reset}
 use Rattle.gl_wiring.proofs.Shapes.{names_in, shape_names, streams_names}
@@ -55,23 +56,34 @@ result_named ws ns e =
     ap (λ (x : List (List ℕ)). out_valid ∷ x) (map-append (λ (s : PortShape). s.name) (named_outputs ws ns) tail
     ∙ ap (λ (x : List (List ℕ)). x ++ out_eos ∷ fault_group ∷ fault_queue ∷ []) (outputs_named ws ns e))
 
--- the names of the ports of a plan's netlist
-pub plan_named : (s : Schema) (ws : List ℕ) (ns : List (List ℕ)) → length ns ≡ length ws
-    → names_in (input_ports s ++ output_ports ws ns) ≡ port_names s ns
-plan_named s ws ns e =
-    let result = output_ports ws ns in
-    let streams = streams_inputs s.streams in
-    ap (λ (x : List PortShape). names_in (input rst 1 ∷ x)) (append_assoc streams (input eos 1 ∷ []) result)
-    ∙ ap (λ (x : List (List ℕ)). rst ∷ x) (map-append (λ (p : PortShape). p.name) streams (input eos 1 ∷ result)
-    ∙ ap (λ (x : List (List ℕ)). x ++ eos ∷ names_in result) (streams_names s.streams)
-    ∙ ap (λ (x : List (List ℕ)). streams_ports s.streams ++ eos ∷ x) (result_named ws ns e))
+-- with the tick in front, where it is asked for
+later_named : (ticks : Bool) (ws : List ℕ) (ns : List (List ℕ)) → length ns ≡ length ws
+    → names_in (tick_input ticks ++ output_ports ws ns) ≡ tick_port ticks ++ result_ports ns
+later_named true ws ns e = ap (λ (x : List (List ℕ)). tick ∷ x) (result_named ws ns e)
+later_named false ws ns e = result_named ws ns e
 
-pub plan_names : (net : Net) (s : Schema) (nodes : List PlanNode) (root : ℕ) (ns : List (List ℕ)) → length ns ≡ length (kinds_of nodes root)
-    → port_shapes net ≡ plan_ports s (kinds_of nodes root) ns → names_of net ≡ port_names s ns
+-- the names of the ports of a plan's netlist
+pub plan_named : (ticks : Bool) (s : Schema) (ws : List ℕ) (ns : List (List ℕ)) → length ns ≡ length ws
+    → names_in (input_ports ticks s ++ output_ports ws ns) ≡ port_names ticks s ns
+plan_named ticks s ws ns e =
+    let result = output_ports ws ns in
+    let later = tick_input ticks ++ result in
+    let streams = streams_inputs s.streams in
+    ap (λ (x : List PortShape). names_in (input rst 1 ∷ x)) (append_assoc streams (input eos 1 ∷ tick_input ticks) result)
+    ∙ ap (λ (x : List (List ℕ)). rst ∷ x) (map-append (λ (p : PortShape). p.name) streams (input eos 1 ∷ later)
+    ∙ ap (λ (x : List (List ℕ)). x ++ eos ∷ names_in later) (streams_names s.streams)
+    ∙ ap (λ (x : List (List ℕ)). streams_ports s.streams ++ eos ∷ x) (later_named ticks ws ns e))
+
+pub plan_names : (ticks : Bool) (net : Net) (s : Schema) (nodes : List PlanNode) (root : ℕ) (ns : List (List ℕ)) → length ns ≡ length (kinds_of nodes root)
+    → port_shapes net ≡ plan_ports ticks s (kinds_of nodes root) ns → names_of net ≡ port_names ticks s ns
 unfolding port_shapes
-plan_names net s nodes root ns e h =
+plan_names ticks net s nodes root ns e h =
     sym (shape_names net net.ports) ∙ ap names_in h
-    ∙ plan_named s (widths_of (kinds_of nodes root)) ns (e ∙ sym (length_map width_of (kinds_of nodes root)))
+    ∙ plan_named ticks s (widths_of (kinds_of nodes root)) ns (e ∙ sym (length_map width_of (kinds_of nodes root)))
+
+-- the tick stands behind the other inputs
+pub inputs_joined : (ticks : Bool) (s : Schema) → input_ports false s ++ tick_input ticks ≡ input_ports ticks s
+inputs_joined ticks s = ap (λ (x : List PortShape). input rst 1 ∷ x) (append_assoc (streams_inputs s.streams) (input eos 1 ∷ []) (tick_input ticks))
 
 -- ---- costs
 
@@ -115,7 +127,7 @@ module _ (schema : Schema) (nodes : List PlanNode) (root : ℕ) (names : List (L
         (carried run is.output.wire) (line_at run is.output.group) (line_at run is.output.queue)
     shows = plan_right run is.leaves beats are.order leaf_brings
         (λ k e. no_input schema beats k are.each (no_stream net schema.streams is.leaves k is.wires e))
-        nodes root is.e (carried run is.output.wire) (line_at run is.output.group) (line_at run is.output.queue)
+        nodes root is.tick is.plan is.within (ticks_come schema beats net run apart stimulus (reads_time nodes) is.tick is.line) is.e (carried run is.output.wire) (line_at run is.output.group) (line_at run is.output.queue)
         (is.serves run runs) keeps (is.output.delayed run runs) (is.output.group_line run runs) (is.output.queue_line run runs)
 
     first : (carried run is.output.wire).tuple 0 ≡ None

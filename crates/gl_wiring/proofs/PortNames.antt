@@ -1,5 +1,5 @@
 -- No two ports of an emitted module have one name.
-use Rattle.std.proofs.Common.{◌≡◌, ℕ, true, false, List, [], ◌∷◌, ◌++◌, map, codes, refl, sym, ap, ◌∙◌, subst, ◌⊎◌, inl, inr, arith}
+use Rattle.std.proofs.Common.{◌≡◌, ℕ, Bool, true, false, List, [], ◌∷◌, ◌++◌, map, codes, refl, sym, ap, ◌∙◌, subst, ◌⊎◌, inl, inr, arith}
 use Rattle.std.specs.Prelude.{bytes_eq}
 use Rattle.std.specs.List.{AllByRecursion, IsDistinct, list_any}
 use Rattle.std.proofs.lemmas.List.{append_cancel_left, map-append}
@@ -10,11 +10,11 @@ use Rattle.gl_schema.specs.declared.schema.Stream.{Stream}
 use Rattle.gl_schema.specs.declared.schema.Schema.{Schema}
 use Rattle.gl_schema.specs.Names.{IsName, reserved}
 use Rattle.gl_schema.specs.Schemas.{IsStream, IsSchema, stream_names}
-use Rattle.gl_schema.specs.Ports.{rst, eos, in_valid, in_column, out_valid, out_column, out_eos, fault_group, fault_queue}
+use Rattle.gl_schema.specs.Ports.{rst, eos, tick, in_valid, in_column, out_valid, out_column, out_eos, fault_group, fault_queue}
 use Rattle.gl_schema.specs.Profile.{ProfilePort, column_inputs, stream_inputs, streams_inputs, port_names as profile_names}
 use Rattle.gl_schema.proofs.InputNames.{Apart, AreApart, apart_distinct, both_apart, first_byte, is_reserved, no_valid, texts_differ}
 use Rattle.gl_schema.proofs.InputNames as inputs
-use Rattle.gl_wiring.specs.PortNames.{column_ports, stream_ports, streams_ports, result_ports, port_names}
+use Rattle.gl_wiring.specs.PortNames.{column_ports, stream_ports, streams_ports, result_ports, tick_port, port_names}
 
 -- ---- lists of names
 
@@ -131,8 +131,12 @@ result_first cs =
 no_byte : (b : ℕ) → (b ≡ 105 → ⊥) → (n m : List ℕ) → first_byte n ≡ b → first_byte m ≡ 105 → n ≡ m → ⊥
 no_byte b differ n m h k e = differ (sym h ∙ ap first_byte e ∙ k)
 
-no_result : (b : ℕ) → (IsResultByte b → ⊥) → (n m : List ℕ) → first_byte n ≡ b → IsResultByte (first_byte m) → n ≡ m → ⊥
-no_result b differ n m h k e = differ (subst IsResultByte (sym (ap first_byte e) ∙ h) k)
+-- the first byte of a port behind the end of the input is a t, or one of the result
+abbrev IsLaterByte : ℕ → Type 0
+IsLaterByte b = IsResultByte b ⊎ (b ≡ 116)
+
+no_later : (b : ℕ) → (IsLaterByte b → ⊥) → (n m : List ℕ) → first_byte n ≡ b → IsLaterByte (first_byte m) → n ≡ m → ⊥
+no_later b differ n m h k e = differ (subst IsLaterByte (sym (ap first_byte e) ∙ h) k)
 
 rst_first : first_byte rst ≡ 114
 unfolding rst
@@ -142,46 +146,78 @@ eos_first : first_byte eos ≡ 101
 unfolding eos
 eos_first = refl
 
-differ-114 : IsResultByte 114 → ⊥
-differ-114 (inl e) = absurd (omega arith)
+tick_first : first_byte tick ≡ 116
+unfolding tick
+tick_first = refl
+
+differ-114 : IsLaterByte 114 → ⊥
+differ-114 (inl (inl e)) = absurd (omega arith)
+differ-114 (inl (inr e)) = absurd (omega arith)
 differ-114 (inr e) = absurd (omega arith)
 
-differ-101 : IsResultByte 101 → ⊥
-differ-101 (inl e) = absurd (omega arith)
+differ-101 : IsLaterByte 101 → ⊥
+differ-101 (inl (inl e)) = absurd (omega arith)
+differ-101 (inl (inr e)) = absurd (omega arith)
 differ-101 (inr e) = absurd (omega arith)
 
-differ-105 : IsResultByte 105 → ⊥
-differ-105 (inl e) = absurd (omega arith)
+differ-105 : IsLaterByte 105 → ⊥
+differ-105 (inl (inl e)) = absurd (omega arith)
+differ-105 (inl (inr e)) = absurd (omega arith)
 differ-105 (inr e) = absurd (omega arith)
+
+differ-116 : IsResultByte 116 → ⊥
+differ-116 (inl e) = absurd (omega arith)
+differ-116 (inr e) = absurd (omega arith)
+
+-- the ports behind the end of the input: the tick, where it is asked for, and those of the result
+abbrev later_ports : Bool → List (List ℕ) → List (List ℕ)
+later_ports ticks cs = tick_port ticks ++ result_ports cs
+
+later_first : (ticks : Bool) (cs : List (List ℕ)) → AllByRecursion (λ n. IsLaterByte (first_byte n)) (later_ports ticks cs)
+later_first true cs = (inr tick_first, all_weaker (λ n. IsResultByte (first_byte n)) (λ n. IsLaterByte (first_byte n)) (λ n k. inl k) (result_ports cs) (result_first cs))
+later_first false cs = all_weaker (λ n. IsResultByte (first_byte n)) (λ n. IsLaterByte (first_byte n)) (λ n k. inl k) (result_ports cs) (result_first cs)
+
+later_apart : (ticks : Bool) (cs : List (List ℕ)) → AllByRecursion IsName cs → AreApart cs → AreApart (later_ports ticks cs)
+later_apart true cs all h = (
+  all_weaker (λ n. IsResultByte (first_byte n)) (λ m. tick ≡ m → ⊥) (λ m k e. differ-116 (subst IsResultByte (sym (ap first_byte e) ∙ tick_first) k))
+      (result_ports cs) (result_first cs),
+  result_apart cs all h,
+)
+later_apart false cs all h = result_apart cs all h
 
 rst_eos : rst ≡ eos → ⊥
 unfolding rst eos
 rst_eos e = texts_differ rst eos refl e
 
--- in front of the result's ports stands the end of the input
-eos_apart : (cs : List (List ℕ)) → Apart eos (result_ports cs)
-eos_apart cs = all_weaker (λ n. IsResultByte (first_byte n)) (λ m. eos ≡ m → ⊥) (λ m k. no_result 101 differ-101 eos m eos_first k) (result_ports cs) (result_first cs)
+-- in front of these ports stands the end of the input
+eos_apart : (ticks : Bool) (cs : List (List ℕ)) → Apart eos (later_ports ticks cs)
+eos_apart ticks cs =
+    all_weaker (λ n. IsLaterByte (first_byte n)) (λ m. eos ≡ m → ⊥) (λ m k. no_later 101 differ-101 eos m eos_first k) (later_ports ticks cs) (later_first ticks cs)
 
-rst_apart : (cs : List (List ℕ)) → Apart rst (result_ports cs)
-rst_apart cs = all_weaker (λ n. IsResultByte (first_byte n)) (λ m. rst ≡ m → ⊥) (λ m k. no_result 114 differ-114 rst m rst_first k) (result_ports cs) (result_first cs)
+rst_apart : (ticks : Bool) (cs : List (List ℕ)) → Apart rst (later_ports ticks cs)
+rst_apart ticks cs =
+    all_weaker (λ n. IsLaterByte (first_byte n)) (λ m. rst ≡ m → ⊥) (λ m k. no_later 114 differ-114 rst m rst_first k) (later_ports ticks cs) (later_first ticks cs)
 
-inputs_apart : (ss : List Stream) (cs : List (List ℕ)) → AllByRecursion IsStream ss → AllByRecursion (λ n. Apart n (eos ∷ result_ports cs)) (streams_ports ss)
-inputs_apart ss cs all =
-    all_weaker (λ n. first_byte n ≡ 105) (λ n. Apart n (eos ∷ result_ports cs))
+inputs_apart : (ticks : Bool) (ss : List Stream) (cs : List (List ℕ)) → AllByRecursion IsStream ss
+    → AllByRecursion (λ n. Apart n (eos ∷ later_ports ticks cs)) (streams_ports ss)
+inputs_apart ticks ss cs all =
+    all_weaker (λ n. first_byte n ≡ 105) (λ n. Apart n (eos ∷ later_ports ticks cs))
     (λ n h. (
       λ e. no_byte 101 (λ k. absurd (omega arith)) eos n eos_first h (sym e),
-      all_weaker (λ m. IsResultByte (first_byte m)) (λ m. n ≡ m → ⊥) (λ m k. no_result 105 differ-105 n m h k) (result_ports cs) (result_first cs),
+      all_weaker (λ m. IsLaterByte (first_byte m)) (λ m. n ≡ m → ⊥) (λ m k. no_later 105 differ-105 n m h k) (later_ports ticks cs) (later_first ticks cs),
     ))
     (streams_ports ss) (streams_first ss all)
 
 -- no two ports of an emitted module have one name
-pub port_names-distinct : (schema : Schema) (cs : List (List ℕ)) → IsSchema schema → AllByRecursion IsName cs → IsDistinct bytes_eq cs → IsDistinct bytes_eq (port_names schema cs)
-port_names-distinct schema cs is all distinct =
+pub port_names-distinct : (ticks : Bool) (schema : Schema) (cs : List (List ℕ)) → IsSchema schema → AllByRecursion IsName cs → IsDistinct bytes_eq cs
+    → IsDistinct bytes_eq (port_names ticks schema cs)
+port_names-distinct ticks schema cs is all distinct =
     let streams = streams_ports schema.streams in
-    let result = result_apart cs all (apart_distinct cs distinct) in
-    distinct_apart (port_names schema cs) (
-      all_append (λ m. rst ≡ m → ⊥) streams (eos ∷ result_ports cs)
+    let later = later_apart ticks cs all (apart_distinct cs distinct) in
+    distinct_apart (port_names ticks schema cs) (
+      all_append (λ m. rst ≡ m → ⊥) streams (eos ∷ later_ports ticks cs)
           (all_weaker (λ n. first_byte n ≡ 105) (λ m. rst ≡ m → ⊥) (λ m k. no_byte 114 (λ j. absurd (omega arith)) rst m rst_first k) streams (streams_first schema.streams is.streams))
-          (rst_eos, rst_apart cs),
-      both_apart streams (eos ∷ result_ports cs) (streams_apart schema.streams is.streams (apart_distinct (stream_names schema.streams) is.distinct)) (eos_apart cs, result) (inputs_apart schema.streams cs is.streams),
+          (rst_eos, rst_apart ticks cs),
+      both_apart streams (eos ∷ later_ports ticks cs) (streams_apart schema.streams is.streams (apart_distinct (stream_names schema.streams) is.distinct))
+          (eos_apart ticks cs, later) (inputs_apart ticks schema.streams cs is.streams),
     )

@@ -22,6 +22,7 @@ use Rattle.gl_algebra.proofs.FigureLemmas.{figures_are_sound, delayed_by_none}
 use Rattle.gl_algebra.proofs.KindLemmas.{columns_have_kinds}
 use Rattle.gl_algebra.proofs.SoundLemmas.{delayed_sound}
 use Rattle.gl_algebra.proofs.TableLemmas.{nodes_follow_tables}
+use Rattle.gl_net.specs.declared.node.Bit.{Bit}
 use Rattle.gl_net.specs.Net.{Net}
 use Rattle.gl_net.proofs.Determined.{keeps_then}
 use Rattle.gl_rows.specs.Costs.{computed_widths, cost_of_items, cost_of_rows, projected_widths}
@@ -65,11 +66,11 @@ width_at [] column kind at = absurd cc
 width_at (k ∷ kinds) zero kind at = ap (λ (x : Kind). Some (width_of x)) (some_same k kind at)
 width_at (k ∷ kinds) (suc column) kind at = width_at kinds column kind at
 
-module _ (nodes : List PlanNode) (id : ℕ) (old mid new : Net) (leaves : List Wire) (below e : Emitted) (plan : IsPlan nodes) where
-  pub compute_put : (child : ℕ) (ops : List ColOp) → slice_get nodes id ≡ Some (Compute child ops) → IsPut nodes child old mid leaves below
+module _ (nodes : List PlanNode) (id : ℕ) (old mid new : Net) (tick : Option Bit) (leaves : List Wire) (below e : Emitted) (plan : IsPlan nodes) where
+  pub compute_put : (child : ℕ) (ops : List ColOp) → slice_get nodes id ≡ Some (Compute child ops) → IsPut nodes child old mid tick leaves below
       → (let kinds = kinds_of nodes child in IsBehind mid new (Steady 1 (λ row. Some (computed kinds ops row))) (computed_widths kinds ops)
       (cost_of_rows (computed_widths kinds ops) (length ops)) below e)
-      → IsPut nodes id old new leaves e
+      → IsPut nodes id old new tick leaves e
   compute_put child ops at h b =
       let follows = nodes_follow_tables nodes id (Compute child ops) plan at in
       let f : Figures = figures_of nodes child in
@@ -85,16 +86,16 @@ module _ (nodes : List PlanNode) (id : ℕ) (old mid new : Net) (leaves : List W
             (record { weight' = follows.weight; lean' = omega (arith, follows.lean, follows.keys); store' = follows.store })
             h.cost b.cost (rows_counted (kinds ++ map (kind_of_op kinds) ops) (length ops) own);
         gives = rw (follows.shape, follows.figures) (behind (shape_of nodes child) _ f (settled (delayed 1 f)) (IsPlanResult nodes child)
-            (IsPlanResult nodes id) mid new leaves below e _ _ _ (Mapped step)
+            (IsPlanResult nodes id) mid new tick leaves below e _ _ _ (Mapped step)
             h.gives b refl (record { gt = omega arith; ge = omega arith })
             (λ x y s. settled_serves f (delayed 1 f) (Mapped step) x y (delayed_sound 1 f sound) (steady_serves 1 step x y f s))
             (λ x y ls s. steady_pace 1 (computed kinds ops) x y s (shape_of nodes child).pace f.a ls)
             (λ i xs ys p r m. (follows.results i ys p).1 (record { rows = xs; of_source = r; changed = m ∙ mapped_all (computed kinds ops) xs })));
       }
 
-  pub select_put : (child column : ℕ) → slice_get nodes id ≡ Some (Select child column) → IsPut nodes child old mid leaves below
+  pub select_put : (child column : ℕ) → slice_get nodes id ≡ Some (Select child column) → IsPut nodes child old mid tick leaves below
       → IsBehind mid new (Steady 1 (keep_where column)) (widths_of (kinds_of nodes child)) (cost_of_rows (widths_of (kinds_of nodes child)) 0) below e
-      → IsPut nodes id old new leaves e
+      → IsPut nodes id old new tick leaves e
   select_put child column at h b =
       let follows = nodes_follow_tables nodes id (Select child column) plan at in
       let f : Figures = figures_of nodes child in
@@ -107,17 +108,17 @@ module _ (nodes : List PlanNode) (id : ℕ) (old mid new : Net) (leaves : List W
             (record { weight' = follows.weight; lean' = omega (arith, follows.lean, follows.keys); store' = follows.store })
             h.cost b.cost (selected_counted kinds (columns_have_kinds nodes child plan within));
         gives = rw (follows.shape, follows.figures) (behind (shape_of nodes child) _ f (settled (delayed 1 f)) (IsPlanResult nodes child)
-            (IsPlanResult nodes id) mid new leaves below e _ _ _ (Mapped (keep_where column))
+            (IsPlanResult nodes id) mid new tick leaves below e _ _ _ (Mapped (keep_where column))
             h.gives b refl (record { gt = omega arith; ge = omega arith })
             (λ x y s. settled_serves f (delayed 1 f) (Mapped (keep_where column)) x y (delayed_sound 1 f sound) (steady_serves 1 (keep_where column) x y f s))
             (λ x y ls s p. tt)
             (λ i xs ys p r m. (follows.results i ys p).1 (record { rows = xs; of_source = r; changed = m ∙ kept_rows column xs })));
       }
 
-  pub project_put : (child : ℕ) (items : List Operand) → slice_get nodes id ≡ Some (Project child items) → IsPut nodes child old mid leaves below
+  pub project_put : (child : ℕ) (items : List Operand) → slice_get nodes id ≡ Some (Project child items) → IsPut nodes child old mid tick leaves below
       → (let kinds = kinds_of nodes child in IsBehind mid new (Steady 0 (λ row. Some (projected items row))) (projected_widths kinds items)
       (cost_of_items (projected_widths kinds items)) below e)
-      → IsPut nodes id old new leaves e
+      → IsPut nodes id old new tick leaves e
   project_put child items at h b =
       let follows = nodes_follow_tables nodes id (Project child items) plan at in
       let f : Figures = figures_of nodes child in
@@ -131,7 +132,7 @@ module _ (nodes : List PlanNode) (id : ℕ) (old mid new : Net) (leaves : List W
             (record { weight' = follows.weight; lean' = omega (arith, follows.lean, follows.keys); store' = follows.store })
             h.cost b.cost (items_counted (map (kind_of_operand kinds) items));
         gives = rw (follows.shape, follows.figures) (behind (shape_of nodes child) _ f (settled f) (IsPlanResult nodes child)
-            (IsPlanResult nodes id) mid new leaves below e _ _ _ (Mapped step)
+            (IsPlanResult nodes id) mid new tick leaves below e _ _ _ (Mapped step)
             h.gives b refl (record { gt = omega arith; ge = omega arith })
             (λ x y s. settled_serves f f (Mapped step) x y sound
             (subst (λ (g : Figures). Serves f g (Mapped step) x y) (delayed_by_none f) (steady_serves 0 step x y f s)))
@@ -140,10 +141,10 @@ module _ (nodes : List PlanNode) (id : ℕ) (old mid new : Net) (leaves : List W
             (λ i xs ys p r m. (follows.results i ys p).1 (record { rows = xs; of_source = r; changed = m ∙ mapped_all (projected items) xs })));
       }
 
-  pub aggregate_put : (child : ℕ) (aggs : List PlanAgg) → slice_get nodes id ≡ Some (Aggregate child aggs) → IsPut nodes child old mid leaves below
+  pub aggregate_put : (child : ℕ) (aggs : List PlanAgg) → slice_get nodes id ≡ Some (Aggregate child aggs) → IsPut nodes child old mid tick leaves below
       → (let kinds = kinds_of nodes child in IsBehind mid new (AtEnds (delay_of_aggs kinds aggs) (total_row kinds aggs)) (total_widths kinds aggs)
       (cost_of_aggs kinds aggs) below e)
-      → IsPut nodes id old new leaves e
+      → IsPut nodes id old new tick leaves e
   aggregate_put child aggs at h b =
       let follows = nodes_follow_tables nodes id (Aggregate child aggs) plan at in
       let f : Figures = figures_of nodes child in
@@ -157,7 +158,7 @@ module _ (nodes : List PlanNode) (id : ℕ) (old mid new : Net) (leaves : List W
             (record { weight' = follows.weight; lean' = omega (arith, follows.lean, follows.keys); store' = follows.store })
             h.cost b.cost (aggs_counted kinds (columns_have_kinds nodes child plan within) aggs suits);
         gives = rw (follows.shape, follows.figures) (behind (shape_of nodes child) _ f (aggregate_figures m f) (IsPlanResult nodes child)
-            (IsPlanResult nodes id) mid new leaves below e _ _ _ (Totalled (total_row kinds aggs))
+            (IsPlanResult nodes id) mid new tick leaves below e _ _ _ (Totalled (total_row kinds aggs))
             h.gives b refl (record { gt = omega arith; ge = omega arith })
             (λ x y s. ends_serve m (total_row kinds aggs) x y f s)
             (λ x y ls s p. ends_pace m (total_row kinds aggs) x y s)

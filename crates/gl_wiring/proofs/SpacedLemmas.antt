@@ -1,5 +1,5 @@
 -- A source that is spaced where its tuples may come too fast, with a spacer or without one.
-use Rattle.std.proofs.Common.{◌≡◌, ℕ, List, Some, Bool, true, false, ◌||◌, refl, sym, ap, ◌∙◌, subst, arith}
+use Rattle.std.proofs.Common.{◌≡◌, ℕ, List, Some, Bool, true, false, ◌||◌, refl, sym, ap, ◌∙◌, subst, arith, Option}
 use Rattle.std.specs.Prelude.{if◌then◌else◌}
 use Rattle.gl_bits.specs.Results.{Row}
 use Rattle.gl_bits.proofs.Bools.{or_none}
@@ -7,6 +7,7 @@ use Rattle.gl_algebra.specs.declared.figures.Figures.{Figures}
 use Rattle.gl_algebra.specs.FigureTable.{IsSound, NoCloser, needs_spacer, spaced, spacer_figures}
 use Rattle.gl_algebra.specs.Results.{Inputs, Meaning}
 use Rattle.gl_algebra.specs.Shapes.{Shape}
+use Rattle.gl_net.specs.declared.node.Bit.{Bit}
 use Rattle.gl_net.specs.Net.{Net}
 use Rattle.gl_net.proofs.Growth.{same_keeps}
 use Rattle.gl_wire.specs.Counted.{AreNarrow}
@@ -16,7 +17,7 @@ use Rattle.gl_wire.specs.declared.emitted.Emitted.{Emitted}
 use Rattle.gl_wire.specs.declared.wire.Wire.{Wire}
 use Rattle.gl_wire.specs.Blocks.{IsBehindLines}
 use Rattle.gl_wire.specs.Costs.{Cost, CostsAtMost}
-use Rattle.gl_wire.specs.Faults.{AreLines, lines_of}
+use Rattle.gl_wire.specs.Faults.{AreLines, line_of, lines_of}
 use Rattle.gl_wire.specs.Serves.{HasEnd}
 use Rattle.gl_wire.specs.Serving.{inputs_at}
 use Rattle.gl_wire.specs.Shapes.{Same}
@@ -113,10 +114,10 @@ no_closer gap f = by (needs_spacer gap f)
     by false = record { gt = omega arith; ge = omega arith }
 
 -- a node's results behind a block with lines that changes no rows
-pub behind_same : (s : Shape) (f g : Figures) (means : Meaning) (mid new : Net) (leaves : List Wire) (below e : Emitted) (columns : List ℕ) (most : Cost)
-    → GivesAs s f means mid leaves below → IsBehindLines mid new f g (never Same) columns most below e → columns ≡ widths_of s.kinds → NoCloser f g
-    → GivesAs (paceless s) g means new leaves e
-behind_same s f g means mid new leaves below e columns most h b same closer = record {
+pub behind_same : (s : Shape) (f g : Figures) (means : Meaning) (mid new : Net) (tick : Option Bit) (leaves : List Wire) (below e : Emitted) (columns : List ℕ) (most : Cost)
+    → GivesAs s f means mid tick leaves below → IsBehindLines mid new f g (never Same) columns most below e → columns ≡ widths_of s.kinds → NoCloser f g
+    → GivesAs (paceless s) g means new tick leaves e
+behind_same s f g means mid new tick leaves below e columns most h b same closer = record {
   wire = b.wire;
   same_widths = b.same_widths ∙ same;
   lines = b.lines;
@@ -124,7 +125,7 @@ behind_same s f g means mid new leaves below e columns most h b same closer = re
   serving = λ run r beats apart fits.
       let before = h.serving run (b.keeps.runs run r) beats (spaced_closer f g beats closer apart) fits in
       let z = b.serves run r in
-      let ins : ℕ → Inputs = inputs_at (leaf run leaves) (leaf run leaves 0) in
+      let ins : ℕ → Inputs = inputs_at (line_of run tick) (leaf run leaves) (leaf run leaves 0) in
       let lines : Lines = both_lines (lines_of run below.faults) z.0 in
       serving_lines g (λ t. means (ins t)) (lines_of run e.faults) lines beats (carried run e.wire) z.1
       (serving_as g _ (λ t. means (ins t)) lines beats (carried run e.wire)

@@ -1,5 +1,5 @@
 -- The circuit of windows with spare copies at the root of a plan.
-use Rattle.std.proofs.Common.{◌≡◌, ℕ, ◌<◌, List, [], ◌∷◌, length, Bool, false, refl, sym, ap, ◌∙◌, subst, arith}
+use Rattle.std.proofs.Common.{◌≡◌, ℕ, ◌<◌, List, [], ◌∷◌, length, Bool, false, refl, sym, ap, ◌∙◌, subst, arith, Option}
 use Rattle.gl_bits.specs.Lists.{slices}
 use Rattle.gl_bits.specs.Results.{IsOfParts, Row}
 use Rattle.gl_bits.proofs.AllLists.{get_there}
@@ -18,6 +18,7 @@ use Rattle.gl_algebra.proofs.KindLemmas.{columns_have_kinds}
 use Rattle.gl_algebra.proofs.ReadLemmas.{body_reads}
 use Rattle.gl_algebra.proofs.TableLemmas.{nodes_follow_tables}
 use Rattle.gl_figures.proofs.RootLemmas.{figures_there, spare_there}
+use Rattle.gl_net.specs.declared.node.Bit.{Bit}
 use Rattle.gl_net.specs.Net.{Net}
 use Rattle.gl_net.proofs.Determined.{keeps_then}
 use Rattle.gl_windows_spare.specs.declared.rotation.Fronted.{Fronted}
@@ -32,7 +33,7 @@ use Rattle.gl_wire.specs.declared.emitted.Emitted.{Emitted}
 use Rattle.gl_wire.specs.declared.wire.Wire.{Wire}
 use Rattle.gl_wire.specs.Beats.{Spaced}
 use Rattle.gl_wire.specs.Costs.{CostsAtMost}
-use Rattle.gl_wire.specs.Faults.{lines_of}
+use Rattle.gl_wire.specs.Faults.{line_of, lines_of}
 use Rattle.gl_wire.specs.Once.{ServingOnce}
 use Rattle.gl_wire.specs.Serving.{inputs_at}
 use Rattle.gl_wire.specs.Spills.{Lines, both_lines}
@@ -99,24 +100,24 @@ module _ (nodes : List PlanNode) (w : SpareWindowOf) (plan : IsPlan nodes) (is :
   figures_are = figures_there nodes id node (Some w.spare) is.window' is.spare'
 
   -- the front behind the source
-  pub spare_front : (old mid new : Net) (leaves : List Wire) (below : Emitted) (front : Fronted) → IsPut nodes of_source old mid leaves below
-      → IsFronted mid new r below front → IsSpareFrontOf nodes w old new leaves front
-  spare_front old mid new leaves below front h fr =
+  pub spare_front : (old mid new : Net) (tick : Option Bit) (leaves : List Wire) (below : Emitted) (front : Fronted) → IsPut nodes of_source old mid tick leaves below
+      → IsFronted mid new r below front → IsSpareFrontOf nodes w old new tick leaves front
+  spare_front old mid new tick leaves below front h fr =
       let delay : ℕ = (figures_of nodes of_body).a in
       let fore : CostsAtMost mid new (cost_of_front w.spare.copies delay (widths_of (kinds_of nodes of_source))) =
       subst (λ (cs : List ℕ). CostsAtMost mid new (cost_of_front w.spare.copies delay cs)) h.gives.same_widths fr.cost in
       record {
         keeps = keeps_then old mid new h.keeps fr.keeps;
         cost = costs_then old mid new _ _ h.cost fore;
-        gives = subst (λ (e : Emitted). Gives nodes of_source new leaves e) (sym fr.same) (gives_kept _ _ _ mid new leaves below fr.keeps h.gives);
+        gives = subst (λ (e : Emitted). Gives nodes of_source new tick leaves e) (sym fr.same) (gives_kept _ _ _ mid new tick leaves below fr.keeps h.gives);
         fronts = fr.fronts;
       }
 
   -- behind the front the body can be put
-  pub spare_copies : (figures : List Figures) (old mid net : Net) (leaves : List Wire) (front : Fronted) → CanPut nodes figures id old leaves
-      → IsSpareFrontOf nodes w mid net leaves front → CanCopy nodes figures of_body net front.wires
-  spare_copies figures old mid net leaves front can h =
-      can_copies nodes figures id of_source of_body node old net leaves front.wires plan is.window' refl fits.suits.0 can
+  pub spare_copies : (figures : List Figures) (old mid net : Net) (tick : Option Bit) (leaves : List Wire) (front : Fronted) → CanPut nodes figures id old tick leaves
+      → IsSpareFrontOf nodes w mid net tick leaves front → CanCopy nodes figures of_body net front.wires
+  spare_copies figures old mid net tick leaves front can h =
+      can_copies nodes figures id of_source of_body node old net tick leaves front.wires plan is.window' refl fits.suits.0 can
       (λ k wire at_wire. let x = h.fronts.wires k wire at_wire in (x.0, x.1 ∙ h.gives.same_widths))
 
   -- the results of all windows are those of the root
@@ -137,10 +138,10 @@ module _ (nodes : List PlanNode) (w : SpareWindowOf) (plan : IsPlan nodes) (is :
       })
 
   -- the back behind the copies
-  pub spare_back : (old mid net new : Net) (leaves : List Wire) (front : Fronted) (copies : List Emitted) (e : Emitted)
-      → IsSpareFrontOf nodes w old mid leaves front → AreBodies nodes of_body mid net front.wires (length front.wires) copies
-      → IsBacked net new r front copies e → IsRootPut nodes id old new leaves e
-  spare_back old mid net new leaves front copies e h bodies b =
+  pub spare_back : (old mid net new : Net) (tick : Option Bit) (leaves : List Wire) (front : Fronted) (copies : List Emitted) (e : Emitted)
+      → IsSpareFrontOf nodes w old mid tick leaves front → AreBodies nodes of_body mid net front.wires (length front.wires) copies
+      → IsBacked net new r front copies e → IsRootPut nodes id old new tick leaves e
+  spare_back old mid net new tick leaves front copies e h bodies b =
       let many : length front.wires ≡ w.spare.copies = h.fronts.as_many in
       let are : AreBodies nodes of_body mid net front.wires w.spare.copies copies =
       subst (λ (n : ℕ). AreBodies nodes of_body mid net front.wires n copies) many bodies in
@@ -161,7 +162,7 @@ module _ (nodes : List PlanNode) (w : SpareWindowOf) (plan : IsPlan nodes) (is :
         once = λ run run_new beats last one spaced has.
             let run_net = b.keeps.runs run run_new in
             let run_mid = are.keeps.runs run run_net in
-            let ins : ℕ → Inputs = inputs_at (leaf run leaves) (leaf run leaves 0) in
+            let ins : ℕ → Inputs = inputs_at (line_of run tick) (leaf run leaves) (leaf run leaves 0) in
             let here : Spaced (figures_over r f) beats = subst (λ (g : Figures). Spaced g beats) figures_are spaced in
             let source = h.gives.serving run run_mid beats (spaced_once f (figures_over r f) beats last rotates.1.source_gap one here) has in
             let whole = b.serves run run_new f sound_source rotates.1 nodes of_source of_body ins (lines_of run front.source.faults) beats last one here source

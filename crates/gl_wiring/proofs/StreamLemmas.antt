@@ -1,26 +1,28 @@
--- The wires of streams while a netlist grows, and as wires of the leaves of a plan.
-use Rattle.std.proofs.Common.{◌≡◌, ℕ, zero, suc, List, [], ◌∷◌, ◌++◌, Some, None, refl, sym, ap, subst, ◌∙◌, arith}
-use Rattle.std.specs.Prelude.{map, slice_get}
+-- The wires of streams, and the line of ticks, while a netlist grows, and as wires of the leaves of a plan.
+use Rattle.std.proofs.Common.{◌≡◌, ℕ, zero, suc, Bool, true, false, List, [], ◌∷◌, ◌++◌, Option, Some, None, refl, sym, ap, subst, ◌∙◌, arith}
+use Rattle.std.specs.Prelude.{map, is_some, slice_get, IsTrue}
 use Rattle.gl_bits.proofs.AllLists.{zip_append}
 use Rattle.gl_bits.proofs.Options.{some_same}
 use Rattle.gl_bits.specs.Kinds.{width_of}
 use Rattle.gl_algebra.specs.declared.node.PlanNode.{PlanNode}
+use Rattle.gl_algebra.specs.declared.node.PlanNode.TheVariants as node
 use Rattle.gl_net.specs.Finished.{HasReset}
 use Rattle.gl_net.specs.Net.{Net, IsBit, IsBus, IsPort, reset_name}
 use Rattle.gl_net.specs.declared.node.Bit.{Bit}
 use Rattle.gl_net.specs.declared.node.Bus.{Bus}
 use Rattle.gl_net.specs.declared.node.Direction.TheVariants.{In}
-use Rattle.gl_wiring.specs.Leaves.{HasLeaf, HaveLeaves, widths_of}
-use Rattle.gl_schema.specs.Ports.{eos, in_valid}
+use Rattle.gl_wiring.specs.Leaves.{HasLeaf, HasLine, HaveLeaves, HaveLine, widths_of}
+use Rattle.gl_schema.specs.Ports.{eos, in_valid, tick}
 use Rattle.gl_schema.specs.Schemas.{kinds_of}
 use Rattle.gl_schema.specs.declared.schema.Column.{Column}
 use Rattle.gl_schema.specs.declared.schema.Stream.{Stream}
+use Rattle.gl_wire.specs.Faults.{IsLine}
 use Rattle.gl_wire.specs.Wire.{IsWire}
 use Rattle.gl_wire.specs.declared.wire.Wire.{Wire}
 use Rattle.gl_wire.proofs.GateLemmas.{bit_of}
 use Rattle.gl_wiring.specs.Emitted.{AreInputs, AreSources, Extends, IsSourceOf}
 use Rattle.gl_wiring.specs.EmittedPorts.{column_widths}
-use Rattle.gl_wiring.specs.StreamWires.{AreStreamLeaves, AreStreamWires, IsStreamLeaf, IsStreamWire, wire_from}
+use Rattle.gl_wiring.specs.StreamWires.{AreStreamLeaves, AreStreamWires, IsStreamLeaf, IsStreamWire, IsTickLine, wire_from}
 use Rattle.gl_wiring.specs.declared.parts.Source.{Source}
 use Rattle.gl_wiring.proofs.Inputs.{inputs_stay}
 
@@ -163,3 +165,29 @@ reset_stays old new x h = record {
   port = x.ports In reset_name h.node h.port;
   bit = (bit_stays old new (record { node = h.node }) x (record { there = h.bit })).there;
 }
+
+-- ---- the line of ticks
+
+pub line_stays : (old new : Net) (ticks : Bool) (line : Option Bit) → Extends old new → IsTickLine old ticks line → IsTickLine new ticks line
+line_stays old new true None x h = absurd h
+line_stays old new true (Some b) x h = (bit_stays old new b x h.0, x.ports In tick b.node h.1)
+line_stays old new false line x h = h
+
+pub line_there : (net : Net) (ticks : Bool) (line : Option Bit) → IsTickLine net ticks line → IsLine net line
+line_there net true None h = absurd h
+line_there net true (Some b) h = h.0
+line_there net false line h = rw h tt
+
+line_asked : (net : Net) (ticks : Bool) (line : Option Bit) → IsTickLine net ticks line → IsTrue ticks → IsTrue (is_some line)
+line_asked net true None h t = absurd h
+line_asked net true (Some b) h t = refl
+line_asked net false line h t = absurd (let z : false ≡ true = t in cc)
+
+-- it stands beside each leaf that may ask for it
+pub lines_have : (net : Net) (ticks : Bool) (line : Option Bit) → IsTickLine net ticks line → (leaves : List PlanNode) → HaveLine ticks line leaves
+lines_have net ticks line h [] = tt
+lines_have net ticks line h (leaf ∷ leaves) = (here leaf, lines_have net ticks line h leaves)
+  where
+    here : (leaf : PlanNode) → HasLine ticks line leaf
+    here (node.Stream number kinds) = line_asked net ticks line h
+    here _ = tt

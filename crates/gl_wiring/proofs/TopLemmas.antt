@@ -1,30 +1,52 @@
 -- A plan's root over the beats of a file, shown one cycle later.
-use Rattle.std.proofs.Common.{◌≡◌, ℕ, zero, suc, List, [], ◌++◌, Option, Some, None, Bool, slice_get, refl, sym, ap, ◌∙◌, subst, arith}
+use Rattle.std.proofs.Common.{◌≡◌, ℕ, zero, suc, ◌<◌, List, [], ◌++◌, length, Option, Some, None, Bool, true, false, slice_get, refl, sym, ap, ◌∙◌, subst, arith}
 use mathlib.Core.Path.{fun_ext}
+use Rattle.gl_algebra.specs.Fits.{IsPlan}
 use Rattle.gl_algebra.specs.Results.{Inputs, IsPlanResult}
+use Rattle.gl_algebra.specs.Views.{reads_time}
 use Rattle.gl_algebra.specs.declared.figures.Figures.{Figures}
 use Rattle.gl_algebra.specs.declared.node.PlanNode.{PlanNode}
 use Rattle.gl_algebra.specs.Roots.{gap_of, root_figures}
-use Rattle.gl_bits.specs.Results.{Row}
+use Rattle.gl_bits.specs.Results.{Row, Results}
+use Rattle.gl_algebra.proofs.ReadLemmas.{results_are_untimed}
+use Rattle.gl_net.specs.declared.node.Bit.{Bit}
 use Rattle.gl_net.specs.Net.{Run}
 use Rattle.gl_wiring.specs.Leaves.{LeavesFit, carried_by, leaf, silent}
-use Rattle.gl_schema.specs.Beats.{Beat, AreInOrder, KeepsGap, input_of, inputs_of, last_cycle}
-use Rattle.gl_wire.specs.Faults.{lines_of}
+use Rattle.gl_schema.specs.Beats.{Beat, AreInOrder, KeepsGap, input_of, inputs_of, last_cycle, ticks_of, times_of}
+use Rattle.gl_wire.specs.Faults.{line_of, lines_of}
 use Rattle.gl_wire.specs.Serving.{inputs_at}
 use Rattle.gl_wire.specs.Shapes.{IsDelayed}
+use Rattle.gl_wire.specs.Ticks.{ticks_at, times_at}
 use Rattle.gl_wire.specs.Wire.{Carried, carried, pending, stream}
 use Rattle.gl_wire.specs.declared.emitted.Emitted.{Emitted}
 use Rattle.gl_wire.specs.declared.wire.Wire.{Wire}
-use Rattle.gl_wiring.specs.Bringing.{Brings, beats_in}
+use Rattle.gl_wiring.specs.Bringing.{Brings, BringsTicks, beats_in}
 use Rattle.gl_wiring.specs.Roots.{ServesOnceIn}
 use Rattle.gl_wiring.specs.Root.{IsSticky, ShowsRight, later_line}
 use Rattle.gl_wiring.specs.Wired.{plan_inputs}
-use Rattle.gl_wiring.proofs.FileLemmas.{file_one, file_spaced, file_fits, file_stream}
+use Rattle.gl_wiring.proofs.FileLemmas.{file_one, file_spaced, file_fits, file_stream, ticks_fit}
+use Rattle.gl_wiring.proofs.ClockLemmas.{file_ticks, file_times, no_ticks, no_times}
 use Rattle.gl_wiring.proofs.RootLemmas.{once_shows}
 
 quiet_stream : (c : ℕ) → pending silent c ≡ []
 quiet_stream zero = refl
 quiet_stream (suc c) = ap (λ (l : List Row). l ++ []) (quiet_stream c)
+
+-- the same with another word for the results
+shows_as : (f : Figures) (m n : Results) (last : ℕ) (o : Carried) (group queue : ℕ → Bool) → ((out : List Row) (spill : Bool) → m out spill → n out spill)
+    → ShowsRight f m last o group queue → ShowsRight f n last o group queue
+shows_as f m n last o group queue h s = record {
+  ended = s.ended;
+  soonest = s.soonest;
+  in_time = s.in_time;
+  ends = s.ends;
+  once = s.once;
+  none_later = s.none_later;
+  no_overflow = s.no_overflow;
+  meets = h _ _ s.meets;
+  lasts = s.lasts;
+  stays = s.stays;
+}
 
 module _ (run : Run) (leaves : List Wire) (beats : List Beat) (order : AreInOrder beats)
     (brings : (k : ℕ) (w : Wire) → slice_get leaves k ≡ Some w → Brings k beats (carried run w))
@@ -36,18 +58,56 @@ module _ (run : Run) (leaves : List Wire) (beats : List Beat) (order : AreInOrde
       by None p = ap (λ (l : List Row). l ++ []) (quiet_stream (suc (last_cycle beats))) ∙ sym (others k p)
       by (Some w) p = file_stream beats order k (carried run w) (brings k w p)
 
-  same_inputs : inputs_at (leaf run leaves) (leaf run leaves 0) (suc (last_cycle beats)) ≡ plan_inputs (inputs_of beats)
-  same_inputs = ap (λ (s : ℕ → List Row). record { streams = s; body = s 0 }) (fun_ext leaf_stream)
+  module _ (nodes : List PlanNode) (root : ℕ) (tick : Option Bit) (plan : IsPlan nodes) (within : root < length nodes)
+      (come : BringsTicks (reads_time nodes) beats (line_of run tick)) where
+    abbrev line : ℕ → Bool
+    line = line_of run tick
 
-  pub plan_right : (nodes : List PlanNode) (root : ℕ) (e : Emitted) (o : Carried) (group queue : ℕ → Bool)
-      → ServesOnceIn nodes root leaves e run → KeepsGap (gap_of nodes root) beats → IsDelayed 1 (carried run e.wire) o
-      → IsSticky (lines_of run e.faults).further group → IsSticky (later_line (lines_of run e.faults).passed) queue
-      → ShowsRight (root_figures nodes root) (IsPlanResult nodes root (plan_inputs (inputs_of beats))) (suc (last_cycle beats)) o group queue
-  plan_right nodes root e o group queue serves keeps later sticky sticky' =
-      let f : Figures = root_figures nodes root in
-      let spaced = file_spaced beats order f (gap_of nodes root) (omega arith) keeps in
-      let fits : LeavesFit run leaves (beats_in beats) = record { each = λ k w p. file_fits beats order k (carried run w) (brings k w p) } in
-      let serving = serves (beats_in beats) (suc (last_cycle beats)) (file_one beats order) spaced fits in
-      subst (λ (i : Inputs). ShowsRight f (IsPlanResult nodes root i) (suc (last_cycle beats)) o group queue) same_inputs
-      (once_shows f (IsPlanResult nodes root (inputs_at (leaf run leaves) (leaf run leaves 0) (suc (last_cycle beats)))) (lines_of run e.faults)
-      (carried run e.wire) o group queue (suc (last_cycle beats)) serving later sticky sticky')
+    abbrev at_last : Inputs
+    at_last = inputs_at line (leaf run leaves) (leaf run leaves 0) (suc (last_cycle beats))
+
+    leaf_times : reads_time nodes ≡ true → (k : ℕ) → times_at line (leaf run leaves k) (suc (last_cycle beats)) ≡ times_of k beats
+    leaf_times reads k = by (slice_get leaves k) refl
+      where
+        by : (o : Option Wire) → slice_get leaves k ≡ o → times_at line (carried_by run o) (suc (last_cycle beats)) ≡ times_of k beats
+        by None p = no_times k beats line (suc (last_cycle beats)) (others k p)
+        by (Some w) p = file_times k beats order line come.first (come.ticks reads) (carried run w) (brings k w p)
+
+    leaf_ticks : reads_time nodes ≡ true → (k : ℕ) → ticks_at line (leaf run leaves k) (suc (last_cycle beats)) ≡ ticks_of beats
+    leaf_ticks reads k = by (slice_get leaves k) refl
+      where
+        by : (o : Option Wire) → slice_get leaves k ≡ o → ticks_at line (carried_by run o) (suc (last_cycle beats)) ≡ ticks_of beats
+        by None p = no_ticks beats order line come.first (come.ticks reads)
+        by (Some w) p = file_ticks k beats order line come.first (come.ticks reads) (carried run w) (brings k w p)
+
+    inputs_same : (streams streams' : ℕ → List Row) (times times' : ℕ → List ℕ) (ticks ticks' : ℕ) → streams ≡ streams' → times ≡ times' → ticks ≡ ticks'
+        → ◌≡◌ {A = Inputs} (record { streams = streams; times = times; ticks = ticks; body = streams 0 })
+        (record { streams = streams'; times = times'; ticks = ticks'; body = streams' 0 })
+    inputs_same streams streams' times times' ticks ticks' s t n = cc
+
+    same_inputs : reads_time nodes ≡ true → at_last ≡ plan_inputs (inputs_of beats)
+    same_inputs reads = inputs_same _ _ _ _ _ _ (fun_ext leaf_stream) (fun_ext (leaf_times reads)) (leaf_ticks reads 0)
+
+    -- what the leaves give at the last beat has the results of what beats bring; where no time is read, whatever the times are
+    same_results : (out : List Row) (spill : Bool) → IsPlanResult nodes root at_last out spill → IsPlanResult nodes root (plan_inputs (inputs_of beats)) out spill
+    same_results out spill r = by (reads_time nodes) refl
+      where
+        by : (b : Bool) → reads_time nodes ≡ b → IsPlanResult nodes root (plan_inputs (inputs_of beats)) out spill
+        by true reads = subst (λ (i : Inputs). IsPlanResult nodes root i out spill) (same_inputs reads) r
+        by false reads = results_are_untimed nodes root plan within reads at_last (plan_inputs (inputs_of beats))
+            (record { streams = leaf_stream; body = leaf_stream 0 }) out spill r
+
+    pub plan_right : (e : Emitted) (o : Carried) (group queue : ℕ → Bool)
+        → ServesOnceIn nodes root tick leaves e run → KeepsGap (gap_of nodes root) beats → IsDelayed 1 (carried run e.wire) o
+        → IsSticky (lines_of run e.faults).further group → IsSticky (later_line (lines_of run e.faults).passed) queue
+        → ShowsRight (root_figures nodes root) (IsPlanResult nodes root (plan_inputs (inputs_of beats))) (suc (last_cycle beats)) o group queue
+    plan_right e o group queue serves keeps later sticky sticky' =
+        let f : Figures = root_figures nodes root in
+        let spaced = file_spaced beats order f (gap_of nodes root) (omega arith) keeps in
+        let fits : LeavesFit run tick leaves (beats_in beats) = record {
+          each = λ k w p. file_fits beats order k (carried run w) (brings k w p);
+          ticks = ticks_fit beats line (reads_time nodes) come;
+        } in
+        let serving = serves (beats_in beats) (suc (last_cycle beats)) (file_one beats order) spaced fits in
+        shows_as f (IsPlanResult nodes root at_last) (IsPlanResult nodes root (plan_inputs (inputs_of beats))) (suc (last_cycle beats)) o group queue same_results
+        (once_shows f (IsPlanResult nodes root at_last) (lines_of run e.faults) (carried run e.wire) o group queue (suc (last_cycle beats)) serving later sticky sticky')

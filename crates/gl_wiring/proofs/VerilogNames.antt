@@ -9,12 +9,12 @@ use Rattle.gl_schema.specs.declared.schema.Schema.{Schema}
 use Rattle.gl_schema.specs.Names as schema
 use Rattle.gl_schema.specs.Names.{is_lower, is_name_byte, is_name, has_loose_underscore, begins_with_letter, has_name_bytes, is_taken}
 use Rattle.gl_schema.specs.Schemas.{IsColumn, IsStream, IsSchema}
-use Rattle.gl_schema.specs.Ports.{rst, eos, in_valid, in_column, out_valid, out_column, out_eos, fault_group, fault_queue}
+use Rattle.gl_schema.specs.Ports.{rst, eos, tick, in_valid, in_column, out_valid, out_column, out_eos, fault_group, fault_queue}
 use Rattle.gl_net.specs.Finished as net
 use Rattle.gl_net.specs.Finished.{IsName, is_letter, clock_name}
 use Rattle.std.proofs.lemmas.Bool.{leb-true}
 use Rattle.gl_bits.proofs.Bools.{and_left, and_right, and_both}
-use Rattle.gl_wiring.specs.PortNames.{column_ports, stream_ports, streams_ports, result_ports, port_names}
+use Rattle.gl_wiring.specs.PortNames.{column_ports, stream_ports, streams_ports, result_ports, tick_port, port_names}
 
 -- a letter or a digit of the Verilog subset
 abbrev is_word_byte : ℕ → Bool
@@ -116,6 +116,14 @@ eos-name : IsPortName eos
 unfolding eos
 eos-name = record { name = record { first = refl; each = refl; short = omega arith; free = refl }; clock = refl }
 
+tick-name : IsPortName tick
+unfolding tick
+tick-name = record { name = record { first = refl; each = refl; short = omega arith; free = refl }; clock = refl }
+
+ticks_named : (ticks : Bool) → AllByRecursion IsPortName (tick_port ticks)
+ticks_named true = (tick-name, tt)
+ticks_named false = tt
+
 out_valid-name : IsPortName out_valid
 unfolding out_valid
 out_valid-name = record { name = record { first = refl; each = refl; short = omega arith; free = refl }; clock = refl }
@@ -150,9 +158,10 @@ outs_named [] all = tt
 outs_named (c ∷ cs) all = (out_column-name c all.0, outs_named cs all.1)
 
 -- all ports have names of the subset
-pub ports_named : (s : Schema) (cs : List (List ℕ)) → IsSchema s → AllByRecursion schema.IsName cs → AllByRecursion IsPortName (port_names s cs)
-ports_named s cs is all = (
+pub ports_named : (ticks : Bool) (s : Schema) (cs : List (List ℕ)) → IsSchema s → AllByRecursion schema.IsName cs
+    → AllByRecursion IsPortName (port_names ticks s cs)
+ports_named ticks s cs is all = (
   rst-name,
-  All-append IsPortName (streams_ports s.streams) (eos ∷ result_ports cs) (streams_named s.streams is.streams)
-      (eos-name, (out_valid-name, All-append IsPortName (map out_column cs) (out_eos ∷ fault_group ∷ fault_queue ∷ []) (outs_named cs all) (out_eos-name, (fault_group-name, (fault_queue-name, tt))))),
+  All-append IsPortName (streams_ports s.streams) (eos ∷ (tick_port ticks ++ result_ports cs)) (streams_named s.streams is.streams)
+      (eos-name, All-append IsPortName (tick_port ticks) (result_ports cs) (ticks_named ticks) (out_valid-name, All-append IsPortName (map out_column cs) (out_eos ∷ fault_group ∷ fault_queue ∷ []) (outs_named cs all) (out_eos-name, (fault_group-name, (fault_queue-name, tt))))),
 )

@@ -27,13 +27,13 @@ use Rattle.gl_wiring.specs.Copies.{cost_of_spaced, times}
 use Rattle.gl_wiring.proofs.CostLemmas.{at_most, costs_then, stored_within}
 
 -- nodes, bits of registers, and bits of memories
-nodes_within : (source body spacer front back c s o a : ℕ) → front + back ≤ weight_of_copies c 0 s o + 4 * a
+pub nodes_within : (source body spacer front back c s o a : ℕ) → front + back ≤ weight_of_copies c 0 s o + 4 * a
     → source + spacer + front + c * body + back ≤ source + (weight_of_copies c body s o + 4 * a + spacer)
 nodes_within source body spacer front back c s o a h =
     let each : c * (body + 8 * (s + o + 4)) ≡ c * body + c * (0 + 8 * (s + o + 4)) = omega arith in
     omega (arith, h, each)
 
-bits_within : (source keys body own spacer front back c s o a : ℕ) → front + back ≤ 64 * (weight_of_copies c 0 s o + 4 * a)
+pub bits_within : (source keys body own spacer front back c s o a : ℕ) → front + back ≤ 64 * (weight_of_copies c 0 s o + 4 * a)
     → 64 * source + keys + 64 * spacer + front + c * (64 * body + own) + back ≤ 64 * (source + (weight_of_copies c body s o + 4 * a + spacer)) + (keys + c * own)
 bits_within source keys body own spacer front back c s o a h =
     let each : c * (body + 8 * (s + o + 4)) ≡ c * body + c * (0 + 8 * (s + o + 4)) = omega arith in

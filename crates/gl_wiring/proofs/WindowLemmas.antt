@@ -1,5 +1,5 @@
 -- The circuits of windows.
-use Rattle.std.proofs.Common.{◌≡◌, ℕ, ◌<◌, ◌≤◌, List, [], ◌∷◌, length, Bool, false, ◌||◌, refl, sym, ◌∙◌, subst, arith}
+use Rattle.std.proofs.Common.{◌≡◌, ℕ, ◌<◌, ◌≤◌, List, [], ◌∷◌, length, Bool, false, ◌||◌, refl, sym, ◌∙◌, subst, arith, Option}
 use Rattle.gl_bits.specs.Lists.{slices}
 use Rattle.gl_bits.specs.Results.{Row, Results, AreJoined}
 use Rattle.gl_bits.proofs.Bools.{or_none}
@@ -18,6 +18,7 @@ use Rattle.gl_algebra.proofs.KindLemmas.{columns_have_kinds}
 use Rattle.gl_algebra.proofs.ReadLemmas.{body_reads}
 use Rattle.gl_algebra.proofs.SoundLemmas.{spaced_sound}
 use Rattle.gl_algebra.proofs.TableLemmas.{nodes_follow_tables}
+use Rattle.gl_net.specs.declared.node.Bit.{Bit}
 use Rattle.gl_net.specs.Net.{Net}
 use Rattle.gl_net.proofs.Determined.{keeps_then}
 use Rattle.gl_wire.specs.Counted.{AreNarrow}
@@ -31,7 +32,7 @@ use Rattle.gl_wire.specs.declared.emitted.Emitted.{Emitted}
 use Rattle.gl_wire.specs.declared.wire.Wire.{Wire}
 use Rattle.gl_wire.specs.Apart.{CarriesApart}
 use Rattle.gl_wire.specs.Costs.{CostsAtMost}
-use Rattle.gl_wire.specs.Faults.{lines_of}
+use Rattle.gl_wire.specs.Faults.{line_of, lines_of}
 use Rattle.gl_wire.specs.Serving.{inputs_at}
 use Rattle.gl_wire.specs.Spills.{Lines, both_lines}
 use Rattle.gl_wire.specs.Wire.{carried, widths}
@@ -123,37 +124,37 @@ module _ (nodes : List PlanNode) (w : WindowOf) (plan : IsPlan nodes) (at : IsWi
       (closing_nodes_wait nodes w.body plan in_body fits.suits.0.closing) (subst AreSmall follows.figures small)
 
   -- the source spaced, and the front behind it
-  pub front_put : (old mid net new : Net) (leaves : List Wire) (below between : Emitted) (front : Fronted) → IsPut nodes w.source old mid leaves below
+  pub front_put : (old mid net new : Net) (tick : Option Bit) (leaves : List Wire) (below between : Emitted) (front : Fronted) → IsPut nodes w.source old mid tick leaves below
       → IsSpacedFor mid net (window_gap s) (figures_of nodes w.source) below between → IsFronted net new (rotation_of nodes w) between front
-      → IsFrontOf nodes w old new leaves front
-  front_put old mid net new leaves below between front h sp fr =
+      → IsFrontOf nodes w old new tick leaves front
+  front_put old mid net new tick leaves below between front h sp fr =
       let gap = window_gap s in
-      let columns = columns_between nodes w.source gap g room old mid net new leaves below between h sp fr.keeps in
+      let columns = columns_between nodes w.source gap g room old mid net new tick leaves below between h sp fr.keeps in
       let fore : CostsAtMost net new (cost_of_front c s.a (widths_of (kinds_of nodes w.source))) =
       subst (λ (cs : List ℕ). CostsAtMost net new (cost_of_front c s.a cs)) columns (no_more net new _ fr.cost) in
       record {
-        keeps = source_keeps nodes w.source gap g room old mid net new leaves below between h sp fr.keeps;
-        cost = source_cost nodes w.source gap g room old mid net new leaves below between h sp fr.keeps _ fore;
-        gives = subst (GivesAs (paceless (shape_of nodes w.source)) f (IsPlanResult nodes w.source) new leaves) (sym fr.same)
-            (source_gives nodes w.source gap g room old mid net new leaves below between h sp fr.keeps);
+        keeps = source_keeps nodes w.source gap g room old mid net new tick leaves below between h sp fr.keeps;
+        cost = source_cost nodes w.source gap g room old mid net new tick leaves below between h sp fr.keeps _ fore;
+        gives = subst (GivesAs (paceless (shape_of nodes w.source)) f (IsPlanResult nodes w.source) new tick leaves) (sym fr.same)
+            (source_gives nodes w.source gap g room old mid net new tick leaves below between h sp fr.keeps);
         apart = λ run r beats spaced_beats has.
             subst (λ (e : Emitted). CarriesApart gap (carried run e.wire)) (sym fr.same)
-            (source_apart nodes w.source gap g room old mid net new leaves below between h sp fr.keeps run r beats spaced_beats has);
+            (source_apart nodes w.source gap g room old mid net new tick leaves below between h sp fr.keeps run r beats spaced_beats has);
         fronts = fr.fronts;
       }
 
   -- behind the front the body can be put
-  pub window_copies : (figures : List Figures) (old mid net : Net) (leaves : List Wire) (front : Fronted) → CanPut nodes figures w.id old leaves
-      → IsFrontOf nodes w mid net leaves front → CanCopy nodes figures w.body net front.wires
-  window_copies figures old mid net leaves front can h =
-      can_copies nodes figures w.id w.source w.body node old net leaves front.wires plan at refl fits.suits.0 can
+  pub window_copies : (figures : List Figures) (old mid net : Net) (tick : Option Bit) (leaves : List Wire) (front : Fronted) → CanPut nodes figures w.id old tick leaves
+      → IsFrontOf nodes w mid net tick leaves front → CanCopy nodes figures w.body net front.wires
+  window_copies figures old mid net tick leaves front can h =
+      can_copies nodes figures w.id w.source w.body node old net tick leaves front.wires plan at refl fits.suits.0 can
       (λ k wire at_wire. let x = h.fronts.wires k wire at_wire in (x.0, x.1 ∙ h.gives.same_widths))
 
   -- the back behind the copies
-  pub back_put : (old mid net new : Net) (leaves : List Wire) (front : Fronted) (copies : List Emitted) (e : Emitted) → IsFrontOf nodes w old mid leaves front
+  pub back_put : (old mid net new : Net) (tick : Option Bit) (leaves : List Wire) (front : Fronted) (copies : List Emitted) (e : Emitted) → IsFrontOf nodes w old mid tick leaves front
       → AreBodies nodes w.body mid net front.wires (length front.wires) copies → IsBacked net new (rotation_of nodes w) front copies e
-      → IsPut nodes w.id old new leaves e
-  back_put old mid net new leaves front copies e h bodies b =
+      → IsPut nodes w.id old new tick leaves e
+  back_put old mid net new tick leaves front copies e h bodies b =
       let many : length front.wires ≡ c = h.fronts.as_many in
       let are : AreBodies nodes w.body mid net front.wires c copies =
       subst (λ (n : ℕ). AreBodies nodes w.body mid net front.wires n copies) many bodies in
@@ -177,7 +178,7 @@ module _ (nodes : List PlanNode) (w : WindowOf) (plan : IsPlan nodes) (at : IsWi
               let source = h.gives.serving run run_mid beats (spaced_closer f g beats room.closer spaced_beats) has in
               let whole = b.serves run r f sound_source nodes w.body beats spaced_beats source.fits (h.apart run run_mid beats spaced_beats has)
               (λ k l own. copies_serve nodes w.source w.body plan in_body fits.suits.0 mid net run front.wires c copies run_net are many k l own) in
-              let ins : ℕ → Inputs = inputs_at (leaf run leaves) (leaf run leaves 0) in
+              let ins : ℕ → Inputs = inputs_at (line_of run tick) (leaf run leaves) (leaf run leaves 0) in
               let own : Lines = lines_of_all (told_of run copies) c in
               let lines : Lines = both_lines (lines_of run front.source.faults) own in
               serving_lines g (λ t. IsPlanResult nodes w.id (ins t)) (lines_of run e.faults) lines beats (carried run e.wire) (b.told run r)

@@ -1,6 +1,6 @@
 -- The beats of a file as those of a run, which come a cycle later, and wires that bring the streams of beats.
-use Rattle.std.specs.Prelude.{◌≡◌, ℕ, zero, suc, false, List, Option, None, option_and_then, option_map}
-use Rattle.gl_schema.specs.Beats.{Beat, row_in, beat_at, ends_at}
+use Rattle.std.specs.Prelude.{◌≡◌, ℕ, zero, suc, Bool, true, false, List, Option, None, option_and_then, option_map}
+use Rattle.gl_schema.specs.Beats.{Beat, row_in, beat_at, ends_at, ticks_at}
 use Rattle.gl_wire.specs.Beats.{Beats}
 use Rattle.gl_wire.specs.Wire.{Carried}
 
@@ -19,3 +19,9 @@ pub record Brings (k : ℕ) (beats : List Beat) (s : Carried) : Type 0 where
   pub no_end : s.ends 0 ≡ false
   pub tuples : (n : ℕ) → s.tuple (suc n) ≡ row_at k beats n
   pub ends : (n : ℕ) → s.ends (suc n) ≡ ends_at beats n
+
+-- a line that is 1 with the ticks, where they are asked for, and else never
+pub record BringsTicks (reads : Bool) (beats : List Beat) (line : ℕ → Bool) : Type 0 where
+  pub first : line 0 ≡ false
+  pub ticks : reads ≡ true → (n : ℕ) → line (suc n) ≡ ticks_at beats n
+  pub none : reads ≡ false → (c : ℕ) → line c ≡ false

@@ -1,12 +1,13 @@
 -- Groups of a plan in a netlist: the source, spaced where its tuples may come too fast, the front, a circuit of the
 -- body behind each wire of the front, and the back.
-use Rattle.std.specs.Prelude.{◌≡◌, ℕ, ◌+◌, List, length, Some, slice_get}
+use Rattle.std.specs.Prelude.{◌≡◌, ℕ, ◌+◌, List, length, Some, slice_get, Option}
 use Rattle.gl_algebra.specs.declared.figures.Figures.{Figures}
 use Rattle.gl_algebra.specs.declared.node.PlanNode.{PlanNode}
 use Rattle.gl_algebra.specs.declared.node.PlanNode.TheVariants.{Group}
 use Rattle.gl_algebra.specs.FigureTable.{figures_of, group_figures, group_gap, spaced}
 use Rattle.gl_algebra.specs.Results.{IsPlanResult}
 use Rattle.gl_algebra.specs.Shapes.{kinds_of, shape_of}
+use Rattle.gl_net.specs.declared.node.Bit.{Bit}
 use Rattle.gl_net.specs.Net.{Net, Run, IsRun, Keeps}
 use Rattle.gl_groups.specs.declared.grouping.Fronted.{Fronted}
 use Rattle.gl_groups.specs.declared.grouping.Grouping.{Grouping}
@@ -52,15 +53,16 @@ cost_to_slots nodes g =
     }
 
 -- the front of a group: its source gives the source's results, far enough apart for the body
-pub record IsGroupFront (nodes : List PlanNode) (g : GroupOf) (old new : Net) (leaves : List Wire)
-    (front : Fronted) : Type 0 where
+pub record IsGroupFront (nodes : List PlanNode) (g : GroupOf) (old new : Net) (tick : Option Bit)
+    (leaves : List Wire) (front : Fronted) : Type 0 where
   pub keeps : Keeps old new
   pub cost : CostsAtMost old new (cost_to_slots nodes g)
   pub gives : GivesAs (paceless (shape_of nodes g.source)) (spaced_source nodes g) (IsPlanResult nodes g.source)
-      new leaves
+      new tick leaves
       front.source
   pub apart : (run : Run) → IsRun new run → (beats : Beats) → Spaced (group_whole nodes g) beats
-      → LeavesFit run leaves beats → CarriesApart (group_gap (figures_of nodes g.body)) (carried run front.source.wire)
+      → LeavesFit run tick leaves beats
+      → CarriesApart (group_gap (figures_of nodes g.body)) (carried run front.source.wire)
   pub fronts : Fronts new (grouping_of nodes g) front
 
 -- a circuit of the body behind each of its wires

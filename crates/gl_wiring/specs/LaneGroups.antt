@@ -1,10 +1,11 @@
 -- Groups of a plan over direct bodies, in a netlist: the source, spaced where its tuples may come too fast, and one lane
 -- for all slots behind it.
-use Rattle.std.specs.Prelude.{◌≡◌, ℕ, ◌+◌, List, length}
+use Rattle.std.specs.Prelude.{◌≡◌, ℕ, ◌+◌, List, length, Option}
 use Rattle.gl_algebra.specs.declared.node.PlanNode.{PlanNode}
 use Rattle.gl_algebra.specs.FigureTable.{figures_of, group_gap}
 use Rattle.gl_algebra.specs.Results.{IsPlanResult}
 use Rattle.gl_algebra.specs.Shapes.{kinds_of, shape_of}
+use Rattle.gl_net.specs.declared.node.Bit.{Bit}
 use Rattle.gl_net.specs.Net.{Net, Run, IsRun, IsBit, Keeps}
 use Rattle.gl_groups.specs.Joins.{AreKeyBuses}
 use Rattle.gl_groups.specs.Laned.{IsLaneOf, cost_of_lane}
@@ -35,15 +36,15 @@ cost_to_lane nodes g =
     }
 
 -- the lane of a group: its source gives the source's results, far enough apart for the body
-pub record IsGroupLane (nodes : List PlanNode) (g : GroupOf) (old new : Net) (leaves : List Wire) (l : Laned)
-    : Type 0 where
+pub record IsGroupLane (nodes : List PlanNode) (g : GroupOf) (old new : Net) (tick : Option Bit) (leaves : List Wire)
+    (l : Laned) : Type 0 where
   pub keeps : Keeps old new
   pub cost : CostsAtMost old new (cost_to_lane nodes g)
   pub gives : GivesAs (paceless (shape_of nodes g.source)) (spaced_source nodes g) (IsPlanResult nodes g.source)
-      new leaves
+      new tick leaves
       l.source
   pub apart : (run : Run) → IsRun new run → (beats : Beats) → Spaced (group_whole nodes g) beats
-      → LeavesFit run leaves beats → CarriesApart (group_gap (figures_of nodes g.body)) (carried run l.source.wire)
+      → LeavesFit run tick leaves beats → CarriesApart (group_gap (figures_of nodes g.body)) (carried run l.source.wire)
   pub lane : IsLaneOf new (grouping_of nodes g) l.source.wire l.lane
 
 -- what gathers the rows of the slots finds their keys and the lines

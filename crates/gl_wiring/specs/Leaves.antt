@@ -1,14 +1,19 @@
--- The wires of a plan's leaves: the wire at place k is that of stream k, and a body's input is the wire at place 0.
-use Rattle.std.specs.Prelude.{◌≡◌, ℕ, List, [], ◌∷◌, map, Option, Some, None, false, slice_get}
+-- The wires of a plan's leaves: the wire at place k is that of stream k, and a body's input is the wire at place 0. Beside
+-- them a line may tell of ticks.
+use Rattle.std.specs.Prelude.{◌≡◌, ℕ, List, [], ◌∷◌, map, Bool, Option, Some, None, false, is_some, slice_get, IsTrue}
+use Rattle.std.specs.List.{AllByRecursion}
 use Rattle.gl_bits.specs.Kinds.{width_of}
 use Rattle.gl_bits.specs.declared.kind.Kind.{Kind}
 use Rattle.gl_algebra.specs.declared.node.PlanNode.{PlanNode}
 use Rattle.gl_algebra.specs.declared.node.PlanNode.TheVariants.{Stream, Body}
 use Rattle.gl_algebra.specs.FigureTable.{input_figures}
+use Rattle.gl_net.specs.declared.node.Bit.{Bit}
 use Rattle.gl_net.specs.Net.{Net, Run}
 use Rattle.gl_wire.specs.declared.wire.Wire.{Wire}
 use Rattle.gl_wire.specs.Beats.{Beats}
+use Rattle.gl_wire.specs.Faults.{line_of}
 use Rattle.gl_wire.specs.Serves.{Fits}
+use Rattle.gl_wire.specs.Ticks.{TicksFit}
 use Rattle.gl_wire.specs.Wire.{Carried, IsWire, carried, widths}
 
 -- what is carried where there is no wire
@@ -49,7 +54,17 @@ abbrev pub HaveLeaves : Net → List Wire → List PlanNode → Type 0
 HaveLeaves net leaves [] = Unit {0}
 HaveLeaves net leaves (node ∷ nodes) = HasLeaf net leaves node × HaveLeaves net leaves nodes
 
--- each leaf's wire carries a tuple or an end with a beat, in the beat's own cycle
-pub record LeavesFit (run : Run) (leaves : List Wire) (beats : Beats) : Type 0 where
+-- where the time of rows is read, there is a line of ticks beside a stream
+abbrev pub HasLine : Bool → Option Bit → PlanNode → Type 0
+HasLine reads tick (Stream number kinds) = IsTrue reads → IsTrue (is_some tick)
+HasLine reads tick _ = Unit {0}
+
+-- and beside each of some leaves
+abbrev pub HaveLine : Bool → Option Bit → List PlanNode → Type 0
+HaveLine reads tick nodes = AllByRecursion (HasLine reads tick) nodes
+
+-- each leaf's wire carries a tuple or an end with a beat, in the beat's own cycle, and each tick comes with a beat
+pub record LeavesFit (run : Run) (tick : Option Bit) (leaves : List Wire) (beats : Beats) : Type 0 where
   pub each : (place : ℕ) (wire : Wire) → slice_get leaves place ≡ Some wire
       → Fits input_figures beats (carried run wire)
+  pub ticks : TicksFit (line_of run tick) beats

@@ -16,3 +16,4 @@ pub mod LaneGroups
 pub mod Windows
 pub mod Roots
 pub mod SpareWindows
+pub mod TimeWindows

@@ -1,6 +1,6 @@
 -- The output of a plan's circuit: a stage behind its wire, two lines that never fall behind its lines, and ports that
 -- show them.
-use Rattle.std.specs.Prelude.{ℕ, ◌+◌, Bool, List, [], ◌∷◌, ◌++◌, length}
+use Rattle.std.specs.Prelude.{ℕ, ◌+◌, Bool, true, false, List, [], ◌∷◌, ◌++◌, length}
 use Rattle.std.specs.List.{AllZip, sum}
 use Rattle.gl_bits.specs.declared.kind.Kind.{Kind}
 use Rattle.gl_net.specs.Net.{Net, Run, IsBit, IsPort, IsRun, Keeps}
@@ -9,7 +9,7 @@ use Rattle.gl_net.specs.declared.node.Bit.{Bit}
 use Rattle.gl_net.specs.declared.node.Bus.{Bus}
 use Rattle.gl_net.specs.declared.node.Direction.TheVariants.{Out}
 use Rattle.gl_wiring.specs.Leaves.{widths_of}
-use Rattle.gl_schema.specs.Ports.{rst, eos, out_valid, out_column, out_eos, fault_group, fault_queue}
+use Rattle.gl_schema.specs.Ports.{rst, eos, tick, out_valid, out_column, out_eos, fault_group, fault_queue}
 use Rattle.gl_schema.specs.declared.schema.Schema.{Schema}
 use Rattle.gl_wire.specs.Costs.{Cost, CostsAtMost}
 use Rattle.gl_wire.specs.Faults.{line_of}
@@ -34,13 +34,18 @@ output_ports widths names =
     output out_valid 1 ∷ (named_outputs widths names ++ output out_eos 1 ∷ output fault_group 1 ∷ output fault_queue 1
     ∷ [])
 
--- the inputs of a schema
-abbrev pub input_ports : Schema → List PortShape
-input_ports schema = input rst 1 ∷ (streams_inputs schema.streams ++ input eos 1 ∷ [])
+-- the tick, where it is asked for
+abbrev pub tick_input : Bool → List PortShape
+tick_input true = input tick 1 ∷ []
+tick_input false = []
+
+-- the inputs of a schema: reset, those of the streams, the end, and the tick where it is asked for
+abbrev pub input_ports : Bool → Schema → List PortShape
+input_ports ticks schema = input rst 1 ∷ (streams_inputs schema.streams ++ input eos 1 ∷ tick_input ticks)
 
 -- all ports of a module for a schema and a result whose columns have these kinds and names
-abbrev pub plan_ports : Schema → List Kind → List (List ℕ) → List PortShape
-plan_ports schema kinds names = input_ports schema ++ output_ports (widths_of kinds) names
+abbrev pub plan_ports : Bool → Schema → List Kind → List (List ℕ) → List PortShape
+plan_ports ticks schema kinds names = input_ports ticks schema ++ output_ports (widths_of kinds) names
 
 -- ---- lines that never fall
 

@@ -1,8 +1,11 @@
 -- What the nodes and ports of a plan's netlist are, before it is finished.
-use Rattle.std.specs.Prelude.{◌≡◌, ℕ, ◌≤◌, List, []}
+use Rattle.std.specs.Prelude.{◌≡◌, ℕ, ◌<◌, ◌≤◌, List, [], length, Option}
+use Rattle.gl_algebra.specs.Fits.{IsPlan}
 use Rattle.gl_algebra.specs.Shapes.{kinds_of}
+use Rattle.gl_algebra.specs.Views.{reads_time}
 use Rattle.gl_algebra.specs.declared.node.PlanNode.{PlanNode}
 use Rattle.gl_algebra.specs.Roots.{most_memory, most_registers, weight_with_output}
+use Rattle.gl_net.specs.declared.node.Bit.{Bit}
 use Rattle.gl_net.specs.Finished.{HasReset}
 use Rattle.gl_net.specs.Net.{Net, Run, IsRun, memory_bits_of, register_bits_of, size_of}
 use Rattle.gl_net.specs.PortValues.{port_shapes}
@@ -11,7 +14,7 @@ use Rattle.gl_wire.specs.declared.emitted.Emitted.{Emitted}
 use Rattle.gl_wire.specs.declared.wire.Wire.{Wire}
 use Rattle.gl_wiring.specs.Output.{IsOutput, plan_ports}
 use Rattle.gl_wiring.specs.Roots.{ServesOnceIn}
-use Rattle.gl_wiring.specs.StreamWires.{AreStreamWires}
+use Rattle.gl_wiring.specs.StreamWires.{AreStreamWires, IsTickLine}
 
 -- no port, no node and no bit
 pub record IsEmpty (net : Net) : Type 0 where
@@ -20,16 +23,20 @@ pub record IsEmpty (net : Net) : Type 0 where
   pub registers : register_bits_of net ≡ 0
   pub memories : memory_bits_of net ≡ 0
 
--- the circuit of the root between the wires of the streams and an output
+-- the circuit of the root between the wires of the streams, with the line of ticks, and an output
 pub record IsPlanNet (schema : Schema) (nodes : List PlanNode) (root : ℕ) (names : List (List ℕ)) (net : Net)
     : Type 0 where
+  pub plan : IsPlan nodes
+  pub within : root < length nodes
   pub leaves : List Wire
+  pub tick : Option Bit
   pub e : Emitted
   pub wires : AreStreamWires net schema.streams leaves
-  pub serves : (run : Run) → IsRun net run → ServesOnceIn nodes root leaves e run
+  pub line : IsTickLine net (reads_time nodes) tick
+  pub serves : (run : Run) → IsRun net run → ServesOnceIn nodes root tick leaves e run
   pub output : IsOutput net names e
   pub reset : HasReset net
-  pub ports : port_shapes net ≡ plan_ports schema (kinds_of nodes root) names
+  pub ports : port_shapes net ≡ plan_ports (reads_time nodes) schema (kinds_of nodes root) names
   pub size : size_of net ≤ weight_with_output nodes root
   pub registers : register_bits_of net ≤ most_registers nodes root
   pub memories : memory_bits_of net ≤ most_memory nodes root

@@ -1,9 +1,9 @@
 -- The names of the ports of an emitted module, the clock aside, in their order.
-use Rattle.std.specs.Prelude.{ℕ, List, [], ◌∷◌, ◌++◌, map}
+use Rattle.std.specs.Prelude.{ℕ, Bool, true, false, List, [], ◌∷◌, ◌++◌, map}
 use Rattle.gl_schema.specs.declared.schema.Column.{Column}
 use Rattle.gl_schema.specs.declared.schema.Stream.{Stream}
 use Rattle.gl_schema.specs.declared.schema.Schema.{Schema}
-use Rattle.gl_schema.specs.Ports.{rst, eos, in_valid, in_column, out_valid, out_column, out_eos, fault_group, fault_queue}
+use Rattle.gl_schema.specs.Ports.{rst, eos, tick, in_valid, in_column, out_valid, out_column, out_eos, fault_group, fault_queue}
 
 -- the columns of a stream
 abbrev pub column_ports : List ℕ → List Column → List (List ℕ)
@@ -22,5 +22,11 @@ streams_ports (s ∷ ss) = stream_ports s ++ streams_ports ss
 abbrev pub result_ports : List (List ℕ) → List (List ℕ)
 result_ports columns = out_valid ∷ (map out_column columns ++ out_eos ∷ fault_group ∷ fault_queue ∷ [])
 
-abbrev pub port_names : Schema → List (List ℕ) → List (List ℕ)
-port_names schema columns = rst ∷ (streams_ports schema.streams ++ eos ∷ result_ports columns)
+-- the tick, where it is asked for
+abbrev pub tick_port : Bool → List (List ℕ)
+tick_port true = tick ∷ []
+tick_port false = []
+
+abbrev pub port_names : Bool → Schema → List (List ℕ) → List (List ℕ)
+port_names ticks schema columns =
+    rst ∷ (streams_ports schema.streams ++ eos ∷ (tick_port ticks ++ result_ports columns))

@@ -1,16 +1,17 @@
 -- What the circuit of a plan's root is: over one stream its wire gives the root's results, with the root's spare copies.
-use Rattle.std.specs.Prelude.{ℕ, ◌+◌, ◌*◌, List}
+use Rattle.std.specs.Prelude.{ℕ, ◌+◌, ◌*◌, List, Option}
 use Rattle.gl_algebra.specs.declared.node.PlanNode.{PlanNode}
 use Rattle.gl_algebra.specs.Cost.{keys_of, lean_of, store_of}
 use Rattle.gl_algebra.specs.Results.{IsPlanResult}
 use Rattle.gl_algebra.specs.Roots.{further_keys, further_lean, further_store, further_weight, root_figures}
 use Rattle.gl_algebra.specs.Weights.{weight_of}
+use Rattle.gl_net.specs.declared.node.Bit.{Bit}
 use Rattle.gl_net.specs.Net.{Net, Run, IsRun, Keeps}
 use Rattle.gl_wire.specs.declared.emitted.Emitted.{Emitted}
 use Rattle.gl_wire.specs.declared.wire.Wire.{Wire}
 use Rattle.gl_wire.specs.Beats.{Beats, Spaced}
 use Rattle.gl_wire.specs.Costs.{Cost, CostsAtMost}
-use Rattle.gl_wire.specs.Faults.{lines_of}
+use Rattle.gl_wire.specs.Faults.{line_of, lines_of}
 use Rattle.gl_wire.specs.Once.{OneStream, ServingOnce}
 use Rattle.gl_wire.specs.Serving.{inputs_at}
 use Rattle.gl_wire.specs.Wire.{carried}
@@ -19,12 +20,12 @@ use Rattle.gl_wiring.specs.Put.{HasColumns}
 
 -- in a run a circuit behind these leaves gives a root's results over each one stream whose beats are spaced by the
 -- root's figures
-abbrev pub ServesOnceIn : List PlanNode → ℕ → List Wire → Emitted → Run → Type 0
-ServesOnceIn nodes root leaves e run =
+abbrev pub ServesOnceIn : List PlanNode → ℕ → Option Bit → List Wire → Emitted → Run → Type 0
+ServesOnceIn nodes root tick leaves e run =
     (beats : Beats) (last : ℕ) → OneStream beats last → Spaced (root_figures nodes root) beats
-    → LeavesFit run leaves beats
+    → LeavesFit run tick leaves beats
     → ServingOnce (root_figures nodes root)
-    (IsPlanResult nodes root (inputs_at (leaf run leaves) (leaf run leaves 0) last))
+    (IsPlanResult nodes root (inputs_at (line_of run tick) (leaf run leaves) (leaf run leaves 0) last))
     (lines_of run e.faults) last (carried run e.wire)
 
 -- what a plan counts for the circuit of its root: nodes, bits of registers, bits of memories
@@ -37,8 +38,9 @@ root_counted nodes root = record {
 
 -- the circuit of a root: it gives the root's results over one stream, what stood before is kept, and no more is added
 -- than the plan counts
-pub record IsRootPut (nodes : List PlanNode) (root : ℕ) (old new : Net) (leaves : List Wire) (e : Emitted) : Type 0 where
+pub record IsRootPut (nodes : List PlanNode) (root : ℕ) (old new : Net) (tick : Option Bit) (leaves : List Wire)
+    (e : Emitted) : Type 0 where
   pub keeps : Keeps old new
   pub cost : CostsAtMost old new (root_counted nodes root)
   pub columns : HasColumns nodes root new e
-  pub once : (run : Run) → IsRun new run → ServesOnceIn nodes root leaves e run
+  pub once : (run : Run) → IsRun new run → ServesOnceIn nodes root tick leaves e run

@@ -1,10 +1,11 @@
 -- Windows with spare copies at the root of a plan, in a netlist: the source, the front with late ends, a circuit of the
 -- body behind each wire of the front, and the back.
-use Rattle.std.specs.Prelude.{◌≡◌, ◌+◌, List, Some}
+use Rattle.std.specs.Prelude.{◌≡◌, ◌+◌, List, Some, Option}
 use Rattle.gl_algebra.specs.declared.node.PlanNode.{PlanNode}
 use Rattle.gl_algebra.specs.FigureTable.{figures_of}
 use Rattle.gl_algebra.specs.Roots.{spare_at}
 use Rattle.gl_algebra.specs.Shapes.{kinds_of}
+use Rattle.gl_net.specs.declared.node.Bit.{Bit}
 use Rattle.gl_net.specs.Net.{Net, Keeps}
 use Rattle.gl_windows_spare.specs.declared.rotation.Fronted.{Fronted}
 use Rattle.gl_windows_spare.specs.declared.rotation.SpareRotation.{SpareRotation}
@@ -44,9 +45,9 @@ cost_to_front nodes w =
     }
 
 -- the front of such windows: its source gives the source's results
-pub record IsSpareFrontOf (nodes : List PlanNode) (w : SpareWindowOf) (old new : Net) (leaves : List Wire)
-    (front : Fronted) : Type 0 where
+pub record IsSpareFrontOf (nodes : List PlanNode) (w : SpareWindowOf) (old new : Net) (tick : Option Bit)
+    (leaves : List Wire) (front : Fronted) : Type 0 where
   pub keeps : Keeps old new
   pub cost : CostsAtMost old new (cost_to_front nodes w)
-  pub gives : Gives nodes w.window.source new leaves front.source
+  pub gives : Gives nodes w.window.source new tick leaves front.source
   pub fronts : Fronts new (rotation_with nodes w) front

@@ -1,5 +1,5 @@
--- The wires of a schema's streams: their lines and columns are the input ports.
-use Rattle.std.specs.Prelude.{◌≡◌, ℕ, List, Some, slice_get}
+-- The wires of a schema's streams: their lines and columns are the input ports; and the line of ticks, which is one.
+use Rattle.std.specs.Prelude.{◌≡◌, ℕ, List, Bool, true, false, Option, Some, None, slice_get}
 use Rattle.std.specs.List.{AllByRecursion, AllZip}
 use Rattle.gl_algebra.specs.declared.node.PlanNode.{PlanNode}
 use Rattle.gl_algebra.specs.declared.node.PlanNode.TheVariants as node
@@ -7,7 +7,7 @@ use Rattle.gl_net.specs.Net.{Net, IsBit, IsPort}
 use Rattle.gl_net.specs.declared.node.Bit.{Bit}
 use Rattle.gl_net.specs.declared.node.Bus.{Bus}
 use Rattle.gl_net.specs.declared.node.Direction.TheVariants.{In}
-use Rattle.gl_schema.specs.Ports.{eos, in_valid}
+use Rattle.gl_schema.specs.Ports.{eos, in_valid, tick}
 use Rattle.gl_schema.specs.Schemas.{kinds_of}
 use Rattle.gl_schema.specs.declared.schema.Stream.{Stream}
 use Rattle.gl_wire.specs.Wire.{widths}
@@ -35,6 +35,12 @@ wire_from end source = wire_at source.valid source.columns end
 -- one for each stream, in order
 abbrev pub AreStreamWires : Net → List Stream → List Wire → Type 0
 AreStreamWires net streams wires = AllZip (IsStreamWire net) streams wires
+
+-- the line of ticks, where it is asked for
+abbrev pub IsTickLine : Net → Bool → Option Bit → Type 0
+IsTickLine net true None = ⊥
+IsTickLine net true (Some line) = IsBit net line × IsPort net In tick line.node
+IsTickLine net false line = line ≡ None
 
 -- a leaf of a plan that is one of these streams, with the kinds of its columns
 pub record IsStreamLeaf (streams : List Stream) (leaf : PlanNode) : Type 0 where

@@ -1,6 +1,6 @@
 -- Windows of a plan in a netlist: the source, spaced where its tuples may come too fast, the front, a circuit of the
 -- body behind each wire of the front, and the back.
-use Rattle.std.specs.Prelude.{◌≡◌, ℕ, ◌+◌, List, length, Some, slice_get}
+use Rattle.std.specs.Prelude.{◌≡◌, ℕ, ◌+◌, List, length, Some, slice_get, Option}
 use Rattle.gl_algebra.specs.declared.figures.Figures.{Figures}
 use Rattle.gl_algebra.specs.declared.node.PlanNode.{PlanNode}
 use Rattle.gl_algebra.specs.declared.node.PlanNode.TheVariants.{Window}
@@ -8,6 +8,7 @@ use Rattle.gl_algebra.specs.FigureTable.{figures_of, spaced, window_figures, win
 use Rattle.gl_algebra.specs.Views.{copies_of_window}
 use Rattle.gl_algebra.specs.Results.{IsPlanResult}
 use Rattle.gl_algebra.specs.Shapes.{kinds_of, shape_of}
+use Rattle.gl_net.specs.declared.node.Bit.{Bit}
 use Rattle.gl_net.specs.Net.{Net, Run, IsRun, Keeps}
 use Rattle.gl_windows.specs.declared.rotation.Fronted.{Fronted}
 use Rattle.gl_windows.specs.declared.rotation.Rotation.{Rotation}
@@ -60,15 +61,16 @@ cost_to_front nodes w =
     }
 
 -- the front of a window: its source gives the source's results, far enough apart for the body
-pub record IsFrontOf (nodes : List PlanNode) (w : WindowOf) (old new : Net) (leaves : List Wire)
-    (front : Fronted) : Type 0 where
+pub record IsFrontOf (nodes : List PlanNode) (w : WindowOf) (old new : Net) (tick : Option Bit)
+    (leaves : List Wire) (front : Fronted) : Type 0 where
   pub keeps : Keeps old new
   pub cost : CostsAtMost old new (cost_to_front nodes w)
   pub gives : GivesAs (paceless (shape_of nodes w.source)) (source_figures nodes w) (IsPlanResult nodes w.source)
-      new leaves
+      new tick leaves
       front.source
   pub apart : (run : Run) → IsRun new run → (beats : Beats) → Spaced (whole_figures nodes w) beats
-      → LeavesFit run leaves beats → CarriesApart (window_gap (figures_of nodes w.body)) (carried run front.source.wire)
+      → LeavesFit run tick leaves beats
+      → CarriesApart (window_gap (figures_of nodes w.body)) (carried run front.source.wire)
   pub fronts : Fronts new (rotation_of nodes w) front
 
 -- behind all wires of a front

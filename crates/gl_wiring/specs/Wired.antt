@@ -4,6 +4,7 @@ use Rattle.std.specs.List.{AllByRecursion, IsDistinct}
 use Rattle.gl_algebra.specs.Results.{Inputs, IsPlanResult}
 use Rattle.gl_algebra.specs.Shapes.{kinds_of, shape_of}
 use Rattle.gl_algebra.specs.Small.{AreFigures}
+use Rattle.gl_algebra.specs.Views.{reads_time}
 use Rattle.gl_algebra.specs.declared.figures.Figures.{Figures}
 use Rattle.gl_algebra.specs.declared.figures.Spare.{Spare}
 use Rattle.gl_algebra.specs.declared.node.PlanNode.{PlanNode}
@@ -24,7 +25,8 @@ use Rattle.gl_wiring.specs.declared.names.ResultNames.{ResultNames}
 
 -- what comes in to a query as what the leaves of its plan give; no leaf of a whole plan is a body's input
 abbrev pub plan_inputs : beats.Inputs → Inputs
-plan_inputs inputs = record { streams = inputs.rows; body = inputs.rows 0 }
+plan_inputs inputs =
+    record { streams = inputs.rows; times = inputs.times; ticks = inputs.ticks; body = inputs.rows 0 }
 
 -- what a plan means: the results of its root
 abbrev pub plan_means : List PlanNode → ℕ → Meaning
@@ -59,11 +61,12 @@ pub record CanWire (schema : Schema) (nodes : List PlanNode) (root : ℕ) (figur
   pub spared : spare ≡ spare_at nodes root
   pub named : AreResultNames (length (kinds_of nodes root)) names
 
--- its netlist: the ports of the schema and of the result, at most what the plan counts with its output, and over beats
--- that keep the gap a right run, within the latency, whose group line never falls
+-- its netlist: the ports of the schema, with the tick where the plan reads the time, and of the result, at most what the
+-- plan counts with its output, and over beats that keep the gap a right run, within the latency, whose group line never
+-- falls
 pub record IsWired (schema : Schema) (nodes : List PlanNode) (root : ℕ) (names : ResultNames) (net : Net) : Type 0 where
   pub name : net.name ≡ Some (codes "q__" ++ names.into)
-  pub ports : port_shapes net ≡ plan_ports schema (kinds_of nodes root) names.columns
+  pub ports : port_shapes net ≡ plan_ports (reads_time nodes) schema (kinds_of nodes root) names.columns
   pub size : size_of net ≤ weight_with_output nodes root
   pub registers : register_bits_of net ≤ most_registers nodes root
   pub memories : memory_bits_of net ≤ most_memory nodes root

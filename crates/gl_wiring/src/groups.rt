@@ -1,8 +1,9 @@
 //! Groups: the source, the front, and the back behind the copies of the body.
 
-ghost use Rattle.std.specs.Prelude.{◌≡◌, List, IfOk, length, false};
+ghost use Rattle.std.specs.Prelude.{◌≡◌, List, Option, IfOk, length, false};
 ghost use Rattle.gl_algebra.specs.Direct.{form_of, is_direct};
 ghost use Rattle.gl_algebra.specs.Small.{AreFigures};
+ghost use Rattle.gl_net.specs.declared.node.Bit.{Bit as BitOf};
 ghost use Rattle.gl_net.specs.Net.{Net};
 ghost use Rattle.gl_groups.specs.Grouped.{Fronts};
 ghost use Rattle.gl_groups.specs.Groupings.{IsGrouping};
@@ -66,9 +67,9 @@ impl GroupOf {
         requires node { IsGroupNode plan.now self.now }
         requires figures { AreFigures plan.now figures.now }
         requires below { HasColumns plan.now self.now.source net.old below }
-        ensures { (old : Net) (leaves : List WireOf)
-            → IsPut plan.now self.now.source old net.old leaves below
-            → IfOk result (λ front. IsGroupFront plan.now self.now old net.new leaves front) }
+        ensures { (old : Net) (tick : Option BitOf) (leaves : List WireOf)
+            → IsPut plan.now self.now.source old net.old tick leaves below
+            → IfOk result (λ front. IsGroupFront plan.now self.now old net.new tick leaves front) }
     {
         let _ = plan.len();
         let grouping = self.grouping(plan, figures);
@@ -95,10 +96,10 @@ impl GroupOf {
         requires copies { AreCopies net.old copies.now }
         requires count { length copies.now ≡ self.now.groups }
         requires copied { is_direct (form_of plan.now self.now.body) ≡ false }
-        ensures { (old mid : Net) (leaves : List WireOf)
-            → IsGroupFront plan.now self.now old mid leaves front.now
+        ensures { (old mid : Net) (tick : Option BitOf) (leaves : List WireOf)
+            → IsGroupFront plan.now self.now old mid tick leaves front.now
             → AreBehindSlots plan.now self.now.body mid net.old front.now copies.now
-            → IfOk result (λ e. IsPut plan.now self.now.id old net.new leaves e) }
+            → IfOk result (λ e. IsPut plan.now self.now.id old net.new tick leaves e) }
     {
         let _ = plan.len();
         let grouping = self.grouping(plan, figures);

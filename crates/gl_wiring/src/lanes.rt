@@ -1,10 +1,11 @@
 //! Groups over direct bodies: one lane for all slots, the body once behind it, and the keys in front of its totals.
 
-ghost use Rattle.std.specs.Prelude.{◌≡◌, ◌<◌, ◌≤◌, ◌∷◌, [], List, IfOk, length, true};
+ghost use Rattle.std.specs.Prelude.{◌≡◌, ◌<◌, ◌≤◌, ◌∷◌, [], List, Option, IfOk, length, true};
 ghost use Rattle.gl_algebra.specs.Direct.{form_of, is_direct};
 ghost use Rattle.gl_algebra.specs.Shapes.{shape_of};
 ghost use Rattle.gl_algebra.specs.Small.{AreFigures};
 ghost use Rattle.gl_groups.specs.Picks.{bits_of_slots};
+ghost use Rattle.gl_net.specs.declared.node.Bit.{Bit as BitOf};
 ghost use Rattle.gl_net.specs.Net.{Net, IsBit, IsBus};
 ghost use Rattle.gl_wire.specs.declared.wire.Wire.{Wire as WireOf};
 ghost use Rattle.gl_wire.specs.Wire.{IsWire};
@@ -96,9 +97,9 @@ impl GroupOf {
         requires node { IsGroupNode plan.now self.now }
         requires figures { AreFigures plan.now figures.now }
         requires below { HasColumns plan.now self.now.source net.old below }
-        ensures { (old : Net) (leaves : List WireOf)
-            → IsPut plan.now self.now.source old net.old leaves below
-            → IfOk result (λ l. IsGroupLane plan.now self.now old net.new leaves l) }
+        ensures { (old : Net) (tick : Option BitOf) (leaves : List WireOf)
+            → IsPut plan.now self.now.source old net.old tick leaves below
+            → IfOk result (λ l. IsGroupLane plan.now self.now old net.new tick leaves l) }
     {
         let _ = plan.len();
         let grouping = self.grouping(plan, figures);
@@ -127,12 +128,12 @@ impl GroupOf {
         requires wire { IsWire net.old out.now.wire }
         requires slot { IsBus net.old out.now.slot }
         requires slot_width { out.now.slot.width ≡ bits_of_slots self.now.groups }
-        ensures { (old mid : Net) (leaves : List WireOf)
-            → IsGroupLane plan.now self.now old mid leaves laned.now
+        ensures { (old mid : Net) (tick : Option BitOf) (leaves : List WireOf)
+            → IsGroupLane plan.now self.now old mid tick leaves laned.now
             → is_direct (form_of plan.now self.now.body) ≡ true
             → IsBodyTable plan.now self.now.body mid net.old
             laned.now.lane.wire (place_of laned.now.lane) out.now
-            → IfOk result (λ e. IsPut plan.now self.now.id old net.new leaves e) }
+            → IfOk result (λ e. IsPut plan.now self.now.id old net.new tick leaves e) }
     {
         let _ = plan.len();
         let grouping = self.grouping(plan, figures);

@@ -1,13 +1,13 @@
 //! The input ports of a schema, and the wires of its streams.
 
-ghost use Rattle.std.specs.Prelude.{◌≡◌, IfOk, OnOk, map};
+ghost use Rattle.std.specs.Prelude.{◌≡◌, IfOk, OnOk, false, map};
 ghost use Rattle.std.specs.List.{AllByRecursion};
 ghost use Rattle.gl_net.specs.Finished.{HasReset};
 ghost use Rattle.gl_schema.specs.Schemas.{IsSchema, IsStream};
 ghost use Rattle.gl_wiring.specs.Emitted.{AreSources, CostsNothing, Extends, Puts};
 ghost use Rattle.gl_wiring.specs.EmittedPorts.{streams_inputs};
-ghost use Rattle.gl_wiring.specs.Output.{input_ports};
-ghost use Rattle.gl_wiring.specs.StreamWires.{AreStreamWires, wire_at, wire_from};
+ghost use Rattle.gl_wiring.specs.Output.{input_ports, tick_input};
+ghost use Rattle.gl_wiring.specs.StreamWires.{AreStreamWires, IsTickLine, wire_at, wire_from};
 
 use crate::parts::{Source, put_input, put_stream};
 use gl_bits::Memory;
@@ -62,7 +62,7 @@ fn wires_of(alloc: Global, sources: &[Source], end: Bit) -> Result<Vec<Wire>, Me
     Ok(wires)
 }
 
-/// The input ports of a schema, `rst` first and `eos` last, and the wire of each stream.
+/// The input ports of a schema but the tick, `rst` first and `eos` last, and the wire of each stream.
 pub(crate) fn put_leaves(
     alloc: Global,
     net: &mut NetBuilder,
@@ -70,7 +70,7 @@ pub(crate) fn put_leaves(
 ) -> Result<Vec<Wire>, Memory>
     requires { IsSchema schema.now }
     ensures extends { OnOk result (Extends net.old net.new) }
-    ensures ports { OnOk result (Puts net.old net.new (input_ports schema.now)) }
+    ensures ports { OnOk result (Puts net.old net.new (input_ports false schema.now)) }
     ensures cost { OnOk result (CostsNothing net.old net.new) }
     ensures reset { OnOk result (HasReset net.new) }
     ensures wires { IfOk result (λ all. AreStreamWires net.new schema.now.streams all.items) }
@@ -82,4 +82,18 @@ pub(crate) fn put_leaves(
     // Named, since a goal speaks of the value.
     let wires = wires_of(alloc, &sources, end.bit())?;
     Ok(wires)
+}
+
+/// The input port of the tick behind those, where it is asked for.
+pub(crate) fn put_tick(net: &mut NetBuilder, ticks: bool) -> Result<Option<Bit>, Memory>
+    ensures extends { OnOk result (Extends net.old net.new) }
+    ensures ports { OnOk result (Puts net.old net.new (tick_input ticks)) }
+    ensures cost { OnOk result (CostsNothing net.old net.new) }
+    ensures line { IfOk result (λ line. IsTickLine net.new ticks line) }
+{
+    if !ticks {
+        return Ok(None);
+    }
+    let tick = put_input(net, b"tick", 1)?;
+    Ok(Some(tick.bit()))
 }

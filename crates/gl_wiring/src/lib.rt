@@ -17,6 +17,7 @@ pub mod put;
 pub mod roots;
 pub mod rows;
 pub mod spare_windows;
+pub mod time_windows;
 pub mod windows;
 
 pub use names::{ResultNames, in_column_name, in_valid_name};

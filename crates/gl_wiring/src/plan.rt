@@ -5,7 +5,7 @@ ghost use Rattle.gl_wiring.specs.Emitted.{Extends};
 ghost use Rattle.gl_wiring.specs.PlanNet.{IsEmpty, IsPlanNet};
 ghost use Rattle.gl_wiring.specs.Wired.{CanWire, IsWired};
 
-use crate::leaves::put_leaves;
+use crate::leaves::{put_leaves, put_tick};
 use crate::names::{ResultNames, module_name};
 use crate::output::put_result;
 use crate::roots::put_root;
@@ -34,7 +34,8 @@ fn put_plan(
     // What `len` ensures of it is what the goals below ask for.
     let _ = plan.len();
     let leaves = put_leaves(alloc, net, schema)?;
-    let e = put_root(alloc, net, plan, figures, root, spare, &leaves)?;
+    let tick = put_tick(net, plan.reads_time())?;
+    let e = put_root(alloc, net, plan, figures, root, spare, tick, &leaves)?;
     put_result(alloc, net, &e, names.columns.as_slice())?;
     Ok(())
 }

@@ -1,9 +1,10 @@
 //! The circuit of a node.
 
-ghost use Rattle.std.specs.Prelude.{◌≡◌, IfOk, length, true};
+ghost use Rattle.std.specs.Prelude.{◌≡◌, IfOk, Some, length, true};
 ghost use Rattle.gl_algebra.specs.Direct.{form_of, is_direct};
 ghost use Rattle.gl_wiring.specs.Put.{CanPut, IsPut};
 ghost use Rattle.gl_wiring.specs.Groups.{IsGroupNode};
+ghost use Rattle.gl_wiring.specs.TimeWindows.{IsTimeWindow};
 ghost use Rattle.gl_wiring.specs.Windows.{IsWindow};
 ghost use Rattle.gl_wiring.specs.Copies.{AreBodies, CanCopy, IsOverCopies};
 
@@ -13,10 +14,11 @@ use crate::arms::{
 use crate::direct::is_direct;
 use crate::groups::GroupOf;
 use crate::lanes::put_table;
+use crate::time_windows::TimeWindowOf;
 use crate::windows::{Copies, WindowOf};
 use gl_algebra::{Figures, Plan, PlanId, PlanNode};
 use gl_bits::Memory;
-use gl_net::NetBuilder;
+use gl_net::{Bit, NetBuilder};
 use gl_wire::{Emitted, Wire};
 use std::alloc::Global;
 use std::slice::from_ref;
@@ -24,7 +26,8 @@ use std::slice::from_ref;
 /// Adds the circuit of a node behind those of its children, once for each use of a node, and gives its wire and its lines.
 ///
 /// The figures are those of all nodes, as `gl_figures` writes them. The leaves are the wires of the streams, by the streams' numbers;
-/// a body's input is the wire at place 0. Want of memory is the one other answer; what the builder then holds is not said.
+/// a body's input is the wire at place 0. Where a plan over streams reads the time, `tick` is the line of ticks. Want of memory is the one
+/// other answer; what the builder then holds is not said.
 #[cycle(put)]
 #[tactic(auto, using(crate::proofs::CanLemmas::put_columns))]
 pub fn put_node(
@@ -33,10 +36,11 @@ pub fn put_node(
     plan: &Plan,
     figures: &[Figures],
     id: PlanId,
+    tick: Option<Bit>,
     leaves: &[Wire],
 ) -> Result<Emitted, Memory>
-    requires { CanPut plan.now figures.now id net.old leaves.now }
-    ensures { IfOk result (λ e. IsPut plan.now id net.old net.new leaves.now e) }
+    requires { CanPut plan.now figures.now id net.old tick leaves.now }
+    ensures { IfOk result (λ e. IsPut plan.now id net.old net.new tick leaves.now e) }
 {
     match plan.node(id) {
         PlanNode::Stream(number, _) => {
@@ -49,38 +53,38 @@ pub fn put_node(
             Ok(e)
         }
         PlanNode::Compute { child, ops } => {
-            let below = put_node(alloc, net, plan, figures, *child, leaves)?;
+            let below = put_node(alloc, net, plan, figures, *child, tick, leaves)?;
             compute_node(alloc, net, plan, id, *child, ops, below)
         }
         PlanNode::Select { child, column } => {
-            let below = put_node(alloc, net, plan, figures, *child, leaves)?;
+            let below = put_node(alloc, net, plan, figures, *child, tick, leaves)?;
             select_node(alloc, net, plan, id, *child, *column, below)
         }
         PlanNode::Project { child, items } => {
-            let below = put_node(alloc, net, plan, figures, *child, leaves)?;
+            let below = put_node(alloc, net, plan, figures, *child, tick, leaves)?;
             project_node(alloc, net, plan, id, *child, items, below)
         }
         PlanNode::Aggregate { child, aggs } => {
-            let below = put_node(alloc, net, plan, figures, *child, leaves)?;
+            let below = put_node(alloc, net, plan, figures, *child, tick, leaves)?;
             aggregate_node(alloc, net, plan, id, *child, aggs, below)
         }
         PlanNode::Union { left, right } => {
-            let first = put_node(alloc, net, plan, figures, *left, leaves)?;
-            let second = put_node(alloc, net, plan, figures, *right, leaves)?;
+            let first = put_node(alloc, net, plan, figures, *left, tick, leaves)?;
+            let second = put_node(alloc, net, plan, figures, *right, tick, leaves)?;
             union_node(alloc, net, plan, figures, id, *left, *right, first, second)
         }
         PlanNode::Beside { left, right } => {
-            let first = put_node(alloc, net, plan, figures, *left, leaves)?;
-            let second = put_node(alloc, net, plan, figures, *right, leaves)?;
+            let first = put_node(alloc, net, plan, figures, *left, tick, leaves)?;
+            let second = put_node(alloc, net, plan, figures, *right, tick, leaves)?;
             beside_node(alloc, net, plan, figures, id, *left, *right, first, second)
         }
-        PlanNode::Window { .. } | PlanNode::Group { .. } => {
-            put_over(alloc, net, plan, figures, id, leaves)
+        PlanNode::Window { .. } | PlanNode::TimeWindow { .. } | PlanNode::Group { .. } => {
+            put_over(alloc, net, plan, figures, id, tick, leaves)
         }
     }
 }
 
-// Adds the circuit of a window or of a group.
+// Adds the circuit of a window, of a window of time or of a group.
 #[cycle(put)]
 #[tactic(auto)]
 fn put_over(
@@ -89,11 +93,12 @@ fn put_over(
     plan: &Plan,
     figures: &[Figures],
     id: PlanId,
+    tick: Option<Bit>,
     leaves: &[Wire],
 ) -> Result<Emitted, Memory>
     requires over { IsOverCopies plan.now id }
-    requires can { CanPut plan.now figures.now id net.old leaves.now }
-    ensures { IfOk result (λ e. IsPut plan.now id net.old net.new leaves.now e) }
+    requires can { CanPut plan.now figures.now id net.old tick leaves.now }
+    ensures { IfOk result (λ e. IsPut plan.now id net.old net.new tick leaves.now e) }
 {
     match plan.node(id) {
         PlanNode::Window {
@@ -109,7 +114,23 @@ fn put_over(
                 size: *size,
                 advance: *advance,
             };
-            put_window(alloc, net, plan, figures, window, leaves)
+            put_window(alloc, net, plan, figures, window, tick, leaves)
+        }
+        PlanNode::TimeWindow {
+            source,
+            body,
+            size,
+            advance,
+        } => {
+            let window = TimeWindowOf {
+                id,
+                source: *source,
+                body: *body,
+                size: *size,
+                advance: *advance,
+            };
+            let Some(line) = tick else { unreachable!() };
+            put_time_window(alloc, net, plan, figures, window, line, leaves)
         }
         PlanNode::Group {
             source,
@@ -124,7 +145,7 @@ fn put_over(
                 key: *key,
                 groups: *groups,
             };
-            put_group(alloc, net, plan, figures, group, leaves)
+            put_group(alloc, net, plan, figures, group, tick, leaves)
         }
         _ => unreachable!(),
     }
@@ -139,15 +160,16 @@ fn put_window(
     plan: &Plan,
     figures: &[Figures],
     window: WindowOf,
+    tick: Option<Bit>,
     leaves: &[Wire],
 ) -> Result<Emitted, Memory>
     requires node { IsWindow plan.now window }
-    requires can { CanPut plan.now figures.now window.id net.old leaves.now }
-    ensures { IfOk result (λ e. IsPut plan.now window.id net.old net.new leaves.now e) }
+    requires can { CanPut plan.now figures.now window.id net.old tick leaves.now }
+    ensures { IfOk result (λ e. IsPut plan.now window.id net.old net.new tick leaves.now e) }
 {
     // What `len` ensures of it is what the goals below ask for.
     let _ = plan.len();
-    let below = put_node(alloc, net, plan, figures, window.source, leaves)?;
+    let below = put_node(alloc, net, plan, figures, window.source, tick, leaves)?;
     let front = window.front(alloc, net, plan, figures, below)?;
     let copies = put_copies(
         alloc,
@@ -160,6 +182,36 @@ fn put_window(
     window.back(alloc, net, plan, figures, &front, copies.as_slice())
 }
 
+// Adds the circuit of a window of time in the same way, with the line of ticks at its front.
+#[cycle(put)]
+#[tactic(auto, using(crate::proofs::CanLemmas::put_columns))]
+fn put_time_window(
+    alloc: Global,
+    net: &mut NetBuilder,
+    plan: &Plan,
+    figures: &[Figures],
+    window: TimeWindowOf,
+    line: Bit,
+    leaves: &[Wire],
+) -> Result<Emitted, Memory>
+    requires node { IsTimeWindow plan.now window }
+    requires can { CanPut plan.now figures.now window.id net.old (Some line) leaves.now }
+    ensures { IfOk result (λ e. IsPut plan.now window.id net.old net.new (Some line) leaves.now e) }
+{
+    let _ = plan.len();
+    let below = put_node(alloc, net, plan, figures, window.source, Some(line), leaves)?;
+    let front = window.front(alloc, net, plan, figures, below, line)?;
+    let copies = put_copies(
+        alloc,
+        net,
+        plan,
+        figures,
+        window.body,
+        front.wires.as_slice(),
+    )?;
+    window.back(alloc, net, plan, figures, line, &front, copies.as_slice())
+}
+
 // Adds the circuit of a group in the same way, or, where its body is direct, on a lane.
 #[cycle(put)]
 #[tactic(auto, using(crate::proofs::CanLemmas::put_columns))]
@@ -169,17 +221,18 @@ fn put_group(
     plan: &Plan,
     figures: &[Figures],
     group: GroupOf,
+    tick: Option<Bit>,
     leaves: &[Wire],
 ) -> Result<Emitted, Memory>
     requires node { IsGroupNode plan.now group }
-    requires can { CanPut plan.now figures.now group.id net.old leaves.now }
-    ensures { IfOk result (λ e. IsPut plan.now group.id net.old net.new leaves.now e) }
+    requires can { CanPut plan.now figures.now group.id net.old tick leaves.now }
+    ensures { IfOk result (λ e. IsPut plan.now group.id net.old net.new tick leaves.now e) }
 {
     let _ = plan.len();
     if is_direct(plan, group.body) {
-        return put_on_lane(alloc, net, plan, figures, group, leaves);
+        return put_on_lane(alloc, net, plan, figures, group, tick, leaves);
     }
-    let below = put_node(alloc, net, plan, figures, group.source, leaves)?;
+    let below = put_node(alloc, net, plan, figures, group.source, tick, leaves)?;
     let front = group.front(alloc, net, plan, figures, below)?;
     let copies = put_copies(
         alloc,
@@ -201,15 +254,16 @@ fn put_on_lane(
     plan: &Plan,
     figures: &[Figures],
     group: GroupOf,
+    tick: Option<Bit>,
     leaves: &[Wire],
 ) -> Result<Emitted, Memory>
     requires node { IsGroupNode plan.now group }
-    requires can { CanPut plan.now figures.now group.id net.old leaves.now }
+    requires can { CanPut plan.now figures.now group.id net.old tick leaves.now }
     requires direct { is_direct (form_of plan.now group.body) ≡ true }
-    ensures { IfOk result (λ e. IsPut plan.now group.id net.old net.new leaves.now e) }
+    ensures { IfOk result (λ e. IsPut plan.now group.id net.old net.new tick leaves.now e) }
 {
     let _ = plan.len();
-    let below = put_node(alloc, net, plan, figures, group.source, leaves)?;
+    let below = put_node(alloc, net, plan, figures, group.source, tick, leaves)?;
     let laned = group.lane(alloc, net, plan, figures, below)?;
     let place = laned.place();
     let out = put_table(alloc, net, plan, group.body, &laned.lane.wire, place)?;
@@ -233,7 +287,7 @@ pub(crate) fn put_copies(
 {
     let mut copies = Copies::new(alloc);
     for wire in wires {
-        let copy = put_node(alloc, net, plan, figures, body, from_ref(wire))?;
+        let copy = put_node(alloc, net, plan, figures, body, None, from_ref(wire))?;
         copies.push(copy)?;
     }
     Ok(copies)

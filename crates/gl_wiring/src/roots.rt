@@ -11,13 +11,14 @@ use crate::spare_windows::SpareWindowOf;
 use crate::windows::WindowOf;
 use gl_algebra::{Figures, Plan, PlanId, PlanNode, Spare};
 use gl_bits::Memory;
-use gl_net::NetBuilder;
+use gl_net::{Bit, NetBuilder};
 use gl_wire::{Emitted, Wire};
 use std::alloc::Global;
 
 /// Adds the circuit of a root behind the leaves, and gives its wire and its lines: what the root owes over one stream.
 ///
-/// The figures are those of all nodes, and the spare copies those of the root, as `gl_figures` answers them.
+/// The figures are those of all nodes, and the spare copies those of the root, as `gl_figures` answers them; `tick` is the line of
+/// ticks, where the plan reads the time.
 pub(crate) fn put_root(
     alloc: Global,
     net: &mut NetBuilder,
@@ -25,17 +26,18 @@ pub(crate) fn put_root(
     figures: &[Figures],
     root: PlanId,
     spare: Option<Spare>,
+    tick: Option<Bit>,
     leaves: &[Wire],
 ) -> Result<Emitted, Memory>
-    requires can { CanPut plan.now figures.now root net.old leaves.now }
+    requires can { CanPut plan.now figures.now root net.old tick leaves.now }
     requires spare { spare ≡ spare_at plan.now root }
-    ensures { IfOk result (λ e. IsRootPut plan.now root net.old net.new leaves.now e) }
+    ensures { IfOk result (λ e. IsRootPut plan.now root net.old net.new tick leaves.now e) }
 {
     let Some(spare) = spare else {
         // What `len` ensures of it is what the goals below ask for.
         let _ = plan.len();
         // Named, since a goal speaks of the value.
-        let e = put_node(alloc, net, plan, figures, root, leaves)?;
+        let e = put_node(alloc, net, plan, figures, root, tick, leaves)?;
         return Ok(e);
     };
     match plan.node(root) {
@@ -53,7 +55,7 @@ pub(crate) fn put_root(
                 advance: *advance,
             };
             let w = SpareWindowOf { window, spare };
-            put_spare(alloc, net, plan, figures, w, leaves)
+            put_spare(alloc, net, plan, figures, w, tick, leaves)
         }
         _ => unreachable!(),
     }
@@ -68,15 +70,16 @@ fn put_spare(
     plan: &Plan,
     figures: &[Figures],
     w: SpareWindowOf,
+    tick: Option<Bit>,
     leaves: &[Wire],
 ) -> Result<Emitted, Memory>
     requires node { IsSpareWindow plan.now w }
-    requires can { CanPut plan.now figures.now w.window.id net.old leaves.now }
-    ensures { IfOk result (λ e. IsRootPut plan.now w.window.id net.old net.new leaves.now e) }
+    requires can { CanPut plan.now figures.now w.window.id net.old tick leaves.now }
+    ensures { IfOk result (λ e. IsRootPut plan.now w.window.id net.old net.new tick leaves.now e) }
 {
     let _ = plan.len();
     let window = w.window;
-    let below = put_node(alloc, net, plan, figures, window.source, leaves)?;
+    let below = put_node(alloc, net, plan, figures, window.source, tick, leaves)?;
     let front = w.front(alloc, net, plan, figures, below)?;
     let copies = put_copies(
         alloc,

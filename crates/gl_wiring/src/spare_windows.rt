@@ -1,7 +1,8 @@
 //! Windows with spare copies at the root of a plan: the front with late ends, and the back behind the copies of the body.
 
-ghost use Rattle.std.specs.Prelude.{◌≡◌, List, IfOk, length};
+ghost use Rattle.std.specs.Prelude.{◌≡◌, List, Option, IfOk, length};
 ghost use Rattle.gl_algebra.specs.Small.{AreFigures};
+ghost use Rattle.gl_net.specs.declared.node.Bit.{Bit as BitOf};
 ghost use Rattle.gl_net.specs.Net.{Net};
 ghost use Rattle.gl_windows_spare.specs.Rotations.{Fronts, IsRotation};
 ghost use Rattle.gl_wire_registers.specs.Joins.{AreCopies};
@@ -59,9 +60,10 @@ impl SpareWindowOf {
         requires node { IsSpareWindow plan.now self.now }
         requires figures { AreFigures plan.now figures.now }
         requires below { HasColumns plan.now self.now.window.source net.old below }
-        ensures { (old : Net) (leaves : List WireOf)
-            → IsPut plan.now self.now.window.source old net.old leaves below
-            → IfOk result (λ front. IsSpareFrontOf plan.now self.now old net.new leaves front) }
+        ensures { (old : Net) (tick : Option BitOf) (leaves : List WireOf)
+            → IsPut plan.now self.now.window.source old net.old tick leaves below
+            → IfOk result (λ front.
+            IsSpareFrontOf plan.now self.now old net.new tick leaves front) }
     {
         let _ = plan.len();
         let rotation = self.rotation(plan, figures);
@@ -85,10 +87,10 @@ impl SpareWindowOf {
         requires front { Fronts net.old (rotation_with plan.now self.now) front.now }
         requires copies { AreCopies net.old copies.now }
         requires count { length copies.now ≡ self.now.spare.copies }
-        ensures { (old mid : Net) (leaves : List WireOf)
-            → IsSpareFrontOf plan.now self.now old mid leaves front.now
+        ensures { (old mid : Net) (tick : Option BitOf) (leaves : List WireOf)
+            → IsSpareFrontOf plan.now self.now old mid tick leaves front.now
             → AreBodies plan.now self.now.window.body mid net.old front.now.wires (length front.now.wires) copies.now
-            → IfOk result (λ e. IsRootPut plan.now self.now.window.id old net.new leaves e) }
+            → IfOk result (λ e. IsRootPut plan.now self.now.window.id old net.new tick leaves e) }
     {
         let _ = plan.len();
         let rotation = self.rotation(plan, figures);

@@ -1,9 +1,10 @@
 //! Windows: the source, the front, and the back behind the copies of the body.
 
-ghost use Rattle.std.specs.Prelude.{◌≡◌, ◌<◌, ◌≤◌, List, IfOk, length};
+ghost use Rattle.std.specs.Prelude.{◌≡◌, ◌<◌, ◌≤◌, List, Option, IfOk, length};
 ghost use Rattle.gl_algebra.specs.FigureTable.{IsSound, needs_spacer};
 ghost use Rattle.gl_algebra.specs.Views.{copies_of_window};
 ghost use Rattle.gl_algebra.specs.Small.{AreFigures};
+ghost use Rattle.gl_net.specs.declared.node.Bit.{Bit as BitOf};
 ghost use Rattle.gl_net.specs.Net.{Net};
 ghost use Rattle.gl_wire.specs.Counted.{AreNarrow};
 ghost use Rattle.gl_windows.specs.Rotations.{Fronts, IsRotation};
@@ -107,9 +108,9 @@ impl WindowOf {
         requires node { IsWindow plan.now self.now }
         requires figures { AreFigures plan.now figures.now }
         requires below { HasColumns plan.now self.now.source net.old below }
-        ensures { (old : Net) (leaves : List WireOf)
-            → IsPut plan.now self.now.source old net.old leaves below
-            → IfOk result (λ front. IsFrontOf plan.now self.now old net.new leaves front) }
+        ensures { (old : Net) (tick : Option BitOf) (leaves : List WireOf)
+            → IsPut plan.now self.now.source old net.old tick leaves below
+            → IfOk result (λ front. IsFrontOf plan.now self.now old net.new tick leaves front) }
     {
         let _ = plan.len();
         let rotation = self.rotation(plan, figures);
@@ -135,10 +136,10 @@ impl WindowOf {
         requires front { Fronts net.old (rotation_of plan.now self.now) front.now }
         requires copies { AreCopies net.old copies.now }
         requires count { length copies.now ≡ copies_of_window self.now.size self.now.advance }
-        ensures { (old mid : Net) (leaves : List WireOf)
-            → IsFrontOf plan.now self.now old mid leaves front.now
+        ensures { (old mid : Net) (tick : Option BitOf) (leaves : List WireOf)
+            → IsFrontOf plan.now self.now old mid tick leaves front.now
             → AreBehind plan.now self.now.body mid net.old front.now copies.now
-            → IfOk result (λ e. IsPut plan.now self.now.id old net.new leaves e) }
+            → IfOk result (λ e. IsPut plan.now self.now.id old net.new tick leaves e) }
     {
         let _ = plan.len();
         let rotation = self.rotation(plan, figures);

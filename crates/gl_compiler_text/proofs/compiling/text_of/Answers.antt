@@ -12,6 +12,7 @@ use Rattle.gl_net.specs.Net.{memory_bits_of, register_bits_of}
 use Rattle.gl_verilog_writer.specs.Meaning.{IsTextOf}
 use Rattle.gl_algebra.specs.Roots as roots
 use Rattle.gl_algebra.specs.Shapes as shapes
+use Rattle.gl_algebra.specs.Views.{reads_time}
 use Rattle.gl_algebra.specs.Roots.{most_memory, most_registers}
 use Rattle.gl_wiring.specs.Output.{plan_ports}
 use Rattle.gl_wiring.specs.StreamWires.{AreStreamLeaves}
@@ -55,10 +56,10 @@ returns-clause-meets c =
     let columns = c.in_ok-names.ensures.columns ∙ ap column_names c.requires.columns in
     let e : module_text net ≡ c.write_module.new.into.items = sym (c.in_ok-write_module.ensures.text ∙ ap (λ (xs : List ℕ). xs ++ module_text net) c.new-text.ensures.items) in
     let called = w.name ∙ ap (λ (n : List ℕ). Some (codes "q__" ++ n)) c.in_ok-names.ensures.into in
-    let ports = subst (λ (ns : List (List ℕ)). port_shapes net ≡ plan_ports schema (shapes.kinds_of c.args.planned.now.plan c.args.planned.now.root) ns) columns w.ports in
+    let ports = subst (λ (ns : List (List ℕ)). port_shapes net ≡ plan_ports (reads_time c.args.planned.now.plan) schema (shapes.kinds_of c.args.planned.now.plan c.args.planned.now.root) ns) columns w.ports in
     let right = subst (λ (ns : List (List ℕ)). OverBeats schema (roots.gap_of c.args.planned.now.plan c.args.planned.now.root) (λ all port. IsRight (plan_means c.args.planned.now.plan c.args.planned.now.root) (roots.latency_of c.args.planned.now.plan c.args.planned.now.root) all (map out_column ns) port) net) columns w.right in
     let group = subst (λ (ns : List (List ℕ)). OverBeats schema (roots.gap_of c.args.planned.now.plan c.args.planned.now.root) (λ all port. KeepsGroup (map out_column ns) port) net) columns w.group in
-    let ports' = subst (λ (x : Placed). port_shapes net ≡ plan_ports schema (shapes.kinds_of x.nodes x.root) (column_names (result_columns schema statement))) is.at ports in
+    let ports' = subst (λ (x : Placed). port_shapes net ≡ plan_ports (reads_time x.nodes) schema (shapes.kinds_of x.nodes x.root) (column_names (result_columns schema statement))) is.at ports in
     let right' = subst (λ (x : Placed). OverBeats schema (roots.gap_of x.nodes x.root) (λ all port. IsRight (plan_means x.nodes x.root) (roots.latency_of x.nodes x.root) all (map out_column (column_names (result_columns schema statement))) port) net) is.at right in
     let group' = subst (λ (x : Placed). OverBeats schema (roots.gap_of x.nodes x.root) (λ all port. KeepsGroup (map out_column (column_names (result_columns schema statement))) port) net) is.at group in
     subst (Meets schema statement (latency_of schema statement) (gap_of schema statement)) e

@@ -1,4 +1,5 @@
 use Rattle.std.proofs.Common.{◌∙◌, ap, sym}
+use Rattle.gl_query.specs.declared.tree.Measure.TheVariants.{Tuples, Time}
 use Rattle.gl_query.specs.Sources.{scope_of}
 use Rattle.gl_query.specs.Values.{column_number}
 use Rattle.gl_query.specs.Shapes.{query_shape}
@@ -13,7 +14,7 @@ put_window-requires-clause-fits t c =
     c.args.plan.now c.query_into-in-Each.new.plan c.query_into-in-Each-2.new.plan c.in_ok-from-in-Each.from c.in_ok-into-in-Each.into
     c.in-Each.var.text _ _ (ap query_shape c.deref-in-Each.ensures) (ap query_shape c.deref-in-Each-2.ensures)
     c.in_ok-from-in-Each.ensures.root c.as_slice-in-Each.ensures (c.as_slice-in-Each-2.ensures ∙ c.in_ok-from-in-Each.ensures.columns)
-    c.in_ok-into-in-Each.ensures.root c.in-Each.size.value c.in-Each.advance.value (ap query_shape c.in-Each.is) c.requires.fit
+    c.in_ok-into-in-Each.ensures.root Tuples c.in-Each.size.value c.in-Each.advance.value (ap query_shape c.in-Each.is) c.requires.fit
 
 pub returns-in_ok-root-in-Each-clause-root : goal.returns-in_ok-root-in-Each-clause-root
 returns-in_ok-root-in-Each-clause-root t c =
@@ -22,8 +23,27 @@ returns-in_ok-root-in-Each-clause-root t c =
     c.args.plan.now c.query_into-in-Each.new.plan c.query_into-in-Each-2.new.plan c.in_ok-from-in-Each.from c.in_ok-into-in-Each.into
     c.in-Each.var.text _ _ (ap query_shape c.deref-in-Each.ensures) (ap query_shape c.deref-in-Each-2.ensures)
     c.in_ok-from-in-Each.ensures.root c.as_slice-in-Each.ensures (c.as_slice-in-Each-2.ensures ∙ c.in_ok-from-in-Each.ensures.columns)
-    c.in_ok-into-in-Each.ensures.root c.in-Each.size.value c.in-Each.advance.value c.in_ok-root-in-Each.root c.put_window.new.plan
+    c.in_ok-into-in-Each.ensures.root Tuples c.in-Each.size.value c.in-Each.advance.value c.in_ok-root-in-Each.root c.put_window.new.plan
     (ap query_shape c.in-Each.is) c.in_ok-root-in-Each.ensures
+
+pub put_window-requires-in-EachTime-clause-fits : goal.put_window-requires-in-EachTime-clause-fits
+put_window-requires-in-EachTime-clause-fits t c =
+    each-fits (read_of c.args.sources) (scope_of c.args.sources).sources (query_shape c.args.query.now) (query_shape c.in-EachTime.source.value)
+    (query_shape c.deref-in-EachTime.result.now) (query_shape c.in-EachTime.body.value) (query_shape c.deref-in-EachTime-2.result.now)
+    c.args.plan.now c.query_into-in-EachTime.new.plan c.query_into-in-EachTime-2.new.plan c.in_ok-from-in-EachTime.from c.in_ok-into-in-EachTime.into
+    c.in-EachTime.var.text _ _ (ap query_shape c.deref-in-EachTime.ensures) (ap query_shape c.deref-in-EachTime-2.ensures)
+    c.in_ok-from-in-EachTime.ensures.root c.as_slice-in-EachTime.ensures (c.as_slice-in-EachTime-2.ensures ∙ c.in_ok-from-in-EachTime.ensures.columns)
+    c.in_ok-into-in-EachTime.ensures.root Time c.in-EachTime.size.value c.in-EachTime.advance.value (ap query_shape c.in-EachTime.is) c.requires.fit
+
+pub returns-in_ok-root-in-EachTime-clause-root : goal.returns-in_ok-root-in-EachTime-clause-root
+returns-in_ok-root-in-EachTime-clause-root t c =
+    each-root (read_of c.args.sources) (scope_of c.args.sources).sources (query_shape c.args.query.now) (query_shape c.in-EachTime.source.value)
+    (query_shape c.deref-in-EachTime.result.now) (query_shape c.in-EachTime.body.value) (query_shape c.deref-in-EachTime-2.result.now)
+    c.args.plan.now c.query_into-in-EachTime.new.plan c.query_into-in-EachTime-2.new.plan c.in_ok-from-in-EachTime.from c.in_ok-into-in-EachTime.into
+    c.in-EachTime.var.text _ _ (ap query_shape c.deref-in-EachTime.ensures) (ap query_shape c.deref-in-EachTime-2.ensures)
+    c.in_ok-from-in-EachTime.ensures.root c.as_slice-in-EachTime.ensures (c.as_slice-in-EachTime-2.ensures ∙ c.in_ok-from-in-EachTime.ensures.columns)
+    c.in_ok-into-in-EachTime.ensures.root Time c.in-EachTime.size.value c.in-EachTime.advance.value c.in_ok-root-in-EachTime.root c.put_window-in-EachTime.new.plan
+    (ap query_shape c.in-EachTime.is) c.in_ok-root-in-EachTime.ensures
 
 pub put_group-requires-clause-fits : goal.put_group-requires-clause-fits
 put_group-requires-clause-fits t c =

@@ -18,6 +18,7 @@ returns-clause-figures c = record {
   counts_of_both = record { is_late = refl; is_apart = refl; is_copied = refl };
   sum_beside_count = record { is_late = refl; is_apart = refl; is_copied = refl };
   price_beside_sum = record { is_late = refl; is_apart = refl; is_copied = refl };
+  counts_in_time = record { is_late = refl; is_apart = refl; is_copied = refl };
   sums_by_symbol = record { is_late = refl; is_apart = refl; is_copied = refl };
   prices_of_both = record { is_late = refl; is_apart = refl; is_copied = refl };
 }

@@ -1,12 +1,14 @@
-use Rattle.std.proofs.Common.{◌≡◌, ◌+◌, ◌++◌, ◌∙◌, List, ◌∷◌, Bool, take, map, sym, ap, subst, IfOk, Bor, slice_index}
+use Rattle.std.proofs.Common.{◌≡◌, ◌+◌, ◌++◌, ◌∙◌, List, ◌∷◌, Bool, false, take, map, sym, ap, subst, IfOk, Bor, slice_index}
 use Rattle.std.specs.Prelude.{◌||◌, option_map}
 use Rattle.std.proofs.lemmas.List.{take_all}
 use Rattle.std.proofs.lemmas.Result.{IfOk-weaker}
 use Rattle.std.specs.List.{AllByRecursion}
 use Rattle.gl_bits.specs.Lists.{has_further, slices}
 use Rattle.gl_bits.specs.Tables.{keyed_groups}
+use Rattle.gl_bits.specs.Times.{tslices}
 use Rattle.gl_bits.specs.declared.lists.Group.{Group}
 use Rattle.gl_schema.specs.declared.schema.Column.{Column}
+use Rattle.gl_query.specs.declared.tree.Measure.TheVariants.{Tuples, Time}
 use Rattle.gl_query.specs.declared.tree.Query.{Query}
 use Rattle.gl_query.specs.declared.tree.AggItem.{AggItem}
 use Rattle.gl_query.specs.Shapes.{agg_item_shape, expr_shape, pick_shape, query_shape}
@@ -17,7 +19,7 @@ use Rattle.gl_bits.proofs.AllLists.{all_of_mapped, taken_next}
 use Rattle.gl_schema.specs.Schemas.{IsRowOf}
 use Rattle.gl_query.specs.Accepted.{IsAcceptedOver, IsRows}
 use Rattle.gl_query.specs.Laws.{scope_of}
-use Rattle.gl_query.specs.Results.{IsResultIn, columns_in, only}
+use Rattle.gl_query.specs.Results.{IsResultIn, columns_in, only, ticks_in, times_in}
 use Rattle.gl_reference.specs.declared.answers.Answer.{Answer}
 use Rattle.gl_reference.specs.Sources.{env_view}
 use Rattle.gl_reference.specs.Joins.{AreOverGroups, AreOverSlices, IsOverGroup}
@@ -30,8 +32,8 @@ use Rattle.gl_reference.proofs.results.+results.Goals as goal
 use Rattle.gl_reference.specs.declared.columns.Source.{Source as Given}
 
 -- a query is accepted over sources, and an answer is a result of a query over them
-abbrev Accepted : List Given → Query → Type 0
-Accepted sources q = IsAcceptedOver (scope_of (env_view sources)) (query_shape q)
+abbrev Accepted : List Given → Bool → Query → Type 0
+Accepted sources timed q = IsAcceptedOver (scope_of (env_view sources) timed) (query_shape q)
 
 abbrev Gives : List Given → Answer → Query → Type 0
 Gives sources a q = IsResultIn (query_shape q) (env_view sources) a.rows a.spill
@@ -87,7 +89,7 @@ result_of-returns-in_ok-inside-in-Each-clause-value t c =
     let parts : map (λ (s : Bor (List Row)). s.now) c.as_slice-in-Each-4.result.now ≡ slices c.in-Each.size.value c.in-Each.advance.value from.rows =
     ap (map (λ (s : Bor (List Row)). s.now)) c.as_slice-in-Each-4.ensures.value ∙ c.in_ok-slices-in-Each.ensures.value
     ∙ ap (slices c.in-Each.size.value c.in-Each.advance.value) c.as_slice-in-Each.ensures in
-    let made = each_made env c.in-Each.var.text (query_shape c.in-Each.source.value) c.in-Each.size.value c.in-Each.advance.value (query_shape c.in-Each.body.value) from.rows from.spill _ _ _ _ _ _ _ _ is (ap query_shape c.deref-in-Each-3.ensures) c.as_slice-in-Each-2.ensures columns parts c.in_ok-inside-in-Each.ensures.value c.of_parts.ensures.rows c.of_parts.ensures.spill in
+    let made = each_made Tuples env c.in-Each.var.text (query_shape c.in-Each.source.value) c.in-Each.size.value c.in-Each.advance.value (query_shape c.in-Each.body.value) from.rows from.spill _ _ _ _ _ _ _ _ is (ap query_shape c.deref-in-Each-3.ensures) c.as_slice-in-Each-2.ensures columns parts c.in_ok-inside-in-Each.ensures.value c.of_parts.ensures.rows c.of_parts.ensures.spill in
     subst (λ (q : Query). IsResultIn (query_shape q) env c.of_parts.result.rows c.of_parts.result.spill) (sym c.in-Each.is) made
 
 pub result_of-returns-in_ok-further-in-PerGroup-clause-value : goal.result_of-returns-in_ok-further-in-PerGroup-clause-value
@@ -136,7 +138,7 @@ over_groups-returns-in_err-part-clause-fits t c = λ b h.
     let here = all_place (λ (g : Group). AllByRecursion (IsRowOf c.args.columns.now) g.rows) c.args.groups.now c.loop-group.group-index c.group-item.result c.loop-group-test.true c.group-item.is h in
     let rows = subst (AllByRecursion (IsRowOf c.args.columns.now)) (sym c.as_slice.ensures) here in
     let sources = inside_fits c.args.var.now c.args.columns.now (query_shape c.args.body.now) c.as_slice.result.now b rows in
-    passes _ c.from_residual.ensures.1 (λ y e. e ∙ c.in_err-part.ensures.fits sources b.accepted)
+    passes _ c.from_residual.ensures.1 (λ y e. e ∙ c.in_err-part.ensures.fits false sources b.accepted)
 
 pub over_slices-returns-in_err-part-clause-fits : goal.over_slices-returns-in_err-part-clause-fits
 over_slices-returns-in_err-part-clause-fits t c = λ b h.
@@ -144,120 +146,162 @@ over_slices-returns-in_err-part-clause-fits t c = λ b h.
     let all = all_of_mapped (AllByRecursion (IsRowOf c.args.columns.now)) now c.args.slices.now h in
     let here = all_place (λ (s : Bor (List Row)). AllByRecursion (IsRowOf c.args.columns.now) s.now) c.args.slices.now c.loop-slice.slice-index c.slice-item.result c.loop-slice-test.true c.slice-item.is all in
     let sources = inside_fits c.args.var.now c.args.columns.now (query_shape c.args.body.now) c.slice-item.result.now b here in
-    passes _ c.from_residual.ensures.1 (λ y e. e ∙ c.in_err-part.ensures.fits sources b.accepted)
+    passes _ c.from_residual.ensures.1 (λ y e. e ∙ c.in_err-part.ensures.fits false sources b.accepted)
 
 pub result_of-returns-in_err-from-in-Rows-clause-fits : goal.result_of-returns-in_err-from-in-Rows-clause-fits
-result_of-returns-in_err-from-in-Rows-clause-fits t c = λ s a.
-    let whole = subst (Accepted c.args.sources.now) c.in-Rows.is a in
-    let part = subst (Accepted c.args.sources.now) (sym c.deref.ensures) whole.0 in
-    passes _ c.from_residual.ensures.1 (λ y e. e ∙ c.in_err-from-in-Rows.ensures.fits s part)
+result_of-returns-in_err-from-in-Rows-clause-fits t c = λ timed s a.
+    let whole = subst (Accepted c.args.sources.now timed) c.in-Rows.is a in
+    let part = subst (Accepted c.args.sources.now timed) (sym c.deref.ensures) whole.0 in
+    passes _ c.from_residual.ensures.1 (λ y e. e ∙ c.in_err-from-in-Rows.ensures.fits timed s part)
 
 pub result_of-returns-in_err-from-in-Total-clause-fits : goal.result_of-returns-in_err-from-in-Total-clause-fits
-result_of-returns-in_err-from-in-Total-clause-fits t c = λ s a.
-    let whole = subst (Accepted c.args.sources.now) c.in-Total.is a in
-    let part = subst (Accepted c.args.sources.now) (sym c.deref-in-Total.ensures) whole.0 in
-    passes _ c.from_residual-in_err-from-in-Total.ensures.1 (λ y e. e ∙ c.in_err-from-in-Total.ensures.fits s part)
+result_of-returns-in_err-from-in-Total-clause-fits t c = λ timed s a.
+    let whole = subst (Accepted c.args.sources.now timed) c.in-Total.is a in
+    let part = subst (Accepted c.args.sources.now timed) (sym c.deref-in-Total.ensures) whole.0 in
+    passes _ c.from_residual-in_err-from-in-Total.ensures.1 (λ y e. e ∙ c.in_err-from-in-Total.ensures.fits timed s part)
 
 pub result_of-returns-in_err-from-in-Each-clause-fits : goal.result_of-returns-in_err-from-in-Each-clause-fits
-result_of-returns-in_err-from-in-Each-clause-fits t c = λ s a.
-    let whole = subst (Accepted c.args.sources.now) c.in-Each.is a in
-    let part = subst (Accepted c.args.sources.now) (sym c.deref-in-Each.ensures) whole.0 in
-    passes _ c.from_residual-in_err-from-in-Each.ensures.1 (λ y e. e ∙ c.in_err-from-in-Each.ensures.fits s part)
+result_of-returns-in_err-from-in-Each-clause-fits t c = λ timed s a.
+    let whole = subst (Accepted c.args.sources.now timed) c.in-Each.is a in
+    let part = subst (Accepted c.args.sources.now timed) (sym c.deref-in-Each.ensures) whole.0 in
+    passes _ c.from_residual-in_err-from-in-Each.ensures.1 (λ y e. e ∙ c.in_err-from-in-Each.ensures.fits timed s part)
 
 pub result_of-returns-in_err-from-in-PerGroup-clause-fits : goal.result_of-returns-in_err-from-in-PerGroup-clause-fits
-result_of-returns-in_err-from-in-PerGroup-clause-fits t c = λ s a.
-    let whole = subst (Accepted c.args.sources.now) c.in-PerGroup.is a in
-    let part = subst (Accepted c.args.sources.now) (sym c.deref-in-PerGroup.ensures) whole.0 in
-    passes _ c.from_residual-in_err-from-in-PerGroup.ensures.1 (λ y e. e ∙ c.in_err-from-in-PerGroup.ensures.fits s part)
+result_of-returns-in_err-from-in-PerGroup-clause-fits t c = λ timed s a.
+    let whole = subst (Accepted c.args.sources.now timed) c.in-PerGroup.is a in
+    let part = subst (Accepted c.args.sources.now timed) (sym c.deref-in-PerGroup.ensures) whole.0 in
+    passes _ c.from_residual-in_err-from-in-PerGroup.ensures.1 (λ y e. e ∙ c.in_err-from-in-PerGroup.ensures.fits timed s part)
 
 pub result_of-returns-in_err-first-in-Union-clause-fits : goal.result_of-returns-in_err-first-in-Union-clause-fits
-result_of-returns-in_err-first-in-Union-clause-fits t c = λ s a.
-    let whole = subst (Accepted c.args.sources.now) c.in-Union.is a in
-    let part = subst (Accepted c.args.sources.now) (sym c.deref-in-Union.ensures) whole.0 in
-    passes _ c.from_residual-in_err-first-in-Union.ensures.1 (λ y e. e ∙ c.in_err-first-in-Union.ensures.fits s part)
+result_of-returns-in_err-first-in-Union-clause-fits t c = λ timed s a.
+    let whole = subst (Accepted c.args.sources.now timed) c.in-Union.is a in
+    let part = subst (Accepted c.args.sources.now timed) (sym c.deref-in-Union.ensures) whole.0 in
+    passes _ c.from_residual-in_err-first-in-Union.ensures.1 (λ y e. e ∙ c.in_err-first-in-Union.ensures.fits timed s part)
 
 pub result_of-returns-in_err-second-in-Union-clause-fits : goal.result_of-returns-in_err-second-in-Union-clause-fits
-result_of-returns-in_err-second-in-Union-clause-fits t c = λ s a.
-    let whole = subst (Accepted c.args.sources.now) c.in-Union.is a in
-    let part = subst (Accepted c.args.sources.now) (sym c.deref-in-Union-2.ensures) whole.1 in
-    passes _ c.from_residual-in_err-second-in-Union.ensures.1 (λ y e. e ∙ c.in_err-second-in-Union.ensures.fits s part)
+result_of-returns-in_err-second-in-Union-clause-fits t c = λ timed s a.
+    let whole = subst (Accepted c.args.sources.now timed) c.in-Union.is a in
+    let part = subst (Accepted c.args.sources.now timed) (sym c.deref-in-Union-2.ensures) whole.1 in
+    passes _ c.from_residual-in_err-second-in-Union.ensures.1 (λ y e. e ∙ c.in_err-second-in-Union.ensures.fits timed s part)
 
 pub result_of-returns-in_err-first-in-Concat-clause-fits : goal.result_of-returns-in_err-first-in-Concat-clause-fits
-result_of-returns-in_err-first-in-Concat-clause-fits t c = λ s a.
-    let whole = subst (Accepted c.args.sources.now) c.in-Concat.is a in
-    let part = subst (Accepted c.args.sources.now) (sym c.deref-in-Concat.ensures) whole.0 in
-    passes _ c.from_residual-in_err-first-in-Concat.ensures.1 (λ y e. e ∙ c.in_err-first-in-Concat.ensures.fits s part)
+result_of-returns-in_err-first-in-Concat-clause-fits t c = λ timed s a.
+    let whole = subst (Accepted c.args.sources.now timed) c.in-Concat.is a in
+    let part = subst (Accepted c.args.sources.now timed) (sym c.deref-in-Concat.ensures) whole.0 in
+    passes _ c.from_residual-in_err-first-in-Concat.ensures.1 (λ y e. e ∙ c.in_err-first-in-Concat.ensures.fits timed s part)
 
 pub result_of-returns-in_err-second-in-Concat-clause-fits : goal.result_of-returns-in_err-second-in-Concat-clause-fits
-result_of-returns-in_err-second-in-Concat-clause-fits t c = λ s a.
-    let whole = subst (Accepted c.args.sources.now) c.in-Concat.is a in
-    let part = subst (Accepted c.args.sources.now) (sym c.deref-in-Concat-2.ensures) whole.1 in
-    passes _ c.from_residual-in_err-second-in-Concat.ensures.1 (λ y e. e ∙ c.in_err-second-in-Concat.ensures.fits s part)
+result_of-returns-in_err-second-in-Concat-clause-fits t c = λ timed s a.
+    let whole = subst (Accepted c.args.sources.now timed) c.in-Concat.is a in
+    let part = subst (Accepted c.args.sources.now timed) (sym c.deref-in-Concat-2.ensures) whole.1 in
+    passes _ c.from_residual-in_err-second-in-Concat.ensures.1 (λ y e. e ∙ c.in_err-second-in-Concat.ensures.fits timed s part)
 
 pub result_of-returns-in_err-slices-in-Each-clause-fits : goal.result_of-returns-in_err-slices-in-Each-clause-fits
-result_of-returns-in_err-slices-in-Each-clause-fits t c = λ s a.
-    let whole = subst (Accepted c.args.sources.now) c.in-Each.is a in
+result_of-returns-in_err-slices-in-Each-clause-fits t c = λ timed s a.
+    let whole = subst (Accepted c.args.sources.now timed) c.in-Each.is a in
     passes _ c.from_residual-in_err-slices-in-Each.ensures.1 (λ y e. e ∙ c.in_err-slices-in-Each.ensures.fits whole.1)
 
 pub result_of-returns-in_err-most-in-PerGroup-clause-fits : goal.result_of-returns-in_err-most-in-PerGroup-clause-fits
-result_of-returns-in_err-most-in-PerGroup-clause-fits t c = λ s a.
-    let whole = subst (Accepted c.args.sources.now) c.in-PerGroup.is a in
+result_of-returns-in_err-most-in-PerGroup-clause-fits t c = λ timed s a.
+    let whole = subst (Accepted c.args.sources.now timed) c.in-PerGroup.is a in
     passes _ c.from_residual-in_err-most-in-PerGroup.ensures.1 (λ y e. e ∙ c.in_err-most-in-PerGroup.ensures.fits whole.1.most_groups)
 
 pub result_of-returns-in_err-inside-in-Each-clause-fits : goal.result_of-returns-in_err-inside-in-Each-clause-fits
-result_of-returns-in_err-inside-in-Each-clause-fits t c = λ s a.
+result_of-returns-in_err-inside-in-Each-clause-fits t c = λ timed s a.
     let env = env_view c.args.sources.now in
     let from = c.in_ok-from-in-Each.from in
-    let whole = subst (Accepted c.args.sources.now) c.in-Each.is a in
+    let whole = subst (Accepted c.args.sources.now timed) c.in-Each.is a in
     let is = subst (Gives c.args.sources.now from) c.deref-in-Each.ensures c.in_ok-from-in-Each.ensures.value in
     let columns : c.as_slice-in-Each-3.result.now ≡ columns_in env (query_shape c.in-Each.source.value) =
     c.as_slice-in-Each-3.ensures ∙ c.in_ok-columns-in-Each.ensures ∙ ap (λ (q : Query). columns_in env (query_shape q)) c.deref-in-Each-2.ensures in
     let parts : map (λ (s : Bor (List Row)). s.now) c.as_slice-in-Each-4.result.now ≡ slices c.in-Each.size.value c.in-Each.advance.value from.rows =
     ap (map (λ (s : Bor (List Row)). s.now)) c.as_slice-in-Each-4.ensures.value ∙ c.in_ok-slices-in-Each.ensures.value
     ∙ ap (slices c.in-Each.size.value c.in-Each.advance.value) c.as_slice-in-Each.ensures in
-    let want = each_passes env c.in-Each.var.text (query_shape c.in-Each.source.value) c.in-Each.size.value c.in-Each.advance.value (query_shape c.in-Each.body.value) from.rows from.spill _ _ _ _ _ s whole is (ap query_shape c.deref-in-Each-3.ensures) c.as_slice-in-Each-2.ensures columns parts c.in_err-inside-in-Each.ensures.fits in
+    let want = each_passes Tuples env timed c.in-Each.var.text (query_shape c.in-Each.source.value) c.in-Each.size.value c.in-Each.advance.value (query_shape c.in-Each.body.value) from.rows from.spill _ _ _ _ _ s whole is (ap query_shape c.deref-in-Each-3.ensures) c.as_slice-in-Each-2.ensures columns parts c.in_err-inside-in-Each.ensures.fits in
     passes _ c.from_residual-in_err-inside-in-Each.ensures.1 (λ y e. e ∙ want)
 
 pub result_of-returns-in_err-inside-in-PerGroup-clause-fits : goal.result_of-returns-in_err-inside-in-PerGroup-clause-fits
-result_of-returns-in_err-inside-in-PerGroup-clause-fits t c = λ s a.
+result_of-returns-in_err-inside-in-PerGroup-clause-fits t c = λ timed s a.
     let env = env_view c.args.sources.now in
     let from = c.in_ok-from-in-PerGroup.from in
     let most = c.in_ok-most-in-PerGroup.most in
     let column = c.column_number-column.result in
-    let whole = subst (Accepted c.args.sources.now) c.in-PerGroup.is a in
+    let whole = subst (Accepted c.args.sources.now timed) c.in-PerGroup.is a in
     let is = subst (Gives c.args.sources.now from) c.deref-in-PerGroup.ensures c.in_ok-from-in-PerGroup.ensures.value in
     let columns : c.as_slice-in-PerGroup-5.result.now ≡ columns_in env (query_shape c.in-PerGroup.source.value) =
     c.as_slice-in-PerGroup-5.ensures ∙ c.in_ok-columns-in-PerGroup.ensures ∙ ap (λ (q : Query). columns_in env (query_shape q)) c.deref-in-PerGroup-2.ensures in
     let parts : c.as_slice-in-PerGroup-6.result.now ≡ keyed_groups most column from.rows =
     c.as_slice-in-PerGroup-6.ensures ∙ c.in_ok-parts-in-PerGroup.ensures ∙ ap (keyed_groups most column) c.as_slice-in-PerGroup-3.ensures in
-    let want = groups_pass env c.in-PerGroup.var.text (query_shape c.in-PerGroup.source.value) c.in-PerGroup.key.text c.in-PerGroup.groups.value (query_shape c.in-PerGroup.body.value) from.rows from.spill _ _ _ most column _ _ s whole is (ap query_shape c.deref-in-PerGroup-3.ensures) c.as_slice-in-PerGroup-4.ensures columns parts c.in_err-inside-in-PerGroup.ensures.fits in
+    let want = groups_pass env timed c.in-PerGroup.var.text (query_shape c.in-PerGroup.source.value) c.in-PerGroup.key.text c.in-PerGroup.groups.value (query_shape c.in-PerGroup.body.value) from.rows from.spill _ _ _ most column _ _ s whole is (ap query_shape c.deref-in-PerGroup-3.ensures) c.as_slice-in-PerGroup-4.ensures columns parts c.in_err-inside-in-PerGroup.ensures.fits in
     passes _ c.from_residual-in_err-inside-in-PerGroup.ensures.1 (λ y e. e ∙ want)
 
 pub result_of-returns-in_ok-from-in-Rows-clause-fits : goal.result_of-returns-in_ok-from-in-Rows-clause-fits
-result_of-returns-in_ok-from-in-Rows-clause-fits t c = λ s a.
+result_of-returns-in_ok-from-in-Rows-clause-fits t c = λ timed s a.
     let env = env_view c.args.sources.now in
     let from = c.in_ok-from-in-Rows.from in
-    let whole = subst (Accepted c.args.sources.now) c.in-Rows.is a in
+    let whole = subst (Accepted c.args.sources.now timed) c.in-Rows.is a in
     let is = subst (Gives c.args.sources.now from) c.deref.ensures c.in_ok-from-in-Rows.ensures.value in
     let pass = subst (λ (q : Query). IsRows (columns_in env (query_shape q)) (pick_shape c.in-Rows.pick) (option_map expr_shape c.in-Rows.filter) → AreRows (columns_in env (query_shape q)) from.rows → IsOrMemory c.rows_from.result) c.deref-in-Rows.ensures c.rows_from.ensures.fits in
-    pass whole.1 (rows_fit env (query_shape c.in-Rows.source.value) from.rows from.spill s whole.0 is)
+    pass whole.1 (rows_fit env timed (query_shape c.in-Rows.source.value) from.rows from.spill s whole.0 is)
 
 pub result_of-returns-in_ok-from-in-Total-clause-fits : goal.result_of-returns-in_ok-from-in-Total-clause-fits
-result_of-returns-in_ok-from-in-Total-clause-fits t c = λ s a.
+result_of-returns-in_ok-from-in-Total-clause-fits t c = λ timed s a.
     let env = env_view c.args.sources.now in
     let from = c.in_ok-from-in-Total.from in
-    let whole = subst (Accepted c.args.sources.now) c.in-Total.is a in
+    let whole = subst (Accepted c.args.sources.now timed) c.in-Total.is a in
     let is = subst (Gives c.args.sources.now from) c.deref-in-Total.ensures c.in_ok-from-in-Total.ensures.value in
     let pass = subst (λ (q : Query). AreAggs (columns_in env (query_shape q)) (map agg_item_shape c.as_slice.result.now) → AreRows (columns_in env (query_shape q)) from.rows → IsOrMemory c.total_from.result) c.deref-in-Total-2.ensures c.total_from.ensures.fits in
     let aggs = subst (λ (l : List AggItem). AreAggs (columns_in env (query_shape c.in-Total.source.value)) (map agg_item_shape l)) (sym c.as_slice.ensures) whole.1.typed in
-    pass aggs (rows_fit env (query_shape c.in-Total.source.value) from.rows from.spill s whole.0 is)
+    pass aggs (rows_fit env timed (query_shape c.in-Total.source.value) from.rows from.spill s whole.0 is)
 
 pub result_of-returns-in_ok-second-in-Concat-clause-fits : goal.result_of-returns-in_ok-second-in-Concat-clause-fits
-result_of-returns-in_ok-second-in-Concat-clause-fits t c = λ s a.
+result_of-returns-in_ok-second-in-Concat-clause-fits t c = λ timed s a.
     let env = env_view c.args.sources.now in
     let first = c.in_ok-first-in-Concat.first in
     let second = c.in_ok-second-in-Concat.second in
-    let whole = subst (Accepted c.args.sources.now) c.in-Concat.is a in
+    let whole = subst (Accepted c.args.sources.now timed) c.in-Concat.is a in
     let l = subst (Gives c.args.sources.now first) c.deref-in-Concat.ensures c.in_ok-first-in-Concat.ensures.value in
     let r = subst (Gives c.args.sources.now second) c.deref-in-Concat-2.ensures c.in_ok-second-in-Concat.ensures.value in
     c.concat_of.ensures.fits (one_length env (query_shape c.in-Concat.left.value) (query_shape c.in-Concat.right.value) first.rows second.rows first.spill second.spill whole.2 l r)
+
+pub result_of-returns-in_ok-inside-in-EachTime-clause-value : goal.result_of-returns-in_ok-inside-in-EachTime-clause-value
+result_of-returns-in_ok-inside-in-EachTime-clause-value t c =
+    let env = env_view c.args.sources.now in
+    let from = c.in_ok-from-in-EachTime.from in
+    let is = subst (Gives c.args.sources.now from) c.deref-in-EachTime.ensures c.in_ok-from-in-EachTime.ensures.value in
+    let columns : c.as_slice-in-EachTime-3.result.now ≡ columns_in env (query_shape c.in-EachTime.source.value) =
+    c.as_slice-in-EachTime-3.ensures ∙ c.in_ok-columns-in-EachTime.ensures ∙ ap (λ (q : Query). columns_in env (query_shape q)) c.deref-in-EachTime-2.ensures in
+    let parts : map (λ (s : Bor (List Row)). s.now) c.as_slice-in-EachTime-4.result.now
+    ≡ tslices c.in-EachTime.size.value c.in-EachTime.advance.value (times_in env (query_shape c.in-EachTime.source.value)) (ticks_in env (query_shape c.in-EachTime.source.value)) from.rows =
+    ap (map (λ (s : Bor (List Row)). s.now)) c.as_slice-in-EachTime-4.ensures.value ∙ c.in_ok-parts-in-EachTime.ensures ∙ c.as_slice-in-EachTime.ensures ∙ c.in_ok-tables-in-EachTime.ensures.value
+    ∙ (λ i. tslices c.in-EachTime.size.value c.in-EachTime.advance.value ((c.clock_of-clock.ensures.times ∙ ap (λ (q : Query). times_in env (query_shape q)) c.deref-in-EachTime-3.ensures) i)
+    ((c.clock_of-clock.ensures.ticks ∙ ap (λ (q : Query). ticks_in env (query_shape q)) c.deref-in-EachTime-3.ensures) i) (c.as_slice-rows.ensures i)) in
+    let made = each_made Time env c.in-EachTime.var.text (query_shape c.in-EachTime.source.value) c.in-EachTime.size.value c.in-EachTime.advance.value (query_shape c.in-EachTime.body.value) from.rows from.spill _ _ _ _ _ _ _ _ is (ap query_shape c.deref-in-EachTime-4.ensures) c.as_slice-in-EachTime-2.ensures columns parts c.in_ok-inside-in-EachTime.ensures.value c.of_parts-in-EachTime.ensures.rows c.of_parts-in-EachTime.ensures.spill in
+    subst (λ (q : Query). IsResultIn (query_shape q) env c.of_parts-in-EachTime.result.rows c.of_parts-in-EachTime.result.spill) (sym c.in-EachTime.is) made
+
+pub result_of-returns-in_err-from-in-EachTime-clause-fits : goal.result_of-returns-in_err-from-in-EachTime-clause-fits
+result_of-returns-in_err-from-in-EachTime-clause-fits t c = λ timed s a.
+    let whole = subst (Accepted c.args.sources.now timed) c.in-EachTime.is a in
+    let part = subst (Accepted c.args.sources.now timed) (sym c.deref-in-EachTime.ensures) whole.0 in
+    passes _ c.from_residual-in_err-from-in-EachTime.ensures.1 (λ y e. e ∙ c.in_err-from-in-EachTime.ensures.fits timed s part)
+
+pub result_of-returns-in_err-tables-in-EachTime-clause-fits : goal.result_of-returns-in_err-tables-in-EachTime-clause-fits
+result_of-returns-in_err-tables-in-EachTime-clause-fits t c = λ timed s a.
+    let whole = subst (Accepted c.args.sources.now timed) c.in-EachTime.is a in
+    passes _ c.from_residual-in_err-tables-in-EachTime.ensures.1 (λ y e. e ∙ c.in_err-tables-in-EachTime.ensures.fits whole.1)
+
+pub result_of-returns-in_err-inside-in-EachTime-clause-fits : goal.result_of-returns-in_err-inside-in-EachTime-clause-fits
+result_of-returns-in_err-inside-in-EachTime-clause-fits t c = λ timed s a.
+    let env = env_view c.args.sources.now in
+    let from = c.in_ok-from-in-EachTime.from in
+    let whole = subst (Accepted c.args.sources.now timed) c.in-EachTime.is a in
+    let is = subst (Gives c.args.sources.now from) c.deref-in-EachTime.ensures c.in_ok-from-in-EachTime.ensures.value in
+    let columns : c.as_slice-in-EachTime-3.result.now ≡ columns_in env (query_shape c.in-EachTime.source.value) =
+    c.as_slice-in-EachTime-3.ensures ∙ c.in_ok-columns-in-EachTime.ensures ∙ ap (λ (q : Query). columns_in env (query_shape q)) c.deref-in-EachTime-2.ensures in
+    let parts : map (λ (s : Bor (List Row)). s.now) c.as_slice-in-EachTime-4.result.now
+    ≡ tslices c.in-EachTime.size.value c.in-EachTime.advance.value (times_in env (query_shape c.in-EachTime.source.value)) (ticks_in env (query_shape c.in-EachTime.source.value)) from.rows =
+    ap (map (λ (s : Bor (List Row)). s.now)) c.as_slice-in-EachTime-4.ensures.value ∙ c.in_ok-parts-in-EachTime.ensures ∙ c.as_slice-in-EachTime.ensures ∙ c.in_ok-tables-in-EachTime.ensures.value
+    ∙ (λ i. tslices c.in-EachTime.size.value c.in-EachTime.advance.value ((c.clock_of-clock.ensures.times ∙ ap (λ (q : Query). times_in env (query_shape q)) c.deref-in-EachTime-3.ensures) i)
+    ((c.clock_of-clock.ensures.ticks ∙ ap (λ (q : Query). ticks_in env (query_shape q)) c.deref-in-EachTime-3.ensures) i) (c.as_slice-rows.ensures i)) in
+    let want = each_passes Time env timed c.in-EachTime.var.text (query_shape c.in-EachTime.source.value) c.in-EachTime.size.value c.in-EachTime.advance.value (query_shape c.in-EachTime.body.value) from.rows from.spill _ _ _ _ _ s whole is (ap query_shape c.deref-in-EachTime-4.ensures) c.as_slice-in-EachTime-2.ensures columns parts c.in_err-inside-in-EachTime.ensures.fits in
+    passes _ c.from_residual-in_err-inside-in-EachTime.ensures.1 (λ y e. e ∙ want)

@@ -1,4 +1,4 @@
-use Rattle.std.proofs.Common.{List, ap, ◌∙◌}
+use Rattle.std.proofs.Common.{true, List, ap, ◌∙◌}
 use Rattle.gl_schema.specs.declared.schema.Stream.{Stream}
 use Rattle.gl_query.specs.Results.{numbered}
 use Rattle.gl_reference.specs.Sources.{env_view, given_inputs}
@@ -9,6 +9,8 @@ pub returns-clause-fits : goal.returns-clause-fits
 returns-clause-fits c = λ fit.
     let schema = c.args.schema.now in
     let tables = c.args.inputs.now in
-    let is = ap env_view c.as_slice-2.ensures.value ∙ c.in_ok-sources.ensures ∙ ap (λ (l : List Stream). numbered 0 l (given_inputs tables)) c.as_slice.ensures in
-    let facts = statement_fits schema c.args.statement.now tables (env_view c.as_slice-2.result.now) fit is in
-    c.result_of.ensures.fits facts.0 facts.1
+    let times = c.args.times.now in
+    let ticks = c.args.ticks in
+    let is = ap env_view c.as_slice-2.ensures.value ∙ c.in_ok-sources.ensures ∙ ap (λ (l : List Stream). numbered 0 l (given_inputs tables times ticks)) c.as_slice.ensures in
+    let facts = statement_fits schema c.args.statement.now tables times ticks (env_view c.as_slice-2.result.now) fit is in
+    c.result_of.ensures.fits true facts.0 facts.1

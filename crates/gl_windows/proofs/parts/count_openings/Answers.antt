@@ -1,4 +1,5 @@
-use Rattle.std.proofs.Common.{ℕ, ap, arith, ◌∙◌}
+use Rattle.std.proofs.Common.{ℕ, suc, ◌&&◌, ap, sym, arith, ◌∙◌}
+use Rattle.std.specs.Prelude.{nat_eq}
 use Rattle.gl_net.proofs.Determined.{keeps_then}
 use Rattle.gl_wire.specs.Wire.{line_at}
 use Rattle.gl_wire_registers.specs.Held.{counted_down, held_at}
@@ -17,8 +18,8 @@ returns c =
         memories = omega (arith, until.cost.memories, opens.cost.memories);
       };
       law = λ run r. record {
-        next = λ t. until.next run (opens.keeps.runs run r) t
-            ∙ ap (λ (n : ℕ). counted_down 0 n (line_at run c.args.eos t) (line_at run c.args.valid t) (held_at 0 run c.in_ok-until.until t)) c.from-again.ensures;
-        opens = opens.line run r 0;
+        next = λ t. ap (λ (n : ℕ). held_at n run c.in_ok-until.until (suc t)) (sym c.from-first.ensures) ∙ until.next run (opens.keeps.runs run r) t
+            ∙ (λ i. counted_down (c.from-first.ensures i) (c.from-again.ensures i) (line_at run c.args.eos t) (line_at run c.args.unit t) (held_at (c.from-first.ensures i) run c.in_ok-until.until t));
+        opens = λ t. opens.line run r c.from-first.result t ∙ ap (λ (n : ℕ). line_at run c.args.unit t && nat_eq (held_at n run c.in_ok-until.until t) 0) c.from-first.ensures;
       };
     }

@@ -1,4 +1,5 @@
 use Rattle.std.proofs.Common.{◌≡◌, ◌++◌, ap, subst, sym, ◌∙◌, codes, Some, ℕ, List}
+use Rattle.gl_algebra.specs.Views.{reads_time}
 use Rattle.gl_wiring.specs.Emitted.{names_of}
 use Rattle.gl_wiring.specs.PortNames.{port_names}
 use Rattle.gl_wiring.specs.Wired.{IsWired}
@@ -16,8 +17,9 @@ finish-requires c =
     let named : net.name ≡ Some (codes "q__" ++ names.into) =
     e.extends.module_name ∙ c.in_ok-module.ensures.module_name ∙ ap (λ (n : List ℕ). Some n) (cc (c.deref.ensures.value, c.in_ok-name.ensures, c.as_slice.ensures)) in
     let driven = λ (n : ℕ). e.extends.undriven n ∙ c.module.ensures.undriven n ∙ c.new-net.ensures.undriven n in
-    let ports : names_of net ≡ port_names s names.columns = plan_names net s c.args.plan.now c.args.root names.columns can.named.many' e.plan.ports in
-    finished s names.columns names.into net can.schema' can.named.columns can.named.distinct can.named.into ports named driven e.plan.reset
+    let ticks = reads_time c.args.plan.now in
+    let ports : names_of net ≡ port_names ticks s names.columns = plan_names ticks net s c.args.plan.now c.args.root names.columns can.named.many' e.plan.ports in
+    finished ticks s names.columns names.into net can.schema' can.named.columns can.named.distinct can.named.into ports named driven e.plan.reset
 
 pub returns : goal.returns
 returns c =
@@ -31,8 +33,9 @@ returns c =
     let is = e.plan in
     let named : net.name ≡ Some (codes "q__" ++ names.into) =
     e.extends.module_name ∙ c.in_ok-module.ensures.module_name ∙ ap (λ (n : List ℕ). Some n) (cc (c.deref.ensures.value, c.in_ok-name.ensures, c.as_slice.ensures)) in
-    let ports : names_of net ≡ port_names s names.columns = plan_names net s nodes root names.columns can.named.many' is.ports in
-    let unlike = apart s names.columns net can.schema' can.named.columns can.named.distinct ports in
+    let ticks = reads_time c.args.plan.now in
+    let ports : names_of net ≡ port_names ticks s names.columns = plan_names ticks net s nodes root names.columns can.named.many' is.ports in
+    let unlike = apart ticks s names.columns net can.schema' can.named.columns can.named.distinct ports in
     let wired : IsWired s nodes root names net = record {
       name = named;
       ports = is.ports;

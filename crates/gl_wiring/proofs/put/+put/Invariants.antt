@@ -11,6 +11,9 @@ decreases-put_over l = 4 * l.id + 2
 abbrev pub decreases-put_window : goal.decreases-put_window
 decreases-put_window l = 4 * l.window.id + 1
 
+abbrev pub decreases-put_time_window : goal.decreases-put_time_window
+decreases-put_time_window l = 4 * l.window.id + 1
+
 abbrev pub decreases-put_group : goal.decreases-put_group
 decreases-put_group l = 4 * l.group.id + 1
 

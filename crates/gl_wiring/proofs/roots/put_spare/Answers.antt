@@ -10,18 +10,18 @@ use Rattle.gl_wiring.proofs.roots.put_spare.Goals as goal
 pub put_node-requires : goal.put_node-requires
 put_node-requires c =
     let w = c.args.w.window in
-    (can_child c.args.plan.now c.args.figures.now w.id (Window w.source w.body w.size w.advance) c.args.net.now c.args.leaves.now
+    (can_child c.args.plan.now c.args.figures.now w.id (Window w.source w.body w.size w.advance) c.args.net.now c.args.tick c.args.leaves.now
     c.len.ensures.plan c.requires.node.window' c.requires.can w.source (w.body ∷ []) refl refl).can
 
 pub put_copies-requires : goal.put_copies-requires
 put_copies-requires c =
     rw c.as_slice.ensures (spare_copies c.args.plan.now c.args.w c.len.ensures.plan c.requires.node c.args.figures.now c.args.net.now c.args.net.now
-    c.front.new.net c.args.leaves.now c.in_ok-front.front c.requires.can (c.in_ok-front.ensures c.args.net.now c.args.leaves.now c.in_ok-below.ensures))
+    c.front.new.net c.args.tick c.args.leaves.now c.in_ok-front.front c.requires.can (c.in_ok-front.ensures c.args.net.now c.args.tick c.args.leaves.now c.in_ok-below.ensures))
 
 pub back-requires-clause-front : goal.back-requires-clause-front
 back-requires-clause-front c =
     fronts_kept c.front.new.net c.put_copies.new.net (rotation_with c.args.plan.now c.args.w) c.in_ok-front.front c.in_ok-copies.ensures.keeps
-    (c.in_ok-front.ensures c.args.net.now c.args.leaves.now c.in_ok-below.ensures).fronts
+    (c.in_ok-front.ensures c.args.net.now c.args.tick c.args.leaves.now c.in_ok-below.ensures).fronts
 
 pub back-requires-clause-copies : goal.back-requires-clause-copies
 back-requires-clause-copies c =
@@ -31,9 +31,9 @@ back-requires-clause-copies c =
 pub back-requires-clause-count : goal.back-requires-clause-count
 back-requires-clause-count c =
     rw c.as_slice-2.ensures ((rw c.as_slice.ensures at c.in_ok-copies.ensures).as_many
-    ∙ (c.in_ok-front.ensures c.args.net.now c.args.leaves.now c.in_ok-below.ensures).fronts.as_many)
+    ∙ (c.in_ok-front.ensures c.args.net.now c.args.tick c.args.leaves.now c.in_ok-below.ensures).fronts.as_many)
 
 pub returns : goal.returns
 returns c =
-    c.back.ensures c.args.net.now c.front.new.net c.args.leaves.now (c.in_ok-front.ensures c.args.net.now c.args.leaves.now c.in_ok-below.ensures)
+    c.back.ensures c.args.net.now c.front.new.net c.args.tick c.args.leaves.now (c.in_ok-front.ensures c.args.net.now c.args.tick c.args.leaves.now c.in_ok-below.ensures)
     (rw c.as_slice-2.ensures (rw c.as_slice.ensures at c.in_ok-copies.ensures))

@@ -19,6 +19,6 @@ both_faults-requires-clause-right c = record {
 }
 
 pub returns : goal.returns
-returns c = λ old mid leaves is direct t.
-    gathered_put c.args.plan.now c.args.self.now c.len.ensures.plan c.requires.node old mid c.args.net.now c.gather.new.net c.both_faults.new.net leaves
+returns c = λ old mid tick leaves is direct t.
+    gathered_put c.args.plan.now c.args.self.now c.len.ensures.plan c.requires.node old mid c.args.net.now c.gather.new.net c.both_faults.new.net tick leaves
     c.args.laned.now c.args.out.now c.in_ok-wire.wire c.in_ok-faults.faults is direct t (rw c.grouping-grouping.ensures.value at c.in_ok-wire.ensures) c.in_ok-faults.ensures

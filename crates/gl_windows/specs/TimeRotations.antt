@@ -1,0 +1,149 @@
+-- A rotation of windows of time over copies of a body, in a netlist: the front before the copies, with the line of ticks,
+-- the back behind them, and what both serve.
+use Rattle.std.specs.Prelude.{◌≡◌, ℕ, ◌+◌, ◌*◌, ◌^◌, ◌<◌, ◌≤◌, Bool, List, length, Some, slice_get}
+use Rattle.std.specs.List.{sum}
+use Rattle.gl_algebra.specs.declared.figures.Figures.{Figures}
+use Rattle.gl_algebra.specs.declared.node.PlanNode.{PlanNode}
+use Rattle.gl_algebra.specs.FigureTable.{AreSmall, IsSound, input_figures, stride_of, windows_over}
+use Rattle.gl_algebra.specs.Views.{copies_of_time}
+use Rattle.gl_bits.specs.Limits.{most_rows}
+use Rattle.gl_bits.specs.Results.{AreJoined}
+use Rattle.gl_bits.specs.Times.{tslices}
+use Rattle.gl_net.specs.declared.node.Bit.{Bit}
+use Rattle.gl_net.specs.Net.{Net, Run, IsRun, IsBit, Keeps}
+use Rattle.gl_wire.specs.declared.emitted.Emitted.{Emitted}
+use Rattle.gl_wire.specs.declared.wire.Wire.{Wire}
+use Rattle.gl_wire.specs.Beats.{Beats, Spaced, beats_of}
+use Rattle.gl_wire.specs.Costs.{Costs, CostsAtMost}
+use Rattle.gl_wire.specs.Faults.{AreLines, lines_of}
+use Rattle.gl_wire.specs.Serves.{Fits}
+use Rattle.gl_wire.specs.Serving.{Serving}
+use Rattle.gl_wire.specs.Shapes.{IsDelayed}
+use Rattle.gl_wire.specs.Spills.{Lines, SameLines, both_lines}
+use Rattle.gl_wire.specs.Wire.{Carried, IsWire, carried, line_at, stream, widths}
+use Rattle.gl_wire_copies.specs.Bodies.{OfBody}
+use Rattle.gl_wire_copies.specs.Lift.{tuple_of_any}
+use Rattle.gl_wire_copies.specs.Rotates.{flush_of, lines_of_all}
+use Rattle.gl_wire_registers.specs.Held.{with_registers}
+use Rattle.gl_wire_registers.specs.Joins.{columns_of, cost_of_back, gives_of, told_of}
+use Rattle.gl_wire_registers.specs.Lines.{carried_of}
+use Rattle.gl_wire_registers.specs.Timers.{IsClose}
+use Rattle.gl_windows.specs.declared.rotation.Fronted.{Fronted}
+use Rattle.gl_windows.specs.declared.times.TimeRotation.{TimeRotation}
+use Rattle.gl_windows.specs.Costs.{cost_of_time_front}
+use Rattle.gl_wire.specs.Ticks.{TicksFit, ticks_at, times_at}
+use Rattle.gl_windows.specs.TimeFront.{HasRoom, IsTimeFront, TimeMachine}
+
+-- the copies: as many as windows of time can be open at once
+abbrev pub copies_of : TimeRotation → ℕ
+copies_of r = copies_of_time r.size r.advance
+
+-- the figures of the whole, over a stream
+abbrev pub time_figures : TimeRotation → Figures
+time_figures r = windows_over (copies_of r) input_figures r.body
+
+-- the machine of its front over ticks and what a wire carries
+abbrev pub machine_of : TimeRotation → (ℕ → Bool) → Carried → TimeMachine
+machine_of r tick a =
+    record {
+      size = r.size;
+      advance = r.advance;
+      count = copies_of r;
+      stride = stride_of r.body;
+      tick = tick;
+      a = a;
+    }
+
+-- numbers of a rotation: the body waits for the end, and a flush can be timed
+pub record IsTimeRotation (r : TimeRotation) : Type 0 where
+  pub rows : 1 ≤ r.size
+  pub most : r.size ≤ most_rows
+  pub step : 1 ≤ r.advance
+  pub sound : IsSound r.body
+  pub closing : r.body.nt ≡ 0
+  pub timed : flush_of (copies_of r) r.body < 2 ^ 32
+
+-- wires behind the machine of a front, where it has room
+pub record AreTimeFronts (old new : Net) (r : TimeRotation) (tick : Bit) (source : Wire) (ws : List Wire) : Type 0 where
+  pub keeps : Keeps old new
+  pub cost : Costs old new (with_registers (copies_of r * 17 + length (widths source.columns) * 2 + 92)
+      (copies_of r * 3 + sum (widths source.columns) + 195))
+  pub as_many : length ws ≡ copies_of r
+  pub wires : (k : ℕ) (w : Wire) → slice_get ws k ≡ Some w → IsWire new w × (widths w.columns ≡ widths source.columns)
+  pub front : (run : Run) → IsRun new run → HasRoom (machine_of r (line_at run tick) (carried run source))
+      → IsTimeFront (machine_of r (line_at run tick) (carried run source)) (carried_of run ws)
+
+-- the cycles from an end of the source to that on the line of ends, which the back gives one cycle later
+abbrev pub time_close_delay : TimeRotation → ℕ
+time_close_delay r = flush_of (copies_of r) r.body + 1 + r.body.a
+
+-- a front behind a source and a line of ticks: for each copy a wire that carries what the machine gives it while it has
+-- room, and the line of ends. `front` is in the words of the machine: glue for the back, and what the whole serves is
+-- said without it
+pub record TimeFronts (net : Net) (r : TimeRotation) (tick : Bit) (f : Fronted) : Type 0 where
+  pub source : IsWire net f.source.wire
+  pub ticks : IsBit net tick
+  pub lines : AreLines net f.source.faults
+  pub as_many : length f.wires ≡ copies_of r
+  pub wires : (k : ℕ) (w : Wire) → slice_get f.wires k ≡ Some w → IsWire net w
+      × (widths w.columns ≡ widths f.source.wire.columns)
+  pub close : IsBit net f.close
+  pub front : (run : Run) → IsRun net run → HasRoom (machine_of r (line_at run tick) (carried run f.source.wire))
+      → IsTimeFront (machine_of r (line_at run tick) (carried run f.source.wire)) (carried_of run f.wires)
+  pub closes : (run : Run) → IsRun net run
+      → IsClose (flush_of (copies_of r) r.body) (time_close_delay r) (line_at run f.source.wire.eos)
+      (line_at run f.close)
+
+-- such a front more
+pub record IsTimeFronted (old new : Net) (r : TimeRotation) (tick : Bit) (source : Emitted) (f : Fronted) : Type 0 where
+  pub keeps : Keeps old new
+  pub cost : Costs old new (cost_of_time_front (copies_of r) r.body.a (widths source.wire.columns))
+  pub same : f.source ≡ source
+  pub fronts : TimeFronts new r tick f
+
+-- wherever each copy gives a body's results over the beats of its own wire, the whole gives at each end those of all
+-- windows of time, joined: over all beats that are spaced by the whole's figures, of a stream that fits, whose ticks
+-- stand at beats
+abbrev pub ServesTimes : TimeRotation → (ℕ → Bool) → Carried → (ℕ → Carried) → (ℕ → Carried) → (ℕ → Lines) → Carried
+    → Type 0
+ServesTimes r tick a ins outs lines b =
+    (nodes : List PlanNode) (body : ℕ) (beats : Beats) → Spaced (time_figures r) beats → Fits input_figures beats a
+    → TicksFit tick beats
+    → ((k : ℕ) → k < copies_of r → Spaced r.body (beats_of (ins k))
+    → Serving r.body (λ u. OfBody nodes body (stream (ins k) u)) (lines k) (beats_of (ins k)) (outs k))
+    → Serving (time_figures r)
+    (λ t. AreJoined (OfBody nodes body)
+    (tslices r.size r.advance (times_at tick a t) (ticks_at tick a t) (stream a t)))
+    (lines_of_all lines (copies_of r)) beats b
+
+-- a back behind the copies of a front: what it costs, its lines, and what the whole serves
+pub record IsTimeBacked (old new : Net) (r : TimeRotation) (tick : Bit) (f : Fronted) (copies : List Emitted)
+    (e : Emitted) : Type 0 where
+  pub keeps : Keeps old new
+  pub cost : CostsAtMost old new (cost_of_back (copies_of r) (columns_of copies))
+  pub wire : IsWire new e.wire
+  pub same_widths : widths e.wire.columns ≡ columns_of copies
+  pub lines : AreLines new e.faults
+  pub told : (run : Run) → IsRun new run
+      → SameLines (lines_of run e.faults) (both_lines (lines_of run f.source.faults)
+      (lines_of_all (told_of run copies) (copies_of r)))
+  pub serves : (run : Run) → IsRun new run
+      → ServesTimes r (line_at run tick) (carried run f.source.wire) (carried_of run f.wires) (gives_of run copies)
+      (told_of run copies) (carried run e.wire)
+
+-- the law of both: wires behind the machine, a line of ends that comes late, and a wire one cycle behind all copies
+abbrev pub TimesServe : Type 0
+TimesServe =
+    (r : TimeRotation) (tick : ℕ → Bool) (a b : Carried) (ins outs : ℕ → Carried) (close : ℕ → Bool)
+    (lines : ℕ → Lines) → IsTimeRotation r
+    → IsTimeFront (machine_of r tick a) ins
+    → IsClose (flush_of (copies_of r) r.body) (time_close_delay r) a.ends close
+    → IsDelayed 1 (record { tuple = tuple_of_any outs (copies_of r); ends = close }) b
+    → ServesTimes r tick a ins outs lines b
+
+-- a window of time of a plan has a rotation, where the figures of the whole fit 32 bits
+abbrev pub TimesRotate : Type 0
+TimesRotate =
+    (size advance : ℕ) (body : Figures) → 1 ≤ size → size ≤ most_rows → 1 ≤ advance → IsSound body → body.nt ≡ 0
+    → AreSmall (windows_over (copies_of_time size advance) input_figures body)
+    → IsTimeRotation (record { size = size; advance = advance; body = body })

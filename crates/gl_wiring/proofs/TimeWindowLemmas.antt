@@ -1,0 +1,280 @@
+-- The circuits of windows of time.
+use Rattle.std.proofs.Common.{◌≡◌, ℕ, ◌+◌, ◌<◌, List, [], ◌∷◌, length, Option, Some, None, Bool, true, false, ◌&&◌, ◌||◌, refl, sym, ap, ◌∙◌, subst, arith}
+use Rattle.std.specs.Prelude.{is_some, nat_lt, if◌then◌else◌}
+use Rattle.std.proofs.lemmas.Option.{slice_get_within}
+use Rattle.gl_bits.specs.Results.{Row, AreJoined}
+use Rattle.gl_bits.specs.Times.{tslices}
+use Rattle.gl_bits.specs.declared.kind.Kind.{Kind}
+use Rattle.gl_bits.proofs.Bools.{or_none}
+use Rattle.gl_bits.proofs.AllLists.{get_there}
+use Rattle.gl_algebra.specs.declared.figures.Figures.{Figures}
+use Rattle.gl_algebra.specs.declared.node.PlanNode.{PlanNode}
+use Rattle.gl_algebra.specs.declared.node.PlanNode.TheVariants.{Stream, TimeWindow}
+use Rattle.gl_algebra.specs.FigureTable.{AreSmall, IsSound, NoCloser, figures_of, input_figures, spaced, spacer_figures, window_figures, window_gap, windows_over}
+use Rattle.gl_algebra.specs.Fits.{Fits as FitsPlan, IsPlan}
+use Rattle.gl_algebra.specs.Views.{copies_of_time, is_time, reads_time}
+use Rattle.gl_algebra.specs.Laws.{FollowsTables}
+use Rattle.gl_algebra.specs.Results.{Inputs, IsPlanResult, given, times_with}
+use Rattle.gl_algebra.specs.Shapes.{Shape, kinds_of, shape_from, shape_of}
+use Rattle.gl_algebra.proofs.FigureLemmas.{closing_nodes_wait, figures_are_sound, one_in_time}
+use Rattle.gl_algebra.proofs.KindLemmas.{columns_have_kinds}
+use Rattle.gl_algebra.proofs.ListLemmas.{any_at}
+use Rattle.gl_algebra.proofs.ReadLemmas.{body_reads}
+use Rattle.gl_algebra.proofs.TableLemmas.{nodes_follow_tables}
+use Rattle.gl_net.specs.declared.node.Bit.{Bit}
+use Rattle.gl_net.specs.Net.{Net, Run, IsRun, Keeps}
+use Rattle.gl_net.proofs.Determined.{keeps_then}
+use Rattle.gl_windows.specs.declared.rotation.Fronted.{Fronted}
+use Rattle.gl_windows.specs.declared.times.TimeRotation.{TimeRotation}
+use Rattle.gl_windows.specs.Costs.{cost_of_time_front}
+use Rattle.gl_windows.specs.TimeRotations.{IsTimeBacked, IsTimeFronted, IsTimeRotation, TimeFronts, time_figures}
+use Rattle.gl_windows.proofs.TimeCosts.{times_rotate}
+use Rattle.gl_wire_copies.specs.Bodies.{OfBody, alone}
+use Rattle.gl_wire_copies.specs.Rotates.{lines_of_all}
+use Rattle.gl_wire_registers.specs.Joins.{columns_of, cost_of_back, told_of}
+use Rattle.gl_wire.specs.declared.emitted.Emitted.{Emitted}
+use Rattle.gl_wire.specs.declared.wire.Wire.{Wire}
+use Rattle.gl_wire.specs.Beats.{Beats, Spaced}
+use Rattle.gl_wire.specs.Costs.{CostsAtMost}
+use Rattle.gl_wire.specs.Faults.{line_of, lines_of}
+use Rattle.gl_wire.specs.Serves.{Fits}
+use Rattle.gl_wire.specs.Serving.{Serving, inputs_at}
+use Rattle.gl_wire.specs.Spills.{Lines, both_lines}
+use Rattle.gl_wire.specs.Ticks.{ticks_at, times_at}
+use Rattle.gl_wire.specs.Wire.{Carried, carried, stream}
+use Rattle.gl_wire.proofs.ColumnLemmas.{bit_kept, wire_kept}
+use Rattle.gl_wire.proofs.DelayLemmas.{spaced_closer}
+use Rattle.gl_wire.proofs.FaultLemmas.{lines_kept}
+use Rattle.gl_wire.proofs.ServingLemmas.{serving_lines}
+use Rattle.gl_wiring.specs.declared.time_windows.TimeWindowOf.{TimeWindowOf}
+use Rattle.gl_wiring.specs.Leaves.{HasLeaf, HaveLeaves, HaveLine, LeavesFit, carried_by, leaf, widths_of}
+use Rattle.gl_wiring.specs.Put.{CanPut, Gives, GivesAs, IsPut}
+use Rattle.gl_wiring.specs.TimeWindows.{IsTimeFrontOf, IsTimeWindow, time_rotation_of}
+use Rattle.gl_wiring.specs.Copies.{AreBodies, CanCopy}
+use Rattle.gl_wiring.proofs.BodyLemmas.{copies_serve, no_more}
+use Rattle.gl_wiring.proofs.CanLemmas.{first_within, second_within}
+use Rattle.gl_wiring.proofs.CopyLemmas.{bodies_columns, can_copies}
+use Rattle.gl_wiring.proofs.CostLemmas.{costs_then}
+use Rattle.gl_wiring.proofs.GivesLemmas.{gives_kept}
+use Rattle.gl_wiring.proofs.TickLemmas.{end_of_beat, same_ends, same_ticks, same_times, serving_beside}
+use Rattle.gl_wiring.proofs.TimeWindowCosts.{time_window_cost}
+use Rattle.gl_wiring.proofs.WindowLemmas.{joined_as}
+
+-- no spacer stands behind a stream
+unspaced : (gap : ℕ) → spaced gap input_figures ≡ input_figures
+unspaced gap = by (nat_lt 1 gap)
+  where
+    by : (b : Bool) → (if b && false then spacer_figures gap input_figures else input_figures) ≡ input_figures
+    by true = refl
+    by false = refl
+
+-- a front stays one in a netlist that grows
+pub time_fronts_kept : (old new : Net) (r : TimeRotation) (tick : Bit) (f : Fronted) → Keeps old new → TimeFronts old r tick f → TimeFronts new r tick f
+time_fronts_kept old new r tick f keeps h = record {
+  source = wire_kept old new f.source.wire keeps h.source;
+  ticks = bit_kept old new tick keeps h.ticks;
+  lines = lines_kept old new f.source.faults keeps h.lines;
+  as_many = h.as_many;
+  wires = λ k w e. let x = h.wires k w e in (wire_kept old new w keeps x.0, x.1);
+  close = bit_kept old new f.close keeps h.close;
+  front = λ run r'. h.front run (keeps.runs run r');
+  closes = λ run r'. h.closes run (keeps.runs run r');
+}
+
+module _ (nodes : List PlanNode) (w : TimeWindowOf) (plan : IsPlan nodes) (at : IsTimeWindow nodes w) where
+  abbrev node : PlanNode
+  node = TimeWindow w.source w.body w.size w.advance
+
+  fits : FitsPlan nodes w.id node
+  fits = plan.fits w.id node at
+
+  pub in_source : w.source < length nodes
+  in_source = first_within nodes w.id node plan at w.source (w.body ∷ []) refl
+
+  pub in_body : w.body < length nodes
+  in_body = second_within nodes w.id node plan at w.source w.body refl
+
+  follows : FollowsTables nodes w.id node
+  follows = nodes_follow_tables nodes w.id node plan at
+
+  -- the stream
+  abbrev number : ℕ
+  number = fits.timed.0
+
+  abbrev kinds : List Kind
+  kinds = fits.timed.1
+
+  of_stream : FollowsTables nodes w.source (Stream number kinds)
+  of_stream = nodes_follow_tables nodes w.source (Stream number kinds) plan fits.timed.2
+
+  abbrev stream_shape : Shape
+  stream_shape = shape_from (shape_of nodes) (Stream number kinds)
+
+  only_leaf : (shape_of nodes w.id).leaves ≡ Stream number kinds ∷ []
+  only_leaf = ap (λ (s : Shape). s.leaves) follows.shape ∙ ap (λ (s : Shape). s.leaves) of_stream.shape
+
+  abbrev s : Figures
+  s = figures_of nodes w.body
+
+  abbrev r : TimeRotation
+  r = time_rotation_of nodes w
+
+  abbrev c : ℕ
+  c = copies_of_time w.size w.advance
+
+  whole : figures_of nodes w.id ≡ time_figures r
+  whole =
+      follows.figures ∙ ap (λ (f : Figures). window_figures c f s) of_stream.figures
+      ∙ ap (λ (f : Figures). windows_over c f s) (unspaced (window_gap s))
+
+  sound_body : IsSound s
+  sound_body = figures_are_sound nodes w.body plan in_body
+
+  -- the numbers of its rotation
+  pub rotation_is : AreSmall (figures_of nodes w.id) → IsTimeRotation r
+  rotation_is small =
+      times_rotate w.size w.advance s fits.suits.1.least fits.suits.1.most fits.suits.2.least sound_body
+      (closing_nodes_wait nodes w.body plan in_body fits.suits.0.closing) (subst AreSmall whole small)
+
+  -- there is a line of ticks beside the stream
+  pub line_is_there : (tick : Option Bit) → tick ≡ None → HaveLine (reads_time nodes) tick (shape_of nodes w.id).leaves → ⊥
+  line_is_there tick none h =
+      let own : is_some tick ≡ true = (subst (HaveLine (reads_time nodes) tick) only_leaf h).0 (any_at is_time nodes w.id node at refl) in
+      absurd (let z : false ≡ true = rw none at own in cc)
+
+  -- the front behind the stream
+  pub front_put : (old mid new : Net) (tick : Bit) (leaves : List Wire) (below : Emitted) (front : Fronted) → IsPut nodes w.source old mid (Some tick) leaves below
+      → IsTimeFronted mid new r tick below front → IsTimeFrontOf nodes w old new tick leaves front
+  front_put old mid new tick leaves below front h fr =
+      let fore : CostsAtMost mid new (cost_of_time_front c s.a (widths_of (kinds_of nodes w.source))) =
+      subst (λ (cs : List ℕ). CostsAtMost mid new (cost_of_time_front c s.a cs)) h.gives.same_widths (no_more mid new _ fr.cost) in
+      record {
+        keeps = keeps_then old mid new h.keeps fr.keeps;
+        cost = costs_then old mid new _ _ h.cost fore;
+        gives = subst (λ (e : Emitted). Gives nodes w.source new (Some tick) leaves e) (sym fr.same)
+            (gives_kept _ _ _ mid new (Some tick) leaves below fr.keeps h.gives);
+        fronts = fr.fronts;
+      }
+
+  -- behind the front the body can be put
+  pub time_copies : (figures : List Figures) (old mid net : Net) (tick : Bit) (leaves : List Wire) (front : Fronted)
+      → CanPut nodes figures w.id old (Some tick) leaves → IsTimeFrontOf nodes w mid net tick leaves front → CanCopy nodes figures w.body net front.wires
+  time_copies figures old mid net tick leaves front can h =
+      can_copies nodes figures w.id w.source w.body node old net (Some tick) leaves front.wires plan at refl fits.suits.0 can
+      (λ k wire at_wire. let x = h.fronts.wires k wire at_wire in (x.0, x.1 ∙ h.gives.same_widths))
+
+  module _ (net : Net) (run : Run) (is : IsRun net run) (tick : Bit) (leaves : List Wire) (e : Emitted) (gives : Gives nodes w.source net (Some tick) leaves e)
+      (has : HasLeaf net leaves (Stream number kinds)) (beats : Beats) (spaced_beats : Spaced (time_figures r) beats) (fit : LeavesFit run (Some tick) leaves beats) where
+    abbrev line : ℕ → Bool
+    line = line_of run (Some tick)
+
+    abbrev a : Carried
+    a = carried run e.wire
+
+    abbrev ins : ℕ → Inputs
+    ins = inputs_at line (leaf run leaves) (leaf run leaves 0)
+
+    of_source : GivesAs stream_shape input_figures (IsPlanResult nodes w.source) net (Some tick) leaves e
+    of_source = rw (of_stream.shape, of_stream.figures) at gives
+
+    closer : NoCloser input_figures (time_figures r)
+    closer = record { gt = omega arith; ge = omega arith }
+
+    source : Serving input_figures (λ t. IsPlanResult nodes w.source (ins t)) (lines_of run e.faults) beats a
+    source = of_source.serving run is beats (spaced_closer input_figures (time_figures r) beats closer spaced_beats) fit
+
+    -- the leaf of the stream, and the first one
+    leaf_fits : Fits input_figures beats (leaf run leaves number)
+    leaf_fits = subst (Fits input_figures beats) (sym (ap (carried_by run) has.there)) (fit.each number has.wire has.there)
+
+    first_fits : Fits input_figures beats (leaf run leaves 0)
+    first_fits =
+        let first = get_there leaves 0 (let l = slice_get_within leaves number has.wire has.there in omega (arith, l)) in
+        subst (Fits input_figures beats) (sym (ap (carried_by run) first.1)) (fit.each 0 first.0 first.1)
+
+    -- the stream's rows, with their times, and the ticks
+    rows_of : (t : ℕ) → beats t ≡ Some true → IsPlanResult nodes w.source (ins t) (stream a t) (source.spill t)
+    rows_of t p =
+        let ends = end_of_beat beats a source.fits t p in
+        source.right t t p (record { is = ends; low = omega arith; high = omega arith })
+
+    no_spill : (t : ℕ) → beats t ≡ Some true → source.spill t ≡ false
+    no_spill t p = ((of_stream.results (ins t) (stream a t) (source.spill t)).0 (rows_of t p)).kept
+
+    in_step : (u : ℕ) → is_some (a.tuple u) ≡ is_some ((leaf run leaves number).tuple u)
+    in_step u = let z : u + 0 ≡ u = omega arith in subst (λ (i : ℕ). is_some (a.tuple i) ≡ is_some ((leaf run leaves number).tuple u)) z ((of_source.paced run is).each u)
+
+    times_are : (t : ℕ) → times_at line a t ≡ times_with (shape_of nodes w.source).pace (ins t)
+    times_are t =
+        same_times line a (leaf run leaves number) (same_ends beats a (leaf run leaves number) source.fits leaf_fits) in_step t
+        ∙ sym (ap (λ (x : Shape). times_with x.pace (ins t)) of_stream.shape)
+
+    ticks_are : (t : ℕ) → ticks_at line a t ≡ ticks_at line (leaf run leaves 0) t
+    ticks_are t = same_ticks line a (leaf run leaves 0) (same_ends beats a (leaf run leaves 0) source.fits first_fits) t
+
+    -- results of all windows of time are results of the node
+    joined : (t : ℕ) (ys : List Row) (p : Bool) → beats t ≡ Some true
+        → AreJoined (OfBody nodes w.body) (tslices w.size w.advance (times_at line a t) (ticks_at line a t) (stream a t)) ys p
+        → IsPlanResult nodes w.id (ins t) ys p
+    joined t ys p q v =
+        let as_given = joined_as (OfBody nodes w.body) (λ slice. IsPlanResult nodes w.body (given (ins t) slice))
+        (λ slice zs b y. body_reads nodes w.body plan in_body (kinds_of nodes w.source) fits.suits.0.leaves (alone slice) (given (ins t) slice) refl zs b y)
+        (tslices w.size w.advance (times_at line a t) (ticks_at line a t) (stream a t)) ys p v in
+        (follows.results (ins t) ys p).1 (record {
+          rows = stream a t;
+          source_spill = source.spill t;
+          parts_spill = p;
+          of_source = rows_of t q;
+          of_parts = subst (λ (ts : List ℕ). AreJoined (λ slice. IsPlanResult nodes w.body (given (ins t) slice))
+              (tslices w.size w.advance ts (ticks_at line (leaf run leaves 0) t) (stream a t)) ys p) (times_are t)
+              (subst (λ (n : ℕ). AreJoined (λ slice. IsPlanResult nodes w.body (given (ins t) slice))
+              (tslices w.size w.advance (times_at line a t) n (stream a t)) ys p) (ticks_are t) as_given);
+          any = sym (or_none (source.spill t || p) ∙ ap (λ (b : Bool). b || p) (no_spill t q));
+        })
+
+  -- the back behind the copies
+  pub back_put : (old mid net new : Net) (tick : Bit) (leaves : List Wire) (front : Fronted) (copies : List Emitted) (e : Emitted)
+      → HaveLeaves old leaves (shape_of nodes w.id).leaves → IsTimeFrontOf nodes w old mid tick leaves front
+      → AreBodies nodes w.body mid net front.wires (length front.wires) copies → IsTimeBacked net new r tick front copies e
+      → IsPut nodes w.id old new (Some tick) leaves e
+  back_put old mid net new tick leaves front copies e leaved h bodies b =
+      let many : length front.wires ≡ c = h.fronts.as_many in
+      let are : AreBodies nodes w.body mid net front.wires c copies =
+      subst (λ (n : ℕ). AreBodies nodes w.body mid net front.wires n copies) many bodies in
+      let first = get_there copies 0 (omega (arith, one_in_time w.size w.advance, are.as_many)) in
+      let columns : columns_of copies ≡ widths_of (kinds_of nodes w.body) =
+      bodies_columns nodes w.body mid net front.wires copies bodies 0 first.0 first.1 in
+      let rear : CostsAtMost net new (cost_of_back c (widths_of (kinds_of nodes w.body))) =
+      subst (λ (cs : List ℕ). CostsAtMost net new (cost_of_back c cs)) columns b.cost in
+      let has : HasLeaf old leaves (Stream number kinds) = (subst (HaveLeaves old leaves) only_leaf leaved).0 in
+      record {
+        keeps = keeps_then old mid new h.keeps (keeps_then mid net new are.keeps b.keeps);
+        cost = time_window_cost nodes w plan at (columns_have_kinds nodes w.source plan in_source) (columns_have_kinds nodes w.body plan in_body)
+            old mid net new h.cost are.cost rear;
+        gives = rw (follows.shape, whole) (record {
+          wire = b.wire;
+          same_widths = b.same_widths ∙ columns;
+          lines = b.lines;
+          paced = λ run is. tt;
+          serving = λ run is beats spaced_beats fit.
+              let run_net = b.keeps.runs run is in
+              let run_mid = are.keeps.runs run run_net in
+              let here : HasLeaf mid leaves (Stream number kinds) = record {
+                wire = has.wire;
+                there = has.there;
+                is = wire_kept old mid has.wire h.keeps has.is;
+                same_widths = has.same_widths;
+              } in
+              let below = source mid run run_mid tick leaves front.source h.gives here beats spaced_beats fit in
+              let all = b.serves run is nodes w.body beats spaced_beats below.fits fit.ticks
+              (λ k l own. copies_serve nodes w.source w.body plan in_body fits.suits.0 mid net run front.wires c copies run_net are many k l own) in
+              let ins : ℕ → Inputs = inputs_at (line_of run (Some tick)) (leaf run leaves) (leaf run leaves 0) in
+              let own : Lines = lines_of_all (told_of run copies) c in
+              let lines : Lines = both_lines (lines_of run front.source.faults) own in
+              serving_lines (time_figures r) (λ t. IsPlanResult nodes w.id (ins t)) (lines_of run e.faults) lines beats (carried run e.wire) (b.told run is)
+              (serving_beside input_figures (time_figures r) (λ t. IsPlanResult nodes w.source (ins t)) _ (λ t. IsPlanResult nodes w.id (ins t))
+              (lines_of run front.source.faults) own beats (carried run front.source.wire) (carried run e.wire) below
+              (no_spill mid run run_mid tick leaves front.source h.gives here beats spaced_beats fit) all
+              (joined mid run run_mid tick leaves front.source h.gives here beats spaced_beats fit));
+        });
+      }
