@@ -124,7 +124,7 @@ fn print_line(rt: &HostRuntime, text: u128, number: u128) -> io::Result<()> {
 }
 
 /// Prints what such a row comes to.
-pub fn print_text(rt: &HostRuntime, kind: &str, text: &str) -> io::Result<()> {
+pub(crate) fn print_text(rt: &HostRuntime, kind: &str, text: &str) -> io::Result<()> {
     let (number, rest) = number_before(text);
     if kind == "line" {
         return print_line(rt, number.into(), number_before(rest).0.into());

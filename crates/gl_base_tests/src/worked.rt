@@ -231,7 +231,7 @@ fn refused_ticks()
 {}
 
 /// Calls each law and each worked row once. They do nothing.
-pub fn definitions() {
+pub(crate) fn definitions() {
     gl_schema::one_reading();
     gl_schema::pins_go_by_the_profile();
     gl_schema::rows_have_times();

@@ -170,7 +170,7 @@ fn push_figures(out: &mut String, f: &Figures) -> Result<(), AllocError> {
 }
 
 /// The lines of a plan's nodes, each with the figures at its place.
-pub fn shown(
+pub(crate) fn shown(
     alloc: Global,
     schema: &Schema,
     plan: &Plan,

@@ -246,7 +246,7 @@ fn text_answered(
 }
 
 /// What a text's statement answers over what comes in.
-pub fn answered(alloc: Global, given: &Given, text: &[u8]) -> Result<String, AllocError> {
+pub(crate) fn answered(alloc: Global, given: &Given, text: &[u8]) -> Result<String, AllocError> {
     match read_schema(alloc, given.schema.as_bytes()) {
         Ok(schema) => text_answered(alloc, &schema, given, text),
         Err(_) => String::from_str(alloc, "no schema"),

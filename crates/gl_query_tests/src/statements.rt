@@ -15,7 +15,7 @@ fn fault_told(alloc: Global, fault: &QueryFault) -> Result<String, AllocError> {
 }
 
 /// The fault of a text, or that it is read.
-pub fn read(alloc: Global, text: &[u8]) -> Result<String, AllocError> {
+pub(crate) fn read(alloc: Global, text: &[u8]) -> Result<String, AllocError> {
     match read_query(alloc, text) {
         Ok(_) => String::from_str(alloc, "read"),
         Err(fault) => fault_told(alloc, &fault),
@@ -34,7 +34,7 @@ fn front_told(alloc: Global, front: &[u8]) -> Result<String, AllocError> {
 }
 
 /// The answers to the fronts that end before a space, those of one answer together.
-pub fn fronts(alloc: Global, text: &[u8]) -> Result<String, AllocError> {
+pub(crate) fn fronts(alloc: Global, text: &[u8]) -> Result<String, AllocError> {
     let mut out = String::new(alloc);
     let mut last = String::new(alloc);
     for size in 0..text.len() {
@@ -73,7 +73,7 @@ fn join_told(alloc: Global, statement: &Statement) -> Result<String, AllocError>
 }
 
 /// Which join a text is, and of what.
-pub fn joined(alloc: Global, text: &[u8]) -> Result<String, AllocError> {
+pub(crate) fn joined(alloc: Global, text: &[u8]) -> Result<String, AllocError> {
     match read_query(alloc, text) {
         Ok(statement) => join_told(alloc, &statement),
         Err(fault) => fault_told(alloc, &fault),
@@ -95,7 +95,7 @@ fn judged(alloc: Global, schema: &Schema, text: &[u8]) -> Result<String, AllocEr
 }
 
 /// The fault of a text's statement over a schema, or that it is accepted.
-pub fn checked(alloc: Global, schema: &[u8], text: &[u8]) -> Result<String, AllocError> {
+pub(crate) fn checked(alloc: Global, schema: &[u8], text: &[u8]) -> Result<String, AllocError> {
     match read_schema(alloc, schema) {
         Ok(schema) => judged(alloc, &schema, text),
         Err(_) => String::from_str(alloc, "no schema"),
@@ -112,7 +112,7 @@ fn canonical(alloc: Global, statement: &Statement) -> Result<String, AllocError>
 }
 
 /// The canonical text of a text's statement.
-pub fn printed(alloc: Global, text: &[u8]) -> Result<String, AllocError> {
+pub(crate) fn printed(alloc: Global, text: &[u8]) -> Result<String, AllocError> {
     match read_query(alloc, text) {
         Ok(statement) => canonical(alloc, &statement),
         Err(fault) => fault_told(alloc, &fault),
@@ -120,7 +120,7 @@ pub fn printed(alloc: Global, text: &[u8]) -> Result<String, AllocError> {
 }
 
 /// The canonical text of a select with a condition.
-pub fn printed_with(alloc: Global, condition: &[u8]) -> Result<String, AllocError> {
+pub(crate) fn printed_with(alloc: Global, condition: &[u8]) -> Result<String, AllocError> {
     let condition = str::from_utf8(condition).unwrap_or("?");
     let text = format!(in alloc; "SELECT * FROM s WHERE {condition} INTO r")?;
     printed(alloc, text.as_bytes())

@@ -10,7 +10,7 @@ fn small_of(text: &str) -> u8 {
 }
 
 /// A kind; one without bits, which is none, where the text names none.
-pub fn kind_of(text: &str) -> Kind {
+pub(crate) fn kind_of(text: &str) -> Kind {
     match (text.strip_prefix("text"), text.strip_prefix("s")) {
         (Some(bytes), _) => Kind::Text(small_of(bytes)),
         (None, Some(width)) => Kind::Signed(small_of(width)),
@@ -45,7 +45,7 @@ fn number_of(kind: Kind, text: &str) -> u128 {
 }
 
 /// A value of a kind; 0 where the text tells none.
-pub fn value_of(kind: Kind, text: &str) -> u128 {
+pub(crate) fn value_of(kind: Kind, text: &str) -> u128 {
     match kind {
         Kind::Text(bytes) => letters_of(text.trim_matches('\''), bytes),
         Kind::Unsigned(_) | Kind::Signed(_) => number_of(kind, text),
@@ -65,7 +65,11 @@ fn push_number(out: &mut String, kind: Option<Kind>, value: u128) -> Result<(), 
 }
 
 /// Adds a value: the letters of a text, else a number.
-pub fn push_value(out: &mut String, kind: Option<Kind>, value: u128) -> Result<(), AllocError> {
+pub(crate) fn push_value(
+    out: &mut String,
+    kind: Option<Kind>,
+    value: u128,
+) -> Result<(), AllocError> {
     let Some(Kind::Text(_)) = kind else {
         return push_number(out, kind, value);
     };
