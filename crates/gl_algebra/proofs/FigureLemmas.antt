@@ -1,20 +1,20 @@
 -- The figures of the nodes of a plan.
 use Rattle.std.proofs.Common.{◌≡◌, ℕ, zero, suc, ◌+◌, ◌*◌, ◌<◌, ◌≤◌, true, false, cond, ◌&&◌, IsTrue, List, slice_get, All, refl, ap, subst, arith, lit<}
-use Rattle.std.proofs.Math.Nat.{zero-mul}
+use Rattle.std.proofs.Math.Nat.{mul-pos, zero-mul}
 use Rattle.std.proofs.lemmas.Grind.{div_ceil_times}
 use Rattle.gl_algebra.specs.declared.figures.Figures.{Figures}
 use Rattle.gl_algebra.specs.declared.node.PlanNode.{PlanNode}
-use Rattle.gl_algebra.specs.declared.node.PlanNode.TheVariants.{Stream, Body, Compute, Select, Project, Aggregate, Union, Beside, Window, TimeWindow, Group}
+use Rattle.gl_algebra.specs.declared.node.PlanNode.TheVariants.{Stream, Body, Compute, Select, Project, Aggregate, Union, Beside, Window, TimeWindow, Group, Partition}
 use Rattle.gl_algebra.specs.Nodewise.{named_by}
 use Rattle.gl_algebra.specs.Shapes.{Shape, shape_from, shape_of, is_closing}
-use Rattle.gl_algebra.specs.Views.{copies_of_time, copies_of_window}
+use Rattle.gl_algebra.specs.Views.{copies_of_time, copies_of_window, copies_of_partition}
 use Rattle.gl_algebra.specs.FigureTable.{IsSound, input_figures, settled, delayed, last_of, wait_of, delay_of_aggs, window_gap, group_gap, needs_spacer, spacer_figures, spaced, is_fixed, in_step, at_end, joined, figures_from, figures_of}
 use Rattle.gl_algebra.specs.Laws.{RowsKeepSound, FiguresAreSound, ClosingNodesWait}
 use Rattle.gl_bits.proofs.Bools.{and_parts}
 use Rattle.gl_algebra.proofs.NodewiseLemmas.{Agree, AreInOrder, SameSteps, agree, agree_self, nodewise-kept, nodewise-node, FollowsRow}
 use Rattle.gl_algebra.proofs.ShapeLemmas.{shape-kept, shape-node}
 use Rattle.gl_algebra.proofs.PlanLemmas.{in_order, by_nodes}
-use Rattle.gl_algebra.proofs.SoundLemmas.{settled_sound, delayed_sound, aggregate_sound, merged_sound, joined_sound, spaced_sound, windows_sound, groups_sound}
+use Rattle.gl_algebra.proofs.SoundLemmas.{settled_sound, delayed_sound, aggregate_sound, merged_sound, joined_sound, spaced_sound, windows_sound, groups_sound, partitions_sound}
 
 -- figures follow from the shapes and figures of the nodes that a node names
 pub figures_local : (s t : ℕ → Shape) (v w : ℕ → Figures) (node : PlanNode) → Agree s t (named_by node) → Agree v w (named_by node)
@@ -30,6 +30,7 @@ figures_local s t v w (Beside left right) g h = rw (h.0, h.1.0)
 figures_local s t v w (Window source body size advance) g h = rw (h.0, h.1.0)
 figures_local s t v w (TimeWindow source body size advance) g h = rw (h.0, h.1.0)
 figures_local s t v w (Group source body key groups) g h = rw (h.0, h.1.0)
+figures_local s t v w (Partition source body key groups size advance) g h = rw (h.0, h.1.0)
 
 -- where tuples come without the end, the last cycle is the last
 pub last_of-some : (n first last : ℕ) → 1 ≤ n → last_of n first last ≡ last
@@ -54,6 +55,10 @@ one_copy size advance h g =
 
 pub one_in_time : (size advance : ℕ) → 1 ≤ copies_of_time size advance
 one_in_time size advance = omega arith
+
+-- and so have windows of each key
+pub some_copies : (groups size advance : ℕ) → 1 ≤ groups → 1 ≤ size → 1 ≤ advance → 1 ≤ copies_of_partition groups size advance
+some_copies groups size advance some h g = mul-pos some (one_copy size advance h g)
 
 input_sound : IsSound input_figures
 input_sound = record {
@@ -94,6 +99,11 @@ rows_keep_sound s f (TimeWindow source body size advance) suits sound =
 rows_keep_sound s f (Group source body key groups) suits sound =
     groups_sound groups (spaced (group_gap (f body)) (f source)) (f body) suits.2.least
     (spaced_sound (group_gap (f body)) (f source) (sound 0 0 (lit< tt)))
+    (sound 1 0 (lit< tt))
+rows_keep_sound s f (Partition source body key groups size advance) suits sound =
+    partitions_sound (copies_of_partition groups size advance) (spaced (window_gap (f body)) (f source)) (f body)
+    (some_copies groups size advance suits.2.least suits.3.least suits.4.least)
+    (spaced_sound (window_gap (f body)) (f source) (sound 0 0 (lit< tt)))
     (sound 1 0 (lit< tt))
 
 -- the step of the table in a list
@@ -155,6 +165,8 @@ rows_wait s f (Window source body size advance) wait closing =
     rw (spaced-nt (window_gap (f body)) (f source), wait 0 0 (lit< tt) closing) (zero-mul (f body).ne)
 rows_wait s f (TimeWindow source body size advance) wait closing = absurd (cc)
 rows_wait s f (Group source body key groups) wait closing = refl
+rows_wait s f (Partition source body key groups size advance) wait closing =
+    rw (spaced-nt (window_gap (f body)) (f source), wait 0 0 (lit< tt) closing) (zero-mul (f body).ne)
 
 pub closing_nodes_wait : ClosingNodesWait
 closing_nodes_wait nodes number plan within =

@@ -12,7 +12,7 @@ use Rattle.gl_algebra.specs.declared.node.Operand.TheVariants.{Column, Literal}
 use Rattle.gl_algebra.specs.declared.node.PlanAgg.{PlanAgg}
 use Rattle.gl_algebra.specs.declared.node.PlanAgg.TheVariants.{Count, Sum, Min, Max, Avg, Wsum}
 use Rattle.gl_algebra.specs.declared.node.PlanNode.{PlanNode}
-use Rattle.gl_algebra.specs.declared.node.PlanNode.TheVariants.{Stream, Body, Compute, Select, Project, Aggregate, Union, Beside, Window, TimeWindow, Group}
+use Rattle.gl_algebra.specs.declared.node.PlanNode.TheVariants.{Stream, Body, Compute, Select, Project, Aggregate, Union, Beside, Window, TimeWindow, Group, Partition}
 use Rattle.gl_algebra.specs.Columns.{bit_kind, kind_of_column, kind_of_operand, kind_of_op, kind_of_agg, OperandFits, OpFits, AggFits}
 use Rattle.gl_algebra.specs.Fits.{Suits}
 use Rattle.gl_algebra.specs.Laws.{ColumnsHaveKinds}
@@ -64,6 +64,9 @@ row_is s (Beside left right) suits are =
 row_is s (Window source body size advance) suits are = are 1 0 (lit< tt)
 row_is s (TimeWindow source body size advance) suits are = are 1 0 (lit< tt)
 row_is s (Group source body key groups) suits are =
+    All-cons IsKind (kind_of_column (s source).kinds key) (s body).kinds
+    (are 0 0 (lit< tt) key bit_kind suits.1) (are 1 0 (lit< tt))
+row_is s (Partition source body key groups size advance) suits are =
     All-cons IsKind (kind_of_column (s source).kinds key) (s body).kinds
     (are 0 0 (lit< tt) key bit_kind suits.1) (are 1 0 (lit< tt))
 

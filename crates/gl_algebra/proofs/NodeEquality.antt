@@ -28,7 +28,7 @@ use Rattle.gl_algebra.specs.declared.node.PlanAgg.TheVariants.{Count, Sum, Min, 
 use Rattle.gl_algebra.specs.contracts.node.PlanAggPartialEq.TheImpl as OfPlanAgg
 use Rattle.gl_algebra.specs.contracts.node.PlanAggEq.TheImpl.Laws as PlanAggLaws
 use Rattle.gl_algebra.specs.declared.node.PlanNode.{PlanNode}
-use Rattle.gl_algebra.specs.declared.node.PlanNode.TheVariants.{Stream, Body, Compute, Select, Project, Aggregate, Union, Beside, Window, TimeWindow, Group}
+use Rattle.gl_algebra.specs.declared.node.PlanNode.TheVariants.{Stream, Body, Compute, Select, Project, Aggregate, Union, Beside, Window, TimeWindow, Group, Partition}
 use Rattle.gl_algebra.specs.contracts.node.PlanNodeEq.TheImpl.Laws as PlanNodeLaws
 
 -- a test that holds of one thing alone, and of each thing and itself, decides
@@ -145,6 +145,14 @@ same_node-is (Group a b m n) (Group c d p q) h =
     let second = and_parts (nat_eq b d) (nat_eq m p && nat_eq n q) first.1 in
     let third = and_parts (nat_eq m p) (nat_eq n q) second.1 in
     λ i. Group (number a c first.0 i) (number b d second.0 i) (number m p third.0 i) (number n q third.1 i)
+same_node-is (Partition a b k g m n) (Partition c d l i p q) h =
+    let sources = and_parts (nat_eq a c) (nat_eq b d && (nat_eq k l && (nat_eq g i && (nat_eq m p && nat_eq n q)))) h in
+    let bodies = and_parts (nat_eq b d) (nat_eq k l && (nat_eq g i && (nat_eq m p && nat_eq n q))) sources.1 in
+    let keys = and_parts (nat_eq k l) (nat_eq g i && (nat_eq m p && nat_eq n q)) bodies.1 in
+    let counts = and_parts (nat_eq g i) (nat_eq m p && nat_eq n q) keys.1 in
+    let rows = and_parts (nat_eq m p) (nat_eq n q) counts.1 in
+    λ j. Partition (number a c sources.0 j) (number b d bodies.0 j) (number k l keys.0 j) (number g i counts.0 j)
+    (number m p rows.0 j) (number n q rows.1 j)
 same_node-is _ _ h = absurd (never h)
 
 -- and each node passes it with itself

@@ -3,7 +3,7 @@ use Rattle.std.proofs.Common.{◌≡◌, ℕ, zero, suc, true, false, ◌&&◌, 
 use Rattle.std.proofs.lemmas.Bool.{eq-eqb}
 use Rattle.gl_algebra.specs.declared.figures.Figures.{Figures}
 use Rattle.gl_algebra.specs.declared.node.PlanNode.{PlanNode}
-use Rattle.gl_algebra.specs.declared.node.PlanNode.TheVariants.{Stream, Body, Compute, Select, Project, Aggregate, Union, Beside, Window, TimeWindow, Group}
+use Rattle.gl_algebra.specs.declared.node.PlanNode.TheVariants.{Stream, Body, Compute, Select, Project, Aggregate, Union, Beside, Window, TimeWindow, Group, Partition}
 use Rattle.gl_algebra.specs.FigureTable.{delayed, settled, last_of, is_fixed, in_step, at_end, joined, wait_of, beside_figures, figures_from, figures_of}
 use Rattle.gl_algebra.specs.Fits.{Suits}
 use Rattle.gl_algebra.specs.Laws.{IsFixed, IsOnce, PaceFixes, PacesFixFigures}
@@ -98,6 +98,7 @@ row_paced shapes figures (Beside left right) suits h =
 row_paced shapes figures (Window source body size advance) suits h = tt
 row_paced shapes figures (TimeWindow source body size advance) suits h = tt
 row_paced shapes figures (Group source body key groups) suits h = tt
+row_paced shapes figures (Partition source body key groups size advance) suits h = tt
 
 pub pace_fixed : PacesFixFigures
 pace_fixed nodes number plan within =

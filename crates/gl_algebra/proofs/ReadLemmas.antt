@@ -4,7 +4,7 @@ use Rattle.std.proofs.lemmas.Bool.{false_from_ne_true}
 use Rattle.gl_bits.specs.declared.kind.Kind.{Kind}
 use Rattle.gl_bits.specs.Lists.{slices, Group as GroupOf, IsInterleaving}
 use Rattle.gl_algebra.specs.declared.node.PlanNode.{PlanNode}
-use Rattle.gl_algebra.specs.declared.node.PlanNode.TheVariants.{Stream, Body, Compute, Select, Project, Aggregate, Union, Beside, Window, TimeWindow, Group}
+use Rattle.gl_algebra.specs.declared.node.PlanNode.TheVariants.{Stream, Body, Compute, Select, Project, Aggregate, Union, Beside, Window, TimeWindow, Group, Partition}
 use Rattle.gl_algebra.specs.Fits.{IsOverStream, IsPlan, Suits}
 use Rattle.gl_algebra.specs.Laws.{BodiesReadTheirInput, HaveSameRows, UntimedResults}
 use Rattle.gl_algebra.specs.Nodewise.{named_by}
@@ -107,6 +107,11 @@ row_reads s m (Group source body key count) suits timed reads kinds leaves input
     (reads 0 0 (lit< tt) kinds leaves inputs others same)
     (λ (group : GroupOf Row). changed_within _ _ _
     (reads 1 0 (lit< tt) (s source).kinds suits.0.leaves (given inputs group.rows) (given others group.rows) refl))
+row_reads s m (Partition source body key count size advance) suits timed reads kinds leaves inputs others same =
+    parts_within _ _ _ (IsOfGroup (λ rows. m body (given inputs rows))) (IsOfGroup (λ rows. m body (given others rows))) _
+    (reads 0 0 (lit< tt) kinds leaves inputs others same)
+    (λ (group : GroupOf Row). changed_within _ _ _
+    (reads 1 0 (lit< tt) (s source).kinds suits.0.leaves (given inputs group.rows) (given others group.rows) refl))
 
 pub body_reads : BodiesReadTheirInput
 body_reads nodes number plan within =
@@ -141,6 +146,11 @@ row_untimed s m (Window source body size advance) none each inputs others same =
     (λ slice. each 1 0 (lit< tt) (given inputs slice) (given others slice) (record { streams = same.streams; body = refl }))
 row_untimed s m (TimeWindow source body size advance) none each inputs others same = absurd (let z : true ≡ false = none in cc)
 row_untimed s m (Group source body key count) none each inputs others same =
+    parts_within _ _ _ (IsOfGroup (λ rows. m body (given inputs rows))) (IsOfGroup (λ rows. m body (given others rows))) _
+    (each 0 0 (lit< tt) inputs others same)
+    (λ (group : GroupOf Row). changed_within _ _ _
+    (each 1 0 (lit< tt) (given inputs group.rows) (given others group.rows) (record { streams = same.streams; body = refl })))
+row_untimed s m (Partition source body key count size advance) none each inputs others same =
     parts_within _ _ _ (IsOfGroup (λ rows. m body (given inputs rows))) (IsOfGroup (λ rows. m body (given others rows))) _
     (each 0 0 (lit< tt) inputs others same)
     (λ (group : GroupOf Row). changed_within _ _ _

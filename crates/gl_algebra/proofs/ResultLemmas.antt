@@ -3,7 +3,8 @@ use Rattle.std.proofs.Common.{◌≡◌, ℕ, ◌<◌, Bool, false, List, map, s
 use Rattle.gl_bits.specs.Lists.{slices, groups, has_further, IsInterleaving}
 use Rattle.gl_bits.specs.Times.{tslices}
 use Rattle.gl_algebra.specs.declared.node.PlanNode.{PlanNode}
-use Rattle.gl_algebra.specs.declared.node.PlanNode.TheVariants.{Stream, Body, Compute, Select, Project, Aggregate, Union, Beside, Window, TimeWindow, Group}
+use Rattle.gl_algebra.specs.declared.node.PlanNode.TheVariants.{Stream, Body, Compute, Select, Project, Aggregate, Union, Beside, Window, TimeWindow, Group, Partition}
+use Rattle.gl_bits.specs.Partitions.{parts}
 use Rattle.gl_algebra.specs.Nodewise.{named_by}
 use Rattle.gl_algebra.specs.Shapes.{Shape, shape_of}
 use Rattle.gl_bits.specs.Results.{Row, IsChanged, IsOfBoth, IsOfParts, IsOfGroup, AreBeside}
@@ -29,6 +30,9 @@ meaning_local s t v w (TimeWindow source body size advance) g h = λ i inputs.
     (λ slice. h.1.0 i (given inputs slice)) (λ rows. false)
 meaning_local s t v w (Group source body key count) g h = λ i inputs.
     IsOfParts (h.0 i inputs) (groups count (λ row. slice_index row key))
+    (IsOfGroup (λ rows. h.1.0 i (given inputs rows))) (has_further count (λ row. slice_index row key))
+meaning_local s t v w (Partition source body key count size advance) g h = λ i inputs.
+    IsOfParts (h.0 i inputs) (parts count (λ row. slice_index row key) size advance)
     (IsOfGroup (λ rows. h.1.0 i (given inputs rows))) (has_further count (λ row. slice_index row key))
 
 pub meaning_steps : (nodes : List PlanNode) (limit : ℕ) → SameSteps (meaning_from (shape_of nodes)) (meaning_from (shape_of nodes)) nodes limit

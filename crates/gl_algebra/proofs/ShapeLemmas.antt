@@ -1,7 +1,7 @@
 -- Shapes and fitting: later nodes change neither.
 use Rattle.std.proofs.Common.{◌≡◌, ℕ, ◌<◌, ◌≤◌, List, Some, slice_get, All, refl, ap, ◌∙◌, subst, arith, lit<}
 use Rattle.gl_algebra.specs.declared.node.PlanNode.{PlanNode}
-use Rattle.gl_algebra.specs.declared.node.PlanNode.TheVariants.{Stream, Body, Compute, Select, Project, Aggregate, Union, Beside, Window, TimeWindow, Group}
+use Rattle.gl_algebra.specs.declared.node.PlanNode.TheVariants.{Stream, Body, Compute, Select, Project, Aggregate, Union, Beside, Window, TimeWindow, Group, Partition}
 use Rattle.gl_algebra.specs.Columns.{bit_kind, OpFits, OperandFits, AggFits}
 use Rattle.gl_algebra.specs.Nodewise.{named_by}
 use Rattle.gl_algebra.specs.Shapes.{Shape, no_shape, shape_from, shape_of}
@@ -22,6 +22,7 @@ module _ (s t : ℕ → Shape) where
   shape_local (Window source body size advance) h = rw (h.0, h.1.0)
   shape_local (TimeWindow source body size advance) h = rw (h.0, h.1.0)
   shape_local (Group source body key groups) h = rw (h.0, h.1.0)
+  shape_local (Partition source body key groups size advance) h = rw (h.0, h.1.0)
 
   -- so does whether it suits them
   pub suits_local : (node : PlanNode) → Agree s t (named_by node) → Suits s node → Suits t node
@@ -36,6 +37,7 @@ module _ (s t : ℕ → Shape) where
   suits_local (Window source body size advance) h suits = rw (← h.0, ← h.1.0) suits
   suits_local (TimeWindow source body size advance) h suits = rw (← h.0, ← h.1.0) suits
   suits_local (Group source body key groups) h suits = rw (← h.0, ← h.1.0) suits
+  suits_local (Partition source body key groups size advance) h suits = rw (← h.0, ← h.1.0) suits
 
 pub shape_steps : (nodes : List PlanNode) (limit : ℕ) → SameSteps shape_from shape_from nodes limit
 shape_steps nodes limit number node below is v w same = shape_local v w node same

@@ -4,7 +4,7 @@ use Rattle.std.proofs.Math.Nat.{mul-le-mul_right, mul-pos}
 use borrow.Author.Tests.{ltb-true}
 use Rattle.gl_bits.proofs.Bools.{and_left, by_cases}
 use Rattle.gl_algebra.specs.declared.figures.Figures.{Figures}
-use Rattle.gl_algebra.specs.FigureTable.{IsSound, last_of, settled, delayed, aggregate_figures, merged, is_fixed, in_step, at_end, joined, spacer_figures, spaced, needs_spacer, windows_over, groups_over}
+use Rattle.gl_algebra.specs.FigureTable.{IsSound, last_of, settled, delayed, aggregate_figures, merged, is_fixed, in_step, at_end, joined, spacer_figures, spaced, needs_spacer, windows_over, groups_over, partitions_over}
 
 -- the last cycle lies between the first and the one without the rule for no tuples
 last_of-least : (tuples first last : ℕ) → first ≤ last → first ≤ last_of tuples first last
@@ -147,3 +147,17 @@ groups_sound groups f s some sound sound' = record {
   end_gap = omega arith;
   gaps = omega arith;
 }
+
+pub partitions_sound : (copies : ℕ) (f s : Figures) → 1 ≤ copies → IsSound f → IsSound s → IsSound (partitions_over copies f s)
+partitions_sound copies f s some sound sound' =
+    let least = last_of-least (f.nt * s.ne) (f.a + s.a + 2) (f.lt + s.le + 2) (omega arith) in
+    let most = last_of-most (f.nt * s.ne) (f.a + s.a + 2) (f.lt + s.le + 2) (omega arith) in
+    record {
+      tuples_last = least;
+      end_last = omega arith;
+      tuples = mul-le-mul_right s.ne (omega arith);
+      some = mul-pos (omega arith) sound'.some;
+      tuples_gap = omega arith;
+      end_gap = omega arith;
+      gaps = omega arith;
+    }

@@ -2,7 +2,7 @@
 use Rattle.std.proofs.Common.{◌≡◌, ℕ, ◌<◌, List, ◌++◌, length, Some, slice_get, refl, sym, arith}
 use Rattle.gl_algebra.specs.declared.figures.Figures.{Figures}
 use Rattle.gl_algebra.specs.declared.node.PlanNode.{PlanNode}
-use Rattle.gl_algebra.specs.declared.node.PlanNode.TheVariants.{Stream, Body, Compute, Select, Project, Aggregate, Union, Beside, Window, TimeWindow, Group}
+use Rattle.gl_algebra.specs.declared.node.PlanNode.TheVariants.{Stream, Body, Compute, Select, Project, Aggregate, Union, Beside, Window, TimeWindow, Group, Partition}
 use Rattle.gl_algebra.specs.FigureTable.{figures_of}
 use Rattle.gl_algebra.specs.Laws.{NodesFollowTables, EarlierNodesAreKept}
 use Rattle.gl_algebra.specs.Nodewise.{named_by}
@@ -32,6 +32,7 @@ weight_local s t f g v w (Beside left right) a b c = rw (a.0, a.1.0, b.0, b.1.0,
 weight_local s t f g v w (Window source body size advance) a b c = rw (a.0, a.1.0, b.0, b.1.0, c.0, c.1.0)
 weight_local s t f g v w (TimeWindow source body size advance) a b c = rw (a.0, a.1.0, b.0, b.1.0, c.0, c.1.0)
 weight_local s t f g v w (Group source body key groups) a b c = rw (a.0, a.1.0, b.0, b.1.0, c.0, c.1.0)
+weight_local s t f g v w (Partition source body key groups size advance) a b c = rw (a.0, a.1.0, b.0, b.1.0, c.0, c.1.0)
 
 copies_local : (v w : ℕ → ℕ) (node : PlanNode) → Agree v w (named_by node) → copies_from v node ≡ copies_from w node
 copies_local v w (Stream number kinds) h = refl
@@ -45,6 +46,7 @@ copies_local v w (Beside left right) h = rw (h.0, h.1.0)
 copies_local v w (Window source body size advance) h = rw (h.0, h.1.0)
 copies_local v w (TimeWindow source body size advance) h = rw (h.0, h.1.0)
 copies_local v w (Group source body key groups) h = rw (h.0, h.1.0)
+copies_local v w (Partition source body key groups size advance) h = rw (h.0, h.1.0)
 
 lean_local : (s : ℕ → Shape) (f : ℕ → Figures) (o : ℕ → Form) (v w : ℕ → ℕ) (node : PlanNode) → Agree v w (named_by node)
     → lean_from s f o v node ≡ lean_from s f o w node
@@ -59,6 +61,7 @@ lean_local s f o v w (Beside left right) h = rw (h.0, h.1.0)
 lean_local s f o v w (Window source body size advance) h = rw (h.0, h.1.0)
 lean_local s f o v w (TimeWindow source body size advance) h = rw (h.0, h.1.0)
 lean_local s f o v w (Group source body key groups) h = rw (h.0, h.1.0)
+lean_local s f o v w (Partition source body key groups size advance) h = rw (h.0, h.1.0)
 
 form_local : (s : ℕ → Shape) (v w : ℕ → Form) (node : PlanNode) → Agree v w (named_by node) → form_from s v node ≡ form_from s w node
 form_local s v w (Stream number kinds) h = refl
@@ -72,6 +75,7 @@ form_local s v w (Beside left right) h = refl
 form_local s v w (Window source body size advance) h = refl
 form_local s v w (TimeWindow source body size advance) h = refl
 form_local s v w (Group source body key groups) h = refl
+form_local s v w (Partition source body key groups size advance) h = refl
 
 keys_local : (s : ℕ → Shape) (o : ℕ → Form) (v w : ℕ → ℕ) (node : PlanNode) → Agree v w (named_by node) → keys_from s o v node ≡ keys_from s o w node
 keys_local s o v w (Stream number kinds) h = refl
@@ -85,6 +89,7 @@ keys_local s o v w (Beside left right) h = rw (h.0, h.1.0)
 keys_local s o v w (Window source body size advance) h = rw (h.0, h.1.0)
 keys_local s o v w (TimeWindow source body size advance) h = rw (h.0, h.1.0)
 keys_local s o v w (Group source body key groups) h = rw (h.0, h.1.0)
+keys_local s o v w (Partition source body key groups size advance) h = rw (h.0, h.1.0)
 
 store_local : (s : ℕ → Shape) (f : ℕ → Figures) (o : ℕ → Form) (v w : ℕ → ℕ) (node : PlanNode) → Agree v w (named_by node)
     → store_from s f o v node ≡ store_from s f o w node
@@ -99,6 +104,7 @@ store_local s f o v w (Beside left right) h = rw (h.0, h.1.0)
 store_local s f o v w (Window source body size advance) h = rw (h.0, h.1.0)
 store_local s f o v w (TimeWindow source body size advance) h = rw (h.0, h.1.0)
 store_local s f o v w (Group source body key groups) h = rw (h.0, h.1.0)
+store_local s f o v w (Partition source body key groups size advance) h = rw (h.0, h.1.0)
 
 module _ (nodes : List PlanNode) (limit : ℕ) (order : AreInOrder nodes limit) (number : ℕ) (node : PlanNode)
     (below : number < limit) (is : slice_get nodes number ≡ Some node) where

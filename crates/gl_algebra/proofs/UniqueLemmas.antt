@@ -3,7 +3,8 @@ use Rattle.std.proofs.Common.{◌≡◌, ℕ, suc, ◌<◌, Bool, false, ◌||�
 use Rattle.gl_bits.specs.Lists.{slices, groups, Group as GroupOf, has_further}
 use Rattle.gl_bits.specs.Times.{tslices}
 use Rattle.gl_algebra.specs.declared.node.PlanNode.{PlanNode}
-use Rattle.gl_algebra.specs.declared.node.PlanNode.TheVariants.{Stream, Body, Compute, Select, Project, Aggregate, Union, Beside, Window, TimeWindow, Group}
+use Rattle.gl_algebra.specs.declared.node.PlanNode.TheVariants.{Stream, Body, Compute, Select, Project, Aggregate, Union, Beside, Window, TimeWindow, Group, Partition}
+use Rattle.gl_bits.specs.Partitions.{parts}
 use Rattle.gl_algebra.specs.Laws.{has_union_from, has_union, ResultsAreUnique}
 use Rattle.gl_algebra.specs.Nodewise.{named_by}
 use Rattle.gl_algebra.specs.Shapes.{Shape, shape_of}
@@ -53,6 +54,13 @@ rows_one s m u (Group source body key count) one none inputs =
     (one 0 0 (lit< tt) sides.0 inputs)
     (λ (group : GroupOf Row). one_changed (m body (given inputs group.rows)) (map (λ row. group.key ∷ row))
     (one 1 0 (lit< tt) sides.1 (given inputs group.rows)))
+rows_one s m u (Partition source body key count size advance) one none inputs =
+    let sides = none_of_two (u source) (u body) none in
+    one_of_parts (m source inputs) (parts count (λ row. slice_index row key) size advance)
+    (IsOfGroup (λ rows. m body (given inputs rows))) (has_further count (λ row. slice_index row key))
+    (one 0 0 (lit< tt) sides.0 inputs)
+    (λ (group : GroupOf Row). one_changed (m body (given inputs group.rows)) (map (λ row. group.key ∷ row))
+    (one 1 0 (lit< tt) sides.1 (given inputs group.rows)))
 
 union_local : (v w : ℕ → Bool) (node : PlanNode) → Agree v w (named_by node) → has_union_from v node ≡ has_union_from w node
 union_local v w (Stream number kinds) h = refl
@@ -66,6 +74,7 @@ union_local v w (Beside left right) h = λ i. h.0 i || (h.1.0 i || false)
 union_local v w (Window source body size advance) h = λ i. h.0 i || (h.1.0 i || false)
 union_local v w (TimeWindow source body size advance) h = λ i. h.0 i || (h.1.0 i || false)
 union_local v w (Group source body key count) h = λ i. h.0 i || (h.1.0 i || false)
+union_local v w (Partition source body key count size advance) h = λ i. h.0 i || (h.1.0 i || false)
 
 union-node : FollowsRow has_union (λ nodes. has_union_from)
 unfolding has_union

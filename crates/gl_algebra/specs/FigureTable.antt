@@ -4,13 +4,13 @@ use Rattle.gl_bits.specs.Kinds.{width_of}
 use Rattle.gl_bits.specs.declared.kind.Kind.{Kind}
 use Rattle.gl_algebra.specs.declared.figures.Figures.{Figures}
 use Rattle.gl_algebra.specs.declared.node.PlanNode.{PlanNode}
-use Rattle.gl_algebra.specs.declared.node.PlanNode.TheVariants.{Stream, Body, Compute, Select, Project, Aggregate, Union, Beside, Window, TimeWindow, Group}
+use Rattle.gl_algebra.specs.declared.node.PlanNode.TheVariants.{Stream, Body, Compute, Select, Project, Aggregate, Union, Beside, Window, TimeWindow, Group, Partition}
 use Rattle.gl_algebra.specs.declared.node.PlanAgg.{PlanAgg}
 use Rattle.gl_algebra.specs.declared.node.PlanAgg.TheVariants.{Count, Sum, Min, Max, Avg, Wsum}
 use Rattle.gl_algebra.specs.Columns.{kind_of_operand}
 use Rattle.gl_algebra.specs.Nodewise.{nodewise}
 use Rattle.gl_algebra.specs.Shapes.{Shape, shape_of}
-use Rattle.gl_algebra.specs.Views.{copies_of_time, copies_of_window}
+use Rattle.gl_algebra.specs.Views.{copies_of_time, copies_of_window, copies_of_partition}
 
 -- sound figures: intervals end after they begin, those of two beats never overlap, and after a beat with the end there
 -- is room for a tuple and the gap is no less than after a beat without it
@@ -180,6 +180,7 @@ abbrev pub gap_in : (ℕ → Figures) → PlanNode → ℕ
 gap_in figures (Window source body size advance) = window_gap (figures body)
 gap_in figures (TimeWindow source body size advance) = window_gap (figures body)
 gap_in figures (Group source body key groups) = group_gap (figures body)
+gap_in figures (Partition source body key groups size advance) = window_gap (figures body)
 gap_in figures node = 0
 
 -- windows of this many copies, over a source that is spaced already. Windows of time are over a stream: a beat brings
@@ -215,6 +216,24 @@ groups_over groups f body = record {
 abbrev pub group_figures : ℕ → Figures → Figures → Figures
 group_figures groups f body = groups_over groups (spaced (group_gap body) f) body
 
+-- windows of each key, of this many copies for all keys, over a source that is spaced already: after the end of a stream
+-- each copy has a turn, behind one for the window that the last row completes; the next stream finds all slots free
+abbrev pub partitions_over : ℕ → Figures → Figures → Figures
+partitions_over copies f body =
+    let a = f.a + body.a + 2 in
+    record {
+      a = a;
+      lt = last_of (f.nt * body.ne) a (f.lt + body.le + 2);
+      le = f.le + body.le + copies * stride_of body + 3;
+      nt = f.nt * body.ne;
+      ne = (max f.ne 1 - 1 + copies) * body.ne;
+      gt = max f.gt (f.lt - f.a + window_gap body);
+      ge = max f.ge (f.le - f.a + (copies * stride_of body + max body.ge (body.le + 2) + 1));
+    }
+
+abbrev pub partition_figures : ℕ → Figures → Figures → Figures
+partition_figures copies f body = partitions_over copies (spaced (window_gap body) f) body
+
 -- the table: a node's figures, from those of the nodes that it names, whose shapes tell the widths of averages
 abbrev pub figures_from : (ℕ → Shape) → (ℕ → Figures) → PlanNode → Figures
 figures_from shapes figures (Stream number kinds) = input_figures
@@ -232,6 +251,8 @@ figures_from shapes figures (TimeWindow source body size advance) =
     window_figures (copies_of_time size advance) (figures source) (figures body)
 figures_from shapes figures (Group source body key groups) =
     group_figures groups (figures source) (figures body)
+figures_from shapes figures (Partition source body key groups size advance) =
+    partition_figures (copies_of_partition groups size advance) (figures source) (figures body)
 
 -- the figures of a node
 unfoldable pub figures_of : List PlanNode → ℕ → Figures

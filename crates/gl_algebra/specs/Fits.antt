@@ -1,14 +1,14 @@
 -- When a node fits a plan, and what a plan is.
 use Rattle.std.specs.Prelude.{ℕ, ◌≡◌, ◌≢◌, ◌<◌, ◌≤◌, List, length, slice_get, Some, All, IsTrue}
-use Rattle.gl_bits.specs.Limits.{most_copies, most_groups, most_rows}
+use Rattle.gl_bits.specs.Limits.{most_copies, most_groups, most_rows, most_windows}
 use Rattle.gl_bits.specs.Kinds.{IsKind}
 use Rattle.gl_bits.specs.declared.kind.Kind.{Kind}
 use Rattle.gl_algebra.specs.declared.node.PlanNode.{PlanNode}
-use Rattle.gl_algebra.specs.declared.node.PlanNode.TheVariants.{Stream, Body, Compute, Select, Project, Aggregate, Union, Beside, Window, TimeWindow, Group}
+use Rattle.gl_algebra.specs.declared.node.PlanNode.TheVariants.{Stream, Body, Compute, Select, Project, Aggregate, Union, Beside, Window, TimeWindow, Group, Partition}
 use Rattle.gl_algebra.specs.Columns.{bit_kind, OperandFits, OpFits, AggFits}
 use Rattle.gl_algebra.specs.Nodewise.{named_by}
 use Rattle.gl_algebra.specs.Shapes.{Shape, unsteady, shape_of, kinds_of}
-use Rattle.gl_algebra.specs.Views.{copies_of_time, copies_of_window}
+use Rattle.gl_algebra.specs.Views.{copies_of_time, copies_of_window, copies_of_partition}
 
 -- a number from 1 to a limit
 pub record IsWithin (limit number : ℕ) : Type 0 where
@@ -39,6 +39,11 @@ Suits shapes (TimeWindow source body size advance) =
 Suits shapes (Group source body key groups) =
     IsBodyFor (shapes source) (shapes body)
     × (key < length (shapes source).kinds) × IsWithin most_groups groups
+Suits shapes (Partition source body key groups size advance) =
+    IsBodyFor (shapes source) (shapes body)
+    × (key < length (shapes source).kinds) × IsWithin most_groups groups
+    × IsWithin most_rows size × IsWithin most_rows advance × (copies_of_window size advance ≤ most_copies)
+    × (copies_of_partition groups size advance ≤ most_windows)
 
 -- a window of time is over a stream itself, whose rows have times
 abbrev pub IsOverStream : List PlanNode → PlanNode → Type 0

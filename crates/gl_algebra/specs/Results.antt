@@ -3,6 +3,7 @@
 use Rattle.std.specs.Prelude.{ℕ, false, List, [], ◌∷◌, ◌++◌, map, filter, nat_eq, slice_index}
 use Rattle.gl_bits.specs.Kinds.{width_of}
 use Rattle.gl_bits.specs.Lists.{slices, groups, has_further, IsInterleaving}
+use Rattle.gl_bits.specs.Partitions.{parts}
 use Rattle.gl_bits.specs.Results.{Row, Results, IsInput, IsChanged, IsOfBoth, AreBeside, IsOfParts, IsOfGroup}
 use Rattle.gl_bits.specs.Totals.{count_of, sum_total, least_of, greatest_of, average_of, weighted_sum}
 use Rattle.gl_bits.specs.Times.{tslices}
@@ -91,6 +92,9 @@ meaning_from shapes meanings (Node.TimeWindow source body size advance) inputs =
     (λ slice. meanings body (given inputs slice)) (λ rows. false)
 meaning_from shapes meanings (Node.Group source body key count) inputs =
     IsOfParts (meanings source inputs) (groups count (λ row. slice_index row key))
+    (IsOfGroup (λ rows. meanings body (given inputs rows))) (has_further count (λ row. slice_index row key))
+meaning_from shapes meanings (Node.Partition source body key count size advance) inputs =
+    IsOfParts (meanings source inputs) (parts count (λ row. slice_index row key) size advance)
     (IsOfGroup (λ rows. meanings body (given inputs rows))) (has_further count (λ row. slice_index row key))
 
 -- no result

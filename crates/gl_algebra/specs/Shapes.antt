@@ -3,7 +3,7 @@
 use Rattle.std.specs.Prelude.{ℕ, ◌≡◌, ◌<◌, length, Bool, true, false, ◌&&◌, List, [], ◌∷◌, ◌++◌, map}
 use Rattle.gl_bits.specs.declared.kind.Kind.{Kind}
 use Rattle.gl_algebra.specs.declared.node.PlanNode.{PlanNode}
-use Rattle.gl_algebra.specs.declared.node.PlanNode.TheVariants.{Stream, Body, Compute, Select, Project, Aggregate, Union, Beside, Window, TimeWindow, Group}
+use Rattle.gl_algebra.specs.declared.node.PlanNode.TheVariants.{Stream, Body, Compute, Select, Project, Aggregate, Union, Beside, Window, TimeWindow, Group, Partition}
 use Rattle.gl_algebra.specs.Columns.{kind_of_column, kind_of_operand, kind_of_op, kind_of_agg}
 use Rattle.gl_algebra.specs.Nodewise.{nodewise}
 
@@ -61,6 +61,11 @@ shape_from shapes (Group source body key groups) =
     record (shapes source) {
       kinds = kind_of_column (shapes source).kinds key ∷ (shapes body).kinds;
       closing = true;
+      pace = unsteady;
+    }
+shape_from shapes (Partition source body key groups size advance) =
+    record (shapes source) {
+      kinds = kind_of_column (shapes source).kinds key ∷ (shapes body).kinds;
       pace = unsteady;
     }
 

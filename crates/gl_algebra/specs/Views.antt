@@ -1,9 +1,9 @@
 -- What is seen of a node whatever its form: its children, its body, and the copies that it has of it.
-use Rattle.std.specs.Prelude.{ℕ, ◌+◌, ◌/◌, Bool, true, false, List, [], ◌∷◌, Option, Some, None, option_map, unwrap_or}
+use Rattle.std.specs.Prelude.{ℕ, ◌*◌, ◌+◌, ◌/◌, Bool, true, false, List, [], ◌∷◌, Option, Some, None, option_map, unwrap_or}
 use Rattle.std.specs.Int.{div_ceil}
 use Rattle.std.specs.List.{list_any}
 use Rattle.gl_algebra.specs.declared.node.PlanNode.{PlanNode}
-use Rattle.gl_algebra.specs.declared.node.PlanNode.TheVariants.{Stream, Body, Compute, Select, Project, Aggregate, Union, Beside, Window, TimeWindow, Group}
+use Rattle.gl_algebra.specs.declared.node.PlanNode.TheVariants.{Stream, Body, Compute, Select, Project, Aggregate, Union, Beside, Window, TimeWindow, Group, Partition}
 
 -- the nodes whose rows it takes
 abbrev pub children_of : PlanNode → List ℕ
@@ -18,12 +18,14 @@ children_of (Beside left right) = left ∷ right ∷ []
 children_of (Window source body size advance) = source ∷ []
 children_of (TimeWindow source body size advance) = source ∷ []
 children_of (Group source body key groups) = source ∷ []
+children_of (Partition source body key groups size advance) = source ∷ []
 
 -- the body that it has copies of
 abbrev pub body_of : PlanNode → Option ℕ
 body_of (Window source body size advance) = Some body
 body_of (TimeWindow source body size advance) = Some body
 body_of (Group source body key groups) = Some body
+body_of (Partition source body key groups size advance) = Some body
 body_of node = None
 
 -- the windows that can be open at once: the size by the advance, rounded up
@@ -34,11 +36,16 @@ copies_of_window size advance = div_ceil size advance
 abbrev pub copies_of_time : ℕ → ℕ → ℕ
 copies_of_time size advance = size / advance + 1
 
+-- the windows that can be open at once where each of so many groups has its own
+abbrev pub copies_of_partition : ℕ → ℕ → ℕ → ℕ
+copies_of_partition groups size advance = groups * copies_of_window size advance
+
 -- the copies of its body, 0 where it has none
 abbrev pub copies_in : PlanNode → ℕ
 copies_in (Window source body size advance) = copies_of_window size advance
 copies_in (TimeWindow source body size advance) = copies_of_time size advance
 copies_in (Group source body key groups) = groups
+copies_in (Partition source body key groups size advance) = copies_of_partition groups size advance
 copies_in node = 0
 
 -- the value of its body, 0 where it has none

@@ -4,14 +4,14 @@ use Rattle.gl_bits.specs.Kinds.{width_of}
 use Rattle.gl_bits.specs.declared.kind.Kind.{Kind}
 use Rattle.gl_algebra.specs.declared.figures.Figures.{Figures}
 use Rattle.gl_algebra.specs.declared.node.PlanNode.{PlanNode}
-use Rattle.gl_algebra.specs.declared.node.PlanNode.TheVariants.{Stream, Body, Compute, Select, Project, Aggregate, Union, Beside, Window, TimeWindow, Group}
+use Rattle.gl_algebra.specs.declared.node.PlanNode.TheVariants.{Stream, Body, Compute, Select, Project, Aggregate, Union, Beside, Window, TimeWindow, Group, Partition}
 use Rattle.gl_algebra.specs.declared.node.PlanAgg.{PlanAgg}
 use Rattle.gl_algebra.specs.declared.node.PlanAgg.TheVariants.{Count, Sum, Min, Max, Avg, Wsum}
 use Rattle.gl_algebra.specs.Columns.{kind_of_operand}
 use Rattle.gl_algebra.specs.FigureTable.{figures_of, delay_of_aggs, gap_in, wait_of, needs_spacer}
 use Rattle.gl_algebra.specs.Nodewise.{nodewise}
 use Rattle.gl_algebra.specs.Shapes.{Shape, shape_of, shape_from}
-use Rattle.gl_algebra.specs.Views.{children_of, copies_in, copies_of_time, copies_of_window, of_body}
+use Rattle.gl_algebra.specs.Views.{children_of, copies_in, copies_of_partition, copies_of_time, copies_of_window, of_body}
 
 -- the lines of a wire: its columns, valid and end
 abbrev pub lines_of : Shape → ℕ
@@ -78,6 +78,10 @@ own_part spacer shapes figures weights lines (TimeWindow source body size advanc
 own_part spacer shapes figures weights lines (Group source body key groups) =
     weight_of_copies groups (weights body) (lines_of (shapes source)) lines
     + part_of_spacer spacer shapes figures (Group source body key groups)
+own_part spacer shapes figures weights lines (Partition source body key groups size advance) =
+    weight_of_copies (copies_of_partition groups size advance) (weights body) (lines_of (shapes source)) lines
+    + 16 * groups
+    + part_of_spacer spacer shapes figures (Partition source body key groups size advance)
 
 -- its own part in the weight
 abbrev pub own_weight : (ℕ → Shape) → (ℕ → Figures) → (ℕ → ℕ) → ℕ → PlanNode → ℕ

@@ -7,7 +7,7 @@ use Rattle.gl_bits.specs.declared.op.Op.TheVariants as Op
 use Rattle.gl_algebra.specs.declared.node.ColOp.TheVariants.{Binary}
 use Rattle.gl_algebra.specs.declared.node.PlanAgg.TheVariants.{Count, Sum, Max, Avg}
 use Rattle.gl_algebra.specs.declared.node.PlanNode.{PlanNode}
-use Rattle.gl_algebra.specs.declared.node.PlanNode.TheVariants.{Stream, Body, Compute, Select, Project, Aggregate, Union, Beside, Window, TimeWindow, Group}
+use Rattle.gl_algebra.specs.declared.node.PlanNode.TheVariants.{Stream, Body, Compute, Select, Project, Aggregate, Union, Beside, Window, TimeWindow, Group, Partition}
 use Rattle.gl_algebra.specs.Cost.{keys_of}
 use Rattle.gl_algebra.specs.FigureTable.{figures_of}
 use Rattle.gl_algebra.specs.Roots.{copies_with_spare, gap_of, latency_of, most_memory, most_registers, weight_with_output}
@@ -81,6 +81,18 @@ counts_by_symbol_in_windows =
     ∷ Select 2 3 ∷ Project 3 (Column 0 ∷ Column 1 ∷ Column 2 ∷ []) ∷ Aggregate 4 (Count ∷ []) ∷ Group 1 5 0 4
     ∷ Window 0 6 2 1 ∷ []
 
+-- sums by symbol, of so many symbols, in windows of each symbol
+abbrev pub sums_in_partitions : ℕ → ℕ → ℕ → List PlanNode
+sums_in_partitions symbols size advance =
+    Stream 0 trade_kinds ∷ Body trade_kinds ∷ Aggregate 1 (Sum (Column 1) ∷ []) ∷ Partition 0 2 0 symbols size advance
+    ∷ []
+
+-- how many such sums of neighbours there are in each 4 rows
+abbrev pub counts_of_sums : List PlanNode
+counts_of_sums =
+    Stream 0 trade_kinds ∷ Body trade_kinds ∷ Aggregate 1 (Sum (Column 1) ∷ []) ∷ Partition 1 2 0 2 2 2
+    ∷ Aggregate 3 (Count ∷ []) ∷ Window 0 4 4 4 ∷ []
+
 -- the prices of two streams
 abbrev pub prices_of_both : List PlanNode
 prices_of_both =
@@ -103,6 +115,12 @@ pub record WorkedFigures : Type 0 where
   pub counts_in_time : Has counts_in_time 3 6 1 2
   pub sums_by_symbol : Has sums_by_symbol 3 8 1 4
   pub prices_of_both : Has prices_of_both 4 4 2 0
+  pub partition : figures_of (sums_in_partitions 2 2 2) 3
+      ≡ record { a = 3; lt = 3; le = 6; nt = 1; ne = 2; gt = 1; ge = 6 }
+  pub neighbours_by_symbol : Has (sums_in_partitions 2 2 2) 3 7 1 2
+  pub overlaps_by_symbol : Has (sums_in_partitions 2 3 2) 3 9 1 4
+  pub gaps_by_symbol : Has (sums_in_partitions 2 1 3) 3 7 1 2
+  pub neighbours_in_windows : Has counts_of_sums 5 14 1 9
 
 -- 262,144 is the most
 pub record WorkedWeights : Type 0 where

@@ -116,4 +116,15 @@ pub enum PlanNode {
         key: u8,
         groups: u16,
     },
+    /// What the body makes of each window of each of the first `groups` groups of the source by the column `key`: each group has
+    /// windows of its own, of `size` rows or fewer, one from each of its rows on whose place in it is a multiple of `advance`. The
+    /// key is first in each row.
+    Partition {
+        source: PlanId,
+        body: PlanId,
+        key: u8,
+        groups: u16,
+        size: u32,
+        advance: u32,
+    },
 }

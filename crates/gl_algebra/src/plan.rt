@@ -154,6 +154,15 @@ impl Plan {
                 let key = kind_of_column(self.kinds(*source), *key as usize);
                 columns_with_key(alloc, key, self.kinds(*body))
             }
+            PlanNode::Partition {
+                source,
+                body,
+                key,
+                ..
+            } => {
+                let key = kind_of_column(self.kinds(*source), *key as usize);
+                columns_with_key(alloc, key, self.kinds(*body))
+            }
         }
     }
 }

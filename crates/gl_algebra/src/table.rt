@@ -1,17 +1,17 @@
 //! The table of figures, row by row: each answers None exactly where a figure would reach 2^32.
 
-ghost use Rattle.std.specs.Prelude.{◌≡◌, ◌≤◌};
+ghost use Rattle.std.specs.Prelude.{◌≡◌, ◌<◌, ◌≤◌, ◌^◌};
 ghost use Rattle.gl_bits.specs.Limits.{most_rows};
-ghost use Rattle.gl_algebra.specs.FigureTable.{aggregate_figures, beside_figures, delay_of_agg, delay_of_aggs, delayed, group_figures, input_figures, settled, spaced, union_figures, wait_of, window_figures};
-ghost use Rattle.gl_algebra.specs.Views.{copies_of_time, copies_of_window};
+ghost use Rattle.gl_algebra.specs.FigureTable.{aggregate_figures, beside_figures, delay_of_agg, delay_of_aggs, delayed, group_figures, input_figures, partition_figures, settled, spaced, union_figures, wait_of, window_figures};
+ghost use Rattle.gl_algebra.specs.Views.{copies_of_partition, copies_of_time, copies_of_window};
 ghost use Rattle.gl_algebra.specs.Small.{small_of};
 
 use crate::columns::kind_of_operand;
 use crate::figures::Figures;
 use crate::node::PlanAgg;
 use crate::wide::{
-    aggregated, delayed, groups_over, joined, merged, narrowed, settled, spaced, widened,
-    windows_over,
+    aggregated, delayed, groups_over, joined, merged, narrowed, partitions_over, settled, spaced,
+    widened, windows_over,
 };
 use gl_bits::Kind;
 
@@ -124,6 +124,15 @@ pub fn copies_of_time(size: u32, advance: u32) -> u32
     size / advance + 1
 }
 
+/// The windows that can be open at once where each of so many groups has its own.
+pub fn copies_of_partition(groups: u16, size: u32, advance: u32) -> u32
+    requires room { copies_of_partition groups size advance < 2 ^ 32 }
+    requires advance { 1 ≤ advance }
+    ensures { result ≡ copies_of_partition groups size advance }
+{
+    groups as u32 * copies_of_window(size, advance)
+}
+
 /// Windows of so many copies.
 pub fn window_figures(copies: u32, source: &Figures, body: &Figures) -> Option<Figures>
     ensures { result ≡ small_of (window_figures copies source.now body.now) }
@@ -139,4 +148,13 @@ pub fn group_figures(groups: u32, source: &Figures, body: &Figures) -> Option<Fi
 {
     let source = spaced(body.gt as u128, widened(source));
     narrowed(groups_over(groups as u128, source, widened(body)))
+}
+
+/// Windows of each key, of so many copies for all keys.
+pub fn partition_figures(copies: u32, source: &Figures, body: &Figures) -> Option<Figures>
+    ensures { result ≡ small_of (partition_figures copies source.now body.now) }
+{
+    let gap = body.gt.max(body.ge);
+    let source = spaced(gap as u128, widened(source));
+    narrowed(partitions_over(copies as u128, source, widened(body)))
 }

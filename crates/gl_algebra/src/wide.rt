@@ -1,7 +1,7 @@
 //! The rows of the table of figures, in numbers that take their sums and products whole.
 
 ghost use Rattle.std.specs.Prelude.{◌≡◌, ◌<◌, ◌+◌, ◌*◌, ◌^◌};
-ghost use Rattle.gl_algebra.specs.FigureTable.{aggregate_figures, at_end, delayed, groups_over, in_step, is_fixed, joined, last_of, merged, settled, spaced, spacer_figures, stride_of, windows_over};
+ghost use Rattle.gl_algebra.specs.FigureTable.{aggregate_figures, at_end, delayed, groups_over, in_step, is_fixed, joined, last_of, merged, partitions_over, settled, spaced, spacer_figures, stride_of, windows_over};
 ghost use Rattle.gl_algebra.specs.Small.{small_of};
 ghost use Rattle.gl_algebra.specs.Wides.{plain, IsNarrow, IsWide};
 
@@ -266,5 +266,26 @@ pub(crate) fn groups_over(groups: u128, f: Wide, body: Wide) -> Wide
         ne: times(groups, body.ne),
         gt: f.gt.max(f.lt.saturating_sub(f.a) + body.gt),
         ge: f.ge.max(f.le.saturating_sub(f.a) + (ends + (body.ge + 1).max(body.le + 3))),
+    }
+}
+
+// Windows of each key, of so many copies for all keys, over a source that is spaced already.
+pub(crate) fn partitions_over(copies: u128, f: Wide, body: Wide) -> Wide
+    requires copies { copies < 2 ^ 32 }
+    requires source { IsWide f }
+    requires body { IsNarrow body }
+    ensures { plain result ≡ partitions_over copies (plain f) (plain body) }
+{
+    let a = f.a + body.a + 2;
+    let ends = times(copies, stride_of(body));
+    let nt = times(f.nt, body.ne);
+    Wide {
+        a,
+        lt: last_of(nt, a, f.lt + body.le + 2),
+        le: f.le + body.le + ends + 3,
+        nt,
+        ne: times(f.ne.max(1).saturating_sub(1) + copies, body.ne),
+        gt: f.gt.max(f.lt.saturating_sub(f.a) + body.gt.max(body.ge)),
+        ge: f.ge.max(f.le.saturating_sub(f.a) + (ends + body.ge.max(body.le + 2) + 1)),
     }
 }

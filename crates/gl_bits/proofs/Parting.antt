@@ -1,6 +1,6 @@
 -- The windows of each key are the slices of its rows.
-use Rattle.std.proofs.Common.{◌≡◌, ℕ, zero, suc, ◌+◌, ◌<◌, ◌≤◌, List, [], ◌∷◌, ◌++◌, Bool, true, false, cond, length, length-take, take, take_all, append-nil, append_assoc, refl, sym, ap, ◌∙◌, subst, arith, inl, inr, eqb-true}
-use Rattle.std.specs.Prelude.{if◌then◌else◌, ◌||◌, ◌⊎◌, filter, flat_map, map, not, nat_eq, nat_lt}
+use Rattle.std.proofs.Common.{◌≡◌, ℕ, suc, ◌+◌, ◌<◌, ◌≤◌, List, [], ◌∷◌, ◌++◌, Bool, true, false, cond, length, length-take, take, take_all, append-nil, append_assoc, refl, sym, ap, ◌∙◌, subst, arith, inl, inr, eqb-true}
+use Rattle.std.specs.Prelude.{if◌then◌else◌, ◌||◌, ◌⊎◌, filter, flat_map, map, not, nat_eq}
 use Rattle.std.specs.List.{list_any}
 use Rattle.std.proofs.lemmas.Bool.Decides.{eqb_tells, leb_tells}
 use Rattle.std.proofs.lemmas.List.{map-append}
@@ -9,8 +9,7 @@ use Rattle.std.proofs.lemmas.List.Folds.{list_any-append}
 use Rattle.gl_bits.specs.Lists.{Group, distinct, groups, keys_of, rows_with, slices}
 use Rattle.gl_bits.specs.Partitions.{completed, completed_by, fulls, has_key, keyed, parts, short_slices, shorts}
 use Rattle.gl_bits.specs.Laws.{windows_of}
-use Rattle.gl_bits.proofs.AllLists.{map_map}
-use Rattle.gl_bits.proofs.Bools.{eq_turned, neither_left, neither_right}
+use Rattle.gl_bits.proofs.Bools.{eq_turned, neither_left, neither_right, or_left, or_none}
 use Rattle.gl_bits.proofs.Filling.{full_slices, full-none, full_then_short, full-push}
 use Rattle.gl_bits.proofs.Grouping.{AreDistinct, added, any_other, distinct_once, distinct_take, first_keys_full, first_keys_room}
 
@@ -57,10 +56,6 @@ any_added_other key x ks other = split (list_any (nat_eq x) ks)
     split true = refl
     split false = rw other refl
 
-or_false : (b : Bool) → (b || false) ≡ b
-or_false true = refl
-or_false false = refl
-
 -- a row of another key changes nothing
 has_key-other : {A : Type 0} (n key : ℕ) (key_of : A → ℕ) (xs : List A) (x : A) → nat_eq key (key_of x) ≡ false
     → has_key n key_of (xs ++ x ∷ []) key ≡ has_key n key_of xs key
@@ -69,14 +64,10 @@ has_key-other n key key_of xs x other = elim (keys-push n key_of xs x) [
       ap (list_any (nat_eq key)) t.0
       ∙ list_any-append (nat_eq key) (first_keys n key_of xs) (added (key_of x) (first_keys n key_of xs))
       ∙ ap (λ b. has_key n key_of xs key || b) (any_added_other key (key_of x) (first_keys n key_of xs) other)
-      ∙ or_false (has_key n key_of xs key)
+      ∙ or_none (has_key n key_of xs key)
       )
   | inr e ↦ ap (list_any (nat_eq key)) e
 ]
-
-or_true : (a b : Bool) → a ≡ true → (a || b) ≡ true
-or_true true b e = refl
-or_true false b e = absurd cc
 
 -- a key that is among the first stays there
 has_key-stays : {A : Type 0} (n key : ℕ) (key_of : A → ℕ) (xs : List A) (x : A) → has_key n key_of xs key ≡ true
@@ -85,7 +76,7 @@ has_key-stays n key key_of xs x has = elim (keys-push n key_of xs x) [
   | inl t ↦ (
       ap (list_any (nat_eq key)) t.0
       ∙ list_any-append (nat_eq key) (first_keys n key_of xs) (added (key_of x) (first_keys n key_of xs))
-      ∙ or_true (has_key n key_of xs key) (list_any (nat_eq key) (added (key_of x) (first_keys n key_of xs))) has
+      ∙ or_left (has_key n key_of xs key) (list_any (nat_eq key) (added (key_of x) (first_keys n key_of xs))) has
       )
   | inr e ↦ ap (list_any (nat_eq key)) e ∙ has
 ]

@@ -55,6 +55,7 @@ leaves_are_streams schema (shape.Rows pick filter source) a = leaves_are_streams
 leaves_are_streams schema (shape.Total aggs source) a = leaves_are_streams schema source a.0
 leaves_are_streams schema (shape.Each measure var source size advance body) a = leaves_are_streams schema source a.0
 leaves_are_streams schema (shape.PerGroup var source key groups body) a = leaves_are_streams schema source a.0
+leaves_are_streams schema (shape.Partition var source key groups size advance body) a = leaves_are_streams schema source a.0
 leaves_are_streams schema (shape.Union l r) a =
     join_streams schema (leaves_of (stream_node schema.streams) l) (leaves_of (stream_node schema.streams) r) (leaves_are_streams schema l a.0) (leaves_are_streams schema r a.1)
 leaves_are_streams schema (shape.Concat l r) a =

@@ -9,7 +9,7 @@ use Rattle.gl_query.specs.Shapes as shape
 use Rattle.gl_query.specs.Values.{column_number}
 use Rattle.gl_query.specs.Columns.{columns_of, variable}
 use Rattle.gl_algebra.specs.declared.node.PlanNode.{PlanNode}
-use Rattle.gl_algebra.specs.declared.node.PlanNode.TheVariants.{Body, Group}
+use Rattle.gl_algebra.specs.declared.node.PlanNode.TheVariants.{Body, Group, Partition}
 use Rattle.gl_algebra.specs.Added.{added, placed_at}
 use Rattle.gl_elaborate.specs.Plans.{placed, window_node}
 use Rattle.gl_elaborate.specs.Fitting.{FitsNext, PlacedFit}
@@ -49,4 +49,17 @@ module _ (read : List ℕ → PlanNode) (sources : List Stream) (whole source so
   group-fits key count number w k fits =
       let k' : number ≡ column_number (columns_of sources source) key = k ∙ (λ i. column_number (columns i) key) in
       subst (λ (X : Type 0). X) (sym (λ i. FitsNext (inside i).nodes (Group (first i).root (inside i).root (k' i) count)))
+      (subst (λ (x : QueryShape). PlacedFit read sources x nodes) w fits).2
+
+  pub partition-root : (key : List ℕ) (count size advance number root : ℕ) (n3 : List PlanNode) → whole ≡ shape.Partition var source key count size advance body → number ≡ column_number own key
+      → placed_at n3 root ≡ added n2 (Partition from into number count size advance) → placed_at n3 root ≡ placed read sources whole nodes
+  partition-root key count size advance number root n3 w k r =
+      let k' : number ≡ column_number (columns_of sources source) key = k ∙ (λ i. column_number (columns i) key) in
+      r ∙ (λ i. added (inside i).nodes (Partition (first i).root (inside i).root (k' i) count size advance)) ∙ sym (λ i. placed read sources (w i) nodes)
+
+  pub partition-fits : (key : List ℕ) (count size advance number : ℕ) → whole ≡ shape.Partition var source key count size advance body → number ≡ column_number own key
+      → PlacedFit read sources whole nodes → FitsNext n2 (Partition from into number count size advance)
+  partition-fits key count size advance number w k fits =
+      let k' : number ≡ column_number (columns_of sources source) key = k ∙ (λ i. column_number (columns i) key) in
+      subst (λ (X : Type 0). X) (sym (λ i. FitsNext (inside i).nodes (Partition (first i).root (inside i).root (k' i) count size advance)))
       (subst (λ (x : QueryShape). PlacedFit read sources x nodes) w fits).2

@@ -162,6 +162,19 @@ can (shape.PerGroup var source key count body) sources timed most is a s =
       omega arith,
       a.1.most_groups,
     )
+can (shape.Partition var source key count size advance body) sources timed most is a s =
+    let columns = columns_of sources source in
+    let own = real source (record { sources = sources; timed = timed }) is a.0 in
+    let narrow = own.result.most in
+    let known = column-fits columns own.kinds key a.1.grouping.known in
+    let same = length-map columns (λ (c : NamedColumn). c.kind) in (
+      can source sources timed most is a.0 s.0,
+      can body (variable var columns) false (lit≤ tt) (body_is var columns own.result own.kinds) a.2 s.1,
+      omega arith,
+      a.1.grouping.most_groups,
+      a.1.window.most_size,
+      a.1.window.most_advance,
+    )
 can (shape.Union l r) sources timed most is a s = (can l sources timed most is a.0 s.0, can r sources timed most is a.1 s.1)
 can (shape.Concat l r) sources timed most is a s = (can l sources timed most is a.0 s.0, can r sources timed most is a.1 s.1)
 

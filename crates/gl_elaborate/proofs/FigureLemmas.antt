@@ -17,9 +17,10 @@ use Rattle.gl_query.specs.Accepted.{IsAcceptedOver}
 use Rattle.gl_algebra.specs.declared.figures.Figures.{Figures}
 use Rattle.gl_algebra.specs.declared.node.PlanNode.{PlanNode}
 use Rattle.gl_algebra.specs.declared.node.PlanNode.TheVariants as node
-use Rattle.gl_algebra.specs.FigureTable.{input_figures, settled, delayed, aggregate_figures, union_figures, beside_figures, window_figures, group_figures, figures_from, figures_of}
+use Rattle.gl_algebra.specs.FigureTable.{input_figures, settled, delayed, aggregate_figures, union_figures, beside_figures, window_figures, group_figures, partition_figures, figures_from, figures_of}
 use Rattle.gl_algebra.specs.Fits.{IsPlan}
 use Rattle.gl_query.specs.Windows.{copies_of}
+use Rattle.gl_algebra.specs.Views.{copies_of_partition}
 use Rattle.gl_algebra.specs.Shapes.{Shape, shape_of}
 use Rattle.gl_algebra.proofs.FigureLemmas.{figures-kept}
 use Rattle.gl_algebra.proofs.PlanLemmas.{in_order}
@@ -192,6 +193,7 @@ read-figures (node.Beside left right) kinds s v h = absurd h
 read-figures (node.Window source body size advance) kinds s v h = absurd h
 read-figures (node.TimeWindow source body size advance) kinds s v h = absurd h
 read-figures (node.Group source body key groups) kinds s v h = absurd h
+read-figures (node.Partition source body key groups size advance) kinds s v h = absurd h
 
 window-figured : (measure : Measure) (source body size advance : ℕ) (s : ℕ → Shape) (v : ℕ → Figures)
     → figures_from s v (window_node measure source body size advance) ≡ window_figures (copies_of measure size advance) (v source) (v body)
@@ -239,6 +241,19 @@ figures-right (shape.PerGroup var source key count body) read sources timed node
     let into = placed inner (variable var columns) body from.nodes in
     both-figures from into (query_figures sources source) (query_figures (variable var columns) body)
     (node.Group from.root into.root (Rattle.gl_query.specs.Values.column_number columns key) count) (group_figures count)
+    (figures-right source read sources timed nodes reader a.0 plan) (figures-right body inner (variable var columns) false from.nodes kinds a.2 below.1.over.plan)
+    below.1.over.within inside.1.over done.0.2 (λ s v. refl)
+figures-right (shape.Partition var source key count size advance body) read sources timed nodes reader a plan =
+    let columns = columns_of sources source in
+    let inner : List ℕ → PlanNode = λ name. node.Body (kinds_of columns) in
+    let done = right (shape.Partition var source key count size advance body) read sources timed nodes reader a plan in
+    let below = right source read sources timed nodes reader a.0 plan in
+    let from = placed read sources source nodes in
+    let kinds = body-reader var columns (columns-are source read sources timed reader a.0) in
+    let inside = right body inner (variable var columns) false from.nodes kinds a.2 below.1.over.plan in
+    let into = placed inner (variable var columns) body from.nodes in
+    both-figures from into (query_figures sources source) (query_figures (variable var columns) body)
+    (node.Partition from.root into.root (Rattle.gl_query.specs.Values.column_number columns key) count size advance) (partition_figures (copies_of_partition count size advance))
     (figures-right source read sources timed nodes reader a.0 plan) (figures-right body inner (variable var columns) false from.nodes kinds a.2 below.1.over.plan)
     below.1.over.within inside.1.over done.0.2 (λ s v. refl)
 figures-right (shape.Union l r) read sources timed nodes reader a plan =

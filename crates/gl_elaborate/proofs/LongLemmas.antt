@@ -2,6 +2,8 @@
 use Rattle.std.proofs.Common.{◌≡◌, ℕ, Bool, List, [], ◌∷◌, sym, subst, map, take, nat_eq}
 use Rattle.std.specs.List.{AllByRecursion}
 use Rattle.gl_bits.specs.Lists.{Group, groups, keys_of, rows_with}
+use Rattle.gl_bits.specs.Partitions.{parts}
+use Rattle.gl_bits.proofs.AllLists.{all_weaker}
 use Rattle.gl_bits.specs.Results.{Row}
 use Rattle.gl_schema.specs.declared.schema.Column.{Column}
 use Rattle.gl_schema.specs.declared.schema.Stream.{Stream}
@@ -11,7 +13,7 @@ use Rattle.gl_query.specs.Accepted.{IsAcceptedOver}
 use Rattle.gl_query.specs.Results.{Env, IsResultIn, streams_of}
 use Rattle.gl_query.specs.Laws.{HoldsIn, IsLongAs}
 use Rattle.gl_query.proofs.Lengths.{long}
-use Rattle.gl_query.proofs.Holding.{all_filter}
+use Rattle.gl_query.proofs.Holding.{IsGroupOf, all_filter, all_windows_of}
 
 abbrev pub AreLong : List Column → List Row → Type 0
 AreLong columns rows = AllByRecursion (IsLongAs columns) rows
@@ -28,6 +30,13 @@ module _ (P : Row → Type 0) where
       → AllByRecursion (λ (g : Group Row). AllByRecursion P g.rows) (groups count key_of rows)
   unfolding groups
   in-groups count key_of rows h = groups_of key_of rows (take count (keys_of key_of rows)) h
+
+  -- the rows of windows of groups
+  pub in-parts : (count : ℕ) (key_of : Row → ℕ) (size advance : ℕ) (rows : List Row) → AllByRecursion P rows
+      → AllByRecursion (λ (g : Group Row). AllByRecursion P g.rows) (parts count key_of size advance rows)
+  in-parts count key_of size advance rows h =
+      all_weaker (IsGroupOf P key_of) (λ (g : Group Row). AllByRecursion P g.rows) (λ g of. of.rows) (parts count key_of size advance rows)
+      (all_windows_of P count key_of size advance rows h)
 
 -- ---- results
 

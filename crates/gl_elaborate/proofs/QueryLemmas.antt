@@ -4,6 +4,7 @@ use Rattle.std.specs.List.{AllByRecursion}
 use Rattle.std.specs.Prelude.{IsSome}
 use Rattle.std.proofs.lemmas.List.{map-append}
 use Rattle.gl_bits.specs.Lists.{Group, groups, has_further}
+use Rattle.gl_bits.specs.Partitions.{parts}
 use Rattle.gl_bits.specs.Results.{Row, Results, AreBeside, AreJoined, IsOfBoth, IsOfGroup, IsOfParts}
 use Rattle.gl_bits.specs.declared.kind.Kind.{Kind}
 use Rattle.gl_schema.specs.declared.schema.Stream.{Stream}
@@ -31,13 +32,13 @@ use Rattle.gl_elaborate.proofs.AcceptedLemmas.{column-fits}
 use Rattle.gl_elaborate.specs.Plans.{placed, rows_over, totals_over, window_node}
 use Rattle.gl_elaborate.specs.Fitting.{PlacedFit}
 use Rattle.gl_elaborate.specs.Right.{plan_pace, leaves_of, shape_for}
-use Rattle.gl_elaborate.proofs.LongLemmas.{AreLong, in-groups, results-long}
+use Rattle.gl_elaborate.proofs.LongLemmas.{AreLong, in-groups, in-parts, results-long}
 use Rattle.gl_elaborate.proofs.ReadLemmas.{IsReader, Sees, means_for, all-kinds, read-shape, read-fits, read-means, body-reader, body-sees, body-leaves}
 use Rattle.gl_elaborate.proofs.PlacedLemmas.{IsOver, is_added}
 use Rattle.gl_elaborate.proofs.StandsLemmas.{Stands, weaker}
 use Rattle.gl_elaborate.proofs.RowsLemmas.{IsPicked, pace_under, rows-stand}
 use Rattle.gl_elaborate.proofs.TotalsLemmas.{IsTotalled, HasDelay, totals-stand}
-use Rattle.gl_elaborate.proofs.TwoLemmas.{behind, left_still, union-stands, beside-stands, window-stands, group-stands}
+use Rattle.gl_elaborate.proofs.TwoLemmas.{behind, left_still, union-stands, beside-stands, window-stands, group-stands, partition-stands}
 use Rattle.gl_query.specs.Laws.{IsLongAs}
 
 -- ---- results in parts
@@ -228,6 +229,50 @@ right (shape.PerGroup var source key count body) read sources timed nodes reader
                 })
                 (groups count (λ row. slice_index row number) r.rows) out r.parts_spill
                 (in-groups (IsLongAs columns) count (λ row. slice_index row number) r.rows long) r.of_parts;
+            any = r.any;
+          })),
+    )
+right (shape.Partition var source key count size advance body) read sources timed nodes reader a plan =
+    let columns = columns_of sources source in
+    let inner : List ℕ → PlanNode = λ name. node.Body (kinds_of columns) in
+    let below = right source read sources timed nodes reader a.0 plan in
+    let are = columns-are source read sources timed reader a.0 in
+    let from = placed read sources source nodes in
+    let inside = right body inner (variable var columns) false from.nodes (body-reader var columns are) a.2 below.1.over.plan in
+    let at = placed inner (variable var columns) body from.nodes in
+    let number = column_number columns key in
+    let two = partition-stands nodes from at (shape_for read sources source) (shape_for inner (variable var columns) body)
+    (means_for read sources timed source) (means_for inner (variable var columns) false body) below.1 inside.1 number count size advance (column-fits columns are.kinds key a.1.grouping.known)
+    a.1.grouping.some_groups a.1.grouping.most_groups a.1.window a.1.windows a.3 (body-leaves (node.Body (kinds_of columns)) body) in
+    let s = left_still nodes from at (shape_for read sources source) (shape_for inner (variable var columns) body)
+    (means_for read sources timed source) (means_for inner (variable var columns) false body) below.1 inside.1 in
+    let stands = subst (λ (k : Kind). Stands nodes (added at.nodes (node.Partition from.root at.root number count size advance))
+    (record (shape_for read sources source) { kinds = k ∷ kinds_of (columns_of (variable var columns) body); pace = unsteady })
+    (λ inputs. IsOfParts (IsPlanResult at.nodes from.root inputs) (parts count (λ row. slice_index row number) size advance)
+    (IsOfGroup (λ rows. IsPlanResult at.nodes at.root (given inputs rows))) (has_further count (λ row. slice_index row number))))
+    (kind-column columns key) two.stands in (
+      (below.0, inside.0, two.fits),
+      weaker nodes (added at.nodes (node.Partition from.root at.root number count size advance)) (shape_for read sources (shape.Partition var source key count size advance body)) _
+          (means_for read sources timed (shape.Partition var source key count size advance body)) stands
+          (λ inputs out spill r env sees.
+          let result = s.means inputs r.rows r.source_spill r.of_source env sees in
+          let long = results-long source sources timed env r.rows r.source_spill a.0 sees.streams sees.are_long result in
+          subst (λ (ss : List Stream). IsOfParts (IsResultIn source env) (parts count (λ row. slice_index row (column_number (columns_of ss source) key)) size advance)
+          (IsOfGroup (λ rows. IsResultIn body (only var (columns_of ss source) rows)))
+          (has_further count (λ row. slice_index row (column_number (columns_of ss source) key))) out spill) (sym sees.streams)
+          (record {
+            rows = r.rows;
+            source_spill = r.source_spill;
+            parts_spill = r.parts_spill;
+            of_source = result;
+            of_parts = joined-means (λ (g : Group Row). AreLong columns g.rows) _ (IsOfGroup (λ rows. IsResultIn body (only var columns rows)))
+                (λ (g : Group Row) o sp h is. record {
+                  rows = is.rows;
+                  of_source = inside.1.means (given inputs g.rows) is.rows sp is.of_source (only var columns g.rows) (body-sees var columns inputs g.rows h);
+                  changed = is.changed;
+                })
+                (parts count (λ row. slice_index row number) size advance r.rows) out r.parts_spill
+                (in-parts (IsLongAs columns) count (λ row. slice_index row number) size advance r.rows long) r.of_parts;
             any = r.any;
           })),
     )

@@ -38,6 +38,7 @@ IsLeafOf (node.Beside left right) kinds = ⊥
 IsLeafOf (node.Window source body size advance) kinds = ⊥
 IsLeafOf (node.TimeWindow source body size advance) kinds = ⊥
 IsLeafOf (node.Group source body key groups) kinds = ⊥
+IsLeafOf (node.Partition source body key groups size advance) kinds = ⊥
 
 -- the rows that a leaf gives
 abbrev pub leaf_rows : PlanNode → Inputs → List Row
@@ -52,6 +53,7 @@ leaf_rows (node.Beside left right) inputs = []
 leaf_rows (node.Window source body size advance) inputs = []
 leaf_rows (node.TimeWindow source body size advance) inputs = []
 leaf_rows (node.Group source body key groups) inputs = []
+leaf_rows (node.Partition source body key groups size advance) inputs = []
 
 -- a stream's node
 abbrev pub IsStreamNode : PlanNode → Type 0
@@ -95,6 +97,7 @@ read-shape (node.Beside left right) kinds s h = absurd h
 read-shape (node.Window source body size advance) kinds s h = absurd h
 read-shape (node.TimeWindow source body size advance) kinds s h = absurd h
 read-shape (node.Group source body key groups) kinds s h = absurd h
+read-shape (node.Partition source body key groups size advance) kinds s h = absurd h
 
 pub read-fits : (n : PlanNode) (kinds : List Kind) (nodes : List PlanNode) → IsLeafOf n kinds → AllByRecursion IsKind kinds → FitsNext nodes n
 read-fits (node.Stream k own) kinds nodes h a = record {
@@ -116,6 +119,7 @@ read-fits (node.Beside left right) kinds nodes h a = absurd h
 read-fits (node.Window source body size advance) kinds nodes h a = absurd h
 read-fits (node.TimeWindow source body size advance) kinds nodes h a = absurd h
 read-fits (node.Group source body key groups) kinds nodes h a = absurd h
+read-fits (node.Partition source body key groups size advance) kinds nodes h a = absurd h
 
 pub read-means : (n : PlanNode) (kinds : List Kind) (s : ℕ → Shape) (m : ℕ → Meaning) (inputs : Inputs) (out : List Row) (spill : Bool) → IsLeafOf n kinds
     → meaning_from s m n inputs out spill → (out ≡ leaf_rows n inputs) × (spill ≡ false)
@@ -130,6 +134,7 @@ read-means (node.Beside left right) kinds s m inputs out spill h r = absurd h
 read-means (node.Window source body size advance) kinds s m inputs out spill h r = absurd h
 read-means (node.TimeWindow source body size advance) kinds s m inputs out spill h r = absurd h
 read-means (node.Group source body key groups) kinds s m inputs out spill h r = absurd h
+read-means (node.Partition source body key groups size advance) kinds s m inputs out spill h r = absurd h
 
 lost : (var : List ℕ) (columns : List NamedColumn) (name : List ℕ) → bytes_eq name var ≡ false → has_stream (variable var columns) name ≡ true → ⊥
 unfolding has_stream
@@ -159,5 +164,6 @@ body-leaves n (shape.Rows pick condition source) = body-leaves n source
 body-leaves n (shape.Total aggs source) = body-leaves n source
 body-leaves n (shape.Each measure var source size advance body) = body-leaves n source
 body-leaves n (shape.PerGroup var source key groups body) = body-leaves n source
+body-leaves n (shape.Partition var source key groups size advance body) = body-leaves n source
 body-leaves n (shape.Union l r) = all_append (λ leaf. leaf ≡ n) (leaves_of (λ name. n) l) (leaves_of (λ name. n) r) (body-leaves n l) (body-leaves n r)
 body-leaves n (shape.Concat l r) = all_append (λ leaf. leaf ≡ n) (leaves_of (λ name. n) l) (leaves_of (λ name. n) r) (body-leaves n l) (body-leaves n r)

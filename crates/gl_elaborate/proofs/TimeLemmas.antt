@@ -117,6 +117,15 @@ placed-time (shape.PerGroup var source key count body) read sources nodes h =
     ∙ placed-time body inner (variable var columns) from.nodes (λ name. refl)
     ∙ ap (λ (b : Bool). b || has_time body) (placed-time source read sources nodes h)
     ∙ or_join (reads_time nodes) (has_time source) (has_time body)
+placed-time (shape.Partition var source key count size advance body) read sources nodes h =
+    let columns = columns_of sources source in
+    let inner : List ℕ → PlanNode = λ name. node.Body (kinds_of columns) in
+    let from = placed read sources source nodes in
+    let inside = placed inner (variable var columns) body from.nodes in
+    quiet inside.nodes (node.Partition from.root inside.root (column_number columns key) count size advance) refl
+    ∙ placed-time body inner (variable var columns) from.nodes (λ name. refl)
+    ∙ ap (λ (b : Bool). b || has_time body) (placed-time source read sources nodes h)
+    ∙ or_join (reads_time nodes) (has_time source) (has_time body)
 placed-time (shape.Union l r) read sources nodes h =
     let left = placed read sources l nodes in
     let right = placed read sources r left.nodes in

@@ -4,6 +4,7 @@ use Rattle.std.specs.List.{AllByRecursion}
 use Rattle.std.specs.Prelude.{not}
 use Rattle.std.proofs.lemmas.List.Elements.{All-cons, All-nil, All-from_recursion}
 use Rattle.gl_bits.specs.Lists.{IsInterleaving, groups, has_further}
+use Rattle.gl_bits.specs.Partitions.{parts}
 use Rattle.gl_bits.specs.Results.{Row, IsOfBoth, AreBeside, IsOfParts, IsOfGroup}
 use Rattle.gl_query.specs.declared.tree.Measure.{Measure}
 use Rattle.gl_query.specs.declared.tree.Measure.TheVariants.{Tuples, Time}
@@ -13,6 +14,7 @@ use Rattle.gl_algebra.specs.declared.node.PlanNode.{PlanNode}
 use Rattle.gl_algebra.specs.declared.node.PlanNode.TheVariants as node
 use Rattle.gl_algebra.specs.Columns.{kind_of_column}
 use Rattle.gl_algebra.specs.Fits.{IsPlan, IsBodyFor, IsOverStream}
+use Rattle.gl_algebra.specs.Views.{copies_of_partition}
 use Rattle.gl_algebra.specs.Shapes.{Shape, unsteady, shape_from, shape_of}
 use Rattle.gl_algebra.specs.Added.{Placed, added}
 use Rattle.gl_algebra.specs.Results.{Inputs, Meaning, given, times_with, IsPlanResult, meaning_from}
@@ -177,6 +179,29 @@ module _ (old : List PlanNode) (l r : Placed) (sl sr : Shape) (ML MR : Meaning) 
       (record {
         before = two-before r.nodes l.root r.root left_still.within right_still.within;
         suits = (body-for closing leaves, subst (λ (x : Shape). key < length x.kinds) (sym left_still.is) known, record { least = some; most = most });
+        timed = tt;
+      })
+      (λ x. refl) (λ m inputs out spill result. result)
+
+  pub partition-stands : (key count size advance : ℕ) → key < length sl.kinds → 1 ≤ count → count ≤ 256 → IsWindow Tuples size advance → copies_of_partition count size advance ≤ 256 → sr.closing ≡ true → AllByRecursion (λ leaf. leaf ≡ node.Body sl.kinds) sr.leaves
+      → IsOfTwo (node.Partition l.root r.root key count size advance) (record sl { kinds = kind_of_column sl.kinds key ∷ sr.kinds; pace = unsteady })
+      (λ m inputs. IsOfParts (m l.root inputs) (parts count (λ row. slice_index row key) size advance) (IsOfGroup (λ rows. m r.root (given inputs rows)))
+      (has_further count (λ row. slice_index row key)))
+  partition-stands key count size advance known some most is all closing leaves =
+      of_two (node.Partition l.root r.root key count size advance) (λ x y. record x { kinds = kind_of_column x.kinds key ∷ y.kinds; pace = unsteady })
+      (λ m inputs. IsOfParts (m l.root inputs) (parts count (λ row. slice_index row key) size advance) (IsOfGroup (λ rows. m r.root (given inputs rows)))
+      (has_further count (λ row. slice_index row key)))
+      (record {
+        before = two-before r.nodes l.root r.root left_still.within right_still.within;
+        suits = (
+          body-for closing leaves,
+          subst (λ (x : Shape). key < length x.kinds) (sym left_still.is) known,
+          record { least = some; most = most },
+          record { least = is.some_size; most = is.most_size },
+          record { least = is.some_advance; most = is.most_advance },
+          is.copies,
+          all,
+        );
         timed = tt;
       })
       (λ x. refl) (λ m inputs out spill result. result)

@@ -90,6 +90,14 @@ PlacedFit read sources (shape.PerGroup var source key groups body) nodes =
     PlacedFit read sources source nodes × PlacedFit (λ name. node.Body (kinds_of columns)) (variable var columns)
     body from.nodes
     × FitsNext inside.nodes (node.Group from.root inside.root (column_number columns key) groups)
+PlacedFit read sources (shape.Partition var source key groups size advance body) nodes =
+    let columns = columns_of sources source in
+    let from = placed read sources source nodes in
+    let inside = placed (λ name. node.Body (kinds_of columns)) (variable var columns) body from.nodes in
+    PlacedFit read sources source nodes × PlacedFit (λ name. node.Body (kinds_of columns)) (variable var columns)
+    body from.nodes
+    × FitsNext inside.nodes
+    (node.Partition from.root inside.root (column_number columns key) groups size advance)
 PlacedFit read sources (shape.Union l r) nodes =
     let left = placed read sources l nodes in
     let right = placed read sources r left.nodes in
@@ -131,5 +139,9 @@ CanPlace sources (shape.Each measure var source size advance body) =
 CanPlace sources (shape.PerGroup var source key groups body) =
     CanPlace sources source × CanPlace (variable var (columns_of sources source)) body
     × (column_number (columns_of sources source) key ≤ 255) × (groups ≤ 256)
+CanPlace sources (shape.Partition var source key groups size advance body) =
+    CanPlace sources source × CanPlace (variable var (columns_of sources source)) body
+    × (column_number (columns_of sources source) key ≤ 255) × (groups ≤ 256) × (size ≤ 65536)
+    × (advance ≤ 65536)
 CanPlace sources (shape.Union l r) = CanPlace sources l × CanPlace sources r
 CanPlace sources (shape.Concat l r) = CanPlace sources l × CanPlace sources r

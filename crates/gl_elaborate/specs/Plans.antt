@@ -163,6 +163,11 @@ placed read sources (shape.PerGroup var source key groups body) nodes =
     let from = placed read sources source nodes in
     let inside = placed (λ name. node.Body (kinds_of columns)) (variable var columns) body from.nodes in
     added inside.nodes (node.Group from.root inside.root (column_number columns key) groups)
+placed read sources (shape.Partition var source key groups size advance body) nodes =
+    let columns = columns_of sources source in
+    let from = placed read sources source nodes in
+    let inside = placed (λ name. node.Body (kinds_of columns)) (variable var columns) body from.nodes in
+    added inside.nodes (node.Partition from.root inside.root (column_number columns key) groups size advance)
 placed read sources (shape.Union l r) nodes =
     let left = placed read sources l nodes in
     let right = placed read sources r left.nodes in

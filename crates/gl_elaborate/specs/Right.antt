@@ -23,6 +23,7 @@ pace_at (node.Beside left right) = unsteady
 pace_at (node.Window source body size advance) = unsteady
 pace_at (node.TimeWindow source body size advance) = unsteady
 pace_at (node.Group source body key groups) = unsteady
+pace_at (node.Partition source body key groups size advance) = unsteady
 
 abbrev pub plan_pace : (List ℕ → PlanNode) → Option query.Pace → Pace
 plan_pace read None = unsteady
@@ -36,6 +37,7 @@ leaves_of read (shape.Rows pick filter source) = leaves_of read source
 leaves_of read (shape.Total aggs source) = leaves_of read source
 leaves_of read (shape.Each measure var source size advance body) = leaves_of read source
 leaves_of read (shape.PerGroup var source key groups body) = leaves_of read source
+leaves_of read (shape.Partition var source key groups size advance body) = leaves_of read source
 leaves_of read (shape.Union l r) = leaves_of read l ++ leaves_of read r
 leaves_of read (shape.Concat l r) = leaves_of read l ++ leaves_of read r
 

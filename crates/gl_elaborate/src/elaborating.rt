@@ -92,6 +92,42 @@ fn put_group(
     )
 }
 
+// Adds windows of each group of a column.
+fn put_partition(
+    plan: &mut Plan,
+    source: PlanId,
+    body: PlanId,
+    key: usize,
+    groups: u128,
+    size: u128,
+    advance: u128,
+) -> Result<PlanId, Memory>
+    requires most_key { key ≤ 255 }
+    requires most_groups { groups ≤ 256 }
+    requires most_size { size ≤ 65536 }
+    requires most_advance { advance ≤ 65536 }
+    requires fits { FitsNext plan.old (node.Partition source body key groups size advance) }
+    ensures { IfOk result (λ id.
+        placed_at plan.new id
+        ≡ added plan.old (node.Partition source body key groups size advance)) }
+{
+    let key = key as u8;
+    let groups = groups as u16;
+    let size = size as u32;
+    let advance = advance as u32;
+    put(
+        plan,
+        PlanNode::Partition {
+            source,
+            body,
+            key,
+            groups,
+            size,
+            advance,
+        },
+    )
+}
+
 /// Adds the nodes of a query, and answers its columns too.
 pub fn query_into(
     alloc: Global,
@@ -172,6 +208,32 @@ pub fn query_into(
             let (into, own) = query_into(alloc, inside, body, plan)?;
             let number = column_number(columns.as_slice(), key.text.as_slice());
             let root = put_group(plan, from, into, number, groups.value)?;
+            let all = group_columns(alloc, columns.as_slice(), key.text.as_slice(), own)?;
+            Ok((root, all))
+        }
+        Query::Partition {
+            var,
+            source,
+            key,
+            groups,
+            size,
+            advance,
+            body,
+            ..
+        } => {
+            let (from, columns) = query_into(alloc, sources, source, plan)?;
+            let inside = Sources::Variable(var.text.as_slice(), columns.as_slice());
+            let (into, own) = query_into(alloc, inside, body, plan)?;
+            let number = column_number(columns.as_slice(), key.text.as_slice());
+            let root = put_partition(
+                plan,
+                from,
+                into,
+                number,
+                groups.value,
+                size.value,
+                advance.value,
+            )?;
             let all = group_columns(alloc, columns.as_slice(), key.text.as_slice(), own)?;
             Ok((root, all))
         }

@@ -74,6 +74,9 @@ words_of schema (node.TimeWindow source body size advance) =
     codes "times" ++ node_text source ++ node_text body ++ numbered (codes " ") size ++ numbered (codes " ") advance
 words_of schema (node.Group source body key groups) =
     codes "group" ++ node_text source ++ node_text body ++ column_text key ++ numbered (codes " ") groups
+words_of schema (node.Partition source body key groups size advance) =
+    codes "partition" ++ node_text source ++ node_text body ++ column_text key ++ numbered (codes " ") groups
+    ++ numbered (codes " ") size ++ numbered (codes " ") advance
 
 -- the seven figures
 unfoldable pub figures_text : Figures → List ℕ

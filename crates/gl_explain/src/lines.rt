@@ -178,6 +178,20 @@ fn put_words(text: &mut Vec<u8>, schema: &Schema, node: &PlanNode) -> Result<(),
             put_column(text, u128::from(*key))?;
             put_number(text, b" ", u128::from(*groups))
         }
+        PlanNode::Partition {
+            source,
+            body,
+            key,
+            groups,
+            size,
+            advance,
+        } => {
+            put_two(text, b"partition", *source, *body)?;
+            put_column(text, u128::from(*key))?;
+            put_number(text, b" ", u128::from(*groups))?;
+            put_number(text, b" ", u128::from(*size))?;
+            put_number(text, b" ", u128::from(*advance))
+        }
     }
 }
 

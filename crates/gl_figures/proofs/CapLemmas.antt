@@ -4,14 +4,14 @@ use Rattle.std.proofs.Math.Nat.{mul-le-mul_left, mul-le-mul_right}
 use Rattle.std.proofs.lemmas.Bool.{cases_lt}
 use Rattle.gl_algebra.specs.declared.figures.Figures.{Figures}
 use Rattle.gl_algebra.specs.declared.node.PlanNode.{PlanNode}
-use Rattle.gl_algebra.specs.declared.node.PlanNode.TheVariants.{Stream, Body, Compute, Select, Project, Aggregate, Union, Beside, Window, TimeWindow, Group}
+use Rattle.gl_algebra.specs.declared.node.PlanNode.TheVariants.{Stream, Body, Compute, Select, Project, Aggregate, Union, Beside, Window, TimeWindow, Group, Partition}
 use Rattle.gl_algebra.specs.FigureTable.{figures_of}
 use Rattle.gl_algebra.specs.Fits.{IsPlan, Suits}
 use Rattle.gl_algebra.specs.Nodewise.{named_by}
-use Rattle.gl_algebra.specs.Views.{copies_of_time, copies_of_window}
+use Rattle.gl_algebra.specs.Views.{copies_of_partition, copies_of_time, copies_of_window}
 use Rattle.gl_algebra.specs.Shapes.{Shape, shape_of}
 use Rattle.gl_algebra.specs.Weights.{sum_over_children, own_weight, weight_from, weight_of, copies_from, copies_of, lines_of}
-use Rattle.gl_algebra.proofs.FigureLemmas.{one_copy, one_in_time}
+use Rattle.gl_algebra.proofs.FigureLemmas.{one_copy, some_copies, one_in_time}
 use Rattle.gl_algebra.proofs.PlanLemmas.{by_nodes}
 use Rattle.gl_algebra.proofs.TableLemmas.{nodes_follow_tables}
 use Rattle.gl_figures.specs.Known.{capped, capped_at}
@@ -88,6 +88,9 @@ copies-capped s (TimeWindow source body size advance) v suits =
     sum_alike (v source) _ _ (times_alike' (copies_of_time size advance) (v body) (one_in_time size advance))
 copies-capped s (Group source body key groups) v suits =
     sum_alike (v source) _ _ (times_alike' groups (v body) suits.2.least)
+copies-capped s (Partition source body key groups size advance) v suits =
+    sum_alike (v source) _ _ (times_alike' (copies_of_partition groups size advance) (v body)
+    (some_copies groups size advance suits.2.least suits.3.least suits.4.least))
 
 pub weight-capped : (s : ℕ → Shape) (f : ℕ → Figures) (lines : ℕ) (node : PlanNode) (v : ℕ → ℕ) → Suits s node
     → capped (sum_over_children (capped_at v) node + own_weight s f (capped_at v) lines node)
@@ -108,6 +111,10 @@ weight-capped s f lines (TimeWindow source body size advance) v suits =
     (times_alike (copies_of_time size advance) _ (v body) (one_in_time size advance)))))
 weight-capped s f lines (Group source body key groups) v suits =
     sum_alike (v source) _ _ (more_alike _ _ _ (more_alike _ _ _ (times_alike groups _ (v body) suits.2.least)))
+weight-capped s f lines (Partition source body key groups size advance) v suits =
+    sum_alike (v source) _ _ (more_alike _ _ _ (more_alike _ _ _ (more_alike _ _ _
+    (times_alike (copies_of_partition groups size advance) _ (v body)
+    (some_copies groups size advance suits.2.least suits.3.least suits.4.least)))))
 
 -- ---- copies and weights
 
@@ -137,6 +144,11 @@ row_light s f v w (TimeWindow source body size advance) light =
 row_light s f v w (Group source body key groups) light =
     let one = light 0 0 (lit< tt) in
     let each = copied groups (v body) (w body) (lines_of (s source) + (length (s body).kinds + 1 + 2)) (light 1 0 (lit< tt)) in
+    omega arith
+row_light s f v w (Partition source body key groups size advance) light =
+    let one = light 0 0 (lit< tt) in
+    let lines : ℕ = lines_of (s source) + (length (s body).kinds + 1 + 2) in
+    let each = copied (copies_of_partition groups size advance) (v body) (w body) lines (light 1 0 (lit< tt)) in
     omega arith
 
 -- a node has no more copies than it weighs

@@ -6,7 +6,7 @@ use Rattle.gl_bits.specs.Limits.{most_weight}
 use Rattle.gl_algebra.specs.declared.figures.Figures.{Figures}
 use Rattle.gl_algebra.specs.declared.figures.Spare.{Spare}
 use Rattle.gl_algebra.specs.declared.node.PlanNode.{PlanNode}
-use Rattle.gl_algebra.specs.declared.node.PlanNode.TheVariants.{Stream, Body, Compute, Select, Project, Aggregate, Union, Beside, Window, TimeWindow, Group}
+use Rattle.gl_algebra.specs.declared.node.PlanNode.TheVariants.{Stream, Body, Compute, Select, Project, Aggregate, Union, Beside, Window, TimeWindow, Group, Partition}
 use Rattle.gl_algebra.specs.FigureTable.{AreSmall, figures_of, stride_of}
 use Rattle.gl_algebra.specs.Fits.{IsPlan}
 use Rattle.gl_algebra.specs.Nodewise.{value_at_node}
@@ -44,6 +44,7 @@ none_inside nodes root node at not = sym (inside_there nodes root node at ∙ by
     by (Beside left right) not = refl
     by (TimeWindow source body size advance) not = refl
     by (Group source body key groups) not = refl
+    by (Partition source body key groups size advance) not = refl
 
 -- without spare copies
 pub printed_alone : (nodes : List PlanNode) (root : ℕ) (own : Figures) (copies : ℕ) → IsPlan nodes → root < length nodes → own ≡ figures_of nodes root
@@ -129,6 +130,7 @@ module _ (nodes : List PlanNode) (root : ℕ) (plan : IsPlan nodes) (small : Are
   by_node (Beside left right) it at h = small.le
   by_node (TimeWindow source body size advance) it at h = small.le
   by_node (Group source body key groups) it at h = small.le
+  by_node (Partition source body key groups size advance) it at h = small.le
 
   by_spare : root < length nodes → (o : Option Spare) → spare_at nodes root ≡ o → (root_figures nodes root).le < 2 ^ 32
   by_spare within None h =

@@ -9,7 +9,7 @@ use Rattle.gl_bits.specs.Limits.{most_rows, most_weight}
 use Rattle.gl_algebra.specs.declared.figures.Figures.{Figures}
 use Rattle.gl_algebra.specs.declared.figures.Spare.{Spare}
 use Rattle.gl_algebra.specs.declared.node.PlanNode.{PlanNode}
-use Rattle.gl_algebra.specs.declared.node.PlanNode.TheVariants.{Stream, Body, Compute, Select, Project, Aggregate, Union, Beside, Window, TimeWindow, Group}
+use Rattle.gl_algebra.specs.declared.node.PlanNode.TheVariants.{Stream, Body, Compute, Select, Project, Aggregate, Union, Beside, Window, TimeWindow, Group, Partition}
 use Rattle.gl_algebra.specs.FigureTable.{IsSound, figures_of}
 use Rattle.gl_algebra.specs.Fits.{IsPlan, IsWithin}
 use Rattle.gl_algebra.specs.Nodewise.{value_at_node}
@@ -116,6 +116,7 @@ module _ (nodes : List PlanNode) (root : ℕ) (node : PlanNode) (at : slice_get 
       by (Beside left right) not = refl
       by (TimeWindow source body size advance) not = refl
       by (Group source body key groups) not = refl
+      by (Partition source body key groups size advance) not = refl
 
   pub is_light : (it : Spare) (weight : ℕ) → spare_in (figures_of nodes) node ≡ Some it
       → weight ≡ capped (weight_with_further nodes root node (further_copies (Some it) node)) → weight ≤ most_weight → Some it ≡ spare_at nodes root
@@ -183,6 +184,7 @@ module _ (nodes : List PlanNode) (root : ℕ) (plan : IsPlan nodes) (within : ro
   closer (Beside left right) it at h = absurd (cc (h))
   closer (TimeWindow source body size advance) it at h = absurd (cc (h))
   closer (Group source body key groups) it at h = absurd (cc (h))
+  closer (Partition source body key groups size advance) it at h = absurd (cc (h))
 
   with_spare : (it : Spare) → spare_at nodes root ≡ Some it → gap_of nodes root < (figures_of nodes root).gt
   with_spare it h =

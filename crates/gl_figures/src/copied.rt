@@ -7,7 +7,7 @@ ghost use Rattle.gl_algebra.specs.Nodewise.{named_by};
 ghost use Rattle.gl_algebra.specs.Weights.{copies_from, copies_of};
 ghost use Rattle.gl_figures.specs.Known.{capped, capped_at, HasValues};
 
-use gl_algebra::table::{copies_of_time, copies_of_window};
+use gl_algebra::table::{copies_of_partition, copies_of_time, copies_of_window};
 use gl_algebra::{Plan, PlanId, PlanNode};
 
 // A number, or 2^62 where it is more.
@@ -98,6 +98,18 @@ fn copies_over(plan: &Plan, copies: &[u64], number: usize, node: &PlanNode) -> u
         } => {
             let each = 1 + copies_at(plan, copies, number, *body);
             let own = times(each, *groups as u128);
+            cap(copies_at(plan, copies, number, *source) + own)
+        }
+        PlanNode::Partition {
+            source,
+            body,
+            groups,
+            size,
+            advance,
+            ..
+        } => {
+            let each = 1 + copies_at(plan, copies, number, *body);
+            let own = times(each, copies_of_partition(*groups, *size, *advance) as u128);
             cap(copies_at(plan, copies, number, *source) + own)
         }
     }

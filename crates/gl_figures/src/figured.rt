@@ -11,8 +11,9 @@ ghost use Rattle.gl_figures.specs.Known.{small_over, HasFigures};
 
 use crate::Limit;
 use gl_algebra::table::{
-    aggregate_figures, beside_figures, copies_of_time, copies_of_window, delay_of_aggs,
-    group_figures, input_figures, picked_figures, row_figures, union_figures, window_figures,
+    aggregate_figures, beside_figures, copies_of_partition, copies_of_time, copies_of_window,
+    delay_of_aggs, group_figures, input_figures, partition_figures, picked_figures, row_figures,
+    union_figures, window_figures,
 };
 use gl_algebra::{Figures, Plan, PlanId, PlanNode};
 
@@ -104,6 +105,20 @@ fn figures_over(plan: &Plan, figures: &[Figures], number: usize, node: &PlanNode
         } => {
             group_figures(
                 *groups as u32,
+                &figures_at(plan, figures, number, *source),
+                &figures_at(plan, figures, number, *body),
+            )
+        }
+        PlanNode::Partition {
+            source,
+            body,
+            groups,
+            size,
+            advance,
+            ..
+        } => {
+            partition_figures(
+                copies_of_partition(*groups, *size, *advance),
                 &figures_at(plan, figures, number, *source),
                 &figures_at(plan, figures, number, *body),
             )

@@ -12,7 +12,9 @@ ghost use Rattle.gl_figures.specs.Known.{capped, capped_at, own_weight_by, weigh
 
 use crate::copied::{cap, times};
 use crate::figured::figures_at;
-use gl_algebra::table::{copies_of_time, copies_of_window, delay_of_agg, delay_of_aggs, wait_of};
+use gl_algebra::table::{
+    copies_of_partition, copies_of_time, copies_of_window, delay_of_agg, delay_of_aggs, wait_of,
+};
 use gl_algebra::{Figures, Plan, PlanAgg, PlanId, PlanNode};
 use gl_bits::Kind;
 
@@ -119,6 +121,7 @@ fn weight_of_children(plan: &Plan, weights: &[u64], number: usize, node: &PlanNo
         PlanNode::Window { source, .. } => weight_at(plan, weights, number, *source),
         PlanNode::TimeWindow { source, .. } => weight_at(plan, weights, number, *source),
         PlanNode::Group { source, .. } => weight_at(plan, weights, number, *source),
+        PlanNode::Partition { source, .. } => weight_at(plan, weights, number, *source),
         PlanNode::Union { left, right } => {
             weight_at(plan, weights, number, *left) + weight_at(plan, weights, number, *right)
         }
@@ -232,6 +235,22 @@ fn own_weight(
             let spacer = weight_of_spacer(inside.gt, &around, lines);
             let weight = weight_at(plan, weights, number, *body);
             weight_of_copies(*groups as u32, weight, lines, own) + spacer
+        }
+        PlanNode::Partition {
+            source,
+            body,
+            groups,
+            size,
+            advance,
+            ..
+        } => {
+            let inside = figures_at(plan, figures, number, *body);
+            let around = figures_at(plan, figures, number, *source);
+            let lines = lines_of(plan, *source);
+            let spacer = weight_of_spacer(inside.gt.max(inside.ge), &around, lines);
+            let copies = copies_of_partition(*groups, *size, *advance);
+            let weight = weight_at(plan, weights, number, *body);
+            weight_of_copies(copies, weight, lines, own) + 16 * *groups as u128 + spacer
         }
     }
 }

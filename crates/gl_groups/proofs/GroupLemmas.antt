@@ -88,7 +88,7 @@ module _ (s : Figures) (sound : IsSound s) (count : ℕ) (key : Row → ℕ) (a 
       let y = x.1 in
       record { of = x.0; comes = an_end x.1; low = x.2; high = x.3; at_once = λ e. absurd (cc (e, y)) }
 
-  pub rotates : Rotates s count (group_gap s) (λ n. 0) (λ n. count) visit_group a (by_tuples a) (λ u. groups count key (stream a u)) group_visits ins
+  pub rotates : Rotates s count count (group_gap s) (λ n. 0) (λ n. count) visit_group a (by_tuples a) (λ u. groups count key (stream a u)) group_visits ins
   rotates = record {
     schedules = slots_schedule setting s refl (omega arith) refl;
     origin = origin;
@@ -217,7 +217,7 @@ module _ (f s : Figures) (sound_f : IsSound f) (sound_s : IsSound s) (closing : 
       let lifted = lift_spills s (λ u xs. IsOfGroup Body (visit_group s sound_s count key a ins law some timed (u, xs))) count (who_slots count key (stride_of s) a) lines ins (with_keys keys outs) sound_s closing rot.schedules
       (λ k l. shown timed k l (rot.schedules.spaced k l) (served k l (rot.schedules.spaced k l)))
       in
-      whole_lines f s h count (group_gap s) (rest_gap count s) (λ n. 0) (λ n. count) (visit_group s sound_s count key a ins law some timed) (group_table count f s some sound_s)
+      whole_lines f s h count count (group_gap s) (rest_gap count s) (λ n. 0) (λ n. count) (visit_group s sound_s count key a ins law some timed) (group_table count f s some sound_s)
       sound_f sound_s (groups_sound count f s some sound_f sound_s) some beats spaced a fits (who_slots count key (stride_of s) a) ins (with_keys keys outs)
       (IsOfGroup Body) lines lifted b close back close_first (closes_late timed) (groups count key) timed rot
 

@@ -158,6 +158,18 @@ fn push_node(out: &mut String, schema: &Schema, node: &PlanNode) -> Result<(), A
             write!(out, "group p{} p{}", source.number(), body.number())?;
             write!(out, " c{} {}", *key, *groups)?;
         }
+        PlanNode::Partition {
+            source,
+            body,
+            key,
+            groups,
+            size,
+            advance,
+        } => {
+            write!(out, "partition p{} p{}", source.number(), body.number())?;
+            write!(out, " c{} {}", *key, *groups)?;
+            write!(out, " {} {}", *size, *advance)?;
+        }
     }
     Ok(())
 }

@@ -46,6 +46,7 @@ paced (shape.Rows pick None source) env out spill r =
 paced (shape.Total aggs source) env out spill r = ap length r.changed
 paced (shape.Each measure var source size advance body) env out spill r = tt
 paced (shape.PerGroup var source key n body) env out spill r = tt
+paced (shape.Partition var source key n size advance body) env out spill r = tt
 paced (shape.Union l r) env out spill both = tt
 paced (shape.Concat l r) env out spill both =
     let same = ap length both.join.rows ∙ length_beside both.left both.right both.join.paired in
@@ -119,6 +120,8 @@ some_result (shape.Total aggs source) env timed a = some_changed (IsResultIn sou
 some_result (shape.Each measure var source size advance body) env timed a =
     some_of_parts (IsResultIn source env) _ _ _ (some_result source env timed a.0) (λ rows. some_result body _ false a.2)
 some_result (shape.PerGroup var source key n body) env timed a =
+    some_of_parts (IsResultIn source env) _ _ _ (some_result source env timed a.0) (λ g. some_changed _ _ (some_result body _ false a.2))
+some_result (shape.Partition var source key n size advance body) env timed a =
     some_of_parts (IsResultIn source env) _ _ _ (some_result source env timed a.0) (λ g. some_changed _ _ (some_result body _ false a.2))
 some_result (shape.Union l r) env timed a =
     let x = some_result l env timed a.0 in

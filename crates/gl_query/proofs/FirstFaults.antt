@@ -1,6 +1,7 @@
 -- A statement has no first fault exactly where it is accepted.
-use Rattle.std.proofs.Common.{◌≡◌, ℕ, ◌<◌, ◌≤◌, true, false, List, [], ◌∷◌, length, map, Option, Some, None, refl, sym, ap, subst, arith, lit≤}
+use Rattle.std.proofs.Common.{◌≡◌, ℕ, ◌*◌, ◌<◌, ◌≤◌, true, false, List, [], ◌∷◌, length, map, Option, Some, None, refl, sym, ap, subst, arith, lit≤}
 use Rattle.std.specs.Prelude.{not, IsSome, bytes_eq, nat_le, nat_lt}
+use Rattle.std.specs.Int.{div_ceil}
 use Rattle.std.specs.List.{AllByRecursion, IsDistinct, list_any}
 use Rattle.std.proofs.lemmas.Bool.{leb-true, le-leb, ltb-true, lt-ltb}
 use Rattle.std.proofs.lemmas.Map.Keys.{IsDistinct-cons, IsDistinct-head, IsDistinct-tail}
@@ -9,6 +10,7 @@ use Rattle.gl_bits.proofs.Bools.{and_both, and_parts, bytes_own, bytes_same, nei
 use Rattle.gl_schema.specs.declared.schema.Column.{Column as NamedColumn}
 use Rattle.gl_schema.specs.Schemas.{column_names, has_column, has_stream, kinds_of}
 use Rattle.gl_query.specs.declared.tree.Measure.{Measure}
+use Rattle.gl_query.specs.declared.tree.Measure.TheVariants.{Tuples}
 use Rattle.gl_query.specs.declared.tree.Name.{Name}
 use Rattle.gl_query.specs.declared.tree.Num.{Num}
 use Rattle.gl_query.specs.Trees as tree
@@ -19,7 +21,7 @@ use Rattle.gl_query.specs.Values.{HasKind, kind_alone}
 use Rattle.gl_query.specs.Columns.{Pace, Once, Step, agg_column, is_closing, item_column, pace_of}
 use Rattle.gl_query.specs.Accepted.{AreResultColumns, IsAcceptedOver, IsAgg, IsPick, IsTotal, IsWindow, KeepPace, Scope, body_scope, can_measure, columns_under}
 use Rattle.gl_query.specs.Windows.{copies_of}
-use Rattle.gl_query.specs.Faults.{unless, agg_fault, are_distinct, aggs_fault, beside_fault, is_within, key_fault, pick_fault, query_fault, same_kinds, same_pace, whole_fault, window_fault}
+use Rattle.gl_query.specs.Faults.{unless, agg_fault, are_distinct, aggs_fault, beside_fault, is_within, key_fault, pick_fault, query_fault, same_kinds, same_pace, whole_fault, window_fault, windows_fault}
 use Rattle.gl_query.specs.Laws.{FirstFaultsAreExact}
 use Rattle.gl_query.proofs.Deciding.{Decides, agg_decides, always, both, change, equal_lists, filter_decides, is_within_of, lists_equal, named_decides, rule, test, whole_decides, within}
 use Rattle.gl_query.proofs.Real.{IsScope, body_is, no_names, real, schema_is}
@@ -213,6 +215,40 @@ query_decides (tree.PerGroup var source key groups body at) scope s =
       h.1.1.1.1.0,
     ))
     (λ a. (a.0, (a.1.known, ((a.1.some_groups, a.1.most_groups), (a.2, (a.3, a.1.columns))))))
+query_decides (tree.Partition var source key groups size advance body at) scope s =
+    let columns = columns_under scope (query_alike source) in
+    let inside = body_scope var.text columns in
+    let n = groups.value in
+    let all = n * div_ceil size.value advance.value in
+    let behind = columns_under inside (query_alike body) in
+    change _
+    (both (query_fault scope source) _ (query_decides source scope s)
+    (λ a. let r = real (query_alike source) scope s a in
+    let scoped = body_is var.text columns r.result r.kinds in
+    both (unless (has_column columns key.text) _) _ (test (has_column columns key.text) _)
+    (λ k. both (unless (is_within n 256) _) _ (rule (is_within n 256) _ ((1 ≤ n) × (n ≤ 256)) (within n 256) (is_within_of n 256))
+    (λ g. both (window_fault Tuples size advance) _ (window_decides Tuples size advance)
+    (λ w. both (windows_fault groups size advance) _ (rule (nat_le all 256) _ (all ≤ 256) (leb-true all 256) (le-leb all 256))
+    (λ m. both (query_fault inside body) _ (query_decides body inside scoped)
+    (λ b. both (unless (is_closing (query_alike body)) _) _ (test (is_closing (query_alike body)) _)
+    (λ c. key_decides key _ behind refl (real (query_alike body) inside scoped b).result))))))))
+    (λ h. (
+      h.0,
+      record {
+        grouping = record { known = h.1.0; some_groups = h.1.1.0.0; most_groups = h.1.1.0.1; columns = h.1.1.1.1.1.1.1 };
+        window = h.1.1.1.0;
+        windows = h.1.1.1.1.0;
+      },
+      h.1.1.1.1.1.0,
+      h.1.1.1.1.1.1.0,
+    ))
+    (λ a. (
+      a.0,
+      (
+        a.1.grouping.known,
+        ((a.1.grouping.some_groups, a.1.grouping.most_groups), (a.1.window, (a.1.windows, (a.2, (a.3, a.1.grouping.columns))))),
+      ),
+    ))
 query_decides (tree.Union l r at) scope s =
     let left = kinds_of (columns_under scope (query_alike l)) in
     let right = kinds_of (columns_under scope (query_alike r)) in

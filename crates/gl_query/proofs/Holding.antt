@@ -1,8 +1,9 @@
 -- A property of rows that each step from the sources to the result of a query keeps holds of the rows of the result.
-use Rattle.std.proofs.Common.{◌≡◌, ℕ, zero, suc, ◌+◌, ◌*◌, ◌/◌, Bool, false, List, [], ◌∷◌, ◌++◌, length, refl, sym, subst, map, filter, take, drop, nat_lt, nat_eq}
-use Rattle.std.specs.Prelude.{◌&&◌, nat_le, IsTrue, bytes_eq, not, slice_index}
+use Rattle.std.proofs.Common.{◌≡◌, ℕ, zero, suc, ◌-◌, ◌+◌, ◌*◌, ◌%◌, ◌/◌, Bool, false, List, [], ◌∷◌, ◌++◌, length, refl, sym, subst, map, filter, take, drop, nat_lt, nat_eq}
+use Rattle.std.specs.Prelude.{◌&&◌, nat_le, IsTrue, bytes_eq, flat_map, not, slice_index}
 use Rattle.std.specs.List.{AllByRecursion, filter_map, range_with_len}
 use Rattle.gl_bits.specs.Lists.{Group, IsInterleaving, nothing, from_first, from_second, distinct, groups, keys_of, rows_with, slice_at, slices}
+use Rattle.gl_bits.specs.Partitions.{completed, completed_by, fulls, has_key, keyed, parts, short_slices}
 use Rattle.gl_bits.specs.Results.{Row, Results, AreJoined, IsOfGroup, beside}
 use Rattle.gl_bits.specs.Times.{tfirsts, tpart}
 use Rattle.gl_bits.proofs.AllLists.{all_append, all_weaker}
@@ -110,6 +111,53 @@ all_groups P n key_of rows h =
     let keys = all_take (HasKey P key_of) n (keys_of key_of rows) (all_distinct (HasKey P key_of) (map key_of rows) (all_keys P key_of rows h)) in
     all_groups_of P key_of rows (take n (keys_of key_of rows)) h keys
 
+-- ---- windows of groups
+
+all_keyed : (P : Row → Type 0) (key_of : Row → ℕ) (key : ℕ) (windows : List (List Row)) → HasKey P key_of key → AllByRecursion (AllByRecursion P) windows
+    → AllByRecursion (IsGroupOf P key_of) (keyed key windows)
+all_keyed P key_of key [] k h = tt
+all_keyed P key_of key (w ∷ ws) k h = (record { rows = h.0; key = k }, all_keyed P key_of key ws k h.1)
+
+all_completed : (P : Row → Type 0) (size advance : ℕ) (rows : List Row) → AllByRecursion P rows → AllByRecursion (AllByRecursion P) (completed size advance rows)
+all_completed P size advance rows h =
+    by_cases (nat_le size (length rows) && nat_eq ((length rows - size) % advance) 0)
+    (λ e. rw e (all_drop P (length rows - size) rows h, tt)) (λ e. rw e tt)
+
+all_completed_by : (P : Row → Type 0) (n : ℕ) (key_of : Row → ℕ) (size advance : ℕ) (seen : List Row) (row : Row) → AllByRecursion P seen → P row
+    → AllByRecursion (IsGroupOf P key_of) (completed_by n key_of size advance seen row)
+all_completed_by P n key_of size advance seen row h p =
+    let own = rows_with key_of (seen ++ row ∷ []) (key_of row) in
+    let held = all_filter P (λ x. nat_eq (key_of x) (key_of row)) (seen ++ row ∷ []) (all_append P seen (row ∷ []) h (p, tt)) in
+    by_cases (has_key n key_of (seen ++ row ∷ []) (key_of row))
+    (λ e. rw e (all_keyed P key_of (key_of row) (completed size advance own) (record { row = row; holds = p; is = refl }) (all_completed P size advance own held)))
+    (λ e. rw e tt)
+
+all_fulls : (P : Row → Type 0) (n : ℕ) (key_of : Row → ℕ) (size advance : ℕ) (seen rows : List Row) → AllByRecursion P seen → AllByRecursion P rows
+    → AllByRecursion (IsGroupOf P key_of) (fulls n key_of size advance seen rows)
+all_fulls P n key_of size advance seen [] h k = tt
+all_fulls P n key_of size advance seen (row ∷ rows) h k =
+    all_append (IsGroupOf P key_of) (completed_by n key_of size advance seen row) (fulls n key_of size advance (seen ++ row ∷ []) rows)
+    (all_completed_by P n key_of size advance seen row h k.0)
+    (all_fulls P n key_of size advance (seen ++ row ∷ []) rows (all_append P seen (row ∷ []) h (k.0, tt)) k.1)
+
+all_shorts : (P : Row → Type 0) (key_of : Row → ℕ) (size advance : ℕ) (gs : List (Group Row)) → AllByRecursion (IsGroupOf P key_of) gs
+    → AllByRecursion (IsGroupOf P key_of) (flat_map (λ (g : Group Row). keyed g.key (short_slices size advance g.rows)) gs)
+all_shorts P key_of size advance [] h = tt
+all_shorts P key_of size advance (g ∷ gs) h =
+    all_append (IsGroupOf P key_of) (keyed g.key (short_slices size advance g.rows))
+    (flat_map (λ (g : Group Row). keyed g.key (short_slices size advance g.rows)) gs)
+    (all_keyed P key_of g.key (short_slices size advance g.rows) h.0.key
+    (all_filter (AllByRecursion P) (λ ys. nat_lt (length ys) size) (slices size advance g.rows) (all_slices P size advance g.rows h.0.rows)))
+    (all_shorts P key_of size advance gs h.1)
+
+pub all_windows_of : (P : Row → Type 0) (n : ℕ) (key_of : Row → ℕ) (size advance : ℕ) (rows : List Row) → AllByRecursion P rows
+    → AllByRecursion (IsGroupOf P key_of) (parts n key_of size advance rows)
+unfolding parts
+all_windows_of P n key_of size advance rows h =
+    all_append (IsGroupOf P key_of) (fulls n key_of size advance [] rows)
+    (flat_map (λ (g : Group Row). keyed g.key (short_slices size advance g.rows)) (groups n key_of rows))
+    (all_fulls P n key_of size advance [] rows tt h) (all_shorts P key_of size advance (groups n key_of rows) (all_groups P n key_of rows h))
+
 -- ---- results of results
 
 all_joined : {A : Type 0} (P : Row → Type 0) (Part : A → Type 0) (body : A → Results)
@@ -169,6 +217,19 @@ results_hold P k (shape.PerGroup var source key n body) env timed out spill a h 
     λ rest held. subst (λ (first : ℕ). Whole (first ∷ rest)) p.key.is (k.keyed columns more key p.key.row rest a.1.known p.key.holds held) in
     subst (AllByRecursion Whole) (sym is.changed) (all_under (P more) Whole (λ row. g.key ∷ row) one is.rows inner))
     (groups n key_of r.rows) out r.parts_spill (all_groups (P columns) n key_of r.rows rows) r.of_parts
+results_hold P k (shape.Partition var source key n size advance body) env timed out spill a h r =
+    let columns = columns_in env source in
+    let more = columns_of (variable var columns) body in
+    let key_of : Row → ℕ = λ row. slice_index row (column_number columns key) in
+    let rows = results_hold P k source env timed r.rows r.source_spill a.0 h r.of_source in
+    let Whole : Row → Type 0 = P (record { name = key; kind = column_kind columns key } ∷ more) in
+    all_joined Whole (IsGroupOf (P columns) key_of) (IsOfGroup (λ part. IsResultIn body (only var columns part)))
+    (λ (g : Group Row) o s p is.
+    let inner = results_hold P k body (only var columns g.rows) false is.rows s a.2 (holds_within P var columns g.rows p.rows) is.of_source in
+    let one : (rest : Row) → P more rest → Whole (g.key ∷ rest) =
+    λ rest held. subst (λ (first : ℕ). Whole (first ∷ rest)) p.key.is (k.keyed columns more key p.key.row rest a.1.grouping.known p.key.holds held) in
+    subst (AllByRecursion Whole) (sym is.changed) (all_under (P more) Whole (λ row. g.key ∷ row) one is.rows inner))
+    (parts n key_of size advance r.rows) out r.parts_spill (all_windows_of (P columns) n key_of size advance r.rows rows) r.of_parts
 results_hold P k (shape.Union l r) env timed out spill a h is =
     let columns = columns_in env l in
     let left = results_hold P k l env timed is.left is.left_spill a.0 h is.of_left in

@@ -152,6 +152,11 @@ real (shape.PerGroup var source key groups body) scope s a =
     let r = real source scope s a.0 in
     let inner = real body (body_scope var columns) (body_is var columns r.result r.kinds) a.2 in
     record { result = a.1.columns; kinds = (kind_at columns (column_number columns key) r.kinds, inner.kinds) }
+real (shape.Partition var source key groups size advance body) scope s a =
+    let columns = columns_under scope source in
+    let r = real source scope s a.0 in
+    let inner = real body (body_scope var columns) (body_is var columns r.result r.kinds) a.2 in
+    record { result = a.1.grouping.columns; kinds = (kind_at columns (column_number columns key) r.kinds, inner.kinds) }
 real (shape.Union l r) scope s a = real l scope s a.0
 real (shape.Concat l r) scope s a =
     let x = real l scope s a.0 in
@@ -211,6 +216,7 @@ some (shape.Total aggs source) scope s i a = subst (λ (k : ℕ). 1 ≤ k) (sym 
 some (shape.Each measure var source size advance body) scope s i a =
     some body (body_scope var (columns_under scope source)) (body_some var (columns_under scope source) (some source scope s i.0 a.0)) i.1 a.2
 some (shape.PerGroup var source key groups body) scope s i a = omega arith
+some (shape.Partition var source key groups size advance body) scope s i a = omega arith
 some (shape.Union l r) scope s i a = some l scope s i.0 a.0
 some (shape.Concat l r) scope s i a =
     let h = some l scope s i.0 a.0 in

@@ -2,6 +2,7 @@
 use Rattle.std.proofs.Common.{◌≡◌, ℕ, ◌+◌, false, List, [], ◌∷◌, refl, ap, ◌∙◌, subst}
 use Rattle.std.specs.Prelude.{bytes_eq, map, slice_index}
 use Rattle.gl_bits.specs.Lists.{IsInterleaving, groups, has_further, slices}
+use Rattle.gl_bits.specs.Partitions.{parts}
 use Rattle.gl_bits.specs.Results.{Row, Results, AreBeside, IsChanged, IsInput, IsOfBoth, IsOfGroup, IsOfParts}
 use Rattle.gl_bits.proofs.Bools.{by_cases, neither_parts}
 use Rattle.gl_schema.specs.declared.schema.Stream.{Stream}
@@ -39,6 +40,13 @@ same_results (shape.PerGroup var source key n body) t env other h =
     let apart = neither_parts (has_time source) (has_time body) t in
     let step : List Stream → Results → Results =
     λ s r. IsOfParts r (groups n (λ (row : Row). slice_index row (column_number (columns_of s source) key)))
+    (IsOfGroup (λ rows. IsResultIn body (only var (columns_of s source) rows)))
+    (has_further n (λ (row : Row). slice_index row (column_number (columns_of s source) key))) in
+    ap (λ (s : List Stream). step s (IsResultIn source env)) h.streams ∙ ap (step (streams_of other)) (same_results source apart.0 env other h)
+same_results (shape.Partition var source key n size advance body) t env other h =
+    let apart = neither_parts (has_time source) (has_time body) t in
+    let step : List Stream → Results → Results =
+    λ s r. IsOfParts r (parts n (λ (row : Row). slice_index row (column_number (columns_of s source) key)) size advance)
     (IsOfGroup (λ rows. IsResultIn body (only var (columns_of s source) rows)))
     (has_further n (λ (row : Row). slice_index row (column_number (columns_of s source) key))) in
     ap (λ (s : List Stream). step s (IsResultIn source env)) h.streams ∙ ap (step (streams_of other)) (same_results source apart.0 env other h)

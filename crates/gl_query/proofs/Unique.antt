@@ -12,5 +12,7 @@ unique (shape.Each measure var source size advance body) none env =
     one_of_parts (IsResultIn source env) _ _ _ (unique source none.0 env) (λ rows. unique body none.1 _)
 unique (shape.PerGroup var source key n body) none env =
     one_of_parts (IsResultIn source env) _ _ _ (unique source none.0 env) (λ g. one_changed _ _ (unique body none.1 _))
+unique (shape.Partition var source key n size advance body) none env =
+    one_of_parts (IsResultIn source env) _ _ _ (unique source none.0 env) (λ g. one_changed _ _ (unique body none.1 _))
 unique (shape.Union l r) none env = absurd none
 unique (shape.Concat l r) none env = one_of_both (IsResultIn l env) (IsResultIn r env) (unique l none.0 env) (unique r none.1 env)

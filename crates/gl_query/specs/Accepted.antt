@@ -1,5 +1,6 @@
 -- Which statements are accepted over a schema.
-use Rattle.std.specs.Prelude.{◌≡◌, ℕ, ◌≤◌, Bool, true, false, List, length, Option, Some, None, IsSome, IsTrue, bytes_eq}
+use Rattle.std.specs.Prelude.{◌≡◌, ℕ, ◌*◌, ◌≤◌, Bool, true, false, List, length, Option, Some, None, IsSome, IsTrue, bytes_eq}
+use Rattle.std.specs.Int.{div_ceil}
 use Rattle.std.specs.List.{AllByRecursion, IsDistinct}
 use Rattle.gl_bits.specs.Kinds.{is_number}
 use Rattle.gl_bits.specs.Limits as limit
@@ -82,13 +83,21 @@ pub record IsGrouping (source : List Column) (key : List ℕ) (groups : ℕ) (re
   pub most_groups : groups ≤ limit.most_groups
   pub columns : AreResultColumns result
 
+-- the key and GROUPS are as for groups, SIZE and ADVANCE as for windows, and at most 256 windows of all groups are open
+-- at once
+pub record IsPartitioning (source : List Column) (key : List ℕ) (groups size advance : ℕ) (result : List Column)
+    : Type 0 where
+  pub grouping : IsGrouping source key groups result
+  pub window : IsWindow Tuples size advance
+  pub windows : groups * div_ceil size advance ≤ limit.most_windows
+
 -- both sides give one row, or one for each row of the same source
 pub record KeepPace (l r : QueryShape) : Type 0 where
   pub paced : IsSome (pace_of l)
   pub same : pace_of l ≡ pace_of r
 
--- what a query may read: the streams of a schema, whose rows have times, or the variable of the body around alone, whose
--- rows have none
+-- what a query may read: the streams of a schema, whose rows have times, or the variable of the body around alone,
+-- whose rows have none
 pub record Scope : Type 0 where
   pub sources : List Stream
   pub timed : Bool
@@ -129,6 +138,11 @@ IsAcceptedOver scope (shape.PerGroup var source key groups body) =
     IsAcceptedOver scope source
     × IsGrouping (columns_under scope source) key groups
     (columns_under scope (shape.PerGroup var source key groups body))
+    × IsAcceptedOver (body_scope var (columns_under scope source)) body × IsTrue (is_closing body)
+IsAcceptedOver scope (shape.Partition var source key groups size advance body) =
+    IsAcceptedOver scope source
+    × IsPartitioning (columns_under scope source) key groups size advance
+    (columns_under scope (shape.Partition var source key groups size advance body))
     × IsAcceptedOver (body_scope var (columns_under scope source)) body × IsTrue (is_closing body)
 IsAcceptedOver scope (shape.Union l r) =
     IsAcceptedOver scope l × IsAcceptedOver scope r

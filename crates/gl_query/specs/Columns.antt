@@ -46,6 +46,9 @@ columns_of sources (shape.Each measure var source size advance body) =
 columns_of sources (shape.PerGroup var source key groups body) =
     record { name = key; kind = column_kind (columns_of sources source) key } ∷ columns_of
     (variable var (columns_of sources source)) body
+columns_of sources (shape.Partition var source key groups size advance body) =
+    record { name = key; kind = column_kind (columns_of sources source) key } ∷ columns_of
+    (variable var (columns_of sources source)) body
 columns_of sources (shape.Union l r) = columns_of sources l
 columns_of sources (shape.Concat l r) = columns_of sources l ++ columns_of sources r
 
@@ -56,6 +59,7 @@ is_closing (shape.Rows pick filter source) = is_closing source
 is_closing (shape.Total aggs source) = true
 is_closing (shape.Each measure var source size advance body) = not (is_time measure) && is_closing source
 is_closing (shape.PerGroup var source key groups body) = true
+is_closing (shape.Partition var source key groups size advance body) = is_closing source
 is_closing (shape.Union l r) = is_closing l && is_closing r
 is_closing (shape.Concat l r) = is_closing l && is_closing r
 
@@ -75,5 +79,6 @@ pace_of (shape.Rows pick filter source) = unfiltered filter (pace_of source)
 pace_of (shape.Total aggs source) = Some Once
 pace_of (shape.Each measure var source size advance body) = None
 pace_of (shape.PerGroup var source key groups body) = None
+pace_of (shape.Partition var source key groups size advance body) = None
 pace_of (shape.Union l r) = None
 pace_of (shape.Concat l r) = pace_of l

@@ -1,9 +1,10 @@
 -- The first rule of acceptance that a statement breaks, with its place: the sources of a query come first, then its own
 -- parts.
-use Rattle.std.specs.Prelude.{ℕ, pos, Bool, true, false, not, ◌&&◌, List, [], ◌∷◌, ◌++◌, length, Option, Some, None, bytes_eq, nat_le, nat_lt, slice_get, if◌then◌else◌}
+use Rattle.std.specs.Prelude.{ℕ, ◌*◌, pos, Bool, true, false, not, ◌&&◌, List, [], ◌∷◌, ◌++◌, length, Option, Some, None, bytes_eq, nat_le, nat_lt, slice_get, if◌then◌else◌}
+use Rattle.std.specs.Int.{div_ceil}
 use Rattle.std.specs.List.{list_any}
 use Rattle.gl_bits.specs.Kinds.{can_cast, has_negative, in_range, is_number, is_text}
-use Rattle.gl_bits.specs.Limits.{most_columns, most_copies, most_groups, most_rows, most_weights}
+use Rattle.gl_bits.specs.Limits.{most_columns, most_copies, most_groups, most_rows, most_weights, most_windows}
 use Rattle.gl_bits.specs.declared.kind.Kind.{Kind}
 use Rattle.gl_bits.specs.declared.kind.Kind.TheVariants.{Unsigned}
 use Rattle.gl_bits.specs.declared.op.Sort.{Sort}
@@ -15,9 +16,10 @@ use Rattle.gl_schema.specs.Schemas.{column_names, has_column, has_stream, kinds_
 use Rattle.gl_query.specs.declared.fault.QueryFault.{QueryFault}
 use Rattle.gl_query.specs.declared.fault.QueryFault.TheVariants.{UnknownStream, UnknownColumn, KindsDiffer, LiteralTooWide, NotCondition, TwiceNamed, ColumnsDiffer, PaceDiffers, NotClosing, OutOfRange, NoTime}
 use Rattle.gl_query.specs.declared.tree.Measure.{Measure}
+use Rattle.gl_query.specs.declared.tree.Measure.TheVariants.{Tuples}
 use Rattle.gl_query.specs.declared.tree.Name.{Name}
 use Rattle.gl_query.specs.declared.tree.Num.{Num}
-use Rattle.gl_query.specs.Trees.{ExprTree, AggTree, ItemTree, AggItemTree, PickTree, QueryTree, StatementTree, Column, Number, Minus, Letters, Not, Cast, Binary, Count, Sum, Min, Max, Avg, Wsum, All, Items, Read, Rows, Total, Each, PerGroup, Union, Concat}
+use Rattle.gl_query.specs.Trees.{ExprTree, AggTree, ItemTree, AggItemTree, PickTree, QueryTree, StatementTree, Column, Number, Minus, Letters, Not, Cast, Binary, Count, Sum, Min, Max, Avg, Wsum, All, Items, Read, Rows, Total, Each, PerGroup, Partition, Union, Concat}
 use Rattle.gl_query.specs.Shapes.{QueryShape}
 use Rattle.gl_query.specs.Alike.{expr_alike, query_alike}
 use Rattle.gl_query.specs.Values.{is_loose, kind_alone, kind_of, letters_fit, operand_place}
@@ -186,6 +188,11 @@ window_fault measure size advance =
     (or_else (unless (is_within advance.value most_rows) (OutOfRange advance.at))
     (unless (nat_le (copies_of measure size.value advance.value) most_copies) (OutOfRange size.at)))
 
+-- GROUPS again for the windows of all groups that are open at once
+abbrev pub windows_fault : Num → Num → Num → Option QueryFault
+windows_fault groups size advance =
+    unless (nat_le (groups.value * div_ceil size.value advance.value) most_windows) (OutOfRange groups.at)
+
 -- the key's name and the count of columns, behind all faults of the body
 abbrev pub key_fault : Name → List NamedColumn → Option QueryFault
 key_fault key columns =
@@ -220,6 +227,17 @@ query_fault scope (PerGroup var source key groups body at) =
     (or_else (query_fault inside body)
     (or_else (unless (is_closing (query_alike body)) (NotClosing at))
     (key_fault key (columns_under inside (query_alike body)))))))
+query_fault scope (Partition var source key groups size advance body at) =
+    let columns = columns_under scope (query_alike source) in
+    let inside = body_scope var.text columns in
+    or_else (query_fault scope source)
+    (or_else (unless (has_column columns key.text) (UnknownColumn key.at))
+    (or_else (unless (is_within groups.value most_groups) (OutOfRange groups.at))
+    (or_else (window_fault Tuples size advance)
+    (or_else (windows_fault groups size advance)
+    (or_else (query_fault inside body)
+    (or_else (unless (is_closing (query_alike body)) (NotClosing at))
+    (key_fault key (columns_under inside (query_alike body)))))))))
 query_fault scope (Union l r at) =
     or_else (query_fault scope l) (or_else (query_fault scope r)
     (unless (same_kinds (kinds_of (columns_under scope (query_alike l)))

@@ -27,6 +27,7 @@ HasNoUnion (shape.Rows pick filter source) = HasNoUnion source
 HasNoUnion (shape.Total aggs source) = HasNoUnion source
 HasNoUnion (shape.Each measure var source size advance body) = HasNoUnion source × HasNoUnion body
 HasNoUnion (shape.PerGroup var source key groups body) = HasNoUnion source × HasNoUnion body
+HasNoUnion (shape.Partition var source key groups size advance body) = HasNoUnion source × HasNoUnion body
 HasNoUnion (shape.Union l r) = ⊥
 HasNoUnion (shape.Concat l r) = HasNoUnion l × HasNoUnion r
 

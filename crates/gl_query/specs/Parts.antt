@@ -34,5 +34,7 @@ InQuery E N (shape.Rows pick filter source) = InQuery E N source × InPick E N p
 InQuery E N (shape.Total aggs source) = InQuery E N source × AllByRecursion (InAggItem E N) aggs
 InQuery E N (shape.Each measure var source size advance body) = InQuery E N source × InQuery E N body × N var
 InQuery E N (shape.PerGroup var source key groups body) = InQuery E N source × InQuery E N body × N var × N key
+InQuery E N (shape.Partition var source key groups size advance body) =
+    InQuery E N source × InQuery E N body × N var × N key
 InQuery E N (shape.Union l r) = InQuery E N l × InQuery E N r
 InQuery E N (shape.Concat l r) = InQuery E N l × InQuery E N r

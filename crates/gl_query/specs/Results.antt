@@ -4,6 +4,7 @@ use Rattle.std.specs.Prelude.{ℕ, ◌+◌, Bool, true, false, List, [], ◌∷�
 use Rattle.gl_bits.specs.declared.kind.Kind.TheVariants.{Unsigned}
 use Rattle.gl_bits.specs.Kinds.{width_of}
 use Rattle.gl_bits.specs.Lists.{IsInterleaving, groups, has_further}
+use Rattle.gl_bits.specs.Partitions.{parts}
 use Rattle.gl_bits.specs.Results.{Row, Results, IsInput, IsChanged, IsOfBoth, AreBeside, IsOfParts, IsOfGroup}
 use Rattle.gl_bits.specs.Totals.{average_of, count_of, greatest_of, least_of, sum_total, weighted_sum}
 use Rattle.gl_schema.specs.declared.schema.Column.{Column}
@@ -123,6 +124,11 @@ IsResultIn (shape.PerGroup var source key n body) env =
     let key_of : Row → ℕ = λ row. slice_index row (column_number columns key) in
     IsOfParts (IsResultIn source env) (groups n key_of) (IsOfGroup (λ rows. IsResultIn body (only var columns rows)))
     (has_further n key_of)
+IsResultIn (shape.Partition var source key n size advance body) env =
+    let columns = columns_in env source in
+    let key_of : Row → ℕ = λ row. slice_index row (column_number columns key) in
+    IsOfParts (IsResultIn source env) (parts n key_of size advance)
+    (IsOfGroup (λ rows. IsResultIn body (only var columns rows))) (has_further n key_of)
 IsResultIn (shape.Union l r) env = IsOfBoth (IsResultIn l env) (IsResultIn r env) IsInterleaving
 IsResultIn (shape.Concat l r) env = IsOfBoth (IsResultIn l env) (IsResultIn r env) AreBeside
 

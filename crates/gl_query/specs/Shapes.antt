@@ -50,13 +50,15 @@ pub data PickShape : Type 0 where
   All : PickShape
   Items : (items : List ItemShape) → PickShape
 
--- a query in its seven forms
+-- a query in its eight forms
 pub data QueryShape : Type 0 where
   Read : (name : List ℕ) → QueryShape
   Rows : (pick : PickShape) (filter : Option ExprShape) (source : QueryShape) → QueryShape
   Total : (aggs : List AggItemShape) (source : QueryShape) → QueryShape
   Each : (measure : Measure) (var : List ℕ) (source : QueryShape) (size advance : ℕ) (body : QueryShape) → QueryShape
   PerGroup : (var : List ℕ) (source : QueryShape) (key : List ℕ) (groups : ℕ) (body : QueryShape) → QueryShape
+  Partition : (var : List ℕ) (source : QueryShape) (key : List ℕ) (groups size advance : ℕ) (body : QueryShape)
+      → QueryShape
   Union : (l r : QueryShape) → QueryShape
   Concat : (l r : QueryShape) → QueryShape
 
@@ -104,6 +106,8 @@ query_shape (query.EachTime' var p source size advance q body at) =
     Each Time var.text (query_shape source) size.value advance.value (query_shape body)
 query_shape (query.PerGroup' var p source key groups q body at) =
     PerGroup var.text (query_shape source) key.text groups.value (query_shape body)
+query_shape (query.Partition' var p source key groups size advance q body at) =
+    Partition var.text (query_shape source) key.text groups.value size.value advance.value (query_shape body)
 query_shape (query.Union' p l q r at) = Union (query_shape l) (query_shape r)
 query_shape (query.Concat' p l q r at) = Concat (query_shape l) (query_shape r)
 

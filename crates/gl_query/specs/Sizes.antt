@@ -33,5 +33,6 @@ HasItems (shape.Rows pick filter source) = HasItems source × PickHasItems pick
 HasItems (shape.Total aggs source) = HasItems source × (1 ≤ length aggs)
 HasItems (shape.Each measure var source size advance body) = HasItems source × HasItems body
 HasItems (shape.PerGroup var source key groups body) = HasItems source × HasItems body
+HasItems (shape.Partition var source key groups size advance body) = HasItems source × HasItems body
 HasItems (shape.Union l r) = HasItems l × HasItems r
 HasItems (shape.Concat l r) = HasItems l × HasItems r

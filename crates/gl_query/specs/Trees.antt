@@ -53,6 +53,8 @@ pub data QueryTree : Type 0 where
   Total : (aggs : List AggItemTree) (source : QueryTree) → QueryTree
   Each : (measure : Measure) (var : Name) (source : QueryTree) (size advance : Num) (body : QueryTree) (at : ℕ) → QueryTree
   PerGroup : (var : Name) (source : QueryTree) (key : Name) (groups : Num) (body : QueryTree) (at : ℕ) → QueryTree
+  Partition : (var : Name) (source : QueryTree) (key : Name) (groups size advance : Num) (body : QueryTree) (at : ℕ)
+      → QueryTree
   Union : (l r : QueryTree) (at : ℕ) → QueryTree
   Concat : (l r : QueryTree) (at : ℕ) → QueryTree
 
@@ -100,6 +102,8 @@ query_tree (query.EachTime' var p source size advance q body at) =
     Each Time var (query_tree source) size advance (query_tree body) at
 query_tree (query.PerGroup' var p source key groups q body at) =
     PerGroup var (query_tree source) key groups (query_tree body) at
+query_tree (query.Partition' var p source key groups size advance q body at) =
+    Partition var (query_tree source) key groups size advance (query_tree body) at
 query_tree (query.Union' p l q r at) = Union (query_tree l) (query_tree r) at
 query_tree (query.Concat' p l q r at) = Concat (query_tree l) (query_tree r) at
 

@@ -1,5 +1,5 @@
--- Windows over tuples and over time: how many can be open at once, which parts of a list they are, and which sources
--- have times.
+-- Windows over tuples and over time: how many can be open at once, which parts of a list they are, and whether a query
+-- has one of time.
 use Rattle.std.specs.Prelude.{ℕ, ◌+◌, ◌/◌, Bool, true, false, ◌||◌, List, IsFalse}
 use Rattle.std.specs.Int.{div_ceil}
 use Rattle.gl_bits.specs.Lists.{slices}
@@ -32,6 +32,7 @@ has_time (shape.Rows pick filter source) = has_time source
 has_time (shape.Total aggs source) = has_time source
 has_time (shape.Each measure var source size advance body) = is_time measure || has_time source || has_time body
 has_time (shape.PerGroup var source key groups body) = has_time source || has_time body
+has_time (shape.Partition var source key groups size advance body) = has_time source || has_time body
 has_time (shape.Union l r) = has_time l || has_time r
 has_time (shape.Concat l r) = has_time l || has_time r
 

@@ -197,6 +197,13 @@ pub fn columns_of(alloc: Global, sources: Sources<'_>, query: &Query) -> Result<
             key,
             body,
             ..
+        }
+        | Query::Partition {
+            var,
+            source,
+            key,
+            body,
+            ..
         } => {
             let columns = columns_of(alloc, sources, source)?;
             let inside = Sources::Variable(var.text.as_slice(), columns.as_slice());

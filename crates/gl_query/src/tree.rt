@@ -159,6 +159,17 @@ pub enum Query {
         body: Box<Query>,
         at: u64,
     },
+    /// The body over each window of each group of the source by a column, the key first in each row.
+    Partition {
+        var: Name,
+        source: Box<Query>,
+        key: Name,
+        groups: Num,
+        size: Num,
+        advance: Num,
+        body: Box<Query>,
+        at: u64,
+    },
     /// The rows of both sides, in any order that keeps each side's.
     Union {
         left: Box<Query>,

@@ -1,7 +1,7 @@
 //! Faults of queries, and the columns of those that have none.
 
-ghost use Rattle.std.specs.Prelude.{◌≡◌, ◌≤◌, [], map, nat_le, option_map, IfOk};
-ghost use Rattle.gl_bits.specs.Limits.{most_copies, most_rows};
+ghost use Rattle.std.specs.Prelude.{◌≡◌, ◌*◌, ◌≤◌, [], map, nat_le, option_map, IfOk};
+ghost use Rattle.gl_bits.specs.Limits.{most_copies, most_groups, most_rows};
 ghost use Rattle.gl_query.specs.Accepted as accepted;
 ghost use Rattle.gl_query.specs.Accepted.{columns_under};
 ghost use Rattle.gl_query.specs.Alike.{agg_item_alike, pick_alike, query_alike};
@@ -21,7 +21,7 @@ use crate::rules::{
     are_distinct, has_column, has_source, is_among, is_within, or_else, refuse, same_kinds, unless,
 };
 use gl_bits::Memory;
-use gl_bits::limits::{MOST_COLUMNS, MOST_COPIES, MOST_GROUPS, MOST_ROWS};
+use gl_bits::limits::{MOST_COLUMNS, MOST_COPIES, MOST_GROUPS, MOST_ROWS, MOST_WINDOWS};
 use gl_query::columns::{
     agg_columns, group_columns, joined_columns, picked_columns, source_columns,
 };
@@ -41,6 +41,7 @@ fn is_closing(query: &Query) -> bool
         Query::Each { source, .. } => is_closing(source),
         Query::EachTime { .. } => false,
         Query::PerGroup { .. } => true,
+        Query::Partition { source, .. } => is_closing(source),
         Query::Union { left, right, .. } => is_closing(left) && is_closing(right),
         Query::Concat { left, right, .. } => is_closing(left) && is_closing(right),
     }
@@ -62,6 +63,7 @@ fn has_times(sources: Sources<'_>, query: &Query) -> bool
         | Query::Each { .. }
         | Query::EachTime { .. }
         | Query::PerGroup { .. }
+        | Query::Partition { .. }
         | Query::Union { .. }
         | Query::Concat { .. } => false,
     }
@@ -107,6 +109,20 @@ fn window_fault(measure: Measure, size: Num, advance: Num) -> Option<QueryFault>
     )
 }
 
+// The first fault of the windows of all groups together, where each number has none.
+fn windows_fault(groups: Num, size: Num, advance: Num) -> Option<QueryFault>
+    requires groups { groups.value ≤ most_groups }
+    requires size { size.value ≤ most_rows }
+    requires advance { 1 ≤ advance.value }
+    ensures { result ≡ faults.windows_fault groups size advance }
+{
+    let open = size.value.div_ceil(advance.value);
+    unless(
+        groups.value * open <= MOST_WINDOWS,
+        QueryFault::OutOfRange { at: groups.at },
+    )
+}
+
 /// How many rows a query gives: one, or one for each row of a source.
 #[derive(Clone, Copy)]
 enum Pace<'a> {
@@ -128,6 +144,7 @@ fn pace_of(query: &Query) -> Option<Pace<'_>>
         Query::Each { .. }
         | Query::EachTime { .. }
         | Query::PerGroup { .. }
+        | Query::Partition { .. }
         | Query::Union { .. } => None,
         Query::Concat { left, .. } => pace_of(left),
     }
@@ -294,6 +311,29 @@ pub fn columns_checked(
             refuse(unless(known, QueryFault::UnknownColumn { at: key.at }))?;
             let within = is_within(groups.value, MOST_GROUPS);
             refuse(unless(within, QueryFault::OutOfRange { at: groups.at }))?;
+            let inside = Sources::Variable(var.text.as_slice(), columns.as_slice());
+            let later = columns_checked(alloc, inside, body)?;
+            refuse(unless(is_closing(body), QueryFault::NotClosing { at: *at }))?;
+            refuse(key_fault(key, later.as_slice()))?;
+            Ok(group_columns(alloc, columns.as_slice(), key.text.as_slice(), later)?)
+        }
+        Query::Partition {
+            var,
+            source,
+            key,
+            groups,
+            size,
+            advance,
+            body,
+            at,
+        } => {
+            let columns = columns_checked(alloc, sources, source)?;
+            let known = has_column(columns.as_slice(), key.text.as_slice());
+            refuse(unless(known, QueryFault::UnknownColumn { at: key.at }))?;
+            let within = is_within(groups.value, MOST_GROUPS);
+            refuse(unless(within, QueryFault::OutOfRange { at: groups.at }))?;
+            refuse(window_fault(Measure::Tuples, *size, *advance))?;
+            refuse(windows_fault(*groups, *size, *advance))?;
             let inside = Sources::Variable(var.text.as_slice(), columns.as_slice());
             let later = columns_checked(alloc, inside, body)?;
             refuse(unless(is_closing(body), QueryFault::NotClosing { at: *at }))?;

@@ -1,6 +1,7 @@
 -- Each select of a statement that a text has has an item; so its result has a column.
 use Rattle.std.proofs.Common.{◌≡◌, ◌⊎◌, ℕ, ◌≤◌, Bool, true, false, List, [], ◌∷◌, length, map, Option, Some, None, refl, sym, subst, inl, inr, arith}
 use Rattle.std.specs.Prelude.{nat_le, option_map, if◌then◌else◌}
+use Rattle.gl_query.specs.declared.tree.Name.{Name}
 use Rattle.gl_query.specs.declared.tree.Statement.{Statement}
 use Rattle.gl_query.specs.Alike.{item_alike, agg_item_alike, query_alike}
 use Rattle.gl_query.specs.Shapes.{QueryShape, query_shape}
@@ -11,9 +12,10 @@ use Rattle.gl_query.proofs.Real.{real_columns}
 use Rattle.gl_query_tokens.specs.declared.token.Join.{Join}
 use Rattle.gl_query_tokens.specs.declared.token.Join.TheVariants as join
 use Rattle.gl_query_reader.specs.declared.written.Grouping.{Grouping}
+use Rattle.gl_query_reader.specs.declared.written.RowWindow.{RowWindow}
 use Rattle.gl_query_reader.specs.declared.written.Window.{Window}
 use Rattle.gl_query_reader.specs.Grammar.{HasStatement}
-use Rattle.gl_query_reader.specs.Meaning.{agg_items, by_items, expr_meaning, filtered, grouped, is_total, it, join_meaning, plain_items, query_meaning, select_meaning}
+use Rattle.gl_query_reader.specs.Meaning.{agg_items, by_items, each_group, expr_meaning, filtered, grouped, is_total, it, join_meaning, plain_items, query_meaning, select_meaning}
 use Rattle.gl_query_reader.specs.Mixed.{behind_key, first_other, is_key, item_at, least, mixed_in, mixed_pick}
 use Rattle.gl_query_reader.specs.Written.{IsPick, IsQuery, IsSource, IsTerm}
 use Rattle.gl_query_reader.specs.Written as written
@@ -93,6 +95,10 @@ least_none (Some a) (Some b) e = by (nat_le a b) refl
 abbrev IsPart : written.Query → Type 0
 IsPart q = IsQuery q ⊎ (IsSource q ⊎ IsTerm q)
 
+each_group_have : (var : Name) (g : Grouping) (w : Option RowWindow) (source body : QueryTree) (at : ℕ) → HasItems (query_alike source) → HasItems (query_alike body) → HasItems (query_alike (each_group var source g w body at))
+each_group_have var g None source body at s b = (s, b)
+each_group_have var g (Some w) source body at s b = (s, b)
+
 query_have : (q : written.Query) → IsPart q → mixed_in q ≡ None → HasItems (query_alike (query_meaning q))
 query_have (written.Stream name) h m = tt
 query_have (written.InBrackets at q) (inl h) m = query_have q (inl h) m
@@ -110,11 +116,11 @@ query_have (written.Windows at var source w open' body) (inl h) m =
 query_have (written.Windows at var source w open' body) (inr (inl h)) m = absurd h
 query_have (written.Windows at var source w open' body) (inr (inr h)) m =
     let n = least_none (mixed_in source) (mixed_in body) m in (query_have source (inr (inl h.0)) n.0, query_have body (inl h.1) n.1)
-query_have (written.Groups at var source g open' body) (inl h) m =
-    let n = least_none (mixed_in source) (mixed_in body) m in (query_have source (inr (inl h.0)) n.0, query_have body (inl h.1) n.1)
-query_have (written.Groups at var source g open' body) (inr (inl h)) m = absurd h
-query_have (written.Groups at var source g open' body) (inr (inr h)) m =
-    let n = least_none (mixed_in source) (mixed_in body) m in (query_have source (inr (inl h.0)) n.0, query_have body (inl h.1) n.1)
+query_have (written.Groups at var source g w open' body) (inl h) m =
+    let n = least_none (mixed_in source) (mixed_in body) m in each_group_have var g w (query_meaning source) (query_meaning body) at (query_have source (inr (inl h.0)) n.0) (query_have body (inl h.1) n.1)
+query_have (written.Groups at var source g w open' body) (inr (inl h)) m = absurd h
+query_have (written.Groups at var source g w open' body) (inr (inr h)) m =
+    let n = least_none (mixed_in source) (mixed_in body) m in each_group_have var g w (query_meaning source) (query_meaning body) at (query_have source (inr (inl h.0)) n.0) (query_have body (inl h.1) n.1)
 query_have (written.Join' j at l r) (inl h) m =
     let n = least_none (mixed_in l) (mixed_in r) m in
     join_have j (query_meaning l) (query_meaning r) at (query_have l (inl h.0) n.0) (query_have r (inr (inr h.1)) n.1)

@@ -1,4 +1,5 @@
 pub mod Operands
+pub mod KeyedWindows
 pub mod Loops
 pub mod Places
 pub mod Lexed
@@ -6,6 +7,7 @@ pub mod Writable
 pub mod Decimals
 pub mod Readable
 pub mod ReadBack
+pub mod ReadBackWindows
 pub mod ReadBackQueries
 pub mod ReadBackStatement
 pub mod RoundTrip

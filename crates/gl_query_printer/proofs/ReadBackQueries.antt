@@ -4,6 +4,7 @@ use Rattle.std.specs.List.{AllByRecursion}
 use Rattle.std.proofs.lemmas.Bool.{true≢false}
 use Rattle.gl_bits.specs.declared.op.Op.TheVariants as op
 use Rattle.gl_query.specs.declared.tree.Measure.{Measure}
+use Rattle.gl_query.specs.declared.tree.Measure.TheVariants.{Tuples}
 use Rattle.gl_query.specs.Shapes.{ExprShape, ItemShape, AggItemShape, PickShape, QueryShape}
 use Rattle.gl_query.specs.Shapes as shape
 use Rattle.gl_query_tokens.specs.declared.token.Join.{Join}
@@ -11,18 +12,17 @@ use Rattle.gl_query_tokens.specs.declared.token.Join.TheVariants.{Union, Concat}
 use Rattle.gl_query_tokens.specs.declared.token.Plain.TheVariants as plain
 use Rattle.gl_query_tokens.specs.declared.token.Token.{Token}
 use Rattle.gl_query_tokens.specs.declared.token.Token.TheVariants as token
-use Rattle.gl_query_reader.specs.declared.written.Window.{Window}
-use Rattle.gl_query_reader.specs.declared.written.Grouping.{Grouping}
 use Rattle.gl_query_reader.specs.Written as written
-use Rattle.gl_query_reader.specs.Written.{AreItems, IsPick, IsFilter, IsQuery, IsSource, IsTerm, measure_word, spell, spell_items, spell_pick, spell_window, spell_filter, spell_grouping, spell_query}
+use Rattle.gl_query_reader.specs.Written.{AreItems, IsPick, IsFilter, IsQuery, IsSource, IsTerm, spell, spell_items, spell_pick, spell_window, spell_row_window, spell_filter, spell_grouping, spell_query}
 use Rattle.gl_query.specs.Trees as meant
 use Rattle.gl_query_reader.specs.Meaning.{expr_meaning, is_total, by_pick, by_items, query_meaning, join_meaning}
 use Rattle.gl_query_reader.specs.Mixed.{first_other, mixed_plain, mixed_pick, mixed_in, least}
 use Rattle.gl_query.specs.Alike.{expr_alike, query_alike}
 use Rattle.gl_query_printer.specs.Brackets.{is_stream, is_term}
-use Rattle.gl_query_printer.specs.Canonical.{name_of, num_of, expr_of, item_of, agg_item_of, pick_of, bracketed_unless, source_of, term_of, window_of, grouping_of, query_of}
+use Rattle.gl_query_printer.specs.Canonical.{name_of, expr_of, item_of, agg_item_of, pick_of, bracketed_unless, source_of, term_of, window_of, grouping_of, query_of}
 use Rattle.gl_query_printer.proofs.Places.{placeless, parts, first, alone, nothing}
 use Rattle.gl_query_printer.proofs.Writable.{CanBeItem, CanBeAggItem, Some', CanBePick, CanBeFilter, CanBeSource, IsNoStream}
+use Rattle.gl_query_printer.proofs.ReadBackWindows.{read_window, read_row_window, read_grouping}
 use Rattle.gl_query_printer.proofs.ReadBack.{cons, two, read_expr, read_list, plains, totals, plains_parted, totals_parted, read_item, read_agg_item}
 
 -- ---- selects
@@ -97,52 +97,6 @@ read_filter (Some e) c us h =
 
 -- ---- queries
 
-pub record ReadWindow (us : List Token) (measure : Measure) (size advance : ℕ) : Type 0 where
-  pub window : Window
-  pub spelled : spell_window window ≡ us
-  pub measure_is : window.measure ≡ measure
-  pub size_is : window.size.value ≡ size
-  pub advance_is : window.advance.value ≡ advance
-
-read_window : (measure : Measure) (size advance : ℕ) (us : List Token) → map placeless us ≡ spell_window (window_of measure size advance) → ReadWindow us measure size advance
-read_window measure size advance us h =
-    let end : List Token = token.Plain plain.RightSquare ∷ [] in
-    let after_size : List Token = token.Plain plain.Advance ∷ token.Number (num_of advance) ∷ token.Plain (measure_word measure) ∷ end in
-    let a = first us (token.Plain plain.LeftSquare) (token.Size 0 ∷ token.Number (num_of size) ∷ after_size) h in
-    let b = first a.rest (token.Size 0) (token.Number (num_of size) ∷ after_size) a.rest_is in
-    let s = first b.rest (token.Number (num_of size)) after_size b.rest_is in
-    let c = first s.rest (token.Plain plain.Advance) (token.Number (num_of advance) ∷ token.Plain (measure_word measure) ∷ end) s.rest_is in
-    let d = first c.rest (token.Number (num_of advance)) (token.Plain (measure_word measure) ∷ end) c.rest_is in
-    let t = first d.rest (token.Plain (measure_word measure)) end d.rest_is in
-    let k = alone t.rest (token.Plain plain.RightSquare) t.rest_is in
-    record {
-      window = record { at = b.at; size = record { value = size; at = s.at }; advance = record { value = advance; at = d.at }; measure = measure };
-      spelled = cons (token.Plain plain.LeftSquare) us a.rest _ a.whole (cons (token.Size b.at) a.rest b.rest _ b.whole (cons (token.Number (record { value = size; at = s.at })) b.rest s.rest _ s.whole
-          (cons (token.Plain plain.Advance) s.rest c.rest _ c.whole (cons (token.Number (record { value = advance; at = d.at })) c.rest d.rest _ d.whole (cons (token.Plain (measure_word measure)) d.rest t.rest _ t.whole (sym k.whole))))));
-      measure_is = refl;
-      size_is = refl;
-      advance_is = refl;
-    }
-
-pub record ReadGrouping (us : List Token) (key : List ℕ) (groups : ℕ) : Type 0 where
-  pub grouping : Grouping
-  pub spelled : spell_grouping grouping ≡ us
-  pub key_is : grouping.key.text ≡ key
-  pub groups_is : grouping.groups.value ≡ groups
-
-read_grouping : (key : List ℕ) (groups : ℕ) (us : List Token) → map placeless us ≡ spell_grouping (grouping_of key groups) → ReadGrouping us key groups
-read_grouping key groups us h =
-    let a = first us (token.By 0) (token.Name (name_of key) ∷ token.Plain plain.Groups ∷ token.Number (num_of groups) ∷ []) h in
-    let b = first a.rest (token.Name (name_of key)) (token.Plain plain.Groups ∷ token.Number (num_of groups) ∷ []) a.rest_is in
-    let c = first b.rest (token.Plain plain.Groups) (token.Number (num_of groups) ∷ []) b.rest_is in
-    let k = alone c.rest (token.Number (num_of groups)) c.rest_is in
-    record {
-      grouping = record { at = a.at; key = record { text = key; at = b.at }; groups = record { value = groups; at = k.at } };
-      spelled = cons (token.By a.at) us a.rest _ a.whole (cons (token.Name (record { text = key; at = b.at })) a.rest b.rest _ b.whole (cons (token.Plain plain.Groups) b.rest c.rest _ c.whole (sym k.whole)));
-      key_is = refl;
-      groups_is = refl;
-    }
-
 pub record ReadQuery (us : List Token) (q : QueryShape) : Type 0 where
   pub tree : written.Query
   pub spelled : spell_query tree ≡ us
@@ -176,6 +130,7 @@ no_stream (shape.Rows pick filter source) h = tt
 no_stream (shape.Total aggs source) h = tt
 no_stream (shape.Each measure var source size advance body) h = tt
 no_stream (shape.PerGroup var source key groups body) h = tt
+no_stream (shape.Partition var source key groups size advance body) h = tt
 no_stream (shape.Union l r) h = tt
 no_stream (shape.Concat l r) h = tt
 
@@ -267,6 +222,10 @@ alike_each by measure var a b s m x y source body d e f g h = rw (d, e, f, g, h)
 
 alike_groups : (var k key : List ℕ) (a n : ℕ) (x y source body : QueryShape) → x ≡ source → k ≡ key → a ≡ n → y ≡ body → shape.PerGroup var x k a y ≡ shape.PerGroup var source key n body
 alike_groups var k key a n x y source body e f g h = rw (e, f, g, h) refl
+
+alike_partition : (var k key : List ℕ) (a n b s d m : ℕ) (x y source body : QueryShape) → x ≡ source → k ≡ key → a ≡ n → b ≡ s → d ≡ m → y ≡ body
+    → shape.Partition var x k a b d y ≡ shape.Partition var source key n s m body
+alike_partition var k key a n b s d m x y source body e f g h i j = rw (e, f, g, h, i, j) refl
 
 -- the part of an EACH in front of its window or its key
 pub record ReadHead (us : List Token) (var : List ℕ) (source : QueryShape) (more : List Token) : Type 0 where
@@ -383,13 +342,34 @@ read_query (shape.PerGroup var source key groups body) c us h =
     let g = read_grouping key groups p.front p.front_is in
     let b = read_body body c.5 (λ vs k. read_query body c.4 vs k) p.back p.back_is in
     record {
-      tree = written.Groups a.at (record { text = var; at = a.name_at }) a.tree g.grouping b.at b.tree;
+      tree = written.Groups a.at (record { text = var; at = a.name_at }) a.tree g.grouping None b.at b.tree;
       spelled = head_spelled (token.Each a.at) (token.Name (record { text = var; at = a.name_at })) (token.Plain plain.In) us (spell_query a.tree) a.rest _ a.whole (two a.rest p.front p.back (spell_grouping g.grouping) _ p.whole g.spelled b.spelled);
       grammar = λ n. (a.grammar, b.grammar);
       bare = λ e. absurd (true≢false (sym e));
       term = λ n e. (a.grammar, b.grammar);
       mixed = none_mixed (mixed_in a.tree) (mixed_in b.tree) a.mixed b.mixed;
       alike = alike_groups var g.grouping.key.text key g.grouping.groups.value groups (query_alike (query_meaning a.tree)) (query_alike (query_meaning b.tree)) source body a.alike g.key_is g.groups_is b.alike;
+    }
+read_query (shape.Partition var source key groups size advance body) c us h =
+    let end : List Token = token.Open 0 ∷ (spell_query (query_of body) ++ token.Plain plain.Close ∷ []) in
+    let by = spell_grouping (grouping_of key groups) in
+    let windows = spell_window (window_of Tuples size advance) in
+    let a = read_head var source (by ++ (windows ++ end)) (λ vs k. read_query source c.1 vs k) us h in
+    let p = parts a.rest by (windows ++ end) a.rest_is in
+    let g = read_grouping key groups p.front p.front_is in
+    let d = parts p.back windows end p.back_is in
+    let w = read_row_window size advance d.front d.front_is in
+    let b = read_body body c.7 (λ vs k. read_query body c.6 vs k) d.back d.back_is in
+    record {
+      tree = written.Groups a.at (record { text = var; at = a.name_at }) a.tree g.grouping (Some w.window) b.at b.tree;
+      spelled = head_spelled (token.Each a.at) (token.Name (record { text = var; at = a.name_at })) (token.Plain plain.In) us (spell_query a.tree) a.rest _ a.whole
+          (two a.rest p.front p.back (spell_grouping g.grouping) _ p.whole g.spelled (two p.back d.front d.back (spell_row_window (Some w.window)) _ d.whole w.spelled b.spelled));
+      grammar = λ n. (a.grammar, b.grammar);
+      bare = λ e. absurd (true≢false (sym e));
+      term = λ n e. (a.grammar, b.grammar);
+      mixed = none_mixed (mixed_in a.tree) (mixed_in b.tree) a.mixed b.mixed;
+      alike = alike_partition var g.grouping.key.text key g.grouping.groups.value groups w.window.size.value size w.window.advance.value advance (query_alike (query_meaning a.tree)) (query_alike (query_meaning b.tree)) source body
+          a.alike g.key_is g.groups_is w.size_is w.advance_is b.alike;
     }
 read_query (shape.Union l r) c us h =
     let x = read_join Union l r c.1 c.3 (λ vs k. read_query l c.0 vs k) (λ vs k. read_query r c.2 vs k) us h in

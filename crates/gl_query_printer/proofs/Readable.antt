@@ -282,6 +282,18 @@ query_readable (shape.PerGroup var source key groups body) c = (
     ),
   ),
 )
+query_readable (shape.Partition var source key groups size advance body) c = (
+  each_readable,
+  (
+    name_readable var c.0,
+    (
+      in_readable,
+      join (spell_query (source_of (query_of source))) _ (bracketed _ (query_of source) (query_readable source c.1))
+          (join (spell_grouping (grouping_of key groups)) (spell_window (window_of Tuples size advance) ++ in_brackets (query_of body)) (grouping_readable key groups c.2 c.3)
+          (join (spell_window (window_of Tuples size advance)) (in_brackets (query_of body)) (window_readable Tuples size advance c.4 c.5) (body_readable (query_of body) (query_readable body c.6)))),
+    ),
+  ),
+)
 query_readable (shape.Union l r) c = join (spell_query (query_of l)) (token.Join Union 0 ∷ spell_query (term_of (query_of r))) (query_readable l c.0) (join_readable Union, bracketed _ (query_of r) (query_readable r c.2))
 query_readable (shape.Concat l r) c = join (spell_query (query_of l)) (token.Join Concat 0 ∷ spell_query (term_of (query_of r))) (query_readable l c.0) (join_readable Concat, bracketed _ (query_of r) (query_readable r c.2))
 

@@ -79,6 +79,7 @@ IsNoStream (shape.Rows pick filter source) = Unit {0}
 IsNoStream (shape.Total aggs source) = Unit {0}
 IsNoStream (shape.Each measure var source size advance body) = Unit {0}
 IsNoStream (shape.PerGroup var source key groups body) = Unit {0}
+IsNoStream (shape.Partition var source key groups size advance body) = Unit {0}
 IsNoStream (shape.Union l r) = Unit {0}
 IsNoStream (shape.Concat l r) = Unit {0}
 
@@ -88,6 +89,7 @@ CanBeSource (shape.Rows pick filter source) = CanBePick pick × CanBeFilter filt
 CanBeSource (shape.Total aggs source) = Some' aggs × AllByRecursion CanBeAggItem aggs × CanBeSource source
 CanBeSource (shape.Each measure var source size advance body) = IsNameWord var × CanBeSource source × IsSmall size × IsSmall advance × CanBeSource body × IsNoStream body
 CanBeSource (shape.PerGroup var source key groups body) = IsNameWord var × CanBeSource source × IsNameWord key × IsSmall groups × CanBeSource body × IsNoStream body
+CanBeSource (shape.Partition var source key groups size advance body) = IsNameWord var × CanBeSource source × IsNameWord key × IsSmall groups × IsSmall size × IsSmall advance × CanBeSource body × IsNoStream body
 CanBeSource (shape.Union l r) = CanBeSource l × IsNoStream l × CanBeSource r × IsNoStream r
 CanBeSource (shape.Concat l r) = CanBeSource l × IsNoStream l × CanBeSource r × IsNoStream r
 
@@ -287,7 +289,7 @@ query_of_term (written.Stream name) g = absurd g
 query_of_term (written.InBrackets at q) g = g
 query_of_term (written.Select pick source window filter grouping) g = g
 query_of_term (written.Windows at var source window open' body) g = g
-query_of_term (written.Groups at var source grouping open' body) g = g
+query_of_term (written.Groups at var source grouping window open' body) g = g
 query_of_term (written.Join' join at l r) g = absurd g
 
 -- a source, and a query
@@ -324,7 +326,7 @@ query_can (written.Windows at var source window open' body) h m =
       source = λ g. absurd g;
       query = λ g. ((h.1.0, s.source g.0, b.0.1.1.0, b.0.1.1.1.1.0, (i.query g.1).0, (i.query g.1).1), tt);
     }
-query_can (written.Groups at var source grouping open' body) h m =
+query_can (written.Groups at var source grouping None open' body) h m =
     let tail : List Token = written.spell_query body ++ token.Plain plain.Close ∷ [] in
     let a = sound_parts (written.spell_query source) (written.spell_grouping grouping ++ token.Open open' ∷ tail) h.1.1.1 in
     let b = sound_parts (written.spell_grouping grouping) (token.Open open' ∷ tail) a.1 in
@@ -334,6 +336,19 @@ query_can (written.Groups at var source grouping open' body) h m =
     record {
       source = λ g. absurd g;
       query = λ g. ((h.1.0, s.source g.0, b.0.1.0, b.0.1.1.1.0, (i.query g.1).0, (i.query g.1).1), tt);
+    }
+query_can (written.Groups at var source grouping (Some w) open' body) h m =
+    let tail : List Token = written.spell_query body ++ token.Plain plain.Close ∷ [] in
+    let windowed : List Token = written.spell_row_window (Some w) ++ token.Open open' ∷ tail in
+    let a = sound_parts (written.spell_query source) (written.spell_grouping grouping ++ windowed) h.1.1.1 in
+    let b = sound_parts (written.spell_grouping grouping) windowed a.1 in
+    let d = sound_parts (written.spell_row_window (Some w)) (token.Open open' ∷ tail) b.1 in
+    let c = sound_parts (written.spell_query body) (token.Plain plain.Close ∷ []) d.1.1 in
+    let s = query_can source a.0 (least_left (mixed_in source) (mixed_in body) m) in
+    let i = query_can body c.0 (least_right (mixed_in source) (mixed_in body) m) in
+    record {
+      source = λ g. absurd g;
+      query = λ g. ((h.1.0, s.source g.0, b.0.1.0, b.0.1.1.1.0, d.0.1.1.0, d.0.1.1.1.1.0, (i.query g.1).0, (i.query g.1).1), tt);
     }
 query_can (written.Join' join at l r) h m =
     let a = sound_parts (written.spell_query l) (token.Join join at ∷ written.spell_query r) h in

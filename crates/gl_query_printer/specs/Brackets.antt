@@ -19,7 +19,7 @@ is_stream (Stream name) = true
 is_stream (InBrackets at q) = false
 is_stream (Select pick source window filter grouping) = false
 is_stream (Windows at var source window open' body) = false
-is_stream (Groups at var source grouping open' body) = false
+is_stream (Groups at var source grouping window open' body) = false
 is_stream (Join' join at l r) = false
 
 -- a right side of UNION or CONCAT that stands without brackets
@@ -28,5 +28,5 @@ is_term (Stream name) = true
 is_term (InBrackets at q) = true
 is_term (Select pick source window filter grouping) = true
 is_term (Windows at var source window open' body) = true
-is_term (Groups at var source grouping open' body) = true
+is_term (Groups at var source grouping window open' body) = true
 is_term (Join' join at l r) = false

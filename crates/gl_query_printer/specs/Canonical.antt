@@ -1,5 +1,5 @@
 -- The statement that the canonical text writes: brackets stand exactly where the grammar needs them.
-use Rattle.std.specs.Prelude.{ℕ, Bool, true, false, List, map, bytes_eq, nat_le, nat_lt, None, option_map, if◌then◌else◌}
+use Rattle.std.specs.Prelude.{ℕ, Bool, true, false, List, map, bytes_eq, nat_le, nat_lt, None, Some, option_map, if◌then◌else◌}
 use Rattle.gl_schema.specs.SchemaText.{kind_text}
 use Rattle.gl_query.specs.declared.tree.Measure.{Measure}
 use Rattle.gl_query.specs.declared.tree.Name.{Name}
@@ -9,6 +9,7 @@ use Rattle.gl_query.specs.Shapes as shape
 use Rattle.gl_query_tokens.specs.declared.token.Fold.TheVariants.{Sum, Min, Max, Avg}
 use Rattle.gl_query_tokens.specs.declared.token.Join.TheVariants.{Union, Concat}
 use Rattle.gl_query_tokens.specs.declared.token.Token.{Token}
+use Rattle.gl_query_reader.specs.declared.written.RowWindow.{RowWindow}
 use Rattle.gl_query_reader.specs.declared.written.Window.{Window}
 use Rattle.gl_query_reader.specs.declared.written.Grouping.{Grouping}
 use Rattle.gl_query_reader.specs.Written.{Expr, Column, Number, Minus, Letters, Brackets, Cast, Not, Binary, Agg, Count, Fold', Wsum, Item, Bare, Named, Total, Pick, All, Items, Query, Stream, InBrackets, Select, Windows, Groups, Join', Statement, level, looseness, left_looseness, spell_statement}
@@ -78,6 +79,9 @@ abbrev pub window_of : Measure → ℕ → ℕ → Window
 window_of measure size advance =
     record { at = 0; size = num_of size; advance = num_of advance; measure = measure }
 
+abbrev pub row_window_of : ℕ → ℕ → RowWindow
+row_window_of size advance = record { at = 0; size = num_of size; advance = num_of advance }
+
 abbrev pub grouping_of : List ℕ → ℕ → Grouping
 grouping_of key groups = record { at = 0; key = name_of key; groups = num_of groups }
 
@@ -89,7 +93,10 @@ query_of (shape.Total aggs source) = Select (Items (map agg_item_of aggs)) (sour
 query_of (shape.Each measure var source size advance body) =
     Windows 0 (name_of var) (source_of (query_of source)) (window_of measure size advance) 0 (query_of body)
 query_of (shape.PerGroup var source key groups body) =
-    Groups 0 (name_of var) (source_of (query_of source)) (grouping_of key groups) 0 (query_of body)
+    Groups 0 (name_of var) (source_of (query_of source)) (grouping_of key groups) None 0 (query_of body)
+query_of (shape.Partition var source key groups size advance body) =
+    Groups 0 (name_of var) (source_of (query_of source)) (grouping_of key groups)
+    (Some (row_window_of size advance)) 0 (query_of body)
 query_of (shape.Union l r) = Join' Union 0 (query_of l) (term_of (query_of r))
 query_of (shape.Concat l r) = Join' Concat 0 (query_of l) (term_of (query_of r))
 

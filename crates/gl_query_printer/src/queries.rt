@@ -1,6 +1,6 @@
 //! Queries and statements to tokens.
 
-ghost use Rattle.std.specs.Prelude.{◌≡◌, ◌++◌, ◌∷◌, [], IfOk, OnOk, map, option_map};
+ghost use Rattle.std.specs.Prelude.{◌≡◌, ◌++◌, ◌∷◌, [], Some, IfOk, OnOk, map, option_map};
 ghost use Rattle.gl_query.specs.Shapes.{expr_shape, agg_item_shape, pick_shape, query_shape, statement_shape};
 ghost use Rattle.gl_query_tokens.specs.declared.token.Token.TheVariants as token;
 ghost use Rattle.gl_query_tokens.specs.declared.token.Plain.TheVariants as plain;
@@ -121,7 +121,7 @@ fn put_window(
     put_open(tokens)
 }
 
-// Puts the key and the number of groups, and the bracket of the body.
+// Puts the key and the number of groups.
 fn put_grouping(
     alloc: Global,
     tokens: &mut Vec<Token>,
@@ -129,13 +129,12 @@ fn put_grouping(
     groups: Num,
 ) -> Result<(), Memory>
     ensures { OnOk result (tokens.new.items ≡ tokens.old.items
-        ++ written.spell_grouping (grouping_of key.now.text groups.value) ++ token.Open 0 ∷ []) }
+        ++ written.spell_grouping (grouping_of key.now.text groups.value)) }
 {
     put(tokens, Token::By { at: 0 })?;
     put_name(alloc, tokens, key.text.as_slice())?;
     put_plain(tokens, Plain::Groups)?;
-    put_number(tokens, groups.value)?;
-    put_open(tokens)
+    put_number(tokens, groups.value)
 }
 
 // Puts UNION or CONCAT, and the bracket of its right side.
@@ -212,6 +211,25 @@ fn put_query(alloc: Global, tokens: &mut Vec<Token>, query: &Query) -> Result<()
             put_query(alloc, tokens, source)?;
             close_unless(tokens, is_stream(source))?;
             put_grouping(alloc, tokens, key, *groups)?;
+            put_open(tokens)?;
+            put_query(alloc, tokens, body)?;
+            put_plain(tokens, Plain::Close)
+        }
+        Query::Partition {
+            var,
+            source,
+            key,
+            groups,
+            size,
+            advance,
+            body,
+            ..
+        } => {
+            begin_each(alloc, tokens, var, is_stream(source))?;
+            put_query(alloc, tokens, source)?;
+            close_unless(tokens, is_stream(source))?;
+            put_grouping(alloc, tokens, key, *groups)?;
+            put_window(tokens, Measure::Tuples, *size, *advance)?;
             put_query(alloc, tokens, body)?;
             put_plain(tokens, Plain::Close)
         }

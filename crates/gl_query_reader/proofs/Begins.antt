@@ -18,7 +18,7 @@ use Rattle.gl_query_tokens.specs.Sorts.{plain_eq, is_plain}
 use Rattle.gl_query_reader.specs.declared.written.Window.{Window}
 use Rattle.gl_query_reader.specs.declared.written.Grouping.{Grouping}
 use Rattle.gl_query_reader.specs.Written.{Expr, Column, Brackets, Cast, Not, Binary, Agg, Fold', Wsum, Item, Pick, All, Items, Query, Stream, InBrackets, Select, Groups, Join', Statement}
-use Rattle.gl_query_reader.specs.States.{after_window, measured, State, Frame, Head, BodyHead, GroupsHead, Unnamed, SelectHead, EachHead, WindowsHead, GroupsHead', SelectGroups, EachGroups, UnnamedExpr, UnnamedAgg, LeftOf, NotOf, BracketOf, InCast, InItem, InFold, InWsum, InFilter, JoinOf, InQuery, InSource, InBody, WantKind, WantWeightsOpen, WantWeight, HaveWeight, WantWsumClose, WantAs, WantItemName, HaveItem, WantSource, HaveSource, HaveEachSource, WantSize, WantSizeNumber, WantAdvance, WantAdvanceNumber, WantMeasure, WantWindowClose, WantKey, WantGroups, WantGroupsNumber, WantBody, HaveTerm, WantName, HaveName, WantEnd}
+use Rattle.gl_query_reader.specs.States.{after_window, measured, row_window, State, Frame, Head, WindowHead, BodyHead, GroupsHead, Unnamed, SelectHead, EachHead, SelectWindow, EachWindow, GroupsWindow, WindowsHead, GroupsHead', SelectGroups, EachGroups, UnnamedExpr, UnnamedAgg, LeftOf, NotOf, BracketOf, InCast, InItem, InFold, InWsum, InFilter, JoinOf, InQuery, InSource, InBody, WantKind, WantWeightsOpen, WantWeight, HaveWeight, WantWsumClose, WantAs, WantItemName, HaveItem, WantSource, HaveSource, HaveEachSource, WantSize, WantSizeNumber, WantAdvance, WantAdvanceNumber, WantMeasure, WantWindowClose, WantKey, WantGroups, WantGroupsNumber, WantBody, HaveTerm, WantName, HaveName, WantEnd}
 use Rattle.gl_query_reader.specs.Machine.{Reduced, reduced, have_term, after_expr, after_source, after_groups, body_of, under_name, is_operator, step, finish}
 use Rattle.gl_query_reader.proofs.Steps.{steps, state, is-machine}
 use Rattle.gl_query_reader.proofs.ReadExpressions.{wanting, having, reduced-not, reduced-binary, looseness-le}
@@ -81,7 +81,9 @@ body_tokens = token.Open 0 ∷ token.Plain plain.Select ∷ token.Operator op.Mu
 
 body_steps : (fs : List Frame) (head : BodyHead) → steps (state (WantBody head) fs) body_tokens ≡ Some (state (HaveTerm (body_of head 0 all_of_one)) fs)
 unfolding steps step plain_eq
-body_steps fs head = refl
+body_steps fs (WindowsHead at var source w) = refl
+body_steps fs (GroupsHead' at var source g None) = refl
+body_steps fs (GroupsHead' at var source g (Some w)) = refl
 
 body_ends : (fs : List Frame) (head : BodyHead) → TermEnds fs (body_of head 0 all_of_one) → Ends (state (WantBody head) fs)
 body_ends fs head x = by_tokens (state (WantBody head) fs) (state (HaveTerm (body_of head 0 all_of_one)) fs) body_tokens (body_steps fs head) (whole_ends fs (body_of head 0 all_of_one) x)
@@ -89,12 +91,12 @@ body_ends fs head x = by_tokens (state (WantBody head) fs) (state (HaveTerm (bod
 abbrev pub some_grouping : ℕ → Grouping
 some_grouping at = record { at = at; key = some_name; groups = some_number }
 
-each_steps : (fs : List Frame) (at : ℕ) (var : Name) (source : Query) → steps (state (HaveEachSource at var source) fs) (token.By 0 ∷ token.Name some_name ∷ token.Plain plain.Groups ∷ token.Number some_number ∷ []) ≡ Some (state (WantBody (GroupsHead' at var source (some_grouping 0))) fs)
+each_steps : (fs : List Frame) (at : ℕ) (var : Name) (source : Query) → steps (state (HaveEachSource at var source) fs) (token.By 0 ∷ token.Name some_name ∷ token.Plain plain.Groups ∷ token.Number some_number ∷ []) ≡ Some (state (WantBody (GroupsHead' at var source (some_grouping 0) None)) fs)
 unfolding steps step plain_eq
 each_steps fs at var source = refl
 
-each_ends : (fs : List Frame) (at : ℕ) (var : Name) (source : Query) → TermEnds fs (Groups at var source (some_grouping 0) 0 all_of_one) → Ends (state (HaveEachSource at var source) fs)
-each_ends fs at var source x = by_tokens (state (HaveEachSource at var source) fs) (state (WantBody (GroupsHead' at var source (some_grouping 0))) fs) (token.By 0 ∷ token.Name some_name ∷ token.Plain plain.Groups ∷ token.Number some_number ∷ []) (each_steps fs at var source) (body_ends fs (GroupsHead' at var source (some_grouping 0)) x)
+each_ends : (fs : List Frame) (at : ℕ) (var : Name) (source : Query) → TermEnds fs (Groups at var source (some_grouping 0) None 0 all_of_one) → Ends (state (HaveEachSource at var source) fs)
+each_ends fs at var source x = by_tokens (state (HaveEachSource at var source) fs) (state (WantBody (GroupsHead' at var source (some_grouping 0) None)) fs) (token.By 0 ∷ token.Name some_name ∷ token.Plain plain.Groups ∷ token.Number some_number ∷ []) (each_steps fs at var source) (body_ends fs (GroupsHead' at var source (some_grouping 0) None) x)
 
 pub named_ends : (q : Query) (name : Name) → Ends (state (HaveName q name) [])
 unfolding steps finish
@@ -136,7 +138,7 @@ term_ends (InSource (EachHead at' var) at ∷ fs) q f i = record {
   follows = close-follows;
   there = state (HaveEachSource at' var (InBrackets at q)) fs;
   goes = refl;
-  ends = each_ends fs at' var (InBrackets at q) (term_ends fs (Groups at' var (InBrackets at q) (some_grouping 0) 0 all_of_one) f.1 f.0.0);
+  ends = each_ends fs at' var (InBrackets at q) (term_ends fs (Groups at' var (InBrackets at q) (some_grouping 0) None 0 all_of_one) f.1 f.0.0);
 }
 term_ends (InBody head open' ∷ fs) q f i = record {
   next = token.Plain plain.Close;
@@ -158,7 +160,7 @@ pub want_body_ends : (fs : List Frame) (head : BodyHead) → Fits fs → InTerm 
 want_body_ends fs head f i = body_ends fs head (term_ends fs (body_of head 0 all_of_one) f i)
 
 pub have_each_ends : (fs : List Frame) (at : ℕ) (var : Name) (source : Query) → Fits fs → InTerm fs → Ends (state (HaveEachSource at var source) fs)
-have_each_ends fs at var source f i = each_ends fs at var source (term_ends fs (Groups at var source (some_grouping 0) 0 all_of_one) f i)
+have_each_ends fs at var source f i = each_ends fs at var source (term_ends fs (Groups at var source (some_grouping 0) None 0 all_of_one) f i)
 
 -- ---- items
 
@@ -300,50 +302,53 @@ after_source_ends fs (EachHead at var) f i = have_each_ends fs at var (Stream so
 pub want_source_ends : (fs : List Frame) (head : Head) → Fits fs → InTerm fs → Ends (state (WantSource head) fs)
 want_source_ends fs head f i = by_token _ (state (after_source head (Stream some_name)) fs) (token.Name some_name) (source_step fs head) (after_source_ends fs head f i)
 
-after_window_ends : (fs : List Frame) (head : Head) (source : Query) (w : Window) → Fits fs → InTerm fs → Ends (state (after_window head source w) fs)
-after_window_ends fs (SelectHead pick) source w f i = have_source_ends fs pick source (Some w) f i
-after_window_ends fs (EachHead at var) source w f i = want_body_ends fs (WindowsHead at var source w) f i
+after_window_ends : (fs : List Frame) (head : WindowHead) (source : Query) (w : Window) → Fits fs → InTerm fs → Ends (state (after_window head source w) fs)
+after_window_ends fs (SelectWindow pick) source w f i = have_source_ends fs pick source (Some w) f i
+after_window_ends fs (EachWindow at var) source w f i = want_body_ends fs (WindowsHead at var source w) f i
+after_window_ends fs (GroupsWindow at var g) source w f i = want_body_ends fs (GroupsHead' at var source g (Some (row_window w))) f i
 
-window_close_step : (fs : List Frame) (head : Head) (source : Query) (w : Window) → step (state (WantWindowClose head source w) fs) (token.Plain plain.RightSquare) ≡ Some (state (after_window head source w) fs)
+window_close_step : (fs : List Frame) (head : WindowHead) (source : Query) (w : Window) → step (state (WantWindowClose head source w) fs) (token.Plain plain.RightSquare) ≡ Some (state (after_window head source w) fs)
 unfolding step plain_eq
 window_close_step fs head source w = refl
 
-pub window_close_ends : (fs : List Frame) (head : Head) (source : Query) (w : Window) → Fits fs → InTerm fs → Ends (state (WantWindowClose head source w) fs)
+pub window_close_ends : (fs : List Frame) (head : WindowHead) (source : Query) (w : Window) → Fits fs → InTerm fs → Ends (state (WantWindowClose head source w) fs)
 window_close_ends fs head source w f i = by_token _ (state (after_window head source w) fs) (token.Plain plain.RightSquare) (window_close_step fs head source w) (after_window_ends fs head source w f i)
 
-measure_step : (fs : List Frame) (head : Head) (source : Query) (at : ℕ) (size advance : Num) → step (state (WantMeasure head source at size advance) fs) (token.Plain plain.Tuples) ≡ Some (state (WantWindowClose head source (measured at size advance Tuples)) fs)
-unfolding step
-measure_step fs head source at size advance = refl
+measure_step : (fs : List Frame) (head : WindowHead) (source : Query) (at : ℕ) (size advance : Num) → step (state (WantMeasure head source at size advance) fs) (token.Plain plain.Tuples) ≡ Some (state (WantWindowClose head source (measured at size advance Tuples)) fs)
+unfolding step plain_eq
+measure_step fs (SelectWindow pick) source at size advance = refl
+measure_step fs (EachWindow e var) source at size advance = refl
+measure_step fs (GroupsWindow e var g) source at size advance = refl
 
-pub measure_ends : (fs : List Frame) (head : Head) (source : Query) (at : ℕ) (size advance : Num) → Fits fs → InTerm fs → Ends (state (WantMeasure head source at size advance) fs)
+pub measure_ends : (fs : List Frame) (head : WindowHead) (source : Query) (at : ℕ) (size advance : Num) → Fits fs → InTerm fs → Ends (state (WantMeasure head source at size advance) fs)
 measure_ends fs head source at size advance f i = by_token _ (state (WantWindowClose head source (measured at size advance Tuples)) fs) (token.Plain plain.Tuples) (measure_step fs head source at size advance) (window_close_ends fs head source (measured at size advance Tuples) f i)
 
-advance_number_step : (fs : List Frame) (head : Head) (source : Query) (at : ℕ) (size : Num) → step (state (WantAdvanceNumber head source at size) fs) (token.Number some_number) ≡ Some (state (WantMeasure head source at size some_number) fs)
+advance_number_step : (fs : List Frame) (head : WindowHead) (source : Query) (at : ℕ) (size : Num) → step (state (WantAdvanceNumber head source at size) fs) (token.Number some_number) ≡ Some (state (WantMeasure head source at size some_number) fs)
 unfolding step
 advance_number_step fs head source at size = refl
 
-pub advance_number_ends : (fs : List Frame) (head : Head) (source : Query) (at : ℕ) (size : Num) → Fits fs → InTerm fs → Ends (state (WantAdvanceNumber head source at size) fs)
+pub advance_number_ends : (fs : List Frame) (head : WindowHead) (source : Query) (at : ℕ) (size : Num) → Fits fs → InTerm fs → Ends (state (WantAdvanceNumber head source at size) fs)
 advance_number_ends fs head source at size f i = by_token _ (state (WantMeasure head source at size some_number) fs) (token.Number some_number) (advance_number_step fs head source at size) (measure_ends fs head source at size some_number f i)
 
-advance_step : (fs : List Frame) (head : Head) (source : Query) (at : ℕ) (size : Num) → step (state (WantAdvance head source at size) fs) (token.Plain plain.Advance) ≡ Some (state (WantAdvanceNumber head source at size) fs)
+advance_step : (fs : List Frame) (head : WindowHead) (source : Query) (at : ℕ) (size : Num) → step (state (WantAdvance head source at size) fs) (token.Plain plain.Advance) ≡ Some (state (WantAdvanceNumber head source at size) fs)
 unfolding step plain_eq
 advance_step fs head source at size = refl
 
-pub advance_ends : (fs : List Frame) (head : Head) (source : Query) (at : ℕ) (size : Num) → Fits fs → InTerm fs → Ends (state (WantAdvance head source at size) fs)
+pub advance_ends : (fs : List Frame) (head : WindowHead) (source : Query) (at : ℕ) (size : Num) → Fits fs → InTerm fs → Ends (state (WantAdvance head source at size) fs)
 advance_ends fs head source at size f i = by_token _ (state (WantAdvanceNumber head source at size) fs) (token.Plain plain.Advance) (advance_step fs head source at size) (advance_number_ends fs head source at size f i)
 
-size_number_step : (fs : List Frame) (head : Head) (source : Query) (at : ℕ) → step (state (WantSizeNumber head source at) fs) (token.Number some_number) ≡ Some (state (WantAdvance head source at some_number) fs)
+size_number_step : (fs : List Frame) (head : WindowHead) (source : Query) (at : ℕ) → step (state (WantSizeNumber head source at) fs) (token.Number some_number) ≡ Some (state (WantAdvance head source at some_number) fs)
 unfolding step
 size_number_step fs head source at = refl
 
-pub size_number_ends : (fs : List Frame) (head : Head) (source : Query) (at : ℕ) → Fits fs → InTerm fs → Ends (state (WantSizeNumber head source at) fs)
+pub size_number_ends : (fs : List Frame) (head : WindowHead) (source : Query) (at : ℕ) → Fits fs → InTerm fs → Ends (state (WantSizeNumber head source at) fs)
 size_number_ends fs head source at f i = by_token _ (state (WantAdvance head source at some_number) fs) (token.Number some_number) (size_number_step fs head source at) (advance_ends fs head source at some_number f i)
 
-size_step : (fs : List Frame) (head : Head) (source : Query) → step (state (WantSize head source) fs) (token.Size 0) ≡ Some (state (WantSizeNumber head source 0) fs)
+size_step : (fs : List Frame) (head : WindowHead) (source : Query) → step (state (WantSize head source) fs) (token.Size 0) ≡ Some (state (WantSizeNumber head source 0) fs)
 unfolding step
 size_step fs head source = refl
 
-pub size_ends : (fs : List Frame) (head : Head) (source : Query) → Fits fs → InTerm fs → Ends (state (WantSize head source) fs)
+pub size_ends : (fs : List Frame) (head : WindowHead) (source : Query) → Fits fs → InTerm fs → Ends (state (WantSize head source) fs)
 size_ends fs head source f i = by_token _ (state (WantSizeNumber head source 0) fs) (token.Size 0) (size_step fs head source) (size_number_ends fs head source 0 f i)
 
 abbrev pub grouping_at : ℕ → Name → Grouping
@@ -351,7 +356,7 @@ grouping_at at key = record { at = at; key = key; groups = some_number }
 
 after_groups_ends : (fs : List Frame) (head : GroupsHead) (g : Grouping) → Fits fs → InTerm fs → Ends (state (after_groups head g) fs)
 after_groups_ends fs (SelectGroups pick source window filter) g f i = have_term_ends fs (Select pick source window filter (Some g)) f i
-after_groups_ends fs (EachGroups at var source) g f i = want_body_ends fs (GroupsHead' at var source g) f i
+after_groups_ends fs (EachGroups at var source) g f i = want_body_ends fs (GroupsHead' at var source g None) f i
 
 groups_number_step : (fs : List Frame) (head : GroupsHead) (at : ℕ) (key : Name) → step (state (WantGroupsNumber head at key) fs) (token.Number some_number) ≡ Some (state (after_groups head (grouping_at at key)) fs)
 unfolding step

@@ -7,12 +7,13 @@ use Rattle.gl_query.specs.declared.tree.Num.{Num}
 use Rattle.gl_query_tokens.specs.declared.token.Plain.TheVariants as plain
 use Rattle.gl_query_tokens.specs.declared.token.Token.{Token}
 use Rattle.gl_query_tokens.specs.declared.token.Token.TheVariants as token
+use Rattle.gl_query_reader.specs.declared.written.RowWindow.{RowWindow}
 use Rattle.gl_query_reader.specs.declared.written.Window.{Window}
 use Rattle.gl_query_reader.specs.declared.written.Grouping.{Grouping}
 use Rattle.gl_query_reader.specs.Limits.{IsSmall}
 use Rattle.gl_query_reader.specs.Sizes.{expr_depth, agg_depth, item_depth, items_depth, pick_depth, filter_depth, operators_of, AggIsShort, ItemIsShort, PickIsShort, FilterIsShort}
 use Rattle.gl_query_reader.specs.States.{measured}
-use Rattle.gl_query_reader.specs.Written.{Expr, Agg, Count, Fold', Wsum, Item, Bare, Named, Total, Pick, All, Items, spell, spell_numbers, spell_agg, spell_item, spell_items, spell_pick, spell_window, spell_if_window, spell_filter, spell_grouping, spell_if_grouping}
+use Rattle.gl_query_reader.specs.Written.{Expr, Agg, Count, Fold', Wsum, Item, Bare, Named, Total, Pick, All, Items, spell, spell_numbers, spell_agg, spell_item, spell_items, spell_pick, spell_window, spell_if_window, spell_row_window, spell_filter, spell_grouping, spell_if_grouping}
 use Rattle.gl_query_reader.proofs.Limiting.{counts, Keeps, over, under, parted, paired, keeps_at, small_at, limited, limits}
 
 abbrev pub close : Token
@@ -215,6 +216,14 @@ if_window_to (Some w) b o j d rest h = (false, window_to w b o j d rest h)
 pub if_window_from : (w : Option Window) (b o j : ℕ) (d : Bool) (rest : List Token) → b ≤ 32 → o ≤ 256 → j ≤ 64 → ((d' : Bool) → Keeps (counts b o j d') rest) → Keeps (counts b o j d) (spell_if_window w ++ rest)
 if_window_from None b o j d rest e f g h = h d
 if_window_from (Some w) b o j d rest e f g h = window_from w b o j d rest e f g (h false)
+
+pub row_window_to : (w : Option RowWindow) (b o j : ℕ) (rest : List Token) → Keeps (counts b o j false) (spell_row_window w ++ rest) → Keeps (counts b o j false) rest
+row_window_to None b o j rest h = h
+row_window_to (Some w) b o j rest h = words_to w.at w.size w.advance Tuples b o j false rest h
+
+pub row_window_from : (w : Option RowWindow) (b o j : ℕ) (rest : List Token) → b ≤ 32 → o ≤ 256 → j ≤ 64 → Keeps (counts b o j false) rest → Keeps (counts b o j false) (spell_row_window w ++ rest)
+row_window_from None b o j rest e f g h = h
+row_window_from (Some w) b o j rest e f g h = words_from w.at w.size w.advance Tuples b o j false rest e f g h
 
 pub if_grouping_to : (g : Option Grouping) (b o j : ℕ) (d : Bool) (rest : List Token) → Keeps (counts b o j d) (spell_if_grouping g ++ rest) → (d' : Bool) × Keeps (counts b o j d') rest
 if_grouping_to None b o j d rest h = (d, h)

@@ -5,9 +5,9 @@ use Rattle.gl_query_tokens.specs.declared.token.Token.{Token}
 use Rattle.gl_query_tokens.specs.declared.token.Token.TheVariants as token
 use Rattle.gl_query_reader.specs.Limits.{IsSmall, none_counted, keeps_limits}
 use Rattle.gl_query_reader.specs.Sizes.{pick_depth, filter_depth, depth_of, joins_of, AreShort, IsWithinLimits, LimitsAreCounted}
-use Rattle.gl_query_reader.specs.Written.{Query, Stream, InBrackets, Select, Windows, Groups, Join', Statement, spell_pick, spell_window, spell_if_window, spell_filter, spell_grouping, spell_if_grouping, spell_query, spell_end, spell_statement}
+use Rattle.gl_query_reader.specs.Written.{Query, Stream, InBrackets, Select, Windows, Groups, Join', Statement, spell_pick, spell_window, spell_if_window, spell_row_window, spell_filter, spell_grouping, spell_if_grouping, spell_query, spell_end, spell_statement}
 use Rattle.gl_query_reader.proofs.Limiting.{counts, Keeps, over, under, parted, paired, keeps_at, small_at}
-use Rattle.gl_query_reader.proofs.LimitingItems.{close, Any, limited_pick, limits_pick, window_to, window_from, grouping_to, grouping_from, if_window_to, if_window_from, if_grouping_to, if_grouping_from, limited_filter, limits_filter}
+use Rattle.gl_query_reader.proofs.LimitingItems.{close, Any, limited_pick, limits_pick, window_to, window_from, row_window_to, row_window_from, grouping_to, grouping_from, if_window_to, if_window_from, if_grouping_to, if_grouping_from, limited_filter, limits_filter}
 
 -- the same behind a query, whose joins count too
 record Past (b j depth joins : ℕ) (short : Type 0) (rest : List Token) : Type 0 where
@@ -83,13 +83,15 @@ limited_in (Windows at var source window open' body) b o j d rest f h =
       small = z.small;
       rest' = keeps_at {b = b + 1 - 1} {j = k + joins_of body} b z.operators (j + (joins_of source + joins_of body)) (omega arith) refl (omega arith) (over z.rest').1;
     }
-limited_in (Groups at var source grouping open' body) b o j d rest f h =
+limited_in (Groups at var source grouping window open' body) b o j d rest f h =
     let bodies : List Token = spell_query body ++ close ∷ [] in
-    let tail : List Token = spell_grouping grouping ++ token.Open open' ∷ bodies in
+    let windowed : List Token = spell_row_window window ++ token.Open open' ∷ bodies in
+    let tail : List Token = spell_grouping grouping ++ windowed in
     let k = j + joins_of source in
     let p = over (over (over h).1).1 in
     let y = limited_in source b o j false (tail ++ rest) p.0 (parted (spell_query source) tail rest p.1) in
-    let q = over (grouping_to grouping b y.operators k y.operand (token.Open open' ∷ (bodies ++ rest)) (parted (spell_grouping grouping) (token.Open open' ∷ bodies) rest y.rest')) in
+    let v = grouping_to grouping b y.operators k y.operand (windowed ++ rest) (parted (spell_grouping grouping) windowed rest y.rest') in
+    let q = over (row_window_to window b y.operators k (token.Open open' ∷ (bodies ++ rest)) (parted (spell_row_window window) (token.Open open' ∷ bodies) rest v)) in
     let z = limited_in body (b + 1) y.operators k true (close ∷ rest) q.0 (parted (spell_query body) (close ∷ []) rest q.1) in
     record {
       depth' = (let t : b + depth_of source ≤ 32 = y.depth' in let u : b + 1 + depth_of body ≤ 32 = z.depth' in omega arith);
@@ -155,11 +157,12 @@ limits_in (Windows at var source window open' body) b o j d rest f m n s h =
     let windowed : Any b k (tail ++ rest) = λ o' d' v. paired (spell_window window) (token.Open open' ∷ bodies) rest (window_from window b o' k d' (token.Open open' ∷ (bodies ++ rest)) e v g (within o' false v)) in
     let c = small_at b o j false e f (omega arith) in
     under c (under c (under c (paired (spell_query source) tail rest (limits_in source b o j false (tail ++ rest) f (omega arith) g s.0 windowed))))
-limits_in (Groups at var source grouping open' body) b o j d rest f m n s h =
+limits_in (Groups at var source grouping window open' body) b o j d rest f m n s h =
     let t : b + max (depth_of source) (depth_of body + 1) ≤ 32 = m in
     let u : j + (joins_of source + joins_of body) ≤ 64 = n in
     let bodies : List Token = spell_query body ++ close ∷ [] in
-    let tail : List Token = spell_grouping grouping ++ token.Open open' ∷ bodies in
+    let behind : List Token = spell_row_window window ++ token.Open open' ∷ bodies in
+    let tail : List Token = spell_grouping grouping ++ behind in
     let k = j + joins_of source in
     let i = k + joins_of body in
     let e : b ≤ 32 = omega arith in
@@ -168,7 +171,9 @@ limits_in (Groups at var source grouping open' body) b o j d rest f m n s h =
     let last : Any (b + 1) i (close ∷ rest) = λ o' d' v. under (small_at (b + 1 - 1) o' i false (omega arith) v p) (keeps_at {b = b} (b + 1 - 1) o' i (omega arith) refl (omega arith) (h o' false v)) in
     let within : Any b k (token.Open open' ∷ (bodies ++ rest)) =
     λ o' d' v. under (small_at (b + 1) o' k true (omega arith) v g) (paired (spell_query body) (close ∷ []) rest (limits_in body (b + 1) o' k true (close ∷ rest) v (omega arith) p s.1 last)) in
-    let grouped : Any b k (tail ++ rest) = λ o' d' v. paired (spell_grouping grouping) (token.Open open' ∷ bodies) rest (grouping_from grouping b o' k d' (token.Open open' ∷ (bodies ++ rest)) e v g (within o' false v)) in
+    let windowed : (o' : ℕ) → o' ≤ 256 → Keeps (counts b o' k false) (behind ++ rest) =
+    λ o' v. paired (spell_row_window window) (token.Open open' ∷ bodies) rest (row_window_from window b o' k (token.Open open' ∷ (bodies ++ rest)) e v g (within o' false v)) in
+    let grouped : Any b k (tail ++ rest) = λ o' d' v. paired (spell_grouping grouping) behind rest (grouping_from grouping b o' k d' (behind ++ rest) e v g (windowed o' v)) in
     let c = small_at b o j false e f (omega arith) in
     under c (under c (under c (paired (spell_query source) tail rest (limits_in source b o j false (tail ++ rest) f (omega arith) g s.0 grouped))))
 limits_in (Join' join at l r) b o j d rest f m n s h =

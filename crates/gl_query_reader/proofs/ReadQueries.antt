@@ -9,10 +9,11 @@ use Rattle.gl_query_tokens.specs.declared.token.Plain.TheVariants as plain
 use Rattle.gl_query_tokens.specs.declared.token.Token.{Token}
 use Rattle.gl_query_tokens.specs.declared.token.Token.TheVariants as token
 use Rattle.gl_query_tokens.specs.Sorts.{plain_eq, is_plain}
+use Rattle.gl_query_reader.specs.declared.written.RowWindow.{RowWindow}
 use Rattle.gl_query_reader.specs.declared.written.Window.{Window}
 use Rattle.gl_query_reader.specs.declared.written.Grouping.{Grouping}
-use Rattle.gl_query_reader.specs.Written.{Expr, Pick, Query, Stream, InBrackets, Select, Windows, Groups, Join', Statement, IsPick, IsQuery, IsSource, IsTerm, IsFilter, measure_word, spell, spell_pick, spell_window, spell_if_window, spell_filter, spell_grouping, spell_if_grouping, spell_query, spell_end, spell_statement}
-use Rattle.gl_query_reader.specs.States.{after_window, measured, State, Frame, InFilter, JoinOf, InQuery, InSource, InBody, Head, SelectHead, EachHead, WindowsHead, GroupsHead', WantSize, WantTerm, WantSource, HaveSource, HaveEachSource, HaveTerm, WantName, HaveName, WantEnd, start}
+use Rattle.gl_query_reader.specs.Written.{Expr, Pick, Query, Stream, InBrackets, Select, Windows, Groups, Join', Statement, IsPick, IsQuery, IsSource, IsTerm, IsFilter, measure_word, spell, spell_pick, spell_window, spell_if_window, spell_row_window, spell_filter, spell_grouping, spell_if_grouping, spell_query, spell_end, spell_statement}
+use Rattle.gl_query_reader.specs.States.{after_window, measure_in, measure_for, measured, State, Frame, InFilter, JoinOf, InQuery, InSource, InBody, Head, SelectHead, EachHead, WindowHead, SelectWindow, EachWindow, GroupsWindow, WindowsHead, GroupsHead', WantSize, WantTerm, WantSource, HaveSource, HaveEachSource, HaveTerm, WantName, HaveName, WantEnd, start}
 use Rattle.gl_query_reader.specs.Machine.{Joined, reduced, joined, after_source, after_query, have_term, is_operator, step, finish}
 use Rattle.gl_query_reader.specs.Grammar.{Derives}
 use Rattle.gl_query_reader.proofs.Steps.{steps, state, is-machine}
@@ -66,7 +67,7 @@ end_term (Select pick source window (Some e) None) fs t g f = have-filter pick s
 end_term (Select pick source window None (Some n)) fs t g f = have-whole (Select pick source window None (Some n)) fs t
 end_term (Select pick source window (Some e) (Some n)) fs t g f = have-whole (Select pick source window (Some e) (Some n)) fs t
 end_term (Windows at var source window open' body) fs t g f = have-whole (Windows at var source window open' body) fs t
-end_term (Groups at var source grouping open' body) fs t g f = have-whole (Groups at var source grouping open' body) fs t
+end_term (Groups at var source grouping window open' body) fs t g f = have-whole (Groups at var source grouping window open' body) fs t
 end_term (Join' join at l r) fs t g f = absurd g
 
 -- no UNION or CONCAT waits on top
@@ -91,7 +92,7 @@ end_query (Stream name) fs t g n f = absurd g
 end_query (InBrackets at q) fs t g n f = end_term (InBrackets at q) fs t g f ∙ term-alone fs (InBrackets at q) t n
 end_query (Select pick source window filter grouping) fs t g n f = end_term (Select pick source window filter grouping) fs t g f ∙ term-alone fs (Select pick source window filter grouping) t n
 end_query (Windows at var source window open' body) fs t g n f = end_term (Windows at var source window open' body) fs t g f ∙ term-alone fs (Windows at var source window open' body) t n
-end_query (Groups at var source grouping open' body) fs t g n f = end_term (Groups at var source grouping open' body) fs t g f ∙ term-alone fs (Groups at var source grouping open' body) t n
+end_query (Groups at var source grouping window open' body) fs t g n f = end_term (Groups at var source grouping window open' body) fs t g f ∙ term-alone fs (Groups at var source grouping window open' body) t n
 end_query (Join' join at l r) fs t g n f = end_term r (JoinOf l join at ∷ fs) t g.1 f
 
 -- ---- parts of a select
@@ -109,17 +110,26 @@ unfolding steps step
 source-open head at fs rest = refl
 
 -- the words of a window are read
-reads_words : (head : Head) (source : Query) (at : ℕ) (size advance : Num) (m : Measure) (fs : List Frame) (rest : List Token)
+reads_words : (head : WindowHead) (source : Query) (at : ℕ) (size advance : Num) (m : Measure) (fs : List Frame) (rest : List Token) → measure_for head (token.Plain (measure_word m)) ≡ Some m
     → steps (state (WantSize head source) fs) (token.Size at ∷ token.Number size ∷ token.Plain plain.Advance ∷ token.Number advance ∷ token.Plain (measure_word m) ∷ token.Plain plain.RightSquare ∷ rest)
     ≡ steps (state (after_window head source (measured at size advance m)) fs) rest
 unfolding steps step plain_eq
-reads_words head source at size advance Tuples fs rest = refl
-reads_words head source at size advance Time fs rest = refl
+reads_words (SelectWindow pick) source at size advance Tuples fs rest k = refl
+reads_words (SelectWindow pick) source at size advance Time fs rest k = refl
+reads_words (EachWindow e var) source at size advance Tuples fs rest k = refl
+reads_words (EachWindow e var) source at size advance Time fs rest k = refl
+reads_words (GroupsWindow e var g) source at size advance Tuples fs rest k = refl
+reads_words (GroupsWindow e var g) source at size advance Time fs rest k = absurd cc
+
+-- a select and an EACH take either word
+takes_word : (m : Measure) → measure_in (token.Plain (measure_word m)) ≡ Some m
+takes_word Tuples = refl
+takes_word Time = refl
 
 reads_window : (pick : Pick) (source : Query) (w : Option Window) (fs : List Frame) (rest : List Token) → steps (state (HaveSource pick source None) fs) (spell_if_window w ++ rest) ≡ steps (state (HaveSource pick source w) fs) rest
 unfolding steps step plain_eq
 reads_window pick source None fs rest = refl
-reads_window pick source (Some w) fs rest = reads_words (SelectHead pick) source w.at w.size w.advance w.measure fs rest
+reads_window pick source (Some w) fs rest = reads_words (SelectWindow pick) source w.at w.size w.advance w.measure fs rest (takes_word w.measure)
 
 reads_grouping : (pick : Pick) (source : Query) (w : Option Window) (g : Grouping) (fs : List Frame) (rest : List Token) → steps (state (HaveSource pick source w) fs) (spell_if_grouping (Some g) ++ rest) ≡ steps (state (HaveTerm (Select pick source w None (Some g))) fs) rest
 unfolding steps step plain_eq
@@ -153,12 +163,13 @@ begin-each at var fs rest = refl
 each-window : (at : ℕ) (var : Name) (source : Query) (w : Window) (open' : ℕ) (fs : List Frame) (rest : List Token)
     → steps (state (HaveEachSource at var source) fs) (spell_window w ++ token.Open open' ∷ rest) ≡ steps (state WantTerm (InBody (WindowsHead at var source w) open' ∷ fs)) rest
 unfolding steps step plain_eq
-each-window at var source w open' fs rest = reads_words (EachHead at var) source w.at w.size w.advance w.measure fs (token.Open open' ∷ rest)
+each-window at var source w open' fs rest = reads_words (EachWindow at var) source w.at w.size w.advance w.measure fs (token.Open open' ∷ rest) (takes_word w.measure)
 
-each-groups : (at : ℕ) (var : Name) (source : Query) (g : Grouping) (open' : ℕ) (fs : List Frame) (rest : List Token)
-    → steps (state (HaveEachSource at var source) fs) (spell_grouping g ++ token.Open open' ∷ rest) ≡ steps (state WantTerm (InBody (GroupsHead' at var source g) open' ∷ fs)) rest
+each-groups : (at : ℕ) (var : Name) (source : Query) (g : Grouping) (w : Option RowWindow) (open' : ℕ) (fs : List Frame) (rest : List Token)
+    → steps (state (HaveEachSource at var source) fs) (spell_grouping g ++ (spell_row_window w ++ token.Open open' ∷ rest)) ≡ steps (state WantTerm (InBody (GroupsHead' at var source g w) open' ∷ fs)) rest
 unfolding steps step plain_eq
-each-groups at var source g open' fs rest = refl
+each-groups at var source g None open' fs rest = refl
+each-groups at var source g (Some w) open' fs rest = reads_words (GroupsWindow at var g) source w.at w.size w.advance Tuples fs (token.Open open' ∷ rest) refl
 
 -- ---- whole queries
 
@@ -171,6 +182,9 @@ regroup_select a b w f g rest from = simp append_assoc
 
 regroup_each : (b w body rest : List Token) (o c : Token) → (b ++ (w ++ o ∷ (body ++ c ∷ []))) ++ rest ≡ b ++ (w ++ o ∷ (body ++ c ∷ rest))
 regroup_each b w body rest o c = simp append_assoc
+
+regroup_groups : (b g w body rest : List Token) (o c : Token) → (b ++ (g ++ (w ++ o ∷ (body ++ c ∷ [])))) ++ rest ≡ b ++ (g ++ (w ++ o ∷ (body ++ c ∷ rest)))
+regroup_groups b g w body rest o c = simp append_assoc
 
 pub record IsRead (q : Query) : Type 0 where
   pub as_term : IsTerm q → (fs : List Frame) (rest : List Token) → steps (state WantTerm fs) (spell_query q ++ rest) ≡ steps (ended q fs) rest
@@ -215,14 +229,14 @@ reads_windows at var source w open' body fs rest r b s g =
     ∙ each-window at var source w open' fs (spell_query body ++ token.Plain plain.Close ∷ rest)
     ∙ closes body (InBody (WindowsHead at var source w) open') fs (state (HaveTerm (Windows at var source w open' body)) fs) rest b g tt refl
 
-reads_groups : (at : ℕ) (var : Name) (source : Query) (n : Grouping) (open' : ℕ) (body : Query) (fs : List Frame) (rest : List Token) → IsRead source → IsRead body → IsSource source → IsQuery body
-    → steps (state WantTerm fs) (spell_query (Groups at var source n open' body) ++ rest) ≡ steps (state (HaveTerm (Groups at var source n open' body)) fs) rest
-reads_groups at var source n open' body fs rest r b s g =
-    begin-each at var fs ((spell_query source ++ (spell_grouping n ++ token.Open open' ∷ (spell_query body ++ token.Plain plain.Close ∷ []))) ++ rest)
-    ∙ ap (steps (state (WantSource (EachHead at var)) fs)) (regroup_each (spell_query source) (spell_grouping n) (spell_query body) rest (token.Open open') (token.Plain plain.Close))
-    ∙ r.as_source s (EachHead at var) fs (spell_grouping n ++ token.Open open' ∷ (spell_query body ++ token.Plain plain.Close ∷ rest))
-    ∙ each-groups at var source n open' fs (spell_query body ++ token.Plain plain.Close ∷ rest)
-    ∙ closes body (InBody (GroupsHead' at var source n) open') fs (state (HaveTerm (Groups at var source n open' body)) fs) rest b g tt refl
+reads_groups : (at : ℕ) (var : Name) (source : Query) (n : Grouping) (window : Option RowWindow) (open' : ℕ) (body : Query) (fs : List Frame) (rest : List Token) → IsRead source → IsRead body → IsSource source → IsQuery body
+    → steps (state WantTerm fs) (spell_query (Groups at var source n window open' body) ++ rest) ≡ steps (state (HaveTerm (Groups at var source n window open' body)) fs) rest
+reads_groups at var source n window open' body fs rest r b s g =
+    begin-each at var fs ((spell_query source ++ (spell_grouping n ++ (spell_row_window window ++ token.Open open' ∷ (spell_query body ++ token.Plain plain.Close ∷ [])))) ++ rest)
+    ∙ ap (steps (state (WantSource (EachHead at var)) fs)) (regroup_groups (spell_query source) (spell_grouping n) (spell_row_window window) (spell_query body) rest (token.Open open') (token.Plain plain.Close))
+    ∙ r.as_source s (EachHead at var) fs (spell_grouping n ++ (spell_row_window window ++ token.Open open' ∷ (spell_query body ++ token.Plain plain.Close ∷ rest)))
+    ∙ each-groups at var source n window open' fs (spell_query body ++ token.Plain plain.Close ∷ rest)
+    ∙ closes body (InBody (GroupsHead' at var source n window) open') fs (state (HaveTerm (Groups at var source n window open' body)) fs) rest b g tt refl
 
 reads_join : (join : Join) (at : ℕ) (l r : Query) (fs : List Frame) (rest : List Token) → IsRead l → IsRead r → IsQuery l → IsTerm r → NoJoin fs
     → steps (state WantTerm fs) (spell_query (Join' join at l r) ++ rest) ≡ steps (ended (Join' join at l r) fs) rest
@@ -250,9 +264,9 @@ reads (Windows at var source w open' body) = record {
   as_query = λ g fs rest n. reads_windows at var source w open' body fs rest (reads source) (reads body) g.0 g.1;
   as_source = λ g head fs rest. absurd g;
 }
-reads (Groups at var source n open' body) = record {
-  as_term = λ g fs rest. reads_groups at var source n open' body fs rest (reads source) (reads body) g.0 g.1;
-  as_query = λ g fs rest m. reads_groups at var source n open' body fs rest (reads source) (reads body) g.0 g.1;
+reads (Groups at var source n window open' body) = record {
+  as_term = λ g fs rest. reads_groups at var source n window open' body fs rest (reads source) (reads body) g.0 g.1;
+  as_query = λ g fs rest m. reads_groups at var source n window open' body fs rest (reads source) (reads body) g.0 g.1;
   as_source = λ g head fs rest. absurd g;
 }
 reads (Join' join at l r) = record {

@@ -100,12 +100,14 @@ query_names (written.Windows at var source window open' body) h =
     let b = sound_parts (written.spell_window window) (token.Open open' ∷ tail) a.1 in
     let c = sound_parts (written.spell_query body) (token.Plain plain.Close ∷ []) b.1.1 in
     (query_names source a.0, query_names body c.0, h.1.0.name)
-query_names (written.Groups at var source grouping open' body) h =
+query_names (written.Groups at var source grouping window open' body) h =
     let tail : List Token = written.spell_query body ++ token.Plain plain.Close ∷ [] in
-    let a = sound_parts (written.spell_query source) (written.spell_grouping grouping ++ token.Open open' ∷ tail) h.1.1.1 in
-    let b = sound_parts (written.spell_grouping grouping) (token.Open open' ∷ tail) a.1 in
-    let c = sound_parts (written.spell_query body) (token.Plain plain.Close ∷ []) b.1.1 in
-    (query_names source a.0, query_names body c.0, h.1.0.name, b.0.1.0.name)
+    let windowed : List Token = written.spell_row_window window ++ token.Open open' ∷ tail in
+    let a = sound_parts (written.spell_query source) (written.spell_grouping grouping ++ windowed) h.1.1.1 in
+    let b = sound_parts (written.spell_grouping grouping) windowed a.1 in
+    let c = sound_parts (written.spell_row_window window) (token.Open open' ∷ tail) b.1 in
+    let d = sound_parts (written.spell_query body) (token.Plain plain.Close ∷ []) c.1.1 in
+    (query_names source a.0, query_names body d.0, h.1.0.name, b.0.1.0.name)
 query_names (written.Join' join at l r) h =
     let a = sound_parts (written.spell_query l) (token.Join join at ∷ written.spell_query r) h in
     (query_names l a.0, query_names r a.1.1)

@@ -14,8 +14,8 @@ use Rattle.gl_query_tokens.specs.declared.token.Plain.TheVariants as plain
 use Rattle.gl_query_tokens.specs.declared.token.Token.{Token}
 use Rattle.gl_query_tokens.specs.declared.token.Token.TheVariants as token
 use Rattle.gl_query_tokens.specs.Sorts.{plain_eq, is_plain, name_in, number_in, open_in, size_in, by_in}
-use Rattle.gl_query_reader.specs.Written.{Wsum, Item, Items, Query, left_looseness, looseness, level, IsExpr, IsAgg, AreItems, IsPick, IsFilter, IsQuery, IsSource, IsTerm, spell, spell_numbers, spell_agg, spell_items, measure_word, spell_pick, spell_window, spell_if_window, spell_filter, spell_grouping, spell_query}
-use Rattle.gl_query_reader.specs.States.{measure_in, State, Control, Frame, Head, BodyHead, GroupsHead, Unnamed, SelectHead, EachHead, WindowsHead, GroupsHead', SelectGroups, EachGroups, UnnamedExpr, UnnamedAgg, LeftOf, NotOf, BracketOf, InCast, InItem, InFold, InWsum, InFilter, JoinOf, InQuery, InSource, InBody, WantTerm, WantItem, WantOperand, WantMinus, HaveExpr, WantCastOpen, WantKind, WantCastClose, WantCountOpen, WantCountClose, WantFoldOpen, WantWsumOpen, WantWeightsOpen, WantWeight, HaveWeight, WantWsumClose, WantAs, WantItemName, HaveItem, WantFrom, WantSource, HaveSource, HaveEachSource, WantSize, WantSizeNumber, WantAdvance, WantAdvanceNumber, WantMeasure, WantWindowClose, WantBy, WantKey, WantGroups, WantGroupsNumber, WantVar, WantIn, WantBody, HaveTerm, WantName, HaveName, WantEnd}
+use Rattle.gl_query_reader.specs.Written.{Wsum, Item, Items, Query, left_looseness, looseness, level, IsExpr, IsAgg, AreItems, IsPick, IsFilter, IsQuery, IsSource, IsTerm, spell, spell_numbers, spell_agg, spell_items, measure_word, spell_pick, spell_window, spell_if_window, spell_row_window, spell_filter, spell_grouping, spell_query}
+use Rattle.gl_query_reader.specs.States.{measure_in, measure_for, State, Control, Frame, Head, WindowHead, BodyHead, GroupsHead, Unnamed, SelectHead, EachHead, SelectWindow, EachWindow, GroupsWindow, WindowsHead, GroupsHead', SelectGroups, EachGroups, UnnamedExpr, UnnamedAgg, LeftOf, NotOf, BracketOf, InCast, InItem, InFold, InWsum, InFilter, JoinOf, InQuery, InSource, InBody, WantTerm, WantItem, WantOperand, WantMinus, HaveExpr, WantCastOpen, WantKind, WantCastClose, WantCountOpen, WantCountClose, WantFoldOpen, WantWsumOpen, WantWeightsOpen, WantWeight, HaveWeight, WantWsumClose, WantAs, WantItemName, HaveItem, WantFrom, WantSource, HaveSource, HaveEachSource, WantSize, WantSizeNumber, WantAdvance, WantAdvanceNumber, WantMeasure, WantWindowClose, WantBy, WantKey, WantGroups, WantGroupsNumber, WantVar, WantIn, WantBody, HaveTerm, WantName, HaveName, WantEnd}
 use Rattle.gl_query_reader.specs.Machine.{room}
 use Rattle.gl_query_reader.proofs.Steps.{state}
 use Rattle.gl_query_reader.proofs.ReadQueries.{NoJoin}
@@ -38,7 +38,7 @@ head_text (EachHead at var) = token.Each at ∷ token.Name var ∷ token.Plain p
 
 abbrev pub body_text : BodyHead → List Token
 body_text (WindowsHead at var source window) = token.Each at ∷ token.Name var ∷ token.Plain plain.In ∷ (spell_query source ++ spell_window window)
-body_text (GroupsHead' at var source grouping) = token.Each at ∷ token.Name var ∷ token.Plain plain.In ∷ (spell_query source ++ spell_grouping grouping)
+body_text (GroupsHead' at var source grouping window) = token.Each at ∷ token.Name var ∷ token.Plain plain.In ∷ (spell_query source ++ (spell_grouping grouping ++ spell_row_window window))
 
 -- what stands before BY
 abbrev pub groups_text : GroupsHead → List Token
@@ -53,9 +53,11 @@ unnamed_text (UnnamedAgg a) = spell_agg a
 abbrev pub in_items : List Item → List Token → List Token
 in_items items more = token.Plain plain.Select ∷ (items_before items ++ more)
 
--- a source, and what was read behind it
-abbrev pub in_source : Head → Query → List Token → List Token
-in_source head source more = head_text head ++ (spell_query source ++ more)
+-- what has a window, and what was read behind it
+abbrev pub in_source : WindowHead → Query → List Token → List Token
+in_source (SelectWindow pick) source more = head_text (SelectHead pick) ++ (spell_query source ++ more)
+in_source (EachWindow at var) source more = head_text (EachHead at var) ++ (spell_query source ++ more)
+in_source (GroupsWindow at var g) source more = head_text (EachHead at var) ++ (spell_query source ++ (spell_grouping g ++ more))
 
 abbrev pub frame_text : Frame → List Token
 frame_text (LeftOf l o at) = spell l ++ token.Operator o at ∷ []
@@ -124,9 +126,20 @@ abbrev pub IsHead : Head → Type 0
 IsHead (SelectHead pick) = IsPick pick
 IsHead (EachHead at var) = Unit {0}
 
+abbrev pub IsWindowHead : WindowHead → Type 0
+IsWindowHead (SelectWindow pick) = IsPick pick
+IsWindowHead (EachWindow at var) = Unit {0}
+IsWindowHead (GroupsWindow at var grouping) = Unit {0}
+
+-- a window of groups counts rows
+abbrev pub CountsFor : WindowHead → Measure → Type 0
+CountsFor (SelectWindow pick) m = Unit {0}
+CountsFor (EachWindow at var) m = Unit {0}
+CountsFor (GroupsWindow at var grouping) m = m ≡ Tuples
+
 abbrev pub IsBodyHead : BodyHead → Type 0
 IsBodyHead (WindowsHead at var source window) = IsSource source
-IsBodyHead (GroupsHead' at var source grouping) = IsSource source
+IsBodyHead (GroupsHead' at var source grouping window) = IsSource source
 
 abbrev pub IsGroupsHead : GroupsHead → Type 0
 IsGroupsHead (SelectGroups pick source window filter) = IsPick pick × IsSource source × IsFilter filter
@@ -199,12 +212,12 @@ Holds (WantFrom at) fs = InTerm fs
 Holds (WantSource head) fs = InTerm fs × IsHead head
 Holds (HaveSource pick source window) fs = InTerm fs × IsPick pick × IsSource source
 Holds (HaveEachSource at var source) fs = InTerm fs × IsSource source
-Holds (WantSize head source) fs = InTerm fs × IsHead head × IsSource source
-Holds (WantSizeNumber head source at) fs = InTerm fs × IsHead head × IsSource source
-Holds (WantAdvance head source at size) fs = InTerm fs × IsHead head × IsSource source
-Holds (WantAdvanceNumber head source at size) fs = InTerm fs × IsHead head × IsSource source
-Holds (WantMeasure head source at size advance) fs = InTerm fs × IsHead head × IsSource source
-Holds (WantWindowClose head source w) fs = InTerm fs × IsHead head × IsSource source
+Holds (WantSize head source) fs = InTerm fs × IsWindowHead head × IsSource source
+Holds (WantSizeNumber head source at) fs = InTerm fs × IsWindowHead head × IsSource source
+Holds (WantAdvance head source at size) fs = InTerm fs × IsWindowHead head × IsSource source
+Holds (WantAdvanceNumber head source at size) fs = InTerm fs × IsWindowHead head × IsSource source
+Holds (WantMeasure head source at size advance) fs = InTerm fs × IsWindowHead head × IsSource source
+Holds (WantWindowClose head source w) fs = InTerm fs × IsWindowHead head × IsSource source × CountsFor head w.measure
 Holds (WantBy pick source window filter) fs = InTerm fs × IsGroupsHead (SelectGroups pick source window filter)
 Holds (WantKey head at) fs = InTerm fs × IsGroupsHead head
 Holds (WantGroups head at key) fs = InTerm fs × IsGroupsHead head
@@ -278,11 +291,20 @@ pub by_size : (t : Token) (f : ℕ → Option State) (s' : State) (done : List T
 by_size (token.Size n) f s' done e g = g n e
 by_size t f s' done e g = absurd cc
 
-pub by_measure : (t : Token) (f : Measure → Option State) (s' : State) (done : List Token) → option_and_then f (measure_in t) ≡ Some s' → ((m : Measure) → f m ≡ Some s' → Read s' (done ++ token.Plain (measure_word m) ∷ [])) → Read s' (done ++ t ∷ [])
-by_measure (token.Plain plain.Tuples) f s' done e g = g Tuples e
-by_measure (token.Plain plain.Time) f s' done e g = g Time e
-by_measure (token.Plain p) f s' done e g = absurd cc
-by_measure t f s' done e g = absurd cc
+by_word : (t : Token) (f : Measure → Option State) (s' : State) (done : List Token) → option_and_then f (measure_in t) ≡ Some s' → ((m : Measure) → f m ≡ Some s' → Read s' (done ++ token.Plain (measure_word m) ∷ [])) → Read s' (done ++ t ∷ [])
+by_word (token.Plain plain.Tuples) f s' done e g = g Tuples e
+by_word (token.Plain plain.Time) f s' done e g = g Time e
+by_word (token.Plain p) f s' done e g = absurd cc
+by_word t f s' done e g = absurd cc
+
+pub by_measure : (head : WindowHead) (t : Token) (f : Measure → Option State) (s' : State) (done : List Token) → option_and_then f (measure_for head t) ≡ Some s' → ((m : Measure) → CountsFor head m → f m ≡ Some s' → Read s' (done ++ token.Plain (measure_word m) ∷ [])) → Read s' (done ++ t ∷ [])
+by_measure (SelectWindow pick) t f s' done e g = by_word t f s' done e (λ m d. g m tt d)
+by_measure (EachWindow at var) t f s' done e g = by_word t f s' done e (λ m d. g m tt d)
+by_measure (GroupsWindow at var grouping) t f s' done e g = test (is_plain plain.Tuples t) refl e
+  where
+    test : (c : Bool) → is_plain plain.Tuples t ≡ c → option_and_then f (cond c (Some Tuples) None) ≡ Some s' → Read s' (done ++ t ∷ [])
+    test true h d = subst (λ (u : Token). Read s' (done ++ u ∷ [])) (sym (plain_is plain.Tuples t h)) (g Tuples refl d)
+    test false h d = absurd cc
 
 pub by_by : (t : Token) (f : ℕ → Option State) (s' : State) (done : List Token) → option_and_then f (by_in t) ≡ Some s' → ((n : ℕ) → f n ≡ Some s' → Read s' (done ++ token.By n ∷ [])) → Read s' (done ++ t ∷ [])
 by_by (token.By n) f s' done e g = g n e

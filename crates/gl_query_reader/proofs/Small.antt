@@ -185,13 +185,15 @@ query_small (written.Windows at var source window open' body) more n w =
     let b = along (written.spell_window window) (token.Open open' ∷ bodies) more _ (along (written.spell_query source) rest more _ a) in
     let c = first_part (written.spell_query body) tail more _ (within_more _ (token.Open open') _ b) in
     (query_small source (rest ++ more) _ s, query_small body (tail ++ more) _ c, tt)
-query_small (written.Groups at var source grouping open' body) more n w =
+query_small (written.Groups at var source grouping window open' body) more n w =
     let tail : List Token = token.Plain plain.Close ∷ [] in
     let bodies : List Token = written.spell_query body ++ tail in
-    let rest : List Token = written.spell_grouping grouping ++ token.Open open' ∷ bodies in
+    let windowed : List Token = written.spell_row_window window ++ token.Open open' ∷ bodies in
+    let rest : List Token = written.spell_grouping grouping ++ windowed in
     let a = within_more _ (token.Plain plain.In) _ (within_more _ (token.Name var) _ (within_more n (token.Each at) _ w)) in
     let s = first_part (written.spell_query source) rest more _ a in
-    let b = along (written.spell_grouping grouping) (token.Open open' ∷ bodies) more _ (along (written.spell_query source) rest more _ a) in
+    let d = along (written.spell_grouping grouping) windowed more _ (along (written.spell_query source) rest more _ a) in
+    let b = along (written.spell_row_window window) (token.Open open' ∷ bodies) more _ d in
     let c = first_part (written.spell_query body) tail more _ (within_more _ (token.Open open') _ b) in
     (query_small source (rest ++ more) _ s, query_small body (tail ++ more) _ c, tt, tt)
 query_small (written.Join' j at l r) more n w =

@@ -1,17 +1,19 @@
 -- What follows a term, and the parts of sources, windows and groups, are read as the grammar has them.
 use Rattle.std.proofs.Common.{◌≡◌, ℕ, List, [], ◌∷◌, ◌++◌, Option, Some, None, refl, ap, subst, ◌∙◌, append_assoc}
 use Rattle.std.proofs.lemmas.List.{append-nil}
+use Rattle.gl_query.specs.declared.tree.Measure.{Measure}
 use Rattle.gl_query.specs.declared.tree.Name.{Name}
 use Rattle.gl_query.specs.declared.tree.Num.{Num}
 use Rattle.gl_query_tokens.specs.declared.token.Plain.TheVariants as plain
 use Rattle.gl_query_tokens.specs.declared.token.Token.{Token}
 use Rattle.gl_query_tokens.specs.declared.token.Token.TheVariants as token
 use Rattle.gl_query_reader.specs.declared.written.Window.{Window}
-use Rattle.gl_query_reader.specs.Written.{Expr, Pick, Query, Stream, InBrackets, Select, Windows, Groups, Join', IsQuery, IsTerm, measure_word, spell_pick, spell_window, spell_if_window, spell_filter, spell_grouping, spell_query}
-use Rattle.gl_query_reader.specs.States.{measured, State, Control, Frame, Head, BodyHead, GroupsHead, SelectHead, EachHead, WindowsHead, GroupsHead', SelectGroups, EachGroups, InFilter, JoinOf, InQuery, InSource, InBody, WantTerm, WantItem, WantOperand, WantSource, HaveSource, HaveEachSource, WantSize, WantSizeNumber, WantAdvance, WantAdvanceNumber, WantMeasure, WantWindowClose, WantBy, WantKey, WantGroups, WantGroupsNumber, WantVar, WantIn, WantBody, HaveTerm, WantName, HaveName, WantEnd}
+use Rattle.gl_query_reader.specs.Written.{Expr, Pick, Query, Stream, InBrackets, Select, Windows, Groups, Join', IsQuery, IsTerm, measure_word, spell_pick, spell_window, spell_if_window, spell_row_window, spell_filter, spell_grouping, spell_query}
+use Rattle.gl_query_reader.specs.States.{measured, row_window, State, Control, Frame, Head, WindowHead, BodyHead, GroupsHead, SelectHead, EachHead, SelectWindow, EachWindow, GroupsWindow, WindowsHead, GroupsHead', SelectGroups, EachGroups, InFilter, JoinOf, InQuery, InSource, InBody, WantTerm, WantItem, WantOperand, WantSource, HaveSource, HaveEachSource, WantSize, WantSizeNumber, WantAdvance, WantAdvanceNumber, WantMeasure, WantWindowClose, WantBy, WantKey, WantGroups, WantGroupsNumber, WantVar, WantIn, WantBody, HaveTerm, WantName, HaveName, WantEnd}
+use Rattle.gl_query_reader.specs.Begun.{open_body}
 use Rattle.gl_query_reader.specs.Machine.{have_term, after_query, close_query, end_query, begin_window, step_at}
 use Rattle.gl_query_reader.proofs.ReadQueries.{NoJoin}
-use Rattle.gl_query_reader.proofs.Said.{head_text, body_text, groups_text, before, control_text, InTerm, Fits, Holds, Read, by_some, by_if, by_plain, by_name, by_number, by_open, by_measure, by_size, by_by, go_on, go_in}
+use Rattle.gl_query_reader.proofs.Said.{head_text, body_text, groups_text, in_source, before, control_text, InTerm, Fits, Holds, Read, by_some, by_if, by_plain, by_name, by_number, by_open, by_measure, by_size, by_by, go_on, go_in}
 
 -- a control that keeps what was read, whatever token comes
 abbrev pub Keeps : Control → Type 0
@@ -24,7 +26,7 @@ term_is_query (Stream name) h = h
 term_is_query (InBrackets at q) h = h
 term_is_query (Select pick source window filter grouping) h = h
 term_is_query (Windows at var source window open' body) h = h
-term_is_query (Groups at var source grouping open' body) h = h
+term_is_query (Groups at var source grouping window open' body) h = h
 term_is_query (Join' join at l r) h = absurd h
 
 close_brackets : (b q : List Token) (o c : Token) → b ++ (o ∷ (q ++ c ∷ [])) ≡ ((b ++ o ∷ []) ++ q) ++ c ∷ []
@@ -59,14 +61,14 @@ closes_query (InBody (WindowsHead at var source window) open' ∷ fs) q s' f h e
   where
     text : (b a w x : List Token) → b ++ (token.Each at ∷ token.Name var ∷ token.Plain plain.In ∷ (a ++ (w ++ token.Open open' ∷ (x ++ token.Plain plain.Close ∷ [])))) ≡ ((b ++ ((token.Each at ∷ token.Name var ∷ token.Plain plain.In ∷ (a ++ w)) ++ token.Open open' ∷ [])) ++ x) ++ token.Plain plain.Close ∷ []
     text b a w x = simp append_assoc
-closes_query (InBody (GroupsHead' at var source grouping) open' ∷ fs) q s' f h e = by_some _ s' _ e (record {
-  text = text (before fs) (spell_query source) (spell_grouping grouping) (spell_query q);
+closes_query (InBody (GroupsHead' at var source grouping window) open' ∷ fs) q s' f h e = by_some _ s' _ e (record {
+  text = text (before fs) (spell_query source) (spell_grouping grouping) (spell_row_window window) (spell_query q);
   fits = f.1;
   holds = (f.0.0, (f.0.1, h));
 })
   where
-    text : (b a w x : List Token) → b ++ (token.Each at ∷ token.Name var ∷ token.Plain plain.In ∷ (a ++ (w ++ token.Open open' ∷ (x ++ token.Plain plain.Close ∷ [])))) ≡ ((b ++ ((token.Each at ∷ token.Name var ∷ token.Plain plain.In ∷ (a ++ w)) ++ token.Open open' ∷ [])) ++ x) ++ token.Plain plain.Close ∷ []
-    text b a w x = simp append_assoc
+    text : (b a g w x : List Token) → b ++ (token.Each at ∷ token.Name var ∷ token.Plain plain.In ∷ (a ++ (g ++ (w ++ token.Open open' ∷ (x ++ token.Plain plain.Close ∷ []))))) ≡ ((b ++ ((token.Each at ∷ token.Name var ∷ token.Plain plain.In ∷ (a ++ (g ++ w))) ++ token.Open open' ∷ [])) ++ x) ++ token.Plain plain.Close ∷ []
+    text b a g w x = simp append_assoc
 closes_query fs q s' f h e = absurd cc
 
 ends_query : (fs : List Frame) (q : Query) (s' : State) → Fits fs → IsQuery q → end_query fs q ≡ Some s' → Read s' ((before fs ++ spell_query q) ++ token.Plain plain.Into ∷ [])
@@ -105,8 +107,8 @@ keeps_var at fs t s' f h e = by_name t _ s' _ e (λ n d. by_some _ s' _ d (go_on
 pub keeps_in : (at : ℕ) (var : Name) → Keeps (WantIn at var)
 keeps_in at var fs t s' f h e = by_plain plain.In t _ s' _ e (go_on (token.Each at ∷ token.Name var ∷ []) (WantSource (EachHead at var)) fs (token.Plain plain.In) f (h, tt) refl)
 
-pub keeps_body : (head : BodyHead) → Keeps (WantBody head)
-keeps_body head fs t s' f h e = by_open t _ s' _ e (λ n d. by_some _ s' _ d (go_in (body_text head) WantTerm (InBody head n) fs (token.Open n) f (h.0, h.1) tt refl refl))
+opens_body : (head : BodyHead) (fs : List Frame) (t : Token) (s' : State) → Fits fs → Holds (WantBody head) fs → open_body fs head t ≡ Some s' → Read s' ((before fs ++ body_text head) ++ t ∷ [])
+opens_body head fs t s' f h e = by_open t _ s' _ e (λ n d. by_some _ s' _ d (go_in (body_text head) WantTerm (InBody head n) fs (token.Open n) f (h.0, h.1) tt refl refl))
 
 pub keeps_have_term : (q : Query) → Keeps (HaveTerm q)
 keeps_have_term q fs t s' f h e = keeps_term fs q t s' f h.0 h.1 e
@@ -138,7 +140,7 @@ open_window p q = ap (λ (x : List Token). (token.Plain plain.Select ∷ (p ++ t
     source_grouped p q = simp append_assoc
 
 begins_window : (pick : Pick) (source : Query) (window : Option Window) (fs : List Frame) (s' : State) → Fits fs → Holds (HaveSource pick source window) fs → begin_window fs pick source window ≡ Some s' → Read s' ((before fs ++ control_text (HaveSource pick source window)) ++ token.Plain plain.LeftSquare ∷ [])
-begins_window pick source None fs s' f h e = by_some _ s' _ e (go_on (control_text (HaveSource pick source None)) (WantSize (SelectHead pick) source) fs (token.Plain plain.LeftSquare) f h (open_window (spell_pick pick) (spell_query source)))
+begins_window pick source None fs s' f h e = by_some _ s' _ e (go_on (control_text (HaveSource pick source None)) (WantSize (SelectWindow pick) source) fs (token.Plain plain.LeftSquare) f h (open_window (spell_pick pick) (spell_query source)))
 begins_window pick source (Some w) fs s' f h e = absurd cc
 
 begin_filter : (p q w : List Token) (t : Token) → (token.Plain plain.Select ∷ (p ++ token.Plain plain.From ∷ (q ++ w))) ++ t ∷ [] ≡ token.Plain plain.Select ∷ (p ++ token.Plain plain.From ∷ (q ++ (w ++ t ∷ [])))
@@ -156,7 +158,7 @@ keeps_have_source pick source window fs t s' f h e =
 
 pub keeps_each_source : (at : ℕ) (var : Name) (source : Query) → Keeps (HaveEachSource at var source)
 keeps_each_source at var source fs t s' f h e =
-    by_if plain.LeftSquare t _ _ s' _ e (λ d. by_some _ s' _ d (go_on (control_text (HaveEachSource at var source)) (WantSize (EachHead at var) source) fs (token.Plain plain.LeftSquare) f (h.0, tt, h.1) refl))
+    by_if plain.LeftSquare t _ _ s' _ e (λ d. by_some _ s' _ d (go_on (control_text (HaveEachSource at var source)) (WantSize (EachWindow at var) source) fs (token.Plain plain.LeftSquare) f (h.0, tt, h.1) refl))
     (λ e1. by_by t _ s' _ e1 (λ n d. by_some _ s' _ d (go_on (control_text (HaveEachSource at var source)) (WantKey (EachGroups at var source) n) fs (token.By n) f (h.0, h.1) refl)))
 
 -- ---- windows
@@ -164,27 +166,49 @@ keeps_each_source at var source fs t s' f h e =
 behind_source : (h q more : List Token) (t : Token) → (h ++ (q ++ more)) ++ t ∷ [] ≡ h ++ (q ++ (more ++ t ∷ []))
 behind_source h q more t = simp append_assoc
 
-pub keeps_size : (head : Head) (source : Query) → Keeps (WantSize head source)
-keeps_size head source fs t s' f h e = by_size t _ s' _ e (λ n d. by_some _ s' _ d (go_on (control_text (WantSize head source)) (WantSizeNumber head source n) fs (token.Size n) f h (behind_source (head_text head) (spell_query source) (token.Plain plain.LeftSquare ∷ []) (token.Size n))))
+behind_groups : (h q g more : List Token) (t : Token) → (h ++ (q ++ (g ++ more))) ++ t ∷ [] ≡ h ++ (q ++ (g ++ (more ++ t ∷ [])))
+behind_groups h q g more t = simp append_assoc
 
-pub keeps_size_number : (head : Head) (source : Query) (at : ℕ) → Keeps (WantSizeNumber head source at)
-keeps_size_number head source at fs t s' f h e = by_number t _ s' _ e (λ n d. by_some _ s' _ d (go_on (control_text (WantSizeNumber head source at)) (WantAdvance head source at n) fs (token.Number n) f h (behind_source (head_text head) (spell_query source) (token.Plain plain.LeftSquare ∷ token.Size at ∷ []) (token.Number n))))
+behind_window : (head : WindowHead) (source : Query) (more : List Token) (t : Token) → in_source head source more ++ t ∷ [] ≡ in_source head source (more ++ t ∷ [])
+behind_window (SelectWindow pick) source more t = behind_source (head_text (SelectHead pick)) (spell_query source) more t
+behind_window (EachWindow at var) source more t = behind_source (head_text (EachHead at var)) (spell_query source) more t
+behind_window (GroupsWindow at var g) source more t = behind_groups (head_text (EachHead at var)) (spell_query source) (spell_grouping g) more t
 
-pub keeps_advance : (head : Head) (source : Query) (at : ℕ) (size : Num) → Keeps (WantAdvance head source at size)
-keeps_advance head source at size fs t s' f h e = by_plain plain.Advance t _ s' _ e (go_on (control_text (WantAdvance head source at size)) (WantAdvanceNumber head source at size) fs (token.Plain plain.Advance) f h (behind_source (head_text head) (spell_query source) (token.Plain plain.LeftSquare ∷ token.Size at ∷ token.Number size ∷ []) (token.Plain plain.Advance)))
+-- behind groups a window may begin, or a body opens
+pub keeps_body : (head : BodyHead) → Keeps (WantBody head)
+keeps_body (WindowsHead at var source w) fs t s' f h e = opens_body (WindowsHead at var source w) fs t s' f h e
+keeps_body (GroupsHead' at var source g (Some w)) fs t s' f h e = opens_body (GroupsHead' at var source g (Some w)) fs t s' f h e
+keeps_body (GroupsHead' at var source g None) fs t s' f h e =
+    by_if plain.LeftSquare t _ _ s' _ e (λ d. by_some _ s' _ d (go_on (body_text (GroupsHead' at var source g None)) (WantSize (GroupsWindow at var g) source) fs (token.Plain plain.LeftSquare) f (h.0, tt, h.1) (behind_source (head_text (EachHead at var)) (spell_query source) (spell_grouping g) (token.Plain plain.LeftSquare))))
+    (λ d. opens_body (GroupsHead' at var source g None) fs t s' f h d)
 
-pub keeps_advance_number : (head : Head) (source : Query) (at : ℕ) (size : Num) → Keeps (WantAdvanceNumber head source at size)
-keeps_advance_number head source at size fs t s' f h e = by_number t _ s' _ e (λ n d. by_some _ s' _ d (go_on (control_text (WantAdvanceNumber head source at size)) (WantMeasure head source at size n) fs (token.Number n) f h (behind_source (head_text head) (spell_query source) (token.Plain plain.LeftSquare ∷ token.Size at ∷ token.Number size ∷ token.Plain plain.Advance ∷ []) (token.Number n))))
+pub keeps_size : (head : WindowHead) (source : Query) → Keeps (WantSize head source)
+keeps_size head source fs t s' f h e = by_size t _ s' _ e (λ n d. by_some _ s' _ d (go_on (control_text (WantSize head source)) (WantSizeNumber head source n) fs (token.Size n) f h (behind_window head source (token.Plain plain.LeftSquare ∷ []) (token.Size n))))
 
-pub keeps_measure : (head : Head) (source : Query) (at : ℕ) (size advance : Num) → Keeps (WantMeasure head source at size advance)
-keeps_measure head source at size advance fs t s' f h e = by_measure t _ s' _ e (λ m d. by_some _ s' _ d (go_on (control_text (WantMeasure head source at size advance)) (WantWindowClose head source (measured at size advance m)) fs (token.Plain (measure_word m)) f h (behind_source (head_text head) (spell_query source) (token.Plain plain.LeftSquare ∷ token.Size at ∷ token.Number size ∷ token.Plain plain.Advance ∷ token.Number advance ∷ []) (token.Plain (measure_word m)))))
+pub keeps_size_number : (head : WindowHead) (source : Query) (at : ℕ) → Keeps (WantSizeNumber head source at)
+keeps_size_number head source at fs t s' f h e = by_number t _ s' _ e (λ n d. by_some _ s' _ d (go_on (control_text (WantSizeNumber head source at)) (WantAdvance head source at n) fs (token.Number n) f h (behind_window head source (token.Plain plain.LeftSquare ∷ token.Size at ∷ []) (token.Number n))))
+
+pub keeps_advance : (head : WindowHead) (source : Query) (at : ℕ) (size : Num) → Keeps (WantAdvance head source at size)
+keeps_advance head source at size fs t s' f h e = by_plain plain.Advance t _ s' _ e (go_on (control_text (WantAdvance head source at size)) (WantAdvanceNumber head source at size) fs (token.Plain plain.Advance) f h (behind_window head source (token.Plain plain.LeftSquare ∷ token.Size at ∷ token.Number size ∷ []) (token.Plain plain.Advance)))
+
+pub keeps_advance_number : (head : WindowHead) (source : Query) (at : ℕ) (size : Num) → Keeps (WantAdvanceNumber head source at size)
+keeps_advance_number head source at size fs t s' f h e = by_number t _ s' _ e (λ n d. by_some _ s' _ d (go_on (control_text (WantAdvanceNumber head source at size)) (WantMeasure head source at size n) fs (token.Number n) f h (behind_window head source (token.Plain plain.LeftSquare ∷ token.Size at ∷ token.Number size ∷ token.Plain plain.Advance ∷ []) (token.Number n))))
+
+pub keeps_measure : (head : WindowHead) (source : Query) (at : ℕ) (size advance : Num) → Keeps (WantMeasure head source at size advance)
+keeps_measure head source at size advance fs t s' f h e = by_measure head t _ s' _ e (λ m k d. by_some _ s' _ d (go_on (control_text (WantMeasure head source at size advance)) (WantWindowClose head source (measured at size advance m)) fs (token.Plain (measure_word m)) f (h.0, h.1, h.2, k) (behind_window head source (token.Plain plain.LeftSquare ∷ token.Size at ∷ token.Number size ∷ token.Plain plain.Advance ∷ token.Number advance ∷ []) (token.Plain (measure_word m)))))
 
 close_select_window : (p q : List Token) (more : List Token) (t : Token) → ((token.Plain plain.Select ∷ (p ++ token.Plain plain.From ∷ [])) ++ (q ++ more)) ++ t ∷ [] ≡ token.Plain plain.Select ∷ (p ++ token.Plain plain.From ∷ (q ++ (more ++ t ∷ [])))
 close_select_window p q more t = simp append_assoc
 
-pub keeps_window_close : (head : Head) (source : Query) (w : Window) → Keeps (WantWindowClose head source w)
-keeps_window_close (SelectHead pick) source w fs t s' f h e = by_plain plain.RightSquare t _ s' _ e (go_on (control_text (WantWindowClose (SelectHead pick) source w)) (HaveSource pick source (Some w)) fs (token.Plain plain.RightSquare) f h (close_select_window (spell_pick pick) (spell_query source) (token.Plain plain.LeftSquare ∷ token.Size w.at ∷ token.Number w.size ∷ token.Plain plain.Advance ∷ token.Number w.advance ∷ token.Plain (measure_word w.measure) ∷ []) (token.Plain plain.RightSquare)))
-keeps_window_close (EachHead at var) source w fs t s' f h e = by_plain plain.RightSquare t _ s' _ e (go_on (control_text (WantWindowClose (EachHead at var) source w)) (WantBody (WindowsHead at var source w)) fs (token.Plain plain.RightSquare) f (h.0, h.2) (behind_source (head_text (EachHead at var)) (spell_query source) (token.Plain plain.LeftSquare ∷ token.Size w.at ∷ token.Number w.size ∷ token.Plain plain.Advance ∷ token.Number w.advance ∷ token.Plain (measure_word w.measure) ∷ []) (token.Plain plain.RightSquare)))
+-- the words of a window up to its measure, and its end
+abbrev ends_words : Window → Measure → List Token
+ends_words w m = token.Plain plain.LeftSquare ∷ token.Size w.at ∷ token.Number w.size ∷ token.Plain plain.Advance ∷ token.Number w.advance ∷ token.Plain (measure_word m) ∷ token.Plain plain.RightSquare ∷ []
+
+pub keeps_window_close : (head : WindowHead) (source : Query) (w : Window) → Keeps (WantWindowClose head source w)
+keeps_window_close (SelectWindow pick) source w fs t s' f h e = by_plain plain.RightSquare t _ s' _ e (go_on (control_text (WantWindowClose (SelectWindow pick) source w)) (HaveSource pick source (Some w)) fs (token.Plain plain.RightSquare) f (h.0, h.1, h.2) (close_select_window (spell_pick pick) (spell_query source) (token.Plain plain.LeftSquare ∷ token.Size w.at ∷ token.Number w.size ∷ token.Plain plain.Advance ∷ token.Number w.advance ∷ token.Plain (measure_word w.measure) ∷ []) (token.Plain plain.RightSquare)))
+keeps_window_close (EachWindow at var) source w fs t s' f h e = by_plain plain.RightSquare t _ s' _ e (go_on (control_text (WantWindowClose (EachWindow at var) source w)) (WantBody (WindowsHead at var source w)) fs (token.Plain plain.RightSquare) f (h.0, h.2) (behind_window (EachWindow at var) source (token.Plain plain.LeftSquare ∷ token.Size w.at ∷ token.Number w.size ∷ token.Plain plain.Advance ∷ token.Number w.advance ∷ token.Plain (measure_word w.measure) ∷ []) (token.Plain plain.RightSquare)))
+keeps_window_close (GroupsWindow at var g) source w fs t s' f h e = by_plain plain.RightSquare t _ s' _ e (go_on (control_text (WantWindowClose (GroupsWindow at var g) source w)) (WantBody (GroupsHead' at var source g (Some (row_window w)))) fs (token.Plain plain.RightSquare) f (h.0, h.2)
+    (behind_window (GroupsWindow at var g) source (token.Plain plain.LeftSquare ∷ token.Size w.at ∷ token.Number w.size ∷ token.Plain plain.Advance ∷ token.Number w.advance ∷ token.Plain (measure_word w.measure) ∷ []) (token.Plain plain.RightSquare) ∙ ap (λ (m : Measure). in_source (GroupsWindow at var g) source (ends_words w m)) h.3))
 
 -- ---- groups
 
@@ -205,4 +229,4 @@ group_each q more a b c t = simp append_assoc
 
 pub keeps_groups_number : (head : GroupsHead) (at : ℕ) (key : Name) → Keeps (WantGroupsNumber head at key)
 keeps_groups_number (SelectGroups pick source window filter) at key fs t s' f h e = by_number t _ s' _ e (λ n d. by_some _ s' _ d (go_on (control_text (WantGroupsNumber (SelectGroups pick source window filter) at key)) (HaveTerm (Select pick source window filter (Some (record { at = at; key = key; groups = n })))) fs (token.Number n) f h (group_select (spell_pick pick) (spell_query source) (spell_if_window window) (spell_filter filter) (token.Plain plain.Group) (token.By at ∷ token.Name key ∷ token.Plain plain.Groups ∷ []) (token.Number n))))
-keeps_groups_number (EachGroups at' var source) at key fs t s' f h e = by_number t _ s' _ e (λ n d. by_some _ s' _ d (go_on (control_text (WantGroupsNumber (EachGroups at' var source) at key)) (WantBody (GroupsHead' at' var source (record { at = at; key = key; groups = n }))) fs (token.Number n) f h (group_each (spell_query source) (token.By at ∷ token.Name key ∷ token.Plain plain.Groups ∷ []) (token.Each at') (token.Name var) (token.Plain plain.In) (token.Number n))))
+keeps_groups_number (EachGroups at' var source) at key fs t s' f h e = by_number t _ s' _ e (λ n d. by_some _ s' _ d (go_on (control_text (WantGroupsNumber (EachGroups at' var source) at key)) (WantBody (GroupsHead' at' var source (record { at = at; key = key; groups = n }) None)) fs (token.Number n) f h (group_each (spell_query source) (token.By at ∷ token.Name key ∷ token.Plain plain.Groups ∷ []) (token.Each at') (token.Name var) (token.Plain plain.In) (token.Number n))))

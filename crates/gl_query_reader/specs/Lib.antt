@@ -8,3 +8,4 @@ pub mod Reading
 pub mod Meaning
 pub mod Mixed
 pub mod Grammar
+pub mod Begun

@@ -16,7 +16,8 @@ use Rattle.gl_query_tokens.specs.Sorts.{is_plain, name_in, number_in, open_in, s
 use Rattle.gl_query_reader.specs.declared.written.Window.{Window}
 use Rattle.gl_query_reader.specs.declared.written.Grouping.{Grouping}
 use Rattle.gl_query_reader.specs.Written.{Expr, Column, Number, Minus, Letters, Brackets, Cast, Not, Binary, Count, Fold', Wsum, Item, Bare, Named, Total, Pick, All, Items, Query, Stream, InBrackets, Select, Windows, Groups, Join', Statement, looseness, left_looseness}
-use Rattle.gl_query_reader.specs.States.{Head, after_window, measure_in, measured, SelectHead, EachHead, BodyHead, WindowsHead, GroupsHead', GroupsHead, SelectGroups, EachGroups, Unnamed, UnnamedExpr, UnnamedAgg, Frame, Control, State, goes, expected, LeftOf, NotOf, BracketOf, InCast, InItem, InFold, InWsum, InFilter, JoinOf, InQuery, InSource, InBody, WantTerm, WantItem, WantOperand, WantMinus, HaveExpr, WantCastOpen, WantKind, WantCastClose, WantCountOpen, WantCountClose, WantFoldOpen, WantWsumOpen, WantWeightsOpen, WantWeight, HaveWeight, WantWsumClose, WantAs, WantItemName, HaveItem, WantFrom, WantSource, HaveSource, HaveEachSource, WantSize, WantSizeNumber, WantAdvance, WantAdvanceNumber, WantMeasure, WantWindowClose, WantBy, WantKey, WantGroups, WantGroupsNumber, WantVar, WantIn, WantBody, HaveTerm, WantName, HaveName, WantEnd}
+use Rattle.gl_query_reader.specs.Begun.{want_body}
+use Rattle.gl_query_reader.specs.States.{Head, after_window, measure_for, measured, SelectHead, EachHead, WindowHead, SelectWindow, EachWindow, BodyHead, WindowsHead, GroupsHead', GroupsHead, SelectGroups, EachGroups, Unnamed, UnnamedExpr, UnnamedAgg, Frame, Control, State, goes, expected, LeftOf, NotOf, BracketOf, InCast, InItem, InFold, InWsum, InFilter, JoinOf, InQuery, InSource, InBody, WantTerm, WantItem, WantOperand, WantMinus, HaveExpr, WantCastOpen, WantKind, WantCastClose, WantCountOpen, WantCountClose, WantFoldOpen, WantWsumOpen, WantWeightsOpen, WantWeight, HaveWeight, WantWsumClose, WantAs, WantItemName, HaveItem, WantFrom, WantSource, HaveSource, HaveEachSource, WantSize, WantSizeNumber, WantAdvance, WantAdvanceNumber, WantMeasure, WantWindowClose, WantBy, WantKey, WantGroups, WantGroupsNumber, WantVar, WantIn, WantBody, HaveTerm, WantName, HaveName, WantEnd}
 
 -- ---- expressions
 
@@ -123,7 +124,7 @@ joined (f ∷ fs) q = if is_join f then (fs, join_with f q) else (f ∷ fs, q)
 
 abbrev pub body_of : BodyHead → ℕ → Query → Query
 body_of (WindowsHead at var source window) open' q = Windows at var source window open' q
-body_of (GroupsHead' at var source grouping) open' q = Groups at var source grouping open' q
+body_of (GroupsHead' at var source grouping window) open' q = Groups at var source grouping window open' q
 
 -- what may stand behind a source
 abbrev pub after_source : Head → Query → Control
@@ -276,7 +277,7 @@ want_source fs head t = None
 
 -- a window stands at most once
 abbrev pub begin_window : List Frame → Pick → Query → Option Window → Option State
-begin_window fs pick source None = goes (WantSize (SelectHead pick) source) fs
+begin_window fs pick source None = goes (WantSize (SelectWindow pick) source) fs
 begin_window fs pick source (Some w) = None
 
 abbrev pub end_source : List Frame → Pick → Query → Option Window → Token → Option State
@@ -289,22 +290,22 @@ have_source fs pick source window t = if is_plain plain.LeftSquare t then begin_
 
 abbrev pub have_each_source : List Frame → ℕ → Name → Query → Token → Option State
 have_each_source fs at var source t =
-    if is_plain plain.LeftSquare t then goes (WantSize (EachHead at var) source) fs else
+    if is_plain plain.LeftSquare t then goes (WantSize (EachWindow at var) source) fs else
     option_and_then (λ n. goes (WantKey (EachGroups at var source) n) fs) (by_in t)
 
-abbrev pub want_size : List Frame → Head → Query → Token → Option State
+abbrev pub want_size : List Frame → WindowHead → Query → Token → Option State
 want_size fs head source t = option_and_then (λ n. goes (WantSizeNumber head source n) fs) (size_in t)
 
-abbrev pub want_size_number : List Frame → Head → Query → ℕ → Token → Option State
+abbrev pub want_size_number : List Frame → WindowHead → Query → ℕ → Token → Option State
 want_size_number fs head source at t = option_and_then (λ n. goes (WantAdvance head source at n) fs) (number_in t)
 
-abbrev pub want_advance_number : List Frame → Head → Query → ℕ → Num → Token → Option State
+abbrev pub want_advance_number : List Frame → WindowHead → Query → ℕ → Num → Token → Option State
 want_advance_number fs head source at size t =
     option_and_then (λ n. goes (WantMeasure head source at size n) fs) (number_in t)
 
-abbrev pub want_measure : List Frame → Head → Query → ℕ → Num → Num → Token → Option State
+abbrev pub want_measure : List Frame → WindowHead → Query → ℕ → Num → Num → Token → Option State
 want_measure fs head source at size advance t =
-    option_and_then (λ m. goes (WantWindowClose head source (measured at size advance m)) fs) (measure_in t)
+    option_and_then (λ m. goes (WantWindowClose head source (measured at size advance m)) fs) (measure_for head t)
 
 abbrev pub want_by : List Frame → Pick → Query → Option Window → Option Expr → Token → Option State
 want_by fs pick source window filter t =
@@ -315,7 +316,7 @@ want_key fs head at t = option_and_then (λ key. goes (WantGroups head at key) f
 
 abbrev pub after_groups : GroupsHead → Grouping → Control
 after_groups (SelectGroups pick source window filter) g = HaveTerm (Select pick source window filter (Some g))
-after_groups (EachGroups at var source) g = WantBody (GroupsHead' at var source g)
+after_groups (EachGroups at var source) g = WantBody (GroupsHead' at var source g None)
 
 abbrev pub want_groups_number : List Frame → GroupsHead → ℕ → Name → Token → Option State
 want_groups_number fs head at key t =
@@ -335,9 +336,6 @@ want_term fs t = None
 
 abbrev pub want_var : List Frame → ℕ → Token → Option State
 want_var fs at t = option_and_then (λ name. goes (WantIn at name) fs) (name_in t)
-
-abbrev pub want_body : List Frame → BodyHead → Token → Option State
-want_body fs head t = option_and_then (λ n. goes WantTerm (InBody head n ∷ fs)) (open_in t)
 
 abbrev pub want_name : List Frame → Query → Token → Option State
 want_name fs q t = option_and_then (λ name. goes (HaveName q name) fs) (name_in t)

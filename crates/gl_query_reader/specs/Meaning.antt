@@ -1,11 +1,12 @@
 -- What a statement that is written means: a tree of queries, with places.
 use Rattle.std.specs.Prelude.{ℕ, Bool, true, false, List, [], ◌∷◌, codes, Option, Some, None, option_map}
 use Rattle.gl_query.specs.declared.tree.Name.{Name}
-use Rattle.gl_query.specs.Trees.{ExprTree, AggTree, ItemTree, AggItemTree, QueryTree, StatementTree, Column, Number, Minus, Letters, Not, Cast, Binary, Count, Sum, Min, Max, Avg, Wsum, All, Items, Read, Rows, Total, Each, PerGroup, Union, Concat}
+use Rattle.gl_query.specs.Trees.{ExprTree, AggTree, ItemTree, AggItemTree, QueryTree, StatementTree, Column, Number, Minus, Letters, Not, Cast, Binary, Count, Sum, Min, Max, Avg, Wsum, All, Items, Read, Rows, Total, Each, PerGroup, Partition, Union, Concat}
 use Rattle.gl_query_tokens.specs.declared.token.Fold.{Fold}
 use Rattle.gl_query_tokens.specs.declared.token.Fold.TheVariants as fold
 use Rattle.gl_query_tokens.specs.declared.token.Join.{Join}
 use Rattle.gl_query_tokens.specs.declared.token.Join.TheVariants as join
+use Rattle.gl_query_reader.specs.declared.written.RowWindow.{RowWindow}
 use Rattle.gl_query_reader.specs.declared.written.Window.{Window}
 use Rattle.gl_query_reader.specs.declared.written.Grouping.{Grouping}
 use Rattle.gl_query_reader.specs.Written as written
@@ -92,6 +93,11 @@ abbrev pub join_meaning : Join → QueryTree → QueryTree → ℕ → QueryTree
 join_meaning join.Union l r at = Union l r at
 join_meaning join.Concat l r at = Concat l r at
 
+-- a body for each group, or for each window of each group
+abbrev pub each_group : Name → QueryTree → Grouping → Option RowWindow → QueryTree → ℕ → QueryTree
+each_group var source g None body at = PerGroup var source g.key g.groups body at
+each_group var source g (Some w) body at = Partition var source g.key g.groups w.size w.advance body at
+
 abbrev pub query_meaning : written.Query → QueryTree
 query_meaning (written.Stream name) = Read name
 query_meaning (written.InBrackets at q) = query_meaning q
@@ -99,8 +105,8 @@ query_meaning (written.Select p source window filter grouping) =
     select_meaning p window (option_map expr_meaning filter) grouping (query_meaning source)
 query_meaning (written.Windows at var source window open' body) =
     Each window.measure var (query_meaning source) window.size window.advance (query_meaning body) at
-query_meaning (written.Groups at var source grouping open' body) =
-    PerGroup var (query_meaning source) grouping.key grouping.groups (query_meaning body) at
+query_meaning (written.Groups at var source grouping window open' body) =
+    each_group var (query_meaning source) grouping window (query_meaning body) at
 query_meaning (written.Join' j at l r) = join_meaning j (query_meaning l) (query_meaning r) at
 
 abbrev pub statement_meaning : written.Statement → StatementTree

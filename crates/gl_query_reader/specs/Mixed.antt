@@ -74,5 +74,5 @@ mixed_in (Stream name) = None
 mixed_in (InBrackets at q) = mixed_in q
 mixed_in (Select pick source window filter grouping) = least (mixed_pick pick grouping) (mixed_in source)
 mixed_in (Windows at var source window open' body) = least (mixed_in source) (mixed_in body)
-mixed_in (Groups at var source grouping open' body) = least (mixed_in source) (mixed_in body)
+mixed_in (Groups at var source grouping window open' body) = least (mixed_in source) (mixed_in body)
 mixed_in (Join' join at l r) = least (mixed_in l) (mixed_in r)

@@ -43,7 +43,7 @@ depth_of (InBrackets at q) = depth_of q + 1
 depth_of (Select pick source window filter grouping) =
     max (pick_depth pick) (max (depth_of source) (filter_depth filter))
 depth_of (Windows at var source window open' body) = max (depth_of source) (depth_of body + 1)
-depth_of (Groups at var source grouping open' body) = max (depth_of source) (depth_of body + 1)
+depth_of (Groups at var source grouping window open' body) = max (depth_of source) (depth_of body + 1)
 depth_of (Join' join at l r) = max (depth_of l) (depth_of r)
 
 -- how many UNION and CONCAT there are
@@ -52,7 +52,7 @@ joins_of (Stream name) = 0
 joins_of (InBrackets at q) = joins_of q
 joins_of (Select pick source window filter grouping) = joins_of source
 joins_of (Windows at var source window open' body) = joins_of source + joins_of body
-joins_of (Groups at var source grouping open' body) = joins_of source + joins_of body
+joins_of (Groups at var source grouping window open' body) = joins_of source + joins_of body
 joins_of (Join' join at l r) = joins_of l + joins_of r + 1
 
 -- how many operators, NOT and CAST an expression has
@@ -93,7 +93,7 @@ AreShort (Stream name) = Unit {0}
 AreShort (InBrackets at q) = AreShort q
 AreShort (Select pick source window filter grouping) = PickIsShort pick × AreShort source × FilterIsShort filter
 AreShort (Windows at var source window open' body) = AreShort source × AreShort body
-AreShort (Groups at var source grouping open' body) = AreShort source × AreShort body
+AreShort (Groups at var source grouping window open' body) = AreShort source × AreShort body
 AreShort (Join' join at l r) = AreShort l × AreShort r
 
 pub record IsWithinLimits (w : Statement) : Type 0 where

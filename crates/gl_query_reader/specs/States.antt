@@ -13,6 +13,7 @@ use Rattle.gl_query_tokens.specs.declared.token.Plain.TheVariants as plain
 use Rattle.gl_query_tokens.specs.declared.token.Token.{Token}
 use Rattle.gl_query_tokens.specs.declared.token.Token.TheVariants as token
 use Rattle.gl_query_tokens.specs.Sorts.{is_plain}
+use Rattle.gl_query_reader.specs.declared.written.RowWindow.{RowWindow}
 use Rattle.gl_query_reader.specs.declared.written.Window.{Window}
 use Rattle.gl_query_reader.specs.declared.written.Grouping.{Grouping}
 use Rattle.gl_query_reader.specs.Written.{Expr, Agg, Item, Pick, Query}
@@ -22,10 +23,16 @@ pub data Head : Type 0 where
   SelectHead : (pick : Pick) → Head
   EachHead : (at : ℕ) (var : Name) → Head
 
+-- what stands before a window: a select, an EACH, or an EACH with its BY
+pub data WindowHead : Type 0 where
+  SelectWindow : (pick : Pick) → WindowHead
+  EachWindow : (at : ℕ) (var : Name) → WindowHead
+  GroupsWindow : (at : ℕ) (var : Name) (grouping : Grouping) → WindowHead
+
 -- what stands before the bracket of a body
 pub data BodyHead : Type 0 where
   WindowsHead : (at : ℕ) (var : Name) (source : Query) (window : Window) → BodyHead
-  GroupsHead' : (at : ℕ) (var : Name) (source : Query) (grouping : Grouping) → BodyHead
+  GroupsHead' : (at : ℕ) (var : Name) (source : Query) (grouping : Grouping) (window : Option RowWindow) → BodyHead
 
 -- what stands before BY
 pub data GroupsHead : Type 0 where
@@ -77,12 +84,12 @@ pub data Control : Type 0 where
   WantSource : (head : Head) → Control
   HaveSource : (pick : Pick) (source : Query) (window : Option Window) → Control
   HaveEachSource : (at : ℕ) (var : Name) (source : Query) → Control
-  WantSize : (head : Head) (source : Query) → Control
-  WantSizeNumber : (head : Head) (source : Query) (at : ℕ) → Control
-  WantAdvance : (head : Head) (source : Query) (at : ℕ) (size : Num) → Control
-  WantAdvanceNumber : (head : Head) (source : Query) (at : ℕ) (size : Num) → Control
-  WantMeasure : (head : Head) (source : Query) (at : ℕ) (size advance : Num) → Control
-  WantWindowClose : (head : Head) (source : Query) (window : Window) → Control
+  WantSize : (head : WindowHead) (source : Query) → Control
+  WantSizeNumber : (head : WindowHead) (source : Query) (at : ℕ) → Control
+  WantAdvance : (head : WindowHead) (source : Query) (at : ℕ) (size : Num) → Control
+  WantAdvanceNumber : (head : WindowHead) (source : Query) (at : ℕ) (size : Num) → Control
+  WantMeasure : (head : WindowHead) (source : Query) (at : ℕ) (size advance : Num) → Control
+  WantWindowClose : (head : WindowHead) (source : Query) (window : Window) → Control
   WantBy : (pick : Pick) (source : Query) (window : Option Window) (filter : Option Expr) → Control
   WantKey : (head : GroupsHead) (at : ℕ) → Control
   WantGroups : (head : GroupsHead) (at : ℕ) (key : Name) → Control
@@ -112,16 +119,26 @@ expected wanted next fs t = if is_plain wanted t then goes next fs else None
 
 -- ---- windows
 
--- what a window counts, by its word
+-- what a window counts, by its word: that of groups rows alone
 abbrev pub measure_in : Token → Option Measure
 measure_in (token.Plain plain.Tuples) = Some Tuples
 measure_in (token.Plain plain.Time) = Some Time
 measure_in t = None
 
+abbrev pub measure_for : WindowHead → Token → Option Measure
+measure_for (SelectWindow pick) t = measure_in t
+measure_for (EachWindow at var) t = measure_in t
+measure_for (GroupsWindow at var grouping) t = if is_plain plain.Tuples t then Some Tuples else None
+
 abbrev pub measured : ℕ → Num → Num → Measure → Window
 measured at size advance measure = record { at = at; size = size; advance = advance; measure = measure }
 
+abbrev pub row_window : Window → RowWindow
+row_window w = record { at = w.at; size = w.size; advance = w.advance }
+
 -- what follows a window
-abbrev pub after_window : Head → Query → Window → Control
-after_window (SelectHead pick) source window = HaveSource pick source (Some window)
-after_window (EachHead at var) source window = WantBody (WindowsHead at var source window)
+abbrev pub after_window : WindowHead → Query → Window → Control
+after_window (SelectWindow pick) source window = HaveSource pick source (Some window)
+after_window (EachWindow at var) source window = WantBody (WindowsHead at var source window)
+after_window (GroupsWindow at var grouping) source window =
+    WantBody (GroupsHead' at var source grouping (Some (row_window window)))

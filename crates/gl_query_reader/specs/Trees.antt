@@ -2,7 +2,8 @@
 -- A middle layer, proved equal to `Grammar`: no promise rests on it.
 use Rattle.std.specs.Prelude.{ℕ, List, map, reverse, Option, option_map}
 use Rattle.gl_query.specs.declared.tree.Name.{Name}
-use Rattle.gl_query.specs.Trees.{QueryTree, Each, PerGroup}
+use Rattle.gl_query.specs.Trees.{QueryTree, Each}
+use Rattle.gl_query_reader.specs.Meaning.{each_group}
 use Rattle.gl_query_reader.specs.declared.written.WrittenExpr as expr
 use Rattle.gl_query_reader.specs.declared.written.WrittenAgg.{WrittenAgg}
 use Rattle.gl_query_reader.specs.declared.written.WrittenAgg.TheVariants as agg
@@ -18,6 +19,8 @@ use Rattle.gl_query_reader.specs.declared.written.WrittenQuery as query
 use Rattle.gl_query_reader.specs.declared.written.WrittenStatement.{WrittenStatement}
 use Rattle.gl_query_reader.specs.Written.{Expr, Column, Number, Minus, Letters, Brackets, Cast, Not, Binary, Agg, Count, Fold', Wsum, Item, Bare, Named, Total, Pick, All, Items, Query, Stream, InBrackets, Select, Windows, Groups, Join', Statement}
 use Rattle.gl_query_reader.specs.declared.state.Head.{Head}
+use Rattle.gl_query_reader.specs.declared.state.WindowBy.{WindowBy}
+use Rattle.gl_query_reader.specs.declared.state.WindowBy.TheVariants as window_by
 use Rattle.gl_query_reader.specs.declared.state.Head.TheVariants as head
 use Rattle.gl_query_reader.specs.declared.state.BodyHead.{BodyHead}
 use Rattle.gl_query_reader.specs.declared.state.GroupsHead.{GroupsHead}
@@ -80,7 +83,7 @@ select_of s source = Select (pick_of s.pick) source s.window (filter_of s.filter
 
 abbrev pub over_of : Over → ℕ → Name → ℕ → Query → Query → Query
 over_of (over.Windows w) at var open' source body = Windows at var source w open' body
-over_of (over.Groups g) at var open' source body = Groups at var source g open' body
+over_of (over.Groups g w) at var open' source body = Groups at var source g w open' body
 
 unfoldable pub each_of : WrittenEach → Query → Query → Query
 each_of e source body = over_of e.over e.at e.var e.open source body
@@ -95,7 +98,7 @@ query_of (query.Join' join at p l q r) = Join' join at (query_of l) (query_of r)
 -- what an EACH means over what its source means, with what its body means
 abbrev pub over_tree : Over → ℕ → Name → QueryTree → QueryTree → QueryTree
 over_tree (over.Windows w) at var source body = Each w.measure var source w.size w.advance body at
-over_tree (over.Groups g) at var source body = PerGroup var source g.key g.groups body at
+over_tree (over.Groups g w) at var source body = each_group var source g w body at
 
 unfoldable pub each_tree : WrittenEach → QueryTree → QueryTree → QueryTree
 each_tree e source body = over_tree e.over e.at e.var source body
@@ -107,9 +110,14 @@ abbrev pub head_of : Head → states.Head
 head_of (head.Select pick) = states.SelectHead (pick_of pick)
 head_of (head.Each at var) = states.EachHead at var
 
+abbrev pub window_head_of : WindowBy → states.WindowHead
+window_head_of (window_by.Select pick) = states.SelectWindow (pick_of pick)
+window_head_of (window_by.Each at var) = states.EachWindow at var
+window_head_of (window_by.Groups at var grouping) = states.GroupsWindow at var grouping
+
 abbrev pub over_head_of : Over → ℕ → Name → Query → states.BodyHead
 over_head_of (over.Windows w) at var source = states.WindowsHead at var source w
-over_head_of (over.Groups g) at var source = states.GroupsHead' at var source g
+over_head_of (over.Groups g w) at var source = states.GroupsHead' at var source g w
 
 abbrev pub body_head_of : BodyHead → states.BodyHead
 body_head_of h = over_head_of h.over h.at h.var (query_of h.source)
@@ -173,16 +181,16 @@ source_control_of (source_control.HaveSource from) =
 source_control_of (source_control.HaveEachSource at var source) = states.HaveEachSource at var (query_of source)
 
 abbrev pub window_control_of : WindowControl → states.Control
-window_control_of (window_control.WantSize h) = states.WantSize (head_of h.head) (query_of h.source)
-window_control_of (window_control.WantSizeNumber h at) = states.WantSizeNumber (head_of h.head) (query_of h.source) at
+window_control_of (window_control.WantSize h) = states.WantSize (window_head_of h.head) (query_of h.source)
+window_control_of (window_control.WantSizeNumber h at) = states.WantSizeNumber (window_head_of h.head) (query_of h.source) at
 window_control_of (window_control.WantAdvance h at size) =
-    states.WantAdvance (head_of h.head) (query_of h.source) at size
+    states.WantAdvance (window_head_of h.head) (query_of h.source) at size
 window_control_of (window_control.WantAdvanceNumber h at size) =
-    states.WantAdvanceNumber (head_of h.head) (query_of h.source) at size
+    states.WantAdvanceNumber (window_head_of h.head) (query_of h.source) at size
 window_control_of (window_control.WantMeasure h at size advance) =
-    states.WantMeasure (head_of h.head) (query_of h.source) at size advance
+    states.WantMeasure (window_head_of h.head) (query_of h.source) at size advance
 window_control_of (window_control.WantWindowClose h window) =
-    states.WantWindowClose (head_of h.head) (query_of h.source) window
+    states.WantWindowClose (window_head_of h.head) (query_of h.source) window
 
 abbrev pub groups_control_of : GroupsControl → states.Control
 groups_control_of (groups_control.WantBy from filter) =

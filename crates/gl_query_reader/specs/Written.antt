@@ -14,6 +14,7 @@ use Rattle.gl_query_tokens.specs.declared.token.Plain.{Plain}
 use Rattle.gl_query_tokens.specs.declared.token.Plain.TheVariants as plain
 use Rattle.gl_query_tokens.specs.declared.token.Token.{Token}
 use Rattle.gl_query_tokens.specs.declared.token.Token.TheVariants as token
+use Rattle.gl_query_reader.specs.declared.written.RowWindow.{RowWindow}
 use Rattle.gl_query_reader.specs.declared.written.Window.{Window}
 use Rattle.gl_query_reader.specs.declared.written.Grouping.{Grouping}
 
@@ -52,7 +53,8 @@ pub data Query : Type 0 where
   Select : (pick : Pick) (source : Query) (window : Option Window) (filter : Option Expr) (grouping : Option Grouping)
       → Query
   Windows : (at : ℕ) (var : Name) (source : Query) (window : Window) (open' : ℕ) (body : Query) → Query
-  Groups : (at : ℕ) (var : Name) (source : Query) (grouping : Grouping) (open' : ℕ) (body : Query) → Query
+  Groups : (at : ℕ) (var : Name) (source : Query) (grouping : Grouping) (window : Option RowWindow) (open' : ℕ)
+      (body : Query) → Query
   Join' : (join : Join) (at : ℕ) (l r : Query) → Query
 
 pub record Statement : Type 0 where
@@ -144,7 +146,7 @@ abbrev mutual
   IsQuery (InBrackets at q) = IsQuery q
   IsQuery (Select pick source window filter grouping) = IsPick pick × IsSource source × IsFilter filter
   IsQuery (Windows at var source window open' body) = IsSource source × IsQuery body
-  IsQuery (Groups at var source grouping open' body) = IsSource source × IsQuery body
+  IsQuery (Groups at var source grouping window open' body) = IsSource source × IsQuery body
   IsQuery (Join' join at l r) = IsQuery l × IsTerm r
 
   pub IsSource : Query → Type 0
@@ -152,7 +154,7 @@ abbrev mutual
   IsSource (InBrackets at q) = IsQuery q
   IsSource (Select pick source window filter grouping) = ⊥
   IsSource (Windows at var source window open' body) = ⊥
-  IsSource (Groups at var source grouping open' body) = ⊥
+  IsSource (Groups at var source grouping window open' body) = ⊥
   IsSource (Join' join at l r) = ⊥
 
   pub IsTerm : Query → Type 0
@@ -160,7 +162,7 @@ abbrev mutual
   IsTerm (InBrackets at q) = IsQuery q
   IsTerm (Select pick source window filter grouping) = IsPick pick × IsSource source × IsFilter filter
   IsTerm (Windows at var source window open' body) = IsSource source × IsQuery body
-  IsTerm (Groups at var source grouping open' body) = IsSource source × IsQuery body
+  IsTerm (Groups at var source grouping window open' body) = IsSource source × IsQuery body
   IsTerm (Join' join at l r) = ⊥
 
 -- ---- the tokens
@@ -216,6 +218,12 @@ spell_window w =
     token.Plain plain.LeftSquare ∷ token.Size w.at ∷ token.Number w.size ∷ token.Plain plain.Advance
     ∷ token.Number w.advance ∷ token.Plain (measure_word w.measure) ∷ token.Plain plain.RightSquare ∷ []
 
+-- that of groups counts rows alone
+abbrev pub spell_row_window : Option RowWindow → List Token
+spell_row_window None = []
+spell_row_window (Some w) =
+    spell_window (record { at = w.at; size = w.size; advance = w.advance; measure = Tuples })
+
 abbrev pub spell_if_window : Option Window → List Token
 spell_if_window None = []
 spell_if_window (Some w) = spell_window w
@@ -242,10 +250,10 @@ spell_query (Windows at var source window open' body) =
     token.Each at ∷ token.Name var ∷ token.Plain plain.In
     ∷ (spell_query source ++ (spell_window window ++ token.Open open'
     ∷ (spell_query body ++ token.Plain plain.Close ∷ [])))
-spell_query (Groups at var source grouping open' body) =
+spell_query (Groups at var source grouping window open' body) =
     token.Each at ∷ token.Name var ∷ token.Plain plain.In
-    ∷ (spell_query source ++ (spell_grouping grouping ++ token.Open open'
-    ∷ (spell_query body ++ token.Plain plain.Close ∷ [])))
+    ∷ (spell_query source ++ (spell_grouping grouping ++ (spell_row_window window ++ token.Open open'
+    ∷ (spell_query body ++ token.Plain plain.Close ∷ []))))
 spell_query (Join' join at l r) = spell_query l ++ token.Join join at ∷ spell_query r
 
 abbrev pub spell_end : Bool → List Token

@@ -70,7 +70,7 @@ fn after_groups(
                 at,
                 var,
                 source,
-                over: Over::Groups(grouping),
+                over: Over::Groups(grouping, None),
             };
             Ok(Some(Control::Query(QueryControl::WantBody { head })))
         }

@@ -7,11 +7,46 @@ ghost use Rattle.gl_query_reader.specs.Trees.{each_tree, query_of, statement_of}
 
 use crate::keeping::{Beside, Both, keep_beside, take_both};
 use crate::select_meaning::{each_over, select_meaning};
-use crate::written::{Over, WrittenEach, WrittenQuery, WrittenStatement};
+use crate::written::{Grouping, Over, RowWindow, WrittenEach, WrittenQuery, WrittenStatement};
 use gl_bits::boxes::{TwoBoxes, two_boxes};
-use gl_query::{Query, Statement};
+use gl_query::{Name, Query, Statement};
 use gl_query_tokens::Join;
 use std::alloc::{AllocError, Global};
+
+// A body for each group, or for each window of each group.
+fn group_meaning(
+    grouping: Grouping,
+    windows: Option<RowWindow>,
+    var: Name,
+    source: Box<Query>,
+    body: Box<Query>,
+    at: u64,
+) -> Query
+    ensures { query_tree result
+        ≡ meaning.each_group var (query_tree source.value) grouping windows
+        (query_tree body.value) at }
+{
+    match windows {
+        None => Query::PerGroup {
+            var,
+            source,
+            key: grouping.key,
+            groups: grouping.groups,
+            body,
+            at,
+        },
+        Some(window) => Query::Partition {
+            var,
+            source,
+            key: grouping.key,
+            groups: grouping.groups,
+            size: window.size,
+            advance: window.advance,
+            body,
+            at,
+        },
+    }
+}
 
 // What an EACH means over its source, with its body.
 #[tactic(auto, unfolding(crate::specs::Trees::each_tree))]
@@ -37,14 +72,9 @@ fn each_meaning(
     } = each;
     match over {
         Over::Windows(window) => Ok(each_over(window, var, source, body, at)),
-        Over::Groups(grouping) => Ok(Query::PerGroup {
-            var,
-            source,
-            key: grouping.key,
-            groups: grouping.groups,
-            body,
-            at,
-        }),
+        Over::Groups(grouping, windows) => Ok(group_meaning(
+            grouping, windows, var, source, body, at,
+        )),
     }
 }
 

@@ -3,14 +3,18 @@
 ghost use Rattle.std.specs.Prelude.{◌≡◌, List, IfOk};
 ghost use Rattle.gl_query_reader.specs.States as states;
 ghost use Rattle.gl_query_reader.specs.Machine as machine;
+ghost use Rattle.gl_query_reader.specs.Begun.{BeginsWindow, open_body, want_body};
 ghost use Rattle.gl_query_reader.specs.Trees.{query_of, body_head_of, query_control_of, frames_of, leads};
 
 use crate::keeping::Beside;
 use crate::parts::{expect, keep_named, refuse, term_in};
-use crate::state::{BodyHead, Control, Frame, Head, ItemControl, QueryControl, SourceControl};
+use crate::state::{
+    BodyHead, Control, Frame, Head, ItemControl, QueryControl, SourceControl, WindowBy,
+    WindowControl, WindowHead,
+};
 use crate::terms::have_term;
-use crate::written::{WrittenItems, WrittenQuery};
-use gl_query_tokens::sorts::open_in;
+use crate::written::{Over, WrittenItems, WrittenQuery};
+use gl_query_tokens::sorts::{is_plain, open_in};
 use gl_query_tokens::{Plain, Token};
 use std::alloc::{AllocError, Global};
 
@@ -59,18 +63,70 @@ fn want_var(alloc: Global, at: u64, token: &Token) -> Result<Option<Control>, Al
     }
 }
 
+// `[` behind groups that have no window yet: what stands before the window, or else what was
+// handed in.
+#[tactic(auto, using(crate::proofs::Eaches::no_window))]
+fn begin_window(head: BodyHead, token: &Token) -> Result<WindowHead, BodyHead>
+    ensures { BeginsWindow head token.now result }
+{
+    if !is_plain(token, Plain::LeftSquare) {
+        return Err(head);
+    }
+    let BodyHead {
+        at,
+        var,
+        source,
+        over,
+    } = head;
+    match over {
+        Over::Groups(grouping, window) => match window {
+            None => {
+                let head = WindowBy::Groups { at, var, grouping };
+                Ok(WindowHead { head, source })
+            }
+            Some(window) => Err(BodyHead {
+                at,
+                var,
+                source,
+                over: Over::Groups(grouping, Some(window)),
+            }),
+        },
+        Over::Windows(window) => Err(BodyHead {
+            at,
+            var,
+            source,
+            over: Over::Windows(window),
+        }),
+    }
+}
+
 // `(` before a body.
+fn open_body(
+    frames: &mut Vec<Frame>,
+    head: BodyHead,
+    token: &Token,
+) -> Result<Option<Control>, AllocError>
+    ensures { IfOk result (λ o. leads o (frames_of frames.new.items)
+        ≡ open_body (frames_of frames.old.items) (body_head_of head) token.now) }
+{
+    match open_in(token) {
+        Some(open) => term_in(frames, Frame::InBody { head, open }),
+        None => Ok(refuse(head)),
+    }
+}
+
+// `[` before the windows of groups, or `(` before a body.
 fn want_body(
     frames: &mut Vec<Frame>,
     head: BodyHead,
     token: &Token,
 ) -> Result<Option<Control>, AllocError>
     ensures { IfOk result (λ o. leads o (frames_of frames.new.items)
-        ≡ machine.want_body (frames_of frames.old.items) (body_head_of head) token.now) }
+        ≡ want_body (frames_of frames.old.items) (body_head_of head) token.now) }
 {
-    match open_in(token) {
-        Some(open) => term_in(frames, Frame::InBody { head, open }),
-        None => Ok(refuse(head)),
+    match begin_window(head, token) {
+        Ok(window) => Ok(Some(Control::Window(WindowControl::WantSize(window)))),
+        Err(head) => open_body(frames, head, token),
     }
 }
 

@@ -9,8 +9,8 @@ ghost use Rattle.gl_query_reader.specs.Trees.{pick_of, query_of, head_of, source
 use crate::keeping::{Beside, keep_beside};
 use crate::parts::{cloned, operand_in, refuse, term_in};
 use crate::state::{
-    Control, Frame, GroupsControl, GroupsHead, Head, SelectFrom, SourceControl, WindowControl,
-    WindowHead,
+    Control, Frame, GroupsControl, GroupsHead, Head, SelectFrom, SourceControl, WindowBy,
+    WindowControl, WindowHead,
 };
 use crate::terms::{after_source, end_select};
 use crate::written::WrittenQuery;
@@ -59,7 +59,7 @@ fn begin_window(from: SelectFrom) -> Option<Control>
         window,
     } = from;
     let head = WindowHead {
-        head: Head::Select(pick),
+        head: WindowBy::Select(pick),
         source,
     };
     match window {
@@ -98,7 +98,7 @@ fn have_each_source(at: u64, var: Name, source: WrittenQuery, token: &Token) -> 
         ≡ machine.have_each_source fs at var (query_of source) token.now }
 {
     if is_plain(token, Plain::LeftSquare) {
-        let head = Head::Each { at, var };
+        let head = WindowBy::Each { at, var };
         let head = WindowHead { head, source };
         return Some(Control::Window(WindowControl::WantSize(head)));
     }

@@ -1,7 +1,7 @@
 //! What the reader has read so far.
 
 use crate::written::{
-    Over, Window, WrittenAgg, WrittenExpr, WrittenItems, WrittenPick, WrittenQuery,
+    Grouping, Over, Window, WrittenAgg, WrittenExpr, WrittenItems, WrittenPick, WrittenQuery,
 };
 use gl_bits::Kind;
 use gl_query::{Name, Num, Nums, Op};
@@ -24,10 +24,28 @@ pub struct SelectFrom {
     pub window: Option<Window>,
 }
 
+/// What has a window.
+#[derive(Drop)]
+pub enum WindowBy {
+    /// A select of these items.
+    Select(WrittenPick),
+    /// An EACH with its variable.
+    Each {
+        at: u64,
+        var: Name,
+    },
+    /// An EACH with its variable and its groups.
+    Groups {
+        at: u64,
+        var: Name,
+        grouping: Grouping,
+    },
+}
+
 /// What stands before a window.
 #[derive(Drop)]
 pub struct WindowHead {
-    pub head: Head,
+    pub head: WindowBy,
     pub source: WrittenQuery,
 }
 

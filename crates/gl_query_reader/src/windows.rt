@@ -3,21 +3,21 @@
 ghost use Rattle.std.specs.Prelude.{◌≡◌, List};
 ghost use Rattle.gl_query_reader.specs.States as states;
 ghost use Rattle.gl_query_reader.specs.Machine as machine;
-ghost use Rattle.gl_query_reader.specs.Trees.{query_of, head_of, window_control_of, control_of, leads};
+ghost use Rattle.gl_query_reader.specs.Trees.{query_of, window_head_of, window_control_of, control_of, leads};
 
 use crate::parts::{expect, refuse};
 use crate::state::{
-    BodyHead, Control, Head, QueryControl, SelectFrom, SourceControl, WindowControl, WindowHead,
+    BodyHead, Control, QueryControl, SelectFrom, SourceControl, WindowBy, WindowControl, WindowHead,
 };
-use crate::written::{Over, Window};
+use crate::written::{Over, RowWindow, Window};
 use gl_query::{Measure, Num};
-use gl_query_tokens::sorts::{number_in, size_in};
+use gl_query_tokens::sorts::{is_plain, number_in, size_in};
 use gl_query_tokens::{Plain, Token};
 
 // SIZE.
 fn want_size(head: WindowHead, token: &Token) -> Option<Control>
     ensures { (fs : List states.Frame) → leads result fs
-        ≡ machine.want_size fs (head_of head.head) (query_of head.source) token.now }
+        ≡ machine.want_size fs (window_head_of head.head) (query_of head.source) token.now }
 {
     match size_in(token) {
         Some(at) => Some(Control::Window(WindowControl::WantSizeNumber { head, at })),
@@ -28,7 +28,7 @@ fn want_size(head: WindowHead, token: &Token) -> Option<Control>
 // The number behind SIZE.
 fn want_size_number(head: WindowHead, at: u64, token: &Token) -> Option<Control>
     ensures { (fs : List states.Frame) → leads result fs
-        ≡ machine.want_size_number fs (head_of head.head) (query_of head.source) at token.now }
+        ≡ machine.want_size_number fs (window_head_of head.head) (query_of head.source) at token.now }
 {
     match number_in(token) {
         Some(size) => Some(Control::Window(WindowControl::WantAdvance { head, at, size })),
@@ -39,7 +39,7 @@ fn want_size_number(head: WindowHead, at: u64, token: &Token) -> Option<Control>
 // The number behind ADVANCE.
 fn want_advance_number(head: WindowHead, at: u64, size: Num, token: &Token) -> Option<Control>
     ensures { (fs : List states.Frame) → leads result fs
-        ≡ machine.want_advance_number fs (head_of head.head) (query_of head.source) at size
+        ≡ machine.want_advance_number fs (window_head_of head.head) (query_of head.source) at size
         token.now }
 {
     match number_in(token) {
@@ -64,6 +64,22 @@ fn measure_in(token: &Token) -> Option<Measure>
     }
 }
 
+// What a window of these may count.
+fn measure_for(head: &WindowBy, token: &Token) -> Option<Measure>
+    ensures { result ≡ states.measure_for (window_head_of head.now) token.now }
+{
+    match head {
+        WindowBy::Groups { .. } => {
+            if is_plain(token, Plain::Tuples) {
+                Some(Measure::Tuples)
+            } else {
+                None
+            }
+        }
+        _ => measure_in(token),
+    }
+}
+
 // TUPLES or TIME.
 fn want_measure(
     head: WindowHead,
@@ -73,10 +89,10 @@ fn want_measure(
     token: &Token,
 ) -> Option<Control>
     ensures { (fs : List states.Frame) → leads result fs
-        ≡ machine.want_measure fs (head_of head.head) (query_of head.source) at size advance
+        ≡ machine.want_measure fs (window_head_of head.head) (query_of head.source) at size advance
         token.now }
 {
-    match measure_in(token) {
+    match measure_for(&head.head, token) {
         Some(measure) => {
             let window = Window {
                 at,
@@ -90,24 +106,45 @@ fn want_measure(
     }
 }
 
+// A window whose measure is known to be rows.
+fn row_window(window: Window) -> RowWindow
+    ensures { result ≡ states.row_window window }
+{
+    let Window {
+        at,
+        size,
+        advance,
+        ..
+    } = window;
+    RowWindow { at, size, advance }
+}
+
 // What may stand behind a window.
 fn after_window(head: WindowHead, window: Window) -> Control
     ensures { control_of result
-        ≡ states.after_window (head_of head.head) (query_of head.source) window }
+        ≡ states.after_window (window_head_of head.head) (query_of head.source) window }
 {
     let WindowHead { head, source } = head;
     match head {
-        Head::Select(pick) => Control::Source(SourceControl::HaveSource(SelectFrom {
+        WindowBy::Select(pick) => Control::Source(SourceControl::HaveSource(SelectFrom {
             pick,
             source,
             window: Some(window),
         })),
-        Head::Each { at, var } => Control::Query(QueryControl::WantBody {
+        WindowBy::Each { at, var } => Control::Query(QueryControl::WantBody {
             head: BodyHead {
                 at,
                 var,
                 source,
                 over: Over::Windows(window),
+            },
+        }),
+        WindowBy::Groups { at, var, grouping } => Control::Query(QueryControl::WantBody {
+            head: BodyHead {
+                at,
+                var,
+                source,
+                over: Over::Groups(grouping, Some(row_window(window))),
             },
         }),
     }

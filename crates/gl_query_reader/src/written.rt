@@ -95,6 +95,14 @@ pub struct Window {
     pub measure: Measure,
 }
 
+/// A window that counts rows: the place of SIZE, and its two numbers.
+#[derive(Clone, Copy)]
+pub struct RowWindow {
+    pub at: u64,
+    pub size: Num,
+    pub advance: Num,
+}
+
 /// The place of BY, the name behind it, and the number of groups.
 #[derive(Drop)]
 pub struct Grouping {
@@ -116,7 +124,8 @@ pub struct WrittenSelect {
 #[derive(Drop)]
 pub enum Over {
     Windows(Window),
-    Groups(Grouping),
+    /// Groups, or the windows of each group.
+    Groups(Grouping, Option<RowWindow>),
 }
 
 /// An EACH without its source and its body; the body's bracket is at `open`.

@@ -54,7 +54,10 @@ fn word_of(query: &Query) -> &'static str {
     match query {
         Query::Read(_) => "stream",
         Query::Rows { .. } | Query::Total { .. } => "SELECT",
-        Query::Each { .. } | Query::EachTime { .. } | Query::PerGroup { .. } => "EACH",
+        Query::Each { .. }
+        | Query::EachTime { .. }
+        | Query::PerGroup { .. }
+        | Query::Partition { .. } => "EACH",
         Query::Union { .. } => "UNION",
         Query::Concat { .. } => "CONCAT",
     }

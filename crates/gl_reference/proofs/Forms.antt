@@ -2,6 +2,7 @@
 use Rattle.std.proofs.Common.{◌≡◌, ℕ, List, ◌++◌, Bool, false, sym, ap, subst, ◌∙◌}
 use Rattle.std.specs.Prelude.{◌||◌, slice_index}
 use Rattle.gl_bits.specs.Lists.{Group, IsInterleaving, groups, has_further}
+use Rattle.gl_bits.specs.Partitions.{parts}
 use Rattle.gl_bits.specs.Tables.{keyed_groups}
 use Rattle.gl_bits.specs.declared.lists.Group.{Group as Keyed}
 use Rattle.gl_schema.specs.declared.schema.Column.{Column}
@@ -14,6 +15,7 @@ use Rattle.gl_query.specs.Results.{Env, IsResultIn, columns_in, ticks_in, times_
 use Rattle.gl_query.specs.Windows.{parts_of}
 use Rattle.gl_query.proofs.Existing.{first_then_second}
 use Rattle.gl_reference.specs.Joins.{AreOverGroups, AreOverSlices, IsOverGroup}
+use Rattle.gl_reference.specs.Partitions.{table_parts}
 use Rattle.gl_reference.proofs.Joining.{joined_map}
 
 pub each_made : (measure : Measure) (env : Env) (var : List ℕ) (source : QueryShape) (size advance : ℕ) (body : QueryShape) (from : List Row) (before : Bool) (seen : QueryShape) (named : List ℕ) (columns : List Column) (parts : List (List Row)) (inside out : List Row) (within spill : Bool)
@@ -47,6 +49,27 @@ groups_made env var source key n body from before seen named columns most column
     let shown : Group Row → Keyed = λ g. record { key = g.key; rows = g.rows } in
     let over = IsOverGroup body var (columns_in env source) in
     let f = joined_map shown over (groups n (λ (r : Row). slice_index r (column_number (columns_in env source) key)) from) out within e in
+    record { rows = from; source_spill = before; parts_spill = within; of_source = is; of_parts = f; any = es ∙ ap (λ (x : Bool). before || within || x) left }
+
+pub partitions_made : (env : Env) (var : List ℕ) (source : QueryShape) (key : List ℕ) (n size advance : ℕ) (body : QueryShape) (from : List Row) (before : Bool) (seen : QueryShape) (named : List ℕ) (columns : List Column) (most column : ℕ) (windows : List Keyed) (inside out : List Row) (within further spill : Bool)
+    → IsResultIn source env from before → seen ≡ body → named ≡ var → columns ≡ columns_in env source → most ≡ n → column ≡ column_number columns key
+    → windows ≡ table_parts most column size advance from → AreOverGroups seen named columns windows inside within → further ≡ has_further most (λ (r : Row). slice_index r column) from
+    → out ≡ inside → spill ≡ (before || within || further)
+    → IsResultIn (shape.Partition var source key n size advance body) env out spill
+partitions_made env var source key n size advance body from before seen named columns most column windows inside out within further spill is eb ev ec em ek ep j ef eo es =
+    let place : column ≡ column_number (columns_in env source) key = ek ∙ ap (λ (k : List Column). column_number k key) ec in
+    let whole : windows ≡ table_parts n (column_number (columns_in env source) key) size advance from =
+    ep ∙ ap (λ (m : ℕ). table_parts m column size advance from) em ∙ ap (λ (k : ℕ). table_parts n k size advance from) place in
+    let left : further ≡ has_further n (λ (r : Row). slice_index r (column_number (columns_in env source) key)) from =
+    ef ∙ ap (λ (m : ℕ). has_further m (λ (r : Row). slice_index r column) from) em ∙ ap (λ (k : ℕ). has_further n (λ (r : Row). slice_index r k) from) place in
+    let a = subst (λ (b : QueryShape). AreOverGroups b named columns windows inside within) eb j in
+    let b = subst (λ (v : List ℕ). AreOverGroups body v columns windows inside within) ev a in
+    let c = subst (λ (k : List Column). AreOverGroups body var k windows inside within) ec b in
+    let d = subst (λ (p : List Keyed). AreOverGroups body var (columns_in env source) p inside within) whole c in
+    let e = subst (λ (o : List Row). AreOverGroups body var (columns_in env source) (table_parts n (column_number (columns_in env source) key) size advance from) o within) (sym eo) d in
+    let shown : Group Row → Keyed = λ g. record { key = g.key; rows = g.rows } in
+    let over = IsOverGroup body var (columns_in env source) in
+    let f = joined_map shown over (parts n (λ (r : Row). slice_index r (column_number (columns_in env source) key)) size advance from) out within e in
     record { rows = from; source_spill = before; parts_spill = within; of_source = is; of_parts = f; any = es ∙ ap (λ (x : Bool). before || within || x) left }
 
 pub union_made : (env : Env) (l r : QueryShape) (left right out : List Row) (p q spill : Bool)

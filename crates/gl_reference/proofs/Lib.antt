@@ -9,3 +9,4 @@ pub mod Words
 pub mod Fitting
 pub mod Passing
 pub mod Elements
+pub mod Partitioning

@@ -19,7 +19,9 @@ use Rattle.gl_query.specs.Laws.{scope_of}
 use Rattle.gl_reference.specs.declared.rows.Fault.{Fault}
 use Rattle.gl_reference.specs.declared.rows.Fault.TheVariants.{Memory}
 use Rattle.gl_reference.specs.Fits.{AreSources, IsBody, IsOrMemory}
+use Rattle.gl_reference.specs.Partitions.{table_parts}
 use Rattle.gl_reference.proofs.Fitting.{all_groups, body_fits, rows_fit}
+use Rattle.gl_reference.proofs.Partitioning.{all_windows}
 use Rattle.gl_query.proofs.Holding.{all_parts}
 
 pub passes : {T : Type 0} {Q : Fault → Type 0} (r : Result T Fault) → IsErrAnd r Q → ((fault : Fault) → Q fault → fault ≡ Memory) → IsOrMemory r
@@ -50,4 +52,14 @@ groups_pass env timed var source key n body from before seen named columns most 
     let inner = named_body var named (columns_in env source) columns body seen eb ev ec (body_fits env timed var source body s a.0 a.2) in
     let all = all_groups (IsRowOf (columns_in env source)) most column from (rows_fit env timed source from before s a.0 is).fit in
     let lined = subst (λ (k : List Column). AllByRecursion (λ (g : Group). AllByRecursion (IsRowOf k) g.rows) (keyed_groups most column from)) (sym ec) all in
+    f inner (subst (AllByRecursion (λ (g : Group). AllByRecursion (IsRowOf columns) g.rows)) (sym ep) lined)
+
+pub partitions_pass : (env : Env) (timed : Bool) (var : List ℕ) (source : QueryShape) (key : List ℕ) (n size advance : ℕ) (body : QueryShape) (from : List Row) (before : Bool) (seen : QueryShape) (named : List ℕ) (columns : List Column) (most column : ℕ) (parts : List Group) (Passed : Type 0)
+    → AreSources env → IsAcceptedOver (scope_of env timed) (shape.Partition var source key n size advance body) → IsResultIn source env from before
+    → seen ≡ body → named ≡ var → columns ≡ columns_in env source → parts ≡ table_parts most column size advance from
+    → (IsBody named columns seen → AllByRecursion (λ (g : Group). AllByRecursion (IsRowOf columns) g.rows) parts → Passed) → Passed
+partitions_pass env timed var source key n size advance body from before seen named columns most column parts Passed s a is eb ev ec ep f =
+    let inner = named_body var named (columns_in env source) columns body seen eb ev ec (body_fits env timed var source body s a.0 a.2) in
+    let all = all_windows (IsRowOf (columns_in env source)) most column size advance from (rows_fit env timed source from before s a.0 is).fit in
+    let lined = subst (λ (k : List Column). AllByRecursion (λ (g : Group). AllByRecursion (IsRowOf k) g.rows) (table_parts most column size advance from)) (sym ec) all in
     f inner (subst (AllByRecursion (λ (g : Group). AllByRecursion (IsRowOf columns) g.rows)) (sym ep) lined)

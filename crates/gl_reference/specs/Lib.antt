@@ -2,3 +2,4 @@ pub mod Sources
 pub mod Joins
 pub mod Worked
 pub mod Fits
+pub mod Partitions

@@ -16,6 +16,7 @@ use crate::answers::{
     Answer, concat_of, groups_wanted, of_parts, read, rows_from, total_from, union_of, windows_of,
 };
 use crate::columns::{Clock, Source, columns_of};
+use crate::partitions::partitions_of;
 use crate::rows::{Fault, joined, with_key};
 use crate::windows::{clock_of, slices_in, time_windows_of};
 use gl_bits::lists::{groups_of, some_further};
@@ -167,6 +168,38 @@ pub fn result_of(alloc: Global, sources: &[Source<'_>], query: &Query) -> Result
             let column = column_number(columns.as_slice(), key.text.as_slice());
             let most = groups_wanted(groups.value)?;
             let parts = groups_of(alloc, most, column, from.rows.as_slice())?;
+            let inside = over_groups(
+                alloc,
+                body,
+                var.text.as_slice(),
+                columns.as_slice(),
+                parts.as_slice(),
+            )?;
+            let further = some_further(alloc, most, column, from.rows.as_slice())?;
+            Ok(of_parts(from.spill, inside, further))
+        }
+        Query::Partition {
+            var,
+            source,
+            key,
+            groups,
+            size,
+            advance,
+            body,
+            ..
+        } => {
+            let from = result_of(alloc, sources, source)?;
+            let columns = columns_of(alloc, sources, source)?;
+            let column = column_number(columns.as_slice(), key.text.as_slice());
+            let most = groups_wanted(groups.value)?;
+            let parts = partitions_of(
+                alloc,
+                most,
+                column,
+                size.value,
+                advance.value,
+                from.rows.as_slice(),
+            )?;
             let inside = over_groups(
                 alloc,
                 body,

@@ -32,6 +32,7 @@ pub fn clock_of<'a>(sources: &[Source<'a>], query: &Query) -> Option<Clock<'a>>
         | Query::Each { .. }
         | Query::EachTime { .. }
         | Query::PerGroup { .. }
+        | Query::Partition { .. }
         | Query::Union { .. }
         | Query::Concat { .. } => None,
     }

@@ -108,13 +108,13 @@ module _ (r : TimeRotation) (is : IsTimeRotation r) (tick : ℕ → Bool) (a b :
     at_end : (t : ℕ) → (p : beats t ≡ Some true) → end_of input_figures beats a fits t ≡ t
     at_end t p = let h = has_end_of input_figures beats a fits t p in omega (arith, h.low, h.high)
 
-  pub served_by : (Timed g1 g2 a (by_ticks tick a) → Rotates r.body count g1 (λ n. n) (λ n. max n 1 - 1 + count) rows_of a (by_ticks tick a) windows_at who ins)
+  pub served_by : (Timed g1 g2 a (by_ticks tick a) → Rotates r.body count count g1 (λ n. n) (λ n. max n 1 - 1 + count) rows_of a (by_ticks tick a) windows_at who ins)
       → ServesTimes r tick a ins outs lines b
   served_by rotates nodes body beats spaced fits at served =
       let timed = in_time beats spaced fits at in
       let rot = rotates timed in
       let lifted = lift_spills r.body (λ u. OfBody nodes body) count who lines ins outs is.sound is.closing rot.schedules (λ k l. served k l (rot.schedules.spaced k l)) in
-      let given = whole_serving input_figures r.body (time_figures r) count g1 g2 (λ n. n) (λ n. max n 1 - 1 + count) rows_of (window_table count input_figures r.body some is.sound)
+      let given = whole_serving input_figures r.body (time_figures r) count count g1 g2 (λ n. n) (λ n. max n 1 - 1 + count) rows_of (window_table count input_figures r.body some is.sound)
       stream_sound is.sound sound some beats spaced a fits who ins outs (OfBody nodes body) lines lifted b close back close_first (closes_late timed)
       (by_ticks tick a) windows_at (ticks_keep tick beats a fits at) timed rot in
       record {

@@ -50,7 +50,7 @@ module _ (r : TimeRotation) (is : IsTimeRotation r) (tick : ℕ → Bool) (a : C
   time : IsSpaced m (window_gap r.body) (rest_gap count r.body) r.body.ge
   time = record { timed = timed; near = omega arith; strides = is.sound.end_gap; far = omega arith }
 
-  rotates : Rotates r.body count (window_gap r.body) (λ n. n) (λ n. max n 1 - 1 + count) rows_of a (by_ticks tick a) (λ u. tslices r.size r.advance (times_at tick a u) (ticks_at tick a u) (stream a u)) (who_closes m) ins
+  rotates : Rotates r.body count count (window_gap r.body) (λ n. n) (λ n. max n 1 - 1 + count) rows_of a (by_ticks tick a) (λ u. tslices r.size r.advance (times_at tick a u) (ticks_at tick a u) (stream a u)) (who_closes m) ins
   rotates = record {
     schedules = schedules m ok ins front (window_gap r.body) (rest_gap count r.body) r.body.ge time r.body refl (omega arith) refl;
     origin = origin m ok ins front (window_gap r.body) (rest_gap count r.body) r.body.ge time;

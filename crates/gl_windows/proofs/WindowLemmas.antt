@@ -111,7 +111,7 @@ module _ (s : Figures) (sound : IsSound s) (size advance count : ℕ) (a : Carri
   caused k zero r l h n = absurd (let z = law.no_tuple k l in cc (z, h))
   caused k (suc x) r l h n = (x, refl, a_tuple r (tuple_source setting k x r l h n).1)
 
-  pub rotates : Rotates s count g1 (λ n. n) (λ n. max n 1 - 1 + count) whole_visit a (by_tuples a) (λ u. slices size advance (stream a u)) window_visits ins
+  pub rotates : Rotates s count count g1 (λ n. n) (λ n. max n 1 - 1 + count) whole_visit a (by_tuples a) (λ u. slices size advance (stream a u)) window_visits ins
   rotates = record {
     schedules = schedules setting spacing s refl (omega arith) refl;
     origin = origin;
@@ -166,7 +166,7 @@ module _ (f s : Figures) (sound_f : IsSound f) (sound_s : IsSound s) (closing : 
       let timed : Timed (window_gap s) (rest_gap count s) a (by_tuples a) = timed_by f h (window_gap s) (rest_gap count s) beats a sound_f (omega (arith, sound_s.end_gap)) (omega arith) (omega arith) spaced fits near in
       let rot = rotates s sound_s size advance count a ins law rows_some step_some copies_some cover timed in
       let lifted = lift_spills s (λ u. m) count (who_ends size advance count (stride_of s) a) lines ins outs sound_s closing rot.schedules (λ k l. served k l (rot.schedules.spaced k l)) in
-      whole_lines f s h count (window_gap s) (rest_gap count s) (λ n. n) (λ n. max n 1 - 1 + count) (λ (v : ℕ × List Row). v.1) (window_table count f s copies_some sound_s)
+      whole_lines f s h count count (window_gap s) (rest_gap count s) (λ n. n) (λ n. max n 1 - 1 + count) (λ (v : ℕ × List Row). v.1) (window_table count f s copies_some sound_s)
       sound_f sound_s (windows_sound count f s copies_some sound_f sound_s) copies_some beats spaced a fits (who_ends size advance count (stride_of s) a) ins outs
       m lines lifted b close back close_first (closes_late timed) (slices size advance) timed rot
 

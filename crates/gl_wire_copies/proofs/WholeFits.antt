@@ -18,25 +18,25 @@ use Rattle.gl_wire_copies.proofs.LiftLemmas.{joined, Apart}
 use Rattle.gl_wire_copies.proofs.TimeLemmas.{same_beat}
 use Rattle.gl_wire_copies.proofs.WholeTime.{Cause, IsWhole}
 
-module _ (f s h : Figures) (count g1 g2 : ℕ) (few many : ℕ → ℕ) {Part : Type 0} (of : ℕ × List Row → Part) (parts : ℕ → List Part) (figs : OverCopies f s h count g1 g2 few many)
-    (sound_f : IsSound f) (sound_s : IsSound s) (sound : IsSound h) (copies_some : 1 ≤ count)
+module _ (f s h : Figures) (count rounds g1 g2 : ℕ) (few many : ℕ → ℕ) {Part : Type 0} (of : ℕ × List Row → Part) (parts : ℕ → List Part) (figs : OverCopies f s h rounds g1 g2 few many)
+    (sound_f : IsSound f) (sound_s : IsSound s) (sound : IsSound h) (rounds_some : 1 ≤ rounds)
     (beats : Beats) (spaced : Spaced h beats) (a : Carried) (fits : Fits f beats a) (what : Coming) (keeps : KeepsBeats f beats a what) (timed : Timed g1 g2 a what)
-    (who : Visits) (ins outs : ℕ → Carried) (rot : Rotates s count g1 few many of a what parts who ins)
+    (who : Visits) (ins outs : ℕ → Carried) (rot : Rotates s count rounds g1 few many of a what parts who ins)
     (near : (k c : ℕ) (r : Row) → k < count → (outs k).tuple c ≡ Some r → (u : ℕ) × (who u ≡ Some k) × (u + s.a ≤ c) × (c ≤ u + s.le))
     (few_rows : (u k : ℕ) → who u ≡ Some k → length (rows (all_of outs count) (u + s.a) (suc s.le - s.a)) ≤ s.ne)
     (b : Carried) (close : ℕ → Bool) (back : IsDelayed 1 (record { tuple = tuple_of_any outs count; ends = close }) b)
-    (close_first : (c : ℕ) → c < s.le + (count - 1) * stride_of s + 2 → close c ≡ false)
-    (closes : (c : ℕ) → close (c + (s.le + (count - 1) * stride_of s + 2)) ≡ a.ends c) where
+    (close_first : (c : ℕ) → c < s.le + (rounds - 1) * stride_of s + 2 → close c ≡ false)
+    (closes : (c : ℕ) → close (c + (s.le + (rounds - 1) * stride_of s + 2)) ≡ a.ends c) where
   abbrev turns : ℕ
-  turns = turns_of count s
+  turns = turns_of rounds s
 
   abbrev delay : ℕ
-  delay = delay_of_whole count s
+  delay = delay_of_whole rounds s
 
-  all_turns : turns + stride_of s ≡ count * stride_of s
+  all_turns : turns + stride_of s ≡ rounds * stride_of s
   all_turns =
-      let e : suc (count - 1) ≡ count = omega (arith, copies_some) in
-      let d : turns + stride_of s ≡ suc (count - 1) * stride_of s = omega arith in
+      let e : suc (rounds - 1) ≡ rounds = omega (arith, rounds_some) in
+      let d : turns + stride_of s ≡ suc (rounds - 1) * stride_of s = omega arith in
       d ∙ ap (λ z. z * stride_of s) e
 
   cause : (c : ℕ) (r : Row) → b.tuple c ≡ Some r → Cause s who c
@@ -75,7 +75,7 @@ module _ (f s h : Figures) (count g1 g2 : ℕ) (few many : ℕ → ℕ) {Part : 
     high : c ≤ beat + last h end
     at_once : end ≡ false → (1 ≤ few f.nt * s.ne) × ((of_cause).v ≡ suc (origin).of) × (stride_of s ≤ g1)
 
-  rested : (t : ℕ) (e : Bool) → beats t ≡ Some e → Rested (count * stride_of s) a (t + f.a)
+  rested : (t : ℕ) (e : Bool) → beats t ≡ Some e → Rested (rounds * stride_of s) a (t + f.a)
   rested t e p = record {
     over = λ u x l.
         let q = fits.ends u x in
@@ -134,7 +134,7 @@ module _ (f s h : Figures) (count g1 g2 : ℕ) (few many : ℕ → ℕ) {Part : 
               let seen : who (suc o.of) ≡ Some z.k = ap who (sym now.0) ∙ z.visit in
               let one : length (visits who ins (suc o.of) 1) ≡ 1 = rw seen refl in
               let quiet : NoEnd a o.of (o.of + 1) = record { none = λ i l m. let g : o.of ≡ i = omega (arith, l, m) in ap a.ends (sym g) ∙ x } in
-              let rest : Rested (count * stride_of s) a o.of = record { over = λ u g l. omega (arith, timed.after u o.of g o.comes l, figs.flush) } in
+              let rest : Rested (rounds * stride_of s) a o.of = record { over = λ u g l. omega (arith, timed.after u o.of g o.comes l, figs.flush) } in
               let bound = rot.few_visits o.of 1 rest quiet in
               let part = keeps.part (q.beat + f.a) (suc f.lt - f.a) o.of 1 q.low (omega (arith, up, q.low)) in
               let most_units : what.units (q.beat + f.a) (suc f.lt - f.a) ≤ f.nt = keeps.few q.beat false is in
@@ -363,7 +363,7 @@ module _ (f s h : Figures) (count g1 g2 : ℕ) (few many : ℕ → ℕ) {Part : 
       by t true p = few_true t p
       by t false p = few_false t p
 
-  pub whole_is : IsWhole s h count beats a who outs b
+  pub whole_is : IsWhole s h count rounds beats a who outs b
   whole_is = record {
     fit = whole_fits;
     cause_of = cause;

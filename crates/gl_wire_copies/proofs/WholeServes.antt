@@ -26,20 +26,20 @@ use Rattle.gl_wire_copies.proofs.TimeLemmas.{next_for, tuples_keep}
 use Rattle.gl_wire_copies.proofs.WholeFits.{whole_is}
 use Rattle.gl_wire_copies.proofs.WholeTime.{IsWhole}
 
-module _ (f s h : Figures) (count g1 g2 : ℕ) (few many : ℕ → ℕ) {Part : Type 0} (of : ℕ × List Row → Part) (parts : ℕ → List Part) (figs : OverCopies f s h count g1 g2 few many)
+module _ (f s h : Figures) (count rounds g1 g2 : ℕ) (few many : ℕ → ℕ) {Part : Type 0} (of : ℕ × List Row → Part) (parts : ℕ → List Part) (figs : OverCopies f s h rounds g1 g2 few many)
     (sound_f : IsSound f) (sound_s : IsSound s) (beats : Beats) (spaced : Spaced h beats) (a : Carried) (fits : Fits f beats a) (what : Coming) (keeps : KeepsBeats f beats a what) (timed : Timed g1 g2 a what)
-    (who : Visits) (ins outs : ℕ → Carried) (rot : Rotates s count g1 few many of a what parts who ins) (b : Carried) (whole : IsWhole s h count beats a who outs b)
+    (who : Visits) (ins outs : ℕ → Carried) (rot : Rotates s count rounds g1 few many of a what parts who ins) (b : Carried) (whole : IsWhole s h count rounds beats a who outs b)
     (OfPart : Part → Results) (lines : ℕ → Lines) (lifted : LiftedWithLines s (λ u xs. OfPart (of (u, xs))) count who lines ins outs) where
   abbrev turns : ℕ
-  turns = turns_of count s
+  turns = turns_of rounds s
 
   abbrev delay : ℕ
-  delay = delay_of_whole count s
+  delay = delay_of_whole rounds s
 
   from_low : (d : ℕ) → a.ends d ≡ true → rot.from d ≤ d + turns + 2
   from_low d p = by (rot.begins d p)
     where
-      by : Begins (count * stride_of s) a (rot.from d) d → rot.from d ≤ d + turns + 2
+      by : Begins (rounds * stride_of s) a (rot.from d) d → rot.from d ≤ d + turns + 2
       by (at_first z none) = omega (arith, z)
       by (after_end u e l z none) = let y = timed.after u d e (keeps.carried d (an_end p)) l in omega (arith, y, z, figs.flush)
 
@@ -58,7 +58,7 @@ module _ (f s h : Figures) (count g1 g2 : ℕ) (few many : ℕ → ℕ) {Part : 
     after = λ v k w l. let y = after_stream d v k p w (omega (arith, l, from_low d p)) in omega (arith, y, from_low d p);
   }
     where
-      before : (v k : ℕ) → who v ≡ Some k → v < rot.from d → Begins (count * stride_of s) a (rot.from d) d → v + (s.le + 1) ≤ rot.from d + s.a
+      before : (v k : ℕ) → who v ≡ Some k → v < rot.from d → Begins (rounds * stride_of s) a (rot.from d) d → v + (s.le + 1) ≤ rot.from d + s.a
       before v k w l (at_first z none) = absurd (omega (arith, z, l))
       before v k w l (after_end u e n z none) =
           let o = rot.origin v k w in
@@ -82,7 +82,7 @@ module _ (f s h : Figures) (count g1 g2 : ℕ) (few many : ℕ → ℕ) {Part : 
       last_none None e = e
       last_none (Some r) e = let z = whole.cause_of (d + delay) r e in absurd (let y = after_stream d z.v z.k p z.visit (omega (arith, z.high)) in omega (arith, y, z.low))
 
-      calm : (c : ℕ) → suc (rot.from d + s.a) ≤ c → c < d + delay → (e : Bool) → b.ends c ≡ e → Begins (count * stride_of s) a (rot.from d) d → b.ends c ≡ false
+      calm : (c : ℕ) → suc (rot.from d + s.a) ≤ c → c < d + delay → (e : Bool) → b.ends c ≡ e → Begins (rounds * stride_of s) a (rot.from d) d → b.ends c ≡ false
       calm c l q false e g = e
       calm c l q true e (at_first z none) = let x = whole.from_end c e in absurd (none x.0 (omega (arith, x.1, q)) x.2)
       calm c l q true e (after_end u y n z none) = let x = whole.from_end c e in elim (cases_lt u x.0) [
@@ -98,7 +98,7 @@ module _ (f s h : Figures) (count g1 g2 : ℕ) (few many : ℕ → ℕ) {Part : 
       no_end_early c l false e = e
       no_end_early c l true e = absurd (let x = whole.from_end c e in omega (arith, x.1, l, sound_s.tuples_last, sound_s.end_last))
 
-      first : Begins (count * stride_of s) a (rot.from d) d → pending b (suc (rot.from d + s.a)) ≡ []
+      first : Begins (rounds * stride_of s) a (rot.from d) d → pending b (suc (rot.from d + s.a)) ≡ []
       first (at_first z none) =
           let e : suc (rot.from d + s.a) ≡ 0 + (s.a + 1) = omega (arith, z) in
           ap (pending b) e ∙ pending-rows b (s.a + 1) 0 (λ c l q. no_end_early c (omega (arith, q)) (b.ends c) refl)
@@ -136,7 +136,7 @@ module _ (f s h : Figures) (count g1 g2 : ℕ) (few many : ℕ → ℕ) {Part : 
   in_stream : (v k d : ℕ) → who v ≡ Some k → (o : Origin turns g1 (stride_of s) a what v) → o.of ≤ d → a.ends d ≡ true → ((j : ℕ) → o.of ≤ j → j < d → a.ends j ≡ false) → (rot.from d ≤ v) × (v < d + turns + 2)
   in_stream v k d w o l p none = (low (rot.begins d p), omega (arith, o.high, l))
     where
-      low : Begins (count * stride_of s) a (rot.from d) d → rot.from d ≤ v
+      low : Begins (rounds * stride_of s) a (rot.from d) d → rot.from d ≤ v
       low (at_first z g) = omega (arith, z)
       low (after_end u e n z g) = elim (cases_lt u o.of) [
         | inl y ↦ (let x = timed.after u o.of e o.comes y in omega (arith, x, z, o.low, figs.flush))
@@ -183,27 +183,27 @@ module _ (f s h : Figures) (count g1 g2 : ℕ) (few many : ℕ → ℕ) {Part : 
 
 -- the law of a whole: a front that rotates over a source that is in time, copies that are lifted, and a back of one cycle with the end
 -- that much later, serve what the body makes of each part, joined
-module _ (f s h : Figures) (count g1 g2 : ℕ) (few many : ℕ → ℕ) {Part : Type 0} (of : ℕ × List Row → Part) (figs : OverCopies f s h count g1 g2 few many)
-    (sound_f : IsSound f) (sound_s : IsSound s) (sound : IsSound h) (some : 1 ≤ count) (beats : Beats) (spaced : Spaced h beats) (a : Carried) (fits : Fits f beats a)
+module _ (f s h : Figures) (count rounds g1 g2 : ℕ) (few many : ℕ → ℕ) {Part : Type 0} (of : ℕ × List Row → Part) (figs : OverCopies f s h rounds g1 g2 few many)
+    (sound_f : IsSound f) (sound_s : IsSound s) (sound : IsSound h) (some : 1 ≤ rounds) (beats : Beats) (spaced : Spaced h beats) (a : Carried) (fits : Fits f beats a)
     (who : Visits) (ins outs : ℕ → Carried) (OfPart : Part → Results) (lines : ℕ → Lines) (lifted : LiftedWithLines s (λ u xs. OfPart (of (u, xs))) count who lines ins outs)
     (b : Carried) (close : ℕ → Bool) (back : IsDelayed 1 (record { tuple = tuple_of_any outs count; ends = close }) b)
-    (first : (c : ℕ) → c < s.le + turns_of count s + 2 → close c ≡ false) (closes : (c : ℕ) → close (c + (s.le + turns_of count s + 2)) ≡ a.ends c) where
+    (first : (c : ℕ) → c < s.le + turns_of rounds s + 2 → close c ≡ false) (closes : (c : ℕ) → close (c + (s.le + turns_of rounds s + 2)) ≡ a.ends c) where
   -- whatever comes, in the words of the beats
-  pub whole_serving : (what : Coming) (parts : ℕ → List Part) (keeps : KeepsBeats f beats a what) → Timed g1 g2 a what → Rotates s count g1 few many of a what parts who ins
+  pub whole_serving : (what : Coming) (parts : ℕ → List Part) (keeps : KeepsBeats f beats a what) → Timed g1 g2 a what → Rotates s count rounds g1 few many of a what parts who ins
       → Serving h (λ t. AreJoined OfPart (parts (end_of f beats a fits t))) (lines_of_all lines count) beats b
   whole_serving what parts keeps timed rot =
-      serving f s h count g1 g2 few many of parts figs sound_f sound_s beats spaced a fits what keeps timed who ins outs rot b
-      (whole_is f s h count g1 g2 few many of parts figs sound_f sound_s sound some beats spaced a fits what keeps timed who ins outs rot lifted.lifted.near lifted.lifted.few b close back first closes) OfPart lines lifted
+      serving f s h count rounds g1 g2 few many of parts figs sound_f sound_s beats spaced a fits what keeps timed who ins outs rot b
+      (whole_is f s h count rounds g1 g2 few many of parts figs sound_f sound_s sound some beats spaced a fits what keeps timed who ins outs rot lifted.lifted.near lifted.lifted.few b close back first closes) OfPart lines lifted
 
   -- where tuples and ends come, and the parts are those of the stream that ends, in the words of streams
-  pub whole_lines : (parts : List Row → List Part) → Timed g1 g2 a (by_tuples a) → Rotates s count g1 few many of a (by_tuples a) (λ u. parts (stream a u)) who ins
+  pub whole_lines : (parts : List Row → List Part) → Timed g1 g2 a (by_tuples a) → Rotates s count rounds g1 few many of a (by_tuples a) (λ u. parts (stream a u)) who ins
       → ServedWithLines f h (λ xs ys p. AreJoined OfPart (parts xs) ys p) (lines_of_all lines count) beats a b
   whole_lines parts timed rot = record {
     spill = given.spill;
     served = record {
       fits = given.fits;
       results = λ t d e p hd he. subst (λ z. AreJoined OfPart (parts (stream a z)) (stream b e) (given.spill t)) (is_end_of f beats a fits t d p hd) (given.right t e p he);
-      later = no_later f s h count g1 g2 few many of (λ u. parts (stream a u)) figs sound_f sound_s beats spaced a fits (by_tuples a) keeps timed who ins outs rot b whole OfPart lines lifted;
+      later = no_later f s h count rounds g1 g2 few many of (λ u. parts (stream a u)) figs sound_f sound_s beats spaced a fits (by_tuples a) keeps timed who ins outs rot b whole OfPart lines lifted;
     };
     low = given.low;
     told = given.told;
@@ -214,8 +214,8 @@ module _ (f s h : Figures) (count g1 g2 : ℕ) (few many : ℕ → ℕ) {Part : 
       keeps : KeepsBeats f beats a (by_tuples a)
       keeps = tuples_keep f beats a fits
 
-      whole : IsWhole s h count beats a who outs b
-      whole = whole_is f s h count g1 g2 few many of (λ u. parts (stream a u)) figs sound_f sound_s sound some beats spaced a fits (by_tuples a) keeps timed who ins outs rot lifted.lifted.near lifted.lifted.few b close back first closes
+      whole : IsWhole s h count rounds beats a who outs b
+      whole = whole_is f s h count rounds g1 g2 few many of (λ u. parts (stream a u)) figs sound_f sound_s sound some beats spaced a fits (by_tuples a) keeps timed who ins outs rot lifted.lifted.near lifted.lifted.few b close back first closes
 
       given : Serving h (λ t. AreJoined OfPart (parts (stream a (end_of f beats a fits t)))) (lines_of_all lines count) beats b
       given = whole_serving (by_tuples a) (λ u. parts (stream a u)) keeps timed rot

@@ -19,10 +19,10 @@ pub record Cause (s : Figures) (who : Visits) (c : ℕ) : Type 0 where
   pub enough : 1 ≤ s.ne
 
 -- what is known of the time of a whole
-pub record IsWhole (s h : Figures) (count : ℕ) (beats : Beats) (a : Carried) (who : Visits) (outs : ℕ → Carried) (b : Carried) : Type 0 where
+pub record IsWhole (s h : Figures) (count rounds : ℕ) (beats : Beats) (a : Carried) (who : Visits) (outs : ℕ → Carried) (b : Carried) : Type 0 where
   pub fit : Fits h beats b
   pub cause_of : (c : ℕ) (r : Row) → b.tuple c ≡ Some r → Cause s who c
   pub rows_of : (n c : ℕ) → rows b (suc c) n ≡ rows (all_of outs count) c n
-  pub end_of : (u : ℕ) → b.ends (u + delay_of_whole count s) ≡ a.ends u
-  pub from_end : (c : ℕ) → b.ends c ≡ true → (u : ℕ) × (c ≡ u + delay_of_whole count s) × (a.ends u ≡ true)
-  pub turned : turns_of count s + stride_of s ≡ count * stride_of s
+  pub end_of : (u : ℕ) → b.ends (u + delay_of_whole rounds s) ≡ a.ends u
+  pub from_end : (c : ℕ) → b.ends c ≡ true → (u : ℕ) × (c ≡ u + delay_of_whole rounds s) × (a.ends u ≡ true)
+  pub turned : turns_of rounds s + stride_of s ≡ rounds * stride_of s

@@ -3,7 +3,7 @@ use Rattle.std.proofs.Common.{◌≡◌, ℕ, suc, ◌≤◌, List, [], ◌∷�
 use Rattle.gl_bits.specs.declared.kind.Kind.{Kind}
 use Rattle.gl_algebra.specs.declared.node.PlanAgg.{PlanAgg}
 use Rattle.gl_algebra.specs.declared.node.PlanNode.{PlanNode}
-use Rattle.gl_algebra.specs.declared.node.PlanNode.TheVariants.{Stream, Body, Compute, Select, Project, Aggregate, Union, Beside, Window, TimeWindow, Group}
+use Rattle.gl_algebra.specs.declared.node.PlanNode.TheVariants.{Stream, Body, Compute, Select, Project, Aggregate, Union, Beside, Window, TimeWindow, Group, Partition}
 use Rattle.gl_algebra.specs.Direct.{Form, copied, rowwise, totalling, form_from, is_direct, is_rowwise, rows_over, totals_over}
 use Rattle.gl_algebra.specs.FigureTable.{delay_of_aggs}
 use Rattle.gl_algebra.specs.Shapes.{Shape}
@@ -62,6 +62,7 @@ others_no_rows shapes forms (Beside left right) a b c d = refl
 others_no_rows shapes forms (Window source body size advance) a b c d = refl
 others_no_rows shapes forms (TimeWindow source body size advance) a b c d = refl
 others_no_rows shapes forms (Group source body key groups) a b c d = refl
+others_no_rows shapes forms (Partition source body key groups size advance) a b c d = refl
 
 pub others_not_direct : (shapes : ℕ → Shape) (forms : ℕ → Form) (node : PlanNode) → ((child aggs : _) → node ≡ Aggregate child aggs → ⊥)
     → false ≡ is_direct (form_from shapes forms node)
@@ -76,6 +77,7 @@ others_not_direct shapes forms (Beside left right) a = refl
 others_not_direct shapes forms (Window source body size advance) a = refl
 others_not_direct shapes forms (TimeWindow source body size advance) a = refl
 others_not_direct shapes forms (Group source body key groups) a = refl
+others_not_direct shapes forms (Partition source body key groups size advance) a = refl
 
 -- a direct body is aggregates, one at least, over rows
 pub record IsDirect (form : Form) (kinds : List Kind) (aggs : List PlanAgg) : Type 0 where

@@ -21,6 +21,8 @@ pub mod BodyLemmas
 pub mod CopyLemmas
 pub mod GroupCosts
 pub mod GroupLemmas
+pub mod PartitionCosts
+pub mod PartitionLemmas
 pub mod CostLemmas
 pub mod GivesLemmas
 pub mod LeafLemmas

@@ -91,13 +91,13 @@ module _ (nodes : List PlanNode) (w : TimeWindowOf) (plan : IsPlan nodes) (at : 
       record {
         nodes =
             let z = nodes_within (weight_of nodes w.source) (weight_of nodes w.body) spacer.nodes (cost_of_time_front count delay source).nodes
-            (cost_of_back count own).nodes count (length source + 2) (length own + 2) delay rotation.nodes in
+            (cost_of_back count own).nodes count (length source + 2) (length own + 2) (4 * delay) rotation.nodes in
             rw weight (at_most _ _ _ _ all.nodes
             (without (weight_of nodes w.source) spacer.nodes (cost_of_time_front count delay source).nodes (count * weight_of nodes w.body)
             (cost_of_back count own).nodes _ z));
         registers =
             let z = bits_within (lean_of nodes w.source) (keys_of nodes w.source) (lean_of nodes w.body) (keys_of nodes w.body) lean_spacer
-            (cost_of_time_front count delay source).registers (cost_of_back count own).registers count (length source + 2) (length own + 2) delay
+            (cost_of_time_front count delay source).registers (cost_of_back count own).registers count (length source + 2) (length own + 2) (4 * delay)
             rotation.registers in
             rw (lean, keys) (at_most _ _ _ _ all.registers
             (without (64 * lean_of nodes w.source + keys_of nodes w.source) (64 * lean_spacer) (cost_of_time_front count delay source).registers

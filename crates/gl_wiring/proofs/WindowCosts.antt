@@ -27,15 +27,15 @@ use Rattle.gl_wiring.specs.Copies.{cost_of_spaced, times}
 use Rattle.gl_wiring.proofs.CostLemmas.{at_most, costs_then, stored_within}
 
 -- nodes, bits of registers, and bits of memories
-pub nodes_within : (source body spacer front back c s o a : ℕ) → front + back ≤ weight_of_copies c 0 s o + 4 * a
-    → source + spacer + front + c * body + back ≤ source + (weight_of_copies c body s o + 4 * a + spacer)
-nodes_within source body spacer front back c s o a h =
+pub nodes_within : (source body spacer front back c s o more : ℕ) → front + back ≤ weight_of_copies c 0 s o + more
+    → source + spacer + front + c * body + back ≤ source + (weight_of_copies c body s o + more + spacer)
+nodes_within source body spacer front back c s o more h =
     let each : c * (body + 8 * (s + o + 4)) ≡ c * body + c * (0 + 8 * (s + o + 4)) = omega arith in
     omega (arith, h, each)
 
-pub bits_within : (source keys body own spacer front back c s o a : ℕ) → front + back ≤ 64 * (weight_of_copies c 0 s o + 4 * a)
-    → 64 * source + keys + 64 * spacer + front + c * (64 * body + own) + back ≤ 64 * (source + (weight_of_copies c body s o + 4 * a + spacer)) + (keys + c * own)
-bits_within source keys body own spacer front back c s o a h =
+pub bits_within : (source keys body own spacer front back c s o more : ℕ) → front + back ≤ 64 * (weight_of_copies c 0 s o + more)
+    → 64 * source + keys + 64 * spacer + front + c * (64 * body + own) + back ≤ 64 * (source + (weight_of_copies c body s o + more + spacer)) + (keys + c * own)
+bits_within source keys body own spacer front back c s o more h =
     let each : c * (body + 8 * (s + o + 4)) ≡ c * body + c * (0 + 8 * (s + o + 4)) = omega arith in
     let bits : c * (64 * body + own) ≡ 64 * (c * body) + c * own = omega arith in
     omega (arith, h, each, bits)
@@ -97,10 +97,10 @@ module _ (nodes : List PlanNode) (w : WindowOf) (plan : IsPlan nodes) (at : IsWi
       record {
         nodes = rw weight (at_most _ _ _ _ all.nodes
             (nodes_within (weight_of nodes w.source) (weight_of nodes w.body) spacer.nodes (cost_of_front count delay source).nodes (cost_of_back count own).nodes
-            count (length source + 2) (length own + 2) delay rotation.nodes));
+            count (length source + 2) (length own + 2) (4 * delay) rotation.nodes));
         registers = rw (lean, keys) (at_most _ _ _ _ all.registers
             (bits_within (lean_of nodes w.source) (keys_of nodes w.source) (lean_of nodes w.body) (keys_of nodes w.body) lean_spacer (cost_of_front count delay source).registers
-            (cost_of_back count own).registers count (length source + 2) (length own + 2) delay rotation.registers));
+            (cost_of_back count own).registers count (length source + 2) (length own + 2) (4 * delay) rotation.registers));
         memories = rw store (at_most _ _ _ _ all.memories
             (stored_within (store_of nodes w.source) (count * store_of nodes w.body) spacer.memories));
       }

@@ -9,6 +9,7 @@ pub mod Wired
 pub mod PlanNet
 pub mod Copies
 pub mod Groups
+pub mod Partitions
 pub mod Leaves
 pub mod Put
 pub mod Lanes

@@ -11,6 +11,7 @@ pub mod lanes;
 mod leaves;
 pub mod names;
 mod output;
+pub mod partitions;
 pub mod parts;
 pub mod plan;
 pub mod put;

@@ -4,6 +4,7 @@ ghost use Rattle.std.specs.Prelude.{◌≡◌, IfOk, Some, length, true};
 ghost use Rattle.gl_algebra.specs.Direct.{form_of, is_direct};
 ghost use Rattle.gl_wiring.specs.Put.{CanPut, IsPut};
 ghost use Rattle.gl_wiring.specs.Groups.{IsGroupNode};
+ghost use Rattle.gl_wiring.specs.Partitions.{IsPartitionNode};
 ghost use Rattle.gl_wiring.specs.TimeWindows.{IsTimeWindow};
 ghost use Rattle.gl_wiring.specs.Windows.{IsWindow};
 ghost use Rattle.gl_wiring.specs.Copies.{AreBodies, CanCopy, IsOverCopies};
@@ -14,6 +15,7 @@ use crate::arms::{
 use crate::direct::is_direct;
 use crate::groups::GroupOf;
 use crate::lanes::put_table;
+use crate::partitions::PartitionOf;
 use crate::time_windows::TimeWindowOf;
 use crate::windows::{Copies, WindowOf};
 use gl_algebra::{Figures, Plan, PlanId, PlanNode};
@@ -78,13 +80,14 @@ pub fn put_node(
             let second = put_node(alloc, net, plan, figures, *right, tick, leaves)?;
             beside_node(alloc, net, plan, figures, id, *left, *right, first, second)
         }
-        PlanNode::Window { .. } | PlanNode::TimeWindow { .. } | PlanNode::Group { .. } => {
-            put_over(alloc, net, plan, figures, id, tick, leaves)
-        }
+        PlanNode::Window { .. }
+        | PlanNode::TimeWindow { .. }
+        | PlanNode::Group { .. }
+        | PlanNode::Partition { .. } => { put_over(alloc, net, plan, figures, id, tick, leaves) }
     }
 }
 
-// Adds the circuit of a window, of a window of time or of a group.
+// Adds the circuit of a window, of a window of time, of a group, or of the windows of each group.
 #[cycle(put)]
 #[tactic(auto)]
 fn put_over(
@@ -146,6 +149,25 @@ fn put_over(
                 groups: *groups,
             };
             put_group(alloc, net, plan, figures, group, tick, leaves)
+        }
+        PlanNode::Partition {
+            source,
+            body,
+            key,
+            groups,
+            size,
+            advance,
+        } => {
+            let partition = PartitionOf {
+                id,
+                source: *source,
+                body: *body,
+                key: *key,
+                groups: *groups,
+                size: *size,
+                advance: *advance,
+            };
+            put_partition(alloc, net, plan, figures, partition, tick, leaves)
         }
         _ => unreachable!(),
     }
@@ -268,6 +290,36 @@ fn put_on_lane(
     let place = laned.place();
     let out = put_table(alloc, net, plan, group.body, &laned.lane.wire, place)?;
     group.gathered(alloc, net, plan, figures, &laned, &out)
+}
+
+// Adds the circuit of the windows of each group in the same way, with a wire of the front for each copy of each slot.
+#[cycle(put)]
+#[tactic(auto, using(crate::proofs::CanLemmas::put_columns))]
+fn put_partition(
+    alloc: Global,
+    net: &mut NetBuilder,
+    plan: &Plan,
+    figures: &[Figures],
+    partition: PartitionOf,
+    tick: Option<Bit>,
+    leaves: &[Wire],
+) -> Result<Emitted, Memory>
+    requires node { IsPartitionNode plan.now partition }
+    requires can { CanPut plan.now figures.now partition.id net.old tick leaves.now }
+    ensures { IfOk result (λ e. IsPut plan.now partition.id net.old net.new tick leaves.now e) }
+{
+    let _ = plan.len();
+    let below = put_node(alloc, net, plan, figures, partition.source, tick, leaves)?;
+    let front = partition.front(alloc, net, plan, figures, below)?;
+    let copies = put_copies(
+        alloc,
+        net,
+        plan,
+        figures,
+        partition.body,
+        front.wires.as_slice(),
+    )?;
+    partition.back(alloc, net, plan, figures, &front, copies.as_slice())
 }
 
 // Adds a body's circuit behind each of these wires.

@@ -4,7 +4,7 @@ use Rattle.gl_query.specs.Sources.{scope_of}
 use Rattle.gl_query.specs.Values.{column_number}
 use Rattle.gl_query.specs.Shapes.{query_shape}
 use Rattle.gl_elaborate.specs.Sources.{read_of}
-use Rattle.gl_elaborate.proofs.BodyLemmas.{each-root, each-fits, group-root, group-fits}
+use Rattle.gl_elaborate.proofs.BodyLemmas.{each-root, each-fits, group-root, group-fits, partition-root, partition-fits}
 use Rattle.gl_elaborate.proofs.elaborating.+query_into.Goals as goal
 
 pub put_window-requires-clause-fits : goal.put_window-requires-clause-fits
@@ -67,3 +67,26 @@ returns-in_ok-all-in-PerGroup-clause-root t c =
     c.put_group.new.plan (ap query_shape c.in-PerGroup.is)
     (c.column_number-number.ensures.value ∙ (λ i. column_number (c.as_slice-in-PerGroup-3.ensures i) (c.as_slice-in-PerGroup-4.ensures i))
     ∙ (λ i. column_number (sym c.as_slice-in-PerGroup-2.ensures i) c.in-PerGroup.key.text)) c.in_ok-root-in-PerGroup.ensures
+
+pub put_partition-requires-clause-fits : goal.put_partition-requires-clause-fits
+put_partition-requires-clause-fits t c =
+    partition-fits (read_of c.args.sources) (scope_of c.args.sources).sources (query_shape c.args.query.now) (query_shape c.in-Partition.source.value)
+    (query_shape c.deref-in-Partition.result.now) (query_shape c.in-Partition.body.value) (query_shape c.deref-in-Partition-2.result.now)
+    c.args.plan.now c.query_into-in-Partition.new.plan c.query_into-in-Partition-2.new.plan c.in_ok-from-in-Partition.from c.in_ok-into-in-Partition.into
+    c.in-Partition.var.text _ _ (ap query_shape c.deref-in-Partition.ensures) (ap query_shape c.deref-in-Partition-2.ensures)
+    c.in_ok-from-in-Partition.ensures.root c.as_slice-in-Partition.ensures (c.as_slice-in-Partition-2.ensures ∙ c.in_ok-from-in-Partition.ensures.columns)
+    c.in_ok-into-in-Partition.ensures.root c.in-Partition.key.text c.in-Partition.groups.value c.in-Partition.size.value c.in-Partition.advance.value c.column_number-number-in-Partition.result (ap query_shape c.in-Partition.is)
+    (c.column_number-number-in-Partition.ensures.value ∙ (λ i. column_number (c.as_slice-in-Partition-3.ensures i) (c.as_slice-in-Partition-4.ensures i))
+    ∙ (λ i. column_number (sym c.as_slice-in-Partition-2.ensures i) c.in-Partition.key.text)) c.requires.fit
+
+pub returns-in_ok-all-in-Partition-clause-root : goal.returns-in_ok-all-in-Partition-clause-root
+returns-in_ok-all-in-Partition-clause-root t c =
+    partition-root (read_of c.args.sources) (scope_of c.args.sources).sources (query_shape c.args.query.now) (query_shape c.in-Partition.source.value)
+    (query_shape c.deref-in-Partition.result.now) (query_shape c.in-Partition.body.value) (query_shape c.deref-in-Partition-2.result.now)
+    c.args.plan.now c.query_into-in-Partition.new.plan c.query_into-in-Partition-2.new.plan c.in_ok-from-in-Partition.from c.in_ok-into-in-Partition.into
+    c.in-Partition.var.text _ _ (ap query_shape c.deref-in-Partition.ensures) (ap query_shape c.deref-in-Partition-2.ensures)
+    c.in_ok-from-in-Partition.ensures.root c.as_slice-in-Partition.ensures (c.as_slice-in-Partition-2.ensures ∙ c.in_ok-from-in-Partition.ensures.columns)
+    c.in_ok-into-in-Partition.ensures.root c.in-Partition.key.text c.in-Partition.groups.value c.in-Partition.size.value c.in-Partition.advance.value c.column_number-number-in-Partition.result c.in_ok-root-in-Partition.root
+    c.put_partition.new.plan (ap query_shape c.in-Partition.is)
+    (c.column_number-number-in-Partition.ensures.value ∙ (λ i. column_number (c.as_slice-in-Partition-3.ensures i) (c.as_slice-in-Partition-4.ensures i))
+    ∙ (λ i. column_number (sym c.as_slice-in-Partition-2.ensures i) c.in-Partition.key.text)) c.in_ok-root-in-Partition.ensures

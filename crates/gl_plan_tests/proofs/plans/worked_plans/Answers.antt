@@ -21,6 +21,11 @@ returns-clause-figures c = record {
   counts_in_time = record { is_late = refl; is_apart = refl; is_copied = refl };
   sums_by_symbol = record { is_late = refl; is_apart = refl; is_copied = refl };
   prices_of_both = record { is_late = refl; is_apart = refl; is_copied = refl };
+  partition = refl;
+  neighbours_by_symbol = record { is_late = refl; is_apart = refl; is_copied = refl };
+  overlaps_by_symbol = record { is_late = refl; is_apart = refl; is_copied = refl };
+  gaps_by_symbol = record { is_late = refl; is_apart = refl; is_copied = refl };
+  neighbours_in_windows = record { is_late = refl; is_apart = refl; is_copied = refl };
 }
 
 pub returns-clause-weights : goal.returns-clause-weights

@@ -23,11 +23,12 @@ use Rattle.gl_query.specs.Results.{IsResultIn, columns_in, only, ticks_in, times
 use Rattle.gl_reference.specs.declared.answers.Answer.{Answer}
 use Rattle.gl_reference.specs.Sources.{env_view}
 use Rattle.gl_reference.specs.Joins.{AreOverGroups, AreOverSlices, IsOverGroup}
+use Rattle.gl_reference.specs.Partitions.{table_parts}
 use Rattle.gl_reference.specs.Fits.{AreAggs, AreRows, IsOrMemory}
 use Rattle.gl_reference.proofs.Fitting.{all_place, inside_fits, one_length, rows_fit}
-use Rattle.gl_reference.proofs.Passing.{each_passes, groups_pass, passes}
+use Rattle.gl_reference.proofs.Passing.{each_passes, groups_pass, partitions_pass, passes}
 use Rattle.gl_reference.proofs.Joining.{joined_push, map_taken}
-use Rattle.gl_reference.proofs.Forms.{concat_made, each_made, groups_made, union_made}
+use Rattle.gl_reference.proofs.Forms.{concat_made, each_made, groups_made, partitions_made, union_made}
 use Rattle.gl_reference.proofs.results.+results.Goals as goal
 use Rattle.gl_reference.specs.declared.columns.Source.{Source as Given}
 
@@ -305,3 +306,53 @@ result_of-returns-in_err-inside-in-EachTime-clause-fits t c = λ timed s a.
     ((c.clock_of-clock.ensures.ticks ∙ ap (λ (q : Query). ticks_in env (query_shape q)) c.deref-in-EachTime-3.ensures) i) (c.as_slice-rows.ensures i)) in
     let want = each_passes Time env timed c.in-EachTime.var.text (query_shape c.in-EachTime.source.value) c.in-EachTime.size.value c.in-EachTime.advance.value (query_shape c.in-EachTime.body.value) from.rows from.spill _ _ _ _ _ s whole is (ap query_shape c.deref-in-EachTime-4.ensures) c.as_slice-in-EachTime-2.ensures columns parts c.in_err-inside-in-EachTime.ensures.fits in
     passes _ c.from_residual-in_err-inside-in-EachTime.ensures.1 (λ y e. e ∙ want)
+
+pub result_of-returns-in_ok-further-in-Partition-clause-value : goal.result_of-returns-in_ok-further-in-Partition-clause-value
+result_of-returns-in_ok-further-in-Partition-clause-value t c =
+    let env = env_view c.args.sources.now in
+    let from = c.in_ok-from-in-Partition.from in
+    let most = c.in_ok-most-in-Partition.most in
+    let column = c.column_number-column-in-Partition.result in
+    let is = subst (Gives c.args.sources.now from) c.deref-in-Partition.ensures c.in_ok-from-in-Partition.ensures.value in
+    let of_source = c.in_ok-columns-in-Partition.ensures ∙ ap (λ (q : Query). columns_in env (query_shape q)) c.deref-in-Partition-2.ensures in
+    let columns : c.as_slice-in-Partition-5.result.now ≡ columns_in env (query_shape c.in-Partition.source.value) = c.as_slice-in-Partition-5.ensures ∙ of_source in
+    let place : column ≡ column_number c.as_slice-in-Partition-5.result.now c.in-Partition.key.text =
+    c.column_number-column-in-Partition.ensures.value ∙ ap (λ (k : List Column). column_number k c.as_slice-in-Partition-2.result.now) (c.as_slice-in-Partition.ensures ∙ sym c.as_slice-in-Partition-5.ensures)
+    ∙ ap (column_number c.as_slice-in-Partition-5.result.now) c.as_slice-in-Partition-2.ensures in
+    let parts : c.as_slice-in-Partition-6.result.now ≡ table_parts most column c.in-Partition.size.value c.in-Partition.advance.value from.rows =
+    c.as_slice-in-Partition-6.ensures ∙ c.in_ok-parts-in-Partition.ensures.value ∙ ap (table_parts most column c.in-Partition.size.value c.in-Partition.advance.value) c.as_slice-in-Partition-3.ensures in
+    let further : c.in_ok-further-in-Partition.further ≡ has_further most (λ (r : Row). slice_index r column) from.rows =
+    c.in_ok-further-in-Partition.ensures ∙ ap (has_further most (λ (r : Row). slice_index r column)) c.as_slice-in-Partition-7.ensures in
+    let made = partitions_made env c.in-Partition.var.text (query_shape c.in-Partition.source.value) c.in-Partition.key.text c.in-Partition.groups.value c.in-Partition.size.value c.in-Partition.advance.value (query_shape c.in-Partition.body.value) from.rows from.spill _ _ _ most column _ _ _ _ _ _ is (ap query_shape c.deref-in-Partition-3.ensures) c.as_slice-in-Partition-4.ensures columns c.in_ok-most-in-Partition.ensures.value place parts c.in_ok-inside-in-Partition.ensures.value further c.of_parts-in-Partition.ensures.rows c.of_parts-in-Partition.ensures.spill in
+    subst (λ (q : Query). IsResultIn (query_shape q) env c.of_parts-in-Partition.result.rows c.of_parts-in-Partition.result.spill) (sym c.in-Partition.is) made
+
+pub result_of-returns-in_err-from-in-Partition-clause-fits : goal.result_of-returns-in_err-from-in-Partition-clause-fits
+result_of-returns-in_err-from-in-Partition-clause-fits t c = λ timed s a.
+    let whole = subst (Accepted c.args.sources.now timed) c.in-Partition.is a in
+    let part = subst (Accepted c.args.sources.now timed) (sym c.deref-in-Partition.ensures) whole.0 in
+    passes _ c.from_residual-in_err-from-in-Partition.ensures.1 (λ y e. e ∙ c.in_err-from-in-Partition.ensures.fits timed s part)
+
+pub result_of-returns-in_err-most-in-Partition-clause-fits : goal.result_of-returns-in_err-most-in-Partition-clause-fits
+result_of-returns-in_err-most-in-Partition-clause-fits t c = λ timed s a.
+    let whole = subst (Accepted c.args.sources.now timed) c.in-Partition.is a in
+    passes _ c.from_residual-in_err-most-in-Partition.ensures.1 (λ y e. e ∙ c.in_err-most-in-Partition.ensures.fits whole.1.grouping.most_groups)
+
+pub result_of-returns-in_err-inside-in-Partition-clause-fits : goal.result_of-returns-in_err-inside-in-Partition-clause-fits
+result_of-returns-in_err-inside-in-Partition-clause-fits t c = λ timed s a.
+    let env = env_view c.args.sources.now in
+    let from = c.in_ok-from-in-Partition.from in
+    let most = c.in_ok-most-in-Partition.most in
+    let column = c.column_number-column-in-Partition.result in
+    let whole = subst (Accepted c.args.sources.now timed) c.in-Partition.is a in
+    let is = subst (Gives c.args.sources.now from) c.deref-in-Partition.ensures c.in_ok-from-in-Partition.ensures.value in
+    let columns : c.as_slice-in-Partition-5.result.now ≡ columns_in env (query_shape c.in-Partition.source.value) =
+    c.as_slice-in-Partition-5.ensures ∙ c.in_ok-columns-in-Partition.ensures ∙ ap (λ (q : Query). columns_in env (query_shape q)) c.deref-in-Partition-2.ensures in
+    let parts : c.as_slice-in-Partition-6.result.now ≡ table_parts most column c.in-Partition.size.value c.in-Partition.advance.value from.rows =
+    c.as_slice-in-Partition-6.ensures ∙ c.in_ok-parts-in-Partition.ensures.value ∙ ap (table_parts most column c.in-Partition.size.value c.in-Partition.advance.value) c.as_slice-in-Partition-3.ensures in
+    let want = partitions_pass env timed c.in-Partition.var.text (query_shape c.in-Partition.source.value) c.in-Partition.key.text c.in-Partition.groups.value c.in-Partition.size.value c.in-Partition.advance.value (query_shape c.in-Partition.body.value) from.rows from.spill _ _ _ most column _ _ s whole is (ap query_shape c.deref-in-Partition-3.ensures) c.as_slice-in-Partition-4.ensures columns parts c.in_err-inside-in-Partition.ensures.fits in
+    passes _ c.from_residual-in_err-inside-in-Partition.ensures.1 (λ y e. e ∙ want)
+
+pub result_of-returns-in_err-parts-in-Partition-clause-fits : goal.result_of-returns-in_err-parts-in-Partition-clause-fits
+result_of-returns-in_err-parts-in-Partition-clause-fits t c = λ timed s a.
+    let whole = subst (Accepted c.args.sources.now timed) c.in-Partition.is a in
+    passes _ c.from_residual-in_err-parts-in-Partition.ensures.1 (λ y e. e ∙ c.in_err-parts-in-Partition.ensures.fits whole.1.window)

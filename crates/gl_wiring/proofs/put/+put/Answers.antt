@@ -1,15 +1,18 @@
 use Rattle.std.proofs.Common.{◌∙◌, ◌<◌, [], ◌∷◌, Some, refl, sym, ap, arith, slice_get}
 use Rattle.std.proofs.lemmas.Option.{slice_get-get_or}
-use Rattle.gl_algebra.specs.declared.node.PlanNode.TheVariants.{Compute, Select, Project, Aggregate, Union, Beside, Window, TimeWindow, Group}
+use Rattle.gl_algebra.specs.declared.node.PlanNode.TheVariants.{Compute, Select, Project, Aggregate, Union, Beside, Window, TimeWindow, Group, Partition}
 use Rattle.gl_groups.proofs.GroupedNet.{fronts_kept as slots_kept}
+use Rattle.gl_partitions.proofs.PartitionNet.{fronts_kept as parts_kept}
 use Rattle.gl_windows.proofs.RotationNet.{fronts_kept}
 use Rattle.gl_wiring.specs.Groups.{grouping_of}
+use Rattle.gl_wiring.specs.Partitions.{partitioning_of}
 use Rattle.gl_wiring.specs.TimeWindows.{time_rotation_of}
 use Rattle.gl_wiring.specs.Windows.{rotation_of}
 use Rattle.gl_wiring.proofs.CanLemmas.{can_child, can_left, can_right, columns_kept, put_columns, second_before, second_within}
 use Rattle.gl_wiring.proofs.CopyLemmas.{bodies_copies, bodies_more, bodies_none, can_copy}
 use Rattle.gl_wiring.proofs.GroupLemmas.{group_copies}
 use Rattle.gl_wiring.proofs.LaneLemmas.{few_slots, lane_leaves, lane_there, some_slots}
+use Rattle.gl_wiring.proofs.PartitionLemmas.{partition_copies}
 use Rattle.gl_wire.proofs.ColumnLemmas.{bit_kept}
 use Rattle.gl_wiring.proofs.TimeWindowLemmas.{line_is_there, time_copies, time_fronts_kept}
 use Rattle.gl_wiring.proofs.WindowLemmas.{window_copies}
@@ -298,6 +301,46 @@ put_group-back-requires-clause-count t c =
 
 pub put_group-returns : goal.put_group-returns
 put_group-returns t c =
+    c.back.ensures c.args.net.now c.front.new.net c.args.tick c.args.leaves.now (c.in_ok-front.ensures c.args.net.now c.args.tick c.args.leaves.now c.in_ok-below.ensures)
+    (rw c.as_slice-2.ensures (rw c.as_slice.ensures at c.in_ok-copies.ensures))
+
+pub put_over-put_partition-requires : goal.put_over-put_partition-requires
+put_over-put_partition-requires t c = (omega arith, (c.node.ensures.node ∙ ap Some c.in-Partition.is, c.requires.can))
+
+pub put_partition-put_node-requires : goal.put_partition-put_node-requires
+put_partition-put_node-requires t c =
+    let p = c.args.partition in
+    let d = can_child c.args.plan.now c.args.figures.now p.id (Partition p.source p.body p.key p.groups p.size p.advance) c.args.net.now c.args.tick c.args.leaves.now
+    c.len.ensures.plan c.requires.node c.requires.can p.source (p.body ∷ []) refl refl in
+    (omega (arith, d.before), d.can)
+
+pub put_partition-put_copies-requires : goal.put_partition-put_copies-requires
+put_partition-put_copies-requires t c =
+    let p = c.args.partition in
+    let before : p.body < p.id =
+    second_before c.args.plan.now p.id (Partition p.source p.body p.key p.groups p.size p.advance) c.len.ensures.plan c.requires.node p.source p.body refl in (
+      omega (arith, before),
+      rw c.as_slice.ensures (partition_copies c.args.plan.now p c.len.ensures.plan c.requires.node c.args.figures.now c.args.net.now c.args.net.now
+          c.front.new.net c.args.tick c.args.leaves.now c.in_ok-front.front c.requires.can (c.in_ok-front.ensures c.args.net.now c.args.tick c.args.leaves.now c.in_ok-below.ensures)),
+    )
+
+pub put_partition-back-requires-clause-front : goal.put_partition-back-requires-clause-front
+put_partition-back-requires-clause-front t c =
+    parts_kept c.front.new.net c.put_copies.new.net (partitioning_of c.args.plan.now c.args.partition) c.in_ok-front.front c.in_ok-copies.ensures.keeps
+    (c.in_ok-front.ensures c.args.net.now c.args.tick c.args.leaves.now c.in_ok-below.ensures).fronts
+
+pub put_partition-back-requires-clause-copies : goal.put_partition-back-requires-clause-copies
+put_partition-back-requires-clause-copies t c =
+    rw c.as_slice-2.ensures (bodies_copies c.args.plan.now c.args.partition.body c.front.new.net c.put_copies.new.net c.in_ok-front.front.wires
+    c.in_ok-copies.copies (rw c.as_slice.ensures at c.in_ok-copies.ensures))
+
+pub put_partition-back-requires-clause-count : goal.put_partition-back-requires-clause-count
+put_partition-back-requires-clause-count t c =
+    rw c.as_slice-2.ensures ((rw c.as_slice.ensures at c.in_ok-copies.ensures).as_many
+    ∙ (c.in_ok-front.ensures c.args.net.now c.args.tick c.args.leaves.now c.in_ok-below.ensures).fronts.as_many)
+
+pub put_partition-returns : goal.put_partition-returns
+put_partition-returns t c =
     c.back.ensures c.args.net.now c.front.new.net c.args.tick c.args.leaves.now (c.in_ok-front.ensures c.args.net.now c.args.tick c.args.leaves.now c.in_ok-below.ensures)
     (rw c.as_slice-2.ensures (rw c.as_slice.ensures at c.in_ok-copies.ensures))
 

@@ -20,6 +20,9 @@ decreases-put_group l = 4 * l.group.id + 1
 abbrev pub decreases-put_on_lane : goal.decreases-put_on_lane
 decreases-put_on_lane l = 4 * l.group.id
 
+abbrev pub decreases-put_partition : goal.decreases-put_partition
+decreases-put_partition l = 4 * l.partition.id + 1
+
 abbrev pub decreases-put_copies : goal.decreases-put_copies
 decreases-put_copies l = 4 * l.body + 4
 

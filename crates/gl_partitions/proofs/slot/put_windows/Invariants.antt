@@ -1,0 +1,5 @@
+use Rattle.gl_partitions.specs.Fronts.{AddsSlots}
+use Rattle.gl_partitions.proofs.slot.put_windows.Given as goal
+
+abbrev pub invariant-loop-i : goal.invariant-loop-i
+invariant-loop-i l = AddsSlots l.initial.net l.net l.valid l.eos l.tail l.matches l.dues l.size l.advance l.copies l.i (record { takes = l.takes; ends = l.ends })

@@ -1,0 +1,9 @@
+pub mod Machine
+pub mod Partitionings
+pub mod Parts
+pub mod Fronts
+pub mod Costs
+pub mod Partitioned
+pub mod Laws
+pub mod Values
+pub mod Worked

@@ -1,0 +1,30 @@
+-- Where a window or a body begins behind what an EACH is over.
+-- A middle layer of the reader: no promise rests on it.
+use Rattle.std.specs.Prelude.{◌≡◌, List, ◌∷◌, Option, Some, None, Result, Ok, Err, option_and_then, if◌then◌else◌}
+use Rattle.gl_query_tokens.specs.declared.token.Plain.TheVariants as plain
+use Rattle.gl_query_tokens.specs.declared.token.Token.{Token}
+use Rattle.gl_query_tokens.specs.Sorts.{is_plain, open_in}
+use Rattle.gl_query_reader.specs.declared.state.BodyHead.{BodyHead as Head}
+use Rattle.gl_query_reader.specs.declared.state.WindowHead.{WindowHead}
+use Rattle.gl_query_reader.specs.States.{BodyHead, WindowsHead, GroupsHead', GroupsWindow, Frame, State, goes, InBody, WantTerm, WantSize}
+use Rattle.gl_query_reader.specs.Trees.{body_head_of, query_of, window_head_of}
+
+-- the bracket of a body
+abbrev pub open_body : List Frame → BodyHead → Token → Option State
+open_body fs head t = option_and_then (λ n. goes WantTerm (InBody head n ∷ fs)) (open_in t)
+
+-- groups have one window at most
+abbrev pub want_body : List Frame → BodyHead → Token → Option State
+want_body fs (WindowsHead at var source window) t = open_body fs (WindowsHead at var source window) t
+want_body fs (GroupsHead' at var source grouping (Some window)) t =
+    open_body fs (GroupsHead' at var source grouping (Some window)) t
+want_body fs (GroupsHead' at var source grouping None) t =
+    if is_plain plain.LeftSquare t then goes (WantSize (GroupsWindow at var grouping) source) fs
+    else open_body fs (GroupsHead' at var source grouping None) t
+
+-- a window begins, or what was handed in wants its bracket
+abbrev pub BeginsWindow : Head → Token → Result WindowHead Head → Type 0
+BeginsWindow head t (Ok w) = (fs : List Frame)
+    → want_body fs (body_head_of head) t ≡ goes (WantSize (window_head_of w.head) (query_of w.source)) fs
+BeginsWindow head t (Err same) = (same ≡ head) × ((fs : List Frame)
+    → want_body fs (body_head_of head) t ≡ open_body fs (body_head_of head) t)
