@@ -5,7 +5,7 @@ A query is a dict. Its 'sort' is
     UNION, CONCAT   of 'left' and 'right'
     select          'items' [(name, expression)], None for *; or 'totals' [(name, aggregate, expression, weights)]; over 'source', with
                     'window' (size, advance, 'TUPLES' or 'TIME'), 'filter' and 'group' (key, groups), each None where it is missing
-    each            'body' over 'source' by its 'window' or its 'group', as 'var'
+    each            'body' over 'source' by its 'window' or its 'group', or by both, the windows of each key, as 'var'
 and each has its 'columns' [(name, kind)]. An expression is (sort, kind, part, ..): ('column', kind, name, name),
 ('literal', kind, word, text), ('NOT', kind, e), ('CAST', kind, e), and (operator, kind, e, e).
 
@@ -229,6 +229,24 @@ def grouped(found, at, most, body):
                     lambda rows: len(keys(rows)) > most)
 
 
+def parted(query, found, at, body):
+    (size, advance, _), (_, most) = query['window'], query['group']
+
+    def cut(rows):
+        own, full = {}, []
+        for row in rows:
+            if row[at] in own or len(own) < most:
+                mine = own.setdefault(row[at], [])
+                mine.append(row)
+                if len(mine) >= size and (len(mine) - size) % advance == 0:
+                    full.append((row[at], tuple(mine[-size:])))
+        return full + [(key, tuple(mine[j:])) for key, mine in own.items() for j in range(0, len(mine), advance) if j + size > len(mine)]
+
+    def keyed(part):
+        return {spill: changed(tree, lambda row: (part[0],) + row) for spill, tree in body(part[1]).items()}
+    return of_parts(found, cut, keyed, lambda rows: len({row[at] for row in rows}) > most)
+
+
 def selected(query, columns, found):
     """A select without its window, over rows of these columns."""
     names = [name for name, _ in columns]
@@ -272,9 +290,10 @@ def results(query, sources, clock=None):
 
     def body(rows):
         return results(query['body'], {query['var']: rows})
-    if query['window']:
+    if not query['group']:
         return windowed(query, found, clock, body)
-    return grouped(found, [name for name, _ in columns].index(query['group'][0]), query['group'][1], body)
+    at = [name for name, _ in columns].index(query['group'][0])
+    return parted(query, found, at, body) if query['window'] else grouped(found, at, query['group'][1], body)
 
 
 # ---- the text
@@ -319,7 +338,7 @@ def query_text(query):
         return f"{query_text(query['left'])} {sort} " + (source_text(right) if right['sort'] in ('UNION', 'CONCAT') else query_text(right))
     source, group = source_text(query['source']), query['group']
     if sort == 'each':
-        parts = window_text(query['window']) if query['window'] else f' BY {group[0]} GROUPS {group[1]}'
+        parts = (f' BY {group[0]} GROUPS {group[1]}' if group else '') + window_text(query['window'])
         return f"EACH {query['var']} IN {source}{parts} ({query_text(query['body'])})"
     items = [total_text(it) for it in query['totals'] or []] or [item_text(it) for it in query['items'] or []] or ['*']
     text = 'SELECT ' + ', '.join(([group[0]] if group else []) + items) + f' FROM {source}' + window_text(query['window'])
@@ -334,7 +353,7 @@ def forms_of(query):
         return {sort} | forms_of(query['left']) | forms_of(query['right'])
     if sort == 'read':
         return set()
-    out = {name for name, found in (('WHERE', query['filter']), ('aggregates', query['totals']), ('windows', query['window']), ('windows of time', query['window'] and query['window'][2] == 'TIME'), ('groups', query['group'])) if found}
+    out = {name for name, found in (('WHERE', query['filter']), ('aggregates', query['totals']), ('windows', query['window']), ('windows of time', query['window'] and query['window'][2] == 'TIME'), ('groups', query['group']), ('windows of each key', sort == 'each' and query['window'] and query['group'])) if found}
     out |= {'nested'} if query['source']['sort'] != 'read' or sort == 'each' else set()
     out |= {'plain'} if sort == 'select' and not query['totals'] else set()
     return out | forms_of(query['source']) | (forms_of(query['body']) if query['body'] else set())
