@@ -14,7 +14,8 @@ use Rattle.gl_verilog_orders.proofs.EventRuns.{is_run}
 use Rattle.gl_verilog_ports.specs.Profile.{HasProfile, result_names}
 use Rattle.gl_dumps.specs.Written.{dump_text, ports_of}
 use Rattle.gl_compiler_text.specs.declared.compiling.Compiled.{Compiled}
-use Rattle.gl_compiler_text.specs.Meets.{Drives, result_columns, takes_ticks}
+use Rattle.gl_emission.specs.Driven.{Drives}
+use Rattle.gl_compiler_text.specs.Meets.{result_columns, takes_ticks}
 use Rattle.gl_runner.specs.Prints.{IsEnd, IsRunOver}
 use Rattle.gl_runner.specs.Watches.{rows_to}
 use Rattle.gl_compiler.specs.Dumpable.{DumpsTell, TellsRun}

@@ -1,6 +1,5 @@
--- The ports of an emitted netlist are those of the profile.
-use Rattle.std.proofs.Common.{◌≡◌, ℕ, not, Bool, true, false, List, [], ◌∷◌, ◌++◌, map, refl, ap, ◌∙◌}
-use Rattle.std.specs.Prelude.{◌==◌}
+-- The ports of a plan's netlist are those of the profile.
+use Rattle.std.proofs.Common.{◌≡◌, ℕ, Bool, true, false, List, [], ◌∷◌, ◌++◌, map, refl, ap, ◌∙◌}
 use Rattle.std.proofs.lemmas.List.{map-append}
 use Rattle.gl_bits.specs.Kinds.{width_of}
 use Rattle.gl_schema.specs.declared.schema.Column.{Column}
@@ -9,40 +8,14 @@ use Rattle.gl_schema.specs.declared.schema.Schema.{Schema}
 use Rattle.gl_schema.specs.Schemas.{column_names, kinds_of}
 use Rattle.gl_schema.specs.Ports.{rst, eos, in_valid, in_column, out_valid, out_column, out_eos, fault_group, fault_queue}
 use Rattle.gl_schema.specs.Profile as profile
-use Rattle.gl_schema.specs.Profile.{Direction, In, Out, ProfilePort, clk}
-use Rattle.gl_net.specs.declared.node.Direction as circuit
-use Rattle.gl_net.specs.declared.node.Direction.TheVariants as way
-use Rattle.gl_net.specs.declared.node.Port.{Port}
+use Rattle.gl_schema.specs.Profile.{ProfilePort}
 use Rattle.gl_net.specs.Net.{Net}
-use Rattle.gl_net.specs.PortValues.{PortShape, port_shape, port_shapes}
-use Rattle.gl_verilog.specs.Module.{Module, Declaration, Kind}
-use Rattle.gl_verilog_writer.specs.Meaning.{declaration_of, clock, kind_of}
+use Rattle.gl_net.specs.PortValues.{port_shapes}
+use Rattle.gl_verilog_ports.proofs.Profiled.{outputs_out}
 use Rattle.gl_wiring.specs.Leaves.{widths_of}
 use Rattle.gl_wiring.specs.EmittedPorts.{input, output, column_inputs, stream_inputs, streams_inputs}
 use Rattle.gl_wiring.specs.Output.{input_ports, named_outputs, output_ports, plan_ports, tick_input}
-use Rattle.gl_verilog_ports.specs.Profile.{HasProfile, declared, declared_kind, ports_of}
-
--- a port of a netlist as one of the profile
-abbrev way_of : circuit.Direction → Direction
-way_of way.In = In
-way_of way.Out = Out
-
-abbrev port_like : PortShape → ProfilePort
-port_like s = record { direction = way_of s.direction; name = s.name; width = s.width }
-
-kind_same : (d : circuit.Direction) → kind_of d ≡ declared_kind (way_of d)
-kind_same way.In = refl
-kind_same way.Out = refl
-
--- it is declared alike
-declared_same : (n : Net) (ports : List Port) → map (declaration_of n) ports ≡ map declared (map port_like (map (port_shape n) ports))
-declared_same n [] = refl
-declared_same n (p ∷ ports) =
-    let s = port_shape n p in
-    let one : declaration_of n p ≡ declared (port_like s) = ap (λ (k : Kind). record { name = s.name; width = s.width; is_vector = not (s.width == 1); kind = k }) (kind_same p.direction) in
-    ap (λ (d : Declaration). d ∷ map (declaration_of n) ports) one ∙ ap (λ (ds : List Declaration). declared (port_like s) ∷ ds) (declared_same n ports)
-
--- ---- the ports of a plan's netlist, in order
+use Rattle.gl_emission.specs.Emission.{TakesBeats, port_like}
 
 columns_in : (s : List ℕ) (cs : List Column) → map port_like (column_inputs s cs) ≡ profile.column_inputs s cs
 columns_in s [] = refl
@@ -83,9 +56,7 @@ plan_profile ticks schema cs =
     ∙ ap (λ (x : List ProfilePort). x ++ map port_like (output_ports (widths_of (kinds_of cs)) (column_names cs))) (inputs_are ticks schema)
     ∙ ap (λ (x : List ProfilePort). profile.input_ports ticks schema ++ x) (outputs_are cs)
 
--- the module of its text has the profile
-pub profile_of : (ticks : Bool) (n : Net) (m : Module) (schema : Schema) (cs : List Column) → ports_of m ≡ clock ∷ map (declaration_of n) n.ports
-    → port_shapes n ≡ plan_ports ticks schema (kinds_of cs) (column_names cs) → HasProfile ticks m schema cs
-unfolding port_shapes clk
-profile_of ticks n m schema cs e ports =
-    e ∙ ap (λ (x : List Declaration). clock ∷ x) (declared_same n n.ports ∙ ap (λ (x : List PortShape). map declared (map port_like x)) ports ∙ ap (map declared) (plan_profile ticks schema cs))
+-- it takes the beats of the schema
+pub takes_beats : (ticks : Bool) (net : Net) (schema : Schema) (cs : List Column) → port_shapes net ≡ plan_ports ticks schema (kinds_of cs) (column_names cs)
+    → TakesBeats ticks schema (profile.output_ports cs) net
+takes_beats ticks net schema cs ports = record { ports = ap (map port_like) ports ∙ plan_profile ticks schema cs; out = outputs_out cs }

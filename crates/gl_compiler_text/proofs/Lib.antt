@@ -3,11 +3,7 @@ pub mod Planning
 pub mod PlanLeaves
 pub mod KnownOf
 pub mod PlanResults
-pub mod Showing
 pub mod Faces
 pub mod Meeting
 pub mod Ports
-pub mod Unbound
-pub mod OverflowBeats
-pub mod OverflowRuns
 pub mod Shaped

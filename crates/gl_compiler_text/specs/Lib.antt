@@ -1,4 +1,3 @@
-pub mod Overflow
 pub mod Meets
 pub mod Compiles
 pub mod Built

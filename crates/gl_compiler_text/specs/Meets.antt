@@ -4,8 +4,8 @@
 use Rattle.std.specs.Prelude.{◌≡◌, ℕ, ◌++◌, Bool, List, codes}
 use Rattle.gl_schema.specs.declared.schema.Column.{Column}
 use Rattle.gl_schema.specs.declared.schema.Schema.{Schema}
-use Rattle.gl_schema.specs.Beats.{Beat, AreBeats, KeepsGap}
-use Rattle.gl_schema.specs.Ports.{IsStimulus, PortValues}
+use Rattle.gl_schema.specs.Beats.{Beat}
+use Rattle.gl_schema.specs.Ports.{PortValues}
 use Rattle.gl_schema.specs.Right.{IsRight}
 use Rattle.gl_query.specs.declared.tree.Statement.{Statement}
 use Rattle.gl_query.specs.Shapes.{query_shape}
@@ -14,12 +14,12 @@ use Rattle.gl_query.specs.Windows.{has_time}
 use Rattle.gl_query.specs.Accepted.{IsAccepted}
 use Rattle.gl_query.specs.Results.{IsResult}
 use Rattle.gl_verilog.specs.Module.{Module, Nets, Memories}
-use Rattle.gl_verilog.specs.Run.{port_of, input_values}
+use Rattle.gl_verilog.specs.Run.{port_of}
 use Rattle.gl_verilog.specs.Text.{HasModule}
-use Rattle.gl_verilog_orders.specs.Events.{IsEventRun}
 use Rattle.gl_verilog_ports.specs.Profile.{HasProfile, result_names}
 use Rattle.gl_testbench.specs.Runs.{HasRunsOver}
-use Rattle.gl_compiler_text.specs.Overflow.{TellsGroup}
+use Rattle.gl_emission.specs.Driven.{Drives}
+use Rattle.gl_emission.specs.Overflow.{TellsGroup}
 
 -- the columns of a statement's result
 abbrev pub result_columns : Schema → Statement → List Column
@@ -28,14 +28,6 @@ result_columns schema statement = columns_of schema.streams (query_shape stateme
 -- the circuit of a statement takes ticks where the statement has a window of time
 abbrev pub takes_ticks : Statement → Bool
 takes_ticks statement = has_time (query_shape statement.query)
-
--- beats of the schema that keep the gap drive the module in this run of it, whatever the order of its events
-pub record Drives (m : Module) (schema : Schema) (gap : ℕ) (beats : List Beat) (value : ℕ → Nets) (word : ℕ → Memories)
-    : Type 0 where
-  pub are : AreBeats schema beats
-  pub keep : KeepsGap gap beats
-  pub run : IsEventRun m value word
-  pub stimulus : IsStimulus schema beats (input_values m value)
 
 -- this holds of the beats and of what is seen on the result's columns, whatever drives the module
 abbrev pub WhereDriven : Module → Schema → ℕ → (List Beat → List (List ℕ) → PortValues → Type 0) → Type 0

@@ -15,22 +15,15 @@ use crate::naming::{kinds, names, result_columns};
 use gl_algebra::{Figures, Plan, PlanId};
 use gl_bits::{Kind, Listed, Memory};
 use gl_elaborate_plan::{PlanFault, Planned, plan_statement};
+use gl_emission::{Emitted, emit};
 use gl_figures::Printed;
-use gl_net::{Cost, cost_of};
+use gl_net::Cost;
 use gl_query::Statement;
 use gl_query::columns::copy_of_name;
 use gl_query_check::Checked;
 use gl_schema::{Column, Schema};
-use gl_verilog_writer::write_module;
 use gl_wiring::{ResultNames, wire_plan};
 use std::alloc::Global;
-
-/// The text of a module, and what it costs.
-#[derive(Drop)]
-struct Emission {
-    text: Vec<u8>,
-    cost: Cost,
-}
 
 /// A compiled query: the text of its module, its figures and its cost, and what it was made of.
 #[derive(Drop)]
@@ -128,7 +121,7 @@ fn text_of(
     checked: &Checked,
     planned: &Planned,
     columns: &[Column],
-) -> Result<Emission, Memory>
+) -> Result<Emitted, Memory>
     requires checked { IsChecked checked.now.schema checked.now.statement }
     requires names { StatementHasNames (statement_shape checked.now.statement) }
     requires planned { IsPlanned checked.now.schema checked.now.statement planned.now }
@@ -149,12 +142,8 @@ fn text_of(
         planned.spare,
         &names,
     )?;
-    let mut text = Vec::new(alloc);
-    write_module(&net, &mut text)?;
-    Ok(Emission {
-        text,
-        cost: cost_of(&net),
-    })
+    let made = emit(alloc, &net)?;
+    Ok(made)
 }
 
 // What a statement is compiled to: the text of its module, and the kinds of its columns.
@@ -162,7 +151,7 @@ fn built(
     alloc: Global,
     checked: &Checked,
     planned: &Planned,
-) -> Result<(Emission, Listed<Kind>), Memory>
+) -> Result<(Emitted, Listed<Kind>), Memory>
     requires checked { IsChecked checked.now.schema checked.now.statement }
     requires names { StatementHasNames (statement_shape checked.now.statement) }
     requires planned { IsPlanned checked.now.schema checked.now.statement planned.now }

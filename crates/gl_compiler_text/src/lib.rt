@@ -10,4 +10,4 @@ pub mod laws;
 mod naming;
 
 pub use compiling::{Compiled, compile_checked};
-pub use laws::{gaps_are_no_farther, outputs_bind_nothing};
+pub use laws::gaps_are_no_farther;

@@ -8,6 +8,7 @@ pub mod TwoLemmas
 pub mod QueryLemmas
 pub mod FigureLemmas
 pub mod StatementLemmas
+pub mod SeveralLemmas
 pub mod TimeLemmas
 pub mod StepLemmas
 pub mod CanLemmas

@@ -10,14 +10,19 @@ use Rattle.gl_query.specs.Shapes.{query_shape}
 use Rattle.gl_query.specs.Shapes as shape
 use Rattle.gl_query.specs.Columns.{source_columns}
 use Rattle.gl_query.specs.Results.{env_of, numbered, rows_of, streams_of, ticks_in, times_in}
+use Rattle.gl_algebra.specs.declared.node.PlanNode.{PlanNode}
 use Rattle.gl_algebra.specs.Fits.{IsPlan}
 use Rattle.gl_bits.proofs.Bools.{by_cases}
 use Rattle.gl_schema.specs.Beats as beats
 use Rattle.gl_query.proofs.Real.{schema_is}
-use Rattle.gl_elaborate.specs.Laws.{AreLongRows, PlansAreRight, leaf_inputs}
-use Rattle.gl_elaborate.specs.Plans.{stream_node, stream_number}
+use Rattle.gl_elaborate.specs.Fitting.{PlacedFit}
+use Rattle.gl_elaborate.specs.Laws.{AreLongRows, IsRightAt, PlansAreRight, leaf_inputs}
+use Rattle.gl_elaborate.specs.Plans.{plan_behind, stream_node, stream_number}
 use Rattle.gl_elaborate.proofs.LongLemmas.{AreLong}
 use Rattle.gl_elaborate.proofs.ReadLemmas.{IsReader, Sees}
+use Rattle.gl_query.specs.declared.tree.Statement.{Statement}
+use Rattle.gl_query.specs.Checked.{IsChecked}
+use Rattle.gl_elaborate.proofs.PlacedLemmas.{IsOver}
 use Rattle.gl_elaborate.proofs.QueryLemmas.{right}
 use Rattle.gl_elaborate.proofs.FigureLemmas.{figures-right}
 
@@ -92,15 +97,36 @@ schema-sees schema inputs body rows = record {
 pub empty : IsPlan []
 empty = record { fits = λ number node is. absurd (cc); distinct = λ i j node is js. absurd (cc) }
 
-pub plans-right : PlansAreRight
-plans-right schema statement checked =
+-- a statement's plan behind a plan's nodes
+pub record IsRightBehind (nodes : List PlanNode) (schema : Schema) (statement : Statement) : Type 0 where
+  pub fit : PlacedFit (stream_node schema.streams) schema.streams (query_shape statement.query) nodes
+  pub over : IsOver nodes (plan_behind nodes schema statement)
+  pub at : IsRightAt (plan_behind nodes schema statement).nodes schema statement (plan_behind nodes schema statement).root
+
+pub right-behind : (nodes : List PlanNode) (schema : Schema) (statement : Statement) → IsChecked schema statement → IsPlan nodes
+    → IsRightBehind nodes schema statement
+right-behind nodes schema statement checked plan =
     let reader = schema-reader schema checked.of_schema in
-    let done = right (query_shape statement.query) (stream_node schema.streams) schema.streams true [] reader checked.accepted empty in
+    let done = right (query_shape statement.query) (stream_node schema.streams) schema.streams true nodes reader checked.accepted plan in
     record {
       fit = done.0;
-      plan = done.1.over.plan;
-      within = done.1.over.within;
-      shape = done.1.is;
-      figures = (figures-right (query_shape statement.query) (stream_node schema.streams) schema.streams true [] reader checked.accepted empty).is;
-      results = λ inputs body out spill rows r. done.1.means (leaf_inputs inputs body) out spill r (env_of schema inputs) (schema-sees schema inputs body rows);
+      over = done.1.over;
+      at = record {
+        within = done.1.over.within;
+        shape = done.1.is;
+        figures = (figures-right (query_shape statement.query) (stream_node schema.streams) schema.streams true nodes reader checked.accepted plan).is;
+        results = λ inputs body out spill rows r. done.1.means (leaf_inputs inputs body) out spill r (env_of schema inputs) (schema-sees schema inputs body rows);
+      };
+    }
+
+pub plans-right : PlansAreRight
+plans-right schema statement checked =
+    let done = right-behind [] schema statement checked empty in
+    record {
+      fit = done.fit;
+      plan = done.over.plan;
+      within = done.at.within;
+      shape = done.at.shape;
+      figures = done.at.figures;
+      results = done.at.results;
     }

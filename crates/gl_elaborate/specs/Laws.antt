@@ -1,6 +1,6 @@
 -- Laws of elaboration.
 use Rattle.std.specs.Prelude.{ℕ, ◌≡◌, ◌<◌, Bool, List, [], length, Some, slice_get}
-use Rattle.std.specs.List.{AllByRecursion}
+use Rattle.std.specs.List.{AllByRecursion, AllZip}
 use Rattle.gl_bits.specs.Results.{Row}
 use Rattle.gl_schema.specs.declared.schema.Stream.{Stream}
 use Rattle.gl_schema.specs.declared.schema.Schema.{Schema}
@@ -11,13 +11,14 @@ use Rattle.gl_query.specs.Results.{IsResult}
 use Rattle.gl_query.specs.Checked.{IsChecked}
 use Rattle.gl_query.specs.Windows.{has_time}
 use Rattle.gl_query.specs.Laws.{IsLongAs}
+use Rattle.gl_algebra.specs.declared.node.PlanNode.{PlanNode}
 use Rattle.gl_algebra.specs.Fits.{IsPlan}
 use Rattle.gl_algebra.specs.Shapes.{shape_of}
 use Rattle.gl_algebra.specs.FigureTable.{figures_of}
 use Rattle.gl_algebra.specs.Views.{reads_time}
 use Rattle.gl_algebra.specs.Results.{Inputs, IsPlanResult}
 use Rattle.gl_elaborate.specs.Fitting.{PlacedFit}
-use Rattle.gl_elaborate.specs.Plans.{plan_of, stream_node}
+use Rattle.gl_elaborate.specs.Plans.{Several, plan_of, plans_of, stream_node}
 use Rattle.gl_elaborate.specs.Right.{shape_for}
 use Rattle.gl_elaborate.specs.Figures.{query_figures}
 
@@ -48,6 +49,26 @@ pub record IsRightPlan (schema : Schema) (statement : Statement) : Type 0 where
 
 abbrev pub PlansAreRight : Type 0
 PlansAreRight = (schema : Schema) (statement : Statement) → IsChecked schema statement → IsRightPlan schema statement
+
+-- a node of a plan has a statement's shape, its figures, and no result that is not one of the statement
+pub record IsRightAt (nodes : List PlanNode) (schema : Schema) (statement : Statement) (root : ℕ) : Type 0 where
+  pub within : root < length nodes
+  pub shape : shape_of nodes root
+      ≡ shape_for (stream_node schema.streams) schema.streams (query_shape statement.query)
+  pub figures : figures_of nodes root ≡ query_figures schema.streams (query_shape statement.query)
+  pub results : (inputs : beats.Inputs) (body : List Row) (out : List Row) (spill : Bool)
+      → AreLongRows schema inputs.rows
+      → IsPlanResult nodes root (leaf_inputs inputs body) out spill
+      → IsResult schema statement inputs out spill
+
+-- of several statements each is right at its own root, as if it were alone
+pub record AreRightTogether (schema : Schema) (statements : List Statement) (all : Several) : Type 0 where
+  pub plan : IsPlan all.nodes
+  pub each : AllZip (IsRightAt all.nodes schema) statements all.roots
+
+abbrev pub SeveralAreRight : Type 0
+SeveralAreRight = (schema : Schema) (statements : List Statement) → AllByRecursion (IsChecked schema) statements
+    → AreRightTogether schema statements (plans_of [] schema statements)
 
 -- the plan of a statement has a window of time exactly where the statement has one
 abbrev pub PlansTellTime : Type 0

@@ -184,9 +184,27 @@ stream_number streams name = position_or_len (λ s. bytes_eq name s.name) stream
 abbrev pub stream_node : List Stream → List ℕ → PlanNode
 stream_node streams name = node.Stream (stream_number streams name) (kinds_of (source_columns streams name))
 
+-- the plan of a statement behind a plan's nodes
+abbrev pub plan_behind : List PlanNode → Schema → Statement → Placed
+plan_behind nodes schema statement =
+    placed (stream_node schema.streams) schema.streams (query_shape statement.query) nodes
+
 -- the plan of a statement
 abbrev pub plan_of : Schema → Statement → Placed
-plan_of schema statement = placed (stream_node schema.streams) schema.streams (query_shape statement.query) []
+plan_of schema statement = plan_behind [] schema statement
+
+-- the nodes of several statements, and the root of each
+pub record Several : Type 0 where
+  pub nodes : List PlanNode
+  pub roots : List ℕ
+
+-- each statement's plan stands behind those before it, so that nodes that are equal are one
+abbrev pub plans_of : List PlanNode → Schema → List Statement → Several
+plans_of nodes schema [] = record { nodes = nodes; roots = [] }
+plans_of nodes schema (s ∷ statements) =
+    let at = plan_behind nodes schema s in
+    let rest = plans_of at.nodes schema statements in
+    record { nodes = rest.nodes; roots = at.root ∷ rest.roots }
 
 -- the parts of what the levels give, as code has them
 abbrev pub levelled_at : List PlanNode → ℕ → List Term → Option Term → Levelled

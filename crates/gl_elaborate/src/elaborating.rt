@@ -1,14 +1,15 @@
 //! Plans of queries.
 
-ghost use Rattle.std.specs.Prelude.{◌≡◌, ◌<◌, ◌≤◌, length, IfOk};
+ghost use Rattle.std.specs.Prelude.{◌≡◌, ◌<◌, ◌≤◌, length, IfOk, OnOk};
 ghost use Rattle.gl_query.specs.Checked.{IsChecked};
 ghost use Rattle.gl_query.specs.Columns.{columns_of};
 ghost use Rattle.gl_query.specs.Shapes.{query_shape};
 ghost use Rattle.gl_query.specs.Sources.{scope_of};
 ghost use Rattle.gl_algebra.specs.Added.{added, placed_at};
+ghost use Rattle.gl_algebra.specs.Fits.{IsPlan};
 ghost use Rattle.gl_algebra.specs.declared.node.PlanNode.TheVariants as node;
 ghost use Rattle.gl_elaborate.specs.Fitting.{CanPlace, FitsNext, PlacedFit};
-ghost use Rattle.gl_elaborate.specs.Plans.{placed, plan_of, window_node};
+ghost use Rattle.gl_elaborate.specs.Plans.{placed, plan_behind, plan_of, window_node};
 ghost use Rattle.gl_elaborate.specs.Sources.{read_of};
 
 use crate::levels::put;
@@ -252,6 +253,22 @@ pub fn query_into(
     }
 }
 
+/// Adds the plan of a checked statement to a plan, exactly `plan_behind`, and answers its root. Only want of
+/// memory may come in its place; nodes may have been added then.
+pub fn elaborate_into(alloc: Global, checked: &Checked, plan: &mut Plan) -> Result<PlanId, Memory>
+    requires checked { IsChecked checked.now.schema checked.now.statement }
+    requires plan { IsPlan plan.old }
+    ensures plan { IfOk result (λ root.
+        placed_at plan.new root
+        ≡ plan_behind plan.old checked.now.schema checked.now.statement) }
+    ensures within { IfOk result (λ root. root < length plan.new) }
+    ensures is { OnOk result (IsPlan plan.new) }
+{
+    let sources = Sources::Schema(checked.schema.streams.as_slice());
+    let (root, _columns) = query_into(alloc, sources, &checked.statement.query, plan)?;
+    Ok(root)
+}
+
 /// The plan of a checked statement, exactly `plan_of`, and its root. Only want of memory may come in their
 /// place.
 pub fn elaborate(alloc: Global, checked: &Checked) -> Result<(Plan, PlanId), Memory>
@@ -261,7 +278,6 @@ pub fn elaborate(alloc: Global, checked: &Checked) -> Result<(Plan, PlanId), Mem
     ensures within { IfOk result (λ r. r.1 < length r.0) }
 {
     let mut plan = Plan::new(alloc);
-    let sources = Sources::Schema(checked.schema.streams.as_slice());
-    let (root, _columns) = query_into(alloc, sources, &checked.statement.query, &mut plan)?;
+    let root = elaborate_into(alloc, checked, &mut plan)?;
     Ok((plan, root))
 }

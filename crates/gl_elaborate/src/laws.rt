@@ -1,12 +1,18 @@
 //! Laws of elaboration. The contract of each function is the law; it does nothing.
 
-ghost use Rattle.gl_elaborate.specs.Laws.{PlansAreRight, PlansTellTime};
+ghost use Rattle.gl_elaborate.specs.Laws.{PlansAreRight, PlansTellTime, SeveralAreRight};
 
 /// The plan of a checked statement is a plan whose nodes fit where they are added; its root has the query's
 /// columns, closing, pace, leaves and figures; and each of the root's results, with its spill, is one of the
 /// statement.
 pub fn plans_are_right()
     ensures { PlansAreRight }
+{}
+
+/// Of several statements, each planned behind those before it, each is right at its own root, as if it were
+/// alone.
+pub fn several_are_right()
+    ensures { SeveralAreRight }
 {}
 
 /// The plan of a statement has a window of time exactly where the statement has one.

@@ -1,11 +1,10 @@
--- Each fault of a text is the one that is answered.
-use Rattle.std.proofs.Common.{◌≡◌, ℕ, true, List, [], ◌∷◌, ◌++◌, length, Option, Some, None, Result, Ok, Err, refl, sym, ap, subst, ◌∙◌, inl, inr}
+-- Each fault of tokens is the one that is answered.
+use Rattle.std.proofs.Common.{◌≡◌, ℕ, true, List, [], ◌∷◌, ◌++◌, Option, Some, None, Result, Ok, Err, refl, sym, ap, subst, ◌∙◌, inl, inr}
 use Rattle.gl_query.specs.declared.tree.Statement as tree
 use Rattle.gl_query.specs.declared.fault.QueryFault.{QueryFault}
 use Rattle.gl_query.specs.declared.fault.QueryFault.TheVariants as fault
 use Rattle.gl_query_tokens.specs.declared.token.Token.{Token}
 use Rattle.gl_query_tokens.specs.declared.token.Lexeme.{Lexeme}
-use Rattle.gl_query_tokens.specs.Tokens.{tokens_of}
 use Rattle.gl_query_reader.specs.declared.limits.Counts.{Counts}
 use Rattle.gl_query_reader.specs.declared.parsing.ReadFault.TheVariants.{Syntax, TooDeep}
 use Rattle.gl_query_reader.specs.Written.{Statement}
@@ -14,7 +13,7 @@ use Rattle.gl_query_reader.specs.Machine.{step, finish}
 use Rattle.gl_query_reader.specs.Limits.{none_counted, after, counted, is_past, keeps_limits}
 use Rattle.gl_query.specs.Trees.{StatementTree, statement_tree}
 use Rattle.gl_query_reader.specs.Reading.{run, or_syntax, with_items, answered, Answers}
-use Rattle.gl_query_reader.specs.Grammar.{bare_tokens, Derives, CanBegin, Stops, IsSyntaxFault, IsDepthFault, IsItemsFault, IsErrOrMemory, Verdict}
+use Rattle.gl_query_reader.specs.Grammar.{bare_tokens, Derives, CanBegin, Stops, HaveSyntaxFault, HaveDepthFault, HaveItemsFault, IsErrOrMemory, Verdict}
 use Rattle.gl_query_reader.proofs.Steps.{steps, run-steps, is-machine}
 use Rattle.gl_query_reader.proofs.ReadQueries.{final, finishes, reads_statement}
 use Rattle.gl_query_reader.proofs.Sound.{derives, sound_step}
@@ -74,11 +73,11 @@ halts len at read (l ∷ left) s k e st =
     ∙ run-syntax len (counted none_counted (bare_tokens read)) s l left (cannot_step read l s e st.1)
     ∙ ap (λ (n : ℕ). Err (Syntax n)) (sym st.0)
 
-pub syntax_answer : (text : List ℕ) (at : ℕ) → IsSyntaxFault text at → answer_for text ≡ Err (fault.Syntax at)
-syntax_answer text at h =
+pub syntax_answer : (tokens : List Lexeme) (end at : ℕ) → HaveSyntaxFault tokens end at → answer_for tokens end ≡ Err (fault.Syntax at)
+syntax_answer tokens end at h =
     let r = reads_front (bare_tokens h.read) h.begins in
-    ap (λ (ls : List Lexeme). answered (run (length text) none_counted start ls)) h.parts
-    ∙ ap answered (halts (length text) at h.read h.left r.0 h.limits r.1 h.stops)
+    ap (λ (ls : List Lexeme). answered (run end none_counted start ls)) h.parts
+    ∙ ap answered (halts end at h.read h.left r.0 h.limits r.1 h.stops)
 
 counted-push : (n : Counts) (ts : List Token) (t : Token) → counted n (ts ++ t ∷ []) ≡ after (counted n ts) t
 counted-push n [] t = refl
@@ -87,20 +86,20 @@ counted-push n (x ∷ ts) t = counted-push (after n x) ts t
 one_step : (s y : State) (t : Token) → steps s (t ∷ []) ≡ Some y → (x : State) × (step s t ≡ Some x)
 one_step s y t e = let p = machine-parts step steps is-machine s y t [] e in (p.0, p.1)
 
-pub depth_answer : (text : List ℕ) (at : ℕ) → IsDepthFault text at → answer_for text ≡ Err (fault.TooDeep at)
-depth_answer text at h =
+pub depth_answer : (tokens : List Lexeme) (end at : ℕ) → HaveDepthFault tokens at → answer_for tokens end ≡ Err (fault.TooDeep at)
+depth_answer tokens end at h =
     let r = reads_front (bare_tokens h.read ++ h.deep.token ∷ []) (subst (λ (x : List Token). CanBegin x) (bare-push h.read h.deep) h.begins) in
     let f = machine-front step steps is-machine (bare_tokens h.read) (h.deep.token ∷ []) start r.0 r.1 in
     let o = one_step f.0 r.0 h.deep.token f.2 in
     let p : is_past (after (counted none_counted (bare_tokens h.read)) h.deep.token) ≡ true = ap is_past (sym (counted-push none_counted (bare_tokens h.read) h.deep.token)) ∙ ap (λ (x : List Token). is_past (counted none_counted x)) (sym (bare-push h.read h.deep)) ∙ h.past in
-    ap (λ (ls : List Lexeme). answered (run (length text) none_counted start ls)) h.parts
-    ∙ ap answered (run-front (length text) h.read (h.deep ∷ h.left) none_counted start f.0 h.limits f.1 ∙ run-deep (length text) (counted none_counted (bare_tokens h.read)) f.0 o.0 h.deep h.left o.1 p)
+    ap (λ (ls : List Lexeme). answered (run end none_counted start ls)) h.parts
+    ∙ ap answered (run-front end h.read (h.deep ∷ h.left) none_counted start f.0 h.limits f.1 ∙ run-deep end (counted none_counted (bare_tokens h.read)) f.0 o.0 h.deep h.left o.1 p)
     ∙ ap (λ (n : ℕ). Err (fault.TooDeep n)) (sym h.place)
 
-pub items_answer : (text : List ℕ) (at : ℕ) → IsItemsFault text at → answer_for text ≡ Err (fault.MixedItems at)
-items_answer text at h =
-    let read : steps start (bare_tokens (tokens_of text)) ≡ Some (final h.written) = ap (steps start) (sym h.derived.spelled) ∙ reads_statement h.written h.derived.grammar in
-    ap answered (run-steps (length text) (tokens_of text) none_counted start (final h.written) h.limits read ∙ ap (λ (o : Option Statement). or_syntax o (length text)) (finishes h.written))
+pub items_answer : (tokens : List Lexeme) (end at : ℕ) → HaveItemsFault tokens at → answer_for tokens end ≡ Err (fault.MixedItems at)
+items_answer tokens end at h =
+    let read : steps start (bare_tokens tokens) ≡ Some (final h.written) = ap (steps start) (sym h.derived.spelled) ∙ reads_statement h.written h.derived.grammar in
+    ap answered (run-steps end tokens none_counted start (final h.written) h.limits read ∙ ap (λ (o : Option Statement). or_syntax o end) (finishes h.written))
     ∙ ap (λ (o : Option ℕ). with_items o h.written) h.items
 
 -- ---- for a returned value
@@ -116,11 +115,11 @@ is_that (Ok s) x e a f = absurd (not_ok x e (statement_tree s) f a)
 is_that (Err fault.Memory) x e a f = inr refl
 is_that (Err d) x e a f = inl (ap (λ (y : QueryFault). Err y) (same_fault x d e a f))
 
-pub syntax : (text : List ℕ) (r : Result tree.Statement QueryFault) → Answers r (answer_for text) → (at : ℕ) → IsSyntaxFault text at → IsErrOrMemory r (fault.Syntax at)
-syntax text r a at h = is_that r (answer_for text) (fault.Syntax at) a (syntax_answer text at h)
+pub syntax : (tokens : List Lexeme) (end : ℕ) (r : Result tree.Statement QueryFault) → Answers r (answer_for tokens end) → (at : ℕ) → HaveSyntaxFault tokens end at → IsErrOrMemory r (fault.Syntax at)
+syntax tokens end r a at h = is_that r (answer_for tokens end) (fault.Syntax at) a (syntax_answer tokens end at h)
 
-pub too_deep : (text : List ℕ) (r : Result tree.Statement QueryFault) → Answers r (answer_for text) → (at : ℕ) → IsDepthFault text at → IsErrOrMemory r (fault.TooDeep at)
-too_deep text r a at h = is_that r (answer_for text) (fault.TooDeep at) a (depth_answer text at h)
+pub too_deep : (tokens : List Lexeme) (end : ℕ) (r : Result tree.Statement QueryFault) → Answers r (answer_for tokens end) → (at : ℕ) → HaveDepthFault tokens at → IsErrOrMemory r (fault.TooDeep at)
+too_deep tokens end r a at h = is_that r (answer_for tokens end) (fault.TooDeep at) a (depth_answer tokens end at h)
 
-pub mixed : (text : List ℕ) (r : Result tree.Statement QueryFault) → Answers r (answer_for text) → (at : ℕ) → IsItemsFault text at → IsErrOrMemory r (fault.MixedItems at)
-mixed text r a at h = is_that r (answer_for text) (fault.MixedItems at) a (items_answer text at h)
+pub mixed : (tokens : List Lexeme) (end : ℕ) (r : Result tree.Statement QueryFault) → Answers r (answer_for tokens end) → (at : ℕ) → HaveItemsFault tokens at → IsErrOrMemory r (fault.MixedItems at)
+mixed tokens end r a at h = is_that r (answer_for tokens end) (fault.MixedItems at) a (items_answer tokens end at h)

@@ -1,5 +1,5 @@
 -- What reading comes to, in the words of the grammar.
-use Rattle.std.proofs.Common.{◌≡◌, ℕ, Bool, true, false, List, [], ◌∷◌, ◌++◌, length, Option, Some, None, Result, Ok, Err, refl, sym, ap, subst, ◌∙◌, append_assoc}
+use Rattle.std.proofs.Common.{◌≡◌, ℕ, Bool, true, false, List, [], ◌∷◌, ◌++◌, Option, Some, None, Result, Ok, Err, refl, sym, ap, subst, ◌∙◌, append_assoc}
 use Rattle.std.specs.Prelude.{IfOk, IfErr}
 use Rattle.std.proofs.lemmas.List.{map-append}
 use Rattle.gl_query.specs.declared.tree.Statement as tree
@@ -7,7 +7,6 @@ use Rattle.gl_query.specs.declared.fault.QueryFault.{QueryFault}
 use Rattle.gl_query.specs.declared.fault.QueryFault.TheVariants as fault
 use Rattle.gl_query_tokens.specs.declared.token.Token.{Token}
 use Rattle.gl_query_tokens.specs.declared.token.Lexeme.{Lexeme}
-use Rattle.gl_query_tokens.specs.Tokens.{tokens_of}
 use Rattle.gl_query_reader.specs.declared.limits.Counts.{Counts}
 use Rattle.gl_query_reader.specs.declared.parsing.ReadFault.{ReadFault}
 use Rattle.gl_query_reader.specs.declared.parsing.ReadFault.TheVariants.{Syntax, TooDeep, Memory}
@@ -18,7 +17,7 @@ use Rattle.gl_query_reader.specs.Limits.{none_counted, after, counted, is_past, 
 use Rattle.gl_query.specs.Trees.{StatementTree, statement_tree}
 use Rattle.gl_query_reader.specs.Mixed.{mixed_in}
 use Rattle.gl_query_reader.specs.Reading.{run, or_syntax, checked, with_items, answered, Answers}
-use Rattle.gl_query_reader.specs.Grammar.{bare_tokens, Derives, CanBegin, HasStatement, IsOrMemory, Stops, IsFault, IsVerdict}
+use Rattle.gl_query_reader.specs.Grammar.{bare_tokens, Derives, CanBegin, HaveStatement, IsOrMemory, Stops, HaveFault, HaveVerdict}
 use Rattle.gl_query_reader.proofs.Steps.{steps, run-steps, is-machine}
 use Rattle.gl_query_reader.proofs.ReadQueries.{final, finishes, reads_statement}
 use Rattle.gl_query_reader.proofs.Said.{Read}
@@ -126,55 +125,55 @@ stops : (len at : ℕ) (read left : List Lexeme) (s : State) → steps start (ba
 stops len at read [] s e h = (h.0, λ w d. ends (bare_tokens read) s w e h.1 d)
 stops len at read (l ∷ left) s e h = (h.0, λ b. goes_on (bare_tokens read) l.token s e h.1 (subst (λ (x : List Token). CanBegin x) (bare-push read l) b))
 
--- the answer for a text
-abbrev pub answer_for : List ℕ → Result StatementTree QueryFault
-answer_for text = answered (run (length text) none_counted start (tokens_of text))
+-- the answer for tokens and where they end
+abbrev pub answer_for : List Lexeme → ℕ → Result StatementTree QueryFault
+answer_for tokens end = answered (run end none_counted start tokens)
 
 -- a statement within the limits is answered
-pub only_answer : (text : List ℕ) (s : StatementTree) → HasStatement text s → answer_for text ≡ Ok s
-only_answer text s h =
-    let read : steps start (bare_tokens (tokens_of text)) ≡ Some (final h.written) = ap (steps start) (sym h.derived.spelled) ∙ reads_statement h.written h.derived.grammar in
-    ap answered (run-steps (length text) (tokens_of text) none_counted start (final h.written) h.limits read ∙ ap (λ (o : Option Statement). or_syntax o (length text)) (finishes h.written))
+pub only_answer : (tokens : List Lexeme) (end : ℕ) (s : StatementTree) → HaveStatement tokens s → answer_for tokens end ≡ Ok s
+only_answer tokens end s h =
+    let read : steps start (bare_tokens tokens) ≡ Some (final h.written) = ap (steps start) (sym h.derived.spelled) ∙ reads_statement h.written h.derived.grammar in
+    ap answered (run-steps end tokens none_counted start (final h.written) h.limits read ∙ ap (λ (o : Option Statement). or_syntax o end) (finishes h.written))
     ∙ ap (λ (o : Option ℕ). with_items o h.written) h.items
     ∙ ap (λ (x : StatementTree). Ok x) (sym h.means)
 
-of_written : (text : List ℕ) (w : Statement) → Ended none_counted start (tokens_of text) w → IsVerdict text (with_items (mixed_in w.query) w)
-of_written text w m = test (mixed_in w.query) refl
+of_written : (tokens : List Lexeme) (end : ℕ) (w : Statement) → Ended none_counted start tokens w → HaveVerdict tokens end (with_items (mixed_in w.query) w)
+of_written tokens end w m = test (mixed_in w.query) refl
   where
-    test : (o : Option ℕ) → mixed_in w.query ≡ o → IsVerdict text (with_items o w)
+    test : (o : Option ℕ) → mixed_in w.query ≡ o → HaveVerdict tokens end (with_items o w)
     test None e = record { written = w; derived = derives _ m.there w m.came.steps m.done; limits = m.came.limits; items = e; means = refl }
     test (Some at) e = record { written = w; derived = derives _ m.there w m.came.steps m.done; limits = m.came.limits; items = e }
 
 pub read_to : (ts : List Token) (s : State) → steps start ts ≡ Some s → Read s ts
 read_to ts s e = sound_steps ts start s [] read_start e
 
-of_result : (text : List ℕ) (r : Result Statement ReadFault) → Met (length text) none_counted start (tokens_of text) r → IsVerdict text (answered r)
-of_result text (Ok w) m = of_written text w m
-of_result text (Err (Syntax at)) m = record { read = m.read; left = m.left; parts = m.parts; limits = m.came.limits; begins = begins m.there (bare_tokens m.read) (read_to (bare_tokens m.read) m.there m.came.steps); stops = stops (length text) at m.read m.left m.there m.came.steps m.halts }
-of_result text (Err (TooDeep at)) m = record { read = m.read; deep = m.deep; left = m.left; parts = m.parts; place = m.place; limits = m.came.limits; past = m.past; begins = subst (λ (x : List Token). CanBegin x) (sym (bare-push m.read m.deep)) (begins m.beyond (bare_tokens m.read ++ m.deep.token ∷ []) (sound_step m.there m.beyond m.deep.token (bare_tokens m.read) (read_to (bare_tokens m.read) m.there m.came.steps) m.goes)) }
-of_result text (Err Memory) m = absurd m
+of_result : (tokens : List Lexeme) (end : ℕ) (r : Result Statement ReadFault) → Met end none_counted start tokens r → HaveVerdict tokens end (answered r)
+of_result tokens end (Ok w) m = of_written tokens end w m
+of_result tokens end (Err (Syntax at)) m = record { read = m.read; left = m.left; parts = m.parts; limits = m.came.limits; begins = begins m.there (bare_tokens m.read) (read_to (bare_tokens m.read) m.there m.came.steps); stops = stops end at m.read m.left m.there m.came.steps m.halts }
+of_result tokens end (Err (TooDeep at)) m = record { read = m.read; deep = m.deep; left = m.left; parts = m.parts; place = m.place; limits = m.came.limits; past = m.past; begins = subst (λ (x : List Token). CanBegin x) (sym (bare-push m.read m.deep)) (begins m.beyond (bare_tokens m.read ++ m.deep.token ∷ []) (sound_step m.there m.beyond m.deep.token (bare_tokens m.read) (read_to (bare_tokens m.read) m.there m.came.steps) m.goes)) }
+of_result tokens end (Err Memory) m = absurd m
 
-pub answer_is : (text : List ℕ) → IsVerdict text (answer_for text)
-answer_is text = of_result text _ (meets (length text) (tokens_of text) none_counted start)
+pub answer_is : (tokens : List Lexeme) (end : ℕ) → HaveVerdict tokens end (answer_for tokens end)
+answer_is tokens end = of_result tokens end _ (meets end tokens none_counted start)
 
 -- ---- for a returned value
 
-pub found : (text : List ℕ) (r : Result tree.Statement QueryFault) → Answers r (answer_for text) → IfOk r (λ s. HasStatement text (statement_tree s))
-found text (Ok s) a = subst (λ (x : Result StatementTree QueryFault). IsVerdict text x) a (answer_is text)
-found text (Err e) a = tt
+pub found : (tokens : List Lexeme) (end : ℕ) (r : Result tree.Statement QueryFault) → Answers r (answer_for tokens end) → IfOk r (λ s. HaveStatement tokens (statement_tree s))
+found tokens end (Ok s) a = subst (λ (x : Result StatementTree QueryFault). HaveVerdict tokens end x) a (answer_is tokens end)
+found tokens end (Err e) a = tt
 
 ok_is : (r : Result StatementTree QueryFault) (a b : StatementTree) → r ≡ Ok a → r ≡ Ok b → a ≡ b
 ok_is r a b e f = cc
 
-pub only : (text : List ℕ) (r : Result tree.Statement QueryFault) → Answers r (answer_for text) → (s : StatementTree) → HasStatement text s → IsOrMemory r s
-only text (Ok s) a m h = ok_is (answer_for text) (statement_tree s) m a (only_answer text m h)
-only text (Err fault.Memory) a m h = tt
-only text (Err e) a m h = absurd (differ (answer_for text) _ m a (only_answer text m h))
+pub only : (tokens : List Lexeme) (end : ℕ) (r : Result tree.Statement QueryFault) → Answers r (answer_for tokens end) → (s : StatementTree) → HaveStatement tokens s → IsOrMemory r s
+only tokens end (Ok s) a m h = ok_is (answer_for tokens end) (statement_tree s) m a (only_answer tokens end m h)
+only tokens end (Err fault.Memory) a m h = tt
+only tokens end (Err e) a m h = absurd (differ (answer_for tokens end) _ m a (only_answer tokens end m h))
   where
     differ : (x : Result StatementTree QueryFault) (e : QueryFault) (m : StatementTree) → x ≡ Err e → x ≡ Ok m → ⊥
     differ x e m f g = absurd cc
 
-pub faults : (text : List ℕ) (r : Result tree.Statement QueryFault) → Answers r (answer_for text) → IfErr r (λ e. IsFault text e)
-faults text (Ok s) a = tt
-faults text (Err fault.Memory) a = tt
-faults text (Err e) a = subst (λ (x : Result StatementTree QueryFault). IsVerdict text x) a (answer_is text)
+pub faults : (tokens : List Lexeme) (end : ℕ) (r : Result tree.Statement QueryFault) → Answers r (answer_for tokens end) → IfErr r (λ e. HaveFault tokens end e)
+faults tokens end (Ok s) a = tt
+faults tokens end (Err fault.Memory) a = tt
+faults tokens end (Err e) a = subst (λ (x : Result StatementTree QueryFault). HaveVerdict tokens end x) a (answer_is tokens end)

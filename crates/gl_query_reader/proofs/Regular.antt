@@ -6,12 +6,12 @@ use Rattle.gl_bits.proofs.AllLists.{all_mapped, all_parts}
 use Rattle.gl_schema.specs.Names.{IsName, is_name, has_name_bytes, begins_with_letter, has_loose_underscore, is_taken, keywords, reserved}
 use Rattle.gl_query.specs.declared.fault.QueryFault.{QueryFault}
 use Rattle.gl_query.specs.declared.tree.Statement as tree
-use Rattle.gl_query.specs.Shapes.{statement_shape}
+use Rattle.gl_query.specs.Shapes.{query_shape, statement_shape}
 use Rattle.gl_query.specs.Trees.{StatementTree, statement_tree}
-use Rattle.gl_query.proofs.Alike.{statement_same}
-use Rattle.gl_query.specs.Alike.{expr_alike, statement_alike}
+use Rattle.gl_query.proofs.Alike.{query_same, statement_same}
+use Rattle.gl_query.specs.Alike.{expr_alike, query_alike, statement_alike}
 use Rattle.gl_query.specs.Names.{HasNames}
-use Rattle.gl_query.specs.Sizes.{IsSmall}
+use Rattle.gl_query.specs.Sizes.{IsSmall, QueryIsSmall}
 use Rattle.gl_query_tokens.specs.declared.token.Plain.TheVariants as plain
 use Rattle.gl_query_tokens.specs.declared.token.Token.{Token}
 use Rattle.gl_query_tokens.specs.declared.token.Token.TheVariants as token
@@ -19,13 +19,11 @@ use Rattle.gl_query_tokens.specs.declared.token.Lexeme.{Lexeme}
 use Rattle.gl_query_tokens.specs.Tokens.{tokens_of}
 use Rattle.gl_query_tokens.proofs.Sound.{IsSound, text_sound}
 use Rattle.gl_query_reader.specs.declared.written.Grouping.{Grouping}
-use Rattle.gl_query_reader.specs.Grammar.{IsRegular, StatementsAreRegular}
+use Rattle.gl_query_reader.specs.Grammar.{bare_tokens, HaveStatement, HasStatement, IsRegular, StatementsAreRegular}
 use Rattle.gl_query_reader.specs.Limits.{keeps_limits, none_counted}
-use Rattle.gl_query_reader.specs.Meaning.{expr_meaning, statement_meaning}
+use Rattle.gl_query_reader.specs.Meaning.{expr_meaning, query_meaning, statement_meaning}
 use Rattle.gl_query_reader.specs.Written as written
 use Rattle.gl_query_reader.proofs.Meanings.{AggHolds, FilterHolds, GroupingHolds, ItemHolds, PickHolds, QueryHolds, query_in}
-use Rattle.gl_query_reader.specs.Reading.{Answers}
-use Rattle.gl_query_reader.proofs.Meets.{answer_for, found}
 use Rattle.gl_query_reader.proofs.Small.{statement_small}
 
 abbrev pub AreSound : List Token → Type 0
@@ -116,23 +114,40 @@ it_is_name : IsName (codes "it")
 unfolding is_name has_name_bytes begins_with_letter has_loose_underscore is_taken keywords reserved
 it_is_name = refl
 
+written_small : (w : written.Statement) → keeps_limits none_counted (written.spell_statement w) ≡ true → QueryIsSmall (query_alike (query_meaning w.query))
+written_small w k = query_in IsSmall (λ name. Unit {0}) tt w.query (statement_small w k)
+
 written_regular : (w : written.Statement) → keeps_limits none_counted (written.spell_statement w) ≡ true → AreSound (written.spell_statement w)
     → IsRegular (statement_alike (statement_meaning w))
 written_regular w k h =
     let p = sound_parts (written.spell_query w.query) (token.Plain plain.Into ∷ token.Name w.name ∷ written.spell_end w.closed) h in
     record {
-      small = query_in IsSmall (λ name. Unit {0}) tt w.query (statement_small w k);
+      small = written_small w k;
       names = (query_in HasNames IsName it_is_name w.query (query_names w.query p.0), p.1.1.0.name);
     }
 
-pub regular : StatementsAreRegular
-regular text s f =
-    let sound = all_mapped IsSound (λ (l : Lexeme). l.token) (tokens_of text) (text_sound text) in
-    let tokens = sym f.derived.spelled in
-    let kept = subst (λ (ts : List Token). keeps_limits none_counted ts ≡ true) tokens f.limits in
-    subst (λ (x : StatementTree). IsRegular (statement_alike x)) (sym f.means)
-    (written_regular f.written kept (subst AreSound tokens sound))
+-- what spells a statement keeps the limits where its tokens do
+spelled_keep : (tokens : List Lexeme) (s : StatementTree) (h : HaveStatement tokens s) → keeps_limits none_counted (written.spell_statement h.written) ≡ true
+spelled_keep tokens s h = subst (λ (ts : List Token). keeps_limits none_counted ts ≡ true) (sym h.derived.spelled) h.limits
 
-pub regular_statement : (text : List ℕ) (r : Result tree.Statement QueryFault) → Answers r (answer_for text) → IfOk r (λ s. IsRegular (statement_shape s))
-regular_statement text (Err e) a = tt
-regular_statement text (Ok s) a = subst IsRegular (statement_same s) (regular text (statement_tree s) (found text (Ok s) a))
+pub small_of : (tokens : List Lexeme) (s : StatementTree) → HaveStatement tokens s → QueryIsSmall (query_alike s.query)
+small_of tokens s h = subst (λ (x : StatementTree). QueryIsSmall (query_alike x.query)) (sym h.means) (written_small h.written (spelled_keep tokens s h))
+
+-- the names are names where those of the tokens are
+pub regular_of : (tokens : List Lexeme) (s : StatementTree) → AreSound (bare_tokens tokens) → HaveStatement tokens s → IsRegular (statement_alike s)
+regular_of tokens s sound h =
+    subst (λ (x : StatementTree). IsRegular (statement_alike x)) (sym h.means)
+    (written_regular h.written (spelled_keep tokens s h) (subst AreSound (sym h.derived.spelled) sound))
+
+pub regular : StatementsAreRegular
+regular text s h = regular_of (tokens_of text) s (all_mapped IsSound (λ (l : Lexeme). l.token) (tokens_of text) (text_sound text)) h
+
+-- ---- for a returned value
+
+pub small_statement : (tokens : List Lexeme) (r : Result tree.Statement QueryFault) → IfOk r (λ s. HaveStatement tokens (statement_tree s)) → IfOk r (λ s. QueryIsSmall (query_shape s.query))
+small_statement tokens (Err e) h = tt
+small_statement tokens (Ok s) h = subst QueryIsSmall (query_same s.query) (small_of tokens (statement_tree s) h)
+
+pub regular_statement : (text : List ℕ) (r : Result tree.Statement QueryFault) → IfOk r (λ s. HasStatement text (statement_tree s)) → IfOk r (λ s. IsRegular (statement_shape s))
+regular_statement text (Err e) h = tt
+regular_statement text (Ok s) h = subst IsRegular (statement_same s) (regular text (statement_tree s) h)

@@ -29,11 +29,11 @@ pub record Derives (tokens : List Token) (w : Statement) : Type 0 where
 abbrev pub CanBegin : List Token → Type 0
 CanBegin tokens = (more : List Token) × (w : Statement) × Derives (tokens ++ more) w
 
--- the text has this statement: its tokens derive it, pass no limit, and its items go together
-pub record HasStatement (text : List ℕ) (s : StatementTree) : Type 0 where
+-- the tokens have this statement: they derive it, pass no limit, and its items go together
+pub record HaveStatement (tokens : List Lexeme) (s : StatementTree) : Type 0 where
   pub written : Statement
-  pub derived : Derives (bare_tokens (tokens_of text)) written
-  pub limits : keeps_limits none_counted (bare_tokens (tokens_of text)) ≡ true
+  pub derived : Derives (bare_tokens tokens) written
+  pub limits : keeps_limits none_counted (bare_tokens tokens) ≡ true
   pub items : mixed_in written.query ≡ None
   pub means : s ≡ statement_meaning written
 
@@ -47,56 +47,78 @@ IsOrMemory (Err e) m = ⊥
 abbrev pub IsErrOrMemory : Result tree.Statement QueryFault → QueryFault → Type 0
 IsErrOrMemory r e = (r ≡ Err e) ⊎ (r ≡ Err fault.Memory)
 
--- why reading stops: no statement goes on with the token at this place, or, at the text's length, what was read is none
+-- why reading stops: no statement goes on with the token at this place, or, at the tokens' end, what was read is none
 abbrev pub Stops : ℕ → ℕ → List Lexeme → List Lexeme → Type 0
-Stops len at read [] = (at ≡ len) × ((w : Statement) → Derives (bare_tokens read) w → ⊥)
-Stops len at read (l ∷ left) = (at ≡ l.at) × (CanBegin (bare_tokens (read ++ l ∷ [])) → ⊥)
+Stops end at read [] = (at ≡ end) × ((w : Statement) → Derives (bare_tokens read) w → ⊥)
+Stops end at read (l ∷ left) = (at ≡ l.at) × (CanBegin (bare_tokens (read ++ l ∷ [])) → ⊥)
 
 -- the tokens before this place pass no limit and begin a statement; with the one at it they begin none
-pub record IsSyntaxFault (text : List ℕ) (at : ℕ) : Type 0 where
+pub record HaveSyntaxFault (tokens : List Lexeme) (end at : ℕ) : Type 0 where
   pub read : List Lexeme
   pub left : List Lexeme
-  pub parts : tokens_of text ≡ read ++ left
+  pub parts : tokens ≡ read ++ left
   pub limits : keeps_limits none_counted (bare_tokens read) ≡ true
   pub begins : CanBegin (bare_tokens read)
-  pub stops : Stops (length text) at read left
+  pub stops : Stops end at read left
 
 -- the tokens before this place pass no limit, the one at it does, and up to it they begin a statement
-pub record IsDepthFault (text : List ℕ) (at : ℕ) : Type 0 where
+pub record HaveDepthFault (tokens : List Lexeme) (at : ℕ) : Type 0 where
   pub read : List Lexeme
   pub deep : Lexeme
   pub left : List Lexeme
-  pub parts : tokens_of text ≡ read ++ deep ∷ left
+  pub parts : tokens ≡ read ++ deep ∷ left
   pub place : at ≡ deep.at
   pub limits : keeps_limits none_counted (bare_tokens read) ≡ true
   pub past : is_past (counted none_counted (bare_tokens (read ++ deep ∷ []))) ≡ true
   pub begins : CanBegin (bare_tokens (read ++ deep ∷ []))
 
--- the text would have a statement, but items of a select do not go together
-pub record IsItemsFault (text : List ℕ) (at : ℕ) : Type 0 where
+-- the tokens would have a statement, but items of a select do not go together
+pub record HaveItemsFault (tokens : List Lexeme) (at : ℕ) : Type 0 where
   pub written : Statement
-  pub derived : Derives (bare_tokens (tokens_of text)) written
-  pub limits : keeps_limits none_counted (bare_tokens (tokens_of text)) ≡ true
+  pub derived : Derives (bare_tokens tokens) written
+  pub limits : keeps_limits none_counted (bare_tokens tokens) ≡ true
   pub items : mixed_in written.query ≡ Some at
 
--- what a text comes to: its statement, or what is wrong with it and where
+-- what tokens come to: their statement, or what is wrong with them and where
 abbrev pub Verdict : Type 0
 Verdict = Result StatementTree QueryFault
 
-abbrev pub IsVerdict : List ℕ → Verdict → Type 0
-IsVerdict text (Ok s) = HasStatement text s
-IsVerdict text (Err (fault.Syntax at)) = IsSyntaxFault text at
-IsVerdict text (Err (fault.TooDeep at)) = IsDepthFault text at
-IsVerdict text (Err (fault.MixedItems at)) = IsItemsFault text at
-IsVerdict text (Err e) = ⊥
+abbrev pub HaveVerdict : List Lexeme → ℕ → Verdict → Type 0
+HaveVerdict tokens end (Ok s) = HaveStatement tokens s
+HaveVerdict tokens end (Err (fault.Syntax at)) = HaveSyntaxFault tokens end at
+HaveVerdict tokens end (Err (fault.TooDeep at)) = HaveDepthFault tokens at
+HaveVerdict tokens end (Err (fault.MixedItems at)) = HaveItemsFault tokens at
+HaveVerdict tokens end (Err e) = ⊥
 
--- what is wrong with a text
+-- what is wrong with tokens
+abbrev pub HaveFault : List Lexeme → ℕ → QueryFault → Type 0
+HaveFault tokens end (fault.Syntax at) = HaveSyntaxFault tokens end at
+HaveFault tokens end (fault.TooDeep at) = HaveDepthFault tokens at
+HaveFault tokens end (fault.MixedItems at) = HaveItemsFault tokens at
+HaveFault tokens end fault.Memory = Unit {0}
+HaveFault tokens end e = ⊥
+
+-- ---- a text has what its tokens have, which end at its length
+
+abbrev pub HasStatement : List ℕ → StatementTree → Type 0
+HasStatement text s = HaveStatement (tokens_of text) s
+
+abbrev pub IsSyntaxFault : List ℕ → ℕ → Type 0
+IsSyntaxFault text at = HaveSyntaxFault (tokens_of text) (length text) at
+
+abbrev pub IsDepthFault : List ℕ → ℕ → Type 0
+IsDepthFault text at = HaveDepthFault (tokens_of text) at
+
+abbrev pub IsItemsFault : List ℕ → ℕ → Type 0
+IsItemsFault text at = HaveItemsFault (tokens_of text) at
+
+abbrev pub IsVerdict : List ℕ → Verdict → Type 0
+IsVerdict text v = HaveVerdict (tokens_of text) (length text) v
+
 abbrev pub IsFault : List ℕ → QueryFault → Type 0
-IsFault text (fault.Syntax at) = IsSyntaxFault text at
-IsFault text (fault.TooDeep at) = IsDepthFault text at
-IsFault text (fault.MixedItems at) = IsItemsFault text at
-IsFault text fault.Memory = Unit {0}
-IsFault text e = ⊥
+IsFault text f = HaveFault (tokens_of text) (length text) f
+
+-- ---- what holds of all texts
 
 -- no tokens have two statements
 abbrev pub HaveOneStatement : Type 0

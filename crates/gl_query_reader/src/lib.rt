@@ -25,4 +25,4 @@ pub mod text;
 mod windows;
 mod written;
 
-pub use text::read_query;
+pub use text::{read_lexemes, read_query};

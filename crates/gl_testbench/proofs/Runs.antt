@@ -31,7 +31,7 @@ use Rattle.gl_sim.specs.Starts.{RunsWith, register_at, word_at}
 use Rattle.gl_testbench.specs.Carried.{pin_named}
 use Rattle.gl_testbench.specs.Runs.{HasRunsOver, HasStartedRuns, RunsOver}
 use Rattle.gl_testbench.proofs.Carries.{IsNarrow, OfBoth, zip_all}
-use Rattle.gl_testbench.proofs.Inputs.{carried_at, found_at}
+use Rattle.gl_testbench.proofs.Inputs.{AreAsked, carried_at, found_at}
 use Rattle.gl_testbench.proofs.PinNames.{OneValue, pins_no_clock, pins_one}
 
 -- an input of the schema, the clock aside
@@ -46,7 +46,7 @@ named_clock : (name : List ℕ) → bytes_eq name clk ≡ false → bytes_eq nam
 unfolding clk
 named_clock name e = e
 
-module _ (m : Module) (schema : Schema) (valid : IsValid m) (is : IsSchema schema) (ports : Ports) (fit : fit_of m schema ≡ Ok ports) (beats : List Beat) (are : AreBeats schema beats) where
+module _ (m : Module) (schema : Schema) (valid : IsValid m) (is : IsSchema schema) (asked : AreAsked m schema) (beats : List Beat) (are : AreBeats schema beats) where
   -- they fit
   port_fits : (t n : ℕ) (d : Declaration) → slice_get (ports_of m) n ≡ Some d → (if takes_beats d then carried_at beats t (pin_named schema d.name) else 0) < 2 ^ d.width
   unfolding takes_beats
@@ -54,7 +54,7 @@ module _ (m : Module) (schema : Schema) (valid : IsValid m) (is : IsSchema schem
     where
       pick : (b : Bool) → (is_input d.kind && not (is_clock d)) ≡ b → (if b then carried_at beats t (pin_named schema d.name) else 0) < 2 ^ d.width
       pick true e =
-          let width = asked_port m schema ports n d fit there (and_left (is_input d.kind) (not (is_clock d)) e) (not_true (is_clock d) (and_right (is_input d.kind) (not (is_clock d)) e)) in
+          let width = asked n d there (kind_is_input d.kind (and_left (is_input d.kind) (not (is_clock d)) e)) (not_true (is_clock d) (and_right (is_input d.kind) (not (is_clock d)) e)) in
           found_at IsNarrow schema beats t d.name d.width (pins_fit schema beats t are) width
       pick false e = pow_pos d.width
 
@@ -89,7 +89,7 @@ module _ (m : Module) (schema : Schema) (valid : IsValid m) (is : IsSchema schem
           let value : carried_at beats t (pin_named schema d.name) ≡ p.value =
           found_at (λ w x y. x ≡ p.name → y ≡ p.value) schema beats t d.name d.width
           (zip_all (OfBoth IsNarrow) (λ (q : Pin). q.name ≡ p.name → q.value ≡ p.value) (input_ports true schema) (pins schema beats t) (pins_fit schema beats t are) one)
-          (asked_port m schema ports n d fit at.there at.way no_clock) name in
+          (asked n d at.there (kind_is_input d.kind at.way) no_clock) name in
           sym (same n d there (kind_is_input d.kind at.way) no_clock) ∙ here ∙ value
 
   run_over : (start : Nets) (words : Memories) → HasEventRuns m → Fit m.declarations start words → RunsOver m schema beats start words
@@ -106,11 +106,16 @@ module _ (m : Module) (schema : Schema) (valid : IsValid m) (is : IsSchema schem
         };
       }
 
+-- where the inputs are the schema's, whatever the outputs are
+pub runs_asked : (m : Module) (schema : Schema) → IsValid m → IsSchema schema → AreAsked m schema → HasEventRuns m → HasRunsOver m schema
+runs_asked m schema valid is asked has = λ beats start words are fits. run_over m schema valid is asked beats are start words has fits
+
+-- and so where the ports fit it
 pub runs_over : (m : Module) (schema : Schema) → IsValid m → IsSchema schema → IsOk (fit_of m schema) → HasEventRuns m → HasRunsOver m schema
 runs_over m schema valid is ok has = pick (fit_of m schema) refl ok
   where
     pick : (r : Result Ports Misfit) → fit_of m schema ≡ r → IsOk r → HasRunsOver m schema
-    pick (Ok ports) e ok = λ beats start words are fits. run_over m schema valid is ports e beats are start words has fits
+    pick (Ok ports) e ok = runs_asked m schema valid is (λ n d at input other. asked_port m schema ports n d e at (ap is_input input) other) has
     pick (Err misfit) e ok = absurd cc
 
 -- ---- from all of 0, or drawn

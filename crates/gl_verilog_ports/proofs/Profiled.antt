@@ -20,7 +20,7 @@ use Rattle.gl_verilog.specs.Module.{Module, Declaration, Input}
 use Rattle.gl_verilog.specs.Text.{HasModule}
 use Rattle.gl_verilog.specs.Valid.{AreDistinct, Differs}
 use Rattle.gl_verilog.specs.Widths.{is_clock}
-use Rattle.gl_verilog_ports.specs.Profile.{FitsSchema, HasProfile, IsLine, declared, declared_kind, input_width, port_named, result_names, result_ports, result_widths, shows_column}
+use Rattle.gl_verilog_ports.specs.Profile.{FitsSchema, HasClock, HasProfile, IsLine, declared, declared_kind, input_width, port_named, ports_of, result_names, result_ports, result_widths, shows_column}
 use Rattle.gl_verilog_ports.proofs.Declared.{distinct_take, inputs_are_ports}
 
 -- ---- no two ports have one name
@@ -107,9 +107,12 @@ inputs_in ticks schema = (refl, all_append IsIn (streams_inputs schema.streams) 
 abbrev tail : List ProfilePort
 tail = output out_eos 1 ∷ output fault_group 1 ∷ output fault_queue 1 ∷ []
 
-outputs_out : (cs : List Column) → AllByRecursion IsOut (column_outputs cs ++ tail)
-outputs_out [] = (refl, (refl, (refl, tt)))
-outputs_out (c ∷ cs) = (refl, outputs_out cs)
+columns_out : (cs : List Column) → AllByRecursion IsOut (column_outputs cs ++ tail)
+columns_out [] = (refl, (refl, (refl, tt)))
+columns_out (c ∷ cs) = (refl, columns_out cs)
+
+pub outputs_out : (cs : List Column) → AllByRecursion (λ (p : ProfilePort). p.direction ≡ Out) (output_ports cs)
+outputs_out cs = (refl, columns_out cs)
 
 out_differs : (p : ProfilePort) → IsOut p → declared_kind p.direction ≡ Input → ⊥
 out_differs p o e = let z = ap declared_kind (sym o) ∙ e in absurd cc
@@ -182,25 +185,65 @@ kinds_narrow : (ks : List bits.Kind) → AllByRecursion IsKind ks → AllByRecur
 kinds_narrow [] h = tt
 kinds_narrow (k ∷ ks) h = (h.0.1, kinds_narrow ks h.1)
 
--- ---- the module
+-- ---- the inputs of a schema, and outputs alone behind them
 
-module _ (ticks : Bool) (m : Module) (schema : Schema) (columns : List Column) (distinct : AreDistinct m.declarations)
-    (face : HasProfile ticks m schema columns) where
+module _ (ticks : Bool) (m : Module) (schema : Schema) (outs : List ProfilePort) (out : AllByRecursion (λ (p : ProfilePort). p.direction ≡ Out) outs)
+    (distinct : AreDistinct m.declarations) (face : ports_of m ≡ map declared (input clk 1 ∷ input_ports ticks schema ++ outs)) where
   abbrev behind : List ProfilePort
-  behind = profile ticks schema columns
+  behind = input_ports ticks schema ++ outs
 
   all_distinct : IsDistinct bytes_eq (port_names (input clk 1 ∷ behind))
   all_distinct = names_distinct (input clk 1 ∷ behind) (subst AreDistinct face (distinct_take m.ports m.declarations distinct))
 
-  -- reset, the streams and the end; the outputs
-  parts_named : IsDistinct bytes_eq (port_names (input_ports ticks schema) ++ port_names (output_ports columns))
+  parts_named : IsDistinct bytes_eq (port_names (input_ports ticks schema) ++ port_names outs)
   unfolding IsDistinct
-  parts_named = subst (λ (x : List (List ℕ)). IsDistinct bytes_eq x) (map-append (λ (p : ProfilePort). p.name) (input_ports ticks schema) (output_ports columns)) all_distinct.1
+  parts_named = subst (λ (x : List (List ℕ)). IsDistinct bytes_eq x) (map-append (λ (p : ProfilePort). p.name) (input_ports ticks schema) outs) all_distinct.1
+
+  asked_width : (i : ℕ) (p : ProfilePort) → slice_get (input_ports ticks schema) i ≡ Some p → input_width schema p.name ≡ Some p.width
+  asked_width i p h =
+      let own = distinct_front (port_names (input_ports ticks schema)) (port_names outs) parts_named in
+      let is_named : ProfilePort → Bool = λ q. bytes_eq q.name p.name in
+      let here : find is_named (input_ports ticks schema) ≡ Some p =
+      ap (find is_named) (sym (map_same (input_ports ticks schema)))
+      ∙ found_named {A = ProfilePort} (λ q. q.name) (λ q. q) (λ x. refl) (input_ports ticks schema) i p own h in
+      ap (option_map (λ (q : ProfilePort). q.width)) (find_asked ticks schema is_named p here)
+    where
+      map_same : (ps : List ProfilePort) → map (λ (q : ProfilePort). q) ps ≡ ps
+      map_same [] = refl
+      map_same (q ∷ ps) = ap (λ (x : List ProfilePort). q ∷ x) (map_same ps)
+
+  input_fits : (n : ℕ) (d : Declaration) → slice_get (map declared (input clk 1 ∷ behind)) n ≡ Some d → d.kind ≡ Input → is_clock d ≡ false → input_width schema d.name ≡ Some d.width
+  unfolding clk
+  input_fits zero d h is other =
+      let same : declared (input clk 1) ≡ d = cc in
+      let z : true ≡ false = ap is_clock same ∙ other in
+      absurd (let y : true ≡ false = z in cc)
+  input_fits (suc i) d h is other =
+      let p = get_unmapped declared behind i d h in
+      let kind : declared_kind p.0.direction ≡ Input = ap (λ (x : Declaration). x.kind) p.2 ∙ is in
+      let front = in_front (input_ports ticks schema) outs i p.0 out p.1 kind in
+      subst (λ (x : Declaration). input_width schema x.name ≡ Some x.width) p.2 (asked_width i p.0 front)
+
+  -- each input but the clock is the schema's
+  pub inputs_asked : (n : ℕ) (d : Declaration) → slice_get (ports_of m) n ≡ Some d → d.kind ≡ Input → is_clock d ≡ false → input_width schema d.name ≡ Some d.width
+  inputs_asked n d at is other = input_fits n d (ap (λ (ds : List Declaration). slice_get ds n) (sym face) ∙ at) is other
+
+  -- and the clock is there
+  pub clock_there : HasClock m
+  unfolding clk
+  clock_there = record { port = declared (input clk 1); there = ap (find (λ (d : Declaration). bytes_eq d.name clk)) face; input = refl; bit = refl }
+
+-- ---- the module
+
+module _ (ticks : Bool) (m : Module) (schema : Schema) (columns : List Column) (distinct : AreDistinct m.declarations)
+    (face : HasProfile ticks m schema columns) where
+  ports_named : IsDistinct bytes_eq (port_names (input clk 1 ∷ profile ticks schema columns))
+  ports_named = all_distinct ticks m schema (output_ports columns) (outputs_out columns) distinct face
 
   outputs_named : IsDistinct bytes_eq (out_valid ∷ (port_names (column_outputs columns) ++ port_names tail))
   outputs_named =
       subst (λ (x : List (List ℕ)). IsDistinct bytes_eq (out_valid ∷ x)) (map-append (λ (p : ProfilePort). p.name) (column_outputs columns) tail)
-      (distinct_back (port_names (input_ports ticks schema)) (port_names (output_ports columns)) parts_named)
+      (distinct_back (port_names (input_ports ticks schema)) (port_names (output_ports columns)) (parts_named ticks m schema (output_ports columns) (outputs_out columns) distinct face))
 
   all_seen : Seen (column_outputs columns)
   unfolding IsDistinct
@@ -229,9 +272,9 @@ module _ (ticks : Bool) (m : Module) (schema : Schema) (columns : List Column) (
   -- a line of the result
   line_there : (name : List ℕ) → Stands (output name 1) (output_ports columns) → port_named m name ≡ Some (declared (output name 1))
   line_there name s =
-      let all = stands_next (output name 1) (input clk 1) behind (stands_behind (output name 1) (input_ports ticks schema) (output_ports columns) s) in
+      let all = stands_next (output name 1) (input clk 1) (profile ticks schema columns) (stands_behind (output name 1) (input_ports ticks schema) (output_ports columns) s) in
       ap (find (λ (d : Declaration). bytes_eq d.name name)) face
-      ∙ found_named {A = Declaration} (λ d. d.name) declared (λ x. refl) (input clk 1 ∷ behind) all.place (output name 1) all_distinct all.there
+      ∙ found_named {A = Declaration} (λ d. d.name) declared (λ x. refl) (input clk 1 ∷ profile ticks schema columns) all.place (output name 1) ports_named all.there
 
   tail_stands : (p : ProfilePort) → Stands p tail → Stands p (output_ports columns)
   tail_stands p s = stands_next p (output out_valid 1) (column_outputs columns ++ tail) (stands_behind p (column_outputs columns) tail s)
@@ -239,37 +282,11 @@ module _ (ticks : Bool) (m : Module) (schema : Schema) (columns : List Column) (
   line_is : (name : List ℕ) → IsLine (declared (output name 1))
   line_is name = record { output = refl; bit = refl }
 
-  asked_width : (i : ℕ) (p : ProfilePort) → slice_get (input_ports ticks schema) i ≡ Some p → input_width schema p.name ≡ Some p.width
-  asked_width i p h =
-      let own = distinct_front (port_names (input_ports ticks schema)) (port_names (output_ports columns)) parts_named in
-      let is_named : ProfilePort → Bool = λ q. bytes_eq q.name p.name in
-      let here : find is_named (input_ports ticks schema) ≡ Some p =
-      ap (find is_named) (sym (map_same (input_ports ticks schema)))
-      ∙ found_named {A = ProfilePort} (λ q. q.name) (λ q. q) (λ x. refl) (input_ports ticks schema) i p own h in
-      ap (option_map (λ (q : ProfilePort). q.width)) (find_asked ticks schema is_named p here)
-    where
-      map_same : (ps : List ProfilePort) → map (λ (q : ProfilePort). q) ps ≡ ps
-      map_same [] = refl
-      map_same (q ∷ ps) = ap (λ (x : List ProfilePort). q ∷ x) (map_same ps)
-
-  input_fits : (n : ℕ) (d : Declaration) → slice_get (map declared (input clk 1 ∷ behind)) n ≡ Some d → d.kind ≡ Input → is_clock d ≡ false → input_width schema d.name ≡ Some d.width
-  unfolding clk
-  input_fits zero d h is other =
-      let same : declared (input clk 1) ≡ d = cc in
-      let z : true ≡ false = ap is_clock same ∙ other in
-      absurd (let y : true ≡ false = z in cc)
-  input_fits (suc i) d h is other =
-      let p = get_unmapped declared behind i d h in
-      let kind : declared_kind p.0.direction ≡ Input = ap (λ (x : Declaration). x.kind) p.2 ∙ is in
-      let front = in_front (input_ports ticks schema) (output_ports columns) i p.0 (refl, outputs_out columns) p.1 kind in
-      subst (λ (x : Declaration). input_width schema x.name ≡ Some x.width) p.2 (asked_width i p.0 front)
-
   -- the schema is fitted by the module of a text, where the columns are as few and as narrow as those of a result
   pub fits : (text : List ℕ) → HasModule text m → length columns ≤ 32 → AllByRecursion IsKind (kinds_of columns) → FitsSchema m schema
-  unfolding clk
   fits text has few kinds = record {
-    clock = record { port = declared (input clk 1); there = ap (find (λ (d : Declaration). bytes_eq d.name clk)) face; input = refl; bit = refl };
-    inputs = λ n d at is other. input_fits n d (ap (λ (ds : List Declaration). slice_get ds n) (sym face) ∙ inputs_are_ports text m has n d at (rw is refl)) is other;
+    clock = clock_there ticks m schema (output_ports columns) (outputs_out columns) distinct face;
+    inputs = λ n d at is other. inputs_asked ticks m schema (output_ports columns) (outputs_out columns) distinct face n d (inputs_are_ports text m has n d at (rw is refl)) is other;
     valid = record { port = declared (output out_valid 1); there = line_there out_valid (record { place = 0; there = refl }); line = line_is out_valid };
     end = record { port = declared (output out_eos 1); there = line_there out_eos (tail_stands (output out_eos 1) (record { place = 0; there = refl })); line = line_is out_eos };
     group = rw (line_there fault_group (tail_stands (output fault_group 1) (record { place = 1; there = refl }))) (line_is fault_group);

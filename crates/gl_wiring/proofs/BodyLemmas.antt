@@ -28,7 +28,7 @@ use Rattle.gl_wire.proofs.DelayLemmas.{spaced_closer}
 use Rattle.gl_wire.proofs.ServingLemmas.{serving_as}
 use Rattle.gl_wiring.specs.Copies.{AreBodies, IsSpacedFor, LeavesRoom, cost_of_spaced, paceless}
 use Rattle.gl_wiring.specs.Leaves.{LeavesFit, leaf, widths_of}
-use Rattle.gl_wiring.specs.Put.{GivesAs, IsPut, counted}
+use Rattle.gl_wiring.specs.Put.{Gives, GivesAs}
 use Rattle.gl_wiring.proofs.CopyLemmas.{copy_fits}
 use Rattle.gl_wiring.proofs.CostLemmas.{costs_then}
 use Rattle.gl_wiring.proofs.GivesLemmas.{gives_kept}
@@ -46,8 +46,8 @@ no_more old new cost h = record { nodes = omega (arith, h.nodes); registers = om
 
 -- before a front, which keeps what stood before it, the source's rows are far enough apart
 module _ (nodes : List PlanNode) (source gap : ℕ) (g : Figures) (room : LeavesRoom gap (spaced gap (figures_of nodes source)) g)
-    (old mid net new : Net) (tick : Option Bit) (leaves : List Wire) (below between : Emitted) (h : IsPut nodes source old mid tick leaves below)
-    (sp : IsSpacedFor mid net gap (figures_of nodes source) below between) (keeps : Keeps net new) where
+    (old net new : Net) (tick : Option Bit) (leaves : List Wire) (below between : Emitted) (h : Gives nodes source old tick leaves below)
+    (sp : IsSpacedFor old net gap (figures_of nodes source) below between) (keeps : Keeps net new) where
   abbrev p : Figures
   p = figures_of nodes source
 
@@ -55,41 +55,40 @@ module _ (nodes : List PlanNode) (source gap : ℕ) (g : Figures) (room : Leaves
   f = spaced gap p
 
   columns : widths below.wire.columns ≡ widths_of (kinds_of nodes source)
-  columns = h.gives.same_widths
+  columns = h.same_widths
 
   pub columns_between : widths between.wire.columns ≡ widths_of (kinds_of nodes source)
   columns_between = sp.behind.same_widths ∙ columns
 
   pub source_keeps : Keeps old new
-  source_keeps = keeps_then old mid new h.keeps (keeps_then mid net new sp.behind.keeps keeps)
+  source_keeps = keeps_then old net new sp.behind.keeps keeps
 
   abbrev cost_up_to : Cost → Cost
   cost_up_to fore =
-      let own = counted nodes source in
       let spacer = cost_of_spaced gap p (widths_of (kinds_of nodes source)) in
       record {
-        nodes = own.nodes + spacer.nodes + fore.nodes;
-        registers = own.registers + spacer.registers + fore.registers;
-        memories = own.memories + spacer.memories + fore.memories;
+        nodes = spacer.nodes + fore.nodes;
+        registers = spacer.registers + fore.registers;
+        memories = spacer.memories + fore.memories;
       }
 
   pub source_cost : (fore : Cost) → CostsAtMost net new fore → CostsAtMost old new (cost_up_to fore)
   source_cost fore cost =
-      let spacer : CostsAtMost mid net (cost_of_spaced gap p (widths_of (kinds_of nodes source))) =
-      subst (λ (cs : List ℕ). CostsAtMost mid net (cost_of_spaced gap p cs)) columns sp.behind.cost in
-      costs_then old net new _ _ (costs_then old mid net _ _ h.cost spacer) cost
+      let spacer : CostsAtMost old net (cost_of_spaced gap p (widths_of (kinds_of nodes source))) =
+      subst (λ (cs : List ℕ). CostsAtMost old net (cost_of_spaced gap p cs)) columns sp.behind.cost in
+      costs_then old net new _ _ spacer cost
 
   pub source_gives : GivesAs (paceless (shape_of nodes source)) f (IsPlanResult nodes source) new tick leaves between
   source_gives =
       gives_kept _ f _ net new tick leaves between keeps
-      (behind_same (shape_of nodes source) p f (IsPlanResult nodes source) mid net tick leaves below between _ _ h.gives sp.behind columns (no_closer gap p))
+      (behind_same (shape_of nodes source) p f (IsPlanResult nodes source) old net tick leaves below between _ _ h sp.behind columns (no_closer gap p))
 
   pub source_apart : (run : Run) → IsRun new run → (beats : Beats) → Spaced g beats → LeavesFit run tick leaves beats
       → CarriesApart gap (carried run between.wire)
   source_apart run r beats spaced_beats has =
       let run_net = keeps.runs run r in
       let of_spaced = spaced_closer f g beats room.closer spaced_beats in
-      let before = h.gives.serving run (sp.behind.keeps.runs run run_net) beats (spaced_closer p f beats (no_closer gap p) of_spaced) has in
+      let before = h.serving run (sp.behind.keeps.runs run run_net) beats (spaced_closer p f beats (no_closer gap p) of_spaced) has in
       sp.apart run run_net g room beats spaced_beats before.fits
 
 -- ---- the copies

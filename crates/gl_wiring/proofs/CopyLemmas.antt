@@ -27,7 +27,7 @@ use Rattle.gl_wire.proofs.ClosingLemmas.{own_fits}
 use Rattle.gl_wiring.specs.Leaves.{HaveLeaves, LeavesFit, widths_of}
 use Rattle.gl_wiring.specs.Put.{CanPut, HasColumns, IsPut, counted}
 use Rattle.gl_wiring.specs.Copies.{AreBodies, CanCopy}
-use Rattle.gl_wiring.proofs.CanLemmas.{can_body, leaves_kept}
+use Rattle.gl_wiring.proofs.CanLemmas.{can_body, leaves_kept, second_within}
 use Rattle.gl_wiring.proofs.GivesLemmas.{gives_kept}
 
 -- a wire is the leaf of a body whose input has its columns
@@ -54,6 +54,7 @@ pub can_copies : (nodes : List PlanNode) (figures : List Figures) (id source bod
     → ((k : ℕ) (wire : Wire) → slice_get wires k ≡ Some wire → IsWire net wire × (widths wire.columns ≡ widths_of (kinds_of nodes source)))
     → CanCopy nodes figures body net wires
 can_copies nodes figures id source body node old net tick leaves wires plan at named for can has = record {
+  within = second_within nodes id node plan at source body named;
   each = λ k wire at_wire.
       let x = has k wire at_wire in
       (can_body nodes figures id node old tick leaves plan at can source body wire (kinds_of nodes source) net named

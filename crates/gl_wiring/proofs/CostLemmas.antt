@@ -5,29 +5,28 @@ use Rattle.std.proofs.lemmas.List.{length-map}
 use Rattle.gl_bits.specs.Kinds.{IsKind, width_of}
 use Rattle.gl_bits.specs.declared.kind.Kind.{Kind}
 use Rattle.gl_algebra.specs.declared.node.PlanNode.{PlanNode}
-use Rattle.gl_algebra.specs.Cost.{keys_of, lean_of, store_of}
-use Rattle.gl_algebra.specs.Weights.{weight_of}
+use Rattle.gl_reach.specs.Reach.{keys_part, lean_part, store_part, weight_part}
 use Rattle.gl_net.specs.Net.{Net}
 use Rattle.gl_wire.specs.Counted.{IsCounted}
 use Rattle.gl_rows.specs.Costs.{cost_of_items, cost_of_rows}
 use Rattle.gl_wire.specs.Costs.{Cost, CostsAtMost}
 use Rattle.gl_wire.proofs.CountLemmas.{narrow_kinds, narrow_sum}
 use Rattle.gl_wiring.specs.Leaves.{widths_of}
-use Rattle.gl_wiring.specs.Put.{counted}
+use Rattle.gl_wiring.specs.Put.{counted_own}
 
--- a node's circuit costs what its children cost, and its own part
-pub record IsSum (nodes : List PlanNode) (id weight lean store : ℕ) (children : Cost) : Type 0 where
-  pub weight' : weight_of nodes id ≡ children.nodes + weight
-  pub lean' : 64 * lean_of nodes id + keys_of nodes id ≡ children.registers + 64 * lean
-  pub store' : store_of nodes id ≡ children.memories + store
+-- a node's own part
+pub record IsOwn (nodes : List PlanNode) (id weight lean store : ℕ) : Type 0 where
+  pub weight' : weight_part nodes id ≡ weight
+  pub lean' : 64 * lean_part nodes id + keys_part nodes id ≡ 64 * lean
+  pub store' : store_part nodes id ≡ store
 
 -- one block behind what was put
-pub cost_behind : (nodes : List PlanNode) (id weight lean store : ℕ) (old mid new : Net) (children most : Cost) → IsSum nodes id weight lean store children
-    → CostsAtMost old mid children → CostsAtMost mid new most → IsCounted most weight lean store → CostsAtMost old new (counted nodes id)
-cost_behind nodes id weight lean store old mid new children most s h b c = record {
-  nodes = omega (arith, h.nodes, b.nodes, c.nodes, s.weight');
-  registers = omega (arith, h.registers, b.registers, c.registers, s.lean');
-  memories = omega (arith, h.memories, b.memories, c.memories, s.store');
+pub cost_behind : (nodes : List PlanNode) (id weight lean store : ℕ) (old new : Net) (most : Cost) → IsOwn nodes id weight lean store
+    → CostsAtMost old new most → IsCounted most weight lean store → CostsAtMost old new (counted_own nodes id)
+cost_behind nodes id weight lean store old new most s b c = record {
+  nodes = omega (arith, b.nodes, c.nodes, s.weight');
+  registers = omega (arith, b.registers, c.registers, s.lean');
+  memories = omega (arith, b.memories, c.memories, s.store');
 }
 
 -- what was put in two steps
@@ -42,8 +41,8 @@ costs_then old mid new p q h i = record {
 }
 
 -- the bits of memories of all parts, and a cost that is within what is counted
-pub stored_within : (source bodies spacer : ℕ) → source + spacer + 0 + bodies + 0 ≤ source + (bodies + spacer)
-stored_within source bodies spacer = omega arith
+pub stored_within : (bodies spacer : ℕ) → spacer + 0 + bodies + 0 ≤ bodies + spacer
+stored_within bodies spacer = omega arith
 
 pub at_most : (new old added counts : ℕ) → new ≤ old + added → added ≤ counts → new ≤ old + counts
 at_most new old added counts h k = omega (arith, h, k)

@@ -12,11 +12,11 @@ use Rattle.gl_algebra.specs.Cost.{keys_of, keys_of_groups, lean_of, lean_of_grou
 use Rattle.gl_algebra.specs.Direct.{Form, copied, rowwise, totalling, form_of, is_direct}
 use Rattle.gl_algebra.specs.FigureTable.{figures_of, group_gap}
 use Rattle.gl_algebra.specs.Fits.{IsPlan}
-use Rattle.gl_algebra.specs.Laws.{FollowsTables}
 use Rattle.gl_algebra.specs.Shapes.{kinds_of}
 use Rattle.gl_algebra.specs.Weights.{weight_of, weight_of_copies}
-use Rattle.gl_algebra.proofs.TableLemmas.{nodes_follow_tables}
 use Rattle.gl_net.specs.Net.{Net}
+use Rattle.gl_reach.specs.Reach.{keys_part, lean_part, store_part, weight_part}
+use Rattle.gl_reach.proofs.PartLemmas.{HasParts, parts_at}
 use Rattle.gl_groups.specs.Costs.{IsCounted, cost_of_back, cost_of_front, cost_of_grouping, counted_for}
 use Rattle.gl_groups.proofs.CostLemmas.{groupings_are_counted}
 use Rattle.gl_wire.specs.Costs.{Cost, CostsAtMost}
@@ -25,19 +25,19 @@ use Rattle.gl_wiring.specs.declared.groups.GroupOf.{GroupOf}
 use Rattle.gl_wiring.specs.Copies.{cost_of_spaced, times}
 use Rattle.gl_wiring.specs.Groups.{IsGroupNode, cost_to_slots}
 use Rattle.gl_wiring.specs.Leaves.{widths_of}
-use Rattle.gl_wiring.specs.Put.{counted}
+use Rattle.gl_wiring.specs.Put.{counted, counted_own}
 use Rattle.gl_wiring.proofs.CostLemmas.{at_most, costs_then, stored_within}
 
 -- nodes, bits of registers, and bits of memories
-nodes_within : (source body spacer front back c s o : ℕ) → front + back ≤ weight_of_copies c 0 s o
-    → source + spacer + front + c * body + back ≤ source + (weight_of_copies c body s o + spacer)
-nodes_within source body spacer front back c s o h =
+nodes_within : (body spacer front back c s o : ℕ) → front + back ≤ weight_of_copies c 0 s o
+    → spacer + front + c * body + back ≤ weight_of_copies c body s o + spacer
+nodes_within body spacer front back c s o h =
     let each : c * (body + 8 * (s + o + 4)) ≡ c * body + c * (0 + 8 * (s + o + 4)) = omega arith in
     omega (arith, h, each)
 
-bits_within : (source keys body own_keys spacer front back c s o : ℕ) → front + back ≤ 64 * weight_of_copies c 0 s o
-    → 64 * source + keys + 64 * spacer + front + c * (64 * body + own_keys) + back ≤ 64 * (source + (weight_of_copies c body s o + spacer)) + (keys + c * own_keys)
-bits_within source keys body own_keys spacer front back c s o h =
+bits_within : (body own_keys spacer front back c s o : ℕ) → front + back ≤ 64 * weight_of_copies c 0 s o
+    → 64 * spacer + front + c * (64 * body + own_keys) + back ≤ 64 * (weight_of_copies c body s o + spacer) + c * own_keys
+bits_within body own_keys spacer front back c s o h =
     let each : c * (body + 8 * (s + o + 4)) ≡ c * body + c * (0 + 8 * (s + o + 4)) = omega arith in
     let bits : c * (64 * body + own_keys) ≡ 64 * (c * body) + c * own_keys = omega arith in
     omega (arith, h, each, bits)
@@ -88,14 +88,14 @@ module _ (nodes : List PlanNode) (g : GroupOf) (plan : IsPlan nodes) (at : IsGro
   own_lines : length own ≡ length own_kinds
   own_lines = length-map own_kinds width_of
 
-  follows : FollowsTables nodes g.id (Group g.source g.body g.key g.groups)
-  follows = nodes_follow_tables nodes g.id (Group g.source g.body g.key g.groups) plan at
+  parts : HasParts nodes g.id (Group g.source g.body g.key g.groups)
+  parts = parts_at nodes g.id (Group g.source g.body g.key g.groups) at
 
   grouping : IsCounted (cost_of_grouping g.groups g.key source own) (counted_for g.groups source own)
   grouping = groupings_are_counted g.groups g.key source own (narrow_kinds (kinds_of nodes g.source) kinds_source) (narrow_kinds own_kinds kinds_own)
 
-  weight : weight_of nodes g.id ≡ weight_of nodes g.source + (lines (weight_of nodes g.body) + spacer.nodes)
-  weight = rw (source_lines, own_lines) follows.weight
+  weight : weight_part nodes g.id ≡ lines (weight_of nodes g.body) + spacer.nodes
+  weight = rw (source_lines, own_lines) parts.weight
 
   abbrev lean_spacer : ℕ
   lean_spacer = lean_of_spacer (group_gap (figures_of nodes g.body)) (figures_of nodes g.source) (length source + 2)
@@ -109,28 +109,25 @@ module _ (nodes : List PlanNode) (g : GroupOf) (plan : IsPlan nodes) (at : IsGro
   abbrev store_spacer_of : ℕ
   store_spacer_of = store_of_spacer (group_gap (figures_of nodes g.body)) (figures_of nodes g.source) lines_source
 
-  lean : lean_of nodes g.id ≡ lean_of nodes g.source + (lines (lean_of nodes g.body) + lean_spacer)
-  lean = rw (source_lines, own_lines) (follows.lean ∙ ap (λ n. lean_of nodes g.source + (n + lean_spacer_of))
-      (lean_copied (form_of nodes g.body) copies g.groups (lean_of nodes g.body) _ _))
+  lean : lean_part nodes g.id ≡ lines (lean_of nodes g.body) + lean_spacer
+  lean = rw (source_lines, own_lines) (parts.lean ∙ ap (λ n. n + lean_spacer_of) (lean_copied (form_of nodes g.body) copies g.groups (lean_of nodes g.body) _ _))
 
-  keys : keys_of nodes g.id ≡ keys_of nodes g.source + g.groups * keys_of nodes g.body
-  keys = follows.keys ∙ ap (λ n. keys_of nodes g.source + n) (keys_copied (form_of nodes g.body) copies g.groups (keys_of nodes g.body) _)
+  keys : keys_part nodes g.id ≡ g.groups * keys_of nodes g.body
+  keys = parts.keys ∙ keys_copied (form_of nodes g.body) copies g.groups (keys_of nodes g.body) _
 
-  store : store_of nodes g.id ≡ store_of nodes g.source + (g.groups * store_of nodes g.body + spacer.memories)
-  store = rw source_lines (follows.store ∙ ap (λ n. store_of nodes g.source + (n + store_spacer_of))
-      (store_copied (form_of nodes g.body) copies g.groups (store_of nodes g.body)))
+  store : store_part nodes g.id ≡ g.groups * store_of nodes g.body + spacer.memories
+  store = rw source_lines (parts.store ∙ ap (λ n. n + store_spacer_of) (store_copied (form_of nodes g.body) copies g.groups (store_of nodes g.body)))
 
   pub group_cost : (old mid net new : Net) → CostsAtMost old mid (cost_to_slots nodes g) → CostsAtMost mid net (times g.groups (counted nodes g.body))
-      → CostsAtMost net new (cost_of_back g.groups own) → CostsAtMost old new (counted nodes g.id)
+      → CostsAtMost net new (cost_of_back g.groups own) → CostsAtMost old new (counted_own nodes g.id)
   group_cost old mid net new front bodies back =
       let all = costs_then old net new _ _ (costs_then old mid net _ _ front bodies) back in
       record {
         nodes = rw weight (at_most _ _ _ _ all.nodes
-            (nodes_within (weight_of nodes g.source) (weight_of nodes g.body) spacer.nodes (cost_of_front g.groups g.key source).nodes (cost_of_back g.groups own).nodes
+            (nodes_within (weight_of nodes g.body) spacer.nodes (cost_of_front g.groups g.key source).nodes (cost_of_back g.groups own).nodes
             g.groups (length source + 2) (length own + 2) grouping.nodes));
         registers = rw (lean, keys) (at_most _ _ _ _ all.registers
-            (bits_within (lean_of nodes g.source) (keys_of nodes g.source) (lean_of nodes g.body) (keys_of nodes g.body) lean_spacer (cost_of_front g.groups g.key source).registers
+            (bits_within (lean_of nodes g.body) (keys_of nodes g.body) lean_spacer (cost_of_front g.groups g.key source).registers
             (cost_of_back g.groups own).registers g.groups (length source + 2) (length own + 2) grouping.registers));
-        memories = rw store (at_most _ _ _ _ all.memories
-            (stored_within (store_of nodes g.source) (g.groups * store_of nodes g.body) spacer.memories));
+        memories = rw store (at_most _ _ _ _ all.memories (stored_within (g.groups * store_of nodes g.body) spacer.memories));
       }

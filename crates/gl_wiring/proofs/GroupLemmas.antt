@@ -48,7 +48,7 @@ use Rattle.gl_wiring.specs.declared.groups.GroupOf.{GroupOf}
 use Rattle.gl_wiring.specs.Copies.{AreBodies, CanCopy, IsSpacedFor, LeavesRoom, paceless}
 use Rattle.gl_wiring.specs.Groups.{IsGroupFront, IsGroupNode, group_whole, grouping_of, spaced_source}
 use Rattle.gl_wiring.specs.Leaves.{leaf, widths_of}
-use Rattle.gl_wiring.specs.Put.{CanPut, GivesAs, HasColumns, IsPut}
+use Rattle.gl_wiring.specs.Put.{CanPut, Gives, GivesAs, HasColumns, IsPutBehind}
 use Rattle.gl_wiring.proofs.BodyLemmas.{columns_between, copies_serve, no_more, source_apart, source_cost, source_gives, source_keeps}
 use Rattle.gl_wiring.proofs.CanLemmas.{first_within, second_within}
 use Rattle.gl_wiring.proofs.CopyLemmas.{bodies_columns, can_copies}
@@ -119,22 +119,22 @@ module _ (nodes : List PlanNode) (g : GroupOf) (plan : IsPlan nodes) (at : IsGro
       omega (arith, fits.suits.1, as_many between.wire.columns (kinds_of nodes g.source) (same ∙ of_source))
 
   -- the source spaced, and the front behind it
-  pub front_put : (old mid net new : Net) (tick : Option Bit) (leaves : List Wire) (below between : Emitted) (front : Fronted) → IsPut nodes g.source old mid tick leaves below
-      → IsSpacedFor mid net (group_gap s) (figures_of nodes g.source) below between → IsFronted net new (grouping_of nodes g) between front
+  pub front_put : (old net new : Net) (tick : Option Bit) (leaves : List Wire) (below between : Emitted) (front : Fronted) → Gives nodes g.source old tick leaves below
+      → IsSpacedFor old net (group_gap s) (figures_of nodes g.source) below between → IsFronted net new (grouping_of nodes g) between front
       → IsGroupFront nodes g old new tick leaves front
-  front_put old mid net new tick leaves below between front put sp fr =
+  front_put old net new tick leaves below between front put sp fr =
       let gap = group_gap s in
-      let columns = columns_between nodes g.source gap h room old mid net new tick leaves below between put sp fr.keeps in
+      let columns = columns_between nodes g.source gap h room old net new tick leaves below between put sp fr.keeps in
       let fore : CostsAtMost net new (cost_of_front g.groups g.key (widths_of (kinds_of nodes g.source))) =
       subst (λ (cs : List ℕ). CostsAtMost net new (cost_of_front g.groups g.key cs)) columns (no_more net new _ fr.cost) in
       record {
-        keeps = source_keeps nodes g.source gap h room old mid net new tick leaves below between put sp fr.keeps;
-        cost = source_cost nodes g.source gap h room old mid net new tick leaves below between put sp fr.keeps _ fore;
+        keeps = source_keeps nodes g.source gap h room old net new tick leaves below between put sp fr.keeps;
+        cost = source_cost nodes g.source gap h room old net new tick leaves below between put sp fr.keeps _ fore;
         gives = subst (GivesAs (paceless (shape_of nodes g.source)) f (IsPlanResult nodes g.source) new tick leaves) (sym fr.same)
-            (source_gives nodes g.source gap h room old mid net new tick leaves below between put sp fr.keeps);
+            (source_gives nodes g.source gap h room old net new tick leaves below between put sp fr.keeps);
         apart = λ run r beats spaced_beats has.
             subst (λ (e : Emitted). CarriesApart gap (carried run e.wire)) (sym fr.same)
-            (source_apart nodes g.source gap h room old mid net new tick leaves below between put sp fr.keeps run r beats spaced_beats has);
+            (source_apart nodes g.source gap h room old net new tick leaves below between put sp fr.keeps run r beats spaced_beats has);
         fronts = fr.fronts;
       }
 
@@ -160,7 +160,7 @@ module _ (nodes : List PlanNode) (g : GroupOf) (plan : IsPlan nodes) (at : IsGro
   -- the back behind the copies
   pub back_put : (old mid net new : Net) (tick : Option Bit) (leaves : List Wire) (front : Fronted) (copies : List Emitted) (e : Emitted) → IsGroupFront nodes g old mid tick leaves front
       → AreBodies nodes g.body mid net front.wires (length front.wires) copies → IsBacked net new (grouping_of nodes g) front copies e
-      → is_direct (form_of nodes g.body) ≡ false → IsPut nodes g.id old new tick leaves e
+      → is_direct (form_of nodes g.body) ≡ false → IsPutBehind nodes g.id old new tick leaves e
   back_put old mid net new tick leaves front copies e fr bodies b copied =
       let many : length front.wires ≡ g.groups = fr.fronts.as_many in
       let are : AreBodies nodes g.body mid net front.wires g.groups copies =

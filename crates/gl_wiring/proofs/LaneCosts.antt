@@ -10,7 +10,7 @@ use Rattle.gl_algebra.specs.declared.node.PlanAgg.{PlanAgg}
 use Rattle.gl_algebra.specs.declared.node.PlanNode.{PlanNode}
 use Rattle.gl_algebra.specs.declared.node.PlanNode.TheVariants.{Aggregate, Group}
 use Rattle.gl_algebra.specs.Columns.{kind_of_agg, kind_of_column}
-use Rattle.gl_algebra.specs.Cost.{keys_of, lean_of, lean_of_spacer, ring, store_of}
+use Rattle.gl_algebra.specs.Cost.{lean_of, lean_of_spacer, ring}
 use Rattle.gl_algebra.specs.Direct.{totalling, form_of}
 use Rattle.gl_algebra.specs.FigureTable.{delay_of_aggs, figures_of, group_gap}
 use Rattle.gl_algebra.specs.Fits.{IsPlan}
@@ -19,6 +19,8 @@ use Rattle.gl_algebra.specs.Shapes.{kinds_of}
 use Rattle.gl_algebra.specs.Weights.{weight_of, weight_of_agg, weight_of_copies}
 use Rattle.gl_algebra.proofs.TableLemmas.{nodes_follow_tables}
 use Rattle.gl_net.specs.Net.{Net}
+use Rattle.gl_reach.specs.Reach.{keys_part, lean_part, store_part, weight_part}
+use Rattle.gl_reach.proofs.PartLemmas.{HasParts, parts_at}
 use Rattle.gl_groups.specs.Picks.{bits_of_slots}
 use Rattle.gl_wire.specs.Costs.{Cost, Costs, CostsAtMost, nodes_alone}
 use Rattle.gl_wire_registers.specs.Held.{with_registers}
@@ -28,7 +30,7 @@ use Rattle.gl_wiring.specs.Groups.{IsGroupNode}
 use Rattle.gl_wiring.specs.LaneGroups.{cost_to_lane}
 use Rattle.gl_wiring.specs.Lanes.{cost_of_body}
 use Rattle.gl_wiring.specs.Leaves.{widths_of}
-use Rattle.gl_wiring.specs.Put.{counted}
+use Rattle.gl_wiring.specs.Put.{counted_own}
 use Rattle.gl_wiring.proofs.CostLemmas.{bits_within}
 use Rattle.gl_wiring.proofs.GroupCosts.{key_width_is}
 
@@ -55,17 +57,17 @@ once : (n x : ℕ) → 1 ≤ n → x ≤ n * x
 once zero x some = absurd (omega (arith, some))
 once (suc n) x some = let e : suc n * x ≡ x + n * x = omega arith in omega (arith, e)
 
-nodes_within : (source body child spacer parts n a k m : ℕ) → 1 ≤ n → 1 ≤ k → m ≤ 98 → body ≡ child + (4 * (k + 2) + (parts + k * (m + 1)))
-    → source + spacer + (n * 51 + a * 2 + 65) + (child + (2 * (m + 1) + 6 * k + parts)) + (n * 4 + k + 3) + 2 ≤ source + (weight_of_copies n body (a + 2) (k + 1 + 2) + spacer)
-nodes_within source body child spacer parts n a k m some aggs few is =
+nodes_within : (body child spacer parts n a k m : ℕ) → 1 ≤ n → 1 ≤ k → m ≤ 98 → body ≡ child + (4 * (k + 2) + (parts + k * (m + 1)))
+    → spacer + (n * 51 + a * 2 + 65) + (child + (2 * (m + 1) + 6 * k + parts)) + (n * 4 + k + 3) + 2 ≤ weight_of_copies n body (a + 2) (k + 1 + 2) + spacer
+nodes_within body child spacer parts n a k m some aggs few is =
     let each : n * (body + 8 * (a + 2 + (k + 1 + 2) + 4)) ≡ n * body + 8 * (n * a) + 8 * (n * k) + 72 * n = omega arith in
     let product : k * (m + 1) ≡ k * m + k = omega arith in
     omega (arith, each, product, once n body some, once k m aggs, some, few, is)
 
-bits_of : (source keys body child spacer n a k m w bits front out : ℕ) → child ≤ body → front ≤ 64 * a → bits ≤ 8 → out ≤ 64 * (k + 1)
-    → 64 * source + keys + 64 * spacer + (n * (w + 2) + front + bits * 2 + 104) + (64 * child + 256 * (k * m)) + (out + 2)
-    ≤ 64 * (source + (body + 4 * (a + 2 + (k + 1 + 2) + 8) + 4 * (k * m) + spacer)) + (keys + n * (w + 2))
-bits_of source keys body child spacer n a k m w bits front out less columns few own = omega (arith, less, columns, few, own)
+bits_of : (body child spacer n a k m w bits front out : ℕ) → child ≤ body → front ≤ 64 * a → bits ≤ 8 → out ≤ 64 * (k + 1)
+    → 64 * spacer + (n * (w + 2) + front + bits * 2 + 104) + (64 * child + 256 * (k * m)) + (out + 2)
+    ≤ 64 * (body + 4 * (a + 2 + (k + 1 + 2) + 8) + 4 * (k * m) + spacer) + n * (w + 2)
+bits_of body child spacer n a k m w bits front out less columns few own = omega (arith, less, columns, few, own)
 
 -- all parts
 module _ (nodes : List PlanNode) (g : GroupOf) (plan : IsPlan nodes) (at : IsGroupNode nodes g) (kinds_source : All IsKind (kinds_of nodes g.source))
@@ -98,8 +100,8 @@ module _ (nodes : List PlanNode) (g : GroupOf) (plan : IsPlan nodes) (at : IsGro
   source_lines : length source ≡ length (kinds_of nodes g.source)
   source_lines = length-map (kinds_of nodes g.source) width_of
 
-  follows : FollowsTables nodes g.id (Group g.source g.body g.key g.groups)
-  follows = nodes_follow_tables nodes g.id (Group g.source g.body g.key g.groups) plan at
+  own_parts : HasParts nodes g.id (Group g.source g.body g.key g.groups)
+  own_parts = parts_at nodes g.id (Group g.source g.body g.key g.groups) at
 
   below : FollowsTables nodes g.body (Aggregate child aggs)
   below = nodes_follow_tables nodes g.body (Aggregate child aggs) plan at_body
@@ -123,34 +125,34 @@ module _ (nodes : List PlanNode) (g : GroupOf) (plan : IsPlan nodes) (at : IsGro
   lean_body : lean_of nodes child ≤ lean_of nodes g.body
   lean_body = omega (arith, below.lean)
 
-  weight : weight_of nodes g.id ≡ weight_of nodes g.source + (weight_of_copies g.groups (weight_of nodes g.body) (length source + 2) (length aggs + 1 + 2) + spacer.nodes)
+  weight : weight_part nodes g.id ≡ weight_of_copies g.groups (weight_of nodes g.body) (length source + 2) (length aggs + 1 + 2) + spacer.nodes
   weight =
       let lines : suc (length (kinds_of nodes g.body)) ≡ length aggs + 1 = omega (arith, many_kinds) in
-      rw source_lines (rw lines at follows.weight)
+      rw source_lines (rw lines at own_parts.weight)
 
-  lean : lean_of nodes g.id ≡ lean_of nodes g.source
-      + (lean_of nodes g.body + 4 * (length source + 2 + (length aggs + 1 + 2) + 8) + 4 * (length aggs * delay) + lean_spacer)
+  lean : lean_part nodes g.id
+      ≡ lean_of nodes g.body + 4 * (length source + 2 + (length aggs + 1 + 2) + 8) + 4 * (length aggs * delay) + lean_spacer
   lean =
       let lines : suc (length (kinds_of nodes g.body)) ≡ length aggs + 1 = omega (arith, many_kinds) in
-      rw source_lines (rw (lines, form) at follows.lean)
+      rw source_lines (rw (lines, form) at own_parts.lean)
 
-  keys : keys_of nodes g.id ≡ keys_of nodes g.source + g.groups * (w + 2)
-  keys = rw form at follows.keys
+  keys : keys_part nodes g.id ≡ g.groups * (w + 2)
+  keys = rw form at own_parts.keys
 
-  store : store_of nodes g.id ≡ store_of nodes g.source + (128 * (length aggs * 2 ^ bits_of_slots g.groups) + spacer.memories)
+  store : store_part nodes g.id ≡ 128 * (length aggs * 2 ^ bits_of_slots g.groups) + spacer.memories
   unfolding ring
-  store = rw source_lines (rw form at follows.store)
+  store = rw source_lines (rw form at own_parts.store)
 
   pub lane_cost : (old mid net last new : Net) → CostsAtMost old mid (cost_to_lane nodes g)
       → CostsAtMost mid net (cost_of_body nodes child aggs (bits_of_slots g.groups))
-      → Costs net last (with_registers (g.groups * 4 + length aggs + 3) (sum own + 2)) → CostsAtMost last new (nodes_alone 2) → CostsAtMost old new (counted nodes g.id)
+      → Costs net last (with_registers (g.groups * 4 + length aggs + 3) (sum own + 2)) → CostsAtMost last new (nodes_alone 2) → CostsAtMost old new (counted_own nodes g.id)
   lane_cost old mid net last new front tables gathered lines =
       let key : slice_index source g.key ≡ w = key_width_is (kinds_of nodes g.source) g.key within in
-      let n = nodes_within (weight_of nodes g.source) (weight_of nodes g.body) (weight_of nodes child) spacer.nodes parts g.groups (length source) (length aggs) delay
+      let n = nodes_within (weight_of nodes g.body) (weight_of nodes child) spacer.nodes parts g.groups (length source) (length aggs) delay
       some many fast weight_body in
       let columns : sum source ≤ 64 * length source = omega (arith, bits_within (kinds_of nodes g.source) kinds_source, source_lines) in
       let out : sum own ≤ 64 * (length aggs + 1) = omega (arith, bits_within own_kinds kinds_own, many_kinds) in
-      let b = bits_of (lean_of nodes g.source) (keys_of nodes g.source) (lean_of nodes g.body) (lean_of nodes child) lean_spacer g.groups (length source) (length aggs) delay
+      let b = bits_of (lean_of nodes g.body) (lean_of nodes child) lean_spacer g.groups (length source) (length aggs) delay
       (slice_index source g.key) (bits_of_slots g.groups) (sum source) (sum own) lean_body columns few out in
       let bits : g.groups * (slice_index source g.key + 2) ≡ g.groups * (w + 2) = ap (λ x. g.groups * (x + 2)) key in
       record {

@@ -68,7 +68,7 @@ use Rattle.gl_wiring.specs.Groups.{IsGroupNode, group_whole, grouping_of, spaced
 use Rattle.gl_wiring.specs.LaneGroups.{HasLane, IsGroupLane}
 use Rattle.gl_wiring.specs.Lanes.{IsBodyTable, IsDirectBehind, cost_of_body, place_of}
 use Rattle.gl_wiring.specs.Leaves.{HaveLeaves, leaf, widths_of}
-use Rattle.gl_wiring.specs.Put.{IsPut, counted}
+use Rattle.gl_wiring.specs.Put.{Gives, IsPutBehind, counted_own}
 use Rattle.gl_wiring.proofs.BodyLemmas.{columns_between, no_more, source_apart, source_cost, source_gives, source_keeps}
 use Rattle.gl_wiring.proofs.CanLemmas.{first_within}
 use Rattle.gl_wiring.proofs.CopyLemmas.{body_leaves}
@@ -147,20 +147,20 @@ module _ (nodes : List PlanNode) (g : GroupOf) (plan : IsPlan nodes) (at : IsGro
   h = group_whole nodes g
 
   -- the source spaced, and the lane behind it
-  pub lane_behind : (old mid net new : Net) (tick : Option Bit) (leaves : List Wire) (below between : Emitted) (l : Lane) → IsPut nodes g.source old mid tick leaves below
-      → IsSpacedFor mid net (group_gap s) (figures_of nodes g.source) below between → IsLaned net new (grouping_of nodes g) between.wire l
+  pub lane_behind : (old net new : Net) (tick : Option Bit) (leaves : List Wire) (below between : Emitted) (l : Lane) → Gives nodes g.source old tick leaves below
+      → IsSpacedFor old net (group_gap s) (figures_of nodes g.source) below between → IsLaned net new (grouping_of nodes g) between.wire l
       → IsGroupLane nodes g old new tick leaves (record { source = between; lane = l })
-  lane_behind old mid net new tick leaves below between l put sp is =
+  lane_behind old net new tick leaves below between l put sp is =
       let gap = group_gap s in
       let apart = room nodes g plan at in
-      let columns = columns_between nodes g.source gap h apart old mid net new tick leaves below between put sp is.keeps in
+      let columns = columns_between nodes g.source gap h apart old net new tick leaves below between put sp is.keeps in
       let fore : CostsAtMost net new (cost_of_lane g.groups g.key (widths_of (kinds_of nodes g.source))) =
       subst (λ (cs : List ℕ). CostsAtMost net new (cost_of_lane g.groups g.key cs)) columns (no_more net new _ is.cost) in
       record {
-        keeps = source_keeps nodes g.source gap h apart old mid net new tick leaves below between put sp is.keeps;
-        cost = source_cost nodes g.source gap h apart old mid net new tick leaves below between put sp is.keeps _ fore;
-        gives = source_gives nodes g.source gap h apart old mid net new tick leaves below between put sp is.keeps;
-        apart = source_apart nodes g.source gap h apart old mid net new tick leaves below between put sp is.keeps;
+        keeps = source_keeps nodes g.source gap h apart old net new tick leaves below between put sp is.keeps;
+        cost = source_cost nodes g.source gap h apart old net new tick leaves below between put sp is.keeps _ fore;
+        gives = source_gives nodes g.source gap h apart old net new tick leaves below between put sp is.keeps;
+        apart = source_apart nodes g.source gap h apart old net new tick leaves below between put sp is.keeps;
         lane = is.lane;
       }
 
@@ -234,7 +234,7 @@ module _ (nodes : List PlanNode) (g : GroupOf) (plan : IsPlan nodes) (at : IsGro
     tables : CostsAtMost mid net (cost_of_body nodes t.child t.aggs (bits_of_slots g.groups))
     tables = subst (λ (w : ℕ). CostsAtMost mid net (cost_of_body nodes t.child t.aggs w)) is.lane.slot_width t.cost
 
-    cost : CostsAtMost old new (counted nodes g.id)
+    cost : CostsAtMost old new (counted_own nodes g.id)
     cost =
         let kinds = kinds_of nodes t.child in
         let in_child = first_within nodes g.body (Aggregate t.child t.aggs) plan t.at t.child [] refl in
@@ -340,7 +340,7 @@ module _ (nodes : List PlanNode) (g : GroupOf) (plan : IsPlan nodes) (at : IsGro
           (line_at run l.lane.further) (line_at run l.lane.close) nodes g.body (sound_source nodes g plan at) (fits nodes g plan at).suits.2.least laned t.means beats
           (subst (λ (z : Figures). Spaced (groups_over g.groups f z) beats) t.figures spaced_beats) fitting)
 
-    pub gathered_put : IsPut nodes g.id old new tick leaves (record { wire = wire; faults = faults })
+    pub gathered_put : IsPutBehind nodes g.id old new tick leaves (record { wire = wire; faults = faults })
     gathered_put = record {
       keeps = keeps_then old mid new is.keeps (keeps_then mid net new t.keeps (keeps_then net last new ga.keeps both.keeps));
       cost = cost;

@@ -24,7 +24,7 @@ use Rattle.gl_wire.specs.Serving.{inputs_at}
 use Rattle.gl_wire.specs.Wire.{Carried, IsWire, carried, stream, widths}
 use Rattle.gl_wire.proofs.ServingLemmas.{leaf_serving, serving_as}
 use Rattle.gl_wiring.specs.Leaves.{HasLeaf, HaveLeaves, carried_by, leaf, leaf_kinds, leaf_place, widths_of}
-use Rattle.gl_wiring.specs.Put.{GivesAs, IsPut, counted}
+use Rattle.gl_wiring.specs.Put.{GivesAs, IsPutBehind, counted_own}
 
 -- a leaf's wire gives the leaf
 leaf_gives : (s : Shape) (m : Meaning) (k : ℕ) (net : Net) (tick : Option Bit) (leaves : List Wire) (e : Emitted) → slice_get leaves k ≡ Some e.wire → e.faults ≡ no_faults
@@ -59,7 +59,7 @@ leaf_wire net leaves node w h at = let same : h.wire ≡ w = let z = h.there in 
     (subst (IsWire net) same h.is, subst (λ (x : Wire). widths x.columns ≡ widths_of (leaf_kinds node)) same h.same_widths)
 
 -- nothing is added
-no_cost : (nodes : List PlanNode) (id : ℕ) (net : Net) → CostsAtMost net net (counted nodes id)
+no_cost : (nodes : List PlanNode) (id : ℕ) (net : Net) → CostsAtMost net net (counted_own nodes id)
 no_cost nodes id net = record { nodes = omega arith; registers = omega arith; memories = omega arith }
 
 module _ (nodes : List PlanNode) (id : ℕ) (net : Net) (tick : Option Bit) (leaves : List Wire) (plan : IsPlan nodes) (has : HaveLeaves net leaves (shape_of nodes id).leaves) where
@@ -74,7 +74,7 @@ module _ (nodes : List PlanNode) (id : ℕ) (net : Net) (tick : Option Bit) (lea
       let h = (rw follows.shape at has).0 in slice_get_within leaves 0 h.wire h.there
 
   pub stream_put : (e : Emitted) (number : ℕ) (kinds : List Kind) → slice_get nodes id ≡ Some (Stream number kinds)
-      → slice_get leaves number ≡ Some e.wire → e.faults ≡ no_faults → IsPut nodes id net net tick leaves e
+      → slice_get leaves number ≡ Some e.wire → e.faults ≡ no_faults → IsPutBehind nodes id net net tick leaves e
   stream_put e number kinds at there none =
       let follows = nodes_follow_tables nodes id (Stream number kinds) plan at in
       let h = leaf_wire net leaves (Stream number kinds) e.wire (rw follows.shape at has).0 there in
@@ -86,7 +86,7 @@ module _ (nodes : List PlanNode) (id : ℕ) (net : Net) (tick : Option Bit) (lea
       }
 
   pub body_put : (e : Emitted) (kinds : List Kind) → slice_get nodes id ≡ Some (Body kinds)
-      → slice_get leaves 0 ≡ Some e.wire → e.faults ≡ no_faults → IsPut nodes id net net tick leaves e
+      → slice_get leaves 0 ≡ Some e.wire → e.faults ≡ no_faults → IsPutBehind nodes id net net tick leaves e
   body_put e kinds at there none =
       let follows = nodes_follow_tables nodes id (Body kinds) plan at in
       let h = leaf_wire net leaves (Body kinds) e.wire (rw follows.shape at has).0 there in

@@ -26,6 +26,8 @@ pub mod PartitionLemmas
 pub mod CostLemmas
 pub mod GivesLemmas
 pub mod LeafLemmas
+pub mod MarkedLemmas
+pub mod TableLemmas
 pub mod PairLemmas
 pub mod RowLemmas
 pub mod StepLemmas

@@ -10,12 +10,12 @@ use Rattle.gl_algebra.specs.declared.node.PlanNode.TheVariants.{Partition}
 use Rattle.gl_algebra.specs.Cost.{keys_of, lean_of, lean_of_spacer, store_of}
 use Rattle.gl_algebra.specs.FigureTable.{figures_of, window_gap}
 use Rattle.gl_algebra.specs.Fits.{IsPlan}
-use Rattle.gl_algebra.specs.Laws.{FollowsTables}
 use Rattle.gl_algebra.specs.Shapes.{kinds_of}
 use Rattle.gl_algebra.specs.Views.{copies_of_partition, copies_of_window}
 use Rattle.gl_algebra.specs.Weights.{weight_of, weight_of_copies}
-use Rattle.gl_algebra.proofs.TableLemmas.{nodes_follow_tables}
 use Rattle.gl_net.specs.Net.{Net}
+use Rattle.gl_reach.specs.Reach.{keys_part, lean_part, store_part, weight_part}
+use Rattle.gl_reach.proofs.PartLemmas.{HasParts, parts_at}
 use Rattle.gl_groups.specs.Costs.{IsCounted, cost_of_back}
 use Rattle.gl_partitions.specs.Costs.{cost_of_front, cost_of_partitioning, counted_for}
 use Rattle.gl_partitions.proofs.CostLemmas.{partitionings_are_counted}
@@ -25,7 +25,7 @@ use Rattle.gl_wiring.specs.declared.partitions.PartitionOf.{PartitionOf}
 use Rattle.gl_wiring.specs.Copies.{cost_of_spaced, times}
 use Rattle.gl_wiring.specs.Leaves.{widths_of}
 use Rattle.gl_wiring.specs.Partitions.{IsPartitionNode, cost_to_partitions}
-use Rattle.gl_wiring.specs.Put.{counted}
+use Rattle.gl_wiring.specs.Put.{counted, counted_own}
 use Rattle.gl_wiring.proofs.CostLemmas.{at_most, costs_then, stored_within}
 use Rattle.gl_wiring.proofs.WindowCosts.{bits_within, nodes_within}
 
@@ -64,40 +64,38 @@ module _ (nodes : List PlanNode) (p : PartitionOf) (plan : IsPlan nodes) (at : I
   own_lines : length own ≡ length own_kinds
   own_lines = length-map own_kinds width_of
 
-  follows : FollowsTables nodes p.id (Partition p.source p.body p.key p.groups p.size p.advance)
-  follows = nodes_follow_tables nodes p.id (Partition p.source p.body p.key p.groups p.size p.advance) plan at
+  parts : HasParts nodes p.id (Partition p.source p.body p.key p.groups p.size p.advance)
+  parts = parts_at nodes p.id (Partition p.source p.body p.key p.groups p.size p.advance) at
 
   partitioning : IsCounted (cost_of_partitioning p.groups copies p.key source own) (counted_for p.groups copies source own)
   partitioning =
       partitionings_are_counted p.groups copies p.key source own some (omega arith)
       (narrow_kinds (kinds_of nodes p.source) kinds_source) (narrow_kinds own_kinds kinds_own)
 
-  weight : weight_of nodes p.id ≡ weight_of nodes p.source + (lines (weight_of nodes p.body) + 16 * p.groups + spacer.nodes)
-  weight = rw (source_lines, own_lines) follows.weight
+  weight : weight_part nodes p.id ≡ lines (weight_of nodes p.body) + 16 * p.groups + spacer.nodes
+  weight = rw (source_lines, own_lines) parts.weight
 
   abbrev lean_spacer : ℕ
   lean_spacer = lean_of_spacer (window_gap (figures_of nodes p.body)) (figures_of nodes p.source) (length source + 2)
 
-  lean : lean_of nodes p.id ≡ lean_of nodes p.source + (lines (lean_of nodes p.body) + 16 * p.groups + lean_spacer)
-  lean = rw (source_lines, own_lines) follows.lean
+  lean : lean_part nodes p.id ≡ lines (lean_of nodes p.body) + 16 * p.groups + lean_spacer
+  lean = rw (source_lines, own_lines) parts.lean
 
-  keys : keys_of nodes p.id ≡ keys_of nodes p.source + count * keys_of nodes p.body
-  keys = follows.keys
+  keys : keys_part nodes p.id ≡ count * keys_of nodes p.body
+  keys = parts.keys
 
-  store : store_of nodes p.id ≡ store_of nodes p.source + (count * store_of nodes p.body + spacer.memories)
-  store = rw source_lines follows.store
+  store : store_part nodes p.id ≡ count * store_of nodes p.body + spacer.memories
+  store = rw source_lines parts.store
 
   pub partition_cost : (old mid net new : Net) → CostsAtMost old mid (cost_to_partitions nodes p) → CostsAtMost mid net (times count (counted nodes p.body))
-      → CostsAtMost net new back → CostsAtMost old new (counted nodes p.id)
+      → CostsAtMost net new back → CostsAtMost old new (counted_own nodes p.id)
   partition_cost old mid net new to_front bodies rear =
       let all = costs_then old net new _ _ (costs_then old mid net _ _ to_front bodies) rear in
       record {
         nodes = rw weight (at_most _ _ _ _ all.nodes
-            (nodes_within (weight_of nodes p.source) (weight_of nodes p.body) spacer.nodes front.nodes back.nodes count (length source + 2) (length own + 2)
-            (16 * p.groups) partitioning.nodes));
+            (nodes_within (weight_of nodes p.body) spacer.nodes front.nodes back.nodes count (length source + 2) (length own + 2) (16 * p.groups) partitioning.nodes));
         registers = rw (lean, keys) (at_most _ _ _ _ all.registers
-            (bits_within (lean_of nodes p.source) (keys_of nodes p.source) (lean_of nodes p.body) (keys_of nodes p.body) lean_spacer front.registers back.registers
+            (bits_within (lean_of nodes p.body) (keys_of nodes p.body) lean_spacer front.registers back.registers
             count (length source + 2) (length own + 2) (16 * p.groups) partitioning.registers));
-        memories = rw store (at_most _ _ _ _ all.memories
-            (stored_within (store_of nodes p.source) (count * store_of nodes p.body) spacer.memories));
+        memories = rw store (at_most _ _ _ _ all.memories (stored_within (count * store_of nodes p.body) spacer.memories));
       }

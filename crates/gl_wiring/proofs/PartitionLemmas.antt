@@ -57,7 +57,7 @@ use Rattle.gl_wiring.specs.declared.partitions.PartitionOf.{PartitionOf}
 use Rattle.gl_wiring.specs.Copies.{AreBodies, CanCopy, IsSpacedFor, LeavesRoom, paceless}
 use Rattle.gl_wiring.specs.Leaves.{leaf, widths_of}
 use Rattle.gl_wiring.specs.Partitions.{IsPartitionFront, IsPartitionNode, parted_whole, partitioning_of, spaced_parted}
-use Rattle.gl_wiring.specs.Put.{CanPut, GivesAs, HasColumns, IsPut}
+use Rattle.gl_wiring.specs.Put.{CanPut, Gives, GivesAs, HasColumns, IsPutBehind}
 use Rattle.gl_wiring.proofs.BodyLemmas.{columns_between, copies_serve, no_more, source_apart, source_cost, source_gives, source_keeps}
 use Rattle.gl_wiring.proofs.CanLemmas.{first_within, second_within}
 use Rattle.gl_wiring.proofs.CopyLemmas.{bodies_columns, can_copies}
@@ -160,22 +160,22 @@ module _ (nodes : List PlanNode) (p : PartitionOf) (plan : IsPlan nodes) (at : I
       omega (arith, fits.suits.1, as_many between.wire.columns (kinds_of nodes p.source) (same ∙ of_source))
 
   -- the source spaced, and the front behind it
-  pub front_put : (old mid net new : Net) (tick : Option Bit) (leaves : List Wire) (below between : Emitted) (front : Fronted) → IsPut nodes p.source old mid tick leaves below
-      → IsSpacedFor mid net (window_gap s) (figures_of nodes p.source) below between → IsFronted net new (partitioning_of nodes p) between front
+  pub front_put : (old net new : Net) (tick : Option Bit) (leaves : List Wire) (below between : Emitted) (front : Fronted) → Gives nodes p.source old tick leaves below
+      → IsSpacedFor old net (window_gap s) (figures_of nodes p.source) below between → IsFronted net new (partitioning_of nodes p) between front
       → IsPartitionFront nodes p old new tick leaves front
-  front_put old mid net new tick leaves below between front put sp fr =
+  front_put old net new tick leaves below between front put sp fr =
       let gap = window_gap s in
-      let columns = columns_between nodes p.source gap h room old mid net new tick leaves below between put sp fr.keeps in
+      let columns = columns_between nodes p.source gap h room old net new tick leaves below between put sp fr.keeps in
       let fore : CostsAtMost net new (cost_of_front p.groups (copies_of_window p.size p.advance) p.key (widths_of (kinds_of nodes p.source))) =
       subst (λ (cs : List ℕ). CostsAtMost net new (cost_of_front p.groups (copies_of_window p.size p.advance) p.key cs)) columns (no_more net new _ fr.cost) in
       record {
-        keeps = source_keeps nodes p.source gap h room old mid net new tick leaves below between put sp fr.keeps;
-        cost = source_cost nodes p.source gap h room old mid net new tick leaves below between put sp fr.keeps _ fore;
+        keeps = source_keeps nodes p.source gap h room old net new tick leaves below between put sp fr.keeps;
+        cost = source_cost nodes p.source gap h room old net new tick leaves below between put sp fr.keeps _ fore;
         gives = subst (GivesAs (paceless (shape_of nodes p.source)) f (IsPlanResult nodes p.source) new tick leaves) (sym fr.same)
-            (source_gives nodes p.source gap h room old mid net new tick leaves below between put sp fr.keeps);
+            (source_gives nodes p.source gap h room old net new tick leaves below between put sp fr.keeps);
         apart = λ run r beats spaced_beats has.
             subst (λ (e : Emitted). CarriesApart gap (carried run e.wire)) (sym fr.same)
-            (source_apart nodes p.source gap h room old mid net new tick leaves below between put sp fr.keeps run r beats spaced_beats has);
+            (source_apart nodes p.source gap h room old net new tick leaves below between put sp fr.keeps run r beats spaced_beats has);
         fronts = fr.fronts;
       }
 
@@ -201,7 +201,7 @@ module _ (nodes : List PlanNode) (p : PartitionOf) (plan : IsPlan nodes) (at : I
   -- the back behind the copies
   pub back_put : (old mid net new : Net) (tick : Option Bit) (leaves : List Wire) (front : Fronted) (copies : List Emitted) (e : Emitted) → IsPartitionFront nodes p old mid tick leaves front
       → AreBodies nodes p.body mid net front.wires (length front.wires) copies → IsBacked net new (partitioning_of nodes p) front copies e
-      → IsPut nodes p.id old new tick leaves e
+      → IsPutBehind nodes p.id old new tick leaves e
   back_put old mid net new tick leaves front copies e fr bodies b =
       let many : length front.wires ≡ c = fr.fronts.as_many in
       let are : AreBodies nodes p.body mid net front.wires c copies =

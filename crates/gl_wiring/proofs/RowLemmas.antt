@@ -24,7 +24,7 @@ use Rattle.gl_algebra.proofs.SoundLemmas.{delayed_sound}
 use Rattle.gl_algebra.proofs.TableLemmas.{nodes_follow_tables}
 use Rattle.gl_net.specs.declared.node.Bit.{Bit}
 use Rattle.gl_net.specs.Net.{Net}
-use Rattle.gl_net.proofs.Determined.{keeps_then}
+use Rattle.gl_reach.proofs.PartLemmas.{parts_at}
 use Rattle.gl_rows.specs.Costs.{computed_widths, cost_of_items, cost_of_rows, projected_widths}
 use Rattle.gl_totals.specs.Costs.{cost_of_aggs}
 use Rattle.gl_totals.specs.Totals.{total_row, total_widths}
@@ -39,7 +39,7 @@ use Rattle.gl_wire.proofs.PaceLemmas.{steady_pace, ends_pace}
 use Rattle.gl_wire.proofs.SettledLemmas.{settled_serves}
 use Rattle.gl_wire.proofs.SteadyLemmas.{steady_serves}
 use Rattle.gl_wiring.specs.Leaves.{widths_of}
-use Rattle.gl_wiring.specs.Put.{IsPut, counted}
+use Rattle.gl_wiring.specs.Put.{Gives, IsPutBehind}
 use Rattle.gl_wiring.proofs.CanLemmas.{first_within}
 use Rattle.gl_wiring.proofs.CostLemmas.{cost_behind, items_counted, rows_counted, selected_counted}
 use Rattle.gl_wiring.proofs.GivesLemmas.{behind}
@@ -66,13 +66,14 @@ width_at [] column kind at = absurd cc
 width_at (k ∷ kinds) zero kind at = ap (λ (x : Kind). Some (width_of x)) (some_same k kind at)
 width_at (k ∷ kinds) (suc column) kind at = width_at kinds column kind at
 
-module _ (nodes : List PlanNode) (id : ℕ) (old mid new : Net) (tick : Option Bit) (leaves : List Wire) (below e : Emitted) (plan : IsPlan nodes) where
-  pub compute_put : (child : ℕ) (ops : List ColOp) → slice_get nodes id ≡ Some (Compute child ops) → IsPut nodes child old mid tick leaves below
-      → (let kinds = kinds_of nodes child in IsBehind mid new (Steady 1 (λ row. Some (computed kinds ops row))) (computed_widths kinds ops)
+module _ (nodes : List PlanNode) (id : ℕ) (old new : Net) (tick : Option Bit) (leaves : List Wire) (below e : Emitted) (plan : IsPlan nodes) where
+  pub compute_put : (child : ℕ) (ops : List ColOp) → slice_get nodes id ≡ Some (Compute child ops) → Gives nodes child old tick leaves below
+      → (let kinds = kinds_of nodes child in IsBehind old new (Steady 1 (λ row. Some (computed kinds ops row))) (computed_widths kinds ops)
       (cost_of_rows (computed_widths kinds ops) (length ops)) below e)
-      → IsPut nodes id old new tick leaves e
+      → IsPutBehind nodes id old new tick leaves e
   compute_put child ops at h b =
       let follows = nodes_follow_tables nodes id (Compute child ops) plan at in
+      let parts = parts_at nodes id (Compute child ops) at in
       let f : Figures = figures_of nodes child in
       let kinds = kinds_of nodes child in
       let step : Row → Option Row = λ row. Some (computed kinds ops row) in
@@ -81,59 +82,61 @@ module _ (nodes : List PlanNode) (id : ℕ) (old mid new : Net) (tick : Option B
       let own : All IsKind (kinds ++ map (kind_of_op kinds) ops) =
       subst (λ (s : Shape). All IsKind s.kinds) follows.shape (columns_have_kinds nodes id plan (slice_get_within nodes id (Compute child ops) at)) in
       record {
-        keeps = keeps_then old mid new h.keeps b.keeps;
-        cost = cost_behind nodes id _ _ _ old mid new (counted nodes child) _
-            (record { weight' = follows.weight; lean' = omega (arith, follows.lean, follows.keys); store' = follows.store })
-            h.cost b.cost (rows_counted (kinds ++ map (kind_of_op kinds) ops) (length ops) own);
+        keeps = b.keeps;
+        cost = cost_behind nodes id _ _ _ old new _
+            (record { weight' = parts.weight; lean' = omega (arith, parts.lean, parts.keys); store' = parts.store })
+            b.cost (rows_counted (kinds ++ map (kind_of_op kinds) ops) (length ops) own);
         gives = rw (follows.shape, follows.figures) (behind (shape_of nodes child) _ f (settled (delayed 1 f)) (IsPlanResult nodes child)
-            (IsPlanResult nodes id) mid new tick leaves below e _ _ _ (Mapped step)
-            h.gives b refl (record { gt = omega arith; ge = omega arith })
+            (IsPlanResult nodes id) old new tick leaves below e _ _ _ (Mapped step)
+            h b refl (record { gt = omega arith; ge = omega arith })
             (λ x y s. settled_serves f (delayed 1 f) (Mapped step) x y (delayed_sound 1 f sound) (steady_serves 1 step x y f s))
             (λ x y ls s. steady_pace 1 (computed kinds ops) x y s (shape_of nodes child).pace f.a ls)
             (λ i xs ys p r m. (follows.results i ys p).1 (record { rows = xs; of_source = r; changed = m ∙ mapped_all (computed kinds ops) xs })));
       }
 
-  pub select_put : (child column : ℕ) → slice_get nodes id ≡ Some (Select child column) → IsPut nodes child old mid tick leaves below
-      → IsBehind mid new (Steady 1 (keep_where column)) (widths_of (kinds_of nodes child)) (cost_of_rows (widths_of (kinds_of nodes child)) 0) below e
-      → IsPut nodes id old new tick leaves e
+  pub select_put : (child column : ℕ) → slice_get nodes id ≡ Some (Select child column) → Gives nodes child old tick leaves below
+      → IsBehind old new (Steady 1 (keep_where column)) (widths_of (kinds_of nodes child)) (cost_of_rows (widths_of (kinds_of nodes child)) 0) below e
+      → IsPutBehind nodes id old new tick leaves e
   select_put child column at h b =
       let follows = nodes_follow_tables nodes id (Select child column) plan at in
+      let parts = parts_at nodes id (Select child column) at in
       let f : Figures = figures_of nodes child in
       let kinds = kinds_of nodes child in
       let within = first_within nodes id (Select child column) plan at child [] refl in
       let sound = figures_are_sound nodes child plan within in
       record {
-        keeps = keeps_then old mid new h.keeps b.keeps;
-        cost = cost_behind nodes id _ _ _ old mid new (counted nodes child) _
-            (record { weight' = follows.weight; lean' = omega (arith, follows.lean, follows.keys); store' = follows.store })
-            h.cost b.cost (selected_counted kinds (columns_have_kinds nodes child plan within));
+        keeps = b.keeps;
+        cost = cost_behind nodes id _ _ _ old new _
+            (record { weight' = parts.weight; lean' = omega (arith, parts.lean, parts.keys); store' = parts.store })
+            b.cost (selected_counted kinds (columns_have_kinds nodes child plan within));
         gives = rw (follows.shape, follows.figures) (behind (shape_of nodes child) _ f (settled (delayed 1 f)) (IsPlanResult nodes child)
-            (IsPlanResult nodes id) mid new tick leaves below e _ _ _ (Mapped (keep_where column))
-            h.gives b refl (record { gt = omega arith; ge = omega arith })
+            (IsPlanResult nodes id) old new tick leaves below e _ _ _ (Mapped (keep_where column))
+            h b refl (record { gt = omega arith; ge = omega arith })
             (λ x y s. settled_serves f (delayed 1 f) (Mapped (keep_where column)) x y (delayed_sound 1 f sound) (steady_serves 1 (keep_where column) x y f s))
             (λ x y ls s p. tt)
             (λ i xs ys p r m. (follows.results i ys p).1 (record { rows = xs; of_source = r; changed = m ∙ kept_rows column xs })));
       }
 
-  pub project_put : (child : ℕ) (items : List Operand) → slice_get nodes id ≡ Some (Project child items) → IsPut nodes child old mid tick leaves below
-      → (let kinds = kinds_of nodes child in IsBehind mid new (Steady 0 (λ row. Some (projected items row))) (projected_widths kinds items)
+  pub project_put : (child : ℕ) (items : List Operand) → slice_get nodes id ≡ Some (Project child items) → Gives nodes child old tick leaves below
+      → (let kinds = kinds_of nodes child in IsBehind old new (Steady 0 (λ row. Some (projected items row))) (projected_widths kinds items)
       (cost_of_items (projected_widths kinds items)) below e)
-      → IsPut nodes id old new tick leaves e
+      → IsPutBehind nodes id old new tick leaves e
   project_put child items at h b =
       let follows = nodes_follow_tables nodes id (Project child items) plan at in
+      let parts = parts_at nodes id (Project child items) at in
       let f : Figures = figures_of nodes child in
       let kinds = kinds_of nodes child in
       let step : Row → Option Row = λ row. Some (projected items row) in
       let within = first_within nodes id (Project child items) plan at child [] refl in
       let sound = figures_are_sound nodes child plan within in
       record {
-        keeps = keeps_then old mid new h.keeps b.keeps;
-        cost = cost_behind nodes id _ _ _ old mid new (counted nodes child) _
-            (record { weight' = follows.weight; lean' = omega (arith, follows.lean, follows.keys); store' = follows.store })
-            h.cost b.cost (items_counted (map (kind_of_operand kinds) items));
+        keeps = b.keeps;
+        cost = cost_behind nodes id _ _ _ old new _
+            (record { weight' = parts.weight; lean' = omega (arith, parts.lean, parts.keys); store' = parts.store })
+            b.cost (items_counted (map (kind_of_operand kinds) items));
         gives = rw (follows.shape, follows.figures) (behind (shape_of nodes child) _ f (settled f) (IsPlanResult nodes child)
-            (IsPlanResult nodes id) mid new tick leaves below e _ _ _ (Mapped step)
-            h.gives b refl (record { gt = omega arith; ge = omega arith })
+            (IsPlanResult nodes id) old new tick leaves below e _ _ _ (Mapped step)
+            h b refl (record { gt = omega arith; ge = omega arith })
             (λ x y s. settled_serves f f (Mapped step) x y sound
             (subst (λ (g : Figures). Serves f g (Mapped step) x y) (delayed_by_none f) (steady_serves 0 step x y f s)))
             (λ x y ls s p. let n : f.a + 0 ≡ f.a = omega arith in
@@ -141,25 +144,26 @@ module _ (nodes : List PlanNode) (id : ℕ) (old mid new : Net) (tick : Option B
             (λ i xs ys p r m. (follows.results i ys p).1 (record { rows = xs; of_source = r; changed = m ∙ mapped_all (projected items) xs })));
       }
 
-  pub aggregate_put : (child : ℕ) (aggs : List PlanAgg) → slice_get nodes id ≡ Some (Aggregate child aggs) → IsPut nodes child old mid tick leaves below
-      → (let kinds = kinds_of nodes child in IsBehind mid new (AtEnds (delay_of_aggs kinds aggs) (total_row kinds aggs)) (total_widths kinds aggs)
+  pub aggregate_put : (child : ℕ) (aggs : List PlanAgg) → slice_get nodes id ≡ Some (Aggregate child aggs) → Gives nodes child old tick leaves below
+      → (let kinds = kinds_of nodes child in IsBehind old new (AtEnds (delay_of_aggs kinds aggs) (total_row kinds aggs)) (total_widths kinds aggs)
       (cost_of_aggs kinds aggs) below e)
-      → IsPut nodes id old new tick leaves e
+      → IsPutBehind nodes id old new tick leaves e
   aggregate_put child aggs at h b =
       let follows = nodes_follow_tables nodes id (Aggregate child aggs) plan at in
+      let parts = parts_at nodes id (Aggregate child aggs) at in
       let f : Figures = figures_of nodes child in
       let kinds = kinds_of nodes child in
       let m = delay_of_aggs kinds aggs in
       let within = first_within nodes id (Aggregate child aggs) plan at child [] refl in
       let suits = (plan.fits id (Aggregate child aggs) at).suits in
       record {
-        keeps = keeps_then old mid new h.keeps b.keeps;
-        cost = cost_behind nodes id _ _ _ old mid new (counted nodes child) _
-            (record { weight' = follows.weight; lean' = omega (arith, follows.lean, follows.keys); store' = follows.store })
-            h.cost b.cost (aggs_counted kinds (columns_have_kinds nodes child plan within) aggs suits);
+        keeps = b.keeps;
+        cost = cost_behind nodes id _ _ _ old new _
+            (record { weight' = parts.weight; lean' = omega (arith, parts.lean, parts.keys); store' = parts.store })
+            b.cost (aggs_counted kinds (columns_have_kinds nodes child plan within) aggs suits);
         gives = rw (follows.shape, follows.figures) (behind (shape_of nodes child) _ f (aggregate_figures m f) (IsPlanResult nodes child)
-            (IsPlanResult nodes id) mid new tick leaves below e _ _ _ (Totalled (total_row kinds aggs))
-            h.gives b refl (record { gt = omega arith; ge = omega arith })
+            (IsPlanResult nodes id) old new tick leaves below e _ _ _ (Totalled (total_row kinds aggs))
+            h b refl (record { gt = omega arith; ge = omega arith })
             (λ x y s. ends_serve m (total_row kinds aggs) x y f s)
             (λ x y ls s p. ends_pace m (total_row kinds aggs) x y s)
             (λ i xs ys p r t. (follows.results i ys p).1 (record { rows = xs; of_source = r; changed = t })));

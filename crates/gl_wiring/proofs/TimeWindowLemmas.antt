@@ -48,13 +48,12 @@ use Rattle.gl_wire.proofs.FaultLemmas.{lines_kept}
 use Rattle.gl_wire.proofs.ServingLemmas.{serving_lines}
 use Rattle.gl_wiring.specs.declared.time_windows.TimeWindowOf.{TimeWindowOf}
 use Rattle.gl_wiring.specs.Leaves.{HasLeaf, HaveLeaves, HaveLine, LeavesFit, carried_by, leaf, widths_of}
-use Rattle.gl_wiring.specs.Put.{CanPut, Gives, GivesAs, IsPut}
+use Rattle.gl_wiring.specs.Put.{CanPut, Gives, GivesAs, IsPutBehind}
 use Rattle.gl_wiring.specs.TimeWindows.{IsTimeFrontOf, IsTimeWindow, time_rotation_of}
 use Rattle.gl_wiring.specs.Copies.{AreBodies, CanCopy}
 use Rattle.gl_wiring.proofs.BodyLemmas.{copies_serve, no_more}
 use Rattle.gl_wiring.proofs.CanLemmas.{first_within, second_within}
 use Rattle.gl_wiring.proofs.CopyLemmas.{bodies_columns, can_copies}
-use Rattle.gl_wiring.proofs.CostLemmas.{costs_then}
 use Rattle.gl_wiring.proofs.GivesLemmas.{gives_kept}
 use Rattle.gl_wiring.proofs.TickLemmas.{end_of_beat, same_ends, same_ticks, same_times, serving_beside}
 use Rattle.gl_wiring.proofs.TimeWindowCosts.{time_window_cost}
@@ -143,16 +142,16 @@ module _ (nodes : List PlanNode) (w : TimeWindowOf) (plan : IsPlan nodes) (at : 
       absurd (let z : false ≡ true = rw none at own in cc)
 
   -- the front behind the stream
-  pub front_put : (old mid new : Net) (tick : Bit) (leaves : List Wire) (below : Emitted) (front : Fronted) → IsPut nodes w.source old mid (Some tick) leaves below
-      → IsTimeFronted mid new r tick below front → IsTimeFrontOf nodes w old new tick leaves front
-  front_put old mid new tick leaves below front h fr =
-      let fore : CostsAtMost mid new (cost_of_time_front c s.a (widths_of (kinds_of nodes w.source))) =
-      subst (λ (cs : List ℕ). CostsAtMost mid new (cost_of_time_front c s.a cs)) h.gives.same_widths (no_more mid new _ fr.cost) in
+  pub front_put : (old new : Net) (tick : Bit) (leaves : List Wire) (below : Emitted) (front : Fronted) → Gives nodes w.source old (Some tick) leaves below
+      → IsTimeFronted old new r tick below front → IsTimeFrontOf nodes w old new tick leaves front
+  front_put old new tick leaves below front h fr =
+      let fore : CostsAtMost old new (cost_of_time_front c s.a (widths_of (kinds_of nodes w.source))) =
+      subst (λ (cs : List ℕ). CostsAtMost old new (cost_of_time_front c s.a cs)) h.same_widths (no_more old new _ fr.cost) in
       record {
-        keeps = keeps_then old mid new h.keeps fr.keeps;
-        cost = costs_then old mid new _ _ h.cost fore;
+        keeps = fr.keeps;
+        cost = fore;
         gives = subst (λ (e : Emitted). Gives nodes w.source new (Some tick) leaves e) (sym fr.same)
-            (gives_kept _ _ _ mid new (Some tick) leaves below fr.keeps h.gives);
+            (gives_kept _ _ _ old new (Some tick) leaves below fr.keeps h);
         fronts = fr.fronts;
       }
 
@@ -236,7 +235,7 @@ module _ (nodes : List PlanNode) (w : TimeWindowOf) (plan : IsPlan nodes) (at : 
   pub back_put : (old mid net new : Net) (tick : Bit) (leaves : List Wire) (front : Fronted) (copies : List Emitted) (e : Emitted)
       → HaveLeaves old leaves (shape_of nodes w.id).leaves → IsTimeFrontOf nodes w old mid tick leaves front
       → AreBodies nodes w.body mid net front.wires (length front.wires) copies → IsTimeBacked net new r tick front copies e
-      → IsPut nodes w.id old new (Some tick) leaves e
+      → IsPutBehind nodes w.id old new (Some tick) leaves e
   back_put old mid net new tick leaves front copies e leaved h bodies b =
       let many : length front.wires ≡ c = h.fronts.as_many in
       let are : AreBodies nodes w.body mid net front.wires c copies =

@@ -14,6 +14,8 @@ use Rattle.gl_algebra.specs.Shapes.{kinds_of}
 use Rattle.gl_algebra.specs.Weights.{weight_of, weight_of_copies}
 use Rattle.gl_algebra.proofs.TableLemmas.{nodes_follow_tables}
 use Rattle.gl_net.specs.Net.{Net}
+use Rattle.gl_reach.specs.Reach.{keys_part, lean_part, store_part, weight_part}
+use Rattle.gl_reach.proofs.PartLemmas.{HasParts, parts_at}
 use Rattle.gl_windows.specs.Costs.{IsCounted, cost_of_front, cost_of_rotation, counted_for}
 use Rattle.gl_wire_registers.specs.Joins.{cost_of_back}
 use Rattle.gl_windows.proofs.CostLemmas.{rotations_are_counted}
@@ -21,21 +23,21 @@ use Rattle.gl_wire.specs.Costs.{Cost, CostsAtMost}
 use Rattle.gl_wire.proofs.CountLemmas.{narrow_kinds}
 use Rattle.gl_wiring.specs.declared.windows.WindowOf.{WindowOf}
 use Rattle.gl_wiring.specs.Leaves.{widths_of}
-use Rattle.gl_wiring.specs.Put.{counted}
+use Rattle.gl_wiring.specs.Put.{counted, counted_own}
 use Rattle.gl_wiring.specs.Windows.{IsWindow, cost_to_front}
 use Rattle.gl_wiring.specs.Copies.{cost_of_spaced, times}
 use Rattle.gl_wiring.proofs.CostLemmas.{at_most, costs_then, stored_within}
 
 -- nodes, bits of registers, and bits of memories
-pub nodes_within : (source body spacer front back c s o more : ℕ) → front + back ≤ weight_of_copies c 0 s o + more
-    → source + spacer + front + c * body + back ≤ source + (weight_of_copies c body s o + more + spacer)
-nodes_within source body spacer front back c s o more h =
+pub nodes_within : (body spacer front back c s o more : ℕ) → front + back ≤ weight_of_copies c 0 s o + more
+    → spacer + front + c * body + back ≤ weight_of_copies c body s o + more + spacer
+nodes_within body spacer front back c s o more h =
     let each : c * (body + 8 * (s + o + 4)) ≡ c * body + c * (0 + 8 * (s + o + 4)) = omega arith in
     omega (arith, h, each)
 
-pub bits_within : (source keys body own spacer front back c s o more : ℕ) → front + back ≤ 64 * (weight_of_copies c 0 s o + more)
-    → 64 * source + keys + 64 * spacer + front + c * (64 * body + own) + back ≤ 64 * (source + (weight_of_copies c body s o + more + spacer)) + (keys + c * own)
-bits_within source keys body own spacer front back c s o more h =
+pub bits_within : (body own spacer front back c s o more : ℕ) → front + back ≤ 64 * (weight_of_copies c 0 s o + more)
+    → 64 * spacer + front + c * (64 * body + own) + back ≤ 64 * (weight_of_copies c body s o + more + spacer) + c * own
+bits_within body own spacer front back c s o more h =
     let each : c * (body + 8 * (s + o + 4)) ≡ c * body + c * (0 + 8 * (s + o + 4)) = omega arith in
     let bits : c * (64 * body + own) ≡ 64 * (c * body) + c * own = omega arith in
     omega (arith, h, each, bits)
@@ -75,6 +77,7 @@ module _ (nodes : List PlanNode) (w : WindowOf) (plan : IsPlan nodes) (at : IsWi
       rotations_are_counted count delay source own
       (narrow_kinds (kinds_of nodes w.source) kinds_source) (narrow_kinds (kinds_of nodes w.body) kinds_body)
 
+  -- the whole of a window
   pub weight : weight_of nodes w.id ≡ weight_of nodes w.source + (lines (weight_of nodes w.body) + 4 * delay + spacer.nodes)
   weight = rw (source_lines, own_lines) follows.weight
 
@@ -90,17 +93,32 @@ module _ (nodes : List PlanNode) (w : WindowOf) (plan : IsPlan nodes) (at : IsWi
   pub store : store_of nodes w.id ≡ store_of nodes w.source + (count * store_of nodes w.body + spacer.memories)
   store = rw source_lines follows.store
 
+  -- its own part
+  parts : HasParts nodes w.id (Window w.source w.body w.size w.advance)
+  parts = parts_at nodes w.id (Window w.source w.body w.size w.advance) at
+
+  own_weight : weight_part nodes w.id ≡ lines (weight_of nodes w.body) + 4 * delay + spacer.nodes
+  own_weight = rw (source_lines, own_lines) parts.weight
+
+  own_lean : lean_part nodes w.id ≡ lines (lean_of nodes w.body) + 4 * delay + lean_spacer
+  own_lean = rw (source_lines, own_lines) parts.lean
+
+  own_keys : keys_part nodes w.id ≡ count * keys_of nodes w.body
+  own_keys = parts.keys
+
+  own_store : store_part nodes w.id ≡ count * store_of nodes w.body + spacer.memories
+  own_store = rw source_lines parts.store
+
   pub window_cost : (old mid net new : Net) → CostsAtMost old mid (cost_to_front nodes w) → CostsAtMost mid net (times count (counted nodes w.body))
-      → CostsAtMost net new (cost_of_back count own) → CostsAtMost old new (counted nodes w.id)
+      → CostsAtMost net new (cost_of_back count own) → CostsAtMost old new (counted_own nodes w.id)
   window_cost old mid net new front bodies back =
       let all = costs_then old net new _ _ (costs_then old mid net _ _ front bodies) back in
       record {
-        nodes = rw weight (at_most _ _ _ _ all.nodes
-            (nodes_within (weight_of nodes w.source) (weight_of nodes w.body) spacer.nodes (cost_of_front count delay source).nodes (cost_of_back count own).nodes
+        nodes = rw own_weight (at_most _ _ _ _ all.nodes
+            (nodes_within (weight_of nodes w.body) spacer.nodes (cost_of_front count delay source).nodes (cost_of_back count own).nodes
             count (length source + 2) (length own + 2) (4 * delay) rotation.nodes));
-        registers = rw (lean, keys) (at_most _ _ _ _ all.registers
-            (bits_within (lean_of nodes w.source) (keys_of nodes w.source) (lean_of nodes w.body) (keys_of nodes w.body) lean_spacer (cost_of_front count delay source).registers
+        registers = rw (own_lean, own_keys) (at_most _ _ _ _ all.registers
+            (bits_within (lean_of nodes w.body) (keys_of nodes w.body) lean_spacer (cost_of_front count delay source).registers
             (cost_of_back count own).registers count (length source + 2) (length own + 2) (4 * delay) rotation.registers));
-        memories = rw store (at_most _ _ _ _ all.memories
-            (stored_within (store_of nodes w.source) (count * store_of nodes w.body) spacer.memories));
+        memories = rw own_store (at_most _ _ _ _ all.memories (stored_within (count * store_of nodes w.body) spacer.memories));
       }

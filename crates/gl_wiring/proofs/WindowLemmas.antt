@@ -42,7 +42,7 @@ use Rattle.gl_wire.proofs.CountLemmas.{narrow_kinds}
 use Rattle.gl_wire_copies.specs.Rotates.{lines_of_all}
 use Rattle.gl_wiring.specs.declared.windows.WindowOf.{WindowOf}
 use Rattle.gl_wiring.specs.Leaves.{leaf, widths_of}
-use Rattle.gl_wiring.specs.Put.{CanPut, GivesAs, HasColumns, IsPut}
+use Rattle.gl_wiring.specs.Put.{CanPut, Gives, GivesAs, HasColumns, IsPutBehind}
 use Rattle.gl_wiring.specs.Windows.{IsFrontOf, IsWindow, rotation_of, source_figures, whole_figures}
 use Rattle.gl_wiring.specs.Copies.{AreBodies, CanCopy, IsSpacedFor, LeavesRoom, paceless}
 use Rattle.gl_wiring.proofs.CanLemmas.{first_within, second_within}
@@ -124,22 +124,22 @@ module _ (nodes : List PlanNode) (w : WindowOf) (plan : IsPlan nodes) (at : IsWi
       (closing_nodes_wait nodes w.body plan in_body fits.suits.0.closing) (subst AreSmall follows.figures small)
 
   -- the source spaced, and the front behind it
-  pub front_put : (old mid net new : Net) (tick : Option Bit) (leaves : List Wire) (below between : Emitted) (front : Fronted) → IsPut nodes w.source old mid tick leaves below
-      → IsSpacedFor mid net (window_gap s) (figures_of nodes w.source) below between → IsFronted net new (rotation_of nodes w) between front
+  pub front_put : (old net new : Net) (tick : Option Bit) (leaves : List Wire) (below between : Emitted) (front : Fronted) → Gives nodes w.source old tick leaves below
+      → IsSpacedFor old net (window_gap s) (figures_of nodes w.source) below between → IsFronted net new (rotation_of nodes w) between front
       → IsFrontOf nodes w old new tick leaves front
-  front_put old mid net new tick leaves below between front h sp fr =
+  front_put old net new tick leaves below between front h sp fr =
       let gap = window_gap s in
-      let columns = columns_between nodes w.source gap g room old mid net new tick leaves below between h sp fr.keeps in
+      let columns = columns_between nodes w.source gap g room old net new tick leaves below between h sp fr.keeps in
       let fore : CostsAtMost net new (cost_of_front c s.a (widths_of (kinds_of nodes w.source))) =
       subst (λ (cs : List ℕ). CostsAtMost net new (cost_of_front c s.a cs)) columns (no_more net new _ fr.cost) in
       record {
-        keeps = source_keeps nodes w.source gap g room old mid net new tick leaves below between h sp fr.keeps;
-        cost = source_cost nodes w.source gap g room old mid net new tick leaves below between h sp fr.keeps _ fore;
+        keeps = source_keeps nodes w.source gap g room old net new tick leaves below between h sp fr.keeps;
+        cost = source_cost nodes w.source gap g room old net new tick leaves below between h sp fr.keeps _ fore;
         gives = subst (GivesAs (paceless (shape_of nodes w.source)) f (IsPlanResult nodes w.source) new tick leaves) (sym fr.same)
-            (source_gives nodes w.source gap g room old mid net new tick leaves below between h sp fr.keeps);
+            (source_gives nodes w.source gap g room old net new tick leaves below between h sp fr.keeps);
         apart = λ run r beats spaced_beats has.
             subst (λ (e : Emitted). CarriesApart gap (carried run e.wire)) (sym fr.same)
-            (source_apart nodes w.source gap g room old mid net new tick leaves below between h sp fr.keeps run r beats spaced_beats has);
+            (source_apart nodes w.source gap g room old net new tick leaves below between h sp fr.keeps run r beats spaced_beats has);
         fronts = fr.fronts;
       }
 
@@ -153,7 +153,7 @@ module _ (nodes : List PlanNode) (w : WindowOf) (plan : IsPlan nodes) (at : IsWi
   -- the back behind the copies
   pub back_put : (old mid net new : Net) (tick : Option Bit) (leaves : List Wire) (front : Fronted) (copies : List Emitted) (e : Emitted) → IsFrontOf nodes w old mid tick leaves front
       → AreBodies nodes w.body mid net front.wires (length front.wires) copies → IsBacked net new (rotation_of nodes w) front copies e
-      → IsPut nodes w.id old new tick leaves e
+      → IsPutBehind nodes w.id old new tick leaves e
   back_put old mid net new tick leaves front copies e h bodies b =
       let many : length front.wires ≡ c = h.fronts.as_many in
       let are : AreBodies nodes w.body mid net front.wires c copies =

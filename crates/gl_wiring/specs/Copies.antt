@@ -1,6 +1,6 @@
 -- Copies of a body behind a front, of windows and of groups alike: the source, spaced where its tuples may come too
 -- fast, and a circuit of the body behind each wire of the front.
-use Rattle.std.specs.Prelude.{◌≡◌, ℕ, ◌+◌, ◌-◌, ◌*◌, ◌≤◌, Bool, true, List, [], ◌∷◌, length, Some, None, is_some, slice_get, option_map}
+use Rattle.std.specs.Prelude.{◌≡◌, ℕ, ◌+◌, ◌-◌, ◌*◌, ◌<◌, ◌≤◌, Bool, true, List, [], ◌∷◌, length, Some, None, is_some, slice_get, option_map}
 use Rattle.gl_algebra.specs.declared.figures.Figures.{Figures}
 use Rattle.gl_algebra.specs.declared.node.PlanNode.{PlanNode}
 use Rattle.gl_algebra.specs.Cost.{lean_of_spacer, store_of_spacer}
@@ -59,6 +59,7 @@ paceless s = record s { pace = unsteady }
 -- a body can be put behind each of these wires
 pub record CanCopy (nodes : List PlanNode) (figures : List Figures) (body : ℕ) (net : Net) (wires : List Wire)
     : Type 0 where
+  pub within : body < length nodes
   pub each : (k : ℕ) (wire : Wire) → slice_get wires k ≡ Some wire → CanPut nodes figures body net None (wire ∷ [])
 
 -- so many circuits of a node

@@ -22,7 +22,7 @@ use Rattle.gl_wire.specs.Wire.{carried}
 use Rattle.gl_wiring.specs.declared.groups.GroupOf.{GroupOf}
 use Rattle.gl_wiring.specs.Leaves.{LeavesFit, widths_of}
 use Rattle.gl_wiring.specs.Copies.{AreBodies, cost_of_spaced, paceless}
-use Rattle.gl_wiring.specs.Put.{GivesAs, counted}
+use Rattle.gl_wiring.specs.Put.{GivesAs}
 
 -- a group is a node of a plan
 abbrev pub IsGroupNode : List PlanNode → GroupOf → Type 0
@@ -39,17 +39,16 @@ spaced_source nodes g = spaced (group_gap (figures_of nodes g.body)) (figures_of
 abbrev pub group_whole : List PlanNode → GroupOf → Figures
 group_whole nodes g = group_figures g.groups (figures_of nodes g.source) (figures_of nodes g.body)
 
--- the cost of a group up to its front
+-- the cost of a group's front, from its source on
 abbrev pub cost_to_slots : List PlanNode → GroupOf → Cost
 cost_to_slots nodes g =
     let columns = widths_of (kinds_of nodes g.source) in
-    let source = counted nodes g.source in
     let spacer = cost_of_spaced (group_gap (figures_of nodes g.body)) (figures_of nodes g.source) columns in
     let front = cost_of_front g.groups g.key columns in
     record {
-      nodes = source.nodes + spacer.nodes + front.nodes;
-      registers = source.registers + spacer.registers + front.registers;
-      memories = source.memories + spacer.memories + front.memories;
+      nodes = spacer.nodes + front.nodes;
+      registers = spacer.registers + front.registers;
+      memories = spacer.memories + front.memories;
     }
 
 -- the front of a group: its source gives the source's results, far enough apart for the body

@@ -20,19 +20,18 @@ use Rattle.gl_wiring.specs.declared.lanes.Laned.{Laned}
 use Rattle.gl_wiring.specs.Leaves.{LeavesFit, widths_of}
 use Rattle.gl_wiring.specs.Copies.{cost_of_spaced, paceless}
 use Rattle.gl_wiring.specs.Groups.{group_whole, grouping_of, spaced_source}
-use Rattle.gl_wiring.specs.Put.{GivesAs, counted}
+use Rattle.gl_wiring.specs.Put.{GivesAs}
 
--- the cost of a group up to its lane
+-- the cost of a group's lane, from its source on
 abbrev pub cost_to_lane : List PlanNode → GroupOf → Cost
 cost_to_lane nodes g =
     let columns = widths_of (kinds_of nodes g.source) in
-    let source = counted nodes g.source in
     let spacer = cost_of_spaced (group_gap (figures_of nodes g.body)) (figures_of nodes g.source) columns in
     let lane = cost_of_lane g.groups g.key columns in
     record {
-      nodes = source.nodes + spacer.nodes + lane.nodes;
-      registers = source.registers + spacer.registers + lane.registers;
-      memories = source.memories + spacer.memories + lane.memories;
+      nodes = spacer.nodes + lane.nodes;
+      registers = spacer.registers + lane.registers;
+      memories = spacer.memories + lane.memories;
     }
 
 -- the lane of a group: its source gives the source's results, far enough apart for the body

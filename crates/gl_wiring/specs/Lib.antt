@@ -12,6 +12,7 @@ pub mod Groups
 pub mod Partitions
 pub mod Leaves
 pub mod Put
+pub mod Tables
 pub mod Lanes
 pub mod LaneGroups
 pub mod Windows

@@ -23,7 +23,7 @@ use Rattle.gl_wire.specs.Wire.{carried}
 use Rattle.gl_wiring.specs.declared.partitions.PartitionOf.{PartitionOf}
 use Rattle.gl_wiring.specs.Leaves.{LeavesFit, widths_of}
 use Rattle.gl_wiring.specs.Copies.{AreBodies, cost_of_spaced, paceless}
-use Rattle.gl_wiring.specs.Put.{GivesAs, counted}
+use Rattle.gl_wiring.specs.Put.{GivesAs}
 
 -- windows of each group are a node of a plan
 abbrev pub IsPartitionNode : List PlanNode → PartitionOf → Type 0
@@ -50,17 +50,16 @@ abbrev pub parted_whole : List PlanNode → PartitionOf → Figures
 parted_whole nodes p =
     partition_figures (copies_of_partition p.groups p.size p.advance) (figures_of nodes p.source) (figures_of nodes p.body)
 
--- the cost up to the front
+-- the cost of the front, from the source on
 abbrev pub cost_to_partitions : List PlanNode → PartitionOf → Cost
 cost_to_partitions nodes p =
     let columns = widths_of (kinds_of nodes p.source) in
-    let source = counted nodes p.source in
     let spacer = cost_of_spaced (window_gap (figures_of nodes p.body)) (figures_of nodes p.source) columns in
     let front = cost_of_front p.groups (copies_of_window p.size p.advance) p.key columns in
     record {
-      nodes = source.nodes + spacer.nodes + front.nodes;
-      registers = source.registers + spacer.registers + front.registers;
-      memories = source.memories + spacer.memories + front.memories;
+      nodes = spacer.nodes + front.nodes;
+      registers = spacer.registers + front.registers;
+      memories = spacer.memories + front.memories;
     }
 
 -- the front: the source gives its own results, far enough apart for the body

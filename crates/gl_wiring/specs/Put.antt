@@ -12,6 +12,7 @@ use Rattle.gl_algebra.specs.Views.{reads_time}
 use Rattle.gl_algebra.specs.Weights.{weight_of}
 use Rattle.gl_net.specs.declared.node.Bit.{Bit}
 use Rattle.gl_net.specs.Net.{Net, Run, IsRun, Keeps}
+use Rattle.gl_reach.specs.Reach.{keys_part, lean_part, store_part, weight_part}
 use Rattle.gl_wire.specs.declared.emitted.Emitted.{Emitted}
 use Rattle.gl_wire.specs.declared.wire.Wire.{Wire}
 use Rattle.gl_wire.specs.Beats.{Beats, Spaced}
@@ -22,12 +23,21 @@ use Rattle.gl_wire.specs.Serving.{Serving, inputs_at}
 use Rattle.gl_wire.specs.Wire.{IsWire, carried, widths}
 use Rattle.gl_wiring.specs.Leaves.{HaveLeaves, HaveLine, LeavesFit, leaf, widths_of}
 
--- what a plan counts for the circuit of a node: nodes, bits of registers, bits of memories
+-- what a plan counts for the circuit of a node and of all below it, for each use: nodes, bits of registers, bits of
+-- memories
 abbrev pub counted : List PlanNode → ℕ → Cost
 counted nodes id = record {
   nodes = weight_of nodes id;
   registers = 64 * lean_of nodes id + keys_of nodes id;
   memories = store_of nodes id;
+}
+
+-- what it counts for the node itself
+abbrev pub counted_own : List PlanNode → ℕ → Cost
+counted_own nodes id = record {
+  nodes = weight_part nodes id;
+  registers = 64 * lean_part nodes id + keys_part nodes id;
+  memories = store_part nodes id;
 }
 
 -- a node can be put: the figures are those of all nodes, each of its leaves has a wire, and there is a line of ticks where
@@ -63,8 +73,15 @@ abbrev pub Gives : List PlanNode → ℕ → Net → Option Bit → List Wire �
 Gives nodes id net tick leaves e =
     GivesAs (shape_of nodes id) (figures_of nodes id) (IsPlanResult nodes id) net tick leaves e
 
--- the circuit of a node: it gives the node's results, what stood before is kept, and no more is added than the plan
--- counts
+-- a node's circuit behind those of its children: it gives the node's results, what stood before is kept, and no more is
+-- added than the plan counts for the node itself
+pub record IsPutBehind (nodes : List PlanNode) (id : ℕ) (old new : Net) (tick : Option Bit) (leaves : List Wire)
+    (e : Emitted) : Type 0 where
+  pub keeps : Keeps old new
+  pub cost : CostsAtMost old new (counted_own nodes id)
+  pub gives : Gives nodes id new tick leaves e
+
+-- the circuit of a node with those of all below it, no more than the plan counts for them
 pub record IsPut (nodes : List PlanNode) (id : ℕ) (old new : Net) (tick : Option Bit) (leaves : List Wire)
     (e : Emitted) : Type 0 where
   pub keeps : Keeps old new

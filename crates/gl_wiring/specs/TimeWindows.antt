@@ -1,6 +1,6 @@
 -- Windows of time of a plan in a netlist: the stream, the front with the line of ticks, a circuit of the body behind each
 -- wire of the front, and the back. A beat of a stream brings one row at most, so no spacer stands behind it.
-use Rattle.std.specs.Prelude.{◌≡◌, ◌+◌, List, Some, slice_get}
+use Rattle.std.specs.Prelude.{◌≡◌, List, Some, slice_get}
 use Rattle.gl_algebra.specs.declared.node.PlanNode.{PlanNode}
 use Rattle.gl_algebra.specs.declared.node.PlanNode.TheVariants.{TimeWindow}
 use Rattle.gl_algebra.specs.FigureTable.{figures_of}
@@ -16,7 +16,7 @@ use Rattle.gl_wire.specs.declared.wire.Wire.{Wire}
 use Rattle.gl_wire.specs.Costs.{Cost, CostsAtMost}
 use Rattle.gl_wiring.specs.declared.time_windows.TimeWindowOf.{TimeWindowOf}
 use Rattle.gl_wiring.specs.Leaves.{widths_of}
-use Rattle.gl_wiring.specs.Put.{Gives, counted}
+use Rattle.gl_wiring.specs.Put.{Gives}
 
 -- a window of time is a node of a plan
 abbrev pub IsTimeWindow : List PlanNode → TimeWindowOf → Type 0
@@ -26,17 +26,10 @@ IsTimeWindow nodes w = slice_get nodes w.id ≡ Some (TimeWindow w.source w.body
 abbrev pub time_rotation_of : List PlanNode → TimeWindowOf → TimeRotation
 time_rotation_of nodes w = record { size = w.size; advance = w.advance; body = figures_of nodes w.body }
 
--- the cost up to its front
+-- the cost of its front
 abbrev pub cost_to_time_front : List PlanNode → TimeWindowOf → Cost
 cost_to_time_front nodes w =
-    let source = counted nodes w.source in
-    let delay = (figures_of nodes w.body).a in
-    let front = cost_of_time_front (copies_of_time w.size w.advance) delay (widths_of (kinds_of nodes w.source)) in
-    record {
-      nodes = source.nodes + front.nodes;
-      registers = source.registers + front.registers;
-      memories = source.memories + front.memories;
-    }
+    cost_of_time_front (copies_of_time w.size w.advance) (figures_of nodes w.body).a (widths_of (kinds_of nodes w.source))
 
 -- the front of such a window: its source gives the stream
 pub record IsTimeFrontOf (nodes : List PlanNode) (w : TimeWindowOf) (old new : Net) (tick : Bit) (leaves : List Wire)

@@ -23,7 +23,7 @@ use Rattle.gl_wire.specs.Wire.{carried}
 use Rattle.gl_wiring.specs.declared.windows.WindowOf.{WindowOf}
 use Rattle.gl_wiring.specs.Leaves.{LeavesFit, widths_of}
 use Rattle.gl_wiring.specs.Copies.{AreBodies, cost_of_spaced, paceless}
-use Rattle.gl_wiring.specs.Put.{GivesAs, counted}
+use Rattle.gl_wiring.specs.Put.{GivesAs}
 
 -- a window is a node of a plan
 abbrev pub IsWindow : List PlanNode → WindowOf → Type 0
@@ -46,18 +46,17 @@ abbrev pub whole_figures : List PlanNode → WindowOf → Figures
 whole_figures nodes w =
     window_figures (copies_of_window w.size w.advance) (figures_of nodes w.source) (figures_of nodes w.body)
 
--- the cost of a window up to its front
+-- the cost of a window's front, from its source on
 abbrev pub cost_to_front : List PlanNode → WindowOf → Cost
 cost_to_front nodes w =
     let columns = widths_of (kinds_of nodes w.source) in
     let body = figures_of nodes w.body in
-    let source = counted nodes w.source in
     let spacer = cost_of_spaced (window_gap body) (figures_of nodes w.source) columns in
     let front = cost_of_front (copies_of_window w.size w.advance) body.a columns in
     record {
-      nodes = source.nodes + spacer.nodes + front.nodes;
-      registers = source.registers + spacer.registers + front.registers;
-      memories = source.memories + spacer.memories + front.memories;
+      nodes = spacer.nodes + front.nodes;
+      registers = spacer.registers + front.registers;
+      memories = spacer.memories + front.memories;
     }
 
 -- the front of a window: its source gives the source's results, far enough apart for the body

@@ -5,10 +5,9 @@ ghost use Rattle.gl_algebra.specs.declared.node.PlanNode.TheVariants.{Compute, S
 ghost use Rattle.gl_algebra.specs.FigureTable.{AreSmall, figures_of};
 ghost use Rattle.gl_algebra.specs.Small.{AreFigures};
 ghost use Rattle.gl_net.specs.declared.node.Bit.{Bit as BitOf};
-ghost use Rattle.gl_net.specs.Net.{Net};
 ghost use Rattle.gl_wire.specs.declared.wire.Wire.{Wire as WireOf};
 ghost use Rattle.gl_wire.specs.Faults.{no_faults};
-ghost use Rattle.gl_wiring.specs.Put.{HasColumns, IsPut};
+ghost use Rattle.gl_wiring.specs.Put.{Gives, HasColumns, IsPutBehind};
 
 use gl_algebra::{Figures, Operands, Ops, Plan, PlanAggs, PlanId};
 use gl_bits::Memory;
@@ -74,9 +73,9 @@ pub(crate) fn compute_node(
 ) -> Result<Emitted, Memory>
     requires node { slice_get plan.now id ≡ Some (Compute child ops.now) }
     requires below { HasColumns plan.now child net.old below }
-    ensures { (old : Net) (tick : Option BitOf) (leaves : List WireOf)
-        → IsPut plan.now child old net.old tick leaves below
-        → IfOk result (λ e. IsPut plan.now id old net.new tick leaves e) }
+    ensures { (tick : Option BitOf) (leaves : List WireOf)
+        → Gives plan.now child net.old tick leaves below
+        → IfOk result (λ e. IsPutBehind plan.now id net.old net.new tick leaves e) }
 {
     // What `len` ensures of it is what the goals below ask for.
     let _ = plan.len();
@@ -97,9 +96,9 @@ pub(crate) fn select_node(
 ) -> Result<Emitted, Memory>
     requires node { slice_get plan.now id ≡ Some (Select child column) }
     requires below { HasColumns plan.now child net.old below }
-    ensures { (old : Net) (tick : Option BitOf) (leaves : List WireOf)
-        → IsPut plan.now child old net.old tick leaves below
-        → IfOk result (λ e. IsPut plan.now id old net.new tick leaves e) }
+    ensures { (tick : Option BitOf) (leaves : List WireOf)
+        → Gives plan.now child net.old tick leaves below
+        → IfOk result (λ e. IsPutBehind plan.now id net.old net.new tick leaves e) }
 {
     let _ = plan.len();
     let e = put_select(alloc, net, below, usize::from(column))?;
@@ -118,9 +117,9 @@ pub(crate) fn project_node(
 ) -> Result<Emitted, Memory>
     requires node { slice_get plan.now id ≡ Some (Project child items.now) }
     requires below { HasColumns plan.now child net.old below }
-    ensures { (old : Net) (tick : Option BitOf) (leaves : List WireOf)
-        → IsPut plan.now child old net.old tick leaves below
-        → IfOk result (λ e. IsPut plan.now id old net.new tick leaves e) }
+    ensures { (tick : Option BitOf) (leaves : List WireOf)
+        → Gives plan.now child net.old tick leaves below
+        → IfOk result (λ e. IsPutBehind plan.now id net.old net.new tick leaves e) }
 {
     let _ = plan.len();
     let e = put_project(alloc, net, below, plan.kinds(child), items.as_slice())?;
@@ -139,9 +138,9 @@ pub(crate) fn aggregate_node(
 ) -> Result<Emitted, Memory>
     requires node { slice_get plan.now id ≡ Some (Aggregate child aggs.now) }
     requires below { HasColumns plan.now child net.old below }
-    ensures { (old : Net) (tick : Option BitOf) (leaves : List WireOf)
-        → IsPut plan.now child old net.old tick leaves below
-        → IfOk result (λ e. IsPut plan.now id old net.new tick leaves e) }
+    ensures { (tick : Option BitOf) (leaves : List WireOf)
+        → Gives plan.now child net.old tick leaves below
+        → IfOk result (λ e. IsPutBehind plan.now id net.old net.new tick leaves e) }
 {
     let _ = plan.len();
     let e = put_totals(alloc, net, below, plan.kinds(child), aggs.as_slice())?;
@@ -164,10 +163,10 @@ pub(crate) fn union_node(
     requires figures { AreFigures plan.now figures.now }
     requires first { HasColumns plan.now left net.old first }
     requires second { HasColumns plan.now right net.old second }
-    ensures { (old mid : Net) (tick : Option BitOf) (leaves : List WireOf)
-        → IsPut plan.now left old mid tick leaves first
-        → IsPut plan.now right mid net.old tick leaves second
-        → IfOk result (λ e. IsPut plan.now id old net.new tick leaves e) }
+    ensures { (tick : Option BitOf) (leaves : List WireOf)
+        → Gives plan.now left net.old tick leaves first
+        → Gives plan.now right net.old tick leaves second
+        → IfOk result (λ e. IsPutBehind plan.now id net.old net.new tick leaves e) }
 {
     let _ = plan.len();
     let sides = UnionOf {
@@ -194,10 +193,10 @@ pub(crate) fn beside_node(
     requires figures { AreFigures plan.now figures.now }
     requires first { HasColumns plan.now left net.old first }
     requires second { HasColumns plan.now right net.old second }
-    ensures { (old mid : Net) (tick : Option BitOf) (leaves : List WireOf)
-        → IsPut plan.now left old mid tick leaves first
-        → IsPut plan.now right mid net.old tick leaves second
-        → IfOk result (λ e. IsPut plan.now id old net.new tick leaves e) }
+    ensures { (tick : Option BitOf) (leaves : List WireOf)
+        → Gives plan.now left net.old tick leaves first
+        → Gives plan.now right net.old tick leaves second
+        → IfOk result (λ e. IsPutBehind plan.now id net.old net.new tick leaves e) }
 {
     let _ = plan.len();
     let sides = Joiner {

@@ -9,7 +9,7 @@ ghost use Rattle.gl_groups.specs.Grouped.{Fronts};
 ghost use Rattle.gl_groups.specs.Groupings.{IsGrouping};
 ghost use Rattle.gl_wire_registers.specs.Joins.{AreCopies};
 ghost use Rattle.gl_wire.specs.declared.wire.Wire.{Wire as WireOf};
-ghost use Rattle.gl_wiring.specs.Put.{HasColumns, IsPut};
+ghost use Rattle.gl_wiring.specs.Put.{Gives, HasColumns, IsPutBehind};
 ghost use Rattle.gl_wiring.specs.Groups.{AreBehindSlots, IsGroupFront, IsGroupNode, grouping_of};
 
 use crate::arms::figures_at;
@@ -67,9 +67,9 @@ impl GroupOf {
         requires node { IsGroupNode plan.now self.now }
         requires figures { AreFigures plan.now figures.now }
         requires below { HasColumns plan.now self.now.source net.old below }
-        ensures { (old : Net) (tick : Option BitOf) (leaves : List WireOf)
-            → IsPut plan.now self.now.source old net.old tick leaves below
-            → IfOk result (λ front. IsGroupFront plan.now self.now old net.new tick leaves front) }
+        ensures { (tick : Option BitOf) (leaves : List WireOf)
+            → Gives plan.now self.now.source net.old tick leaves below
+            → IfOk result (λ front. IsGroupFront plan.now self.now net.old net.new tick leaves front) }
     {
         let _ = plan.len();
         let grouping = self.grouping(plan, figures);
@@ -99,7 +99,7 @@ impl GroupOf {
         ensures { (old mid : Net) (tick : Option BitOf) (leaves : List WireOf)
             → IsGroupFront plan.now self.now old mid tick leaves front.now
             → AreBehindSlots plan.now self.now.body mid net.old front.now copies.now
-            → IfOk result (λ e. IsPut plan.now self.now.id old net.new tick leaves e) }
+            → IfOk result (λ e. IsPutBehind plan.now self.now.id old net.new tick leaves e) }
     {
         let _ = plan.len();
         let grouping = self.grouping(plan, figures);

@@ -13,16 +13,18 @@ ghost use Rattle.gl_wiring.specs.Groups.{IsGroupNode};
 ghost use Rattle.gl_wiring.specs.LaneGroups.{HasLane, IsGroupLane};
 ghost use Rattle.gl_wiring.specs.Lanes.{IsBodyTable, place_of};
 ghost use Rattle.gl_wiring.specs.Leaves.{HaveLeaves};
-ghost use Rattle.gl_wiring.specs.Put.{HasColumns, IsPut};
+ghost use Rattle.gl_wiring.specs.Put.{CanPut, Gives, HasColumns, IsPutBehind};
+ghost use Rattle.gl_wiring.specs.Tables.{HaveChildren};
 
 use crate::arms::figures_at;
 use crate::groups::GroupOf;
 use crate::rows::{Place, put_rows};
+use crate::tables::taken;
 use crate::windows::put_apart;
 use gl_algebra::{Figures, Plan, PlanId, PlanNode};
 use gl_bits::Memory;
 use gl_groups::Lane;
-use gl_net::NetBuilder;
+use gl_net::{Bit, NetBuilder};
 use gl_totals::table::Table;
 use gl_wire::{Emitted, Faults, Wire, both_faults};
 use gl_wire_lanes::TableOut;
@@ -97,9 +99,9 @@ impl GroupOf {
         requires node { IsGroupNode plan.now self.now }
         requires figures { AreFigures plan.now figures.now }
         requires below { HasColumns plan.now self.now.source net.old below }
-        ensures { (old : Net) (tick : Option BitOf) (leaves : List WireOf)
-            → IsPut plan.now self.now.source old net.old tick leaves below
-            → IfOk result (λ l. IsGroupLane plan.now self.now old net.new tick leaves l) }
+        ensures { (tick : Option BitOf) (leaves : List WireOf)
+            → Gives plan.now self.now.source net.old tick leaves below
+            → IfOk result (λ l. IsGroupLane plan.now self.now net.old net.new tick leaves l) }
     {
         let _ = plan.len();
         let grouping = self.grouping(plan, figures);
@@ -133,7 +135,7 @@ impl GroupOf {
             → is_direct (form_of plan.now self.now.body) ≡ true
             → IsBodyTable plan.now self.now.body mid net.old
             laned.now.lane.wire (place_of laned.now.lane) out.now
-            → IfOk result (λ e. IsPut plan.now self.now.id old net.new tick leaves e) }
+            → IfOk result (λ e. IsPutBehind plan.now self.now.id old net.new tick leaves e) }
     {
         let _ = plan.len();
         let grouping = self.grouping(plan, figures);
@@ -145,4 +147,30 @@ impl GroupOf {
         let faults = both_faults(net, laned.source.faults, own)?;
         Ok(Emitted { wire, faults })
     }
+}
+
+/// Adds the circuit of a group whose body is direct: one lane for all slots behind its source, the body once, and the keys in front of its
+/// totals.
+pub(crate) fn put_on_lane(
+    alloc: Global,
+    net: &mut NetBuilder,
+    plan: &Plan,
+    figures: &[Figures],
+    group: GroupOf,
+    tick: Option<Bit>,
+    leaves: &[Wire],
+    table: &[Option<Emitted>],
+) -> Result<Emitted, Memory>
+    requires node { IsGroupNode plan.now group }
+    requires can { CanPut plan.now figures.now group.id net.old tick leaves.now }
+    requires children { HaveChildren plan.now group.id net.old tick leaves.now table.now }
+    requires direct { is_direct (form_of plan.now group.body) ≡ true }
+    ensures { IfOk result (λ e. IsPutBehind plan.now group.id net.old net.new tick leaves.now e) }
+{
+    let _ = plan.len();
+    let below = taken(alloc, table, group.source)?;
+    let laned = group.lane(alloc, net, plan, figures, below)?;
+    let place = laned.place();
+    let out = put_table(alloc, net, plan, group.body, &laned.lane.wire, place)?;
+    group.gathered(alloc, net, plan, figures, &laned, &out)
 }

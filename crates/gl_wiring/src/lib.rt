@@ -5,6 +5,8 @@
 #![tactic(auto)]
 
 mod arms;
+mod behind;
+pub mod circuits;
 mod direct;
 pub mod groups;
 pub mod lanes;
@@ -18,9 +20,10 @@ pub mod put;
 pub mod roots;
 pub mod rows;
 pub mod spare_windows;
+mod tables;
 pub mod time_windows;
 pub mod windows;
 
+pub use circuits::put_circuit;
 pub use names::{ResultNames, in_column_name, in_valid_name};
 pub use plan::wire_plan;
-pub use put::put_node;

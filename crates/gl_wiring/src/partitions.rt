@@ -9,7 +9,7 @@ ghost use Rattle.gl_partitions.specs.Partitioned.{Fronts};
 ghost use Rattle.gl_partitions.specs.Partitionings.{IsPartitioning};
 ghost use Rattle.gl_wire_registers.specs.Joins.{AreCopies};
 ghost use Rattle.gl_wire.specs.declared.wire.Wire.{Wire as WireOf};
-ghost use Rattle.gl_wiring.specs.Put.{HasColumns, IsPut};
+ghost use Rattle.gl_wiring.specs.Put.{Gives, HasColumns, IsPutBehind};
 ghost use Rattle.gl_wiring.specs.Partitions.{AreBehindParts, IsPartitionFront, IsPartitionNode, partitioning_of};
 
 use crate::arms::figures_at;
@@ -76,9 +76,9 @@ impl PartitionOf {
         requires node { IsPartitionNode plan.now self.now }
         requires figures { AreFigures plan.now figures.now }
         requires below { HasColumns plan.now self.now.source net.old below }
-        ensures { (old : Net) (tick : Option BitOf) (leaves : List WireOf)
-            → IsPut plan.now self.now.source old net.old tick leaves below
-            → IfOk result (λ front. IsPartitionFront plan.now self.now old net.new tick leaves front) }
+        ensures { (tick : Option BitOf) (leaves : List WireOf)
+            → Gives plan.now self.now.source net.old tick leaves below
+            → IfOk result (λ front. IsPartitionFront plan.now self.now net.old net.new tick leaves front) }
     {
         let _ = plan.len();
         let partitioning = self.partitioning(plan, figures);
@@ -109,7 +109,7 @@ impl PartitionOf {
         ensures { (old mid : Net) (tick : Option BitOf) (leaves : List WireOf)
             → IsPartitionFront plan.now self.now old mid tick leaves front.now
             → AreBehindParts plan.now self.now.body mid net.old front.now copies.now
-            → IfOk result (λ e. IsPut plan.now self.now.id old net.new tick leaves e) }
+            → IfOk result (λ e. IsPutBehind plan.now self.now.id old net.new tick leaves e) }
     {
         let _ = plan.len();
         let partitioning = self.partitioning(plan, figures);

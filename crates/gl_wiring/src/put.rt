@@ -1,21 +1,21 @@
-//! The circuit of a node.
+//! The circuits of all nodes that are reached, each once, and of copies of bodies.
 
-ghost use Rattle.std.specs.Prelude.{◌≡◌, IfOk, Some, length, true};
-ghost use Rattle.gl_algebra.specs.Direct.{form_of, is_direct};
-ghost use Rattle.gl_wiring.specs.Put.{CanPut, IsPut};
+ghost use Rattle.std.specs.Prelude.{◌≡◌, ◌<◌, ◌≤◌, ◌∷◌, [], IfOk, Some, length, true};
+ghost use Rattle.gl_reach.specs.Marks.{AreMarks};
+ghost use Rattle.gl_wiring.specs.Put.{CanPut, IsPut, IsPutBehind};
+ghost use Rattle.gl_wiring.specs.Tables.{ArePutTo, CanPutMarked, HaveChildren, IsSlot};
 ghost use Rattle.gl_wiring.specs.Groups.{IsGroupNode};
 ghost use Rattle.gl_wiring.specs.Partitions.{IsPartitionNode};
 ghost use Rattle.gl_wiring.specs.TimeWindows.{IsTimeWindow};
 ghost use Rattle.gl_wiring.specs.Windows.{IsWindow};
 ghost use Rattle.gl_wiring.specs.Copies.{AreBodies, CanCopy, IsOverCopies};
 
-use crate::arms::{
-    aggregate_node, beside_node, compute_node, leaf_of, project_node, select_node, union_node,
-};
+use crate::behind::{is_over, put_behind};
 use crate::direct::is_direct;
 use crate::groups::GroupOf;
-use crate::lanes::put_table;
+use crate::lanes::put_on_lane;
 use crate::partitions::PartitionOf;
+use crate::tables::{Table, marks_from, taken};
 use crate::time_windows::TimeWindowOf;
 use crate::windows::{Copies, WindowOf};
 use gl_algebra::{Figures, Plan, PlanId, PlanNode};
@@ -25,65 +25,104 @@ use gl_wire::{Emitted, Wire};
 use std::alloc::Global;
 use std::slice::from_ref;
 
-/// Adds the circuit of a node behind those of its children, once for each use of a node, and gives its wire and its lines.
-///
-/// The figures are those of all nodes, as `gl_figures` writes them. The leaves are the wires of the streams, by the streams' numbers;
-/// a body's input is the wire at place 0. Where a plan over streams reads the time, `tick` is the line of ticks. Want of memory is the one
-/// other answer; what the builder then holds is not said.
+/// Adds the circuits of a node and of all below it, each once, and gives the node's wire and its lines. The marks are those of all that
+/// the node reaches.
 #[cycle(put)]
-#[tactic(auto, using(crate::proofs::CanLemmas::put_columns))]
-pub fn put_node(
+#[tactic(auto)]
+pub(crate) fn put_root_of(
     alloc: Global,
     net: &mut NetBuilder,
     plan: &Plan,
     figures: &[Figures],
     id: PlanId,
+    marks: &[bool],
     tick: Option<Bit>,
     leaves: &[Wire],
 ) -> Result<Emitted, Memory>
-    requires { CanPut plan.now figures.now id net.old tick leaves.now }
+    requires marks { AreMarks plan.now (id ∷ []) marks.now }
+    requires can { CanPut plan.now figures.now id net.old tick leaves.now }
     ensures { IfOk result (λ e. IsPut plan.now id net.old net.new tick leaves.now e) }
 {
-    match plan.node(id) {
-        PlanNode::Stream(number, _) => {
-            // Named, since a goal speaks of the value.
-            let e = leaf_of(alloc, leaves, usize::from(*number))?;
-            Ok(e)
-        }
-        PlanNode::Body(_) => {
-            let e = leaf_of(alloc, leaves, 0)?;
-            Ok(e)
-        }
-        PlanNode::Compute { child, ops } => {
-            let below = put_node(alloc, net, plan, figures, *child, tick, leaves)?;
-            compute_node(alloc, net, plan, id, *child, ops, below)
-        }
-        PlanNode::Select { child, column } => {
-            let below = put_node(alloc, net, plan, figures, *child, tick, leaves)?;
-            select_node(alloc, net, plan, id, *child, *column, below)
-        }
-        PlanNode::Project { child, items } => {
-            let below = put_node(alloc, net, plan, figures, *child, tick, leaves)?;
-            project_node(alloc, net, plan, id, *child, items, below)
-        }
-        PlanNode::Aggregate { child, aggs } => {
-            let below = put_node(alloc, net, plan, figures, *child, tick, leaves)?;
-            aggregate_node(alloc, net, plan, id, *child, aggs, below)
-        }
-        PlanNode::Union { left, right } => {
-            let first = put_node(alloc, net, plan, figures, *left, tick, leaves)?;
-            let second = put_node(alloc, net, plan, figures, *right, tick, leaves)?;
-            union_node(alloc, net, plan, figures, id, *left, *right, first, second)
-        }
-        PlanNode::Beside { left, right } => {
-            let first = put_node(alloc, net, plan, figures, *left, tick, leaves)?;
-            let second = put_node(alloc, net, plan, figures, *right, tick, leaves)?;
-            beside_node(alloc, net, plan, figures, id, *left, *right, first, second)
-        }
-        PlanNode::Window { .. }
-        | PlanNode::TimeWindow { .. }
-        | PlanNode::Group { .. }
-        | PlanNode::Partition { .. } => { put_over(alloc, net, plan, figures, id, tick, leaves) }
+    // What `len` ensures of it is what the goals below ask for.
+    let _ = plan.len();
+    let limit = id.number() + 1;
+    let table = put_marked(alloc, net, plan, figures, marks, limit, tick, leaves)?;
+    // Named, since a goal speaks of the value.
+    let e = taken(alloc, table.as_slice(), id)?;
+    Ok(e)
+}
+
+// Adds the circuits of all marked nodes below a limit, each once, in the order of their numbers, and gives them by their numbers.
+#[cycle(put)]
+#[tactic(auto)]
+fn put_marked(
+    alloc: Global,
+    net: &mut NetBuilder,
+    plan: &Plan,
+    figures: &[Figures],
+    marks: &[bool],
+    limit: usize,
+    tick: Option<Bit>,
+    leaves: &[Wire],
+) -> Result<Table, Memory>
+    requires within { limit ≤ length plan.now }
+    requires can { CanPutMarked plan.now figures.now marks.now net.old tick leaves.now }
+    ensures { IfOk result (λ table.
+        ArePutTo plan.now marks.now limit net.old net.new tick leaves.now table.items) }
+{
+    let _ = plan.len();
+    let mut table = Table::new(alloc);
+    let mut number = 0;
+    while number < limit {
+        let marked = marks[number];
+        let slot = put_slot(
+            alloc,
+            net,
+            plan,
+            figures,
+            number,
+            marked,
+            tick,
+            leaves,
+            table.as_slice(),
+        )?;
+        table.push(slot)?;
+        number += 1;
+    }
+    Ok(table)
+}
+
+// The entry of a node: its circuit, which is added, where the node is marked.
+#[cycle(put)]
+#[tactic(auto)]
+fn put_slot(
+    alloc: Global,
+    net: &mut NetBuilder,
+    plan: &Plan,
+    figures: &[Figures],
+    number: usize,
+    marked: bool,
+    tick: Option<Bit>,
+    leaves: &[Wire],
+    table: &[Option<Emitted>],
+) -> Result<Option<Emitted>, Memory>
+    requires within { number < length plan.now }
+    requires can { marked ≡ true → CanPut plan.now figures.now number net.old tick leaves.now }
+    requires children { marked ≡ true
+        → HaveChildren plan.now number net.old tick leaves.now table.now }
+    ensures { IfOk result (λ slot.
+        IsSlot plan.now number net.old net.new tick leaves.now marked slot) }
+{
+    if !marked {
+        return Ok(None);
+    }
+    let id = plan.id(number);
+    if is_over(plan.node(id)) {
+        let e = put_over(alloc, net, plan, figures, id, tick, leaves, table)?;
+        Ok(Some(e))
+    } else {
+        let e = put_behind(alloc, net, plan, figures, id, tick, leaves, table)?;
+        Ok(Some(e))
     }
 }
 
@@ -98,10 +137,12 @@ fn put_over(
     id: PlanId,
     tick: Option<Bit>,
     leaves: &[Wire],
+    table: &[Option<Emitted>],
 ) -> Result<Emitted, Memory>
     requires over { IsOverCopies plan.now id }
     requires can { CanPut plan.now figures.now id net.old tick leaves.now }
-    ensures { IfOk result (λ e. IsPut plan.now id net.old net.new tick leaves.now e) }
+    requires children { HaveChildren plan.now id net.old tick leaves.now table.now }
+    ensures { IfOk result (λ e. IsPutBehind plan.now id net.old net.new tick leaves.now e) }
 {
     match plan.node(id) {
         PlanNode::Window {
@@ -117,7 +158,7 @@ fn put_over(
                 size: *size,
                 advance: *advance,
             };
-            put_window(alloc, net, plan, figures, window, tick, leaves)
+            put_window(alloc, net, plan, figures, window, tick, leaves, table)
         }
         PlanNode::TimeWindow {
             source,
@@ -133,7 +174,7 @@ fn put_over(
                 advance: *advance,
             };
             let Some(line) = tick else { unreachable!() };
-            put_time_window(alloc, net, plan, figures, window, line, leaves)
+            put_time_window(alloc, net, plan, figures, window, line, leaves, table)
         }
         PlanNode::Group {
             source,
@@ -148,7 +189,7 @@ fn put_over(
                 key: *key,
                 groups: *groups,
             };
-            put_group(alloc, net, plan, figures, group, tick, leaves)
+            put_group(alloc, net, plan, figures, group, tick, leaves, table)
         }
         PlanNode::Partition {
             source,
@@ -167,7 +208,7 @@ fn put_over(
                 size: *size,
                 advance: *advance,
             };
-            put_partition(alloc, net, plan, figures, partition, tick, leaves)
+            put_partition(alloc, net, plan, figures, partition, tick, leaves, table)
         }
         _ => unreachable!(),
     }
@@ -175,7 +216,7 @@ fn put_over(
 
 // Adds the circuit of a window: its source, the front, the body behind each of the front's wires, and the back.
 #[cycle(put)]
-#[tactic(auto, using(crate::proofs::CanLemmas::put_columns))]
+#[tactic(auto)]
 fn put_window(
     alloc: Global,
     net: &mut NetBuilder,
@@ -184,14 +225,16 @@ fn put_window(
     window: WindowOf,
     tick: Option<Bit>,
     leaves: &[Wire],
+    table: &[Option<Emitted>],
 ) -> Result<Emitted, Memory>
     requires node { IsWindow plan.now window }
     requires can { CanPut plan.now figures.now window.id net.old tick leaves.now }
-    ensures { IfOk result (λ e. IsPut plan.now window.id net.old net.new tick leaves.now e) }
+    requires children { HaveChildren plan.now window.id net.old tick leaves.now table.now }
+    ensures { IfOk result (λ e. IsPutBehind plan.now window.id net.old net.new tick leaves.now e) }
 {
     // What `len` ensures of it is what the goals below ask for.
     let _ = plan.len();
-    let below = put_node(alloc, net, plan, figures, window.source, tick, leaves)?;
+    let below = taken(alloc, table, window.source)?;
     let front = window.front(alloc, net, plan, figures, below)?;
     let copies = put_copies(
         alloc,
@@ -206,7 +249,7 @@ fn put_window(
 
 // Adds the circuit of a window of time in the same way, with the line of ticks at its front.
 #[cycle(put)]
-#[tactic(auto, using(crate::proofs::CanLemmas::put_columns))]
+#[tactic(auto)]
 fn put_time_window(
     alloc: Global,
     net: &mut NetBuilder,
@@ -215,13 +258,16 @@ fn put_time_window(
     window: TimeWindowOf,
     line: Bit,
     leaves: &[Wire],
+    table: &[Option<Emitted>],
 ) -> Result<Emitted, Memory>
     requires node { IsTimeWindow plan.now window }
     requires can { CanPut plan.now figures.now window.id net.old (Some line) leaves.now }
-    ensures { IfOk result (λ e. IsPut plan.now window.id net.old net.new (Some line) leaves.now e) }
+    requires children { HaveChildren plan.now window.id net.old (Some line) leaves.now table.now }
+    ensures { IfOk result (λ e.
+        IsPutBehind plan.now window.id net.old net.new (Some line) leaves.now e) }
 {
     let _ = plan.len();
-    let below = put_node(alloc, net, plan, figures, window.source, Some(line), leaves)?;
+    let below = taken(alloc, table, window.source)?;
     let front = window.front(alloc, net, plan, figures, below, line)?;
     let copies = put_copies(
         alloc,
@@ -236,7 +282,7 @@ fn put_time_window(
 
 // Adds the circuit of a group in the same way, or, where its body is direct, on a lane.
 #[cycle(put)]
-#[tactic(auto, using(crate::proofs::CanLemmas::put_columns))]
+#[tactic(auto)]
 fn put_group(
     alloc: Global,
     net: &mut NetBuilder,
@@ -245,16 +291,18 @@ fn put_group(
     group: GroupOf,
     tick: Option<Bit>,
     leaves: &[Wire],
+    table: &[Option<Emitted>],
 ) -> Result<Emitted, Memory>
     requires node { IsGroupNode plan.now group }
     requires can { CanPut plan.now figures.now group.id net.old tick leaves.now }
-    ensures { IfOk result (λ e. IsPut plan.now group.id net.old net.new tick leaves.now e) }
+    requires children { HaveChildren plan.now group.id net.old tick leaves.now table.now }
+    ensures { IfOk result (λ e. IsPutBehind plan.now group.id net.old net.new tick leaves.now e) }
 {
     let _ = plan.len();
     if is_direct(plan, group.body) {
-        return put_on_lane(alloc, net, plan, figures, group, tick, leaves);
+        return put_on_lane(alloc, net, plan, figures, group, tick, leaves, table);
     }
-    let below = put_node(alloc, net, plan, figures, group.source, tick, leaves)?;
+    let below = taken(alloc, table, group.source)?;
     let front = group.front(alloc, net, plan, figures, below)?;
     let copies = put_copies(
         alloc,
@@ -267,34 +315,9 @@ fn put_group(
     group.back(alloc, net, plan, figures, &front, copies.as_slice())
 }
 
-// Adds the circuit of a group whose body is direct: its source, one lane for all slots, the body once, and the keys in front of its totals.
-#[cycle(put)]
-#[tactic(auto, using(crate::proofs::CanLemmas::put_columns))]
-fn put_on_lane(
-    alloc: Global,
-    net: &mut NetBuilder,
-    plan: &Plan,
-    figures: &[Figures],
-    group: GroupOf,
-    tick: Option<Bit>,
-    leaves: &[Wire],
-) -> Result<Emitted, Memory>
-    requires node { IsGroupNode plan.now group }
-    requires can { CanPut plan.now figures.now group.id net.old tick leaves.now }
-    requires direct { is_direct (form_of plan.now group.body) ≡ true }
-    ensures { IfOk result (λ e. IsPut plan.now group.id net.old net.new tick leaves.now e) }
-{
-    let _ = plan.len();
-    let below = put_node(alloc, net, plan, figures, group.source, tick, leaves)?;
-    let laned = group.lane(alloc, net, plan, figures, below)?;
-    let place = laned.place();
-    let out = put_table(alloc, net, plan, group.body, &laned.lane.wire, place)?;
-    group.gathered(alloc, net, plan, figures, &laned, &out)
-}
-
 // Adds the circuit of the windows of each group in the same way, with a wire of the front for each copy of each slot.
 #[cycle(put)]
-#[tactic(auto, using(crate::proofs::CanLemmas::put_columns))]
+#[tactic(auto)]
 fn put_partition(
     alloc: Global,
     net: &mut NetBuilder,
@@ -303,13 +326,16 @@ fn put_partition(
     partition: PartitionOf,
     tick: Option<Bit>,
     leaves: &[Wire],
+    table: &[Option<Emitted>],
 ) -> Result<Emitted, Memory>
     requires node { IsPartitionNode plan.now partition }
     requires can { CanPut plan.now figures.now partition.id net.old tick leaves.now }
-    ensures { IfOk result (λ e. IsPut plan.now partition.id net.old net.new tick leaves.now e) }
+    requires children { HaveChildren plan.now partition.id net.old tick leaves.now table.now }
+    ensures { IfOk result (λ e.
+        IsPutBehind plan.now partition.id net.old net.new tick leaves.now e) }
 {
     let _ = plan.len();
-    let below = put_node(alloc, net, plan, figures, partition.source, tick, leaves)?;
+    let below = taken(alloc, table, partition.source)?;
     let front = partition.front(alloc, net, plan, figures, below)?;
     let copies = put_copies(
         alloc,
@@ -337,9 +363,19 @@ pub(crate) fn put_copies(
     ensures { IfOk result (λ copies.
         AreBodies plan.now body net.old net.new wires.now (length wires.now) copies) }
 {
+    let marks = marks_from(alloc, plan, body)?;
     let mut copies = Copies::new(alloc);
     for wire in wires {
-        let copy = put_node(alloc, net, plan, figures, body, None, from_ref(wire))?;
+        let copy = put_root_of(
+            alloc,
+            net,
+            plan,
+            figures,
+            body,
+            marks.as_slice(),
+            None,
+            from_ref(wire),
+        )?;
         copies.push(copy)?;
     }
     Ok(copies)

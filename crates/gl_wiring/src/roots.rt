@@ -6,7 +6,8 @@ ghost use Rattle.gl_wiring.specs.Put.{CanPut};
 ghost use Rattle.gl_wiring.specs.Roots.{IsRootPut};
 ghost use Rattle.gl_wiring.specs.SpareWindows.{IsSpareWindow};
 
-use crate::put::{put_copies, put_node};
+use crate::circuits::put_circuit;
+use crate::put::put_copies;
 use crate::spare_windows::SpareWindowOf;
 use crate::windows::WindowOf;
 use gl_algebra::{Figures, Plan, PlanId, PlanNode, Spare};
@@ -37,7 +38,7 @@ pub(crate) fn put_root(
         // What `len` ensures of it is what the goals below ask for.
         let _ = plan.len();
         // Named, since a goal speaks of the value.
-        let e = put_node(alloc, net, plan, figures, root, tick, leaves)?;
+        let e = put_circuit(alloc, net, plan, figures, root, tick, leaves)?;
         return Ok(e);
     };
     match plan.node(root) {
@@ -79,7 +80,7 @@ fn put_spare(
 {
     let _ = plan.len();
     let window = w.window;
-    let below = put_node(alloc, net, plan, figures, window.source, tick, leaves)?;
+    let below = put_circuit(alloc, net, plan, figures, window.source, tick, leaves)?;
     let front = w.front(alloc, net, plan, figures, below)?;
     let copies = put_copies(
         alloc,

@@ -9,7 +9,7 @@ ghost use Rattle.gl_windows.specs.TimeRotations.{IsTimeRotation, TimeFronts};
 ghost use Rattle.gl_wire_registers.specs.Joins.{AreCopies};
 ghost use Rattle.gl_wire.specs.declared.wire.Wire.{Wire as WireOf};
 ghost use Rattle.gl_wiring.specs.Leaves.{HaveLeaves};
-ghost use Rattle.gl_wiring.specs.Put.{HasColumns, IsPut};
+ghost use Rattle.gl_wiring.specs.Put.{Gives, HasColumns, IsPutBehind};
 ghost use Rattle.gl_wiring.specs.TimeWindows.{IsTimeFrontOf, IsTimeWindow, time_rotation_of};
 ghost use Rattle.gl_wiring.specs.Windows.{AreBehind};
 
@@ -69,10 +69,10 @@ impl TimeWindowOf {
         requires figures { AreFigures plan.now figures.now }
         requires below { HasColumns plan.now self.now.source net.old below }
         requires tick { IsBit net.old tick }
-        ensures { (old : Net) (leaves : List WireOf)
-            → IsPut plan.now self.now.source old net.old (Some tick) leaves below
+        ensures { (leaves : List WireOf)
+            → Gives plan.now self.now.source net.old (Some tick) leaves below
             → IfOk result (λ front.
-            IsTimeFrontOf plan.now self.now old net.new tick leaves front) }
+            IsTimeFrontOf plan.now self.now net.old net.new tick leaves front) }
     {
         let _ = plan.len();
         let rotation = self.rotation(plan, figures);
@@ -101,7 +101,7 @@ impl TimeWindowOf {
             → HaveLeaves old leaves (shape_of plan.now self.now.id).leaves
             → IsTimeFrontOf plan.now self.now old mid tick leaves front.now
             → AreBehind plan.now self.now.body mid net.old front.now copies.now
-            → IfOk result (λ e. IsPut plan.now self.now.id old net.new (Some tick) leaves e) }
+            → IfOk result (λ e. IsPutBehind plan.now self.now.id old net.new (Some tick) leaves e) }
     {
         let _ = plan.len();
         let rotation = self.rotation(plan, figures);

@@ -12,7 +12,7 @@ ghost use Rattle.gl_wire_registers.specs.Joins.{AreCopies};
 ghost use Rattle.gl_wire.specs.declared.wire.Wire.{Wire as WireOf};
 ghost use Rattle.gl_wire.specs.Faults.{AreLines};
 ghost use Rattle.gl_wire.specs.Wire.{IsWire, widths};
-ghost use Rattle.gl_wiring.specs.Put.{HasColumns, IsPut};
+ghost use Rattle.gl_wiring.specs.Put.{Gives, HasColumns, IsPutBehind};
 ghost use Rattle.gl_wiring.specs.Windows.{AreBehind, IsFrontOf, IsWindow, rotation_of};
 ghost use Rattle.gl_wiring.specs.Copies.{IsSpacedFor};
 
@@ -108,9 +108,9 @@ impl WindowOf {
         requires node { IsWindow plan.now self.now }
         requires figures { AreFigures plan.now figures.now }
         requires below { HasColumns plan.now self.now.source net.old below }
-        ensures { (old : Net) (tick : Option BitOf) (leaves : List WireOf)
-            → IsPut plan.now self.now.source old net.old tick leaves below
-            → IfOk result (λ front. IsFrontOf plan.now self.now old net.new tick leaves front) }
+        ensures { (tick : Option BitOf) (leaves : List WireOf)
+            → Gives plan.now self.now.source net.old tick leaves below
+            → IfOk result (λ front. IsFrontOf plan.now self.now net.old net.new tick leaves front) }
     {
         let _ = plan.len();
         let rotation = self.rotation(plan, figures);
@@ -139,7 +139,7 @@ impl WindowOf {
         ensures { (old mid : Net) (tick : Option BitOf) (leaves : List WireOf)
             → IsFrontOf plan.now self.now old mid tick leaves front.now
             → AreBehind plan.now self.now.body mid net.old front.now copies.now
-            → IfOk result (λ e. IsPut plan.now self.now.id old net.new tick leaves e) }
+            → IfOk result (λ e. IsPutBehind plan.now self.now.id old net.new tick leaves e) }
     {
         let _ = plan.len();
         let rotation = self.rotation(plan, figures);

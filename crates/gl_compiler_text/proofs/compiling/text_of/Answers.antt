@@ -6,10 +6,8 @@ use Rattle.gl_schema.specs.Schemas.{column_names}
 use Rattle.gl_schema.specs.Ports.{out_column}
 use Rattle.gl_schema.specs.Right.{IsRight}
 use Rattle.gl_net.specs.PortValues.{port_shapes}
-use Rattle.gl_algebra.specs.Added.{Placed, placed_at}
-use Rattle.gl_elaborate.specs.Plans.{plan_of}
+use Rattle.gl_algebra.specs.Added.{Placed}
 use Rattle.gl_net.specs.Net.{memory_bits_of, register_bits_of}
-use Rattle.gl_verilog_writer.specs.Meaning.{IsTextOf}
 use Rattle.gl_algebra.specs.Roots as roots
 use Rattle.gl_algebra.specs.Shapes as shapes
 use Rattle.gl_algebra.specs.Views.{reads_time}
@@ -17,11 +15,9 @@ use Rattle.gl_algebra.specs.Roots.{most_memory, most_registers}
 use Rattle.gl_wiring.specs.Output.{plan_ports}
 use Rattle.gl_wiring.specs.StreamWires.{AreStreamLeaves}
 use Rattle.gl_wiring.specs.Wired.{KeepsGroup, OverBeats, plan_means}
-use Rattle.gl_verilog_writer.specs.Design.{module_text}
-use Rattle.gl_compiler_text.specs.Meets.{Meets, result_columns}
-use Rattle.gl_compiler_text.specs.Built.{gap_of, latency_of}
+use Rattle.gl_compiler_text.specs.Meets.{result_columns}
 use Rattle.gl_compiler_text.proofs.KnownOf.{known}
-use Rattle.gl_compiler_text.proofs.Meeting.{text_meets}
+use Rattle.gl_compiler_text.proofs.Meeting.{text_costs, text_meets}
 use Rattle.gl_compiler_text.proofs.compiling.text_of.Goals as goal
 
 pub wire_plan-requires : goal.wire_plan-requires
@@ -54,7 +50,6 @@ returns-clause-meets c =
     let net = c.in_ok-net.net in
     let w = c.in_ok-net.ensures in
     let columns = c.in_ok-names.ensures.columns ∙ ap column_names c.requires.columns in
-    let e : module_text net ≡ c.write_module.new.into.items = sym (c.in_ok-write_module.ensures.text ∙ ap (λ (xs : List ℕ). xs ++ module_text net) c.new-text.ensures.items) in
     let called = w.name ∙ ap (λ (n : List ℕ). Some (codes "q__" ++ n)) c.in_ok-names.ensures.into in
     let ports = subst (λ (ns : List (List ℕ)). port_shapes net ≡ plan_ports (reads_time c.args.planned.now.plan) schema (shapes.kinds_of c.args.planned.now.plan c.args.planned.now.root) ns) columns w.ports in
     let right = subst (λ (ns : List (List ℕ)). OverBeats schema (roots.gap_of c.args.planned.now.plan c.args.planned.now.root) (λ all port. IsRight (plan_means c.args.planned.now.plan c.args.planned.now.root) (roots.latency_of c.args.planned.now.plan c.args.planned.now.root) all (map out_column ns) port) net) columns w.right in
@@ -62,27 +57,18 @@ returns-clause-meets c =
     let ports' = subst (λ (x : Placed). port_shapes net ≡ plan_ports (reads_time x.nodes) schema (shapes.kinds_of x.nodes x.root) (column_names (result_columns schema statement))) is.at ports in
     let right' = subst (λ (x : Placed). OverBeats schema (roots.gap_of x.nodes x.root) (λ all port. IsRight (plan_means x.nodes x.root) (roots.latency_of x.nodes x.root) all (map out_column (column_names (result_columns schema statement))) port) net) is.at right in
     let group' = subst (λ (x : Placed). OverBeats schema (roots.gap_of x.nodes x.root) (λ all port. KeepsGroup (map out_column (column_names (result_columns schema statement))) port) net) is.at group in
-    subst (Meets schema statement (latency_of schema statement) (gap_of schema statement)) e
-    (text_meets schema statement net (module_text net) k c.requires.checked c.write_module.ensures.meaning ports' called right' group')
+    text_meets schema statement net c.in_ok-made.made k c.requires.checked c.in_ok-made.ensures ports' called right' group'
 
 pub returns-clause-cost : goal.returns-clause-cost
 returns-clause-cost c =
     let schema = c.args.checked.now.schema in
     let statement = c.args.checked.now.statement in
+    let k = known schema statement c.requires.checked c.requires.names in
     let is = c.requires.planned in
     let net = c.in_ok-net.net in
     let w = c.in_ok-net.ensures in
-    let e : module_text net ≡ c.write_module.new.into.items = sym (c.in_ok-write_module.ensures.text ∙ ap (λ (xs : List ℕ). xs ++ module_text net) c.new-text.ensures.items) in
-    let t = subst (IsTextOf net) e c.write_module.ensures.meaning in
-    let root : (x : Placed) → placed_at c.args.planned.now.plan c.args.planned.now.root ≡ x → register_bits_of net ≤ most_registers x.nodes x.root =
-    λ x at. subst (λ (y : Placed). register_bits_of net ≤ most_registers y.nodes y.root) at w.registers in
-    let store : (x : Placed) → placed_at c.args.planned.now.plan c.args.planned.now.root ≡ x → memory_bits_of net ≤ most_memory x.nodes x.root =
-    λ x at. subst (λ (y : Placed). memory_bits_of net ≤ most_memory y.nodes y.root) at w.memories in
-    record {
-      design = t.design;
-      has = t.has;
-      registers = c.cost_of.ensures.registers ∙ sym t.registers;
-      memories = c.cost_of.ensures.memories ∙ sym t.memories;
-      few_registers = subst (λ n. n ≤ most_registers (plan_of schema statement).nodes (plan_of schema statement).root) (sym c.cost_of.ensures.registers) (root (plan_of schema statement) is.at);
-      few_memories = subst (λ n. n ≤ most_memory (plan_of schema statement).nodes (plan_of schema statement).root) (sym c.cost_of.ensures.memories) (store (plan_of schema statement) is.at);
-    }
+    let columns = c.in_ok-names.ensures.columns ∙ ap column_names c.requires.columns in
+    let ports = subst (λ (ns : List (List ℕ)). port_shapes net ≡ plan_ports (reads_time c.args.planned.now.plan) schema (shapes.kinds_of c.args.planned.now.plan c.args.planned.now.root) ns) columns w.ports in
+    let ports' = subst (λ (x : Placed). port_shapes net ≡ plan_ports (reads_time x.nodes) schema (shapes.kinds_of x.nodes x.root) (column_names (result_columns schema statement))) is.at ports in
+    text_costs schema statement net c.in_ok-made.made k c.requires.checked c.in_ok-made.ensures ports'
+    (subst (λ (x : Placed). register_bits_of net ≤ most_registers x.nodes x.root) is.at w.registers) (subst (λ (x : Placed). memory_bits_of net ≤ most_memory x.nodes x.root) is.at w.memories)

@@ -24,6 +24,6 @@ emit-requires-clause-sound_right c =
     (second_within c.args.plan.now c.args.id (Beside c.args.left c.args.right) c.len.ensures.plan c.requires.node c.args.left c.args.right refl))
 
 pub returns : goal.returns
-returns c = λ old mid tick leaves h i.
-    beside_put c.args.plan.now c.args.id old mid c.args.net.now c.emit.new.net tick leaves c.args.first c.args.second c.in_ok-e.e c.len.ensures.plan
+returns c = λ tick leaves h i.
+    beside_put c.args.plan.now c.args.id c.args.net.now c.emit.new.net tick leaves c.args.first c.args.second c.in_ok-e.e c.len.ensures.plan
     c.args.left c.args.right c.requires.node h i (rw (c.figures_at.ensures.value, c.figures_at-2.ensures.value) at c.in_ok-e.ensures)

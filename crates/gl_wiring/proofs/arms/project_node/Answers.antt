@@ -11,6 +11,6 @@ pub put_project-requires-clause-items : goal.put_project-requires-clause-items
 put_project-requires-clause-items c = rw (c.kinds.ensures.kinds, c.as_slice.ensures) ((c.len.ensures.plan.fits c.args.id _ c.requires.node).suits)
 
 pub returns : goal.returns
-returns c = λ old tick leaves h.
-    project_put c.args.plan.now c.args.id old c.args.net.now c.put_project.new.net tick leaves c.args.below c.in_ok-e.e c.len.ensures.plan
+returns c = λ tick leaves h.
+    project_put c.args.plan.now c.args.id c.args.net.now c.put_project.new.net tick leaves c.args.below c.in_ok-e.e c.len.ensures.plan
     c.args.child c.args.items.now c.requires.node h (rw (c.kinds.ensures.kinds, c.as_slice.ensures) at c.in_ok-e.ensures)

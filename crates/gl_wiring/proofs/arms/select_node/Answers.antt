@@ -13,8 +13,8 @@ put_select-requires-clause-column c =
     ((c.len.ensures.plan.fits c.args.id (Select c.args.child c.args.column) c.requires.node).suits))
 
 pub returns : goal.returns
-returns c = λ old tick leaves h.
-    select_put c.args.plan.now c.args.id old c.args.net.now c.put_select.new.net tick leaves c.args.below c.in_ok-e.e c.len.ensures.plan
+returns c = λ tick leaves h.
+    select_put c.args.plan.now c.args.id c.args.net.now c.put_select.new.net tick leaves c.args.below c.in_ok-e.e c.len.ensures.plan
     c.args.child c.args.column c.requires.node h
     (subst (λ (columns : List ℕ). IsBehind c.args.net.now c.put_select.new.net (Steady 1 (keep_where c.args.column)) columns (cost_of_rows columns 0)
     c.args.below c.in_ok-e.e) c.requires.below.same_widths (rw c.from.ensures at c.in_ok-e.ensures))

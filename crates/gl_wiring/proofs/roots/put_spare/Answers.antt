@@ -7,8 +7,8 @@ use Rattle.gl_wiring.proofs.CopyLemmas.{bodies_copies}
 use Rattle.gl_wiring.proofs.SpareLemmas.{spare_copies}
 use Rattle.gl_wiring.proofs.roots.put_spare.Goals as goal
 
-pub put_node-requires : goal.put_node-requires
-put_node-requires c =
+pub put_circuit-requires : goal.put_circuit-requires
+put_circuit-requires c =
     let w = c.args.w.window in
     (can_child c.args.plan.now c.args.figures.now w.id (Window w.source w.body w.size w.advance) c.args.net.now c.args.tick c.args.leaves.now
     c.len.ensures.plan c.requires.node.window' c.requires.can w.source (w.body ∷ []) refl refl).can

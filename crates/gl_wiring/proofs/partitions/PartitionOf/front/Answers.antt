@@ -21,7 +21,7 @@ front-requires-clause-key c =
     c.requires.below.same_widths c.in_ok-apart.ensures.behind.same_widths)
 
 pub returns : goal.returns
-returns c = λ old tick leaves h.
-    front_put c.args.plan.now c.args.self.now c.len.ensures.plan c.requires.node old c.args.net.now c.put_apart.new.net c.front.new.net tick leaves c.args.below
+returns c = λ tick leaves h.
+    front_put c.args.plan.now c.args.self.now c.len.ensures.plan c.requires.node c.args.net.now c.put_apart.new.net c.front.new.net tick leaves c.args.below
     c.in_ok-apart.apart c.in_ok-front.front h (rw (c.figures_at-source.ensures.value, c.max-gap.ensures, c.partitioning-partitioning.ensures.value) at c.in_ok-apart.ensures)
     (rw c.partitioning-partitioning.ensures.value at c.in_ok-front.ensures)

@@ -16,7 +16,7 @@ put_apart-requires-clause-narrow c =
     source_is_narrow c.args.plan.now c.args.self.now c.len.ensures.plan c.requires.node c.args.net.now c.args.below c.requires.below
 
 pub returns : goal.returns
-returns c = λ old tick leaves h.
-    front_put c.args.plan.now c.args.self.now c.len.ensures.plan c.requires.node old c.args.net.now c.put_apart.new.net c.front.new.net tick leaves c.args.below
+returns c = λ tick leaves h.
+    front_put c.args.plan.now c.args.self.now c.len.ensures.plan c.requires.node c.args.net.now c.put_apart.new.net c.front.new.net tick leaves c.args.below
     c.in_ok-apart.apart c.in_ok-front.front h (rw (c.figures_at-source.ensures.value, c.max-gap.ensures, c.rotation-rotation.ensures.value) at c.in_ok-apart.ensures)
     (rw c.rotation-rotation.ensures.value at c.in_ok-front.ensures)

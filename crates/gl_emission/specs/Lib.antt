@@ -1,0 +1,5 @@
+pub mod Driven
+pub mod Emission
+pub mod Emitted
+pub mod Overflow
+pub mod Views

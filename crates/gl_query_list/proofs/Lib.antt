@@ -1,0 +1,6 @@
+pub mod Steps
+pub mod Naming
+pub mod Coming
+pub mod Verdicts
+pub mod Listing
+pub mod Rows

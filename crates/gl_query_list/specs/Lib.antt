@@ -1,0 +1,4 @@
+pub mod Pieces
+pub mod Lists
+pub mod Laws
+pub mod Reading

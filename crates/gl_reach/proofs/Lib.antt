@@ -1,0 +1,4 @@
+pub mod SumLemmas
+pub mod ReachLemmas
+pub mod PartLemmas
+pub mod MarkLemmas
