@@ -16,7 +16,7 @@ use Rattle.gl_partitions.proofs.OwnCopies.{Step, step_at}
 use Rattle.gl_partitions.proofs.OwnFlow.{Own, completes}
 use Rattle.gl_partitions.proofs.OwnFlush.{Cut, Ended, Short, own_end, own_end_row, m}
 use Rattle.gl_partitions.proofs.PartLists.{turned}
-use Rattle.gl_partitions.proofs.EndingLemmas.{ending_none, keys, of_part, part_shown, slots, who}
+use Rattle.gl_partitions.proofs.EndingLemmas.{ending_none, keys, of_part, slots, who}
 use Rattle.gl_partitions.proofs.StreamLemmas.{Done, Flow, Owns, done_of, keys_with, rows_with_more, told}
 
 module _ (front : Setting) where

@@ -3,11 +3,11 @@ use Rattle.std.proofs.Common.{◌≡◌, ℕ, zero, suc, ◌+◌, ◌-◌, ◌*�
 use Rattle.std.specs.Prelude.{if◌then◌else◌, option_to_list, nat_eq, nat_le, nat_lt, slice_get, flat_map}
 use Rattle.std.specs.List.{list_any}
 use Rattle.std.proofs.Math.Nat.{mul-mod_left}
-use Rattle.std.proofs.lemmas.Bool.{cases_lt, and_from, and_parts, eq-eqb, eqb-true, le-leb, leb-true, lt-ltb, le-ltb, ne_eqb}
+use Rattle.std.proofs.lemmas.Bool.{cases_lt, and_from, and_parts, eq-eqb, eqb-true, le-leb, leb-true, lt-ltb, le-ltb}
 use Rattle.std.proofs.lemmas.List.{append-nil, append_assoc, map-append}
 use Rattle.std.proofs.lemmas.List.Elements.{filter-append}
 use Rattle.std.proofs.lemmas.Nat.{div-add-mod', div-mul-add, mod-mul-add}
-use Rattle.gl_bits.specs.Lists.{Group, groups, keys_of, part, rows_with, slices}
+use Rattle.gl_bits.specs.Lists.{Group, groups, keys_of, part, rows_with}
 use Rattle.gl_bits.specs.Partitions.{completed, keyed, short_slices, shorts}
 use Rattle.gl_bits.proofs.Bools.{true_or_false}
 use Rattle.gl_bits.proofs.Grouping.{AreDistinct}
