@@ -13,17 +13,15 @@ use Rattle.gl_net.specs.declared.node.Bit.{Bit}
 use Rattle.gl_net.specs.Net.{Net, Run, IsRun}
 use Rattle.gl_wire.specs.declared.emitted.Emitted.{Emitted}
 use Rattle.gl_wire.specs.declared.wire.Wire.{Wire}
-use Rattle.gl_wire.specs.Beats.{Spaced}
 use Rattle.gl_wire.specs.Faults.{line_of, lines_of}
-use Rattle.gl_wire.specs.Once.{ServingOnce}
 use Rattle.gl_wire.specs.Serving.{inputs_at}
 use Rattle.gl_wire.specs.Wire.{carried}
 use Rattle.gl_algebra.specs.Cost.{keys_of, lean_of}
 use Rattle.gl_algebra.specs.Roots.{further_keys, further_lean}
 use Rattle.gl_wire.proofs.OnceLemmas.{serving_once}
 use Rattle.gl_wiring.specs.Leaves.{leaf}
-use Rattle.gl_wiring.specs.Put.{IsPut}
-use Rattle.gl_wiring.specs.Roots.{IsRootPut, ServesOnceIn}
+use Rattle.gl_wiring.specs.Put.{Gives, IsPut}
+use Rattle.gl_wiring.specs.Roots.{IsRootPut, ServesOnceBy, ServesOnceIn}
 use Rattle.gl_wiring.proofs.CanLemmas.{put_columns}
 
 -- what a plan counts for a root is no less than for its node
@@ -32,6 +30,13 @@ behind new old own further h = omega (arith, h)
 
 bits_behind : (new old own further keys more : ℕ) → new ≤ old + (64 * own + keys) → new ≤ old + (64 * (own + further) + (keys + more))
 bits_behind new old own further keys more h = omega (arith, h)
+
+-- what gives a node's results over all beats does so over one stream
+pub once_by : (nodes : List PlanNode) (id : ℕ) (net : Net) (tick : Option Bit) (leaves : List Wire) (e : Emitted) → IsPlan nodes → id < length nodes
+    → Gives nodes id net tick leaves e → (run : Run) → IsRun net run → ServesOnceBy (figures_of nodes id) nodes id tick leaves e run
+once_by nodes id net tick leaves e plan within gives run is beats last one spaced has =
+    serving_once (figures_of nodes id) (λ t. IsPlanResult nodes id (inputs_at (line_of run tick) (leaf run leaves) (leaf run leaves 0) t)) (lines_of run e.faults)
+    beats (carried run e.wire) last (figures_are_sound nodes id plan within) spaced one (gives.serving run is beats spaced has)
 
 pub root_alone : (nodes : List PlanNode) (root : ℕ) (old new : Net) (tick : Option Bit) (leaves : List Wire) (e : Emitted) → IsPlan nodes → root < length nodes
     → spare_at nodes root ≡ None → IsPut nodes root old new tick leaves e → IsRootPut nodes root old new tick leaves e
@@ -51,9 +56,5 @@ root_alone nodes root old new tick leaves e plan within none put =
     same = let here = get_there nodes root within in figures_there nodes root here.0 None here.1 none
 
     once : (run : Run) → IsRun new run → ServesOnceIn nodes root tick leaves e run
-    once run is beats last one spaced has =
-        let own = subst (λ (g : Figures). Spaced g beats) same spaced in
-        subst (λ (g : Figures). ServingOnce g (IsPlanResult nodes root (inputs_at (line_of run tick) (leaf run leaves) (leaf run leaves 0) last)) (lines_of run e.faults) last
-        (carried run e.wire)) (sym same)
-        (serving_once (figures_of nodes root) (λ t. IsPlanResult nodes root (inputs_at (line_of run tick) (leaf run leaves) (leaf run leaves 0) t)) (lines_of run e.faults)
-        beats (carried run e.wire) last (figures_are_sound nodes root plan within) own one (put.gives.serving run is beats own has))
+    once run is =
+        subst (λ (g : Figures). ServesOnceBy g nodes root tick leaves e run) (sym same) (once_by nodes root new tick leaves e plan within put.gives run is)

@@ -4,6 +4,7 @@ pub mod Following
 pub mod Inputs
 pub mod Outputs
 pub mod VerilogNames
+pub mod ManyNames
 pub mod Finishing
 pub mod Shapes
 pub mod Resetting
@@ -16,6 +17,7 @@ pub mod TopLemmas
 pub mod ShownLemmas
 pub mod OutputLemmas
 pub mod PlanLemmas
+pub mod ManyLemmas
 pub mod CanLemmas
 pub mod BodyLemmas
 pub mod CopyLemmas
@@ -28,6 +30,7 @@ pub mod GivesLemmas
 pub mod LeafLemmas
 pub mod MarkedLemmas
 pub mod TableLemmas
+pub mod ReachedLemmas
 pub mod PairLemmas
 pub mod RowLemmas
 pub mod StepLemmas

@@ -16,7 +16,8 @@ use Rattle.gl_wire.proofs.StageLemmas.{line_first}
 use Rattle.gl_wire.proofs.GateLemmas.{never_line}
 use Rattle.gl_wiring.specs.Emitted.{CostsNothing, Extends, Puts}
 use Rattle.gl_wiring.specs.EmittedPorts.{output}
-use Rattle.gl_wiring.specs.Output.{AreShown, IsFault, group_cost, named_outputs, output_ports, queue_cost}
+use Rattle.gl_wiring.specs.Naming.{Naming}
+use Rattle.gl_wiring.specs.Output.{AreShown, IsFault, column_outputs, group_cost, queue_cost, result_outputs}
 use Rattle.gl_wiring.specs.Root.{IsSticky, later_line}
 use Rattle.gl_wiring.proofs.Shapes.{puts_none, puts_then, same_taken}
 
@@ -90,49 +91,62 @@ low_later run low h = sticky_same (λ t. false) (later_line (λ t. false)) (line
 
 -- ---- ports
 
-named_push : (ws : List ℕ) (ns : List (List ℕ)) (w : ℕ) (n : List ℕ) → length ns ≡ length ws
-    → named_outputs (ws ++ w ∷ []) (ns ++ n ∷ []) ≡ named_outputs ws ns ++ output (out_column n) w ∷ []
-named_push [] [] w n e = refl
-named_push [] (m ∷ ns) w n e = absurd (omega arith)
-named_push (v ∷ ws) [] w n e = absurd (omega arith)
-named_push (v ∷ ws) (m ∷ ns) w n e = ap (λ (x : List PortShape). output (out_column m) v ∷ x) (named_push ws ns w n (omega arith))
+named_push : (naming : Naming) (ws : List ℕ) (ns : List (List ℕ)) (w : ℕ) (n : List ℕ) → length ns ≡ length ws
+    → column_outputs naming (ws ++ w ∷ []) (ns ++ n ∷ []) ≡ column_outputs naming ws ns ++ output (naming (out_column n)) w ∷ []
+named_push naming [] [] w n e = refl
+named_push naming [] (m ∷ ns) w n e = absurd (omega arith)
+named_push naming (v ∷ ws) [] w n e = absurd (omega arith)
+named_push naming (v ∷ ws) (m ∷ ns) w n e =
+    ap (λ (x : List PortShape). output (naming (out_column m)) v ∷ x) (named_push naming ws ns w n (omega arith))
 
 widths_long : (bs : List Bus) → length (widths bs) ≡ length bs
 widths_long [] = refl
 widths_long (b ∷ bs) = ap suc (widths_long bs)
 
 -- one column more
-pub named_next : (a b c : Net) (bs : List Bus) (ns : List (List ℕ)) (i : ℕ) (bus : Bus) (n : List ℕ) → length ns ≡ length bs
+pub named_next : (naming : Naming) (a b c : Net) (bs : List Bus) (ns : List (List ℕ)) (i : ℕ) (bus : Bus) (n : List ℕ) → length ns ≡ length bs
     → take (i + 1) bs ≡ take i bs ++ bus ∷ [] → take (i + 1) ns ≡ take i ns ++ n ∷ []
-    → Puts a b (named_outputs (widths (take i bs)) (take i ns)) → Puts b c (output (out_column n) bus.width ∷ [])
-    → Puts a c (named_outputs (widths (take (i + 1) bs)) (take (i + 1) ns))
-named_next a b c bs ns i bus n same more_buses more_names x y =
-    let last = output (out_column n) bus.width ∷ [] in
+    → Puts a b (column_outputs naming (widths (take i bs)) (take i ns)) → Puts b c (output (naming (out_column n)) bus.width ∷ [])
+    → Puts a c (column_outputs naming (widths (take (i + 1) bs)) (take (i + 1) ns))
+named_next naming a b c bs ns i bus n same more_buses more_names x y =
+    let last = output (naming (out_column n)) bus.width ∷ [] in
     let long : length (take i ns) ≡ length (widths (take i bs)) = same_taken i ns bs same ∙ sym (widths_long (take i bs)) in
-    let is : named_outputs (widths (take (i + 1) bs)) (take (i + 1) ns) ≡ named_outputs (widths (take i bs)) (take i ns) ++ last =
-    ap (λ (t : List Bus). named_outputs (widths t) (take (i + 1) ns)) more_buses
-    ∙ ap (λ (t : List ℕ). named_outputs t (take (i + 1) ns)) (widths-push (take i bs) bus)
-    ∙ ap (named_outputs (widths (take i bs) ++ bus.width ∷ [])) more_names
-    ∙ named_push (widths (take i bs)) (take i ns) bus.width n long in
-    subst (λ (shapes : List PortShape). Puts a c shapes) (sym is) (puts_then a b c (named_outputs (widths (take i bs)) (take i ns)) last x y)
+    let is : column_outputs naming (widths (take (i + 1) bs)) (take (i + 1) ns) ≡ column_outputs naming (widths (take i bs)) (take i ns) ++ last =
+    ap (λ (t : List Bus). column_outputs naming (widths t) (take (i + 1) ns)) more_buses
+    ∙ ap (λ (t : List ℕ). column_outputs naming t (take (i + 1) ns)) (widths-push (take i bs) bus)
+    ∙ ap (column_outputs naming (widths (take i bs) ++ bus.width ∷ [])) more_names
+    ∙ named_push naming (widths (take i bs)) (take i ns) bus.width n long in
+    subst (λ (shapes : List PortShape). Puts a c shapes) (sym is) (puts_then a b c (column_outputs naming (widths (take i bs)) (take i ns)) last x y)
 
-pub shown_stay : (old new : Net) (ns : List (List ℕ)) (bs : List Bus) → Extends old new → AreShown old ns bs → AreShown new ns bs
-shown_stay old new [] [] x h = tt
-shown_stay old new [] (b ∷ bs) x h = absurd h
-shown_stay old new (n ∷ ns) [] x h = absurd h
-shown_stay old new (n ∷ ns) (b ∷ bs) x h = (x.ports Out (out_column n) b.node h.0, shown_stay old new ns bs x h.1)
+pub shown_stay : (naming : Naming) (old new : Net) (ns : List (List ℕ)) (bs : List Bus) → Extends old new → AreShown naming old ns bs → AreShown naming new ns bs
+shown_stay naming old new [] [] x h = tt
+shown_stay naming old new [] (b ∷ bs) x h = absurd h
+shown_stay naming old new (n ∷ ns) [] x h = absurd h
+shown_stay naming old new (n ∷ ns) (b ∷ bs) x h = (x.ports Out (naming (out_column n)) b.node h.0, shown_stay naming old new ns bs x h.1)
 
-pub shown_push : (old new : Net) (ns : List (List ℕ)) (bs : List Bus) (n : List ℕ) (b : Bus) → Extends old new → AreShown old ns bs
-    → IsPort new Out (out_column n) b.node → AreShown new (ns ++ n ∷ []) (bs ++ b ∷ [])
-shown_push old new ns bs n b x h p =
-    zip_append (λ (name : List ℕ) (c : Bus). IsPort new Out (out_column name) c.node) ns (n ∷ []) bs (b ∷ []) (shown_stay old new ns bs x h) (p, tt)
+pub shown_push : (naming : Naming) (old new : Net) (ns : List (List ℕ)) (bs : List Bus) (n : List ℕ) (b : Bus) → Extends old new
+    → AreShown naming old ns bs → IsPort new Out (naming (out_column n)) b.node → AreShown naming new (ns ++ n ∷ []) (bs ++ b ∷ [])
+shown_push naming old new ns bs n b x h p =
+    zip_append (λ (name : List ℕ) (c : Bus). IsPort new Out (naming (out_column name)) c.node) ns (n ∷ []) bs (b ∷ []) (shown_stay naming old new ns bs x h) (p, tt)
+
+-- a port of the same name and bits, or of the same node
+pub puts_named : (old new : Net) (n m : List ℕ) (w v : ℕ) → n ≡ m → w ≡ v → Puts old new (output n w ∷ []) → Puts old new (output m v ∷ [])
+puts_named old new n m w v named wide h = rw (sym named, sym wide) h
+
+pub port_named : (net : Net) (n m : List ℕ) (i j : ℕ) → n ≡ m → i ≡ j → IsPort net Out n i → IsPort net Out m j
+port_named net n m i j named same h = rw (sym named, sym same) h
 
 -- the ports of a result, one after the other
-pub output_puts : (n0 n1 n2 n3 n4 n5 : Net) (ws : List ℕ) (ns : List (List ℕ)) → Puts n0 n1 (output out_valid 1 ∷ [])
-    → Puts n1 n2 (named_outputs ws ns) → Puts n2 n3 (output out_eos 1 ∷ []) → Puts n3 n4 (output fault_group 1 ∷ [])
-    → Puts n4 n5 (output fault_queue 1 ∷ []) → Puts n0 n5 (output_ports ws ns)
-output_puts n0 n1 n2 n3 n4 n5 ws ns x y z u v =
-    let eos_and_group = puts_then n2 n3 n4 (output out_eos 1 ∷ []) (output fault_group 1 ∷ []) z u in
-    let tail : List PortShape = output out_eos 1 ∷ output fault_group 1 ∷ output fault_queue 1 ∷ [] in
-    let put : Puts n2 n5 tail = puts_then n2 n4 n5 (output out_eos 1 ∷ output fault_group 1 ∷ []) (output fault_queue 1 ∷ []) eos_and_group v in
-    puts_then n0 n1 n5 (output out_valid 1 ∷ []) (named_outputs ws ns ++ tail) x (puts_then n1 n2 n5 (named_outputs ws ns) tail y put)
+pub output_puts : (naming : Naming) (n0 n1 n2 n3 n4 n5 : Net) (ws : List ℕ) (ns : List (List ℕ)) → Puts n0 n1 (output (naming out_valid) 1 ∷ [])
+    → Puts n1 n2 (column_outputs naming ws ns) → Puts n2 n3 (output (naming out_eos) 1 ∷ []) → Puts n3 n4 (output (naming fault_group) 1 ∷ [])
+    → Puts n4 n5 (output (naming fault_queue) 1 ∷ []) → Puts n0 n5 (result_outputs naming ws ns)
+output_puts naming n0 n1 n2 n3 n4 n5 ws ns x y z u v =
+    let first = output (naming out_valid) 1 ∷ [] in
+    let end = output (naming out_eos) 1 in
+    let group = output (naming fault_group) 1 in
+    let queue = output (naming fault_queue) 1 in
+    let eos_and_group = puts_then n2 n3 n4 (end ∷ []) (group ∷ []) z u in
+    let tail : List PortShape = end ∷ group ∷ queue ∷ [] in
+    let put : Puts n2 n5 tail = puts_then n2 n4 n5 (end ∷ group ∷ []) (queue ∷ []) eos_and_group v in
+    let columns = column_outputs naming ws ns in
+    puts_then n0 n1 n5 first (columns ++ tail) x (puts_then n1 n2 n5 columns tail y put)

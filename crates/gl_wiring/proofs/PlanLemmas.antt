@@ -1,5 +1,5 @@
 -- The netlist of a plan: the names of its ports, what it costs, and that its runs are right.
-use Rattle.std.proofs.Common.{◌≡◌, ℕ, suc, Bool, true, false, ◌*◌, ◌<◌, ◌≤◌, List, [], ◌∷◌, ◌++◌, length, map, Some, None, refl, sym, ap, subst, ◌∙◌, append_assoc, arith}
+use Rattle.std.proofs.Common.{◌≡◌, ℕ, suc, Bool, true, false, ◌+◌, ◌*◌, ◌<◌, ◌≤◌, List, [], ◌∷◌, ◌++◌, length, map, Some, None, refl, sym, ap, subst, ◌∙◌, append_assoc, arith}
 use Rattle.std.specs.Prelude.{slice_get}
 use Rattle.std.specs.List.{sum}
 use Rattle.std.proofs.lemmas.List.{map-append}
@@ -7,8 +7,9 @@ use Rattle.gl_algebra.specs.Fits.{IsPlan}
 use Rattle.gl_algebra.specs.Results.{IsPlanResult}
 use Rattle.gl_algebra.specs.Shapes.{kinds_of}
 use Rattle.gl_algebra.specs.Views.{reads_time}
+use Rattle.gl_algebra.specs.declared.figures.Figures.{Figures}
 use Rattle.gl_algebra.specs.declared.node.PlanNode.{PlanNode}
-use Rattle.gl_algebra.specs.Roots.{gap_of, latency_of, most_memory, most_registers, root_figures, weight_with_output}
+use Rattle.gl_algebra.specs.Roots.{most_memory, most_registers, weight_with_output}
 use Rattle.gl_algebra.proofs.KindLemmas.{columns_have_kinds}
 use Rattle.gl_bits.proofs.AllLists.{length_map}
 use Rattle.gl_bits.proofs.Options.{some_same}
@@ -29,8 +30,9 @@ use Rattle.gl_wire.proofs.StageLemmas.{line_first, tuple_by}
 use Rattle.gl_wiring.specs.Bringing.{Brings}
 use Rattle.gl_wiring.specs.Emitted.{CostsNothing, names_of}
 use Rattle.gl_wiring.specs.EmittedPorts.{input, output, streams_inputs}
-use Rattle.gl_wiring.specs.Output.{input_ports, named_outputs, output_cost, output_ports, plan_ports, tick_input}
-use Rattle.gl_wiring.specs.PlanNet.{IsEmpty, IsPlanNet}
+use Rattle.gl_wiring.specs.Naming.{Naming, plain, seen_as}
+use Rattle.gl_wiring.specs.Output.{column_outputs, input_ports, output_cost, output_ports, plan_ports, result_outputs, tick_input}
+use Rattle.gl_wiring.specs.PlanNet.{IsEmpty, IsRootNet}
 use Rattle.gl_wiring.specs.PortNames.{port_names, result_ports, streams_ports, tick_port}
 use Rattle.gl_wiring.specs.Root.{ShowsRight}
 use Rattle.gl_wiring.specs.Wired.{KeepsGroup, OverBeats, plan_inputs, plan_means}
@@ -44,23 +46,32 @@ use Rattle.gl_wiring.proofs.TopLemmas.{plan_right}
 
 -- ---- names
 
-outputs_named : (ws : List ℕ) (ns : List (List ℕ)) → length ns ≡ length ws → names_in (named_outputs ws ns) ≡ map out_column ns
-outputs_named [] [] e = refl
-outputs_named [] (n ∷ ns) e = absurd (omega arith)
-outputs_named (w ∷ ws) [] e = absurd (omega arith)
-outputs_named (w ∷ ws) (n ∷ ns) e = ap (λ (x : List (List ℕ)). out_column n ∷ x) (outputs_named ws ns (omega arith))
+outputs_named : (naming : Naming) (ws : List ℕ) (ns : List (List ℕ)) → length ns ≡ length ws
+    → names_in (column_outputs naming ws ns) ≡ map naming (map out_column ns)
+outputs_named naming [] [] e = refl
+outputs_named naming [] (n ∷ ns) e = absurd (omega arith)
+outputs_named naming (w ∷ ws) [] e = absurd (omega arith)
+outputs_named naming (w ∷ ws) (n ∷ ns) e =
+    ap (λ (x : List (List ℕ)). naming (out_column n) ∷ x) (outputs_named naming ws ns (omega arith))
 
-result_named : (ws : List ℕ) (ns : List (List ℕ)) → length ns ≡ length ws → names_in (output_ports ws ns) ≡ result_ports ns
-result_named ws ns e =
-    let tail = output out_eos 1 ∷ output fault_group 1 ∷ output fault_queue 1 ∷ [] in
-    ap (λ (x : List (List ℕ)). out_valid ∷ x) (map-append (λ (s : PortShape). s.name) (named_outputs ws ns) tail
-    ∙ ap (λ (x : List (List ℕ)). x ++ out_eos ∷ fault_group ∷ fault_queue ∷ []) (outputs_named ws ns e))
+pub result_named : (naming : Naming) (ws : List ℕ) (ns : List (List ℕ)) → length ns ≡ length ws
+    → names_in (result_outputs naming ws ns) ≡ map naming (result_ports ns)
+result_named naming ws ns e =
+    let tail = output (naming out_eos) 1 ∷ output (naming fault_group) 1 ∷ output (naming fault_queue) 1 ∷ [] in
+    let named = naming out_eos ∷ naming fault_group ∷ naming fault_queue ∷ [] in
+    ap (λ (x : List (List ℕ)). naming out_valid ∷ x) (map-append (λ (s : PortShape). s.name) (column_outputs naming ws ns) tail
+    ∙ ap (λ (x : List (List ℕ)). x ++ named) (outputs_named naming ws ns e)
+    ∙ sym (map-append naming (map out_column ns) (out_eos ∷ fault_group ∷ fault_queue ∷ [])))
+
+same_names : (ns : List (List ℕ)) → map plain ns ≡ ns
+same_names [] = refl
+same_names (n ∷ ns) = ap (λ (x : List (List ℕ)). n ∷ x) (same_names ns)
 
 -- with the tick in front, where it is asked for
 later_named : (ticks : Bool) (ws : List ℕ) (ns : List (List ℕ)) → length ns ≡ length ws
     → names_in (tick_input ticks ++ output_ports ws ns) ≡ tick_port ticks ++ result_ports ns
-later_named true ws ns e = ap (λ (x : List (List ℕ)). tick ∷ x) (result_named ws ns e)
-later_named false ws ns e = result_named ws ns e
+later_named true ws ns e = ap (λ (x : List (List ℕ)). tick ∷ x) (result_named plain ws ns e ∙ same_names (result_ports ns))
+later_named false ws ns e = result_named plain ws ns e ∙ same_names (result_ports ns)
 
 -- the names of the ports of a plan's netlist
 pub plan_named : (ticks : Bool) (s : Schema) (ws : List ℕ) (ns : List (List ℕ)) → length ns ≡ length ws
@@ -109,9 +120,9 @@ costs_within nodes root n0 n1 n2 n3 columns plan within empty none put out same 
 
 -- ---- right runs
 
-module _ (schema : Schema) (nodes : List PlanNode) (root : ℕ) (names : List (List ℕ)) (net : Net) (is : IsPlanNet schema nodes root names net)
-    (apart : AreApart net) where
-  module _ (run : Run) (beats : List Beat) (trace : IsTrace net run) (are : AreBeats schema beats) (keeps : KeepsGap (gap_of nodes root) beats)
+module _ (schema : Schema) (nodes : List PlanNode) (root : ℕ) (f : Figures) (naming : Naming) (names : List (List ℕ)) (net : Net)
+    (is : IsRootNet schema nodes root f naming names net) (apart : AreApart net) (gap : ℕ) (close : f.gt ≤ gap) where
+  module _ (run : Run) (beats : List Beat) (trace : IsTrace net run) (are : AreBeats schema beats) (keeps : KeepsGap gap beats)
       (stimulus : IsStimulus schema beats (input_values net run)) where
     runs : IsRun net run
     runs = record { trace = trace; reset = is_reset schema beats net run apart is.reset trace stimulus }
@@ -123,22 +134,23 @@ module _ (schema : Schema) (nodes : List PlanNode) (root : ℕ) (names : List (L
         subst (λ (x : Wire). Brings k beats (carried run x)) same
         (brings schema k r.stream r.there beats are net run apart r.wire r.is stimulus)
 
-    shows : ShowsRight (root_figures nodes root) (IsPlanResult nodes root (plan_inputs (inputs_of beats))) (suc (last_cycle beats))
+    shows : ShowsRight f (IsPlanResult nodes root (plan_inputs (inputs_of beats))) (suc (last_cycle beats))
         (carried run is.output.wire) (line_at run is.output.group) (line_at run is.output.queue)
     shows = plan_right run is.leaves beats are.order leaf_brings
         (λ k e. no_input schema beats k are.each (no_stream net schema.streams is.leaves k is.wires e))
-        nodes root is.tick is.plan is.within (ticks_come schema beats net run apart stimulus (reads_time nodes) is.tick is.line) is.e (carried run is.output.wire) (line_at run is.output.group) (line_at run is.output.queue)
-        (is.serves run runs) keeps (is.output.delayed run runs) (is.output.group_line run runs) (is.output.queue_line run runs)
+        nodes root is.tick is.plan is.within (ticks_come schema beats net run apart stimulus (reads_time nodes) is.tick is.line)
+        f gap is.e (carried run is.output.wire) (line_at run is.output.group) (line_at run is.output.queue)
+        close (is.serves run runs) keeps (is.output.delayed run runs) (is.output.group_line run runs) (is.output.queue_line run runs)
 
     first : (carried run is.output.wire).tuple 0 ≡ None
     first = tuple_by run is.output.wire.valid is.output.wire.columns 0 ∙ rw (line_first run is.output.wire.valid) refl
 
-  pub plan_runs_right : OverBeats schema (gap_of nodes root) (λ all port. IsRight (plan_means nodes root) (latency_of nodes root) all (map out_column names) port) net
-  plan_runs_right run beats trace are keeps stimulus =
-      shown_right net run names is.output.wire is.output.group is.output.queue apart is.output.shows nodes root beats
+  pub root_runs_right : OverBeats schema gap (λ all port. IsRight (plan_means nodes root) (f.le + 1) all (map out_column names) (seen_as naming port)) net
+  root_runs_right run beats trace are keeps stimulus =
+      shown_right naming net run names is.output.wire is.output.group is.output.queue apart is.output.shows f nodes root beats
       (first run beats trace are keeps stimulus) (shows run beats trace are keeps stimulus)
 
-  pub plan_group_kept : OverBeats schema (gap_of nodes root) (λ all port. KeepsGroup (map out_column names) port) net
-  plan_group_kept run beats trace are keeps stimulus =
-      shown_group net run names is.output.wire is.output.group is.output.queue apart is.output.shows nodes root beats
+  pub root_group_kept : OverBeats schema gap (λ all port. KeepsGroup (map out_column names) (seen_as naming port)) net
+  root_group_kept run beats trace are keeps stimulus =
+      shown_group naming net run names is.output.wire is.output.group is.output.queue apart is.output.shows f nodes root beats
       (first run beats trace are keeps stimulus) (shows run beats trace are keeps stimulus)

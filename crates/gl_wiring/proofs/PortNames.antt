@@ -14,7 +14,7 @@ use Rattle.gl_schema.specs.Ports.{rst, eos, tick, in_valid, in_column, out_valid
 use Rattle.gl_schema.specs.Profile.{ProfilePort, column_inputs, stream_inputs, streams_inputs, port_names as profile_names}
 use Rattle.gl_schema.proofs.InputNames.{Apart, AreApart, apart_distinct, both_apart, first_byte, is_reserved, no_valid, texts_differ}
 use Rattle.gl_schema.proofs.InputNames as inputs
-use Rattle.gl_wiring.specs.PortNames.{column_ports, stream_ports, streams_ports, result_ports, tick_port, port_names}
+use Rattle.gl_wiring.specs.PortNames.{column_ports, stream_ports, streams_ports, result_ports, tick_port, module_names, port_names}
 
 -- ---- lists of names
 
@@ -107,14 +107,14 @@ valid_columns : (cs : List (List ℕ)) → AllByRecursion IsName cs → Apart ou
 valid_columns [] h = tt
 valid_columns (c ∷ cs) h = (λ e. no_valid c h.0 (out_valid-column c e), valid_columns cs h.1)
 
-result_apart : (cs : List (List ℕ)) → AllByRecursion IsName cs → AreApart cs → AreApart (result_ports cs)
+pub result_apart : (cs : List (List ℕ)) → AllByRecursion IsName cs → AreApart cs → AreApart (result_ports cs)
 result_apart cs all h = (
   all_append (λ m. out_valid ≡ m → ⊥) (map out_column cs) (out_eos ∷ fault_group ∷ fault_queue ∷ []) (valid_columns cs all) valid_tail,
   both_apart (map out_column cs) (out_eos ∷ fault_group ∷ fault_queue ∷ []) (columns_are_apart cs h) tail_are_apart (columns_tail cs all),
 )
 
 -- the first byte of a port of the result is an o or an f
-abbrev IsResultByte : ℕ → Type 0
+abbrev pub IsResultByte : ℕ → Type 0
 IsResultByte b = (b ≡ 111) ⊎ (b ≡ 102)
 
 outs_first : (cs : List (List ℕ)) → AllByRecursion (λ n. IsResultByte (first_byte n)) (map out_column cs)
@@ -169,55 +169,59 @@ differ-116 : IsResultByte 116 → ⊥
 differ-116 (inl e) = absurd (omega arith)
 differ-116 (inr e) = absurd (omega arith)
 
--- the ports behind the end of the input: the tick, where it is asked for, and those of the result
-abbrev later_ports : Bool → List (List ℕ) → List (List ℕ)
-later_ports ticks cs = tick_port ticks ++ result_ports cs
-
-later_first : (ticks : Bool) (cs : List (List ℕ)) → AllByRecursion (λ n. IsLaterByte (first_byte n)) (later_ports ticks cs)
-later_first true cs = (inr tick_first, all_weaker (λ n. IsResultByte (first_byte n)) (λ n. IsLaterByte (first_byte n)) (λ n k. inl k) (result_ports cs) (result_first cs))
-later_first false cs = all_weaker (λ n. IsResultByte (first_byte n)) (λ n. IsLaterByte (first_byte n)) (λ n k. inl k) (result_ports cs) (result_first cs)
-
-later_apart : (ticks : Bool) (cs : List (List ℕ)) → AllByRecursion IsName cs → AreApart cs → AreApart (later_ports ticks cs)
-later_apart true cs all h = (
-  all_weaker (λ n. IsResultByte (first_byte n)) (λ m. tick ≡ m → ⊥) (λ m k e. differ-116 (subst IsResultByte (sym (ap first_byte e) ∙ tick_first) k))
-      (result_ports cs) (result_first cs),
-  result_apart cs all h,
-)
-later_apart false cs all h = result_apart cs all h
-
 rst_eos : rst ≡ eos → ⊥
 unfolding rst eos
 rst_eos e = texts_differ rst eos refl e
 
--- in front of these ports stands the end of the input
-eos_apart : (ticks : Bool) (cs : List (List ℕ)) → Apart eos (later_ports ticks cs)
-eos_apart ticks cs =
-    all_weaker (λ n. IsLaterByte (first_byte n)) (λ m. eos ≡ m → ⊥) (λ m k. no_later 101 differ-101 eos m eos_first k) (later_ports ticks cs) (later_first ticks cs)
+-- the ports behind the end of the input: the tick, where it is asked for, and the outputs of results
+module _ (ticks : Bool) (outs : List (List ℕ)) (first : AllByRecursion (λ n. IsResultByte (first_byte n)) outs) where
+  abbrev later : List (List ℕ)
+  later = tick_port ticks ++ outs
 
-rst_apart : (ticks : Bool) (cs : List (List ℕ)) → Apart rst (later_ports ticks cs)
-rst_apart ticks cs =
-    all_weaker (λ n. IsLaterByte (first_byte n)) (λ m. rst ≡ m → ⊥) (λ m k. no_later 114 differ-114 rst m rst_first k) (later_ports ticks cs) (later_first ticks cs)
+  later_by : (b : Bool) → AllByRecursion (λ n. IsLaterByte (first_byte n)) (tick_port b ++ outs)
+  later_by true = (inr tick_first, all_weaker (λ n. IsResultByte (first_byte n)) (λ n. IsLaterByte (first_byte n)) (λ n k. inl k) outs first)
+  later_by false = all_weaker (λ n. IsResultByte (first_byte n)) (λ n. IsLaterByte (first_byte n)) (λ n k. inl k) outs first
 
-inputs_apart : (ticks : Bool) (ss : List Stream) (cs : List (List ℕ)) → AllByRecursion IsStream ss
-    → AllByRecursion (λ n. Apart n (eos ∷ later_ports ticks cs)) (streams_ports ss)
-inputs_apart ticks ss cs all =
-    all_weaker (λ n. first_byte n ≡ 105) (λ n. Apart n (eos ∷ later_ports ticks cs))
-    (λ n h. (
-      λ e. no_byte 101 (λ k. absurd (omega arith)) eos n eos_first h (sym e),
-      all_weaker (λ m. IsLaterByte (first_byte m)) (λ m. n ≡ m → ⊥) (λ m k. no_later 105 differ-105 n m h k) (later_ports ticks cs) (later_first ticks cs),
-    ))
-    (streams_ports ss) (streams_first ss all)
+  later_first : AllByRecursion (λ n. IsLaterByte (first_byte n)) later
+  later_first = later_by ticks
+
+  later_apart : (b : Bool) → AreApart outs → AreApart (tick_port b ++ outs)
+  later_apart true apart = (
+    all_weaker (λ n. IsResultByte (first_byte n)) (λ m. tick ≡ m → ⊥) (λ m k e. differ-116 (subst IsResultByte (sym (ap first_byte e) ∙ tick_first) k)) outs first,
+    apart,
+  )
+  later_apart false apart = apart
+
+  -- in front of these ports stands the end of the input
+  eos_apart : Apart eos later
+  eos_apart = all_weaker (λ n. IsLaterByte (first_byte n)) (λ m. eos ≡ m → ⊥) (λ m k. no_later 101 differ-101 eos m eos_first k) later later_first
+
+  rst_apart : Apart rst later
+  rst_apart = all_weaker (λ n. IsLaterByte (first_byte n)) (λ m. rst ≡ m → ⊥) (λ m k. no_later 114 differ-114 rst m rst_first k) later later_first
+
+  inputs_apart : (ss : List Stream) → AllByRecursion IsStream ss → AllByRecursion (λ n. Apart n (eos ∷ later)) (streams_ports ss)
+  inputs_apart ss all =
+      all_weaker (λ n. first_byte n ≡ 105) (λ n. Apart n (eos ∷ later))
+      (λ n h. (
+        λ e. no_byte 101 (λ k. absurd (omega arith)) eos n eos_first h (sym e),
+        all_weaker (λ m. IsLaterByte (first_byte m)) (λ m. n ≡ m → ⊥) (λ m k. no_later 105 differ-105 n m h k) later later_first,
+      ))
+      (streams_ports ss) (streams_first ss all)
+
+  -- no two ports of a module with these outputs have one name
+  pub module_names-distinct : (schema : Schema) → IsSchema schema → AreApart outs → IsDistinct bytes_eq (module_names ticks schema outs)
+  module_names-distinct schema is apart =
+      let streams = streams_ports schema.streams in
+      distinct_apart (module_names ticks schema outs) (
+        all_append (λ m. rst ≡ m → ⊥) streams (eos ∷ later)
+            (all_weaker (λ n. first_byte n ≡ 105) (λ m. rst ≡ m → ⊥) (λ m k. no_byte 114 (λ j. absurd (omega arith)) rst m rst_first k) streams (streams_first schema.streams is.streams))
+            (rst_eos, rst_apart),
+        both_apart streams (eos ∷ later) (streams_apart schema.streams is.streams (apart_distinct (stream_names schema.streams) is.distinct))
+            (eos_apart, later_apart ticks apart) (inputs_apart schema.streams is.streams),
+      )
 
 -- no two ports of an emitted module have one name
 pub port_names-distinct : (ticks : Bool) (schema : Schema) (cs : List (List ℕ)) → IsSchema schema → AllByRecursion IsName cs → IsDistinct bytes_eq cs
     → IsDistinct bytes_eq (port_names ticks schema cs)
 port_names-distinct ticks schema cs is all distinct =
-    let streams = streams_ports schema.streams in
-    let later = later_apart ticks cs all (apart_distinct cs distinct) in
-    distinct_apart (port_names ticks schema cs) (
-      all_append (λ m. rst ≡ m → ⊥) streams (eos ∷ later_ports ticks cs)
-          (all_weaker (λ n. first_byte n ≡ 105) (λ m. rst ≡ m → ⊥) (λ m k. no_byte 114 (λ j. absurd (omega arith)) rst m rst_first k) streams (streams_first schema.streams is.streams))
-          (rst_eos, rst_apart ticks cs),
-      both_apart streams (eos ∷ later_ports ticks cs) (streams_apart schema.streams is.streams (apart_distinct (stream_names schema.streams) is.distinct))
-          (eos_apart ticks cs, later) (inputs_apart ticks schema.streams cs is.streams),
-    )
+    module_names-distinct ticks (result_ports cs) (result_first cs) schema is (result_apart cs all (apart_distinct cs distinct))

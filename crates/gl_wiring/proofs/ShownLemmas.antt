@@ -4,8 +4,8 @@ use Rattle.std.specs.Prelude.{map, option_to_list, nat_eq}
 use Rattle.std.specs.List.{cons_option}
 use Rattle.std.proofs.lemmas.List.Elements.{filter_map-append}
 use Rattle.gl_algebra.specs.Results.{IsPlanResult}
+use Rattle.gl_algebra.specs.declared.figures.Figures.{Figures}
 use Rattle.gl_algebra.specs.declared.node.PlanNode.{PlanNode}
-use Rattle.gl_algebra.specs.Roots.{latency_of, root_figures}
 use Rattle.gl_bits.specs.Results.{Row}
 use Rattle.gl_net.specs.Net.{Net, Run}
 use Rattle.gl_net.specs.PortValues.{port_values}
@@ -21,23 +21,25 @@ use Rattle.gl_wire.specs.Wire.{Carried, carried, line_at, rows}
 use Rattle.gl_wire.specs.declared.wire.Wire.{Wire}
 use Rattle.gl_wire.proofs.RowsLemmas.{rows-split}
 use Rattle.gl_wire.proofs.StageLemmas.{tuple_by}
+use Rattle.gl_wiring.specs.Naming.{Naming, seen_as}
 use Rattle.gl_wiring.specs.Output.{AreShown, Shows}
 use Rattle.gl_wiring.specs.Root.{ShowsRight}
 use Rattle.gl_wiring.specs.Wired.{KeepsGroup, plan_inputs, plan_means}
 use Rattle.gl_wiring.proofs.BeatLemmas.{cons_is}
 use Rattle.gl_wiring.proofs.Outputs.{AreApart, port_at}
 
-columns_shown : (net : Net) (run : Run) (t : ℕ) (names : List (List ℕ)) (bs : List Bus) → AreApart net → AreShown net names bs
-    → map (value_at (port_values net run) t) (map out_column names) ≡ map (λ (b : Bus). run.at t b.node) bs
-columns_shown net run t [] [] apart h = refl
-columns_shown net run t [] (b ∷ bs) apart h = absurd h
-columns_shown net run t (n ∷ names) [] apart h = absurd h
-columns_shown net run t (n ∷ names) (b ∷ bs) apart h =
-    rw (port_at net run t Out (out_column n) b.node apart h.0, columns_shown net run t names bs apart h.1) refl
+columns_shown : (naming : Naming) (net : Net) (run : Run) (t : ℕ) (names : List (List ℕ)) (bs : List Bus) → AreApart net → AreShown naming net names bs
+    → map (value_at (seen_as naming (port_values net run)) t) (map out_column names) ≡ map (λ (b : Bus). run.at t b.node) bs
+columns_shown naming net run t [] [] apart h = refl
+columns_shown naming net run t [] (b ∷ bs) apart h = absurd h
+columns_shown naming net run t (n ∷ names) [] apart h = absurd h
+columns_shown naming net run t (n ∷ names) (b ∷ bs) apart h =
+    rw (port_at net run t Out (naming (out_column n)) b.node apart h.0, columns_shown naming net run t names bs apart h.1) refl
 
-module _ (net : Net) (run : Run) (names : List (List ℕ)) (w : Wire) (group queue : Bit) (apart : AreApart net) (shows : Shows net names w group queue) where
+module _ (naming : Naming) (net : Net) (run : Run) (names : List (List ℕ)) (w : Wire) (group queue : Bit) (apart : AreApart net)
+    (shows : Shows naming net names w group queue) where
   abbrev port : PortValues
-  port = port_values net run
+  port = seen_as naming (port_values net run)
 
   abbrev outs : List (List ℕ)
   outs = map out_column names
@@ -45,20 +47,20 @@ module _ (net : Net) (run : Run) (names : List (List ℕ)) (w : Wire) (group que
   row_is : (n : ℕ) → (shown port outs n).row ≡ (carried run w).tuple (suc n)
   unfolding shown wire.row_at line_at
   row_is n =
-      rw (port_at net run (suc n) Out out_valid w.valid.node apart shows.valid, columns_shown net run (suc n) names w.columns apart shows.columns)
+      rw (port_at net run (suc n) Out (naming out_valid) w.valid.node apart shows.valid, columns_shown naming net run (suc n) names w.columns apart shows.columns)
       (sym (tuple_by run w.valid w.columns (suc n)))
 
   end_is : (n : ℕ) → (shown port outs n).end ≡ line_at run w.eos (suc n)
   unfolding shown line_at
-  end_is n = ap (λ (v : ℕ). nat_eq v 1) (port_at net run (suc n) Out out_eos w.eos.node apart shows.end)
+  end_is n = ap (λ (v : ℕ). nat_eq v 1) (port_at net run (suc n) Out (naming out_eos) w.eos.node apart shows.end)
 
   group_is : (n : ℕ) → (shown port outs n).group ≡ line_at run group (suc n)
   unfolding shown line_at
-  group_is n = ap (λ (v : ℕ). nat_eq v 1) (port_at net run (suc n) Out fault_group group.node apart shows.group')
+  group_is n = ap (λ (v : ℕ). nat_eq v 1) (port_at net run (suc n) Out (naming fault_group) group.node apart shows.group')
 
   queue_is : (n : ℕ) → (shown port outs n).queue ≡ line_at run queue (suc n)
   unfolding shown line_at
-  queue_is n = ap (λ (v : ℕ). nat_eq v 1) (port_at net run (suc n) Out fault_queue queue.node apart shows.queue')
+  queue_is n = ap (λ (v : ℕ). nat_eq v 1) (port_at net run (suc n) Out (naming fault_queue) queue.node apart shows.queue')
 
   seen_rows : (n : ℕ) → rows_of (seen port outs n) ≡ rows (carried run w) 1 (suc n)
   seen_rows zero = cons_is (shown port outs 0).row [] ∙ ap (λ (x : Option Row). option_to_list x ++ []) (row_is 0)
@@ -73,11 +75,11 @@ module _ (net : Net) (run : Run) (names : List (List ℕ)) (w : Wire) (group que
       ∙ ap (λ (i : ℕ). rows a 1 (suc n) ++ rows a i 1) (sym k)
       ∙ sym (ap (rows a 1) m ∙ rows-split a (suc n) 1 1)
 
-  module _ (nodes : List PlanNode) (root : ℕ) (beats : List Beat) (first : (carried run w).tuple 0 ≡ None)
-      (s : ShowsRight (root_figures nodes root) (IsPlanResult nodes root (plan_inputs (inputs_of beats))) (suc (last_cycle beats))
+  module _ (f : Figures) (nodes : List PlanNode) (root : ℕ) (beats : List Beat) (first : (carried run w).tuple 0 ≡ None)
+      (s : ShowsRight f (IsPlanResult nodes root (plan_inputs (inputs_of beats))) (suc (last_cycle beats))
       (carried run w) (line_at run group) (line_at run queue)) where
     -- what the ports show of a right output is right
-    pub shown_right : IsRight (plan_means nodes root) (latency_of nodes root) beats outs port
+    pub shown_right : IsRight (plan_means nodes root) (f.le + 1) beats outs port
     shown_right = record {
       ended = s.ended;
       soonest = omega (arith, s.soonest);

@@ -1,12 +1,11 @@
 -- A plan's root over the beats of a file, shown one cycle later.
-use Rattle.std.proofs.Common.{◌≡◌, ℕ, zero, suc, ◌<◌, List, [], ◌++◌, length, Option, Some, None, Bool, true, false, slice_get, refl, sym, ap, ◌∙◌, subst, arith}
+use Rattle.std.proofs.Common.{◌≡◌, ℕ, zero, suc, ◌<◌, ◌≤◌, List, [], ◌++◌, length, Option, Some, None, Bool, true, false, slice_get, refl, sym, ap, ◌∙◌, subst}
 use mathlib.Core.Path.{fun_ext}
 use Rattle.gl_algebra.specs.Fits.{IsPlan}
 use Rattle.gl_algebra.specs.Results.{Inputs, IsPlanResult}
 use Rattle.gl_algebra.specs.Views.{reads_time}
 use Rattle.gl_algebra.specs.declared.figures.Figures.{Figures}
 use Rattle.gl_algebra.specs.declared.node.PlanNode.{PlanNode}
-use Rattle.gl_algebra.specs.Roots.{gap_of, root_figures}
 use Rattle.gl_bits.specs.Results.{Row, Results}
 use Rattle.gl_algebra.proofs.ReadLemmas.{results_are_untimed}
 use Rattle.gl_net.specs.declared.node.Bit.{Bit}
@@ -21,7 +20,7 @@ use Rattle.gl_wire.specs.Wire.{Carried, carried, pending, stream}
 use Rattle.gl_wire.specs.declared.emitted.Emitted.{Emitted}
 use Rattle.gl_wire.specs.declared.wire.Wire.{Wire}
 use Rattle.gl_wiring.specs.Bringing.{Brings, BringsTicks, beats_in}
-use Rattle.gl_wiring.specs.Roots.{ServesOnceIn}
+use Rattle.gl_wiring.specs.Roots.{ServesOnceBy}
 use Rattle.gl_wiring.specs.Root.{IsSticky, ShowsRight, later_line}
 use Rattle.gl_wiring.specs.Wired.{plan_inputs}
 use Rattle.gl_wiring.proofs.FileLemmas.{file_one, file_spaced, file_fits, file_stream, ticks_fit}
@@ -97,13 +96,12 @@ module _ (run : Run) (leaves : List Wire) (beats : List Beat) (order : AreInOrde
         by false reads = results_are_untimed nodes root plan within reads at_last (plan_inputs (inputs_of beats))
             (record { streams = leaf_stream; body = leaf_stream 0 }) out spill r
 
-    pub plan_right : (e : Emitted) (o : Carried) (group queue : ℕ → Bool)
-        → ServesOnceIn nodes root tick leaves e run → KeepsGap (gap_of nodes root) beats → IsDelayed 1 (carried run e.wire) o
+    pub plan_right : (f : Figures) (gap : ℕ) (e : Emitted) (o : Carried) (group queue : ℕ → Bool)
+        → f.gt ≤ gap → ServesOnceBy f nodes root tick leaves e run → KeepsGap gap beats → IsDelayed 1 (carried run e.wire) o
         → IsSticky (lines_of run e.faults).further group → IsSticky (later_line (lines_of run e.faults).passed) queue
-        → ShowsRight (root_figures nodes root) (IsPlanResult nodes root (plan_inputs (inputs_of beats))) (suc (last_cycle beats)) o group queue
-    plan_right e o group queue serves keeps later sticky sticky' =
-        let f : Figures = root_figures nodes root in
-        let spaced = file_spaced beats order f (gap_of nodes root) (omega arith) keeps in
+        → ShowsRight f (IsPlanResult nodes root (plan_inputs (inputs_of beats))) (suc (last_cycle beats)) o group queue
+    plan_right f gap e o group queue close serves keeps later sticky sticky' =
+        let spaced = file_spaced beats order f gap close keeps in
         let fits : LeavesFit run tick leaves (beats_in beats) = record {
           each = λ k w p. file_fits beats order k (carried run w) (brings k w p);
           ticks = ticks_fit beats line (reads_time nodes) come;

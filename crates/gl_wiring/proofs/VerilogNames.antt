@@ -14,16 +14,16 @@ use Rattle.gl_net.specs.Finished as net
 use Rattle.gl_net.specs.Finished.{IsName, is_letter, clock_name}
 use Rattle.std.proofs.lemmas.Bool.{leb-true}
 use Rattle.gl_bits.proofs.Bools.{and_left, and_right, and_both}
-use Rattle.gl_wiring.specs.PortNames.{column_ports, stream_ports, streams_ports, result_ports, tick_port, port_names}
+use Rattle.gl_wiring.specs.PortNames.{column_ports, stream_ports, streams_ports, result_ports, tick_port, module_names, port_names}
 
 -- a letter or a digit of the Verilog subset
-abbrev is_word_byte : ℕ → Bool
+abbrev pub is_word_byte : ℕ → Bool
 is_word_byte c = is_letter c || net.is_digit c
 
 -- what a name of the query language is made of
-record Plain (n : List ℕ) : Type 0 where
-  bytes : list_all is_word_byte n ≡ true
-  short : length n ≤ 32
+pub record Plain (n : List ℕ) : Type 0 where
+  pub bytes : list_all is_word_byte n ≡ true
+  pub short : length n ≤ 32
 
 byte_by : (capital small digit bar : Bool) → (small || digit || bar) ≡ true → (((capital || small) || bar) || digit) ≡ true
 byte_by true small digit bar h = refl
@@ -40,7 +40,7 @@ word_bytes : (n : List ℕ) → list_all is_name_byte n ≡ true → list_all is
 word_bytes [] h = refl
 word_bytes (c ∷ cs) h = and_both (is_word_byte c) (list_all is_word_byte cs) (word_byte c (and_left (is_name_byte c) (list_all is_name_byte cs) h)) (word_bytes cs (and_right (is_name_byte c) (list_all is_name_byte cs) h))
 
-plain : (n : List ℕ) → schema.IsName n → Plain n
+pub plain : (n : List ℕ) → schema.IsName n → Plain n
 unfolding is_name has_name_bytes
 plain n h =
     let to3 = and_left (nat_le (length n) 32 && begins_with_letter n && has_name_bytes n && not (has_loose_underscore n)) (not (is_taken n)) h in
@@ -51,11 +51,11 @@ plain n h =
     }
 
 -- a name in front of which these bytes stand, and behind it those
-around : (a n b : List ℕ) → list_all is_word_byte a ≡ true → list_all is_word_byte n ≡ true → list_all is_word_byte b ≡ true → list_all is_word_byte (a ++ n ++ b) ≡ true
+pub around : (a n b : List ℕ) → list_all is_word_byte a ≡ true → list_all is_word_byte n ≡ true → list_all is_word_byte b ≡ true → list_all is_word_byte (a ++ n ++ b) ≡ true
 around a n b h k l =
     rw (list_all-append is_word_byte (a ++ n) b, list_all-append is_word_byte a n) (and_both (list_all is_word_byte a && list_all is_word_byte n) (list_all is_word_byte b) (and_both (list_all is_word_byte a) (list_all is_word_byte n) h k) l)
 
-behind : (a n : List ℕ) → list_all is_word_byte a ≡ true → list_all is_word_byte n ≡ true → list_all is_word_byte (a ++ n) ≡ true
+pub behind : (a n : List ℕ) → list_all is_word_byte a ≡ true → list_all is_word_byte n ≡ true → list_all is_word_byte (a ++ n) ≡ true
 behind a n h k = rw (list_all-append is_word_byte a n) (and_both (list_all is_word_byte a) (list_all is_word_byte n) h k)
 
 -- a port's name: one of the subset, and not the clock's
@@ -140,7 +140,7 @@ fault_queue-name : IsPortName fault_queue
 unfolding fault_queue
 fault_queue-name = record { name = record { first = refl; each = refl; short = omega arith; free = refl }; clock = refl }
 
-All-append : (P : List ℕ → Type 0) (xs ys : List (List ℕ)) → AllByRecursion P xs → AllByRecursion P ys → AllByRecursion P (xs ++ ys)
+pub All-append : (P : List ℕ → Type 0) (xs ys : List (List ℕ)) → AllByRecursion P xs → AllByRecursion P ys → AllByRecursion P (xs ++ ys)
 All-append P [] ys h k = k
 All-append P (x ∷ xs) ys h k = (h.0, All-append P xs ys h.1 k)
 
@@ -157,11 +157,19 @@ outs_named : (cs : List (List ℕ)) → AllByRecursion schema.IsName cs → AllB
 outs_named [] all = tt
 outs_named (c ∷ cs) all = (out_column-name c all.0, outs_named cs all.1)
 
--- all ports have names of the subset
+result_named : (cs : List (List ℕ)) → AllByRecursion schema.IsName cs → AllByRecursion IsPortName (result_ports cs)
+result_named cs all =
+    (out_valid-name, All-append IsPortName (map out_column cs) (out_eos ∷ fault_group ∷ fault_queue ∷ []) (outs_named cs all) (out_eos-name, (fault_group-name, (fault_queue-name, tt))))
+
+-- all ports of a module with outputs of such names have names of the subset
+pub modules_named : (ticks : Bool) (s : Schema) (outs : List (List ℕ)) → IsSchema s → AllByRecursion IsPortName outs
+    → AllByRecursion IsPortName (module_names ticks s outs)
+modules_named ticks s outs is all = (
+  rst-name,
+  All-append IsPortName (streams_ports s.streams) (eos ∷ (tick_port ticks ++ outs)) (streams_named s.streams is.streams)
+      (eos-name, All-append IsPortName (tick_port ticks) outs (ticks_named ticks) all),
+)
+
 pub ports_named : (ticks : Bool) (s : Schema) (cs : List (List ℕ)) → IsSchema s → AllByRecursion schema.IsName cs
     → AllByRecursion IsPortName (port_names ticks s cs)
-ports_named ticks s cs is all = (
-  rst-name,
-  All-append IsPortName (streams_ports s.streams) (eos ∷ (tick_port ticks ++ result_ports cs)) (streams_named s.streams is.streams)
-      (eos-name, All-append IsPortName (tick_port ticks) (result_ports cs) (ticks_named ticks) (out_valid-name, All-append IsPortName (map out_column cs) (out_eos ∷ fault_group ∷ fault_queue ∷ []) (outs_named cs all) (out_eos-name, (fault_group-name, (fault_queue-name, tt))))),
-)
+ports_named ticks s cs is all = modules_named ticks s (result_ports cs) is (result_named cs all)

@@ -18,21 +18,31 @@ use Rattle.gl_wire.specs.Wire.{carried, line_at}
 use Rattle.gl_wire.specs.declared.emitted.Emitted.{Emitted}
 use Rattle.gl_wire.specs.declared.wire.Wire.{Wire}
 use Rattle.gl_wiring.specs.EmittedPorts.{input, output, streams_inputs}
+use Rattle.gl_wiring.specs.Naming.{Naming, plain}
 use Rattle.gl_wiring.specs.Root.{IsSticky, later_line}
 
 -- ---- ports
 
--- an output under each name, with these bits
-abbrev pub named_outputs : List ℕ → List (List ℕ) → List PortShape
-named_outputs [] names = []
-named_outputs (w ∷ widths) [] = []
-named_outputs (w ∷ widths) (n ∷ names) = output (out_column n) w ∷ named_outputs widths names
+-- an output for each column, with these bits
+abbrev pub column_outputs : Naming → List ℕ → List (List ℕ) → List PortShape
+column_outputs naming [] names = []
+column_outputs naming (w ∷ widths) [] = []
+column_outputs naming (w ∷ widths) (n ∷ names) =
+    output (naming (out_column n)) w ∷ column_outputs naming widths names
 
 -- the outputs of a result whose columns have these bits and names
+abbrev pub result_outputs : Naming → List ℕ → List (List ℕ) → List PortShape
+result_outputs naming widths names =
+    output (naming out_valid) 1
+    ∷ (column_outputs naming widths names ++ output (naming out_eos) 1 ∷ output (naming fault_group) 1
+    ∷ output (naming fault_queue) 1 ∷ [])
+
+-- and where it stands alone
+abbrev pub named_outputs : List ℕ → List (List ℕ) → List PortShape
+named_outputs = column_outputs plain
+
 abbrev pub output_ports : List ℕ → List (List ℕ) → List PortShape
-output_ports widths names =
-    output out_valid 1 ∷ (named_outputs widths names ++ output out_eos 1 ∷ output fault_group 1 ∷ output fault_queue 1
-    ∷ [])
+output_ports = result_outputs plain
 
 -- the tick, where it is asked for
 abbrev pub tick_input : Bool → List PortShape
@@ -66,24 +76,24 @@ queue_cost = record { nodes = 3; registers = 2; memories = 0 }
 -- ---- the output
 
 -- a port for each column
-abbrev pub AreShown : Net → List (List ℕ) → List Bus → Type 0
-AreShown net names columns = AllZip (λ name b. IsPort net Out (out_column name) b.node) names columns
+abbrev pub AreShown : Naming → Net → List (List ℕ) → List Bus → Type 0
+AreShown naming net names columns = AllZip (λ name b. IsPort net Out (naming (out_column name)) b.node) names columns
 
 -- the ports that show a wire and two lines
-pub record Shows (net : Net) (names : List (List ℕ)) (wire : Wire) (group queue : Bit) : Type 0 where
-  pub valid : IsPort net Out out_valid wire.valid.node
-  pub columns : AreShown net names wire.columns
-  pub end : IsPort net Out out_eos wire.eos.node
-  pub group' : IsPort net Out fault_group group.node
-  pub queue' : IsPort net Out fault_queue queue.node
+pub record Shows (naming : Naming) (net : Net) (names : List (List ℕ)) (wire : Wire) (group queue : Bit) : Type 0 where
+  pub valid : IsPort net Out (naming out_valid) wire.valid.node
+  pub columns : AreShown naming net names wire.columns
+  pub end : IsPort net Out (naming out_eos) wire.eos.node
+  pub group' : IsPort net Out (naming fault_group) group.node
+  pub queue' : IsPort net Out (naming fault_queue) queue.node
 
 -- a stage behind the wire of a circuit, a line behind its line of further groups, and one a cycle later behind that of
 -- its queues
-pub record IsOutput (net : Net) (names : List (List ℕ)) (e : Emitted) : Type 0 where
+pub record IsOutput (naming : Naming) (net : Net) (names : List (List ℕ)) (e : Emitted) : Type 0 where
   pub wire : Wire
   pub group : Bit
   pub queue : Bit
-  pub shows : Shows net names wire group queue
+  pub shows : Shows naming net names wire group queue
   pub delayed : (run : Run) → IsRun net run → IsDelayed 1 (carried run e.wire) (carried run wire)
   pub group_line : (run : Run) → IsRun net run → IsSticky (line_of run e.faults.further) (line_at run group)
   pub queue_line : (run : Run) → IsRun net run → IsSticky (later_line (line_of run e.faults.passed)) (line_at run queue)

@@ -1,5 +1,6 @@
 -- What the circuit of a plan's root is: over one stream its wire gives the root's results, with the root's spare copies.
 use Rattle.std.specs.Prelude.{ℕ, ◌+◌, ◌*◌, List, Option}
+use Rattle.gl_algebra.specs.declared.figures.Figures.{Figures}
 use Rattle.gl_algebra.specs.declared.node.PlanNode.{PlanNode}
 use Rattle.gl_algebra.specs.Cost.{keys_of, lean_of, store_of}
 use Rattle.gl_algebra.specs.Results.{IsPlanResult}
@@ -18,15 +19,17 @@ use Rattle.gl_wire.specs.Wire.{carried}
 use Rattle.gl_wiring.specs.Leaves.{LeavesFit, leaf}
 use Rattle.gl_wiring.specs.Put.{HasColumns}
 
--- in a run a circuit behind these leaves gives a root's results over each one stream whose beats are spaced by the
--- root's figures
-abbrev pub ServesOnceIn : List PlanNode → ℕ → Option Bit → List Wire → Emitted → Run → Type 0
-ServesOnceIn nodes root tick leaves e run =
-    (beats : Beats) (last : ℕ) → OneStream beats last → Spaced (root_figures nodes root) beats
-    → LeavesFit run tick leaves beats
-    → ServingOnce (root_figures nodes root)
-    (IsPlanResult nodes root (inputs_at (line_of run tick) (leaf run leaves) (leaf run leaves 0) last))
+-- in a run a circuit behind these leaves gives a root's results over each one stream whose beats are spaced by these
+-- figures
+abbrev pub ServesOnceBy : Figures → List PlanNode → ℕ → Option Bit → List Wire → Emitted → Run → Type 0
+ServesOnceBy f nodes root tick leaves e run =
+    (beats : Beats) (last : ℕ) → OneStream beats last → Spaced f beats → LeavesFit run tick leaves beats
+    → ServingOnce f (IsPlanResult nodes root (inputs_at (line_of run tick) (leaf run leaves) (leaf run leaves 0) last))
     (lines_of run e.faults) last (carried run e.wire)
+
+-- by those of the root
+abbrev pub ServesOnceIn : List PlanNode → ℕ → Option Bit → List Wire → Emitted → Run → Type 0
+ServesOnceIn nodes root = ServesOnceBy (root_figures nodes root) nodes root
 
 -- what a plan counts for the circuit of its root: nodes, bits of registers, bits of memories
 abbrev pub root_counted : List PlanNode → ℕ → Cost

@@ -17,11 +17,13 @@ is_marked marks id = get_or marks id false
 
 -- what a plan counts for all marked nodes below a limit, each once
 abbrev pub counted_to : List PlanNode → List Bool → ℕ → Cost
-counted_to nodes marks limit = record {
-  nodes = sum_where (is_marked marks) (weight_part nodes) limit;
-  registers = 64 * sum_where (is_marked marks) (lean_part nodes) limit + sum_where (is_marked marks) (keys_part nodes) limit;
-  memories = sum_where (is_marked marks) (store_part nodes) limit;
-}
+counted_to nodes marks limit =
+    let marked : ℕ → Bool = is_marked marks in
+    record {
+      nodes = sum_where marked (weight_part nodes) limit;
+      registers = 64 * sum_where marked (lean_part nodes) limit + sum_where marked (keys_part nodes) limit;
+      memories = sum_where marked (store_part nodes) limit;
+    }
 
 -- each marked node can be put, and its children are marked
 pub record CanPutMarked (nodes : List PlanNode) (figures : List Figures) (marks : List Bool) (net : Net)

@@ -29,7 +29,8 @@ time_rotation_of nodes w = record { size = w.size; advance = w.advance; body = f
 -- the cost of its front
 abbrev pub cost_to_time_front : List PlanNode → TimeWindowOf → Cost
 cost_to_time_front nodes w =
-    cost_of_time_front (copies_of_time w.size w.advance) (figures_of nodes w.body).a (widths_of (kinds_of nodes w.source))
+    let columns = widths_of (kinds_of nodes w.source) in
+    cost_of_time_front (copies_of_time w.size w.advance) (figures_of nodes w.body).a columns
 
 -- the front of such a window: its source gives the stream
 pub record IsTimeFrontOf (nodes : List PlanNode) (w : TimeWindowOf) (old new : Net) (tick : Bit) (leaves : List Wire)

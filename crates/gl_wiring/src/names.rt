@@ -1,7 +1,8 @@
 //! The names of an emitted module's ports.
 
 ghost use Rattle.std.specs.Prelude.{◌≡◌, ◌++◌, IfOk, OnOk, codes};
-ghost use Rattle.gl_schema.specs.Ports.{in_valid, in_column, out_column};
+ghost use Rattle.gl_schema.specs.Ports.{in_valid, in_column};
+ghost use Rattle.gl_wiring.specs.Naming.{WorkedNames, naming_of, with_shown};
 
 use gl_bits::{Listed, Memory};
 use gl_schema::NameText;
@@ -12,6 +13,15 @@ use std::alloc::Global;
 pub struct ResultNames {
     pub into: NameText,
     pub columns: Listed<NameText>,
+}
+
+/// Where a result stands, which its ports are called by.
+#[derive(Drop, Debug)]
+pub enum Face {
+    /// It is the one result of its module.
+    Alone,
+    /// It stands beside others, under the name behind INTO.
+    Among(NameText),
 }
 
 fn add(name: &mut Vec<u8>, piece: &[u8]) -> Result<(), Memory>
@@ -58,13 +68,41 @@ pub fn in_column_name(alloc: Global, stream: &[u8], column: &[u8]) -> Result<Vec
     Ok(name)
 }
 
-/// `out__COLUMN`.
-#[tactic(auto, unfolding(gl_schema::specs::Ports::out_column))]
-pub(crate) fn out_column_name(alloc: Global, column: &[u8]) -> Result<Vec<u8>, Memory>
-    ensures { IfOk result (λ v. v.items ≡ out_column column.now) }
+// What a port shows, behind `out__` or `fault__`: `WHAT`, or `INTO__WHAT`.
+fn add_shown(name: &mut Vec<u8>, face: &Face, what: &[u8]) -> Result<(), Memory>
+    ensures { OnOk result (name.new.items ≡ with_shown face.now name.old.items what.now) }
+{
+    match face {
+        Face::Alone => add(name, what),
+        Face::Among(result) => {
+            add(name, result.as_slice())?;
+            add(name, b"__")?;
+            add(name, what)
+        }
+    }
+}
+
+/// `out__WHAT`, as the face calls it.
+pub(crate) fn out_name(alloc: Global, face: &Face, what: &[u8]) -> Result<Vec<u8>, Memory>
+    ensures { IfOk result (λ v. v.items ≡ naming_of face.now (codes "out__" ++ what.now)) }
 {
     let mut name = Vec::new(alloc);
     add(&mut name, b"out__")?;
-    add(&mut name, column)?;
+    add_shown(&mut name, face, what)?;
     Ok(name)
 }
+
+/// `fault__WHAT`, as the face calls it.
+pub(crate) fn fault_name(alloc: Global, face: &Face, what: &[u8]) -> Result<Vec<u8>, Memory>
+    ensures { IfOk result (λ v. v.items ≡ naming_of face.now (codes "fault__" ++ what.now)) }
+{
+    let mut name = Vec::new(alloc);
+    add(&mut name, b"fault__")?;
+    add_shown(&mut name, face, what)?;
+    Ok(name)
+}
+
+/// Worked names of ports: of each the definition says what was worked out by hand.
+pub fn worked_names()
+    ensures { WorkedNames }
+{}

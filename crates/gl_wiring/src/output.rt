@@ -6,10 +6,11 @@ ghost use Rattle.gl_wire.specs.Costs.{CostsAtMost};
 ghost use Rattle.gl_wire.specs.Faults.{AreLines, IsLine, line_of};
 ghost use Rattle.gl_wire.specs.Wire.{AreBuses, IsWire, line_at, widths};
 ghost use Rattle.gl_wiring.specs.Emitted.{CostsNothing, Extends, Puts};
-ghost use Rattle.gl_wiring.specs.Output.{AreShown, IsFault, IsOutput, Shows, group_cost, named_outputs, output_cost, output_ports, queue_cost};
+ghost use Rattle.gl_wiring.specs.Naming.{naming_of};
+ghost use Rattle.gl_wiring.specs.Output.{AreShown, IsFault, IsOutput, Shows, column_outputs, group_cost, output_cost, queue_cost, result_outputs};
 ghost use Rattle.gl_wiring.specs.Root.{later_line};
 
-use crate::names::out_column_name;
+use crate::names::{Face, fault_name, out_name};
 use crate::parts::put_output;
 use gl_bits::{Memory, Word};
 use gl_net::{Bit, Bus, NetBuilder};
@@ -101,18 +102,19 @@ fn put_columns(
     alloc: Global,
     net: &mut NetBuilder,
     columns: &[Bus],
+    face: &Face,
     names: &[NameText],
 ) -> Result<(), Memory>
     requires lengths { length names.now ≡ length columns.now }
     requires columns { AreBuses net.old columns.now }
     ensures extends { OnOk result (Extends net.old net.new) }
     ensures ports { OnOk result (Puts net.old net.new
-        (named_outputs (widths columns.now) names.now)) }
+        (column_outputs (naming_of face.now) (widths columns.now) names.now)) }
     ensures cost { OnOk result (CostsNothing net.old net.new) }
-    ensures shown { OnOk result (AreShown net.new names.now columns.now) }
+    ensures shown { OnOk result (AreShown (naming_of face.now) net.new names.now columns.now) }
 {
     for (at, name) in names.iter().enumerate() {
-        let name = out_column_name(alloc, name.as_slice())?;
+        let name = out_name(alloc, face, name.as_slice())?;
         put_output(net, &name, columns[at])?;
     }
     Ok(())
@@ -125,6 +127,7 @@ fn put_ports(
     wire: &Wire,
     group: Bit,
     queue: Bit,
+    face: &Face,
     names: &[NameText],
 ) -> Result<(), Memory>
     requires lengths { length names.now ≡ length (widths wire.now.columns) }
@@ -133,25 +136,31 @@ fn put_ports(
     requires queue { IsBit net.old queue }
     ensures extends { OnOk result (Extends net.old net.new) }
     ensures ports { OnOk result (Puts net.old net.new
-        (output_ports (widths wire.now.columns) names.now)) }
+        (result_outputs (naming_of face.now) (widths wire.now.columns) names.now)) }
     ensures cost { OnOk result (CostsNothing net.old net.new) }
-    ensures shows { OnOk result (Shows net.new names.now wire.now group queue) }
+    ensures shows { OnOk result (Shows (naming_of face.now) net.new names.now wire.now group
+        queue) }
 {
-    put_output(net, b"out__valid", wire.valid.bus())?;
+    let valid_name = out_name(alloc, face, b"valid")?;
+    let end_name = out_name(alloc, face, b"eos")?;
+    let group_name = fault_name(alloc, face, b"group")?;
+    let queue_name = fault_name(alloc, face, b"queue")?;
+    put_output(net, &valid_name, wire.valid.bus())?;
     let columns = wire.columns.as_slice();
-    put_columns(alloc, net, columns, names)?;
-    put_output(net, b"out__eos", wire.eos.bus())?;
-    put_output(net, b"fault__group", group.bus())?;
-    put_output(net, b"fault__queue", queue.bus())?;
+    put_columns(alloc, net, columns, face, names)?;
+    put_output(net, &end_name, wire.eos.bus())?;
+    put_output(net, &group_name, group.bus())?;
+    put_output(net, &queue_name, queue.bus())?;
     Ok(())
 }
 
 /// The output of a circuit: its wire one cycle later on `out__valid`, the columns and `out__eos`, and its lines, which then never
-/// fall, on `fault__group` and `fault__queue`.
+/// fall, on `fault__group` and `fault__queue`, as the face calls these ports.
 pub(crate) fn put_result(
     alloc: Global,
     net: &mut NetBuilder,
     below: &Emitted,
+    face: &Face,
     names: &[NameText],
 ) -> Result<(), Memory>
     requires lengths { length names.now ≡ length (widths below.now.wire.columns) }
@@ -159,14 +168,14 @@ pub(crate) fn put_result(
     requires lines { AreLines net.old below.now.faults }
     ensures extends { OnOk result (Extends net.old net.new) }
     ensures ports { OnOk result (Puts net.old net.new
-        (output_ports (widths below.now.wire.columns) names.now)) }
+        (result_outputs (naming_of face.now) (widths below.now.wire.columns) names.now)) }
     ensures cost { OnOk result (CostsAtMost net.old net.new
         (output_cost (widths below.now.wire.columns))) }
-    ensures output { OnOk result (IsOutput net.new names.now below.now) }
+    ensures output { OnOk result (IsOutput (naming_of face.now) net.new names.now below.now) }
 {
     let wire = later_wire(alloc, net, &below.wire)?;
     let group = put_group(net, below.faults.further)?;
     let queue = put_queue(net, below.faults.passed)?;
-    put_ports(alloc, net, &wire, group, queue, names)?;
+    put_ports(alloc, net, &wire, group, queue, face, names)?;
     Ok(())
 }

@@ -6,7 +6,7 @@ ghost use Rattle.gl_wiring.specs.PlanNet.{IsEmpty, IsPlanNet};
 ghost use Rattle.gl_wiring.specs.Wired.{CanWire, IsWired};
 
 use crate::leaves::{put_leaves, put_tick};
-use crate::names::{ResultNames, module_name};
+use crate::names::{Face, ResultNames, module_name};
 use crate::output::put_result;
 use crate::roots::put_root;
 use gl_algebra::{Figures, Plan, PlanId, Spare};
@@ -36,7 +36,7 @@ fn put_plan(
     let leaves = put_leaves(alloc, net, schema)?;
     let tick = put_tick(net, plan.reads_time())?;
     let e = put_root(alloc, net, plan, figures, root, spare, tick, &leaves)?;
-    put_result(alloc, net, &e, names.columns.as_slice())?;
+    put_result(alloc, net, &e, &Face::Alone, names.columns.as_slice())?;
     Ok(())
 }
 

@@ -25,11 +25,11 @@ use gl_wire::{Emitted, Wire};
 use std::alloc::Global;
 use std::slice::from_ref;
 
-/// Adds the circuits of a node and of all below it, each once, and gives the node's wire and its lines. The marks are those of all that
-/// the node reaches.
+// Adds the circuits of a node and of all below it, each once, and gives the node's wire and its lines. The marks are those of all that
+// the node reaches.
 #[cycle(put)]
 #[tactic(auto)]
-pub(crate) fn put_root_of(
+fn put_root_of(
     alloc: Global,
     net: &mut NetBuilder,
     plan: &Plan,
@@ -52,10 +52,10 @@ pub(crate) fn put_root_of(
     Ok(e)
 }
 
-// Adds the circuits of all marked nodes below a limit, each once, in the order of their numbers, and gives them by their numbers.
+/// Adds the circuits of all marked nodes below a limit, each once, in the order of their numbers, and gives them by their numbers.
 #[cycle(put)]
 #[tactic(auto)]
-fn put_marked(
+pub(crate) fn put_marked(
     alloc: Global,
     net: &mut NetBuilder,
     plan: &Plan,

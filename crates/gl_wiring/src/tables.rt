@@ -13,7 +13,7 @@ use std::alloc::Global;
 use std::slice::from_ref;
 
 /// Circuits by the numbers of their nodes, where there are some.
-pub(crate) type Table = Vec<Option<Emitted>>;
+pub type Table = Vec<Option<Emitted>>;
 
 // The same wire and the same lines once more.
 fn copy_of(alloc: Global, e: &Emitted) -> Result<Emitted, Memory>
@@ -33,7 +33,7 @@ fn copy_of(alloc: Global, e: &Emitted) -> Result<Emitted, Memory>
 }
 
 /// The circuit of a node, which is in the table.
-pub(crate) fn taken(alloc: Global, table: &[Option<Emitted>], id: PlanId) -> Result<Emitted, Memory>
+pub fn taken(alloc: Global, table: &[Option<Emitted>], id: PlanId) -> Result<Emitted, Memory>
     requires { (e : EmittedOf) × (slice_get table.now id ≡ Some (Some e)) }
     ensures { IfOk result (λ e. slice_get table.now id ≡ Some (Some e)) }
 {

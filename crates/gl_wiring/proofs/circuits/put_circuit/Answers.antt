@@ -1,4 +1,15 @@
+use Rattle.gl_wiring.proofs.ReachedLemmas.{one_reached, one_there}
 use Rattle.gl_wiring.proofs.circuits.put_circuit.Goals as goal
 
-pub put_root_of-requires-clause-marks : goal.put_root_of-requires-clause-marks
-put_root_of-requires-clause-marks c = rw c.as_slice.ensures.value c.in_ok-marks.ensures
+pub put_reached-requires : goal.put_reached-requires
+put_reached-requires c = rw c.from_ref.ensures.value (c.requires, tt)
+
+pub taken-requires : goal.taken-requires
+taken-requires c =
+    rw c.as_slice.ensures.value (one_there c.args.plan.now c.len.ensures.plan c.args.id c.requires.within c.args.net.now c.put_reached.new.net c.args.tick
+    c.args.leaves.now c.in_ok-table.table.items (rw c.from_ref.ensures.value at c.in_ok-table.ensures))
+
+pub returns : goal.returns
+returns c =
+    one_reached c.args.plan.now c.len.ensures.plan c.args.id c.requires.within c.args.net.now c.put_reached.new.net c.args.tick
+    c.args.leaves.now c.in_ok-table.table.items (rw c.from_ref.ensures.value at c.in_ok-table.ensures) c.in_ok-e.e (rw c.as_slice.ensures.value at c.in_ok-e.ensures)

@@ -4,7 +4,8 @@ use Rattle.gl_net.proofs.Determined.{keeps_then}
 use Rattle.gl_wire.proofs.ColumnLemmas.{wire_kept}
 use Rattle.gl_wire.specs.Wire.{widths}
 use Rattle.gl_wiring.specs.Emitted.{Puts}
-use Rattle.gl_wiring.specs.Output.{output_ports}
+use Rattle.gl_wiring.specs.Naming.{naming_of}
+use Rattle.gl_wiring.specs.Output.{result_outputs}
 use Rattle.gl_wiring.proofs.Inputs.{extends_then}
 use Rattle.gl_wiring.proofs.OutputLemmas.{keeps_extends, keeps_puts}
 use Rattle.gl_wiring.proofs.Shapes.{puts_then}
@@ -36,6 +37,7 @@ returns-clause-ports c =
     let ws = widths c.args.below.now.wire.columns in
     let lines : Keeps stage queued = keeps_then stage c.put_group.new.net queued c.in_ok-group.ensures.keeps c.in_ok-queue.ensures.keeps in
     let all : Keeps old queued = keeps_then old stage queued c.in_ok-wire.ensures.keeps lines in
-    let shown : Puts queued new (output_ports ws names) =
-    subst (λ (x : List ℕ). Puts queued new (output_ports x names)) c.in_ok-wire.ensures.same_widths c.in_ok-put_ports.ensures.ports in
-    puts_then old queued new [] (output_ports ws names) (keeps_puts old queued all) shown
+    let naming = naming_of c.args.face.now in
+    let shown : Puts queued new (result_outputs naming ws names) =
+    subst (λ (x : List ℕ). Puts queued new (result_outputs naming x names)) c.in_ok-wire.ensures.same_widths c.in_ok-put_ports.ensures.ports in
+    puts_then old queued new [] (result_outputs naming ws names) (keeps_puts old queued all) shown

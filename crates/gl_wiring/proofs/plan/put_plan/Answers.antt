@@ -5,6 +5,7 @@ use Rattle.gl_net.specs.PortValues.{PortShape}
 use Rattle.gl_wiring.specs.Leaves.{widths_of}
 use Rattle.gl_wire.specs.Wire.{widths}
 use Rattle.gl_wiring.specs.Emitted.{CostsNothing, Extends, Puts}
+use Rattle.gl_wiring.specs.Naming.{plain}
 use Rattle.gl_wiring.specs.Output.{IsOutput, input_ports, output_ports, plan_ports, tick_input}
 use Rattle.gl_wiring.specs.StreamWires.{AreStreamWires, IsTickLine}
 use Rattle.gl_wiring.proofs.Inputs.{extends_then}
@@ -80,16 +81,18 @@ returns-clause-plan c =
     (puts_then n0 n1 n2 (input_ports false schema) (tick_input ticks) c.in_ok-leaves.ensures.ports own) in
     let outputs = output_ports (widths_of (kinds_of nodes root)) names in
     record {
-      plan = plan;
-      within = can.within;
-      leaves = ls;
-      tick = tick;
-      e = e;
-      wires = wires_stay n1 n4 ss ls x wires;
-      line = line_stays n2 n4 ticks tick y line;
-      serves = λ run r. put.once run (out.extends.runs run r);
-      output = subst (λ (z : List (List ℕ)). IsOutput n4 z e) c.as_slice.ensures out.output;
-      reset = reset_stays n1 n4 x c.in_ok-leaves.ensures.reset;
+      shown = record {
+        plan = plan;
+        within = can.within;
+        leaves = ls;
+        tick = tick;
+        e = e;
+        wires = wires_stay n1 n4 ss ls x wires;
+        line = line_stays n2 n4 ticks tick y line;
+        serves = λ run r. put.once run (out.extends.runs run r);
+        output = subst (λ (z : List (List ℕ)). IsOutput plain n4 z e) c.as_slice.ensures out.output;
+        reset = reset_stays n1 n4 x c.in_ok-leaves.ensures.reset;
+      };
       ports = all_put n0 n4 (plan_ports ticks schema (kinds_of nodes root) names) c.requires.empty.ports
           (puts_then n0 n2 n4 (input_ports ticks schema) outputs inputs (puts_then n2 n3 n4 [] outputs (keeps_puts n2 n3 put.keeps) shown));
       size = cost.size;

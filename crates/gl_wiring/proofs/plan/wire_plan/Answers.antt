@@ -1,10 +1,13 @@
-use Rattle.std.proofs.Common.{◌≡◌, ◌++◌, ap, subst, sym, ◌∙◌, codes, Some, ℕ, List}
+use Rattle.std.proofs.Common.{◌≡◌, ◌++◌, ap, subst, sym, ◌∙◌, codes, Some, ℕ, List, arith}
+use Rattle.gl_algebra.specs.declared.figures.Figures.{Figures}
+use Rattle.gl_algebra.specs.Roots.{root_figures}
 use Rattle.gl_algebra.specs.Views.{reads_time}
 use Rattle.gl_wiring.specs.Emitted.{names_of}
+use Rattle.gl_wiring.specs.Naming.{plain}
 use Rattle.gl_wiring.specs.PortNames.{port_names}
 use Rattle.gl_wiring.specs.Wired.{IsWired}
 use Rattle.gl_wiring.proofs.Finishing.{apart, finished}
-use Rattle.gl_wiring.proofs.PlanLemmas.{plan_group_kept, plan_names, plan_runs_right}
+use Rattle.gl_wiring.proofs.PlanLemmas.{plan_names, root_group_kept, root_runs_right}
 use Rattle.gl_wiring.proofs.plan.wire_plan.Goals as goal
 
 pub finish-requires : goal.finish-requires
@@ -19,7 +22,7 @@ finish-requires c =
     let driven = λ (n : ℕ). e.extends.undriven n ∙ c.module.ensures.undriven n ∙ c.new-net.ensures.undriven n in
     let ticks = reads_time c.args.plan.now in
     let ports : names_of net ≡ port_names ticks s names.columns = plan_names ticks net s c.args.plan.now c.args.root names.columns can.named.many' e.plan.ports in
-    finished ticks s names.columns names.into net can.schema' can.named.columns can.named.distinct can.named.into ports named driven e.plan.reset
+    finished ticks s names.columns names.into net can.schema' can.named.columns can.named.distinct can.named.into ports named driven e.plan.shown.reset
 
 pub returns : goal.returns
 returns c =
@@ -33,6 +36,7 @@ returns c =
     let is = e.plan in
     let named : net.name ≡ Some (codes "q__" ++ names.into) =
     e.extends.module_name ∙ c.in_ok-module.ensures.module_name ∙ ap (λ (n : List ℕ). Some n) (cc (c.deref.ensures.value, c.in_ok-name.ensures, c.as_slice.ensures)) in
+    let f : Figures = root_figures nodes root in
     let ticks = reads_time c.args.plan.now in
     let ports : names_of net ≡ port_names ticks s names.columns = plan_names ticks net s nodes root names.columns can.named.many' is.ports in
     let unlike = apart ticks s names.columns net can.schema' can.named.columns can.named.distinct ports in
@@ -42,7 +46,7 @@ returns c =
       size = is.size;
       registers = is.registers;
       memories = is.memories;
-      right = plan_runs_right s nodes root names.columns net is unlike;
-      group = plan_group_kept s nodes root names.columns net is unlike;
+      right = root_runs_right s nodes root f plain names.columns net is.shown unlike f.gt (omega arith);
+      group = root_group_kept s nodes root f plain names.columns net is.shown unlike f.gt (omega arith);
     } in
     subst (IsWired s nodes root names) (sym c.finish.ensures) wired

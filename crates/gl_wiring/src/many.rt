@@ -1,0 +1,134 @@
+//! The netlist of several results of one plan.
+
+ghost use Rattle.std.specs.Prelude.{◌≡◌, ◌<◌, ◌∷◌, [], IfOk, OnOk, length};
+ghost use Rattle.std.specs.List.{AllByRecursion};
+ghost use Rattle.gl_wiring.specs.Emitted.{Extends};
+ghost use Rattle.gl_wiring.specs.Many.{AreWired, CanWireAll, ids_of};
+ghost use Rattle.gl_wiring.specs.ManyNet.{AreShownBy, CanShow, IsManyNet};
+ghost use Rattle.gl_wiring.specs.PlanNet.{IsEmpty};
+ghost use Rattle.gl_wiring.specs.declared.names.Face.TheVariants.{Among};
+
+use crate::circuits::put_reached;
+use crate::leaves::{put_leaves, put_tick};
+use crate::names::{Face, ResultNames};
+use crate::output::put_result;
+use crate::tables::taken;
+use gl_algebra::{Figures, Plan, PlanId};
+use gl_bits::Memory;
+use gl_net::{NetBuilder, Netlist};
+use gl_schema::{NameText, Schema};
+use gl_wire::Emitted;
+use std::alloc::Global;
+
+/// A node of a plan, and what its result is called.
+#[derive(Drop, Debug)]
+pub struct Root {
+    pub id: PlanId,
+    pub names: ResultNames,
+}
+
+// The nodes of roots.
+fn ids_of(alloc: Global, roots: &[Root]) -> Result<Vec<PlanId>, Memory>
+    ensures { IfOk result (λ ids. ids.items ≡ ids_of roots.now) }
+{
+    let mut ids = Vec::new(alloc);
+    for root in roots {
+        ids.push(root.id)?;
+    }
+    Ok(ids)
+}
+
+// The face of a result that stands beside others.
+fn face_of(alloc: Global, names: &ResultNames) -> Result<Face, Memory>
+    ensures { IfOk result (λ face. face ≡ Among names.now.into) }
+{
+    match Vec::from_slice(alloc, names.into.as_slice()) {
+        Ok(into) => Ok(Face::Among(NameText::from_vec(into))),
+        Err(_) => Err(Memory),
+    }
+}
+
+// The output of a root, behind the root's circuit in the table.
+fn put_root_result(
+    alloc: Global,
+    net: &mut NetBuilder,
+    plan: &Plan,
+    table: &[Option<Emitted>],
+    root: &Root,
+) -> Result<(), Memory>
+    requires within { root.now.id < length plan.now }
+    requires can { CanShow plan.now net.old table.now root.now }
+    ensures { OnOk result (AreShownBy plan.now table.now net.old net.new (root.now ∷ [])) }
+{
+    // What `len` ensures of it is what the goals below ask for.
+    let _ = plan.len();
+    let e = taken(alloc, table, root.id)?;
+    let face = face_of(alloc, &root.names)?;
+    put_result(alloc, net, &e, &face, root.names.columns.as_slice())?;
+    Ok(())
+}
+
+// Those of all roots, one after the other.
+fn put_results(
+    alloc: Global,
+    net: &mut NetBuilder,
+    plan: &Plan,
+    table: &[Option<Emitted>],
+    roots: &[Root],
+) -> Result<(), Memory>
+    requires within { AllByRecursion (λ r. r.id < length plan.now) roots.now }
+    requires can { AllByRecursion (CanShow plan.now net.old table.now) roots.now }
+    ensures { OnOk result (AreShownBy plan.now table.now net.old net.new roots.now) }
+{
+    let Some((root, others)) = roots.split_first() else {
+        return Ok(());
+    };
+    put_root_result(alloc, net, plan, table, root)?;
+    put_results(alloc, net, plan, table, others)?;
+    Ok(())
+}
+
+// The nodes and ports of several results, in a builder that has none.
+fn put_many(
+    alloc: Global,
+    net: &mut NetBuilder,
+    schema: &Schema,
+    plan: &Plan,
+    figures: &[Figures],
+    roots: &[Root],
+) -> Result<(), Memory>
+    requires can { CanWireAll schema.now plan.now figures.now roots.now }
+    requires empty { IsEmpty net.old }
+    ensures extends { OnOk result (Extends net.old net.new) }
+    ensures plan { OnOk result (IsManyNet schema.now plan.now roots.now net.new) }
+{
+    // What `len` ensures of it is what the goals below ask for.
+    let _ = plan.len();
+    let leaves = put_leaves(alloc, net, schema)?;
+    let tick = put_tick(net, plan.reads_time())?;
+    let ids = ids_of(alloc, roots)?;
+    let table = put_reached(alloc, net, plan, figures, &ids, tick, &leaves)?;
+    put_results(alloc, net, plan, &table, roots)?;
+    Ok(())
+}
+
+/// The netlist of several results of one plan: the inputs of an emitted module for this schema, for each root in order the outputs of
+/// its result under names with the result's own in them, and the circuits of all that the roots reach, each once, between them.
+///
+/// The figures are those of all nodes, as `gl_figures` answers them. Every run over beats that keep the greatest of the roots' gaps is
+/// right for each of them within its own latency. No root has spare copies. Want of memory is the one other answer.
+pub fn wire_roots(
+    alloc: Global,
+    schema: &Schema,
+    plan: &Plan,
+    figures: &[Figures],
+    roots: &[Root],
+) -> Result<Netlist, Memory>
+    requires { CanWireAll schema.now plan.now figures.now roots.now }
+    ensures { IfOk result (AreWired schema.now plan.now roots.now) }
+{
+    let mut net = NetBuilder::new(alloc);
+    net.module(b"q__many")?;
+    put_many(alloc, &mut net, schema, plan, figures, roots)?;
+    Ok(net.finish())
+}
