@@ -7,7 +7,6 @@ use Rattle.gl_schema.specs.Ports.{PortValues}
 use Rattle.gl_dumps.specs.Written.{header, ports_of, time_line}
 use Rattle.gl_verilog.specs.Module.{Module}
 use Rattle.gl_verilog_ports.specs.Profile.{result_names}
-use Rattle.gl_bits.specs.declared.kind.Kind.{Kind}
 use Rattle.gl_outside.specs.Counts.{Rose}
 use Rattle.gl_schema.specs.declared.schema.Schema.{Schema}
 use Rattle.gl_verilog.specs.Run.{port_of}
@@ -21,9 +20,9 @@ use Rattle.gl_runner.specs.Dumping.{OfTimelyDriven, StandsDumped}
 use Rattle.gl_runner.specs.Dumps.{Dumped, DumpsFront, DumpsWhole, IsDumpOf, OfTimelyPorts}
 use Rattle.gl_runner.specs.declared.dumping.DumpLines.{DumpLines}
 use Rattle.gl_runner.specs.Prints.{EndsWithin, IsEnd}
-use Rattle.gl_runner.specs.Watches.{OfDrivenPorts, Watched, WatchesFront, WatchesToEnd, bytes_to, dump_of_cycle}
+use Rattle.gl_runner.specs.Watches.{OfDrivenPorts, Watched, WatchesFront, WatchesToEnd, bytes_to, dump_of_cycle, end_of_cycle}
 use Rattle.gl_runner.proofs.DumpRows.{dump_is}
-use Rattle.gl_runner.proofs.Each.{not_out}
+use Rattle.gl_runner.proofs.Each.{end_is, not_out, out_is}
 use Rattle.gl_runner.proofs.Running.{last_from}
 
 -- what stands in front of the first time
@@ -44,10 +43,10 @@ record IsEndIn (m : Module) (beats : List Beat) (port : PortValues) (extra : ℕ
 -- a run that ends in time ends somewhere first
 first_of : (m : Module) (beats : List Beat) (port : PortValues) (extra : ℕ) → EndsWithin extra beats (result_names m) port → IsEndIn m beats port extra
 first_of m beats port extra ends =
-    let last = last_from beats (result_names m) port extra 0 (λ k le lt. absurd (omega arith)) (omega arith) in
+    let last = last_from beats (end_of_cycle m port) extra 0 (λ k le lt. absurd (omega arith)) (omega arith) in
     (elim last.is [
-      | inl e ↦ record { place = last.place; is = e.is }
-      | inr out ↦ not_out beats (result_names m) port extra last.place out ends
+      | inl e ↦ record { place = last.place; is = end_is m beats port last.place e.is }
+      | inr out ↦ not_out beats (result_names m) port extra last.place (out_is m beats port extra last.place out) ends
     ])
 
 -- the sink failed in front of the cycles
@@ -61,33 +60,33 @@ cut_in_front m beats port extra old new ends taken =
     }
 
 -- among them
-pub cut_among : (m : Module) (beats : List Beat) (port : PortValues) (extra : ℕ) (old mid new : Option (List ℕ)) → EndsWithin extra beats (result_names m) port → Appends old mid (front_of m) → WatchesFront dump_of_cycle beats extra m port mid new → DumpsFront m beats port old new
+pub cut_among : (m : Module) (beats : List Beat) (port : PortValues) (extra : ℕ) (old mid new : Option (List ℕ)) → EndsWithin extra beats (result_names m) port → Appends old mid (front_of m) → WatchesFront dump_of_cycle end_of_cycle beats extra m port mid new → DumpsFront m beats port old new
 cut_among m beats port extra old mid new ends before w = (elim w.is [
   | inl e ↦ record {
     bytes = front_of m ++ (cycles_of m port w.last ++ time_line (suc w.last));
-    are = dump_to m beats port w.last e.is;
+    are = dump_to m beats port w.last (end_is m beats port w.last e.is);
     taken = front_then old mid new (front_of m) (cycles_of m port w.last ++ time_line (suc w.last)) before (front_more mid new (cycles_of m port w.last) (time_line (suc w.last)) w.taken);
   }
-  | inr out ↦ not_out beats (result_names m) port extra w.last out ends
+  | inr out ↦ not_out beats (result_names m) port extra w.last (out_is m beats port extra w.last out) ends
 ])
 
 -- behind them
-pub cut_behind : (m : Module) (lines : DumpLines) (beats : List Beat) (port : PortValues) (extra : ℕ) (old mid late new : Option (List ℕ)) → Appends old mid (front_of m) → WatchesToEnd dump_of_cycle (StandsDumped lines) beats extra m port mid late → AppendsFront late new (time_line lines.next) → DumpsFront m beats port old new
+pub cut_behind : (m : Module) (lines : DumpLines) (beats : List Beat) (port : PortValues) (extra : ℕ) (old mid late new : Option (List ℕ)) → Appends old mid (front_of m) → WatchesToEnd dump_of_cycle end_of_cycle (StandsDumped lines) beats extra m port mid late → AppendsFront late new (time_line lines.next) → DumpsFront m beats port old new
 cut_behind m lines beats port extra old mid late new before w taken =
     let taken' : AppendsFront late new (time_line (suc w.last)) = subst (λ (n : ℕ). AppendsFront late new (time_line n)) w.watched.behind.next' taken in
     record {
       bytes = front_of m ++ (cycles_of m port w.last ++ time_line (suc w.last));
-      are = dump_to m beats port w.last w.is.is;
+      are = dump_to m beats port w.last (end_is m beats port w.last w.is.is);
       taken = front_then old mid new (front_of m) (cycles_of m port w.last ++ time_line (suc w.last)) before (front_then mid late new (cycles_of m port w.last) (time_line (suc w.last)) w.watched.taken taken');
     }
 
 -- all was taken
-pub dumped_whole : (m : Module) (lines : DumpLines) (beats : List Beat) (port : PortValues) (extra : ℕ) (old mid late new : Option (List ℕ)) → Appends old mid (front_of m) → WatchesToEnd dump_of_cycle (StandsDumped lines) beats extra m port mid late → Appends late new (time_line lines.next) → DumpsWhole m beats port old new
+pub dumped_whole : (m : Module) (lines : DumpLines) (beats : List Beat) (port : PortValues) (extra : ℕ) (old mid late new : Option (List ℕ)) → Appends old mid (front_of m) → WatchesToEnd dump_of_cycle end_of_cycle (StandsDumped lines) beats extra m port mid late → Appends late new (time_line lines.next) → DumpsWhole m beats port old new
 dumped_whole m lines beats port extra old mid late new before w taken =
     let taken' : Appends late new (time_line (suc w.last)) = subst (λ (n : ℕ). Appends late new (time_line n)) w.watched.behind.next' taken in
     record {
       bytes = front_of m ++ (cycles_of m port w.last ++ time_line (suc w.last));
-      are = dump_to m beats port w.last w.is.is;
+      are = dump_to m beats port w.last (end_is m beats port w.last w.is.is);
       taken = appends_then old mid new (front_of m) (cycles_of m port w.last ++ time_line (suc w.last)) before (appends_then mid late new (cycles_of m port w.last) (time_line (suc w.last)) w.watched.taken taken');
     }
 
@@ -97,7 +96,7 @@ dumped_whole m lines beats port extra old mid late new before w taken =
 pub dump_cut_in_front : (d : Driven) (old new : SinkState) → Broke old new (front_of (design_of d)) → Dumped (OfTimelyDriven d) d.beats old new WriteFault
 dump_cut_in_front d old new broke = (broke.cause, λ value word before ends. cut_in_front (design_of d) d.beats (port_of (design_of d) value) d.extra old.taken new.taken ends broke.front)
 
-pub dump_cut_among : (d : Driven) (lines : DumpLines) (old mid new : SinkState) (r : Ending) → r ≡ ending.WriteFault → Took old mid (front_of (design_of d)) → Watched (OfDrivenPorts d) dump_of_cycle (StandsDumped lines) d.beats d.extra mid new r → Dumped (OfTimelyDriven d) d.beats old new WriteFault
+pub dump_cut_among : (d : Driven) (lines : DumpLines) (old mid new : SinkState) (r : Ending) → r ≡ ending.WriteFault → Took old mid (front_of (design_of d)) → Watched (OfDrivenPorts d) dump_of_cycle end_of_cycle (StandsDumped lines) d.beats d.extra mid new r → Dumped (OfTimelyDriven d) d.beats old new WriteFault
 dump_cut_among d lines old mid new ending.Done is front' h = absurd cc
 dump_cut_among d lines old mid new (ending.NoEnd cycle) is front' h = absurd cc
 dump_cut_among d lines old mid new ending.WriteFault is front' h = (
@@ -110,11 +109,11 @@ dump_cut_among d lines old mid new ending.Memory is front' h = absurd h
 -- behind a watcher that came through, nothing failed, and each run that ends in time came to its end
 pub record IsCalmEnd (d : Driven) (lines : DumpLines) (mid late : SinkState) : Type 0 where
   pub calm : late.faults ≡ mid.faults
-  pub each : OfTimelyDriven d (λ m port. WatchesToEnd dump_of_cycle (StandsDumped lines) d.beats d.extra m port mid.taken late.taken)
+  pub each : OfTimelyDriven d (λ m port. WatchesToEnd dump_of_cycle end_of_cycle (StandsDumped lines) d.beats d.extra m port mid.taken late.taken)
 
-pub came_through : (d : Driven) (lines : DumpLines) (mid late : SinkState) (r : Ending) → (r ≡ ending.WriteFault → ⊥) → Watched (OfDrivenPorts d) dump_of_cycle (StandsDumped lines) d.beats d.extra mid late r → IsCalmEnd d lines mid late
+pub came_through : (d : Driven) (lines : DumpLines) (mid late : SinkState) (r : Ending) → (r ≡ ending.WriteFault → ⊥) → Watched (OfDrivenPorts d) dump_of_cycle end_of_cycle (StandsDumped lines) d.beats d.extra mid late r → IsCalmEnd d lines mid late
 came_through d lines mid late ending.Done not' h = record { calm = h.0; each = λ value word before ends. h.1 value word before }
-came_through d lines mid late (ending.NoEnd cycle) not' h = record { calm = h.0; each = λ value word before ends. not_out d.beats (result_names (design_of d)) (port_of (design_of d) value) d.extra cycle (h.1 value word before).is ends }
+came_through d lines mid late (ending.NoEnd cycle) not' h = record { calm = h.0; each = λ value word before ends. not_out d.beats (result_names (design_of d)) (port_of (design_of d) value) d.extra cycle (out_is (design_of d) d.beats (port_of (design_of d) value) d.extra cycle (h.1 value word before).is) ends }
 came_through d lines mid late ending.WriteFault not' h = absurd (not' refl)
 came_through d lines mid late ending.Memory not' h = absurd h
 
@@ -134,8 +133,8 @@ dump_cut_behind d lines old mid late new front' through broke = (
 
 -- ---- from what is driven to each run
 
-of_timely : (m : Module) (schema : Schema) (kinds : List Kind) (beats : List Beat) (start : Start) (extra : ℕ) (d : Driven) (P : List Beat → Module → PortValues → Type 0) → IsStarted m schema kinds beats start extra d → OfTimelyDriven d (P d.beats) → OfTimelyPorts extra m schema beats start (P beats)
-of_timely m schema kinds beats start extra d P is h = λ value word over ends.
+of_timely : (m : Module) (schema : Schema) (beats : List Beat) (start : Start) (extra : ℕ) (d : Driven) (P : List Beat → Module → PortValues → Type 0) → IsStarted m schema beats start extra d → OfTimelyDriven d (P d.beats) → OfTimelyPorts extra m schema beats start (P beats)
+of_timely m schema beats start extra d P is h = λ value word over ends.
     let ends' : EndsWithin d.extra d.beats (result_names (design_of d)) (port_of (design_of d) value) =
     subst (λ (x : Module). EndsWithin d.extra d.beats (result_names x) (port_of x value)) (sym is.design')
     (subst (λ (x : List Beat). EndsWithin d.extra x (result_names m) (port_of m value)) (sym is.beats')
@@ -143,7 +142,7 @@ of_timely m schema kinds beats start extra d P is h = λ value word over ends.
     subst (λ (x : List Beat). P x m (port_of m value)) is.beats'
     (subst (λ (x : Module). P d.beats x (port_of x value)) is.design' (h value word (is.before value word over) ends'))
 
-pub dumped_started : (m : Module) (schema : Schema) (kinds : List Kind) (beats : List Beat) (start : Start) (extra : ℕ) (d : Driven) (old new : SinkState) (r : Outcome) → IsStarted m schema kinds beats start extra d → Dumped (OfTimelyDriven d) d.beats old new r → Dumped (OfTimelyPorts extra m schema beats start) beats old new r
-dumped_started m schema kinds beats start extra d old new Done is h = (h.0, of_timely m schema kinds beats start extra d (λ bs m' port. DumpsWhole m' bs port old.taken new.taken) is h.1)
-dumped_started m schema kinds beats start extra d old new WriteFault is h = (h.0, of_timely m schema kinds beats start extra d (λ bs m' port. DumpsFront m' bs port old.taken new.taken) is h.1)
-dumped_started m schema kinds beats start extra d old new Memory is h = h
+pub dumped_started : (m : Module) (schema : Schema) (beats : List Beat) (start : Start) (extra : ℕ) (d : Driven) (old new : SinkState) (r : Outcome) → IsStarted m schema beats start extra d → Dumped (OfTimelyDriven d) d.beats old new r → Dumped (OfTimelyPorts extra m schema beats start) beats old new r
+dumped_started m schema beats start extra d old new Done is h = (h.0, of_timely m schema beats start extra d (λ bs m' port. DumpsWhole m' bs port old.taken new.taken) is h.1)
+dumped_started m schema beats start extra d old new WriteFault is h = (h.0, of_timely m schema beats start extra d (λ bs m' port. DumpsFront m' bs port old.taken new.taken) is h.1)
+dumped_started m schema beats start extra d old new Memory is h = h

@@ -18,9 +18,10 @@ use Rattle.gl_outside.specs.States.{Appends, AppendsFront, SinkState}
 use Rattle.gl_runner.specs.declared.tracing.Ending.{Ending}
 use Rattle.gl_runner.specs.declared.tracing.Ending.TheVariants as ending
 use Rattle.gl_runner.specs.Cycles.{Driven, IsFollowed, IsStarted, OfDriven, OfTimely, design_of, outcome_of}
-use Rattle.gl_runner.specs.Prints.{EndsWithin, HasRunOver, IsRunOver, Ran, Writes, WritesFront}
-use Rattle.gl_runner.specs.Traces.{OfRunsOf, RunsOut, Traced, TracesFront, TracesOut, TracesToEnd, WritesTo}
-use Rattle.gl_runner.specs.Watches.{OfDrivenPorts, Watched, bytes_to, lines_of_cycle}
+use Rattle.gl_runner.specs.Ends.{EndsBy, IsFirstEnd, IsLastCycle, NeverEnds}
+use Rattle.gl_runner.specs.Prints.{EndsWithin, HasRunOver, IsEnd, IsRunOver, Ran, Writes, WritesFront}
+use Rattle.gl_runner.specs.Traces.{EndsIn, IsLastRun, OfRunsOf, RunsOut, Traced, TracesFront, TracesOut, TracesToEnd, WritesTo}
+use Rattle.gl_runner.specs.Watches.{OfDrivenPorts, Watched, bytes_to, end_of_cycle, lines_of_cycle}
 use Rattle.gl_runner.proofs.Running.{lines_to}
 use Rattle.gl_testbench.specs.Runs.{HasStartedRuns}
 use Rattle.gl_verilog_ports.specs.declared.fitting.Ports.{Ports}
@@ -35,39 +36,58 @@ traced_from OfOne OfOther kinds beats extra old new ending.WriteFault f h = (h.0
 traced_from OfOne OfOther kinds beats extra old new ending.Memory f h = h
 
 -- each run from the start is one in which it is before the first cycle
-of_started : (m : Module) (schema : Schema) (kinds : List Kind) (beats : List Beat) (start : Start) (extra : ℕ) (d : Driven) (P : List (List ℕ) → PortValues → Type 0) → IsStarted m schema kinds beats start extra d → OfDriven d P → OfRunsOf m schema beats start P
-of_started m schema kinds beats start extra d P is h = λ value word over. subst (λ (x : Module). P (result_names x) (port_of x value)) is.design' (h value word (is.before value word over))
+of_started : (m : Module) (schema : Schema) (beats : List Beat) (start : Start) (extra : ℕ) (d : Driven) (P : List (List ℕ) → PortValues → Type 0) → IsStarted m schema beats start extra d → OfDriven d P → OfRunsOf m schema beats start P
+of_started m schema beats start extra d P is h = λ value word over. subst (λ (x : Module). P (result_names x) (port_of x value)) is.design' (h value word (is.before value word over))
 
-pub traced_started : (m : Module) (schema : Schema) (kinds : List Kind) (beats : List Beat) (start : Start) (extra : ℕ) (d : Driven) (old new : SinkState) (r : Ending) → IsStarted m schema kinds beats start extra d
-    → Traced (OfDriven d) d.kinds d.beats d.extra old new r → Traced (OfRunsOf m schema beats start) kinds beats extra old new r
+pub traced_started : (m : Module) (schema : Schema) (kinds : List Kind) (beats : List Beat) (start : Start) (extra : ℕ) (d : Driven) (old new : SinkState) (r : Ending) → IsStarted m schema beats start extra d
+    → Traced (OfDriven d) kinds d.beats d.extra old new r → Traced (OfRunsOf m schema beats start) kinds beats extra old new r
 traced_started m schema kinds beats start extra d old new r is h =
-    subst (λ (x : List Kind). Traced (OfRunsOf m schema beats start) x beats extra old new r) is.kinds' (
-    subst (λ (x : List Beat). Traced (OfRunsOf m schema beats start) d.kinds x extra old new r) is.beats' (
-    subst (λ (x : ℕ). Traced (OfRunsOf m schema beats start) d.kinds d.beats x old new r) is.extra' (
-    traced_from (OfDriven d) (OfRunsOf m schema beats start) d.kinds d.beats d.extra old new r (λ P. of_started m schema kinds beats start extra d P is) h)))
+    subst (λ (x : List Beat). Traced (OfRunsOf m schema beats start) kinds x extra old new r) is.beats' (
+    subst (λ (x : ℕ). Traced (OfRunsOf m schema beats start) kinds d.beats x old new r) is.extra' (
+    traced_from (OfDriven d) (OfRunsOf m schema beats start) kinds d.beats d.extra old new r (λ P. of_started m schema beats start extra d P is) h))
+
+-- where the end of one result is waited for
+pub end_is : (m : Module) (beats : List Beat) (port : PortValues) (n : ℕ) → IsFirstEnd beats (end_of_cycle m port) n → IsEnd beats (result_names m) port n
+end_is m beats port n e = record { soonest = e.soonest; ends = e.holds; first = e.first }
+
+pub out_is : (m : Module) (beats : List Beat) (port : PortValues) (extra n : ℕ) → NeverEnds beats (end_of_cycle m port) extra n → RunsOut beats (result_names m) port extra n
+out_is m beats port extra n e = record { last = e.last; none = e.none }
+
+ends_in : (m : Module) (beats : List Beat) (port : PortValues) (extra n : ℕ) → EndsBy beats (end_of_cycle m port) extra n → EndsIn beats (result_names m) port extra n
+ends_in m beats port extra n e = record { is = end_is m beats port n e.is; in_time = e.in_time }
+
+last_is : (m : Module) (beats : List Beat) (port : PortValues) (extra n : ℕ) → IsLastCycle beats (end_of_cycle m port) extra n → IsLastRun beats (result_names m) port extra n
+last_is m beats port extra n is = (elim is [
+  | inl e ↦ inl (ends_in m beats port extra n e)
+  | inr e ↦ inr (out_is m beats port extra n e)
+])
 
 -- what was watched of a result is its trace
 lines_taken : (kinds : List Kind) (m : Module) (port : PortValues) (n : ℕ) (old new : Option (List ℕ)) → Appends old new (bytes_to (lines_of_cycle kinds) m port n) → WritesTo kinds (result_names m) port n old new
 lines_taken kinds m port n old new h = subst (Appends old new) (lines_to kinds m port n) h
 
-pub traced_of : (d : Driven) (stands : Module → PortValues → ℕ → Type 0) (kinds : List Kind) (beats : List Beat) (extra : ℕ) (old new : SinkState) (r : Ending) → Watched (OfDrivenPorts d) (lines_of_cycle kinds) stands beats extra old new r → Traced (OfDriven d) kinds beats extra old new r
+pub traced_of : (d : Driven) (stands : Module → PortValues → ℕ → Type 0) (kinds : List Kind) (beats : List Beat) (extra : ℕ) (old new : SinkState) (r : Ending) → Watched (OfDrivenPorts d) (lines_of_cycle kinds) end_of_cycle stands beats extra old new r → Traced (OfDriven d) kinds beats extra old new r
 traced_of d stands kinds beats extra old new ending.Done h = (
   h.0,
   λ value word before.
       let w = h.1 value word before in
-      record { last = w.last; ends = w.is; taken = lines_taken kinds (design_of d) (port_of (design_of d) value) w.last old.taken new.taken w.watched.taken },
+      record { last = w.last; ends = ends_in (design_of d) beats (port_of (design_of d) value) extra w.last w.is; taken = lines_taken kinds (design_of d) (port_of (design_of d) value) w.last old.taken new.taken w.watched.taken },
 )
 traced_of d stands kinds beats extra old new (ending.NoEnd cycle) h = (
   h.0,
   λ value word before.
       let w = h.1 value word before in
-      record { out = w.is; taken = lines_taken kinds (design_of d) (port_of (design_of d) value) cycle old.taken new.taken w.watched.taken },
+      record { out = out_is (design_of d) beats (port_of (design_of d) value) extra cycle w.is; taken = lines_taken kinds (design_of d) (port_of (design_of d) value) cycle old.taken new.taken w.watched.taken },
 )
 traced_of d stands kinds beats extra old new ending.WriteFault h = (
   h.0,
   λ value word before.
       let w = h.1 value word before in
-      record { last = w.last; is = w.is; taken = subst (AppendsFront old.taken new.taken) (lines_to kinds (design_of d) (port_of (design_of d) value) w.last) w.taken },
+      record {
+        last = w.last;
+        is = last_is (design_of d) beats (port_of (design_of d) value) extra w.last w.is;
+        taken = subst (AppendsFront old.taken new.taken) (lines_to kinds (design_of d) (port_of (design_of d) value) w.last) w.taken;
+      },
 )
 traced_of d stands kinds beats extra old new ending.Memory h = absurd h
 

@@ -1,6 +1,10 @@
 pub mod Making
+pub mod Probing
 pub mod Running
 pub mod Each
 pub mod Decimals
 pub mod DumpRows
 pub mod Dumps
+pub mod NamedPieces
+pub mod Named
+pub mod NamedRuns

@@ -1,6 +1,7 @@
 -- Cycle by cycle: what was written so far, and where the end is.
-use Rattle.std.proofs.Common.{◌≡◌, ℕ, zero, suc, ◌+◌, ◌-◌, ◌<◌, ◌≤◌, inl, inr, Bool, true, false, ◌||◌, List, [], ◌∷◌, ◌++◌, Option, Result, Ok, Err, refl, sym, ap, ◌∙◌, subst, arith, append_assoc, add-one}
+use Rattle.std.proofs.Common.{◌≡◌, ℕ, zero, suc, ◌+◌, ◌-◌, ◌<◌, ◌≤◌, inl, inr, Bool, true, false, ◌||◌, List, [], ◌∷◌, ◌++◌, Option, None, Result, Ok, Err, refl, sym, ap, ◌∙◌, subst, arith, append_assoc, add-one}
 use Rattle.std.specs.Prelude.{◌⊎◌, IsErrAnd, OnOk, is_err}
+use Rattle.std.specs.Option.{option_map}
 use Rattle.std.proofs.lemmas.List.{append-nil}
 use Rattle.std.proofs.lemmas.Bool.{cases_lt, cases_eq}
 use Rattle.gl_bits.proofs.Bools.{or_join, or_none}
@@ -18,14 +19,16 @@ use Rattle.gl_verilog.specs.declared.module.Module.{Module as Rust}
 use Rattle.gl_verilog.specs.Run.{port_of}
 use Rattle.gl_verilog.specs.View.{module_of}
 use Rattle.gl_sim.specs.Simulation.{Simulation}
-use Rattle.gl_lines.specs.declared.lines.Sample.{Sample}
 use Rattle.gl_runner.specs.Cycles.{Advances, Driven, HasOnPorts, IsAhead, IsBefore, IsFollowed, IsMade, design_of}
-use Rattle.gl_runner.specs.Traces.{IsLastRun}
+use Rattle.gl_lines.specs.declared.lines.Sample.{Sample}
 use Rattle.gl_lines.specs.Pieces.{sampled}
-use Rattle.gl_bits.specs.Words.{bits_of}
+use Rattle.gl_runner.specs.Ends.{IsLastCycle}
+use Rattle.gl_runner.specs.Probes.{IsSeen}
+use Rattle.gl_runner.proofs.Probing.{lines_seen}
 use Rattle.gl_runner.specs.declared.watching.Made.{Made}
-use Rattle.gl_runner.specs.Watches.{IsMadeOf, WatchesFront, WatchesOut, WatchesToEnd, bytes_to, has_group, lines_of_cycle, module_in, stands_told}
-use Rattle.gl_verilog_ports.specs.Profile.{result_names}
+use Rattle.gl_runner.specs.Watches.{IsMadeOf, WatchesFront, WatchesOut, WatchesToEnd, StandsTold, bytes_to, end_of_cycle, has_group, lines_of_cycle, module_in}
+use Rattle.gl_verilog.specs.Module.{number_of}
+use Rattle.gl_verilog_ports.specs.Profile.{ports_of, result_names}
 
 -- ---- whether all was written
 
@@ -69,12 +72,33 @@ group_push [] s = or_none s.group
 group_push (x ∷ all) s = ap (λ (b : Bool). x.group || b) (group_push all s) ∙ sym (or_join x.group (has_group all) s.group)
 
 -- whether a further group was told, behind a cycle
-pub told_more : (told : Bool) (m : Module) (port : PortValues) (n : ℕ) (group : Bool) → stands_told told m port n → group ≡ (shown port (result_names m) n).group → stands_told (told || group) m port (n + 1)
-told_more told m port n group before same =
+pub told_more : (told : Bool) (port : PortValues) (outs : List (List ℕ)) (n : ℕ) (group : Bool) → told ≡ has_group (seen_below port outs n) → group ≡ (shown port outs n).group → (told || group) ≡ has_group (seen_below port outs (n + 1))
+told_more told port outs n group before same =
     let next : n + 1 ≡ suc n = add-one n in
-    let outs : List (List ℕ) = result_names m in
     rw next (ap (λ (b : Bool). b || group) before ∙ ap (λ (b : Bool). has_group (seen_below port outs n) || b) same
     ∙ sym (group_push (seen_below port outs n) (shown port outs n)) ∙ ap has_group (sym (seen_more port outs n)))
+
+-- whether the end was seen in it
+pub ended_kept : (m : Module) (port : PortValues) (n : ℕ) (ends : Bool) → ends ≡ (shown port (result_names m) n).end → (k : ℕ) → n + 1 ≡ suc k → ends ≡ end_of_cycle m port k
+ended_kept m port n ends last k e =
+    let place : n ≡ k = omega (arith, e) in
+    last ∙ ap (end_of_cycle m port) place
+
+-- what is known behind it
+pub told_behind : (told ended : Bool) (m : Module) (port : PortValues) (n : ℕ) (group ends : Bool) → StandsTold told ended m port n → group ≡ (shown port (result_names m) n).group → ends ≡ (shown port (result_names m) n).end → StandsTold (told || group) ends m port (n + 1)
+told_behind told ended m port n group ends before same last = record {
+  told' = told_more told port (result_names m) n group before.told' same;
+  ended' = ended_kept m port n ends last;
+}
+
+-- and in front of the first
+pub told_first : (told ended : Bool) (m : Module) (port : PortValues) → told ≡ false → StandsTold told ended m port 0
+told_first told ended m port first = record { told' = first; ended' = λ k e. absurd (omega (arith, e)) }
+
+-- the lines of what is seen in it
+pub lines_told : (m : Module) (port : PortValues) (n : ℕ) (kinds : List Kind) (told ended : Bool) (sample : Sample) (row : List ℕ) → IsSeen port (result_names m) (suc n) sample row → StandsTold told ended m port n → cycle_lines kinds told (sampled sample n row) ≡ lines_of_cycle kinds m port n
+lines_told m port n kinds told ended sample row is before =
+    lines_seen port (result_names m) n kinds told sample row is ∙ ap (λ (b : Bool). cycle_lines kinds b (shown port (result_names m) n)) before.told'
 
 lines_push : (overflowed : Bool) (kinds : List Kind) (all : List Shown) (s : Shown) → lines_after overflowed kinds (all ++ s ∷ []) ≡ lines_after overflowed kinds all ++ cycle_lines kinds (overflowed || has_group all) s
 lines_push overflowed kinds [] s = append-nil (cycle_lines kinds overflowed s) ∙ ap (λ (b : Bool). cycle_lines kinds b s) (sym (or_none overflowed))
@@ -156,31 +180,30 @@ first_end f from (suc j) = (elim (first_end f from j) [
 
 -- so many cycles were made of what was before its first one
 abbrev pub IsAt : Driven → Driven → ℕ → Type 0
-IsAt d e n = e ≡ record d { sim = e.sim; cycle = n; row = e.row }
+IsAt d e n = e ≡ record d { sim = e.sim; cycle = n }
 
 pub at_first : (d : Driven) → d.cycle ≡ 0 → IsAt d d 0
 at_first d first = subst (λ (n : ℕ). IsAt d d n) first refl
 
 pub at_next : (d e f : Driven) (n : ℕ) → IsAt d e n → IsAhead e f → IsAt d f (n + 1)
-at_next d e f n at ahead = ahead.same ∙ ap (λ (x : Driven). record x { sim = f.sim; cycle = x.cycle + 1; row = f.row }) at
+at_next d e f n at ahead = ahead.same ∙ ap (λ (x : Driven). record x { sim = f.sim; cycle = x.cycle + 1 }) at
 
 -- the next one is made in each run that is followed
-pub made_next : (d e f : Driven) (sample : Sample) (n : ℕ) (value : ℕ → Nets) (word : ℕ → Memories) → IsAt d e n → e.sim.design ≡ d.sim.design → Advances e f sample
-    → IsFollowed e.sim d.schema d.beats value word (n + 1) → IsMade (design_of d) f.sim d.schema d.beats sample f.row n value word
-made_next d e f sample n value word at design made followed =
-    let all : IsFollowed e.sim d.schema d.beats value word (n + 1) → IsMade (design_of e) f.sim d.schema d.beats sample f.row n value word =
-    subst (λ (x : Driven). IsBefore x value word → IsMade (design_of x) f.sim x.schema x.beats sample f.row x.cycle value word) at (made value word) in
-    subst (λ (m : Rust). IsMade (module_of m) f.sim d.schema d.beats sample f.row n value word) design (all followed)
+pub made_next : (d e f : Driven) (n : ℕ) (value : ℕ → Nets) (word : ℕ → Memories) → IsAt d e n → e.sim.design ≡ d.sim.design → Advances e f
+    → IsFollowed e.sim d.schema d.beats value word (n + 1) → IsMade (design_of d) f.sim d.schema d.beats n value word
+made_next d e f n value word at design made followed =
+    let all : IsFollowed e.sim d.schema d.beats value word (n + 1) → IsMade (design_of e) f.sim d.schema d.beats n value word =
+    subst (λ (x : Driven). IsBefore x value word → IsMade (design_of x) f.sim x.schema x.beats x.cycle value word) at (made value word) in
+    subst (λ (m : Rust). IsMade (module_of m) f.sim d.schema d.beats n value word) design (all followed)
 
 -- what was made is this of the ports in a run
-pub made_of : (made : Made) (m : Module) (s : Simulation) (schema : Schema) (beats : List Beat) (row : List ℕ) (value : ℕ → Nets) (word : ℕ → Memories)
-    → m ≡ module_in made → s ≡ made.sim.now → row ≡ bits_of made.row.now → IsMade m s schema beats made.sample row made.cycle value word → IsMadeOf made (port_of m value)
-made_of made m s schema beats row value word same at shows h =
-    let h' : IsMade m made.sim.now schema beats made.sample (bits_of made.row.now) made.cycle value word = subst (λ (x : Simulation). IsMade m x schema beats made.sample (bits_of made.row.now) made.cycle value word) at (subst (λ (x : List ℕ). IsMade m s schema beats made.sample x made.cycle value word) shows h) in
+pub made_of : (made : Made) (m : Module) (s : Simulation) (schema : Schema) (beats : List Beat) (value : ℕ → Nets) (word : ℕ → Memories)
+    → m ≡ module_in made → s ≡ made.sim.now → IsMade m s schema beats made.cycle value word → IsMadeOf made (port_of m value)
+made_of made m s schema beats value word same at h =
+    let h' : IsMade m made.sim.now schema beats made.cycle value word = subst (λ (x : Simulation). IsMade m x schema beats made.cycle value word) at h in
     record {
       ports' = subst (λ (x : Module). HasOnPorts x made.sim.now (port_of m value) (suc made.cycle)) same h'.ports';
-      lines' = subst (λ (x : Module). (kinds : List Kind) (overflowed : Bool) → cycle_lines kinds overflowed (sampled made.sample made.cycle (bits_of made.row.now)) ≡ cycle_lines kinds overflowed (shown (port_of m value) (result_names x) made.cycle)) same h'.lines';
-      group' = subst (λ (x : Module). made.sample.group ≡ (shown (port_of m value) (result_names x) made.cycle).group) same h'.group';
+      others' = λ name none. ap (option_map (value (suc made.cycle))) (subst (λ (x : Module). number_of (ports_of x) name ≡ None) (sym same) none);
     }
 
 -- what a watcher does of a cycle in a run
@@ -188,42 +211,44 @@ pub record IsWatched {E : Type 0} (bytes : Module → PortValues → ℕ → Lis
   pub wrote : Wrote old new (bytes m port n) r
   pub behind : OnOk r (stands m port (n + 1))
 
-pub watched_one : {E : Type 0} (made : Made) (m : Module) (kinds : List Kind) (bytes bytes' : List Kind → Module → PortValues → ℕ → List ℕ) (stands stands' : Module → PortValues → ℕ → Type 0) (port : PortValues) (old new : SinkState) (r : Result (Unit {0}) E)
-    → m ≡ module_in made → made.kinds.now ≡ kinds → bytes ≡ bytes' → IsMadeOf made port → stands m port made.cycle
-    → ((p : PortValues) → IsMadeOf made p → stands (module_in made) p made.cycle → Wrote old new (bytes made.kinds.now (module_in made) p made.cycle) r)
+pub watched_one : {E : Type 0} (made : Made) (m : Module) (bytes bytes' : Module → PortValues → ℕ → List ℕ) (stands stands' : Module → PortValues → ℕ → Type 0) (port : PortValues) (old new : SinkState) (r : Result (Unit {0}) E)
+    → m ≡ module_in made → bytes ≡ bytes' → IsMadeOf made port → stands m port made.cycle
+    → ((p : PortValues) → IsMadeOf made p → stands (module_in made) p made.cycle → Wrote old new (bytes (module_in made) p made.cycle) r)
     → ((p : PortValues) → IsMadeOf made p → stands (module_in made) p made.cycle → OnOk r (stands' (module_in made) p (made.cycle + 1)))
-    → IsWatched (bytes' kinds) stands' m port made.cycle old new r
-watched_one made m kinds bytes bytes' stands stands' port old new r same printed alike of before wrote behind =
+    → IsWatched bytes' stands' m port made.cycle old new r
+watched_one made m bytes bytes' stands stands' port old new r same alike of before wrote behind =
     let before' : stands (module_in made) port made.cycle = subst (λ (x : Module). stands x port made.cycle) same before in
     record {
-      wrote = subst (λ (x : List Kind → Module → PortValues → ℕ → List ℕ). Wrote old new (x kinds m port made.cycle) r) alike
-          (subst (λ (x : List Kind). Wrote old new (bytes x m port made.cycle) r) printed
-          (subst (λ (x : Module). Wrote old new (bytes made.kinds.now x port made.cycle) r) (sym same) (wrote port of before')));
+      wrote = subst (λ (x : Module → PortValues → ℕ → List ℕ). Wrote old new (x m port made.cycle) r) alike
+          (subst (λ (x : Module). Wrote old new (bytes x port made.cycle) r) (sym same) (wrote port of before'));
       behind = subst (λ (x : Module). OnOk r (stands' x port (made.cycle + 1))) (sym same) (behind port of before');
     }
+
+-- what the watcher answers is whether its end is there
+pub over_is : {now initial : Module → PortValues → ℕ → Bool} {m : Module} {port : PortValues} {n : ℕ} {over : Bool} → now ≡ initial → over ≡ now m port n → initial m port n ≡ over
+over_is {now} {initial} {m} {port} {n} {over} same is = sym (is ∙ ap (λ (f : Module → PortValues → ℕ → Bool). f m port n) same)
 
 -- ---- on the way
 
 -- file cycle n comes next; so many bytes were written, the watcher stands in front of it, and no end was seen from the last beat on
-pub record IsUnderWay (m : Module) (s : Simulation) (schema : Schema) (bytes : Module → PortValues → ℕ → List ℕ) (stands : Module → PortValues → ℕ → Type 0) (beats : List Beat) (n : ℕ) (old new : Option (List ℕ)) (value : ℕ → Nets) (word : ℕ → Memories) : Type 0 where
+pub record IsUnderWay (m : Module) (s : Simulation) (schema : Schema) (bytes : Module → PortValues → ℕ → List ℕ) (ends : Module → PortValues → ℕ → Bool) (stands : Module → PortValues → ℕ → Type 0) (beats : List Beat) (n : ℕ) (old new : Option (List ℕ)) (value : ℕ → Nets) (word : ℕ → Memories) : Type 0 where
   pub followed : IsFollowed s schema beats value word (n + 1)
   pub stands' : stands m (port_of m value) n
   pub written : Appends old new (bytes_below bytes m (port_of m value) n)
-  pub none : (k : ℕ) → last_cycle beats ≤ k → k < n → (shown (port_of m value) (result_names m) k).end ≡ false
+  pub none : (k : ℕ) → last_cycle beats ≤ k → k < n → ends m (port_of m value) k ≡ false
 
-pub under_way_first : (m : Module) (s : Simulation) (schema : Schema) (bytes : Module → PortValues → ℕ → List ℕ) (stands : Module → PortValues → ℕ → Type 0) (beats : List Beat) (old : Option (List ℕ)) (value : ℕ → Nets) (word : ℕ → Memories) → IsFollowed s schema beats value word 1 → stands m (port_of m value) 0 → IsUnderWay m s schema bytes stands beats 0 old old value word
-under_way_first m s schema bytes stands beats old value word h at = record { followed = h; stands' = at; written = appends_none old; none = λ k le lt. absurd (omega arith) }
+pub under_way_first : (m : Module) (s : Simulation) (schema : Schema) (bytes : Module → PortValues → ℕ → List ℕ) (ends : Module → PortValues → ℕ → Bool) (stands : Module → PortValues → ℕ → Type 0) (beats : List Beat) (old : Option (List ℕ)) (value : ℕ → Nets) (word : ℕ → Memories) → IsFollowed s schema beats value word 1 → stands m (port_of m value) 0 → IsUnderWay m s schema bytes ends stands beats 0 old old value word
+under_way_first m s schema bytes ends stands beats old value word h at = record { followed = h; stands' = at; written = appends_none old; none = λ k le lt. absurd (omega arith) }
 
 -- what a cycle writes behind the others
 all_written : (m : Module) (bytes : Module → PortValues → ℕ → List ℕ) (port : PortValues) (n : ℕ) (old mid new : Option (List ℕ)) → Appends old mid (bytes_below bytes m port n) → Appends mid new (bytes m port n) → Appends old new (bytes_to bytes m port n)
 all_written m bytes port n old mid new before w = subst (Appends old new) (sym (bytes_more bytes m port n)) (appends_then old mid new (bytes_below bytes m port n) (bytes m port n) before w)
 
-pub under_way_more : (m : Module) (s s' : Simulation) (schema : Schema) (bytes : Module → PortValues → ℕ → List ℕ) (stands stands' : Module → PortValues → ℕ → Type 0) (beats : List Beat) (l : Sample) (row : List ℕ) (n : ℕ) (old mid new : Option (List ℕ)) (value : ℕ → Nets) (word : ℕ → Memories)
-    → IsUnderWay m s schema bytes stands beats n old mid value word → IsMade m s' schema beats l row n value word → Appends mid new (bytes m (port_of m value) n)
-    → stands' m (port_of m value) (n + 1) → (last_cycle beats ≤ n → l.end ≡ false) → IsUnderWay m s' schema bytes stands' beats (n + 1) old new value word
-under_way_more m s s' schema bytes stands stands' beats l row n old mid new value word u made w behind ends =
+pub under_way_more : (m : Module) (s s' : Simulation) (schema : Schema) (bytes : Module → PortValues → ℕ → List ℕ) (ends : Module → PortValues → ℕ → Bool) (stands stands' : Module → PortValues → ℕ → Type 0) (beats : List Beat) (n : ℕ) (old mid new : Option (List ℕ)) (value : ℕ → Nets) (word : ℕ → Memories)
+    → IsUnderWay m s schema bytes ends stands beats n old mid value word → IsMade m s' schema beats n value word → Appends mid new (bytes m (port_of m value) n)
+    → stands' m (port_of m value) (n + 1) → (last_cycle beats ≤ n → ends m (port_of m value) n ≡ false) → IsUnderWay m s' schema bytes ends stands' beats (n + 1) old new value word
+under_way_more m s s' schema bytes ends stands stands' beats n old mid new value word u made w behind open' =
     let port : PortValues = port_of m value in
-    let outs : List (List ℕ) = result_names m in
     let next : n + 1 ≡ suc n = add-one n in
     let two : n + 1 + 1 ≡ n + 2 = omega arith in
     record {
@@ -231,21 +256,21 @@ under_way_more m s s' schema bytes stands stands' beats l row n old mid new valu
       stands' = behind;
       written = rw next (all_written m bytes port n old mid new u.written w);
       none = λ k le lt. (elim (cases_eq k n) [
-        | inl e ↦ subst (λ (x : ℕ). (shown port outs x).end ≡ false) (sym e) (sym made.end' ∙ ends (omega (arith, le, e)))
+        | inl e ↦ subst (λ (x : ℕ). ends m port x ≡ false) (sym e) (open' (omega (arith, le, e)))
         | inr e ↦ u.none k le (omega (arith, lt, e))
       ]);
     }
 
 -- the end
-pub under_way_done : (m : Module) (s s' : Simulation) (schema : Schema) (bytes : Module → PortValues → ℕ → List ℕ) (stands stands' : Module → PortValues → ℕ → Type 0) (beats : List Beat) (l : Sample) (row : List ℕ) (n extra : ℕ) (old mid new : Option (List ℕ)) (value : ℕ → Nets) (word : ℕ → Memories)
-    → IsUnderWay m s schema bytes stands beats n old mid value word → IsMade m s' schema beats l row n value word → Appends mid new (bytes m (port_of m value) n)
-    → stands' m (port_of m value) (n + 1) → l.end ≡ true → last_cycle beats ≤ n → n ≤ last_cycle beats + extra → WatchesToEnd bytes stands' beats extra m (port_of m value) old new
-under_way_done m s s' schema bytes stands stands' beats l row n extra old mid new value word u made w behind ends le soon =
+pub under_way_done : (m : Module) (s s' : Simulation) (schema : Schema) (bytes : Module → PortValues → ℕ → List ℕ) (ends : Module → PortValues → ℕ → Bool) (stands stands' : Module → PortValues → ℕ → Type 0) (beats : List Beat) (n extra : ℕ) (old mid new : Option (List ℕ)) (value : ℕ → Nets) (word : ℕ → Memories)
+    → IsUnderWay m s schema bytes ends stands beats n old mid value word → IsMade m s' schema beats n value word → Appends mid new (bytes m (port_of m value) n)
+    → stands' m (port_of m value) (n + 1) → ends m (port_of m value) n ≡ true → last_cycle beats ≤ n → n ≤ last_cycle beats + extra → WatchesToEnd bytes ends stands' beats extra m (port_of m value) old new
+under_way_done m s s' schema bytes ends stands stands' beats n extra old mid new value word u made w behind is le soon =
     let next : n + 1 ≡ suc n = add-one n in
     record {
       last = n;
       is = record {
-        is = record { soonest = le; ends = sym made.end' ∙ ends; first = u.none };
+        is = record { soonest = le; holds = is; first = u.none };
         in_time = soon;
       };
       watched = record {
@@ -255,9 +280,9 @@ under_way_done m s s' schema bytes stands stands' beats l row n extra old mid ne
     }
 
 -- no end came in any of the cycles
-pub under_way_out : (m : Module) (s : Simulation) (schema : Schema) (bytes : Module → PortValues → ℕ → List ℕ) (stands : Module → PortValues → ℕ → Type 0) (beats : List Beat) (n extra far : ℕ) (old new : Option (List ℕ)) (value : ℕ → Nets) (word : ℕ → Memories)
-    → IsUnderWay m s schema bytes stands beats n old new value word → far ≡ last_cycle beats + extra → n ≡ suc far → WatchesOut bytes stands beats extra far m (port_of m value) old new
-under_way_out m s schema bytes stands beats n extra far old new value word u last next = record {
+pub under_way_out : (m : Module) (s : Simulation) (schema : Schema) (bytes : Module → PortValues → ℕ → List ℕ) (ends : Module → PortValues → ℕ → Bool) (stands : Module → PortValues → ℕ → Type 0) (beats : List Beat) (n extra far : ℕ) (old new : Option (List ℕ)) (value : ℕ → Nets) (word : ℕ → Memories)
+    → IsUnderWay m s schema bytes ends stands beats n old new value word → far ≡ last_cycle beats + extra → n ≡ suc far → WatchesOut bytes ends stands beats extra far m (port_of m value) old new
+under_way_out m s schema bytes ends stands beats n extra far old new value word u last next = record {
   is = record { last = last; none = λ k le up. u.none k le (omega (arith, last, next, up)) };
   watched = record {
     taken = subst (λ (k : ℕ). Appends old new (bytes_below bytes m (port_of m value) k)) next u.written;
@@ -266,18 +291,18 @@ under_way_out m s schema bytes stands beats n extra far old new value word u las
 }
 
 -- the last cycle that is run, where no end came before cycle n
-pub record IsLastFrom (beats : List Beat) (outs : List (List ℕ)) (port : PortValues) (extra n : ℕ) : Type 0 where
+pub record IsLastFrom (beats : List Beat) (ends : ℕ → Bool) (extra n : ℕ) : Type 0 where
   pub place : ℕ
-  pub is : IsLastRun beats outs port extra place
+  pub is : IsLastCycle beats ends extra place
   pub here : n ≤ place
 
-pub last_from : (beats : List Beat) (outs : List (List ℕ)) (port : PortValues) (extra n : ℕ) → ((k : ℕ) → last_cycle beats ≤ k → k < n → (shown port outs k).end ≡ false) → n ≤ last_cycle beats + extra → IsLastFrom beats outs port extra n
+pub last_from : (beats : List Beat) (ends : ℕ → Bool) (extra n : ℕ) → ((k : ℕ) → last_cycle beats ≤ k → k < n → ends k ≡ false) → n ≤ last_cycle beats + extra → IsLastFrom beats ends extra n
 unfolding IsNone
-last_from beats outs port extra n none soon = (elim (first_end (λ k. (shown port outs k).end) (last_cycle beats) extra) [
+last_from beats ends extra n none soon = (elim (first_end ends (last_cycle beats) extra) [
   | inl e ↦ record {
     place = e.place;
-    is = inl (record { is = record { soonest = e.low; ends = e.is; first = e.first }; in_time = e.high });
-    here = not_before n e.place (λ lt. (let no' : (shown port outs e.place).end ≡ false = none e.place e.low lt in let yes' : (shown port outs e.place).end ≡ true = e.is in cc));
+    is = inl (record { is = record { soonest = e.low; holds = e.is; first = e.first }; in_time = e.high });
+    here = not_before n e.place (λ lt. (let no' : ends e.place ≡ false = none e.place e.low lt in let yes' : ends e.place ≡ true = e.is in cc));
   }
   | inr e ↦ record { place = last_cycle beats + extra; is = inr (record { last = refl; none = e }); here = soon }
 ])
@@ -292,12 +317,12 @@ bytes_up_to bytes m port n last le =
     subst (λ (k : ℕ). IsFront (bytes_to bytes m port n) (bytes_below bytes m port k)) reach (bytes_front bytes m port (suc n) (last - n))
 
 -- the sink failed
-pub under_way_cut : (m : Module) (s : Simulation) (schema : Schema) (bytes : Module → PortValues → ℕ → List ℕ) (stands : Module → PortValues → ℕ → Type 0) (beats : List Beat) (n extra : ℕ) (old mid new : Option (List ℕ)) (value : ℕ → Nets) (word : ℕ → Memories)
-    → IsUnderWay m s schema bytes stands beats n old mid value word → AppendsFront mid new (bytes m (port_of m value) n)
-    → n ≤ last_cycle beats + extra → WatchesFront bytes beats extra m (port_of m value) old new
-under_way_cut m s schema bytes stands beats n extra old mid new value word u w soon =
+pub under_way_cut : (m : Module) (s : Simulation) (schema : Schema) (bytes : Module → PortValues → ℕ → List ℕ) (ends : Module → PortValues → ℕ → Bool) (stands : Module → PortValues → ℕ → Type 0) (beats : List Beat) (n extra : ℕ) (old mid new : Option (List ℕ)) (value : ℕ → Nets) (word : ℕ → Memories)
+    → IsUnderWay m s schema bytes ends stands beats n old mid value word → AppendsFront mid new (bytes m (port_of m value) n)
+    → n ≤ last_cycle beats + extra → WatchesFront bytes ends beats extra m (port_of m value) old new
+under_way_cut m s schema bytes ends stands beats n extra old mid new value word u w soon =
     let port : PortValues = port_of m value in
-    let last = last_from beats (result_names m) port extra n u.none soon in
+    let last = last_from beats (ends m port) extra n u.none soon in
     let front = bytes_up_to bytes m port n last.place last.here in
     let all : bytes_to bytes m port last.place ≡ (bytes_below bytes m port n ++ bytes m port n) ++ front.rest =
     front.same ∙ ap (λ (x : List ℕ). x ++ front.rest) (bytes_more bytes m port n) in

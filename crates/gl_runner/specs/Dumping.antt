@@ -1,21 +1,23 @@
 -- What the watcher that dumps a run keeps.
 -- A middle layer: no promise rests on it.
-use Rattle.std.specs.Prelude.{◌≡◌, ℕ, suc, ◌+◌, ◌≤◌, List, [], ◌∷◌, ◌++◌, length, map, take, bytes_eq, if◌then◌else◌}
+use Rattle.std.specs.Prelude.{◌≡◌, ℕ, suc, ◌+◌, ◌≤◌, Option, List, [], ◌∷◌, ◌++◌, length, map, take, bytes_eq, if◌then◌else◌}
 use Rattle.std.specs.List.{AllByRecursion}
 use Rattle.gl_bits.specs.Words.{widths_of}
-use Rattle.gl_schema.specs.Ports.{PortValues}
+use Rattle.gl_schema.specs.Ports.{PortValues, out_eos}
 use Rattle.gl_schema.specs.Profile.{clk}
 use Rattle.gl_verilog.specs.declared.module.Module.{Module as Here}
-use Rattle.gl_verilog.specs.Module.{Declaration, Module, Memories, Nets}
+use Rattle.gl_verilog.specs.Module.{Declaration, Module, Memories, Nets, number_of}
 use Rattle.gl_verilog.specs.Run.{port_of}
 use Rattle.gl_verilog.specs.View.{module_of}
 use Rattle.gl_verilog.specs.Widths.{HasSize}
+use Rattle.gl_verilog_ports.specs.Profile as profile
 use Rattle.gl_verilog_ports.specs.Profile.{result_names}
 use Rattle.gl_dumps.specs.Written.{ports_of}
 use Rattle.gl_runner.specs.Cycles.{Driven, HasPlainPorts, IsBefore, design_of}
 use Rattle.gl_runner.specs.Prints.{EndsWithin}
 use Rattle.gl_runner.specs.declared.dumping.DumpLines.{DumpLines}
-use Rattle.gl_runner.specs.Watches.{row_in}
+use Rattle.gl_runner.specs.Probes.{IsLineIn}
+use Rattle.gl_runner.specs.Watches.{end_of_cycle, row_in}
 
 -- the numbers of the ports but the clock, from one on
 abbrev pub numbers_from : ℕ → List Declaration → List ℕ
@@ -34,13 +36,18 @@ pub record CanDump (face : Here) : Type 0 where
   pub sizes : AllByRecursion HasSize (module_of face).declarations
   pub few : length (ports_of (module_of face)) ≤ 8836
 
--- it has a place for each port of the module but the clock
+-- the number of the port that shows the end
+abbrev pub end_in : Module → Option ℕ
+end_in m = number_of (profile.ports_of m) out_eos
+
+-- it has a place for each port of the module but the clock, and knows where the end is shown
 pub record IsRoomFor (face : Here) (w : DumpLines) : Type 0 where
   pub face' : w.face.now ≡ face
   pub can : CanDump face
   pub ports' : w.ports.items ≡ numbers_of (module_of face)
   pub now' : widths_of w.now ≡ widths_in (module_of face)
   pub before' : widths_of w.before ≡ widths_in (module_of face)
+  pub end' : w.end ≡ end_in (module_of face)
 
 pub record IsInFront (face : Here) (w : DumpLines) : Type 0 where
   pub room : IsRoomFor face w
@@ -52,11 +59,13 @@ pub record IsEmptyFor (face : Here) (w : DumpLines) : Type 0 where
   pub now' : w.now ≡ []
   pub before' : w.before ≡ []
   pub next' : w.next ≡ 0
+  pub end' : w.end ≡ end_in (module_of face)
 
 -- one has a port more than the other
 pub record Adds (number width : ℕ) (old new : DumpLines) : Type 0 where
   pub face' : new.face ≡ old.face
   pub next' : new.next ≡ old.next
+  pub end' : new.end ≡ old.end
   pub ports' : new.ports.items ≡ old.ports.items ++ number ∷ []
   pub now' : widths_of new.now ≡ widths_of old.now ++ width ∷ []
   pub before' : widths_of new.before ≡ widths_of old.before ++ width ∷ []
@@ -66,11 +75,13 @@ pub record Serves (w : DumpLines) (m : Module) : Type 0 where
   pub room : IsRoomFor w.face.now w
   pub face' : module_of w.face.now ≡ m
   pub plain : HasPlainPorts m
+  pub line' : IsLineIn m out_eos
 
--- the cycles of a run in front of this one were watched: the row of the one before is kept
+-- the cycles of a run in front of this one were watched: the row of the one before is kept, and whether it was the end
 pub record StandsDumped (w : DumpLines) (m : Module) (port : PortValues) (n : ℕ) : Type 0 where
   pub next' : w.next ≡ n
   pub before' : (k : ℕ) → n ≡ suc k → w.before ≡ row_in (ports_of m) port k
+  pub ended' : (k : ℕ) → n ≡ suc k → w.ended ≡ end_of_cycle m port k
 
 -- a fact of a module and its ports in each run in which it is before its next cycle, and which ends in time
 abbrev pub OfTimelyDriven : Driven → (Module → PortValues → Type 0) → Type 0

@@ -1,6 +1,11 @@
 pub mod Prints
 pub mod Traces
 pub mod Cycles
+pub mod Ends
+pub mod Probes
 pub mod Watches
 pub mod Dumps
 pub mod Dumping
+pub mod Several
+pub mod Faces
+pub mod Naming

@@ -1,9 +1,9 @@
 -- What is written of a cycle of a file, by the values of a module's ports in a run.
-use Rattle.std.specs.Prelude.{◌≡◌, ◌<◌, ◌≤◌, ◌^◌, ℕ, zero, suc, Bool, List, [], ◌∷◌, ◌++◌, length, map, Option, Some, None}
-use Rattle.std.specs.List.{AllByRecursion, list_any}
+use Rattle.std.specs.Prelude.{◌≡◌, ℕ, zero, suc, Bool, false, List, [], ◌∷◌, ◌++◌, map, Option, Some, None}
+use Rattle.std.specs.List.{list_any}
 use Rattle.gl_bits.specs.declared.kind.Kind.{Kind}
-use Rattle.gl_bits.specs.Kinds.{IsKind, width_of}
-use Rattle.gl_bits.specs.Words.{Word, bits_of, widths_of}
+use Rattle.gl_bits.specs.Kinds.{width_of}
+use Rattle.gl_bits.specs.Words.{Word, widths_of}
 use Rattle.gl_dumps.specs.Dumped.{Port}
 use Rattle.gl_dumps.specs.Signals.{seen_below}
 use Rattle.gl_dumps.specs.Written as written
@@ -12,35 +12,26 @@ use Rattle.gl_schema.specs.Seen.{Shown, cycle_lines, shown, value_at}
 use Rattle.gl_verilog.specs.Module.{Module}
 use Rattle.gl_verilog.specs.View.{module_of}
 use Rattle.gl_verilog_ports.specs.Profile.{result_names}
-use Rattle.gl_lines.specs.Pieces.{sampled}
 use Rattle.gl_outside.specs.Counts.{Rose}
 use Rattle.gl_outside.specs.States.{SinkState, Appends, AppendsFront}
 use Rattle.gl_schema.specs.Beats.{Beat}
-use Rattle.gl_runner.specs.Cycles.{Driven, HasOnPorts, IsBefore, design_of}
-use Rattle.gl_runner.specs.Traces.{EndsIn, IsLastRun, RunsOut}
+use Rattle.gl_runner.specs.Cycles.{Driven, HasNoOther, HasOnPorts, IsBefore, design_of}
+use Rattle.gl_runner.specs.Ends.{EndsBy, IsLastCycle, NeverEnds}
 use Rattle.gl_runner.specs.declared.tracing.Ending.{Ending}
 use Rattle.gl_runner.specs.declared.tracing.Ending.TheVariants.{Done, NoEnd, WriteFault, Memory}
 use Rattle.gl_verilog.specs.Module.{Nets, Memories}
 use Rattle.gl_verilog.specs.Run.{port_of}
+use Rattle.gl_testbench.specs.declared.pins.Shows.{Shows}
 use Rattle.gl_runner.specs.declared.watching.Made.{Made}
+use Rattle.gl_runner.specs.declared.following.ResultLines.{ResultLines}
 
 abbrev pub module_in : Made → Module
 module_in made = module_of made.sim.now.design
 
--- what the simulator and the sample have in the cycle is what the ports have in it in a run
+-- what the simulator has on its ports in the cycle is what the ports have in it in a run
 pub record IsMadeOf (made : Made) (port : PortValues) : Type 0 where
   pub ports' : HasOnPorts (module_in made) made.sim.now port (suc made.cycle)
-  pub lines' : (kinds : List Kind) (overflowed : Bool)
-      → cycle_lines kinds overflowed (sampled made.sample made.cycle (bits_of made.row.now))
-      ≡ cycle_lines kinds overflowed (shown port (result_names (module_in made)) made.cycle)
-  pub group' : made.sample.group ≡ (shown port (result_names (module_in made)) made.cycle).group
-
--- it is no late cycle, and its row has a place for each column, of the kind by which it is printed
-pub record IsWhole (made : Made) : Type 0 where
-  pub early : made.cycle < 2 ^ 63
-  pub many : length made.kinds.now ≤ 32
-  pub kinds' : AllByRecursion IsKind made.kinds.now
-  pub widths : widths_of made.row.now ≡ map width_of made.kinds.now
+  pub others' : HasNoOther (module_in made) port (suc made.cycle)
 
 -- a further group came in one of these cycles
 abbrev pub has_group : List Shown → Bool
@@ -51,8 +42,22 @@ abbrev pub lines_of_cycle : List Kind → Module → PortValues → ℕ → List
 lines_of_cycle kinds m port n =
     cycle_lines kinds (has_group (seen_below port (result_names m) n)) (shown port (result_names m) n)
 
-abbrev pub stands_told : Bool → Module → PortValues → ℕ → Type 0
-stands_told told m port n = told ≡ has_group (seen_below port (result_names m) n)
+-- whether its end is seen in the cycle
+abbrev pub end_of_cycle : Module → PortValues → ℕ → Bool
+end_of_cycle m port n = (shown port (result_names m) n).end
+
+-- in front of a cycle it is known whether a further group was told, and whether the end was seen in the cycle before
+pub record StandsTold (told ended : Bool) (m : Module) (port : PortValues) (n : ℕ) : Type 0 where
+  pub told' : told ≡ has_group (seen_below port (result_names m) n)
+  pub ended' : (k : ℕ) → n ≡ suc k → ended ≡ end_of_cycle m port k
+
+-- of its watcher, in front of the first cycle: the kinds and the ports are these, and nothing was seen
+pub record AreFirst (kinds : List Kind) (shows : Shows) (w : ResultLines) : Type 0 where
+  pub kinds' : w.kinds.now ≡ kinds
+  pub shows' : w.shows ≡ shows
+  pub row' : widths_of w.row ≡ map width_of kinds
+  pub told' : w.told ≡ false
+  pub ended' : w.ended ≡ false
 
 -- of a dump: the row of the ports in the cycle, behind that of the cycle before
 abbrev pub row_in : List Port → PortValues → ℕ → List Word
@@ -92,32 +97,35 @@ pub record WatchesTo (bytes : Module → PortValues → ℕ → List ℕ) (stand
   pub taken : Appends old new (bytes_to bytes m port n)
   pub behind : stands m port (suc n)
 
-pub record WatchesFront (bytes : Module → PortValues → ℕ → List ℕ) (beats : List Beat) (extra : ℕ) (m : Module)
-    (port : PortValues) (old new : Option (List ℕ)) : Type 0 where
-  pub last : ℕ
-  pub is : IsLastRun beats (result_names m) port extra last
-  pub taken : AppendsFront old new (bytes_to bytes m port last)
-
-pub record WatchesToEnd (bytes : Module → PortValues → ℕ → List ℕ) (stands : Module → PortValues → ℕ → Type 0)
+pub record WatchesFront (bytes : Module → PortValues → ℕ → List ℕ) (ends : Module → PortValues → ℕ → Bool)
     (beats : List Beat) (extra : ℕ) (m : Module) (port : PortValues) (old new : Option (List ℕ)) : Type 0 where
   pub last : ℕ
-  pub is : EndsIn beats (result_names m) port extra last
+  pub is : IsLastCycle beats (ends m port) extra last
+  pub taken : AppendsFront old new (bytes_to bytes m port last)
+
+pub record WatchesToEnd (bytes : Module → PortValues → ℕ → List ℕ) (ends : Module → PortValues → ℕ → Bool)
+    (stands : Module → PortValues → ℕ → Type 0) (beats : List Beat) (extra : ℕ) (m : Module) (port : PortValues)
+    (old new : Option (List ℕ)) : Type 0 where
+  pub last : ℕ
+  pub is : EndsBy beats (ends m port) extra last
   pub watched : WatchesTo bytes stands m port last old new
 
-pub record WatchesOut (bytes : Module → PortValues → ℕ → List ℕ) (stands : Module → PortValues → ℕ → Type 0)
-    (beats : List Beat) (extra n : ℕ) (m : Module) (port : PortValues) (old new : Option (List ℕ)) : Type 0 where
-  pub is : RunsOut beats (result_names m) port extra n
+pub record WatchesOut (bytes : Module → PortValues → ℕ → List ℕ) (ends : Module → PortValues → ℕ → Bool)
+    (stands : Module → PortValues → ℕ → Type 0) (beats : List Beat) (extra n : ℕ) (m : Module) (port : PortValues)
+    (old new : Option (List ℕ)) : Type 0 where
+  pub is : NeverEnds beats (ends m port) extra n
   pub watched : WatchesTo bytes stands m port n old new
 
 -- how watching ended: the bytes of all cycles to the end, or to the last that is waited for, were written and nothing
 -- failed, and the watcher stands behind them; or the sink failed behind a front of them
 abbrev pub Watched : ((Module → PortValues → Type 0) → Type 0) → (Module → PortValues → ℕ → List ℕ)
-    → (Module → PortValues → ℕ → Type 0) → List Beat → ℕ → SinkState → SinkState → Ending → Type 0
-Watched OfRuns bytes stands beats extra old new Done =
-    (new.faults ≡ old.faults) × OfRuns (λ m port. WatchesToEnd bytes stands beats extra m port old.taken new.taken)
-Watched OfRuns bytes stands beats extra old new (NoEnd cycle) =
+    → (Module → PortValues → ℕ → Bool) → (Module → PortValues → ℕ → Type 0) → List Beat → ℕ → SinkState → SinkState
+    → Ending → Type 0
+Watched OfRuns bytes ends stands beats extra old new Done =
+    (new.faults ≡ old.faults) × OfRuns (λ m port. WatchesToEnd bytes ends stands beats extra m port old.taken new.taken)
+Watched OfRuns bytes ends stands beats extra old new (NoEnd cycle) =
     (new.faults ≡ old.faults)
-    × OfRuns (λ m port. WatchesOut bytes stands beats extra cycle m port old.taken new.taken)
-Watched OfRuns bytes stands beats extra old new WriteFault =
-    Rose old.faults new.faults × OfRuns (λ m port. WatchesFront bytes beats extra m port old.taken new.taken)
-Watched OfRuns bytes stands beats extra old new Memory = ⊥
+    × OfRuns (λ m port. WatchesOut bytes ends stands beats extra cycle m port old.taken new.taken)
+Watched OfRuns bytes ends stands beats extra old new WriteFault =
+    Rose old.faults new.faults × OfRuns (λ m port. WatchesFront bytes ends beats extra m port old.taken new.taken)
+Watched OfRuns bytes ends stands beats extra old new Memory = ⊥

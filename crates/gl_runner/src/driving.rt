@@ -1,29 +1,23 @@
 //! Driving a module through the cycles of a file, and writing what they show.
 
-ghost use Rattle.std.specs.Prelude.{◌≡◌, ◌+◌, ◌<◌, ◌≤◌, ◌^◌, length, map, option_map, IfOk};
-ghost use Rattle.std.specs.List.{AllByRecursion};
-ghost use Rattle.gl_bits.specs.Kinds.{IsKind};
+ghost use Rattle.std.specs.Prelude.{◌≡◌, ◌+◌, ◌<◌, ◌≤◌, ◌^◌, map, option_map, IfOk};
 ghost use Rattle.gl_schema.specs.Beats.{beat_at, last_cycle};
 ghost use Rattle.gl_tuples.specs.Gaps.{plain_beat, plain_beats};
 ghost use Rattle.gl_verilog.specs.Runnable.{inputs_of};
 ghost use Rattle.gl_verilog.specs.View.{module_of};
-ghost use Rattle.gl_testbench.specs.Benches.{AreShows};
 ghost use Rattle.gl_testbench.specs.Carried.{pin_at};
 ghost use Rattle.gl_testbench.specs.Dues.{AreDue};
-ghost use Rattle.gl_runner.specs.Cycles.{Advances, CanFollow, IsAhead, IsStarted, design_of};
-ghost use Rattle.gl_runner.specs.Traces.{OfRunsOf, Traced};
+ghost use Rattle.gl_runner.specs.Cycles.{Advances, CanDrive, IsAhead, IsStarted, design_of};
 ghost use Rattle.gl_runner.specs.Watches.{OfDrivenPorts, StandsFirst, Watched};
 
-use crate::sampling::{sample_of, set_row};
 use crate::tracing::Ending;
-use crate::watching::{Made, ResultLines, Watch};
-use gl_bits::{Kind, Memory, Row};
-use gl_lines::{Sample, zero_row};
+use crate::watching::{Made, Watch};
+use gl_bits::Memory;
 use gl_outside::Sink;
 use gl_schema::Schema;
 use gl_sim::Sim;
 use gl_sim::room::{ports_of, zeros};
-use gl_testbench::{Pin, Shows, pins_at, set_beat, set_reset};
+use gl_testbench::{Pin, pins_at, set_beat, set_reset};
 use gl_tuples::{BeatView, Beats};
 use gl_verilog::Module;
 use gl_verilog::laws::valid_modules_run;
@@ -36,8 +30,6 @@ use std::marker::Model;
 #[derive(Clone, Copy)]
 pub(crate) struct Task<'a> {
     pub schema: &'a Schema,
-    /// The kinds by which the columns are printed.
-    pub kinds: &'a [Kind],
     pub beats: &'a Beats,
     pub start: Start,
     /// The cycles behind the last beat's in which the end is waited for.
@@ -46,8 +38,8 @@ pub(crate) struct Task<'a> {
 
 /// A module that is driven over the beats of a file, behind its reset, and what stands around it.
 ///
-/// In clauses it is seen as its simulator, what it is driven over, which cycle of the file comes
-/// next, and what the columns showed in the last one.
+/// In clauses it is seen as its simulator, what it is driven over, and which cycle of the file comes
+/// next.
 #[derive(Drop)]
 pub(crate) struct Drive<'a> {
     task: Task<'a>,
@@ -55,9 +47,6 @@ pub(crate) struct Drive<'a> {
     // What each input carries, and what it is set to.
     pins: Vec<Pin>,
     values: Vec<u128>,
-    // Where the result is shown, and the columns of the last cycle.
-    shows: Shows,
-    row: Row,
     // The cycle that comes next, and the place of the next beat.
     cycle: u64,
     next: usize,
@@ -65,7 +54,6 @@ pub(crate) struct Drive<'a> {
 
 impl<'a> Model for Drive<'a> {
     ghost use Rattle.std.specs.Coded.{codes};
-    ghost use Rattle.gl_bits.specs.Words.{bits_of};
     ghost use Rattle.gl_tuples.specs.Gaps.{plain_beats};
     ghost use Rattle.gl_verilog.specs.contracts.module.Expr as e;
     ghost use Rattle.gl_verilog.specs.contracts.module.Statement as st;
@@ -78,16 +66,13 @@ impl<'a> Model for Drive<'a> {
     ghost view = { λ d. record {
       sim = d.sim;
       schema = d.task.schema.now;
-      kinds = d.task.kinds.now;
       beats = plain_beats d.task.beats.now;
       extra = d.task.extra;
       cycle = d.cycle;
-      row = bits_of d.row;
     } };
 
-    ghost invariant = { λ d. IsSetUp d.sim d.task.schema.now d.task.kinds.now
-        (plain_beats d.task.beats.now) d.task.extra d.pins.items d.values.items d.shows d.row
-        d.cycle d.next };
+    ghost invariant = { λ d. IsSetUp d.sim d.task.schema.now (plain_beats d.task.beats.now)
+        d.task.extra d.pins.items d.values.items d.cycle d.next };
 }
 
 // What each input port of this module but the clock carries.
@@ -134,8 +119,8 @@ fn cycle_of(beat: &BeatView<'_>) -> u64
     u64::from(beat.cycle())
 }
 
-// The cycle of the last beat.
-fn last_of(beats: &Beats) -> u64
+/// The cycle of the last beat.
+pub(crate) fn last_of(beats: &Beats) -> u64
     ensures cycle { result ≡ last_cycle (plain_beats beats.now) }
     ensures early { result ≤ 2 ^ 32 }
 {
@@ -147,27 +132,17 @@ fn last_of(beats: &Beats) -> u64
 
 impl<'a> Drive<'a> {
     // Takes all the memory that it needs, and makes the cycle of the reset.
-    pub(crate) fn new(
-        alloc: Global,
-        design: Module,
-        shows: Shows,
-        task: Task<'a>,
-    ) -> Result<Drive<'a>, Memory>
-        requires can { CanFollow (module_of design) task.schema.now task.kinds.now
-            (plain_beats task.beats.now) }
-        requires shows { AreShows (module_of design) shows }
-        requires many { length task.kinds.now ≤ 32 }
-        requires kinds { AllByRecursion IsKind task.kinds.now }
+    pub(crate) fn new(alloc: Global, design: Module, task: Task<'a>) -> Result<Drive<'a>, Memory>
+        requires can { CanDrive (module_of design) task.schema.now (plain_beats task.beats.now) }
         requires short { task.extra ≤ 2 ^ 32 }
         ensures { let t = task.entry in
-            IfOk result (IsStarted (module_of design) t.schema.now t.kinds.now
+            IfOk result (IsStarted (module_of design) t.schema.now
             (plain_beats t.beats.now) t.start t.extra) }
     {
         valid_modules_run();
         event_runs_are_runs();
         let pins = pins_of(alloc, task.schema, &design)?;
         let mut values = zeros(alloc, pins.len())?;
-        let row = zero_row(alloc, task.kinds)?;
         let mut sim = Sim::new(alloc, design, task.start)?;
         let inputs = values.as_mut_slice();
         set_reset(&pins, inputs);
@@ -177,8 +152,6 @@ impl<'a> Drive<'a> {
             sim,
             pins,
             values,
-            shows,
-            row,
             cycle: 0,
             next: 0,
         })
@@ -194,78 +167,46 @@ impl<'a> Drive<'a> {
         (last, last + self.task.extra)
     }
 
-    // Makes the next cycle, and answers what it shows.
-    fn advance(&mut self) -> Sample
+    // Makes the next cycle.
+    fn advance(&mut self)
         requires { self.old.cycle < 2 ^ 63 }
         ensures ahead { IsAhead self.old self.new }
-        ensures made { Advances self.old self.new result }
+        ensures made { Advances self.old self.new }
     {
         let beat = due(self.task.beats, &mut self.next, self.cycle);
         let values = self.values.as_mut_slice();
         set_beat(&self.pins, beat.as_ref(), values);
         self.sim.step(values);
         self.cycle += 1;
-        set_row(&self.sim, &self.shows.columns, &mut self.row);
-        sample_of(&self.sim, &self.shows)
     }
 
-    // Makes the cycles of the file up to the end, or to the last that is waited for, each of which
-    // is watched.
+    /// Makes the cycles of the file up to the end, or to the last that is waited for, each of which
+    /// is watched.
+    ///
+    /// In the first cycle the module was reset. Behind it comes a cycle for each cycle of the file,
+    /// to the first one from the last beat's on behind which the watcher waits for nothing more.
     pub(crate) fn follow<W: Watch, K: Sink>(&mut self, watch: &mut W, out: &mut K) -> Ending
         requires first { self.old.cycle ≡ 0 }
         requires serves { W.serves watch.old (design_of self.old) }
         requires stands { StandsFirst (W.stands watch.old) self.old }
         ensures { let d = self.old in
-            Watched (OfDrivenPorts d) (W.bytes watch.old d.kinds) (W.stands watch.new) d.beats
-            d.extra (K.state out.old) (K.state out.new) result }
+            Watched (OfDrivenPorts d) (W.bytes watch.old) (W.ends watch.old) (W.stands watch.new)
+            d.beats d.extra (K.state out.old) (K.state out.new) result }
     {
         let (last, far) = self.bounds();
         for cycle in 0..far + 1 {
-            let sample = self.advance();
+            self.advance();
             let made = Made {
                 cycle,
                 sim: &self.sim,
-                sample,
-                row: &self.row,
-                kinds: self.task.kinds,
             };
             if watch.cycle(&made, out).is_err() {
                 return Ending::WriteFault;
             }
-            if sample.end && cycle >= last {
+            if watch.is_over() && cycle >= last {
                 return Ending::Done;
             }
         }
         Ending::NoEnd { cycle: far }
     }
-}
-
-/// Runs a module, in which these ports show the result, and writes the lines of its run.
-///
-/// In the first cycle the module is reset. Behind it comes a cycle for each cycle of the file, to
-/// the first one from the last beat's on in which `out__eos` is 1, or to the last that is waited
-/// for. The lines stand in order of cycle; in a cycle a further group stands before the result, and
-/// the end behind it. All memory is taken before the first line.
-pub(crate) fn follow_module<K: Sink>(
-    alloc: Global,
-    design: Module,
-    shows: Shows,
-    task: Task<'_>,
-    out: &mut K,
-) -> Ending
-    requires can { CanFollow (module_of design) task.schema.now task.kinds.now
-        (plain_beats task.beats.now) }
-    requires shows { AreShows (module_of design) shows }
-    requires many { length task.kinds.now ≤ 32 }
-    requires kinds { AllByRecursion IsKind task.kinds.now }
-    requires short { task.extra ≤ 2 ^ 32 }
-    ensures { let t = task.entry in
-        Traced (OfRunsOf (module_of design) t.schema.now (plain_beats t.beats.now) t.start)
-        t.kinds.now (plain_beats t.beats.now) t.extra (K.state out.old) (K.state out.new) result }
-{
-    let Ok(mut drive) = Drive::new(alloc, design, shows, task) else {
-        return Ending::Memory;
-    };
-    let mut lines = ResultLines { told: false };
-    drive.follow(&mut lines, out)
 }

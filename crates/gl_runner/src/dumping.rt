@@ -4,27 +4,30 @@ ghost use Rattle.std.specs.Prelude.{◌≡◌, ◌≤◌, ◌^◌, None, Some, l
 ghost use Rattle.std.specs.List.{AllByRecursion};
 ghost use Rattle.gl_bits.specs.Kinds.{IsKind};
 ghost use Rattle.gl_bits.specs.Words.{IsWidth};
+ghost use Rattle.gl_schema.specs.Ports.{out_eos};
 ghost use Rattle.gl_tuples.specs.Gaps.{plain_beats};
 ghost use Rattle.gl_verilog.specs.View.{module_of};
 ghost use Rattle.gl_dumps.specs.Written.{ports_of};
 ghost use Rattle.gl_runner.specs.Cycles.{CanFollow, HasPlainPorts, design_of};
 ghost use Rattle.gl_runner.specs.Dumps.{Dumped, OfTimelyPorts};
 ghost use Rattle.gl_runner.specs.Dumping.{Adds, CanDump, IsEmptyFor, IsInFront, OfTimelyDriven, Serves, StandsDumped};
-ghost use Rattle.gl_runner.specs.Watches.{dump_of_cycle};
+ghost use Rattle.gl_runner.specs.Probes.{IsLineIn};
+ghost use Rattle.gl_runner.specs.Watches.{dump_of_cycle, end_of_cycle};
 
 use crate::driving::{Drive, Task};
 use crate::executing::Outcome;
-use crate::sampling::set_row;
+use crate::sampling::{is_high, set_row};
 use crate::tracing::Ending;
 use crate::watching::{Made, Watch};
 use gl_bits::{Kind, Memory, Row, Word};
 use gl_dumps::{cycle, header, is_dumped, last_time};
 use gl_outside::{Sink, WriteFault};
 use gl_schema::Schema;
-use gl_testbench::shows_of;
+use gl_testbench::number_of;
 use gl_tuples::Beats;
 use gl_verilog::Module;
 use gl_verilog_orders::Start;
+use gl_verilog_ports::ports_of as ports_in;
 use std::alloc::Global;
 use std::mem;
 
@@ -40,10 +43,14 @@ pub(crate) struct DumpLines<'a> {
     pub before: Row,
     /// The cycle that comes next.
     pub next: u64,
+    /// The number of the port that shows the end, and whether it did in the last cycle.
+    pub end: Option<usize>,
+    pub ended: bool,
 }
 
 impl<'a> DumpLines<'a> {
     // In front of the first cycle of a module. Takes all the memory that it needs.
+    #[tactic(auto, unfolding(gl_schema::specs::Ports::out_eos))]
     fn new(alloc: Global, face: &'a Module) -> Result<DumpLines<'a>, Memory>
         requires { CanDump face.now }
         ensures { IfOk result (IsInFront face.now) }
@@ -54,6 +61,8 @@ impl<'a> DumpLines<'a> {
             now: Row::new(alloc),
             before: Row::new(alloc),
             next: 0,
+            end: number_of(ports_in(face), b"out__eos"),
+            ended: false,
         };
         lines.add_all()?;
         Ok(lines)
@@ -100,7 +109,9 @@ fn row_before(row: &Row, cycle: u64) -> Option<&Row>
 }
 
 impl Watch for DumpLines<'_> {
-    ghost bytes = { λ w kinds. dump_of_cycle };
+    ghost bytes = { λ w. dump_of_cycle };
+
+    ghost ends = { λ w. end_of_cycle };
 
     ghost stands = { λ w. StandsDumped w };
 
@@ -112,7 +123,12 @@ impl Watch for DumpLines<'_> {
         cycle(self.face, made.cycle, before, &self.now, out)?;
         mem::swap(&mut self.before, &mut self.now);
         self.next = made.cycle + 1;
+        self.ended = is_high(made.sim, self.end);
         Ok(())
+    }
+
+    fn is_over(&self) -> bool {
+        self.ended
     }
 }
 
@@ -121,6 +137,7 @@ fn put_dump<K: Sink>(drive: &mut Drive<'_>, lines: &mut DumpLines<'_>, out: &mut
     requires front { IsInFront lines.old.face.now lines.old }
     requires same { module_of lines.old.face.now ≡ design_of drive.old }
     requires plain { HasPlainPorts (design_of drive.old) }
+    requires line { IsLineIn (design_of drive.old) out_eos }
     requires first { drive.old.cycle ≡ 0 }
     ensures { Dumped (OfTimelyDriven drive.old) drive.old.beats (K.state out.old) (K.state out.new)
         result }
@@ -162,20 +179,18 @@ pub fn dump_module<K: Sink>(
         Dumped (OfTimelyPorts latency (module_of design) schema.now beats' start) beats'
         (K.state out.old) (K.state out.new) result }
 {
-    let Ok(shows) = shows_of(alloc, &design) else {
-        return Outcome::Memory;
-    };
+    // Clauses alone speak of them.
+    let _ = kinds;
     let Ok(mut lines) = DumpLines::new(alloc, face) else {
         return Outcome::Memory;
     };
     let task = Task {
         schema,
-        kinds,
         beats,
         start,
         extra: latency,
     };
-    let Ok(mut drive) = Drive::new(alloc, design, shows, task) else {
+    let Ok(mut drive) = Drive::new(alloc, design, task) else {
         return Outcome::Memory;
     };
     put_dump(&mut drive, &mut lines, out)

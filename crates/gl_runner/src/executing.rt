@@ -8,7 +8,8 @@ ghost use Rattle.gl_verilog.specs.View.{module_of};
 ghost use Rattle.gl_runner.specs.Cycles.{CanFollow, OfTimely, outcome_of};
 ghost use Rattle.gl_runner.specs.Prints.{Ran};
 
-use crate::driving::{Task, follow_module};
+use crate::driving::Task;
+use crate::following::follow_module;
 use crate::tracing::Ending;
 use gl_bits::Kind;
 use gl_outside::Sink;
@@ -30,8 +31,8 @@ pub enum Outcome {
     Memory,
 }
 
-// The outcome of a module that comes to its end where it is waited for.
-fn outcome_of(ending: Ending) -> Outcome
+/// The outcome of a module that comes to its end where it is waited for.
+pub(crate) fn outcome_of(ending: Ending) -> Outcome
     ensures { result ≡ outcome_of ending }
 {
     match ending {
@@ -68,10 +69,9 @@ pub fn execute_module<K: Sink>(
     };
     let task = Task {
         schema,
-        kinds,
         beats,
         start,
         extra: latency,
     };
-    outcome_of(follow_module(alloc, design, shows, task, out))
+    outcome_of(follow_module(alloc, design, shows, kinds, task, out))
 }

@@ -11,7 +11,8 @@ ghost use Rattle.gl_verilog_ports.specs.Profile.{HasInputPorts};
 ghost use Rattle.gl_runner.specs.Prints.{HasRunOver};
 ghost use Rattle.gl_runner.specs.Traces.{OfRunsOf, Traced, decimal_kinds};
 
-use crate::driving::{Task, follow_module};
+use crate::driving::Task;
+use crate::following::follow_module;
 use gl_bits::{Kind, Memory};
 use gl_outside::Sink;
 use gl_schema::Schema;
@@ -84,10 +85,9 @@ pub fn trace<K: Sink>(
     };
     let task = Task {
         schema,
-        kinds: &kinds,
         beats,
         start,
         extra: u64::from(extra),
     };
-    follow_module(alloc, design, shows, task, out)
+    follow_module(alloc, design, shows, &kinds, task, out)
 }

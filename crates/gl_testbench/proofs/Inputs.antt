@@ -51,7 +51,7 @@ AreAsked m schema =
     (n : ℕ) (d : Declaration) → slice_get (ports_of m) n ≡ Some d → d.kind ≡ Input → is_clock d ≡ false → input_width schema d.name ≡ Some d.width
 
 -- as those of a module that fits the schema are
-asked_of : (m : Module) (schema : Schema) → FitsSchema m schema → AreAsked m schema
+pub asked_of : (m : Module) (schema : Schema) → FitsSchema m schema → AreAsked m schema
 asked_of m schema fits n d at input other = fits.inputs n d (declared.get_take m.ports m.declarations n d at) input other
 
 -- the input ports, as the schema asks for them
@@ -73,12 +73,12 @@ pin_is : (schema : Schema) (m : Module) (n : ℕ) (d : Declaration) → slice_ge
 pin_is schema m n d e = ap (λ (o : Option Declaration). pin_named schema (option_map_or (λ (x : Declaration). x.name) o [])) e
 
 -- they fit
-pub inputs_fit : (schema : Schema) (m : Module) (beats : List Beat) (t : ℕ) → IsValid m → HasInputPorts m → FitsSchema m schema → AreBeats schema beats → FitInputs m (map (carried_at beats t) (map (pin_at schema m.declarations) (inputs_of m)))
-inputs_fit schema m beats t valid among fits are =
+pub inputs_fit : (schema : Schema) (m : Module) (beats : List Beat) (t : ℕ) → IsValid m → HasInputPorts m → AreAsked m schema → AreBeats schema beats → FitInputs m (map (carried_at beats t) (map (pin_at schema m.declarations) (inputs_of m)))
+inputs_fit schema m beats t valid among asked are =
     zip_maps (λ n x. x < 2 ^ width_at m.declarations n) (pin_at schema m.declarations) (carried_at beats t) (inputs_of m)
     (all_weaker (IsInputPort m.declarations) (λ n. carried_at beats t (pin_at schema m.declarations n) < 2 ^ width_at m.declarations n)
     (λ n p.
-    let a = is_asked schema m n valid among (asked_of m schema fits) p in
+    let a = is_asked schema m n valid among asked p in
     let small : carried_at beats t (pin_named schema a.d.name) < 2 ^ a.d.width = found_at IsNarrow schema beats t a.d.name a.d.width (pins_fit schema beats t are) a.width in
     rw (pin_is schema m n a.d a.there, width_at-found m.declarations n a.d a.there) small)
     (inputs_of m) (inputs_of-ports m))
@@ -99,8 +99,8 @@ pub port_carries : (text : List ℕ) (schema : Schema) (m : Module) (beats : Lis
 port_carries text schema m beats value t has asked are stimulus n p = input_carries schema m beats value t has.valid (declared.inputs_are_ports text m has) asked are stimulus n p
 
 -- and the inputs have theirs
-pub run_has_inputs : (schema : Schema) (m : Module) (beats : List Beat) (value : ℕ → Nets) (t : ℕ) → IsValid m → HasInputPorts m → FitsSchema m schema → AreBeats schema beats → IsStimulus schema beats (input_values m value) → HasInputs m (value t) (map (carried_at beats t) (map (pin_at schema m.declarations) (inputs_of m)))
-run_has_inputs schema m beats value t valid among fits are stimulus =
+pub run_has_inputs : (schema : Schema) (m : Module) (beats : List Beat) (value : ℕ → Nets) (t : ℕ) → IsValid m → HasInputPorts m → AreAsked m schema → AreBeats schema beats → IsStimulus schema beats (input_values m value) → HasInputs m (value t) (map (carried_at beats t) (map (pin_at schema m.declarations) (inputs_of m)))
+run_has_inputs schema m beats value t valid among asked are stimulus =
     zip_maps (λ n x. value t n ≡ x) (pin_at schema m.declarations) (carried_at beats t) (inputs_of m)
     (all_weaker (IsInputPort m.declarations) (λ n. value t n ≡ carried_at beats t (pin_at schema m.declarations n))
-    (input_carries schema m beats value t valid among (asked_of m schema fits) are stimulus) (inputs_of m) (inputs_of-ports m))
+    (input_carries schema m beats value t valid among asked are stimulus) (inputs_of m) (inputs_of-ports m))

@@ -24,17 +24,17 @@ use Rattle.gl_bits.proofs.Bools.{bytes_same}
 -- ---- lines
 
 -- the number of a name is that of the declaration of the name
-record IsNamed (ds : List Declaration) (name : List ℕ) (P : Declaration → Type 0) (k : ℕ) : Type 0 where
-  d : Declaration
-  there : slice_get ds k ≡ Some d
-  is : P d
-  same : bytes_eq d.name name ≡ true
+pub record IsNamed (ds : List Declaration) (name : List ℕ) (P : Declaration → Type 0) (k : ℕ) : Type 0 where
+  pub d : Declaration
+  pub there : slice_get ds k ≡ Some d
+  pub is : P d
+  pub same : bytes_eq d.name name ≡ true
 
 later_number : (x : Declaration) (ds : List Declaration) (name : List ℕ) (P : Declaration → Type 0) (o : Option ℕ) → IfSome o (IsNamed ds name P) → IfSome (option_map (λ n. n + 1) o) (IsNamed (x ∷ ds) name P)
 later_number x ds name P None h = tt
 later_number x ds name P (Some k) h = record { d = h.d; there = rw (add-one k) h.there; is = h.is; same = h.same }
 
-named : (ds : List Declaration) (name : List ℕ) (P : Declaration → Type 0) → IfSome (find (λ (d : Declaration). bytes_eq d.name name) ds) P → IfSome (number_of ds name) (IsNamed ds name P)
+pub named : (ds : List Declaration) (name : List ℕ) (P : Declaration → Type 0) → IfSome (find (λ (d : Declaration). bytes_eq d.name name) ds) P → IfSome (number_of ds name) (IsNamed ds name P)
 named [] name P h = tt
 named (d ∷ ds) name P h = pick (bytes_eq d.name name) refl h (named ds name P)
   where
@@ -44,7 +44,7 @@ named (d ∷ ds) name P h = pick (bytes_eq d.name name) refl h (named ds name P)
     pick true e h later = record { d = d; there = refl; is = h; same = e }
     pick false e h later = later_number d ds name P (number_of ds name) (later h)
 
-output_is_net : (k : Kind) → is_output k ≡ true → IsNet k
+pub output_is_net : (k : Kind) → is_output k ≡ true → IsNet k
 output_is_net Input e = absurd cc
 output_is_net OutputWire e = tt
 output_is_net OutputRegister e = tt
@@ -52,7 +52,7 @@ output_is_net Wire e = absurd cc
 output_is_net Register e = absurd cc
 output_is_net (Memory bits) e = absurd cc
 
-line_readable : (name : List ℕ) (d : Declaration) → bytes_eq name (codes "clk") ≡ false → IsLine d → bytes_eq d.name name ≡ true → IsReadable d
+pub line_readable : (name : List ℕ) (d : Declaration) → bytes_eq name (codes "clk") ≡ false → IsLine d → bytes_eq d.name name ≡ true → IsReadable d
 line_readable name d other line e = (output_is_net d.kind line.output, subst (λ (n : List ℕ). bytes_eq n (codes "clk") ≡ false) (sym (bytes_same d.name name e)) other)
 
 some_same : (v v' : Nets) (o : Option ℕ) → IfSome o (λ k. v k ≡ v' k) → option_map v o ≡ option_map v' o
@@ -98,7 +98,7 @@ shows_inside m shows h = (line_inside m out_valid shows.valid h.valid', line_ins
 -- ---- columns
 
 -- what a function gives at the numbers of the columns
-columns_are : {A : Type 0} (f : ℕ → A) (g : Declaration → A) (from : ℕ) (ds : List Declaration) → ((n : ℕ) (d : Declaration) → slice_get ds n ≡ Some d → f (from + n) ≡ g d) → map f (columns_from from ds) ≡ map g (filter shows_column ds)
+pub columns_are : {A : Type 0} (f : ℕ → A) (g : Declaration → A) (from : ℕ) (ds : List Declaration) → ((n : ℕ) (d : Declaration) → slice_get ds n ≡ Some d → f (from + n) ≡ g d) → map f (columns_from from ds) ≡ map g (filter shows_column ds)
 columns_are f g from [] h = refl
 columns_are {A} f g from (d ∷ ds) h =
     pick (shows_column d)
@@ -109,7 +109,7 @@ columns_are {A} f g from (d ∷ ds) h =
     pick false later = later
 
 -- a fact of each of their declarations
-columns_each : (Q : ℕ → Type 0) (from : ℕ) (ds : List Declaration) → ((n : ℕ) (d : Declaration) → slice_get ds n ≡ Some d → shows_column d ≡ true → Q (from + n)) → AllByRecursion Q (columns_from from ds)
+pub columns_each : (Q : ℕ → Type 0) (from : ℕ) (ds : List Declaration) → ((n : ℕ) (d : Declaration) → slice_get ds n ≡ Some d → shows_column d ≡ true → Q (from + n)) → AllByRecursion Q (columns_from from ds)
 columns_each Q from [] h = tt
 columns_each Q from (d ∷ ds) h =
     pick (shows_column d) refl
@@ -143,7 +143,7 @@ none_of : (b c d : Bool) → (b && false && c && d) ≡ true → ⊥
 none_of true c d h = cc
 none_of false c d h = cc
 
-clock_no_column : (d : Declaration) → shows_column d ≡ true → is_clock d ≡ false
+pub clock_no_column : (d : Declaration) → shows_column d ≡ true → is_clock d ≡ false
 clock_no_column d e = pick (is_clock d) refl
   where
     no_column : (k : Kind) (name : List ℕ) → name ≡ codes "clk" → (is_output k && bytes_eq (take 5 name) (codes "out__") && not (bytes_eq name out_valid) && not (bytes_eq name out_eos)) ≡ true → ⊥
@@ -155,7 +155,7 @@ clock_no_column d e = pick (is_clock d) refl
         absurd (no_column d.kind d.name name e)
     pick false c = refl
 
-column_output : (d : Declaration) → shows_column d ≡ true → is_output d.kind ≡ true
+pub column_output : (d : Declaration) → shows_column d ≡ true → is_output d.kind ≡ true
 column_output d e = pick (is_output d.kind) refl e
   where
     pick : (b : Bool) → is_output d.kind ≡ b → (b && bytes_eq (take 5 d.name) (codes "out__") && not (bytes_eq d.name out_valid) && not (bytes_eq d.name out_eos)) ≡ true → b ≡ true

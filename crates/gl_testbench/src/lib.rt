@@ -10,4 +10,4 @@ pub mod laws;
 pub mod pins;
 
 pub use bench::{pins_at, set_beat, set_reset};
-pub use pins::{Pin, Shows, shows_at, shows_of};
+pub use pins::{Pin, Shows, number_of, shows_at, shows_of};

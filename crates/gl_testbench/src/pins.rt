@@ -122,8 +122,8 @@ pub fn value_of(pin: Pin, beat: Option<&BeatView<'_>>) -> u128
     }
 }
 
-// The number of the port of a name.
-fn number_of(ports: &[Declaration], name: &[u8]) -> Option<usize>
+/// The number of the port of a name.
+pub fn number_of(ports: &[Declaration], name: &[u8]) -> Option<usize>
     ensures { result ≡ spec.number_of (map declaration_of ports.now) name.now }
 {
     for (number, port) in ports.iter().enumerate() {

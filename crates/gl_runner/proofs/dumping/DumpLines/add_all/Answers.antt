@@ -1,4 +1,4 @@
-use Rattle.std.proofs.Common.{◌≤◌, List, ap, arith, length, map, sym, subst, take}
+use Rattle.std.proofs.Common.{◌≤◌, ◌∙◌, List, ap, arith, length, map, sym, subst, take}
 use Rattle.std.specs.List.{AllByRecursion}
 use Rattle.gl_bits.specs.Words.{widths_of}
 use Rattle.gl_verilog.specs.declared.module.Declaration.{Declaration}
@@ -22,6 +22,7 @@ returns c =
         ports' = numbers_all face c.as_slice.result.now c.loop-number.self.ports.items c.loop-number.number c.as_slice.ensures done c.loop-number.invariant.ports;
         now' = widths_all face c.as_slice.result.now (widths_of c.loop-number.self.now) c.loop-number.number c.as_slice.ensures done c.loop-number.invariant.now;
         before' = widths_all face c.as_slice.result.now (widths_of c.loop-number.self.before) c.loop-number.number c.as_slice.ensures done c.loop-number.invariant.before;
+        end' = c.loop-number.invariant.end' ∙ c.requires.end';
       };
       next' = c.loop-number.invariant.next;
     }

@@ -10,6 +10,7 @@ abbrev pub invariant-loop-number : goal.invariant-loop-number
 invariant-loop-number l = record {
   face : l.self.face ≡ l.initial.self.face;
   next : l.self.next ≡ 0;
+  end' : l.self.end ≡ l.initial.self.end;
   ports : l.self.ports.items ++ numbers_from l.number (map declaration_of (drop l.number l.ports)) ≡ numbers_from 0 (map declaration_of l.ports);
   now : widths_of l.self.now ++ map (λ p. p.width) (ports_among (map declaration_of (drop l.number l.ports))) ≡ map (λ p. p.width) (ports_among (map declaration_of l.ports));
   before : widths_of l.self.before ++ map (λ p. p.width) (ports_among (map declaration_of (drop l.number l.ports))) ≡ map (λ p. p.width) (ports_among (map declaration_of l.ports));

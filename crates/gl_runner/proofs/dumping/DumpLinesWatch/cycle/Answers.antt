@@ -2,9 +2,12 @@ use Rattle.std.proofs.Common.{◌≡◌, ◌∙◌, ◌<◌, ℕ, List, ap, leng
 use Rattle.std.specs.List.{AllByRecursion}
 use Rattle.gl_bits.specs.Words.{widths_of}
 use Rattle.gl_outside.specs.States.{Broke, Took}
-use Rattle.gl_runner.proofs.Running.{failed}
+use Rattle.gl_runner.proofs.Probing.{end_had}
+use Rattle.gl_runner.proofs.Running.{ended_kept, failed}
 use Rattle.gl_dumps.specs.Written.{ports_of}
-use Rattle.gl_runner.specs.Dumping.{numbers_of, widths_in}
+use Rattle.gl_schema.specs.Ports.{out_eos}
+use Rattle.gl_testbench.proofs.Outputs.{line_inside}
+use Rattle.gl_runner.specs.Dumping.{end_in, numbers_of, widths_in}
 use Rattle.gl_runner.specs.Watches.{module_in}
 use Rattle.gl_runner.proofs.DumpRows.{cycle_is, numbers_inside, numbers_many, row_kept, row_made}
 use Rattle.gl_runner.proofs.dumping.DumpLinesWatch.cycle.Goals as goal
@@ -48,4 +51,15 @@ returns-clause-stands g c = λ port made stands.
     let same : c.as_slice.result.now ≡ numbers_of m = c.as_slice.ensures.value ∙ c.requires.serves.room.ports' ∙ ap numbers_of c.requires.serves.face' in
     let wide : widths_of c.args.self.now.now ≡ widths_in m = c.requires.serves.room.now' ∙ ap widths_in c.requires.serves.face' in
     let row = row_made m c.args.made.now.sim.now port n c.as_slice.result.now c.args.self.now.now c.set_row.new.row c.requires.serves.plain made.ports' same wide c.set_row.ensures.widths c.set_row.ensures.bits in
-    record { next' = refl; before' = λ k e. row_kept (ports_of m) port n c.swap.new.x (c.swap.ensures.x_after ∙ row) k e }
+    let found : c.args.self.now.end ≡ end_in m = c.requires.serves.room.end' ∙ ap end_in c.requires.serves.face' in
+    let last = end_had m c.args.made.now.sim.now port n c.args.self.now.end c.is_high-self.result made.ports' made.others' c.requires.serves.line' found c.is_high-self.ensures in
+    record {
+      next' = refl;
+      before' = λ k e. row_kept (ports_of m) port n c.swap.new.x (c.swap.ensures.x_after ∙ row) k e;
+      ended' = λ k e. ended_kept m port n c.is_high-self.result last k e;
+    }
+
+pub is_high-self-requires : goal.is_high-self-requires
+is_high-self-requires g c =
+    let m = module_in c.args.made.now in
+    line_inside m out_eos c.args.self.now.end (c.requires.serves.room.end' ∙ ap end_in c.requires.serves.face')

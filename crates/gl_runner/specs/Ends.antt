@@ -1,0 +1,22 @@
+-- Where a run over the cycles of a file ends: in the first cycle from the last beat's on in which something holds.
+use Rattle.std.specs.Prelude.{◌≡◌, ◌⊎◌, ℕ, ◌+◌, ◌<◌, ◌≤◌, Bool, List, IsFalse, IsTrue}
+use Rattle.gl_schema.specs.Beats.{Beat, last_cycle}
+
+pub record IsFirstEnd (beats : List Beat) (ends : ℕ → Bool) (n : ℕ) : Type 0 where
+  pub soonest : last_cycle beats ≤ n
+  pub holds : IsTrue (ends n)
+  pub first : (k : ℕ) → last_cycle beats ≤ k → k < n → IsFalse (ends k)
+
+-- it comes in time: at most so many cycles after the last beat's
+pub record EndsBy (beats : List Beat) (ends : ℕ → Bool) (extra n : ℕ) : Type 0 where
+  pub is : IsFirstEnd beats ends n
+  pub in_time : n ≤ last_cycle beats + extra
+
+-- it comes in none of these cycles, of which this is the last
+pub record NeverEnds (beats : List Beat) (ends : ℕ → Bool) (extra n : ℕ) : Type 0 where
+  pub last : n ≡ last_cycle beats + extra
+  pub none : (k : ℕ) → last_cycle beats ≤ k → k ≤ last_cycle beats + extra → IsFalse (ends k)
+
+-- the last cycle that is run
+abbrev pub IsLastCycle : List Beat → (ℕ → Bool) → ℕ → ℕ → Type 0
+IsLastCycle beats ends extra n = EndsBy beats ends extra n ⊎ NeverEnds beats ends extra n
