@@ -29,8 +29,10 @@ pub record WorkedReach : Type 0 where
   pub body : reached_of shared (0 ∷ 1 ∷ 2 ∷ 3 ∷ 4 ∷ []) (3 ∷ []) ≡ false ∷ false ∷ true ∷ true ∷ false ∷ []
   pub twice : reached_of shared (0 ∷ 1 ∷ 2 ∷ 5 ∷ 6 ∷ []) (6 ∷ []) ≡ true ∷ true ∷ false ∷ false ∷ true ∷ []
   pub none : reached_of shared (0 ∷ 1 ∷ 6 ∷ []) [] ≡ false ∷ false ∷ false ∷ []
-  pub parted : reached_of of_groups_and_times (0 ∷ 1 ∷ 2 ∷ 3 ∷ 4 ∷ []) (3 ∷ []) ≡ true ∷ false ∷ false ∷ true ∷ false ∷ []
-  pub timed : reached_of of_groups_and_times (0 ∷ 1 ∷ 2 ∷ 3 ∷ 4 ∷ []) (4 ∷ []) ≡ true ∷ false ∷ false ∷ false ∷ true ∷ []
+  pub parted : reached_of of_groups_and_times (0 ∷ 1 ∷ 2 ∷ 3 ∷ 4 ∷ []) (3 ∷ [])
+      ≡ true ∷ false ∷ false ∷ true ∷ false ∷ []
+  pub timed : reached_of of_groups_and_times (0 ∷ 1 ∷ 2 ∷ 3 ∷ 4 ∷ []) (4 ∷ [])
+      ≡ true ∷ false ∷ false ∷ false ∷ true ∷ []
   -- the stream (4) and the projection (12), each once, whichever of them are roots
   pub stream : weight_of_reached shared (0 ∷ []) ≡ 4
   pub projected : weight_of_reached shared (1 ∷ 1 ∷ 0 ∷ []) ≡ 16

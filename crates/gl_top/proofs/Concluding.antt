@@ -1,19 +1,18 @@
 -- What each status says.
-use Rattle.std.proofs.Common.{◌≡◌, ◌≢◌, ◌⊎◌, ℕ, List, [], Option, Some, refl, sym, ap, subst, ◌∙◌, inl, inr}
+use Rattle.std.proofs.Common.{◌≡◌, ◌≢◌, ◌⊎◌, ℕ, List, [], refl, sym, ap, subst, ◌∙◌, inl, inr}
 use Rattle.gl_outside.specs.Counts.{Rose}
 use Rattle.gl_schema.specs.declared.schema.Schema.{Schema}
-use Rattle.gl_query.specs.declared.tree.Statement.{Statement}
 use Rattle.gl_top_notes.specs.declared.refusal.Refusal.{Refusal}
 use Rattle.gl_top_notes.specs.declared.refusal.Refusal.TheVariants as refusal
 use Rattle.gl_top_notes.specs.declared.status.Status.{Status}
 use Rattle.gl_top_notes.specs.declared.status.Status.TheVariants as status
 use Rattle.gl_outside.specs.Told.{Told}
 use Rattle.gl_top_words.specs.declared.command.Command.{Command}
-use Rattle.gl_top_words.specs.declared.command.Command.TheVariants.{Compile, Figures, Explain, Run, Sim, Load, Vcd, Undump}
+use Rattle.gl_top_words.specs.declared.command.Command.TheVariants.{Load, ManyRun, Run, Sim, Undump, Vcd}
 use Rattle.gl_top_words.specs.declared.command.Part.{Part}
 use Rattle.gl_top_words.specs.declared.command.Part.TheVariants as part
-use Rattle.gl_top_words.specs.Forms.{IsForm, command_of, extra_of}
-use Rattle.gl_top_words.proofs.Named.{form_of, named_form}
+use Rattle.gl_top_words.specs.Forms.{IsCommand, IsForm, IsOfRun, extra_of}
+use Rattle.gl_top_words.proofs.Named.{form_of, named_form, one_command}
 use Rattle.gl_outside.specs.States.{IsCalm, Took}
 use Rattle.gl_verilog_orders.specs.declared.start.Start.TheVariants.{Zero}
 use Rattle.gl_tuples.specs.declared.beats.Beat.{Beat}
@@ -27,11 +26,13 @@ use Rattle.gl_runner.specs.Traces as traces
 use Rattle.gl_top_judging.specs.Passing.{FilePasses}
 use Rattle.gl_top_notes.specs.Refusals.{Puts, Notes, status_of, note_of, no_end_line, write_line}
 use Rattle.gl_top_judging.specs.Causes.{Change, HasCause, IsNext, IsRefused}
-use Rattle.gl_top.specs.Shown.{Shows}
+use Rattle.gl_top.specs.Shown.{AreShownOf, IsShownOf, Shows, ShowsAll}
 use Rattle.gl_top.specs.Calls.{Call}
-use Rattle.gl_top.specs.Verdicts.{AllPass, OfFile, Three, Completes, Whole, NoMemory, Endless, IsAnswer, RanWhole, RanCut, Dumped, DumpedCut, Traced, Wrote, WroteCut, Refused, IsEndless, IsComplete, IsGiven, OfDump, OfLoad, OfTexts, IsTelling, TellsEnding, TellsFaults, TellsForm, Yields, Same, ToRead, ToWrite, ToMemory, IsFaultless, Says, SaysBy, TellsRefusal}
+use Rattle.gl_top.specs.Verdicts.{AllPass, OfFile, Three, ThreeOfAll, Two, TwoOfAll, Completes, Whole, NoMemory, Endless, IsAnswer, RanWhole, RanCut, RanAllWhole, RanAllCut, Dumped, DumpedCut, Traced, Wrote, WroteCut, Refused, IsEndless, IsComplete, IsGiven, OfDump, OfLoad, OfQueries, OfTexts, IsTelling, TellsEnding, TellsFaults, TellsForm, Yields, Same, ToRead, ToWrite, ToMemory, IsFaultless, Says, SaysBy, TellsRefusal}
 use Rattle.gl_top_judging.proofs.Texts.{next_form}
-use Rattle.gl_top.proofs.Deciding.{Stops, dump_goes, formed, load_goes, one_refusal, stops, passes_goes, two_go}
+use Rattle.gl_top.proofs.Stopping.{Stops, stops}
+use Rattle.gl_top.proofs.Passed.{dump_goes, load_goes, passes_goes}
+use Rattle.gl_top.proofs.Deciding.{formed, one_refusal}
 
 noted_write : (own answered : Status) (line : List ℕ) (notes : Puts) → own ≡ status.WriteFault → Notes own line notes answered → answered ≡ status.WriteFault
 noted_write own answered line notes e (inl n) = n.0 ∙ e
@@ -144,6 +145,8 @@ module _ (call : Call) (schema : Schema) (design : Module) (beats : List Beat) (
 pub when_says : (call : Call) → IsAnswer call → Says call
 when_says call (RanWhole d) = subst (λ (s : Status). SaysBy s call) (sym d.done) (d.calm, d.whole, d.silent)
 when_says call (RanCut d) = says_noted call status.WriteFault write_line (inl d.cause) d.noted
+when_says call (RanAllWhole d) = subst (λ (s : Status). SaysBy s call) (sym d.done) (d.calm, d.wrote.0, d.silent)
+when_says call (RanAllCut d) = says_noted call status.WriteFault write_line (inl d.wrote.0) d.noted
 when_says call (Dumped d) = subst (λ (s : Status). SaysBy s call) (sym d.done) (d.calm, d.wrote.0, d.silent)
 when_says call (DumpedCut d) = says_noted call status.WriteFault write_line (inl d.wrote.0) d.noted
 when_says call (Traced d) = trace_says call d.schema d.design d.beats d.passes d.run d.calm d.ending d.traced d.tells
@@ -174,6 +177,8 @@ broken_other told words r notes answered is e n = subst IsJudged (sym e ∙ note
 pub when_told : (call : Call) → IsAnswer call → TellsRefusal call
 when_told call (RanWhole d) r tells is e = absurd (subst IsJudged (sym e ∙ d.done) (judged call.shelf.old.told call.words r is))
 when_told call (RanCut d) r tells is e = absurd (broken_other call.shelf.old.told call.words r call.notes call.status is e d.noted)
+when_told call (RanAllWhole d) r tells is e = absurd (subst IsJudged (sym e ∙ d.done) (judged call.shelf.old.told call.words r is))
+when_told call (RanAllCut d) r tells is e = absurd (broken_other call.shelf.old.told call.words r call.notes call.status is e d.noted)
 when_told call (Dumped d) r tells is e = absurd (subst IsJudged (sym e ∙ d.done) (judged call.shelf.old.told call.words r is))
 when_told call (DumpedCut d) r tells is e = absurd (broken_other call.shelf.old.told call.words r call.notes call.status is e d.noted)
 when_told call (Traced d) r tells is e = absurd (ending_other call.shelf.old.told call.words r d.ending call.notes call.status is e d.tells)
@@ -185,6 +190,8 @@ when_told call (Refused d) r tells is e = told_by call.words call.shelf call.not
 pub when_untouched : (call : Call) → IsAnswer call → call.status ≢ status.Done → call.status ≢ status.WriteFault → call.status ≢ status.NoEnd → Took call.out.old call.out.new []
 when_untouched call (RanWhole d) nd nw ne = absurd (nd d.done)
 when_untouched call (RanCut d) nd nw ne = absurd (nw (noted_write status.WriteFault call.status write_line call.notes refl d.noted))
+when_untouched call (RanAllWhole d) nd nw ne = absurd (nd d.done)
+when_untouched call (RanAllCut d) nd nw ne = absurd (nw (noted_write status.WriteFault call.status write_line call.notes refl d.noted))
 when_untouched call (Dumped d) nd nw ne = absurd (nd d.done)
 when_untouched call (DumpedCut d) nd nw ne = absurd (nw (noted_write status.WriteFault call.status write_line call.notes refl d.noted))
 when_untouched call (Traced d) nd nw ne = elim (ending_status d.ending call.notes call.status d.tells) [ inl e ↦ absurd (nd e) | inr (inl e) ↦ absurd (nw e) | inr (inr e) ↦ absurd (ne e) ]
@@ -193,18 +200,12 @@ when_untouched call (WroteCut d) nd nw ne = absurd (nw (noted_write status.Write
 when_untouched call (Refused d) nd nw ne = d.untouched
 
 -- a command that shows something does not run
-runs_none : (c : Command) (schema : Schema) (statement : Statement) (bytes text : List ℕ) → Shows c schema statement bytes text → (o : Option Command) → o ≡ Some c → (o ≡ Some Run) ⊎ (o ≡ Some Vcd) → ⊥
-runs_none Compile schema statement bytes text h o e (inl r) = let f : ◌≡◌ {A = Option Command} (Some Compile) (Some Run) = sym e ∙ r in cc
-runs_none Compile schema statement bytes text h o e (inr r) = let f : ◌≡◌ {A = Option Command} (Some Compile) (Some Vcd) = sym e ∙ r in cc
-runs_none Figures schema statement bytes text h o e (inl r) = let f : ◌≡◌ {A = Option Command} (Some Figures) (Some Run) = sym e ∙ r in cc
-runs_none Figures schema statement bytes text h o e (inr r) = let f : ◌≡◌ {A = Option Command} (Some Figures) (Some Vcd) = sym e ∙ r in cc
-runs_none Explain schema statement bytes text h o e (inl r) = let f : ◌≡◌ {A = Option Command} (Some Explain) (Some Run) = sym e ∙ r in cc
-runs_none Explain schema statement bytes text h o e (inr r) = let f : ◌≡◌ {A = Option Command} (Some Explain) (Some Vcd) = sym e ∙ r in cc
-runs_none Run schema statement bytes text h o e r = h
-runs_none Sim schema statement bytes text h o e r = h
-runs_none Load schema statement bytes text h o e r = h
-runs_none Vcd schema statement bytes text h o e r = h
-runs_none Undump schema statement bytes text h o e r = h
+shown_no_run : (told : List ℕ → Told) (words : List (List ℕ)) (bytes text : List ℕ) → IsShownOf told words bytes text → IsOfRun words → ⊥
+shown_no_run told words bytes text d (inl runs) = subst (λ (c : Command). Shows c d.schema d.statement bytes text) (one_command words d.command Run d.is runs) d.shows
+shown_no_run told words bytes text d (inr dumps) = subst (λ (c : Command). Shows c d.schema d.statement bytes text) (one_command words d.command Vcd d.is dumps) d.shows
+
+shown_no_run_of_all : (told : List ℕ → Told) (words : List (List ℕ)) (bytes text : List ℕ) → AreShownOf told words bytes text → IsCommand words ManyRun → ⊥
+shown_no_run_of_all told words bytes text d runs = subst (λ (c : Command). ShowsAll c d.schema d.statements bytes text) (one_command words d.command ManyRun d.is runs) d.shows
 
 -- what the status yields to, where a refusal was noted
 by_cause : (call : Call) (r : Refusal) → IsTelling call.shelf.old.told call.words → IsRefused call.shelf.old.told call.words r → (s : Refusal) → IsCaused call.words call.shelf s
@@ -218,11 +219,14 @@ by_cause call r tells is s (Short own) (inl n) = ToMemory (n.0 ∙ own)
 shown_goes : (told : List ℕ → Told) (words : List (List ℕ)) (bytes text : List ℕ) (a : Refusal) → IsTelling told words → IsGiven told words bytes text → Stops told words a → ⊥
 shown_goes told words bytes text a tells (OfLoad d) h = load_goes told words d.count a d.is h
 shown_goes told words bytes text a tells (OfDump d left) h = dump_goes told words bytes a tells d h
-shown_goes told words bytes text a tells (OfTexts d) h = two_go told words d.schema d.statement a tells d.passes (runs_none d.command d.schema d.statement bytes text d.shows (command_of words) d.is) h
+shown_goes told words bytes text a tells (OfTexts d) h = passes_goes told words a tells (Two d.schema d.statement d.passes (shown_no_run told words bytes text d)) h
+shown_goes told words bytes text a tells (OfQueries d) h = passes_goes told words a tells (TwoOfAll d.schema d.statements d.passes (shown_no_run_of_all told words bytes text d)) h
 
 pub when_refused : (call : Call) → IsAnswer call → TellsFaults call
 when_refused call (RanWhole d) r tells h = absurd (passes_goes call.shelf.old.told call.words r tells (Three d.schema d.statement d.beats d.emitted.passes) (stops call.shelf.old.told call.words r h))
 when_refused call (RanCut d) r tells h = absurd (passes_goes call.shelf.old.told call.words r tells (Three d.schema d.statement d.beats d.emitted.passes) (stops call.shelf.old.told call.words r h))
+when_refused call (RanAllWhole d) r tells h = absurd (passes_goes call.shelf.old.told call.words r tells (ThreeOfAll d.schema d.statements d.beats d.emitted.passes) (stops call.shelf.old.told call.words r h))
+when_refused call (RanAllCut d) r tells h = absurd (passes_goes call.shelf.old.told call.words r tells (ThreeOfAll d.schema d.statements d.beats d.emitted.passes) (stops call.shelf.old.told call.words r h))
 when_refused call (Dumped d) r tells h = absurd (passes_goes call.shelf.old.told call.words r tells (Three d.schema d.statement d.beats d.emitted.passes) (stops call.shelf.old.told call.words r h))
 when_refused call (DumpedCut d) r tells h = absurd (passes_goes call.shelf.old.told call.words r tells (Three d.schema d.statement d.beats d.emitted.passes) (stops call.shelf.old.told call.words r h))
 when_refused call (Traced d) r tells h = absurd (passes_goes call.shelf.old.told call.words r tells (OfFile d.schema d.design d.beats d.passes) (stops call.shelf.old.told call.words r h))
@@ -245,6 +249,8 @@ when_calm call (DumpedCut d) tells p calm = absurd (calm.out d.wrote.0)
 when_calm call (Traced d) tells p calm = trace_completes call d.schema d.design d.beats d.passes d.run d.calm d.ending calm d.traced d.tells
 when_calm call (WroteCut d) tells p calm = absurd (calm.out d.wrote.cause)
 when_calm call (RanCut d) tells p calm = absurd (calm.out d.cause)
+when_calm call (RanAllWhole d) tells p calm = Whole d.done
+when_calm call (RanAllCut d) tells p calm = absurd (calm.out d.wrote.0)
 when_calm call (Refused d) tells p calm = by_calm call tells p calm d.refusal (caused call.words call.shelf d.refusal d.cause) d.noted
 
 -- words of no form
@@ -256,12 +262,15 @@ by_form call none s (Short own) (inl n) = ToMemory (n.0 ∙ own)
 
 given_form : (told : List ℕ → Told) (words : List (List ℕ)) (bytes text : List ℕ) → IsGiven told words bytes text → IsForm words
 given_form told words bytes text (OfTexts d) = named_form words part.Query d.passes.named
+given_form told words bytes text (OfQueries d) = named_form words part.Queries d.passes.named
 given_form told words bytes text (OfLoad d) = form_of words Load d.is.loads
 given_form told words bytes text (OfDump d left) = form_of words Undump d.is
 
 pub when_formless : (call : Call) → IsAnswer call → TellsForm call
 when_formless call (RanWhole d) none = absurd (none (form_of call.words Run d.runs))
 when_formless call (RanCut d) none = absurd (none (form_of call.words Run d.runs))
+when_formless call (RanAllWhole d) none = absurd (none (form_of call.words ManyRun d.runs))
+when_formless call (RanAllCut d) none = absurd (none (form_of call.words ManyRun d.runs))
 when_formless call (Dumped d) none = absurd (none (form_of call.words Vcd d.dumps'))
 when_formless call (DumpedCut d) none = absurd (none (form_of call.words Vcd d.dumps'))
 when_formless call (Traced d) none = absurd (none (form_of call.words Sim d.passes.before.sims))

@@ -17,6 +17,7 @@ use Rattle.gl_top_explain.specs.Ending.{IsPlanText, IsUnexplained, Unfetched, Of
 use Rattle.gl_top_explain.specs.Ending as explain
 use Rattle.gl_top_explain.proofs.Plans.{explain_names_query}
 use Rattle.gl_top_judging.specs.Causes.{HasCause, change}
+use Rattle.gl_top_judging.specs.Readings.{One}
 use Rattle.gl_top_judging.proofs.Texts.{no_schema_cause, unfetched_cause}
 use Rattle.gl_top.specs.Shown.{IsShownOf}
 use Rattle.gl_top.specs.Verdicts.{IsAnswer, OfTexts, Refused}
@@ -43,9 +44,9 @@ shown_of told words bytes is p = record {
 unexplained_cause : (words : List (List ℕ)) (s : Schema) (a b : ShelfState) (r : Refusal) → IsCommand words Explain → SchemaPasses a.told words s → IsUnexplained words s a b r → HasCause words (change a b) r
 unexplained_cause words s a b r is before (Unfetched h) = unfetched_cause words (change a b) part.Query r (explain_names_query words is, s, before) h
 unexplained_cause words s a b r is before (OfFault f e text calm) =
-    subst (HasCause words (change a b)) (sym e) (record { named = explain_names_query words is; schema = s; before = before; text = text }, calm)
+    subst (HasCause words (change a b)) (sym e) (record { reading = One; named = explain_names_query words is; schema = s; before = before; text = text }, calm)
 unexplained_cause words s a b r is before (OfLimit l e text calm) =
-    subst (HasCause words (change a b)) (sym e) (record { named = explain_names_query words is; schema = s; before = before; text = text }, calm)
+    subst (HasCause words (change a b)) (sym e) (record { reading = One; named = explain_names_query words is; schema = s; before = before; text = text }, calm)
 unexplained_cause words s a b r is before (NoMemory e calm) = subst (HasCause words (change a b)) (sym e) calm
 
 no_plan_cause : (words : List (List ℕ)) (a b : ShelfState) (r : Refusal) → IsCommand words Explain → HasNoPlan words a b r → HasCause words (change a b) r

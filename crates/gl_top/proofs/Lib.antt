@@ -2,6 +2,8 @@ pub mod Explained
 pub mod Runs
 pub mod Failing
 pub mod Dumps
+pub mod Stopping
+pub mod Passed
 pub mod Deciding
 pub mod Answering
 pub mod Concluding

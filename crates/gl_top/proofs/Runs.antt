@@ -4,7 +4,9 @@ use Rattle.gl_compiler_text.specs.declared.compiling.Compiled.{Compiled}
 use Rattle.gl_compiler_text.specs.Built.{gap_of}
 use Rattle.gl_compiler_text.specs.Meets.{Meets}
 use Rattle.gl_compiler.specs.Runnable.{IsRunnable}
-use Rattle.gl_top_judging.specs.Passing.{IsCompiled}
+use Rattle.gl_many.specs.declared.compiling.Many.{Many}
+use Rattle.gl_many_runner.specs.Runs.{AreRunnable}
+use Rattle.gl_top_judging.specs.Passing.{AreCompiledTogether, IsCompiled}
 
 pub runnable_of : (c : Compiled) → IsCompiled c → IsRunnable c
 runnable_of c is = record {
@@ -15,3 +17,7 @@ runnable_of c is = record {
   kinds = is.kinds;
   short = is.short;
 }
+
+-- and so is what is compiled of several queries
+pub runnable_together : (m : Many) → AreCompiledTogether m → AreRunnable m
+runnable_together m is = record { fine = is.fine; meets = is.meets; latencies = is.latencies; gap = is.gap; short = is.short }

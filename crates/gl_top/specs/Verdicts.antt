@@ -18,6 +18,9 @@ use Rattle.gl_runner.specs.Prints.{HasRunOver, OfEachRun, Writes, WritesFront}
 use Rattle.gl_runner.specs.Prints as prints
 use Rattle.gl_runner.specs.Dumps as dumps
 use Rattle.gl_runner.specs.Dumps.{OfEachPorts}
+use Rattle.gl_runner.specs.Several.{RanAll}
+use Rattle.gl_many.specs.Meets.{MeetTogether, shared_gap}
+use Rattle.gl_many_runner.specs.Runs.{OfAllRuns, faces_of}
 use Rattle.gl_runner.specs.declared.executing.Outcome.TheVariants as outcome
 use Rattle.gl_dumps.specs.declared.fault.VcdFault.{VcdFault}
 use Rattle.gl_dumps.specs.Dumped.{OfLines}
@@ -38,12 +41,12 @@ use Rattle.gl_top_notes.specs.declared.refusal.Refusal.TheVariants as refusal
 use Rattle.gl_schema.specs.declared.fault.SchemaFault.{SchemaFault}
 use Rattle.gl_query.specs.declared.fault.QueryFault.{QueryFault}
 use Rattle.gl_tuples.specs.declared.fault.TupleFault.{TupleFault}
-use Rattle.gl_top_words.specs.declared.command.Command.TheVariants.{Run, Undump, Vcd}
+use Rattle.gl_top_words.specs.declared.command.Command.TheVariants.{ManyRun, Run, Undump, Vcd}
 use Rattle.gl_top_words.specs.Forms.{IsCommand, IsForm, IsLoadOf, IsNamed, IsOfRun, extra_of, name_of, start_of}
 use Rattle.gl_load.specs.Loads.{IsLoad}
 use Rattle.gl_top.specs.Calls.{Call}
-use Rattle.gl_top.specs.Shown.{IsShownOf}
-use Rattle.gl_top_judging.specs.Passing.{QueryPasses, TuplesPass, FilePasses}
+use Rattle.gl_top.specs.Shown.{AreShownOf, IsShownOf}
+use Rattle.gl_top_judging.specs.Passing.{QueriesPass, QueryPasses, TuplesPass, TuplesPassAll, FilePasses}
 use Rattle.gl_top_judging.specs.Causes.{HasCause, IsTooLong, IsBadSchema, IsBadQuery, IsOver, IsBadVerilog, IsRefused, AreBadTuples, IsBadDump}
 use Rattle.gl_top_notes.specs.Refusals.{Puts, Notes, status_of, note_of, no_end_line, write_line}
 
@@ -73,11 +76,24 @@ abbrev pub DumpedRun : Schema → List Beat → Start → List ℕ → SinkState
 DumpedRun schema beats start text old new outcome =
     dumps.Dumped (OfEachPorts text schema (plain_beats beats) start) (plain_beats beats) old new outcome
 
+-- how the run of the text of several statements over these beats ended
+abbrev pub RanLinesOfAll : Schema → List Statement → List Beat → Start → List ℕ → SinkState → SinkState → Outcome
+    → Type 0
+RanLinesOfAll schema statements beats start text old new outcome =
+    RanAll (OfAllRuns text schema (plain_beats beats) start) (faces_of schema statements) (plain_beats beats) old new
+    outcome
+
 -- the texts pass, and the text that was emitted for them meets the statement
 pub record IsEmitted (told : List ℕ → Told) (words : List (List ℕ)) (schema : Schema) (statement : Statement)
     (beats : List Beat) (text : List ℕ) : Type 0 where
   pub passes : TuplesPass told words schema statement beats
   pub meets : Meets schema statement (latency_of schema statement) (gap_of schema statement) text
+
+-- or it meets all of several statements
+pub record AreEmitted (told : List ℕ → Told) (words : List (List ℕ)) (schema : Schema) (statements : List Statement)
+    (beats : List Beat) (text : List ℕ) : Type 0 where
+  pub passes : TuplesPassAll told words schema statements beats
+  pub meets : MeetTogether schema statements (shared_gap schema statements) text
 
 -- the words load so many tuples; the bytes tell of the run over them, and the text is the one that was run
 pub record IsLoaded (words : List (List ℕ)) (bytes text : List ℕ) : Type 0 where
@@ -94,6 +110,7 @@ pub record IsUndumped (told : List ℕ → Told) (words : List (List ℕ)) (byte
 -- a load
 pub data IsGiven (told : List ℕ → Told) (words : List (List ℕ)) (bytes text : List ℕ) : Type 0 where
   OfTexts : (shown : IsShownOf told words bytes text) → IsGiven told words bytes text
+  OfQueries : (shown : AreShownOf told words bytes text) → IsGiven told words bytes text
   OfLoad : (loaded : IsLoaded words bytes text) → IsGiven told words bytes text
   OfDump : (shown : IsUndumped told words bytes) (left : text ≡ []) → IsGiven told words bytes text
 
@@ -104,11 +121,13 @@ TellsEnding (end.NoEnd cycle) notes answered = Notes status.NoEnd (no_end_line c
 TellsEnding end.WriteFault notes answered = Notes WriteFault write_line notes answered
 TellsEnding end.Memory notes answered = ⊥
 
--- no text was emitted, or one that meets the statement
+-- no text was emitted, or one that meets the statement, or all of several
 abbrev pub IsNoneOrEmitted : (List ℕ → Told) → List (List ℕ) → List ℕ → Type 0
 IsNoneOrEmitted told words text =
-    (text ≡ []) ⊎ ((schema : Schema) × (statement : Statement) × (beats : List Beat)
+    (text ≡ []) ⊎ (((schema : Schema) × (statement : Statement) × (beats : List Beat)
     × IsEmitted told words schema statement beats text)
+    ⊎ ((schema : Schema) × (statements : List Statement) × (beats : List Beat)
+    × AreEmitted told words schema statements beats text))
 
 -- ---- how a call ended
 
@@ -135,6 +154,32 @@ pub record HasRunInPart (call : Call) : Type 0 where
   pub wrote : WritesLinesFront schema statement beats (start_of call.words) call.text call.out
   pub calm : IsCalm call.shelf.old call.shelf.new
   pub cause : Rose call.out.old.faults call.out.new.faults
+  pub noted : Notes WriteFault write_line call.notes call.status
+
+-- the lines of the run of several statements were written, each with its statement's name, and nothing was noted; no
+-- text was missing, and nothing failed
+pub record HasRunAllWhole (call : Call) : Type 0 where
+  pub runs : IsCommand call.words ManyRun
+  pub schema : Schema
+  pub statements : List Statement
+  pub beats : List Beat
+  pub emitted : AreEmitted call.shelf.old.told call.words schema statements beats call.text
+  pub wrote : RanLinesOfAll schema statements beats (start_of call.words) call.text call.out.old call.out.new
+      outcome.Done
+  pub silent : Took call.notes.old call.notes.new []
+  pub calm : IsCalm call.shelf.old call.shelf.new
+  pub done : call.status ≡ Done
+
+-- the output failed behind a front of these lines, and that was noted
+pub record HasRunAllInPart (call : Call) : Type 0 where
+  pub runs : IsCommand call.words ManyRun
+  pub schema : Schema
+  pub statements : List Statement
+  pub beats : List Beat
+  pub emitted : AreEmitted call.shelf.old.told call.words schema statements beats call.text
+  pub wrote : RanLinesOfAll schema statements beats (start_of call.words) call.text call.out.old call.out.new
+      outcome.WriteFault
+  pub calm : IsCalm call.shelf.old call.shelf.new
   pub noted : Notes WriteFault write_line call.notes call.status
 
 -- the dump of the run was written and nothing was noted; no text was missing, and nothing failed
@@ -204,6 +249,8 @@ pub record HasRefused (call : Call) : Type 0 where
 pub data IsAnswer (call : Call) : Type 0 where
   RanWhole : (run : HasRunWhole call) → IsAnswer call
   RanCut : (run : HasRunInPart call) → IsAnswer call
+  RanAllWhole : (run : HasRunAllWhole call) → IsAnswer call
+  RanAllCut : (run : HasRunAllInPart call) → IsAnswer call
   Dumped : (run : HasDumpedWhole call) → IsAnswer call
   DumpedCut : (run : HasDumpedInPart call) → IsAnswer call
   Traced : (trace : HasTraced call) → IsAnswer call
@@ -261,6 +308,10 @@ pub data AllPass (told : List ℕ → Told) (words : List (List ℕ)) : Type 0 w
       (others : IsOfRun words → ⊥) → AllPass told words
   Three : (schema : Schema) (statement : Statement) (beats : List Beat)
       (pass : TuplesPass told words schema statement beats) → AllPass told words
+  TwoOfAll : (schema : Schema) (statements : List Statement) (passes : QueriesPass told words schema statements)
+      (others : IsCommand words ManyRun → ⊥) → AllPass told words
+  ThreeOfAll : (schema : Schema) (statements : List Statement) (beats : List Beat)
+      (pass : TuplesPassAll told words schema statements beats) → AllPass told words
   OfFile : (schema : Schema) (design : Module) (beats : List Beat)
       (pass : FilePasses told words schema design beats) → AllPass told words
   Loads : (count : ℕ) (is : IsLoadOf words count) → AllPass told words

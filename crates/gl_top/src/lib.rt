@@ -1,8 +1,8 @@
 //! All that the program does, over any shelf and any sinks.
 //!
 //! Here belongs what each command does with the texts that gl_top_judging gives: `compile`, `figures`,
-//! `run`, `vcd` and `load` on the text that a query is compiled to, `sim` on a given Verilog text,
-//! `undump` on a given dump. `explain`
+//! `run`, `vcd` and `load` on the text that a query is compiled to, `many`, `manyfigures` and `manyrun`
+//! on that of several queries, `sim` on a given Verilog text, `undump` on a given dump. `explain`
 //! belongs to gl_top_explain. The words' forms are those of gl_top_words, what they say is found by
 //! gl_top_matches, statuses and notes are those of gl_top_notes.
 #![tactic(auto)]
@@ -10,6 +10,7 @@
 mod dumping;
 mod loading;
 pub mod running;
+mod several;
 mod tracing;
 
 pub use gl_top_notes::Status;

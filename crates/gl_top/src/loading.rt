@@ -32,7 +32,10 @@ fn load_many<K: Sink, N: Sink>(
         text.new.items result) }
 {
     match load(alloc, count) {
-        Ok(loaded) => show_text(words, &loaded.compiled, &loaded.summary, out, notes, text),
+        Ok(loaded) => {
+            let verilog = loaded.compiled.text();
+            show_text(words, verilog, &loaded.summary, out, notes, text)
+        }
         Err(_) => tell(notes, words, &Refusal::Memory),
     }
 }

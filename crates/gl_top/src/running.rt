@@ -16,6 +16,7 @@ ghost use Rattle.gl_top.specs.Verdicts.{TellsFaults, TellsForm, TellsRefusal};
 
 use crate::dumping::{answer_undump, answer_vcd};
 use crate::loading::answer_load;
+use crate::several::{answer_many, answer_many_figures, answer_many_run};
 use crate::tracing::answer_sim;
 use gl_compiler::{Outcome, run_compiled};
 use gl_compiler_text::Compiled;
@@ -109,10 +110,10 @@ fn answer_run<S: Shelf, K: Sink, N: Sink>(
     }
 }
 
-// Keeps the compiled text, and writes what is shown of it.
+// Keeps a Verilog text, and writes what is shown of it.
 pub(crate) fn show_text<K: Sink, N: Sink>(
     words: &Taken<'_>,
-    compiled: &Compiled,
+    verilog: &[u8],
     bytes: &[u8],
     out: &mut K,
     notes: &mut N,
@@ -120,12 +121,12 @@ pub(crate) fn show_text<K: Sink, N: Sink>(
 ) -> Status
     requires empty { text.old.items ≡ [] }
     ensures { (c : Change)
-        → IsGiven c.old.told words.now bytes.now compiled.now.text.items
+        → IsGiven c.old.told words.now bytes.now verilog.now
         → IsCalm c.old c.new
         → IsAnswer (call_over K.state N.state words.now c out.old out.new notes.old notes.new
         text.new.items result) }
 {
-    match text.extend_from_slice(compiled.text()) {
+    match text.extend_from_slice(verilog) {
         Ok(()) => show(bytes, out, notes),
         Err(_) => tell(notes, words, &Refusal::Memory),
     }
@@ -147,7 +148,10 @@ fn answer_compile<S: Shelf, K: Sink, N: Sink>(
         out.old out.new notes.old notes.new text.new.items result) }
 {
     match judge_compile(alloc, shelf, words) {
-        Ok(compiled) => show_text(words, &compiled, compiled.text(), out, notes, text),
+        Ok(compiled) => {
+            let verilog = compiled.text();
+            show_text(words, verilog, verilog, out, notes, text)
+        }
         Err(refusal) => tell(notes, words, &refusal),
     }
 }
@@ -170,7 +174,7 @@ fn show_figures<K: Sink, N: Sink>(
         text.new.items result) }
 {
     match figures_text(alloc, compiled) {
-        Ok(bytes) => show_text(words, compiled, &bytes, out, notes, text),
+        Ok(bytes) => show_text(words, compiled.text(), &bytes, out, notes, text),
         Err(_) => tell(notes, words, &Refusal::Memory),
     }
 }
@@ -221,6 +225,9 @@ fn answer_command<S: Shelf, K: Sink, N: Sink>(
         Command::Load => answer_load(alloc, words, out, notes, text),
         Command::Vcd => answer_vcd(alloc, words, shelf, out, notes, text),
         Command::Undump => answer_undump(alloc, words, shelf, out, notes),
+        Command::Many => answer_many(alloc, words, shelf, out, notes, text),
+        Command::ManyFigures => answer_many_figures(alloc, words, shelf, out, notes, text),
+        Command::ManyRun => answer_many_run(alloc, words, shelf, out, notes, text),
     }
 }
 
@@ -252,7 +259,10 @@ fn answer<S: Shelf, K: Sink, N: Sink>(
 /// the bits of its registers and memories; `run S Q T` writes what that text does over the tuple file
 /// T, from registers and words of 0 or as `--start N` says. `load N` compiles a query of its own, runs
 /// its text over N tuples, and tells what came out; `vcd S Q T` runs as `run` does, and writes the
-/// values of all ports but the clock as a value change dump. These leave the text in `text`.
+/// values of all ports but the clock as a value change dump. `many S Q` compiles the queries of the text
+/// Q, one to eight, to the text of one module, and writes it; `manyfigures S Q` writes the latency of each
+/// and the gap of all; `manyrun S Q T` writes what that text does over T, each line with the name of its
+/// query, from a start as `run` has it. These leave the text in `text`.
 /// `undump D` reads such a dump of any origin back, and writes the lines of the result that it shows,
 /// with all values in decimal. `explain S Q`
 /// writes the query in its canonical form and its plan. `sim S V T --extra N` writes what the Verilog

@@ -1,10 +1,12 @@
 -- What a text that was read says of its part.
-use Rattle.std.proofs.Common.{◌≡◌, ◌⊎◌, ℕ, true, false, List, Option, Some, None, Result, Ok, Err, inl, inr, refl, sym, ap, subst, ◌∙◌, arith}
+use Rattle.std.proofs.Common.{◌≡◌, ◌⊎◌, ℕ, true, false, List, map, Option, Some, None, Result, Ok, Err, inl, inr, refl, sym, ap, subst, ◌∙◌, arith}
 use Rattle.std.specs.Prelude.{is_some}
 use Rattle.gl_top_words.proofs.Named as forms
 use Rattle.gl_outside.specs.States.{IsCalm}
 use Rattle.gl_outside.specs.Told.{Told}
 use Rattle.gl_schema.specs.declared.schema.Schema.{Schema}
+use Rattle.gl_schema.specs.Schemas.{IsSchema}
+use Rattle.gl_schema.specs.Beats.{KeepsGap}
 use Rattle.gl_query.specs.declared.tree.Statement.{Statement}
 use Rattle.gl_query.specs.declared.fault.QueryFault.{QueryFault}
 use Rattle.gl_tuples.specs.declared.beats.Beat.{Beat}
@@ -13,27 +15,32 @@ use Rattle.gl_tuples.specs.declared.fault.TupleFault.TheVariants as tuples
 use Rattle.gl_tuple_reader.specs.Entries.{Fails}
 use Rattle.gl_tuple_reader.specs.Filing.{beats_of, records_of}
 use Rattle.gl_tuple_reader.specs.FileBeats.{AreBeatsOf}
-use Rattle.gl_tuples.specs.Gaps.{first_close, close_answer}
+use Rattle.gl_tuples.specs.Gaps.{AreFileBeats, plain_beats, first_close, close_answer}
 use Rattle.gl_verilog.specs.Module.{Module}
 use Rattle.gl_query_compiler.specs.declared.fault.CompileFault.{CompileFault}
 use Rattle.gl_query_compiler.specs.declared.fault.CompileFault.TheVariants as compile
-use Rattle.gl_query_judge.specs.Judged.{IsQueryFault}
 use Rattle.gl_figures.specs.declared.Limit.{Limit}
+use Rattle.gl_compiler_text.specs.declared.compiling.Compiled.{Compiled}
 use Rattle.gl_compiler_text.specs.Built.{gap_of}
-use Rattle.gl_query_judge.specs.Limits.{IsOverLimit}
 use Rattle.gl_query_compiler.specs.Queries.{IsQuery, IsQueryRefused}
+use Rattle.gl_many.specs.declared.compiling.Many.{Many}
+use Rattle.gl_many.specs.Compiles.{AreCompiled, statements_in}
+use Rattle.gl_many.specs.Meets.{MeetTogether, own_latency, shared_gap}
+use Rattle.gl_many.specs.Queries.{AreQueries, AreRefused}
 use Rattle.gl_top_words.specs.declared.command.Part.{Part}
 use Rattle.gl_top_words.specs.declared.command.Part.TheVariants as part
 use Rattle.gl_top_words.specs.declared.command.Command.{Command}
-use Rattle.gl_top_words.specs.declared.command.Command.TheVariants.{Run, Sim, Vcd}
+use Rattle.gl_top_words.specs.declared.command.Command.TheVariants.{ManyRun, Run, Sim, Vcd}
 use Rattle.gl_top_words.specs.Forms.{IsCommand, IsForm, IsNamed, IsOfRun, command_of}
+use Rattle.gl_top_words.proofs.Named.{many_run_names_tuples}
 use Rattle.gl_top_notes.specs.declared.refusal.Refusal.{Refusal}
 use Rattle.gl_top_notes.specs.declared.refusal.Refusal.TheVariants as refusal
 use Rattle.gl_top_notes.specs.Refusals.{tuples_refusal}
 use Rattle.gl_top_texts.specs.Texts.{HasText, SchemaPasses, IsUnfetched, HasNoSchema}
 use Rattle.gl_top_texts.proofs.Fetched.{has_text}
-use Rattle.gl_top_judging.specs.Passing.{QueryPasses, ModulePasses, FilePasses, kept_beats}
-use Rattle.gl_top_judging.specs.Causes.{OfRun, OfSim, IsNext, AreBadTuples, ToRun, ToSim, Change, HasCause, compile_refusal}
+use Rattle.gl_top_judging.specs.Passing.{AreCompiledTogether, AsksGap, IsCompiled, OfAll, OfOne, QueriesPass, QueryPasses, TuplesPass, TuplesPassAll, ModulePasses, FilePasses, kept_beats}
+use Rattle.gl_top_judging.specs.Readings.{One, Reading, Several, IsFaultBy, IsOverBy, part_read}
+use Rattle.gl_top_judging.specs.Causes.{OfRun, OfRunAll, OfSim, PassBeforeTuples, IsNext, AreBadTuples, ToRun, ToRunAll, ToSim, Change, HasCause, compile_refusal}
 
 -- the texts of a command that its words name
 pub run_names_query : (words : List (List ℕ)) → IsOfRun words → IsNamed words part.Query
@@ -54,8 +61,10 @@ sim_names_tuples words is = record { command = Sim; is = is; names = (2, omega a
 pub next_named : (told : List ℕ → Told) (words : List (List ℕ)) (p : Part) → IsNext told words p → IsNamed words p
 next_named told words part.Schema next = next
 next_named told words part.Query next = next.0
+next_named told words part.Queries next = next.0
 next_named told words part.Module next = sim_names_module words next.0
 next_named told words part.Tuples (OfRun runs s st passes) = run_names_tuples words runs
+next_named told words part.Tuples (OfRunAll runs s sts passes) = many_run_names_tuples words runs
 next_named told words part.Tuples (OfSim s m passes) = sim_names_tuples words passes.sims
 next_named told words part.Dump next = next
 
@@ -95,28 +104,99 @@ no_schema_cause words c (refusal.Tuples f) named h = absurd h
 no_schema_cause words c (refusal.Dump f) named h = absurd h
 no_schema_cause words c refusal.Memory named h = h
 
--- of a query that is refused
-pub bad_query : (words : List (List ℕ)) (c : Change) (v : List ℕ) (s : Schema) (f : QueryFault) → IsCalm c.old c.new → IsNamed words part.Query → SchemaPasses c.old.told words s → HasText c.old.told words part.Query (λ text. v ≡ text) → IsQueryFault s v f → HasCause words c (compile_refusal (compile.Query f))
-bad_query words c v s f calm named before h is = (record { named = named; schema = s; before = before; text = has_text c.old.told words part.Query (λ text. IsQueryFault s text f) v h is }, calm)
+-- of a query that is refused, or of several
+bad_query : (by : Reading) (words : List (List ℕ)) (c : Change) (v : List ℕ) (s : Schema) (f : QueryFault) → IsCalm c.old c.new → IsNamed words (part_read by) → SchemaPasses c.old.told words s
+    → HasText c.old.told words (part_read by) (λ text. v ≡ text) → IsFaultBy by s v f → HasCause words c (compile_refusal (compile.Query f))
+bad_query by words c v s f calm named before h is =
+    (record { reading = by; named = named; schema = s; before = before; text = has_text c.old.told words (part_read by) (λ text. IsFaultBy by s text f) v h is }, calm)
 
-pub over_limit : (words : List (List ℕ)) (c : Change) (v : List ℕ) (s : Schema) (l : Limit) → IsCalm c.old c.new → IsNamed words part.Query → SchemaPasses c.old.told words s → HasText c.old.told words part.Query (λ text. v ≡ text) → IsOverLimit s v l → HasCause words c (compile_refusal (compile.Limit l))
-over_limit words c v s l calm named before h is = (record { named = named; schema = s; before = before; text = has_text c.old.told words part.Query (λ text. IsOverLimit s text l) v h is }, calm)
+over_limit : (by : Reading) (words : List (List ℕ)) (c : Change) (v : List ℕ) (s : Schema) (l : Limit) → IsCalm c.old c.new → IsNamed words (part_read by) → SchemaPasses c.old.told words s
+    → HasText c.old.told words (part_read by) (λ text. v ≡ text) → IsOverBy by s v l → HasCause words c (compile_refusal (compile.Limit l))
+over_limit by words c v s l calm named before h is =
+    (record { reading = by; named = named; schema = s; before = before; text = has_text c.old.told words (part_read by) (λ text. IsOverBy by s text l) v h is }, calm)
 
 pub query_cause : (words : List (List ℕ)) (c : Change) (v : List ℕ) (s : Schema) (fault : CompileFault) → IsCalm c.old c.new → IsNamed words part.Query → SchemaPasses c.old.told words s → HasText c.old.told words part.Query (λ text. v ≡ text) → IsQueryRefused s v fault → HasCause words c (compile_refusal fault)
 query_cause words c v s compile.Memory calm named before h is = calm
 query_cause words c v s (compile.Schema f) calm named before h is = absurd is
-query_cause words c v s (compile.Query f) calm named before h is = bad_query words c v s f calm named before h is
-query_cause words c v s (compile.Limit l) calm named before h is = over_limit words c v s l calm named before h is
+query_cause words c v s (compile.Query f) calm named before h is = bad_query One words c v s f calm named before h is
+query_cause words c v s (compile.Limit l) calm named before h is = over_limit One words c v s l calm named before h is
+
+pub queries_cause : (words : List (List ℕ)) (c : Change) (v : List ℕ) (s : Schema) (fault : CompileFault) → IsCalm c.old c.new → IsNamed words part.Queries → SchemaPasses c.old.told words s → HasText c.old.told words part.Queries (λ text. v ≡ text) → AreRefused s v fault → HasCause words c (compile_refusal fault)
+queries_cause words c v s compile.Memory calm named before h is = calm
+queries_cause words c v s (compile.Schema f) calm named before h is = absurd is
+queries_cause words c v s (compile.Query f) calm named before h is = bad_query Several words c v s f calm named before h is
+queries_cause words c v s (compile.Limit l) calm named before h is = over_limit Several words c v s l calm named before h is
 
 pub query_passes : (told : List ℕ → Told) (words : List (List ℕ)) (v : List ℕ) (s t : Schema) (statement : Statement) → t ≡ s → IsNamed words part.Query → SchemaPasses told words s → HasText told words part.Query (λ text. v ≡ text) → IsQuery s v statement → QueryPasses told words t statement
 query_passes told words v s t statement e named before h built =
     subst (λ (x : Schema). QueryPasses told words x statement) (sym e)
     (record { named = named; before = before; text = has_text told words part.Query (λ text. IsQuery s text statement) v h built })
 
+pub queries_pass : (told : List ℕ → Told) (words : List (List ℕ)) (v : List ℕ) (s : Schema) (m : Many) → IsNamed words part.Queries → SchemaPasses told words s → HasText told words part.Queries (λ text. v ≡ text) → AreCompiled s v m
+    → QueriesPass told words m.schema (statements_in m)
+queries_pass told words v s m named before h is =
+    subst (λ (x : Schema). QueriesPass told words x (statements_in m)) (sym is.schema')
+    (record { named = named; before = before; text = has_text told words part.Queries (λ text. AreQueries s text (statements_in m)) v h is.queries })
+
+pub compiled_together : (s : Schema) (v : List ℕ) (m : Many) → IsSchema s → AreCompiled s v m → AreCompiledTogether m
+compiled_together s v m fine is = record {
+  fine = subst IsSchema (sym is.schema') fine;
+  meets = subst (λ (x : Schema). MeetTogether x (statements_in m) (shared_gap x (statements_in m)) m.text.items) (sym is.schema') is.meets;
+  latencies = subst (λ (x : Schema). m.planned.latencies.items ≡ map (own_latency x) (statements_in m)) (sym is.schema') is.latencies;
+  gap = subst (λ (x : Schema). m.planned.gap ≡ shared_gap x (statements_in m)) (sym is.schema') is.gap;
+  short = is.short;
+}
+
+-- ---- the gap that a tuple file is asked for
+
+pub asks_before : (told : List ℕ → Told) (words : List (List ℕ)) (s : Schema) (gap : ℕ) → AsksGap told words s gap → PassBeforeTuples told words
+asks_before told words s gap (OfOne runs st passes is) = OfRun runs s st passes
+asks_before told words s gap (OfAll runs sts passes is) = OfRunAll runs s sts passes
+
+pub asks_named : (told : List ℕ → Told) (words : List (List ℕ)) (s : Schema) (gap : ℕ) → AsksGap told words s gap → IsNamed words part.Tuples
+asks_named told words s gap asks = next_named told words part.Tuples (asks_before told words s gap asks)
+
+pub asks_schema : (told : List ℕ → Told) (words : List (List ℕ)) (s : Schema) (gap : ℕ) → AsksGap told words s gap → SchemaPasses told words s
+asks_schema told words s gap (OfOne runs st passes is) = passes.before
+asks_schema told words s gap (OfAll runs sts passes is) = passes.before
+
+pub asks_fine : (told : List ℕ → Told) (words : List (List ℕ)) (s : Schema) (gap : ℕ) → AsksGap told words s gap → IsSchema s
+asks_fine told words s gap asks = (asks_schema told words s gap asks).fine
+
+-- that of what was compiled
+pub one_asks : (told : List ℕ → Told) (words : List (List ℕ)) (c : Compiled) (s : Schema) (gap : ℕ) → IsOfRun words → QueryPasses told words c.schema c.statement → IsCompiled c → s ≡ c.schema → gap ≡ c.printed.gap → AsksGap told words s gap
+one_asks told words c s gap runs passes is e g = subst (λ (x : Schema). AsksGap told words x gap) (sym e) (OfOne runs c.statement passes (g ∙ is.gap))
+
+pub all_ask : (told : List ℕ → Told) (words : List (List ℕ)) (m : Many) (s : Schema) (gap : ℕ) → IsCommand words ManyRun → QueriesPass told words m.schema (statements_in m) → AreCompiledTogether m → s ≡ m.schema → gap ≡ m.planned.gap → AsksGap told words s gap
+all_ask told words m s gap runs passes is e g = subst (λ (x : Schema). AsksGap told words x gap) (sym e) (OfAll runs (statements_in m) passes (g ∙ is.gap))
+
+-- beats that keep a gap keep it as it is said elsewhere
+abbrev pub FileKeeps : (List ℕ → Told) → List (List ℕ) → Schema → ℕ → List Beat → Type 0
+FileKeeps told words s gap beats = AreFileBeats s beats × KeepsGap gap (plain_beats beats) × HasText told words part.Tuples (λ text. kept_beats s gap text ≡ Ok beats)
+
+keeps_as : (told : List ℕ → Told) (words : List (List ℕ)) (s t : Schema) (gap n : ℕ) (beats : List Beat) → s ≡ t → gap ≡ n → FileKeeps told words s gap beats → FileKeeps told words t n beats
+keeps_as told words s t gap n beats e g f =
+    subst (λ (x : Schema). FileKeeps told words x n beats) e (subst (λ (k : ℕ). FileKeeps told words s k beats) g f)
+
+pub tuples_pass : (told : List ℕ → Told) (words : List (List ℕ)) (c : Compiled) (s : Schema) (gap : ℕ) (beats : List Beat) → IsOfRun words → QueryPasses told words c.schema c.statement → IsCompiled c → s ≡ c.schema → gap ≡ c.printed.gap
+    → FileKeeps told words s gap beats → TuplesPass told words c.schema c.statement beats
+tuples_pass told words c s gap beats runs passes is e g f =
+    let k = keeps_as told words s c.schema gap (gap_of c.schema c.statement) beats e (g ∙ is.gap) f in
+    record { runs = runs; before = passes; fine = k.0; gap = k.1; text = k.2 }
+
+pub tuples_pass_all : (told : List ℕ → Told) (words : List (List ℕ)) (m : Many) (s : Schema) (gap : ℕ) (beats : List Beat) → IsCommand words ManyRun → QueriesPass told words m.schema (statements_in m) → AreCompiledTogether m → s ≡ m.schema → gap ≡ m.planned.gap
+    → FileKeeps told words s gap beats → TuplesPassAll told words m.schema (statements_in m) beats
+tuples_pass_all told words m s gap beats runs passes is e g f =
+    let k = keeps_as told words s m.schema gap (shared_gap m.schema (statements_in m)) beats e (g ∙ is.gap) f in
+    record { runs = runs; before = passes; fine = k.0; gap = k.1; text = k.2 }
+
 -- of a tuple file that is refused
-are_bad : (words : List (List ℕ)) (c : Change) (v : List ℕ) (s : Schema) (statement : Statement) (fault : TupleFault) → IsOfRun words → QueryPasses c.old.told words s statement → HasText c.old.told words part.Tuples (λ text. v ≡ text)
-    → kept_beats s (gap_of s statement) v ≡ Err fault → AreBadTuples c.old.told words fault
-are_bad words c v s statement fault runs before h f = ToRun runs s statement before (has_text c.old.told words part.Tuples (λ text. kept_beats s (gap_of s statement) text ≡ Err fault) v h f)
+are_bad : (words : List (List ℕ)) (c : Change) (v : List ℕ) (s : Schema) (gap : ℕ) (fault : TupleFault) → AsksGap c.old.told words s gap → HasText c.old.told words part.Tuples (λ text. v ≡ text)
+    → kept_beats s gap v ≡ Err fault → AreBadTuples c.old.told words fault
+are_bad words c v s gap fault (OfOne runs st before is) h f =
+    ToRun runs s st before (has_text c.old.told words part.Tuples (λ text. kept_beats s (gap_of s st) text ≡ Err fault) v h (subst (λ (n : ℕ). kept_beats s n v ≡ Err fault) is f))
+are_bad words c v s gap fault (OfAll runs sts before is) h f =
+    ToRunAll runs s sts before (has_text c.old.told words part.Tuples (λ text. kept_beats s (shared_gap s sts) text ≡ Err fault) v h (subst (λ (n : ℕ). kept_beats s n v ≡ Err fault) is f))
 
 -- a fault is told as it is, unless memory ran out
 tuples_told : (fault : TupleFault) (read : Result (List Beat) TupleFault) → Fails fault read → (tuples_refusal fault ≡ refusal.Memory) ⊎ ((tuples_refusal fault ≡ refusal.Tuples fault) × (read ≡ Err fault))
@@ -139,9 +219,9 @@ bad_cause words c fault read calm bad f = elim (tuples_told fault read f) [
   | inr h ↦ rw h.0 (bad h.1, calm)
 ]
 
-pub tuples_cause : (words : List (List ℕ)) (c : Change) (v : List ℕ) (s : Schema) (statement : Statement) (fault : TupleFault) → IsOfRun words → IsCalm c.old c.new → QueryPasses c.old.told words s statement → HasText c.old.told words part.Tuples (λ text. v ≡ text)
-    → Fails fault (kept_beats s (gap_of s statement) v) → HasCause words c (tuples_refusal fault)
-tuples_cause words c v s st fault runs calm before h f = bad_cause words c fault (kept_beats s (gap_of s st) v) calm (are_bad words c v s st fault runs before h) f
+pub tuples_cause : (words : List (List ℕ)) (c : Change) (v : List ℕ) (s : Schema) (gap : ℕ) (fault : TupleFault) → AsksGap c.old.told words s gap → IsCalm c.old c.new → HasText c.old.told words part.Tuples (λ text. v ≡ text)
+    → Fails fault (kept_beats s gap v) → HasCause words c (tuples_refusal fault)
+tuples_cause words c v s gap fault asks calm h f = bad_cause words c fault (kept_beats s gap v) calm (are_bad words c v s gap fault asks h) f
 
 -- of one that is to be simulated
 are_bad_file : (words : List (List ℕ)) (c : Change) (v : List ℕ) (s : Schema) (m : Module) (fault : TupleFault) → ModulePasses c.old.told words s m → HasText c.old.told words part.Tuples (λ text. v ≡ text)

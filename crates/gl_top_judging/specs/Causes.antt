@@ -12,10 +12,9 @@ use Rattle.gl_query_compiler.specs.declared.fault.CompileFault.{CompileFault}
 use Rattle.gl_query_compiler.specs.declared.fault.CompileFault.TheVariants as compile
 use Rattle.gl_dumps.specs.declared.fault.VcdFault.{VcdFault}
 use Rattle.gl_dumps.specs.Reading.{dump_of}
-use Rattle.gl_query_judge.specs.Judged.{IsQueryFault}
 use Rattle.gl_figures.specs.declared.Limit.{Limit}
 use Rattle.gl_compiler_text.specs.Built.{gap_of}
-use Rattle.gl_query_judge.specs.Limits.{IsOverLimit}
+use Rattle.gl_many.specs.Meets.{shared_gap}
 use Rattle.gl_verilog.specs.Module.{Module}
 use Rattle.gl_verilog_syntax.specs.declared.fault.VerilogFault.{VerilogFault}
 use Rattle.gl_verilog_syntax.specs.declared.fault.VerilogFault.TheVariants as verilog
@@ -25,22 +24,26 @@ use Rattle.gl_top_words.specs.declared.command.Part.{Part}
 use Rattle.gl_top_words.specs.declared.command.Part.TheVariants as part
 use Rattle.gl_top_notes.specs.declared.refusal.Refusal.{Refusal}
 use Rattle.gl_top_notes.specs.declared.refusal.Refusal.TheVariants as refusal
-use Rattle.gl_top_words.specs.declared.command.Command.TheVariants.{Sim}
+use Rattle.gl_top_words.specs.declared.command.Command.TheVariants.{ManyRun, Sim}
 use Rattle.gl_top_words.specs.Forms.{IsCommand, IsForm, IsNamed, IsOfRun, name_of}
 use Rattle.gl_tuple_reader.specs.Filing.{beats_of, records_of}
 use Rattle.gl_top_texts.specs.Texts.{HasText, SchemaPasses}
-use Rattle.gl_top_judging.specs.Passing.{QueryPasses, ModulePasses, kept_beats}
+use Rattle.gl_top_judging.specs.Passing.{QueryPasses, QueriesPass, ModulePasses, kept_beats}
+use Rattle.gl_top_judging.specs.Readings.{Reading, part_read, IsFaultBy, IsOverBy}
 
--- the texts before the tuple file pass: a query's to run it, a module's to simulate it
+-- the texts before the tuple file pass: those of a query or of several to run them, a module's to simulate it
 pub data PassBeforeTuples (told : List ℕ → Told) (words : List (List ℕ)) : Type 0 where
   OfRun : (runs : IsOfRun words) (schema : Schema) (statement : Statement)
       (passes : QueryPasses told words schema statement) → PassBeforeTuples told words
+  OfRunAll : (runs : IsCommand words ManyRun) (schema : Schema) (statements : List Statement)
+      (passes : QueriesPass told words schema statements) → PassBeforeTuples told words
   OfSim : (schema : Schema) (m : Module) (passes : ModulePasses told words schema m) → PassBeforeTuples told words
 
 -- the words name this text, and every text before it passes
 abbrev pub IsNext : (List ℕ → Told) → List (List ℕ) → Part → Type 0
 IsNext told words part.Schema = IsNamed words part.Schema
 IsNext told words part.Query = IsNamed words part.Query × (schema : Schema) × SchemaPasses told words schema
+IsNext told words part.Queries = IsNamed words part.Queries × (schema : Schema) × SchemaPasses told words schema
 IsNext told words part.Module = IsCommand words Sim × (schema : Schema) × SchemaPasses told words schema
 IsNext told words part.Tuples = PassBeforeTuples told words
 IsNext told words part.Dump = IsNamed words part.Dump
@@ -60,19 +63,22 @@ pub record IsBadSchema (told : List ℕ → Told) (words : List (List ℕ)) (fau
   pub named : IsNamed words part.Schema
   pub text : HasText told words part.Schema (λ text. schema_of text ≡ Err fault)
 
--- it has no statement, or one that is not accepted over the schema, and this is the first fault
+-- the text of a query or of several has no statement, or one that is not accepted over the schema, and this is the
+-- first fault
 pub record IsBadQuery (told : List ℕ → Told) (words : List (List ℕ)) (fault : QueryFault) : Type 0 where
-  pub named : IsNamed words part.Query
+  pub reading : Reading
+  pub named : IsNamed words (part_read reading)
   pub schema : Schema
   pub before : SchemaPasses told words schema
-  pub text : HasText told words part.Query (λ text. IsQueryFault schema text fault)
+  pub text : HasText told words (part_read reading) (λ text. IsFaultBy reading schema text fault)
 
--- it has a statement that is accepted over the schema, and its plan passes this limit
+-- all that it has is accepted over the schema, and its plan passes this limit
 pub record IsOver (told : List ℕ → Told) (words : List (List ℕ)) (limit : Limit) : Type 0 where
-  pub named : IsNamed words part.Query
+  pub reading : Reading
+  pub named : IsNamed words (part_read reading)
   pub schema : Schema
   pub before : SchemaPasses told words schema
-  pub text : HasText told words part.Query (λ text. IsOverLimit schema text limit)
+  pub text : HasText told words (part_read reading) (λ text. IsOverBy reading schema text limit)
 
 -- the first fault of a Verilog text over a schema: why it has no module or, where it has one, why this does not fit
 abbrev pub IsModuleFault : Schema → List ℕ → VerilogFault → Type 0
@@ -95,6 +101,11 @@ pub data AreBadTuples (told : List ℕ → Told) (words : List (List ℕ)) (faul
   ToRun : (runs : IsOfRun words) (schema : Schema) (statement : Statement)
       (before : QueryPasses told words schema statement)
       (text : HasText told words part.Tuples (λ text. kept_beats schema (gap_of schema statement) text ≡ Err fault))
+      → AreBadTuples told words fault
+  ToRunAll : (runs : IsCommand words ManyRun) (schema : Schema) (statements : List Statement)
+      (before : QueriesPass told words schema statements)
+      (text : HasText told words part.Tuples
+      (λ text. kept_beats schema (shared_gap schema statements) text ≡ Err fault))
       → AreBadTuples told words fault
   ToSim : (schema : Schema) (m : Module) (before : ModulePasses told words schema m)
       (text : HasText told words part.Tuples (λ text. beats_of schema (records_of text) ≡ Err fault))

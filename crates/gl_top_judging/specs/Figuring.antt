@@ -1,11 +1,13 @@
--- What is written of the figures of a compiled query: five lines of a name and a number.
+-- What is written of the figures of a compiled query: five lines of a name and a number. And of several queries.
 use Rattle.std.specs.Prelude.{◌≡◌, ℕ, List, ◌++◌, codes, decimal}
+use Rattle.std.specs.List.{flat_map}
 use Rattle.gl_schema.specs.declared.schema.Schema.{Schema}
 use Rattle.gl_query.specs.declared.tree.Statement.{Statement}
 use Rattle.gl_figures.specs.declared.Printed.{Printed}
 use Rattle.gl_net.specs.declared.counting.Cost.{Cost}
 use Rattle.gl_compiler_text.specs.Compiles.{HasCost}
 use Rattle.gl_compiler_text.specs.Built.{IsNoFarther, copies_of, gap_of, latency_of}
+use Rattle.gl_many.specs.Meets.{own_latency, shared_gap}
 
 unfoldable pub figure_line : List ℕ → ℕ → List ℕ
 figure_line name number = name ++ decimal number ++ codes "\n"
@@ -29,3 +31,14 @@ pub record IsFigured (schema : Schema) (statement : Statement) (bytes text : Lis
   pub copies : printed.copies ≡ copies_of schema statement
   pub has : HasCost schema statement text cost
   pub shown : bytes ≡ figure_lines printed cost
+
+-- ---- of several
+
+-- the latency of a statement, behind its name
+abbrev pub latency_line : Schema → Statement → List ℕ
+latency_line schema s = s.name.text ++ figure_line (codes " latency ") (own_latency schema s)
+
+-- a line for each statement, in order, and the gap of all
+abbrev pub figure_lines_of_all : Schema → List Statement → List ℕ
+figure_lines_of_all schema statements =
+    flat_map (latency_line schema) statements ++ figure_line (codes "gap ") (shared_gap schema statements)

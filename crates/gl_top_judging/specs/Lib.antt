@@ -1,3 +1,4 @@
 pub mod Passing
+pub mod Readings
 pub mod Causes
 pub mod Figuring

@@ -1,5 +1,5 @@
 -- What the texts give that the words name, one after the other. What is said of a text holds where the shelf tells it.
-use Rattle.std.specs.Prelude.{◌≡◌, ℕ, ◌≤◌, ◌^◌, List, length, Result, Ok}
+use Rattle.std.specs.Prelude.{◌≡◌, ℕ, ◌≤◌, ◌^◌, List, length, map, Result, Ok}
 use Rattle.std.specs.List.{AllByRecursion}
 use Rattle.gl_bits.specs.Kinds.{IsKind}
 use Rattle.gl_outside.specs.Told.{Told}
@@ -22,11 +22,16 @@ use Rattle.gl_compiler_text.specs.Compiles.{HasCost}
 use Rattle.gl_compiler_text.specs.Built.{IsNoFarther, copies_of, gap_of, latency_of}
 use Rattle.gl_query_compiler.specs.Queries.{IsQuery}
 use Rattle.gl_compiler_text.specs.Meets.{Meets, result_columns}
+use Rattle.gl_many.specs.declared.compiling.Many.{Many}
+use Rattle.gl_many.specs.Compiles.{statements_in}
+use Rattle.gl_many.specs.Meets.{MeetTogether, own_latency, shared_gap}
+use Rattle.gl_many.specs.Queries.{AreQueries}
 use Rattle.gl_top_words.specs.declared.command.Part.TheVariants as part
 use Rattle.gl_top_judging.specs.declared.judging.Job.{Job}
+use Rattle.gl_top_judging.specs.declared.several.ManyJob.{ManyJob}
 use Rattle.gl_top_judging.specs.declared.simulating.Fitted.{Fitted}
 use Rattle.gl_top_judging.specs.declared.simulating.Simulation.{Simulation}
-use Rattle.gl_top_words.specs.declared.command.Command.TheVariants.{Sim}
+use Rattle.gl_top_words.specs.declared.command.Command.TheVariants.{ManyRun, Sim}
 use Rattle.gl_top_words.specs.Forms.{IsCommand, IsNamed, IsOfRun}
 use Rattle.gl_top_texts.specs.Texts.{HasText, SchemaPasses}
 
@@ -37,6 +42,14 @@ pub record QueryPasses (told : List ℕ → Told) (words : List (List ℕ)) (sch
   pub named : IsNamed words part.Query
   pub before : SchemaPasses told words schema
   pub text : HasText told words part.Query (λ text. IsQuery schema text statement)
+
+-- the words name a text of several queries, which are these statements, accepted over the schema, and their joint plan
+-- is within the limits
+pub record QueriesPass (told : List ℕ → Told) (words : List (List ℕ)) (schema : Schema) (statements : List Statement)
+    : Type 0 where
+  pub named : IsNamed words part.Queries
+  pub before : SchemaPasses told words schema
+  pub text : HasText told words part.Queries (λ text. AreQueries schema text statements)
 
 -- the beats of a text, where they keep the gap; else the first fault
 unfoldable pub kept_beats : Schema → ℕ → List ℕ → Result (List Beat) TupleFault
@@ -51,6 +64,24 @@ pub record TuplesPass (told : List ℕ → Told) (words : List (List ℕ)) (sche
   pub fine : AreFileBeats schema beats
   pub gap : KeepsGap (gap_of schema statement) (plain_beats beats)
   pub text : HasText told words part.Tuples (λ text. kept_beats schema (gap_of schema statement) text ≡ Ok beats)
+
+-- the words are of `manyrun`, and the tuple file is that of these beats, which keep the gap of all statements
+pub record TuplesPassAll (told : List ℕ → Told) (words : List (List ℕ)) (schema : Schema) (statements : List Statement)
+    (beats : List Beat) : Type 0 where
+  pub runs : IsCommand words ManyRun
+  pub before : QueriesPass told words schema statements
+  pub fine : AreFileBeats schema beats
+  pub gap : KeepsGap (shared_gap schema statements) (plain_beats beats)
+  pub text : HasText told words part.Tuples (λ text. kept_beats schema (shared_gap schema statements) text ≡ Ok beats)
+
+-- the texts before the tuple file of a run pass, and this is the gap that its beats are to keep: that of the statement,
+-- or that of all of several
+pub data AsksGap (told : List ℕ → Told) (words : List (List ℕ)) (schema : Schema) (gap : ℕ) : Type 0 where
+  OfOne : (runs : IsOfRun words) (statement : Statement) (passes : QueryPasses told words schema statement)
+      (is : gap ≡ gap_of schema statement) → AsksGap told words schema gap
+  OfAll : (runs : IsCommand words ManyRun) (statements : List Statement)
+      (passes : QueriesPass told words schema statements) (is : gap ≡ shared_gap schema statements)
+      → AsksGap told words schema gap
 
 -- the words are of `sim`, and the Verilog text is that of this module, whose ports are those of the schema and of a
 -- result
@@ -87,6 +118,19 @@ pub record IsCompiled (c : Compiled) : Type 0 where
 pub record IsReady (told : List ℕ → Told) (words : List (List ℕ)) (job : Job) : Type 0 where
   pub compiled : IsCompiled job.compiled
   pub passes : TuplesPass told words job.compiled.schema job.compiled.statement job.beats
+
+-- the compiled queries: their text meets all of them, and what is printed is theirs
+pub record AreCompiledTogether (m : Many) : Type 0 where
+  pub fine : IsSchema m.schema
+  pub meets : MeetTogether m.schema (statements_in m) (shared_gap m.schema (statements_in m)) m.text.items
+  pub latencies : m.planned.latencies.items ≡ map (own_latency m.schema) (statements_in m)
+  pub gap : m.planned.gap ≡ shared_gap m.schema (statements_in m)
+  pub short : AllByRecursion (λ latency. latency ≤ 2 ^ 32) m.planned.latencies.items
+
+-- the three of `manyrun` passed, and this is what they gave
+pub record AreReady (told : List ℕ → Told) (words : List (List ℕ)) (job : ManyJob) : Type 0 where
+  pub compiled : AreCompiledTogether job.many
+  pub passes : TuplesPassAll told words job.many.schema (statements_in job.many) job.beats
 
 -- the module of a text, and its ports
 pub record IsFittedText (schema : Schema) (text : List ℕ) (fitted : Fitted) : Type 0 where

@@ -1,6 +1,6 @@
 //! Judging the texts: each is read and judged before the next is read.
 
-ghost use Rattle.std.specs.Prelude.{◌≡◌, IfOk};
+ghost use Rattle.std.specs.Prelude.{◌≡◌, IfOk, Ok};
 ghost use Rattle.gl_schema.specs.Schemas.{IsSchema};
 ghost use Rattle.gl_schema.specs.Beats.{KeepsGap};
 ghost use Rattle.gl_tuple_reader.specs.Entries.{Gives};
@@ -9,8 +9,9 @@ ghost use Rattle.gl_top_words.specs.Forms.{IsNamed, IsOfRun};
 ghost use Rattle.gl_top_judging.specs.Causes as causes;
 ghost use Rattle.gl_top_judging.specs.Causes.{Leaves};
 ghost use Rattle.gl_outside.specs.States.{Stays};
-ghost use Rattle.gl_top_judging.specs.Passing.{QueryPasses, TuplesPass, IsCompiled, IsReady, kept_beats};
-ghost use Rattle.gl_top_texts.specs.Texts.{SchemaPasses};
+ghost use Rattle.gl_top_judging.specs.Passing.{AsksGap, QueryPasses, IsCompiled, IsReady};
+ghost use Rattle.gl_top_judging.specs.Passing.{kept_beats};
+ghost use Rattle.gl_top_texts.specs.Texts.{HasText, SchemaPasses};
 
 use gl_compiler_text::Compiled;
 use gl_outside::Shelf;
@@ -34,7 +35,7 @@ pub struct Job {
 
 // Why a query is not compiled, as a refusal. (A `From` would stand in gl_top_notes, which is to stand
 // on no compiler, or in gl_query_compiler, which knows of no refusal.)
-fn compile_refusal(fault: CompileFault) -> Refusal
+pub(crate) fn compile_refusal(fault: CompileFault) -> Refusal
     ensures { result ≡ causes.compile_refusal fault }
 {
     match fault {
@@ -80,24 +81,24 @@ fn beats_of(alloc: Global, schema: &Schema, gap: u32, text: &[u8]) -> Result<Bea
     Ok(beats)
 }
 
-// Reads and judges the tuple file.
-fn judge_tuples<S: Shelf>(
+// Reads and judges the tuple file, whose beats are to keep this gap.
+pub(crate) fn judge_tuples<S: Shelf>(
     alloc: Global,
     shelf: &mut S,
     words: &Taken<'_>,
-    compiled: &Compiled,
+    schema: &Schema,
+    gap: u32,
 ) -> Result<Beats, Refusal>
-    requires runs { IsOfRun words.now }
-    requires passes { let told = (S.state shelf.old).told in
-        QueryPasses told words.now compiled.now.schema compiled.now.statement }
-    requires compiled { IsCompiled compiled.now }
+    requires asks { AsksGap (S.state shelf.old).told words.now schema.now gap }
     requires names { (S.state shelf.old).names ≡ words.now }
-    ensures passes { let told = (S.state shelf.old).told in let c = compiled.now in
-        IfOk result (λ beats. TuplesPass told words.now c.schema c.statement beats) }
+    ensures fine { IfOk result (λ beats. AreFileBeats schema.now beats) }
+    ensures gap { IfOk result (λ beats. KeepsGap gap (plain_beats beats)) }
+    ensures text { IfOk result (λ beats. HasText (S.state shelf.old).told words.now Part.Tuples
+        (λ text. kept_beats schema.now gap text ≡ Ok beats)) }
     ensures leaves { Leaves words.now (S.state shelf.old) (S.state shelf.new) result }
 {
     let text = fetch(alloc, shelf, words, Part::Tuples)?;
-    Ok(beats_of(alloc, compiled.schema(), compiled.printed().gap, &text)?)
+    Ok(beats_of(alloc, schema, gap, &text)?)
 }
 
 // Judges the tuple file, behind the schema and the query.
@@ -115,7 +116,13 @@ fn judge_file<S: Shelf>(
     ensures ready { IfOk result (λ job. IsReady (S.state shelf.old).told words.now job) }
     ensures leaves { Leaves words.now (S.state shelf.old) (S.state shelf.new) result }
 {
-    let beats = judge_tuples(alloc, shelf, words, &compiled)?;
+    let beats = judge_tuples(
+        alloc,
+        shelf,
+        words,
+        compiled.schema(),
+        compiled.printed().gap,
+    )?;
     Ok(Job { compiled, beats })
 }
 

@@ -24,7 +24,7 @@ two = (built two_names).top
 pub load_names : (n : Text) → is_dashed n ≡ false → Given one_name (n ∷ []) (n ∷ []) None
 load_names n pn = given one_name (n ∷ []) (n ∷ []) None _ one_alone (name one nothing_held _ 1 2 _ n [] pn refl refl (stop one _)) refl (refl, refl, refl, refl)
 
--- `compile S Q`, `figures S Q` and `explain S Q`
+-- `compile S Q`, `figures S Q`, `explain S Q`, `many S Q` and `manyfigures S Q`
 pub query_names : (s q : Text) → is_dashed s ≡ false → is_dashed q ≡ false → Given two_names (s ∷ q ∷ []) (s ∷ q ∷ []) None
 query_names s q ps pq = given two_names (s ∷ q ∷ []) (s ∷ q ∷ []) None _ two_alone
     (name two nothing_held _ 1 2 _ s (q ∷ []) ps refl refl (name two _ _ 2 3 _ q [] pq refl refl (stop two _))) refl (refl, refl, refl, refl)

@@ -1,4 +1,4 @@
--- What clap makes of `run S Q T [--start N]` and of `vcd S Q T [--start N]`: nine layouts of its words.
+-- What clap makes of `run S Q T [--start N]`, and so of `vcd` and of `manyrun`: nine layouts of its words.
 use Rattle.std.proofs.Common.{◌≡◌, false, [], ◌∷◌, ◌++◌, Some, None, refl, codes}
 use Rattle.clap.specs.Words.{App, Text}
 use Rattle.clap.specs.Simple.{Shape, built}

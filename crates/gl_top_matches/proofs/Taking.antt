@@ -11,10 +11,10 @@ use Rattle.clap.specs.Words.{App, HasMatchesOf, Text, first_of, found_of, is_sim
 use Rattle.clap.specs.declared.parser.matches.ArgMatches.{ArgMatches}
 use Rattle.clap.proofs.WalkLemmas.{first_value-rows}
 use Rattle.gl_top_words.specs.declared.command.Command.{Command}
-use Rattle.gl_top_words.specs.declared.command.Command.TheVariants.{Compile, Figures, Explain, Run, Sim, Load, Vcd, Undump}
+use Rattle.gl_top_words.specs.declared.command.Command.TheVariants.{Compile, Figures, Explain, Run, Sim, Load, Vcd, Undump, Many, ManyFigures, ManyRun}
 use Rattle.gl_top_words.specs.Forms.{IsCommand, extra_at, extra_in, extra_of, first_word, is_command, is_dashed, load_at, load_in, load_of, many_names, name_of, names_in, names_of, option_front, option_word, start_at, start_in, start_of, takes_values, values_in, values_of, word_of}
 use Rattle.gl_top_words.proofs.Named.{is_one}
-use Rattle.gl_top_matches.specs.Apps.{Tells, app_for}
+use Rattle.gl_top_matches.specs.Apps.{Tells, app_for, two_names}
 use Rattle.gl_top_words.specs.Said.{IsSaid, extra_by, start_by}
 use Rattle.gl_top_matches.proofs.Ends.{Given}
 use Rattle.gl_top_matches.proofs.Laid.{AreNames, Placed, bare, parted, placed, three}
@@ -99,6 +99,9 @@ some_word Sim e = omega (arith, e)
 some_word Load e = omega (arith, e)
 some_word Vcd e = omega (arith, e)
 some_word Undump e = omega (arith, e)
+some_word Many e = omega (arith, e)
+some_word ManyFigures e = omega (arith, e)
+some_word ManyRun e = omega (arith, e)
 
 behind_word : (words : List Text) (c : Command) → first_word words ≡ word_of c → words ≡ word_of c ∷ drop 1 words
 behind_word [] c e = absurd (some_word c (ap length (sym e)))
@@ -244,38 +247,23 @@ first_there : (names : List Text) → length names ≡ 3 → load_in names ≡ l
 first_there [] e = absurd (omega (arith, e))
 first_there (s ∷ names) e = refl
 
-run_read : (words : List Text) → is_command words Run ≡ true → IsRead words Run
-run_read words is = elim (run_values (values_of words) (values_are words Run is)) [
+-- the words of a command with three names and perhaps a start
+start_read : (words : List Text) (c : Command) → is_command words c ≡ true → app_for c ≡ run_app → many_names c ≡ 3 → option_word words ≡ start_front
+    → MayHave (values_of words) → IsRead words c
+start_read words c is app count option may = elim may [
   | inl none ↦
-      let b = bare_words words Run is none in
-      three (λ ws. words ≡ codes "run" ∷ ws → names_of words ≡ ws → IsRead words Run)
-      (λ s q t ps pq pt same named. read_of words (s ∷ q ∷ t ∷ []) (s ∷ q ∷ t ∷ []) Run None (codes "run") same (run_bare s q t ps pq pt) named none refl)
-      (drop 1 words) b.plain b.many b.same b.named
+      let b = bare_words words c is none in
+      three (λ ws. words ≡ word_of c ∷ ws → names_of words ≡ ws → IsRead words c)
+      (λ s q t ps pq pt same named. read_of words (s ∷ q ∷ t ∷ []) (s ∷ q ∷ t ∷ []) c None (word_of c) same
+      (subst (λ (a : App). Given a (s ∷ q ∷ t ∷ []) (s ∷ q ∷ t ∷ []) None) (sym app) (run_bare s q t ps pq pt)) named none refl)
+      (drop 1 words) b.plain (b.many ∙ count) b.same b.named
   | inr h ↦
-      let word = word_is words Run is in
-      let option = option_is words (codes "run") word in
       let p = placed start_front h.0 refl (drop 1 words) (sym (values_with words start_front option) ∙ h.1) in
       let named = names_with words start_front option ∙ p.names in
-      let many = ap length (sym named) ∙ many_are words Run is in
-      read_of words (drop 1 words) (p.before ++ p.behind) Run (Some h.0) (codes "run") (behind_word words Run word)
-      (run_given h.0 h.2 (drop 1 words) p many) named h.1 (first_there (p.before ++ p.behind) many)
-]
-
-vcd_read : (words : List Text) → is_command words Vcd ≡ true → IsRead words Vcd
-vcd_read words is = elim (run_values (values_of words) (values_are words Vcd is)) [
-  | inl none ↦
-      let b = bare_words words Vcd is none in
-      three (λ ws. words ≡ codes "vcd" ∷ ws → names_of words ≡ ws → IsRead words Vcd)
-      (λ s q t ps pq pt same named. read_of words (s ∷ q ∷ t ∷ []) (s ∷ q ∷ t ∷ []) Vcd None (codes "vcd") same (run_bare s q t ps pq pt) named none refl)
-      (drop 1 words) b.plain b.many b.same b.named
-  | inr h ↦
-      let word = word_is words Vcd is in
-      let option = option_is words (codes "vcd") word in
-      let p = placed start_front h.0 refl (drop 1 words) (sym (values_with words start_front option) ∙ h.1) in
-      let named = names_with words start_front option ∙ p.names in
-      let many = ap length (sym named) ∙ many_are words Vcd is in
-      read_of words (drop 1 words) (p.before ++ p.behind) Vcd (Some h.0) (codes "vcd") (behind_word words Vcd word)
-      (run_given h.0 h.2 (drop 1 words) p many) named h.1 (first_there (p.before ++ p.behind) many)
+      let many = ap length (sym named) ∙ many_are words c is ∙ count in
+      read_of words (drop 1 words) (p.before ++ p.behind) c (Some h.0) (word_of c) (behind_word words c (word_is words c is))
+      (subst (λ (a : App). Given a (drop 1 words) (p.before ++ p.behind) (Some h.0)) (sym app) (run_given h.0 h.2 (drop 1 words) p many)) named h.1
+      (first_there (p.before ++ p.behind) many)
 ]
 
 sim_read : (words : List Text) → is_command words Sim ≡ true → IsRead words Sim
@@ -291,31 +279,35 @@ sim_read words is =
 
 -- ---- all commands
 
+-- those of one with two names
+two_read : (words : List Text) (c : Command) → is_command words c ≡ true → app_for c ≡ two_names → many_names c ≡ 2 → values_of words ≡ [] → IsRead words c
+two_read words c is app count none =
+    let b = bare_words words c is none in
+    two (λ ws. words ≡ word_of c ∷ ws → names_of words ≡ ws → IsRead words c)
+    (λ s q ps pq same named. read_of words (s ∷ q ∷ []) (s ∷ q ∷ []) c None (word_of c) same
+    (subst (λ (a : App). Given a (s ∷ q ∷ []) (s ∷ q ∷ []) None) (sym app) (query_names s q ps pq)) named none refl)
+    (drop 1 words) b.plain (b.many ∙ count) b.same b.named
+
 read_by : (words : List Text) (c : Command) → is_command words c ≡ true → IsRead words c
-read_by words Compile is =
-    let b = bare_words words Compile is (none_taken (values_of words) (values_are words Compile is)) in
-    two (λ ws. words ≡ codes "compile" ∷ ws → names_of words ≡ ws → IsRead words Compile)
-    (λ s q ps pq same named. read_of words (s ∷ q ∷ []) (s ∷ q ∷ []) Compile None (codes "compile") same (query_names s q ps pq) named b.valued refl)
-    (drop 1 words) b.plain b.many b.same b.named
-read_by words Figures is =
-    let b = bare_words words Figures is (none_taken (values_of words) (values_are words Figures is)) in
-    two (λ ws. words ≡ codes "figures" ∷ ws → names_of words ≡ ws → IsRead words Figures)
-    (λ s q ps pq same named. read_of words (s ∷ q ∷ []) (s ∷ q ∷ []) Figures None (codes "figures") same (query_names s q ps pq) named b.valued refl)
-    (drop 1 words) b.plain b.many b.same b.named
-read_by words Explain is =
-    let b = bare_words words Explain is (none_taken (values_of words) (values_are words Explain is)) in
-    two (λ ws. words ≡ codes "explain" ∷ ws → names_of words ≡ ws → IsRead words Explain)
-    (λ s q ps pq same named. read_of words (s ∷ q ∷ []) (s ∷ q ∷ []) Explain None (codes "explain") same (query_names s q ps pq) named b.valued refl)
-    (drop 1 words) b.plain b.many b.same b.named
-read_by words Run is = run_read words is
+read_by words Compile is = two_read words Compile is refl refl (none_taken (values_of words) (values_are words Compile is))
+read_by words Figures is = two_read words Figures is refl refl (none_taken (values_of words) (values_are words Figures is))
+read_by words Explain is = two_read words Explain is refl refl (none_taken (values_of words) (values_are words Explain is))
+read_by words Run is =
+    start_read words Run is refl refl (option_is words (codes "run") (word_is words Run is)) (run_values (values_of words) (values_are words Run is))
 read_by words Sim is = sim_read words is
 read_by words Load is =
     let b = bare_words words Load is (none_taken (values_of words) (values_are words Load is)) in
     load_by words (drop 1 words) b.same b.plain b.many b.named b.valued
-read_by words Vcd is = vcd_read words is
+read_by words Vcd is =
+    start_read words Vcd is refl refl (option_is words (codes "vcd") (word_is words Vcd is)) (run_values (values_of words) (values_are words Vcd is))
 read_by words Undump is =
     let b = bare_words words Undump is (none_taken (values_of words) (values_are words Undump is)) in
     undump_by words (drop 1 words) b.same b.plain b.many b.named b.valued
+read_by words Many is = two_read words Many is refl refl (none_taken (values_of words) (values_are words Many is))
+read_by words ManyFigures is = two_read words ManyFigures is refl refl (none_taken (values_of words) (values_are words ManyFigures is))
+read_by words ManyRun is =
+    start_read words ManyRun is refl refl (option_is words (codes "manyrun") (word_is words ManyRun is))
+    (run_values (values_of words) (values_are words ManyRun is))
 
 pub read : (words : List Text) (c : Command) → IsCommand words c → IsRead words c
 read words c is = read_by words c (is_one words c is)
@@ -331,6 +323,9 @@ simple Sim = refl
 simple Load = refl
 simple Vcd = refl
 simple Undump = refl
+simple Many = refl
+simple ManyFigures = refl
+simple ManyRun = refl
 
 -- no other refusal than want of memory
 pub takes_all : (words given : List Text) (c : Command) (app : App) → app ≡ app_for c → given ≡ words → IsCommand words c → takes app given ≡ true

@@ -1,9 +1,9 @@
--- The commands as clap has them: names that must be there, in order, and for three of them an option.
+-- The commands as clap has them: names that must be there, in order, and for four of them an option.
 use Rattle.std.specs.Prelude.{ℕ, Bool, true, false, List, [], Some, codes, unwrap_or}
 use Rattle.clap.specs.Words.{App, Rule, Text, first_value, found_of, new_app, new_rule, with_rule}
 use Rattle.clap.specs.declared.parser.matches.ArgMatches.{ArgMatches}
 use Rattle.gl_top_words.specs.declared.command.Command.{Command}
-use Rattle.gl_top_words.specs.declared.command.Command.TheVariants.{Compile, Figures, Explain, Run, Sim, Load, Vcd, Undump}
+use Rattle.gl_top_words.specs.declared.command.Command.TheVariants.{Compile, Figures, Explain, Run, Sim, Load, Vcd, Undump, Many, ManyFigures, ManyRun}
 use Rattle.gl_top_words.specs.Said.{IsSaid}
 
 abbrev pub name_rule : Text → Rule
@@ -30,6 +30,9 @@ app_for Sim = with_rule three_names (option_rule (codes "extra") true)
 app_for Load = one_name
 app_for Vcd = with_rule three_names (option_rule (codes "start") false)
 app_for Undump = one_name
+app_for Many = two_names
+app_for ManyFigures = two_names
+app_for ManyRun = with_rule three_names (option_rule (codes "start") false)
 
 -- the text that was matched for a name
 abbrev pub text_of : ArgMatches → Text → Text

@@ -61,8 +61,17 @@ fn command_for<'a>(alloc: Global, command: Command) -> Result<clap::Command<'a>,
     ensures { IfOk result (λ c. app_of c ≡ app_for command) }
 {
     match command {
-        Command::Compile | Command::Figures | Command::Explain => two_names(alloc),
-        Command::Run | Command::Vcd => with_option(alloc, three_names(alloc)?, "start", false),
+        Command::Compile
+        | Command::Figures
+        | Command::Explain
+        | Command::Many
+        | Command::ManyFigures => two_names(alloc),
+        Command::Run | Command::Vcd | Command::ManyRun => with_option(
+            alloc,
+            three_names(alloc)?,
+            "start",
+            false,
+        ),
         Command::Sim => with_option(alloc, three_names(alloc)?, "extra", true),
         Command::Load | Command::Undump => one_name(alloc),
     }

@@ -25,9 +25,9 @@ pub enum Refusal {
     TooLong(Part),
     /// The schema is refused.
     Schema(SchemaFault),
-    /// The query is refused.
+    /// The query is refused, or the text of several.
     Query(QueryFault),
-    /// The query's plan passes a limit.
+    /// The plan of the query, or of several, passes a limit.
     Limit(Limit),
     /// The Verilog text is refused.
     Verilog(VerilogFault),

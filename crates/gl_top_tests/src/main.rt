@@ -10,7 +10,8 @@
 //! TEXT` and `option WORD TEXT` run `compile S Q`, `figures S Q`, `run --start 12345 S Q T` and `run S
 //! Q T WORD`. A line `sim WORD WORD` runs `sim S V T`, and a line `load WORD WORD` runs `load`, with
 //! these words, of which either may be missing. A line `vcd TEXT` runs `vcd S Q T`, and a line `undump
-//! TEXT` reads this text as a dump. A line `over TEXT` sets the query of the lines `words
+//! TEXT` reads this text as a dump. Lines `many TEXT`, `manyfigures TEXT` and `manyrun TEXT` run `many S
+//! Q`, `manyfigures S Q` and `manyrun S Q T`. A line `over TEXT` sets the query of the lines `words
 //! WORD|WORD|..`, which run these words, of which each may be empty. Behind a line `show text` the text
 //! that is left is printed too, until a line `show no text`. A line `fronts NAME TEXT` runs `run S Q T`,
 //! or `sim S V T --extra 5` for `verilog`, over each front of the text that is shorter than it, in the
@@ -73,6 +74,9 @@ fn words_before(kind: &str) -> &'static str {
         "load" => "load",
         "vcd" => "vcd S Q T",
         "undump" => "undump Q",
+        "many" => "many S Q",
+        "manyfigures" => "manyfigures S Q",
+        "manyrun" => "manyrun S Q T",
         _ => "",
     }
 }

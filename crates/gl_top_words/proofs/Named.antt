@@ -9,9 +9,9 @@ use Rattle.gl_outside.proofs.Places.{found_is}
 use Rattle.gl_verilog_orders.specs.declared.start.Start.{Start}
 use Rattle.gl_verilog_orders.specs.declared.start.Start.TheVariants.{Zero}
 use Rattle.gl_top_words.specs.declared.command.Part.{Part}
-use Rattle.gl_top_words.specs.declared.command.Part.TheVariants.{Schema, Query, Module, Tuples, Dump}
+use Rattle.gl_top_words.specs.declared.command.Part.TheVariants.{Schema, Query, Module, Tuples, Dump, Queries}
 use Rattle.gl_top_words.specs.declared.command.Command.{Command}
-use Rattle.gl_top_words.specs.declared.command.Command.TheVariants.{Compile, Figures, Explain, Run, Sim, Load, Vcd, Undump}
+use Rattle.gl_top_words.specs.declared.command.Command.TheVariants.{Compile, Figures, Explain, Run, Sim, Load, Vcd, Undump, Many, ManyFigures, ManyRun}
 use Rattle.gl_top_words.specs.Forms.{IsCommand, IsForm, IsLoadOf, IsNamed, IsOfRun, command_of, extra_in, extra_of, is_command, is_dashed, load_in, load_of, many_names, name_of, names_in, names_of, option_word, parts_of, place_of, start_in, start_of, values_of}
 
 -- ---- a name is one of the words
@@ -60,10 +60,12 @@ pub data Commanded (words : List (List ℕ)) (o : Option Command) : Type 0 where
 pub commanded : (words : List (List ℕ)) → Commanded words (command_of words)
 unfolding command_of
 commanded words = by (is_command words Compile) (is_command words Figures) (is_command words Explain) (is_command words Run) (is_command words Sim) (is_command words Load)
-    (is_command words Vcd) (is_command words Undump) refl refl refl refl refl refl refl refl
+    (is_command words Vcd) (is_command words Undump) (is_command words Many) (is_command words ManyFigures) (is_command words ManyRun)
+    refl refl refl refl refl refl refl refl refl refl refl
   where
-    by : (a f b c s l v u : Bool) → is_command words Compile ≡ a → is_command words Figures ≡ f → is_command words Explain ≡ b
+    by : (a f b c s l v u m n k : Bool) → is_command words Compile ≡ a → is_command words Figures ≡ f → is_command words Explain ≡ b
         → is_command words Run ≡ c → is_command words Sim ≡ s → is_command words Load ≡ l → is_command words Vcd ≡ v → is_command words Undump ≡ u
+        → is_command words Many ≡ m → is_command words ManyFigures ≡ n → is_command words ManyRun ≡ k
         → Commanded words (if is_command words Compile then Some Compile
         else if is_command words Figures then Some Figures
         else if is_command words Explain then Some Explain
@@ -72,16 +74,22 @@ commanded words = by (is_command words Compile) (is_command words Figures) (is_c
         else if is_command words Load then Some Load
         else if is_command words Vcd then Some Vcd
         else if is_command words Undump then Some Undump
+        else if is_command words Many then Some Many
+        else if is_command words ManyFigures then Some ManyFigures
+        else if is_command words ManyRun then Some ManyRun
         else None)
-    by true f b c s l v u p g q r t o w x = Of Compile p (rw p refl)
-    by false true b c s l v u p g q r t o w x = Of Figures g (rw (p, g) refl)
-    by false false true c s l v u p g q r t o w x = Of Explain q (rw (p, g, q) refl)
-    by false false false true s l v u p g q r t o w x = Of Run r (rw (p, g, q, r) refl)
-    by false false false false true l v u p g q r t o w x = Of Sim t (rw (p, g, q, r, t) refl)
-    by false false false false false true v u p g q r t o w x = Of Load o (rw (p, g, q, r, t, o) refl)
-    by false false false false false false true u p g q r t o w x = Of Vcd w (rw (p, g, q, r, t, o, w) refl)
-    by false false false false false false false true p g q r t o w x = Of Undump x (rw (p, g, q, r, t, o, w, x) refl)
-    by false false false false false false false false p g q r t o w x = Formless (rw (p, g, q, r, t, o, w, x) refl)
+    by true f b c s l v u m n k p g q r t o w x y z i = Of Compile p (rw p refl)
+    by false true b c s l v u m n k p g q r t o w x y z i = Of Figures g (rw (p, g) refl)
+    by false false true c s l v u m n k p g q r t o w x y z i = Of Explain q (rw (p, g, q) refl)
+    by false false false true s l v u m n k p g q r t o w x y z i = Of Run r (rw (p, g, q, r) refl)
+    by false false false false true l v u m n k p g q r t o w x y z i = Of Sim t (rw (p, g, q, r, t) refl)
+    by false false false false false true v u m n k p g q r t o w x y z i = Of Load o (rw (p, g, q, r, t, o) refl)
+    by false false false false false false true u m n k p g q r t o w x y z i = Of Vcd w (rw (p, g, q, r, t, o, w) refl)
+    by false false false false false false false true m n k p g q r t o w x y z i = Of Undump x (rw (p, g, q, r, t, o, w, x) refl)
+    by false false false false false false false false true n k p g q r t o w x y z i = Of Many y (rw (p, g, q, r, t, o, w, x, y) refl)
+    by false false false false false false false false false true k p g q r t o w x y z i = Of ManyFigures z (rw (p, g, q, r, t, o, w, x, y, z) refl)
+    by false false false false false false false false false false true p g q r t o w x y z i = Of ManyRun i (rw (p, g, q, r, t, o, w, x, y, z, i) refl)
+    by false false false false false false false false false false false p g q r t o w x y z i = Formless (rw (p, g, q, r, t, o, w, x, y, z, i) refl)
 
 pub form_of : (words : List (List ℕ)) (c : Command) → IsCommand words c → IsForm words
 form_of words c is = rw is refl
@@ -114,25 +122,22 @@ is_beside Query = true
 is_beside Module = true
 is_beside Tuples = true
 is_beside Dump = false
+is_beside Queries = true
 
-beside_in : (ps : List Part) (p : Part) → list_all is_beside ps ≡ true → Contains ps p → is_beside p ≡ true
-beside_in [] p all (k, l, e) = absurd (omega (arith, l))
-beside_in (q ∷ ps) p all (zero, l, e) = let same : q ≡ p = cc in subst (λ (x : Part). is_beside x ≡ true) same (and_left _ _ all)
-beside_in (q ∷ ps) p all (suc k, l, e) = beside_in ps p (and_right _ _ all) (k, omega (arith, l), e)
+part_in : (f : Part → Bool) (ps : List Part) (p : Part) → list_all f ps ≡ true → Contains ps p → f p ≡ true
+part_in f [] p all (k, l, e) = absurd (omega (arith, l))
+part_in f (q ∷ ps) p all (zero, l, e) = let same : q ≡ p = cc in subst (λ (x : Part). f x ≡ true) same (and_left _ _ all)
+part_in f (q ∷ ps) p all (suc k, l, e) = part_in f ps p (and_right _ _ all) (k, omega (arith, l), e)
 
 dump_alone : (p : Part) → Contains (Dump ∷ []) p → Dump ≡ p
 dump_alone p (zero, l, e) = cc
 dump_alone p (suc k, l, e) = absurd (omega (arith, l))
 
 -- each text has a name in its place
-place_two : (p : Part) → Contains (Schema ∷ Query ∷ []) p → place_of p < 2
-place_two Schema h = omega arith
-place_two Query h = omega arith
-place_two Module h = omega arith
-place_two Tuples (zero, l, e) = absurd cc
-place_two Tuples (suc zero, l, e) = absurd cc
-place_two Tuples (suc (suc k), l, e) = absurd (omega (arith, l))
-place_two Dump h = omega arith
+place_two : (p q : Part) → place_of q < 2 → Contains (Schema ∷ q ∷ []) p → place_of p < 2
+place_two p q lt (zero, l, e) = let same : Schema ≡ p = cc in subst (λ (x : Part). place_of x < 2) same (omega arith)
+place_two p q lt (suc zero, l, e) = let same : q ≡ p = cc in subst (λ (x : Part). place_of x < 2) same lt
+place_two p q lt (suc (suc k), l, e) = absurd (omega (arith, l))
 
 place_three : (p : Part) → place_of p < 3
 place_three Schema = omega arith
@@ -140,16 +145,20 @@ place_three Query = omega arith
 place_three Module = omega arith
 place_three Tuples = omega arith
 place_three Dump = omega arith
+place_three Queries = omega arith
 
 place_within : (c : Command) (p : Part) → Contains (parts_of c) p → place_of p < many_names c
-place_within Compile p h = place_two p h
-place_within Figures p h = place_two p h
-place_within Explain p h = place_two p h
+place_within Compile p h = place_two p Query (omega arith) h
+place_within Figures p h = place_two p Query (omega arith) h
+place_within Explain p h = place_two p Query (omega arith) h
 place_within Run p h = place_three p
 place_within Sim p h = place_three p
 place_within Load p h = absurd (omega (arith, h.1))
 place_within Vcd p h = place_three p
 place_within Undump p h = subst (λ (x : Part). place_of x < 1) (dump_alone p h) (omega arith)
+place_within Many p h = place_two p Queries (omega arith) h
+place_within ManyFigures p h = place_two p Queries (omega arith) h
+place_within ManyRun p h = place_three p
 
 -- the name of a text that the words name is one of the words
 pub named : (words : List (List ℕ)) (p : Part) → IsNamed words p → Contains words (name_of words p)
@@ -169,6 +178,9 @@ first_part Sim p b h = (0, omega arith, refl)
 first_part Load p b h = absurd (omega (arith, h.1))
 first_part Vcd p b h = (0, omega arith, refl)
 first_part Undump p b h = let no : is_beside Dump ≡ true = subst (λ (x : Part). is_beside x ≡ true) (sym (dump_alone p h)) b in absurd cc
+first_part Many p b h = (0, omega arith, refl)
+first_part ManyFigures p b h = (0, omega arith, refl)
+first_part ManyRun p b h = (0, omega arith, refl)
 
 pub schema_named : (words : List (List ℕ)) (p : Part) → is_beside p ≡ true → IsNamed words p → IsNamed words Schema
 schema_named words p beside is = record { command = is.command; is = is.is; names = first_part is.command p beside is.names }
@@ -197,17 +209,83 @@ pub undump_names_dump : (words : List (List ℕ)) (p : Part) → IsCommand words
 undump_names_dump words p is h = dump_alone p (parts_are words Undump p is h)
 
 undumps : (c : Command) → Contains (parts_of c) Dump → Undump ≡ c
-undumps Compile h = let e = beside_in (parts_of Compile) Dump refl h in absurd cc
-undumps Figures h = let e = beside_in (parts_of Figures) Dump refl h in absurd cc
-undumps Explain h = let e = beside_in (parts_of Explain) Dump refl h in absurd cc
-undumps Run h = let e = beside_in (parts_of Run) Dump refl h in absurd cc
-undumps Sim h = let e = beside_in (parts_of Sim) Dump refl h in absurd cc
+undumps Compile h = let e = part_in is_beside (parts_of Compile) Dump refl h in absurd cc
+undumps Figures h = let e = part_in is_beside (parts_of Figures) Dump refl h in absurd cc
+undumps Explain h = let e = part_in is_beside (parts_of Explain) Dump refl h in absurd cc
+undumps Run h = let e = part_in is_beside (parts_of Run) Dump refl h in absurd cc
+undumps Sim h = let e = part_in is_beside (parts_of Sim) Dump refl h in absurd cc
 undumps Load h = absurd (omega (arith, h.1))
-undumps Vcd h = let e = beside_in (parts_of Vcd) Dump refl h in absurd cc
+undumps Vcd h = let e = part_in is_beside (parts_of Vcd) Dump refl h in absurd cc
 undumps Undump h = refl
+undumps Many h = let e = part_in is_beside (parts_of Many) Dump refl h in absurd cc
+undumps ManyFigures h = let e = part_in is_beside (parts_of ManyFigures) Dump refl h in absurd cc
+undumps ManyRun h = let e = part_in is_beside (parts_of ManyRun) Dump refl h in absurd cc
 
 pub dump_is_undumped : (words : List (List ℕ)) → IsNamed words Dump → IsCommand words Undump
 dump_is_undumped words h = subst (λ (c : Command). IsCommand words c) (sym (undumps h.command h.names)) h.is
+
+-- ---- the text of several queries
+
+-- whether a text is none of several queries, and whether it may be named beside one
+abbrev is_other : Part → Bool
+is_other Schema = true
+is_other Query = true
+is_other Module = true
+is_other Tuples = true
+is_other Dump = true
+is_other Queries = false
+
+abbrev is_beside_queries : Part → Bool
+is_beside_queries Schema = true
+is_beside_queries Query = false
+is_beside_queries Module = false
+is_beside_queries Tuples = true
+is_beside_queries Dump = false
+is_beside_queries Queries = true
+
+beside_queries : (c : Command) → Contains (parts_of c) Queries → list_all is_beside_queries (parts_of c) ≡ true
+beside_queries Compile h = let e = part_in is_other (parts_of Compile) Queries refl h in absurd cc
+beside_queries Figures h = let e = part_in is_other (parts_of Figures) Queries refl h in absurd cc
+beside_queries Explain h = let e = part_in is_other (parts_of Explain) Queries refl h in absurd cc
+beside_queries Run h = let e = part_in is_other (parts_of Run) Queries refl h in absurd cc
+beside_queries Sim h = let e = part_in is_other (parts_of Sim) Queries refl h in absurd cc
+beside_queries Load h = absurd (omega (arith, h.1))
+beside_queries Vcd h = let e = part_in is_other (parts_of Vcd) Queries refl h in absurd cc
+beside_queries Undump h = let e = part_in is_other (parts_of Undump) Queries refl h in absurd cc
+beside_queries Many h = refl
+beside_queries ManyFigures h = refl
+beside_queries ManyRun h = refl
+
+named_beside : (words : List (List ℕ)) (p : Part) → IsNamed words Queries → IsNamed words p → is_beside_queries p ≡ true
+named_beside words p h i = part_in is_beside_queries (parts_of h.command) p (beside_queries h.command h.names) (parts_are words h.command p h.is i)
+
+-- words name one query or several, and with several no Verilog text and no dump
+pub one_query_part : (words : List (List ℕ)) → IsNamed words Query → IsNamed words Queries → ⊥
+one_query_part words one several = let e = named_beside words Query several one in absurd cc
+
+pub queries_and_no_module : (words : List (List ℕ)) → IsNamed words Queries → IsNamed words Module → ⊥
+queries_and_no_module words several given = let e = named_beside words Module several given in absurd cc
+
+pub queries_and_no_dump : (words : List (List ℕ)) → IsNamed words Queries → IsNamed words Dump → ⊥
+queries_and_no_dump words several given = let e = named_beside words Dump several given in absurd cc
+
+-- the texts of `manyrun`
+pub many_run_names_schema : (words : List (List ℕ)) → IsCommand words ManyRun → IsNamed words Schema
+many_run_names_schema words is = record { command = ManyRun; is = is; names = (0, omega arith, refl) }
+
+pub many_run_names_queries : (words : List (List ℕ)) → IsCommand words ManyRun → IsNamed words Queries
+many_run_names_queries words is = record { command = ManyRun; is = is; names = (1, omega arith, refl) }
+
+pub many_run_names_tuples : (words : List (List ℕ)) → IsCommand words ManyRun → IsNamed words Tuples
+many_run_names_tuples words is = record { command = ManyRun; is = is; names = (2, omega arith, refl) }
+
+-- its words are none of one query, and none of `sim`
+pub many_run_is_no_run : (words : List (List ℕ)) → IsCommand words ManyRun → IsOfRun words → ⊥
+many_run_is_no_run words is (inl runs) = absurd (let e : ManyRun ≡ Run = one_command words ManyRun Run is runs in cc)
+many_run_is_no_run words is (inr dumps) = absurd (let e : ManyRun ≡ Vcd = one_command words ManyRun Vcd is dumps in cc)
+
+pub many_run_is_no_sim : (words : List (List ℕ)) → IsCommand words ManyRun → IsCommand words Sim → ⊥
+many_run_is_no_sim words is sims = absurd (let e : ManyRun ≡ Sim = one_command words ManyRun Sim is sims in cc)
 
 -- ---- the tuples of a load
 
@@ -222,7 +300,7 @@ load_given words is =
     let there = some_there (load_in (names_of words)) (load_takes words (is_one words Load is)) in
     (there.0, record { loads = is; many = there.1 })
 
--- ---- the start of a run, and of its dump
+-- ---- the start of a run, of its dump, and of a run of several queries
 
 run_takes : (words : List (List ℕ)) → is_command words Run ≡ true → is_some (start_in (values_of words)) ≡ true
 unfolding is_command
@@ -231,6 +309,10 @@ run_takes words is = and_right _ _ is
 vcd_takes : (words : List (List ℕ)) → is_command words Vcd ≡ true → is_some (start_in (values_of words)) ≡ true
 unfolding is_command
 vcd_takes words is = and_right _ _ is
+
+many_run_takes : (words : List (List ℕ)) → is_command words ManyRun ≡ true → is_some (start_in (values_of words)) ≡ true
+unfolding is_command
+many_run_takes words is = and_right _ _ is
 
 start_is : (words : List (List ℕ)) → is_some (start_in (values_of words)) ≡ true → start_in (values_of words) ≡ Some (start_of words)
 unfolding start_of
@@ -241,6 +323,9 @@ start_is words takes =
 pub start_given : (words : List (List ℕ)) → IsOfRun words → start_in (values_of words) ≡ Some (start_of words)
 start_given words (inl is) = start_is words (run_takes words (is_one words Run is))
 start_given words (inr is) = start_is words (vcd_takes words (is_one words Vcd is))
+
+pub many_start_given : (words : List (List ℕ)) → IsCommand words ManyRun → start_in (values_of words) ≡ Some (start_of words)
+many_start_given words is = start_is words (many_run_takes words (is_one words ManyRun is))
 
 -- ---- the cycles that are waited for the end
 

@@ -6,9 +6,9 @@ use Rattle.gl_verilog_orders.specs.declared.start.Start.{Start}
 use Rattle.gl_verilog_orders.specs.declared.start.Start.TheVariants.{Zero, Drawn}
 use Rattle.gl_tuples.specs.Values.{number_of}
 use Rattle.gl_top_words.specs.declared.command.Command.{Command}
-use Rattle.gl_top_words.specs.declared.command.Command.TheVariants.{Compile, Figures, Explain, Run, Sim, Load, Vcd, Undump}
+use Rattle.gl_top_words.specs.declared.command.Command.TheVariants.{Compile, Figures, Explain, Run, Sim, Load, Vcd, Undump, Many, ManyFigures, ManyRun}
 use Rattle.gl_top_words.specs.declared.command.Part.{Part}
-use Rattle.gl_top_words.specs.declared.command.Part.TheVariants.{Schema, Query, Module, Tuples, Dump}
+use Rattle.gl_top_words.specs.declared.command.Part.TheVariants.{Schema, Query, Module, Tuples, Dump, Queries}
 
 -- ---- words behind the command
 
@@ -123,6 +123,9 @@ word_of Sim = codes "sim"
 word_of Load = codes "load"
 word_of Vcd = codes "vcd"
 word_of Undump = codes "undump"
+word_of Many = codes "many"
+word_of ManyFigures = codes "manyfigures"
+word_of ManyRun = codes "manyrun"
 
 -- how many names stand behind a command: those of its texts, or the number of tuples
 abbrev pub many_names : Command → ℕ
@@ -134,11 +137,15 @@ many_names Sim = 3
 many_names Load = 1
 many_names Vcd = 3
 many_names Undump = 1
+many_names Many = 2
+many_names ManyFigures = 2
+many_names ManyRun = 3
 
 -- the values that its option may have: a start, to run or to dump, or none; to simulate, the cycles that are waited; else none
 abbrev pub takes_values : Command → List (Option (List ℕ)) → Bool
 takes_values Run values = is_some (start_in values)
 takes_values Vcd values = is_some (start_in values)
+takes_values ManyRun values = is_some (start_in values)
 takes_values Sim values = is_some (extra_in values)
 takes_values c [] = true
 takes_values c (v ∷ vs) = false
@@ -164,6 +171,9 @@ command_of words =
     else if is_command words Load then Some Load
     else if is_command words Vcd then Some Vcd
     else if is_command words Undump then Some Undump
+    else if is_command words Many then Some Many
+    else if is_command words ManyFigures then Some ManyFigures
+    else if is_command words ManyRun then Some ManyRun
     else None
 
 abbrev pub IsCommand : List (List ℕ) → Command → Type 0
@@ -194,6 +204,9 @@ parts_of Sim = Schema ∷ Module ∷ Tuples ∷ []
 parts_of Load = []
 parts_of Vcd = Schema ∷ Query ∷ Tuples ∷ []
 parts_of Undump = Dump ∷ []
+parts_of Many = Schema ∷ Queries ∷ []
+parts_of ManyFigures = Schema ∷ Queries ∷ []
+parts_of ManyRun = Schema ∷ Queries ∷ Tuples ∷ []
 
 abbrev pub place_of : Part → ℕ
 place_of Schema = 0
@@ -201,6 +214,7 @@ place_of Query = 1
 place_of Module = 1
 place_of Tuples = 2
 place_of Dump = 0
+place_of Queries = 1
 
 -- the name of a text, and no byte where the words name none
 unfoldable pub name_of : List (List ℕ) → Part → List ℕ

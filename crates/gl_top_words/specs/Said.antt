@@ -16,7 +16,7 @@ abbrev pub extra_by : Option (List ℕ) → ℕ
 extra_by None = 0
 extra_by (Some value) = unwrap_or (extra_at (number_of value)) 0
 
--- the words have these names and this value; a query and a module have one place, as a schema and a dump
+-- the words have these names and this value; a query, queries and a module have one place, as a schema and a dump
 pub record IsSaid (words : List (List ℕ)) (first second third : List ℕ) (value : Option (List ℕ)) : Type 0 where
   pub schema : name_of words Schema ≡ first
   pub dump : name_of words Dump ≡ first

@@ -3,7 +3,7 @@ use Rattle.std.specs.Prelude.{◌≡◌, ℕ, List, [], ◌∷◌, codes, Some, 
 use Rattle.gl_verilog_orders.specs.declared.start.Start.{Start}
 use Rattle.gl_verilog_orders.specs.declared.start.Start.TheVariants as from
 use Rattle.gl_top_words.specs.declared.command.Command.{Command}
-use Rattle.gl_top_words.specs.declared.command.Command.TheVariants.{Compile, Figures, Explain, Run, Sim, Load, Vcd, Undump}
+use Rattle.gl_top_words.specs.declared.command.Command.TheVariants.{Compile, Figures, Explain, Run, Sim, Load, Vcd, Undump, Many, ManyFigures, ManyRun}
 use Rattle.gl_top_words.specs.Forms.{command_of, extra_of, load_of, names_of, start_of}
 
 abbrev pub s : List ℕ
@@ -30,6 +30,9 @@ vcd words = codes "vcd" ∷ words
 abbrev pub undump : List (List ℕ) → List (List ℕ)
 undump words = codes "undump" ∷ words
 
+abbrev pub many_run : List (List ℕ) → List (List ℕ)
+many_run words = codes "manyrun" ∷ words
+
 abbrev pub sim : List (List ℕ) → List (List ℕ)
 sim words = codes "sim" ∷ words
 
@@ -40,6 +43,10 @@ Names words c names = (command_of words ≡ Some c) × (names_of words ≡ names
 -- the words run the texts S, Q and T from this start
 abbrev pub RunsFrom : List (List ℕ) → Start → Type 0
 RunsFrom words start = Names words Run (s ∷ q ∷ t ∷ []) × (start_of words ≡ start)
+
+-- and these the texts S, Q and T of several queries
+abbrev pub RunsManyFrom : List (List ℕ) → Start → Type 0
+RunsManyFrom words start = Names words ManyRun (s ∷ q ∷ t ∷ []) × (start_of words ≡ start)
 
 -- the words simulate the texts of these names, and wait so many cycles for the end
 abbrev pub Waits : List (List ℕ) → List (List ℕ) → ℕ → Type 0
@@ -100,6 +107,15 @@ pub record WorkedForms : Type 0 where
   pub undumps_nothing : IsFormless (undump [])
   pub undumps_two : IsFormless (undump (codes "D" ∷ codes "E" ∷ []))
   pub undumps_no_start : IsFormless (undump (codes "D" ∷ codes "--start=5" ∷ []))
+  pub many : Names (codes "many" ∷ s ∷ q ∷ []) Many (s ∷ q ∷ [])
+  pub many_no_start : IsFormless (codes "many" ∷ s ∷ q ∷ codes "--start=5" ∷ [])
+  pub many_no_tuples : IsFormless (codes "many" ∷ s ∷ q ∷ t ∷ [])
+  pub many_figures : Names (codes "manyfigures" ∷ s ∷ q ∷ []) ManyFigures (s ∷ q ∷ [])
+  pub many_figures_no_start : IsFormless (codes "manyfigures" ∷ s ∷ q ∷ codes "--start" ∷ codes "5" ∷ [])
+  pub many_runs : RunsManyFrom (many_run (s ∷ q ∷ t ∷ [])) from.Zero
+  pub many_runs_from : RunsManyFrom (many_run (s ∷ codes "--start" ∷ codes "5" ∷ q ∷ t ∷ [])) (from.Drawn 5)
+  pub many_runs_too_few : IsFormless (many_run (s ∷ q ∷ []))
+  pub many_runs_no_extra : IsFormless (many_run (s ∷ q ∷ t ∷ codes "--extra=5" ∷ []))
   pub load_some : Loads (load (codes "1000" ∷ [])) 1000
   pub load_one : Loads (load (codes "1" ∷ [])) 1
   pub load_most : Loads (load (codes "1000000" ∷ [])) 1000000

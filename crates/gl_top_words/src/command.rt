@@ -22,6 +22,12 @@ pub enum Command {
     Vcd,
     /// `undump D`: the result that a value change dump shows.
     Undump,
+    /// `many S Q`: the Verilog text of several queries, one module.
+    Many,
+    /// `manyfigures S Q`: the latency of each of several queries, and the gap of all.
+    ManyFigures,
+    /// `manyrun S Q T [--start N]`: what the Verilog text of several queries does over a tuple file.
+    ManyRun,
 }
 
 impl Command {
@@ -38,6 +44,9 @@ impl Command {
             Command::Load => "load",
             Command::Vcd => "vcd",
             Command::Undump => "undump",
+            Command::Many => "many",
+            Command::ManyFigures => "manyfigures",
+            Command::ManyRun => "manyrun",
         }
     }
 
@@ -46,8 +55,12 @@ impl Command {
         ensures { result ≡ forms.many_names self }
     {
         match self {
-            Command::Compile | Command::Figures | Command::Explain => 2,
-            Command::Run | Command::Sim | Command::Vcd => 3,
+            Command::Compile
+            | Command::Figures
+            | Command::Explain
+            | Command::Many
+            | Command::ManyFigures => 2,
+            Command::Run | Command::Sim | Command::Vcd | Command::ManyRun => 3,
             Command::Load | Command::Undump => 1,
         }
     }
@@ -66,4 +79,6 @@ pub enum Part {
     Tuples,
     /// The value change dump.
     Dump,
+    /// The text of several queries.
+    Queries,
 }

@@ -264,10 +264,15 @@ fn takes_values(words: &Words, command: Command) -> bool
     ensures { result ≡ forms.takes_values command (forms.values_of words.now) }
 {
     match command {
-        Command::Run | Command::Vcd => start_in(words).is_some(),
+        Command::Run | Command::Vcd | Command::ManyRun => start_in(words).is_some(),
         Command::Sim => extra_in(words).is_some(),
-        Command::Compile | Command::Figures | Command::Explain | Command::Load | Command::Undump =>
-            value_at(words, 0).is_none(),
+        Command::Compile
+        | Command::Figures
+        | Command::Explain
+        | Command::Load
+        | Command::Undump
+        | Command::Many
+        | Command::ManyFigures => value_at(words, 0).is_none(),
     }
 }
 
@@ -283,7 +288,10 @@ fn takes_names(words: &Words, command: Command) -> bool
         | Command::Run
         | Command::Sim
         | Command::Vcd
-        | Command::Undump => true,
+        | Command::Undump
+        | Command::Many
+        | Command::ManyFigures
+        | Command::ManyRun => true,
     }
 }
 
@@ -326,6 +334,15 @@ pub fn command_of(words: &Words) -> Option<Command>
     }
     if is_command(words, Command::Undump) {
         return Some(Command::Undump);
+    }
+    if is_command(words, Command::Many) {
+        return Some(Command::Many);
+    }
+    if is_command(words, Command::ManyFigures) {
+        return Some(Command::ManyFigures);
+    }
+    if is_command(words, Command::ManyRun) {
+        return Some(Command::ManyRun);
     }
     None
 }

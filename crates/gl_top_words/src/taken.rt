@@ -66,7 +66,7 @@ impl Taken<'_> {
     {
         match part {
             Part::Schema | Part::Dump => self.first,
-            Part::Query | Part::Module => self.second,
+            Part::Query | Part::Module | Part::Queries => self.second,
             Part::Tuples => self.third,
         }
     }

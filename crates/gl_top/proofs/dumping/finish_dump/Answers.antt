@@ -1,4 +1,4 @@
-use Rattle.std.proofs.Common.{[], refl, sym, subst, inr}
+use Rattle.std.proofs.Common.{[], refl, sym, subst, inl, inr}
 use Rattle.gl_outside.specs.States.{SinkState, Took}
 use Rattle.gl_outside.proofs.Takes.{took_none}
 use Rattle.gl_top.specs.Verdicts.{Dumped, DumpedCut, Refused}
@@ -36,5 +36,5 @@ returns-in-Memory g c = λ ch ready calm. Refused (record {
   cause = calm;
   untouched = let P : SinkState → Type 0 = λ s. Took (g.K.Sink.state c.args.out.now) s [] in subst P (sym c.in-Memory.ensures) (took_none _);
   noted = c.tell.ensures;
-  left = inr (c.args.job.now.compiled.schema, c.args.job.now.compiled.statement, c.args.job.now.beats, record { passes = ready.passes; meets = ready.compiled.meets });
+  left = inr (inl (c.args.job.now.compiled.schema, c.args.job.now.compiled.statement, c.args.job.now.beats, record { passes = ready.passes; meets = ready.compiled.meets }));
 })

@@ -1,20 +1,23 @@
-use Rattle.std.proofs.Common.{inl, refl, arith}
+use Rattle.std.proofs.Common.{List, ℕ, inl, refl, sym, subst, arith}
 use Rattle.gl_outside.proofs.Takes.{took_none}
 use Rattle.gl_top_words.specs.declared.command.Command.TheVariants.{Compile}
 use Rattle.gl_top_judging.specs.Causes.{change}
-use Rattle.gl_top.specs.Verdicts.{Refused, OfTexts}
+use Rattle.gl_top.specs.Verdicts.{IsGiven, Refused, OfTexts}
 use Rattle.gl_top.proofs.running.answer_compile.Goals as goal
 
 pub returns-in-Ok : goal.returns-in-Ok
-returns-in-Ok g c = c.show_text.ensures (change _ _)
-    (OfTexts (record {
+returns-in-Ok g c =
+    let ch = change (g.S.Shelf.state c.args.shelf.now) (g.S.Shelf.state c.judge_compile.new.shelf) in
+    let shown : List ℕ → Type 0 = λ v. IsGiven ch.old.told c.args.words.now v v in
+    c.show_text.ensures ch
+    (subst shown (sym c.text-verilog.ensures) (OfTexts (record {
       command = Compile;
       is = c.requires.compiles;
       schema = c.in-Ok.compiled.schema;
       statement = c.in-Ok.compiled.statement;
       passes = c.in-Ok.ensures.passes;
-      shows = (c.text.ensures, c.in-Ok.ensures.compiled.meets);
-    }))
+      shows = (refl, c.in-Ok.ensures.compiled.meets);
+    })))
     c.in-Ok.ensures.leaves
 
 pub returns-in-Err : goal.returns-in-Err

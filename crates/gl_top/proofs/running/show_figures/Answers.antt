@@ -1,15 +1,15 @@
-use Rattle.std.proofs.Common.{inl, ◌∙◌}
+use Rattle.std.proofs.Common.{inl, sym, subst, ◌∙◌}
 use Rattle.gl_outside.proofs.Takes.{took_none}
 use Rattle.gl_top_words.specs.declared.command.Command.TheVariants.{Figures}
 use Rattle.gl_top_notes.specs.declared.refusal.Refusal.TheVariants as refusal
-use Rattle.gl_top.specs.Verdicts.{Refused, OfTexts}
+use Rattle.gl_top.specs.Verdicts.{IsGiven, Refused, OfTexts}
 use Rattle.gl_top.proofs.running.show_figures.Goals as goal
 
 pub returns-in-Ok : goal.returns-in-Ok
 returns-in-Ok g c = λ seen passes calm.
     let is = c.requires.compiled in
     c.show_text.ensures seen
-    (OfTexts (record {
+    (subst (IsGiven seen.old.told c.args.words.now c.deref.result.now) (sym c.text.ensures) (OfTexts (record {
       command = Figures;
       is = c.requires.figures;
       schema = c.args.compiled.now.schema;
@@ -28,7 +28,7 @@ returns-in-Ok g c = λ seen passes calm.
         },
         is.meets,
       );
-    }))
+    })))
     calm
 
 pub returns-in-Err : goal.returns-in-Err

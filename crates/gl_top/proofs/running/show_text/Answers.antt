@@ -1,4 +1,4 @@
-use Rattle.std.proofs.Common.{inl, ◌∙◌}
+use Rattle.std.proofs.Common.{inl, refl, ◌∙◌}
 use Rattle.gl_outside.proofs.Takes.{took_none}
 use Rattle.gl_top.specs.Verdicts.{Refused}
 use Rattle.gl_top_notes.specs.declared.refusal.Refusal.TheVariants as refusal
@@ -7,8 +7,8 @@ use Rattle.gl_top.proofs.running.show_text.Goals as goal
 
 pub returns-in-Ok : goal.returns-in-Ok
 returns-in-Ok g c = λ ch given calm.
-    let kept = kept_text c.args.text.now.items c.extend_from_slice.new.self.items c.text.result.now c.args.compiled.now.text.items c.requires.empty c.text.ensures c.in-Ok.ensures.items in
-    answer_text _ _ _ _ _ _ _ kept (written c.args.words.now ch _ _ c.args.bytes.now c.args.compiled.now.text.items _ given calm c.show.ensures)
+    let kept = kept_text c.args.text.now.items c.extend_from_slice.new.self.items c.args.verilog.now c.args.verilog.now c.requires.empty refl c.in-Ok.ensures.items in
+    answer_text _ _ _ _ _ _ _ kept (written c.args.words.now ch _ _ c.args.bytes.now c.args.verilog.now _ given calm c.show.ensures)
 
 pub returns-in-Err : goal.returns-in-Err
 returns-in-Err g c = λ ch given calm. Refused (record {

@@ -1,0 +1,10 @@
+pub mod Alike
+pub mod OneVerdict
+pub mod Refusing
+pub mod Reading
+pub mod Times
+pub mod Standing
+pub mod Ports
+pub mod Results
+pub mod Meeting
+pub mod Made

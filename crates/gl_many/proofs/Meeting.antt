@@ -1,0 +1,117 @@
+-- The text of several roots' netlist meets all of their statements.
+use Rattle.std.proofs.Common.{◌≡◌, ℕ, ◌+◌, List, [], ◌∷◌, map, Global, ap, subst, ◌∙◌, codes}
+use Rattle.std.specs.List.{AllByRecursion, flat_map}
+use Rattle.gl_bits.proofs.AllLists.{map_map}
+use Rattle.gl_bits.proofs.Options.{some_same}
+use Rattle.gl_schema.specs.declared.schema.Column.{Column}
+use Rattle.gl_schema.specs.declared.schema.Schema.{Schema}
+use Rattle.gl_schema.specs.Schemas.{column_names}
+use Rattle.gl_schema.specs.Ports.{PortValues, out_column}
+use Rattle.gl_schema.specs.Profile.{ProfilePort, clk, input}
+use Rattle.gl_schema.specs.Right.{IsRight, Meaning}
+use Rattle.gl_query.specs.declared.tree.Statement.{Statement}
+use Rattle.gl_query.specs.Results.{IsResult}
+use Rattle.gl_algebra.specs.declared.figures.Figures.{Figures}
+use Rattle.gl_algebra.specs.declared.node.PlanNode.{PlanNode}
+use Rattle.gl_algebra.specs.FigureTable.{figures_of}
+use Rattle.gl_net.specs.Net.{Net}
+use Rattle.gl_verilog.specs.Run.{port_of}
+use Rattle.gl_verilog_ports.specs.Profile.{declared}
+use Rattle.gl_wiring.specs.Many.{AreWired, IsRightFor, many_ports}
+use Rattle.gl_wiring.specs.Wired.{plan_means}
+use Rattle.gl_emission.specs.declared.emitting.Emitted.{Emitted}
+use Rattle.gl_emission.specs.Driven.{OverRuns}
+use Rattle.gl_emission.specs.Emission.{IsEmission, TakesBeats}
+use Rattle.gl_emission.specs.Emitted.{IsEmitted}
+use Rattle.gl_emission.specs.Overflow.{TellsGroup}
+use Rattle.gl_emission.specs.Views.{seen_as}
+use Rattle.gl_emission.proofs.Emissions.{holds_of_runs}
+use Rattle.gl_emission.proofs.OverflowRuns.{KeepsLine, keeps_past, tells_group}
+use Rattle.gl_emission.proofs.Pins.{outs_other}
+use Rattle.gl_emission.proofs.Showing.{NoClock, right_past, right_wider}
+use Rattle.gl_emission.proofs.Views.{past_within, view_steady}
+use Rattle.gl_several_plan.specs.declared.planning.PlannedSeveral.{PlannedSeveral}
+use Rattle.gl_several_plan.specs.Together.{ArePlanned}
+use Rattle.gl_compiler_text.specs.Meets.{result_columns}
+use Rattle.gl_many.specs.Meets.{IsRightAmong, MeetTogether, outputs_among, outs_of, own_latency, shared_gap, take_ticks}
+use Rattle.gl_many.specs.Roots.{CanStand, root_of, roots_of}
+use Rattle.gl_many.proofs.Ports.{takes_beats}
+use Rattle.gl_many.proofs.Results.{root_result}
+use Rattle.gl_many.proofs.Standing.{AllStand, StandsAt, all_accepted, figures_own, reads_ticks, they_stand, widest_own}
+
+-- ---- one of them
+
+module _ (schema : Schema) (nodes : List PlanNode) (gap : ℕ) (net : Net) (text : List ℕ) (e : IsEmission net schema text) where
+  module _ (s : Statement) (id : ℕ) (at : StandsAt nodes schema s id) (wired : IsRightFor schema nodes gap net (root_of schema s id)) where
+    abbrev outs : List (List ℕ)
+    outs = map out_column (column_names (result_columns schema s))
+
+    abbrev view : PortValues → PortValues
+    view = seen_as s.name.text
+
+    abbrev means : Meaning
+    means = plan_means nodes id
+
+    abbrev latency : ℕ
+    latency = (figures_of nodes id).le + 1
+
+    none : NoClock outs
+    none = outs_other (column_names (result_columns schema s))
+
+    -- what holds of the netlist, seen as this result, holds of the text: that it is right
+    text_right : OverRuns e.design schema gap (λ beats port. IsRight (IsResult schema s) latency beats outs (view port))
+    text_right = λ beats value word driven.
+        right_wider means (IsResult schema s) latency beats outs (root_result nodes schema s id beats driven.are at.right) (view (port_of e.design value))
+        (holds_of_runs net schema text e gap (λ all port. IsRight means latency all outs (view port))
+        (past_within s.name.text (λ all port. IsRight means latency all outs port) (right_past means latency outs none)) wired.right beats value word driven)
+
+    -- and that its overflow line is kept
+    text_keeps : OverRuns e.design schema gap (λ beats port. KeepsLine outs (view port))
+    text_keeps =
+        holds_of_runs net schema text e gap (λ all port. KeepsLine outs (view port)) (past_within s.name.text (λ all port. KeepsLine outs port) (keeps_past outs none))
+        (λ run all trace are gaps stimulus. let h = wired.group run all trace are gaps stimulus in record { lasts = h.lasts; stays = h.stays })
+
+    one_right : IsRightAmong schema gap e.design s
+    one_right =
+        let named : outs ≡ outs_of schema s = map_map out_column (λ (c : Column). c.name) (result_columns schema s) in
+        let soon : latency ≡ own_latency schema s = ap (λ (f : Figures). f.le + 1) (figures_own nodes schema s id at) in
+        record {
+          right =
+              subst (λ (n : ℕ). OverRuns e.design schema gap (λ beats port. IsRight (IsResult schema s) n beats (outs_of schema s) (view port))) soon
+              (subst (λ (names : List (List ℕ)). OverRuns e.design schema gap (λ beats port. IsRight (IsResult schema s) latency beats names (view port))) named text_right);
+          group =
+              subst (λ (names : List (List ℕ)). OverRuns e.design schema gap (λ beats port. TellsGroup (IsResult schema s) beats names (view port))) named
+              (tells_group net schema text e view (view_steady s.name.text) outs none (IsResult schema s) latency gap text_right text_keeps);
+        }
+
+  -- ---- all of them
+
+  all_right : (ss : List Statement) (ids : List ℕ) → AllStand nodes schema ss ids → AllByRecursion (IsRightFor schema nodes gap net) (roots_of schema ss ids)
+      → AllByRecursion (IsRightAmong schema gap e.design) ss
+  all_right [] ids all wired = tt
+  all_right (s ∷ ss) [] all wired = absurd all
+  all_right (s ∷ ss) (id ∷ ids) all wired = (one_right s id all.0 wired.0, all_right ss ids all.1 wired.1)
+
+module _ (schema : Schema) (ss : List Statement) (p : PlannedSeveral) (can : CanStand schema ss) (is : ArePlanned schema ss p) where
+  -- a text of the netlist of the statements' roots meets them
+  pub text_meets : (heap : Global) (net : Net) (made : Emitted) → AreWired schema p.plan (roots_of schema ss p.roots.items) net → IsEmitted net made
+      → MeetTogether schema ss (shared_gap schema ss) made.text.items
+  text_meets heap net made wired t =
+      let ids = p.roots.items in
+      let all = they_stand schema ss p can is in
+      let ticks = take_ticks ss in
+      let outputs : List ProfilePort = flat_map (outputs_among schema) ss in
+      let ports = wired.ports ∙ ap (λ b. many_ports b schema p.plan (roots_of schema ss ids)) (reads_ticks schema ss p can is heap) in
+      let takes : TakesBeats ticks schema outputs net = takes_beats p.plan schema ss ids net all ports in
+      let text : IsEmission net schema made.text.items = t.text ticks schema outputs can.of_schema takes in
+      let gap = widest_own p.plan schema ss ids all in
+      record {
+        accepted = all_accepted p.plan schema ss ids all;
+        design = text.design;
+        has = text.has;
+        name = some_same text.design.name (codes "q__many") (text.name' ∙ wired.name);
+        face = text.face ∙ ap (λ (ps : List ProfilePort). map declared (input clk 1 ∷ ps)) takes.ports;
+        runs = text.runs;
+        each = all_right schema p.plan (shared_gap schema ss) net made.text.items text ss ids all
+            (subst (λ (g : ℕ). AllByRecursion (IsRightFor schema p.plan g net) (roots_of schema ss ids)) gap wired.each);
+      }

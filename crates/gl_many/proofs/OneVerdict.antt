@@ -1,0 +1,74 @@
+-- A text of several queries has one list of trees, or one fault; and its statements one plan, one gap and one limit.
+use Rattle.std.proofs.Common.{◌≡◌, ℕ, max, List, [], ◌∷◌, Ok, Err, refl, sym, ap, subst, ◌∙◌}
+use Rattle.gl_schema.specs.declared.schema.Schema.{Schema}
+use Rattle.gl_query.specs.declared.fault.QueryFault.{QueryFault}
+use Rattle.gl_query.specs.declared.tree.Statement.{Statement}
+use Rattle.gl_query.specs.Trees.{statement_tree}
+use Rattle.gl_query_list.specs.Lists.{HasStatements}
+use Rattle.gl_query_list.specs.Laws.{IsVerdict, Verdict}
+use Rattle.gl_query_list.proofs.Verdicts.{verdicts}
+use Rattle.gl_algebra.specs.Added.{Placed}
+use Rattle.gl_algebra.specs.FigureTable.{figures_of}
+use Rattle.gl_figures.specs.declared.Limit.{Limit}
+use Rattle.gl_elaborate.specs.Plans.{Several, plan_of, plans_of}
+use Rattle.gl_compiler_text.proofs.Shaped.{plans_alike}
+use Rattle.gl_several_plan.specs.Together.{AreWithinLimits, PassLimit}
+use Rattle.gl_several_plan.proofs.TogetherLemmas.{several-one-limit}
+use Rattle.gl_many.specs.Meets.{shared_gap}
+use Rattle.gl_many.specs.Queries.{AreOverLimit, AreQueries, IsFaultOfAll, trees_of}
+use Rattle.gl_many.proofs.Alike.{joint_plans_alike}
+
+-- ---- one verdict
+
+same_verdict : (schema : Schema) (text : List ℕ) (v w : Verdict) → IsVerdict schema text v → IsVerdict schema text w → v ≡ w
+same_verdict schema text v w h k = let one = verdicts schema text in one.only v h ∙ sym (one.only w k)
+
+pub one_list : (schema : Schema) (text : List ℕ) (ss ts : List Statement) → HasStatements schema text (trees_of ss) → HasStatements schema text (trees_of ts) → trees_of ss ≡ trees_of ts
+one_list schema text ss ts h k =
+    let e : ◌≡◌ {A = Verdict} (Ok (trees_of ss)) (Ok (trees_of ts)) = same_verdict schema text (Ok (trees_of ss)) (Ok (trees_of ts)) h k in cc
+
+pub one_fault_of_all : (schema : Schema) (text : List ℕ) (f g : QueryFault) → IsFaultOfAll schema text f → IsFaultOfAll schema text g → f ≡ g
+one_fault_of_all schema text f g h k =
+    let e : ◌≡◌ {A = Verdict} (Err f) (Err g) = same_verdict schema text (Err f) (Err g) h.found k.found in cc
+
+-- a text that has a fault has no statements
+pub no_list : (schema : Schema) (text : List ℕ) (f : QueryFault) (ss : List Statement) → IsFaultOfAll schema text f → HasStatements schema text (trees_of ss) → ⊥
+no_list schema text f ss h k =
+    let e : ◌≡◌ {A = Verdict} (Err f) (Ok (trees_of ss)) = same_verdict schema text (Err f) (Ok (trees_of ss)) h.found k in cc
+
+-- ---- statements of the same trees
+
+abbrev gap_at : Placed → ℕ
+gap_at at = (figures_of at.nodes at.root).gt
+
+-- they have one gap
+pub gaps_alike : (schema : Schema) (ss ts : List Statement) → trees_of ss ≡ trees_of ts → shared_gap schema ss ≡ shared_gap schema ts
+gaps_alike schema [] [] e = refl
+gaps_alike schema [] (t ∷ ts) e = absurd cc
+gaps_alike schema (s ∷ ss) [] e = absurd cc
+gaps_alike schema (s ∷ ss) (t ∷ ts) e =
+    let first : statement_tree s ≡ statement_tree t = cc in
+    let others : trees_of ss ≡ trees_of ts = cc in
+    ap (λ (at : Placed). max (gap_at at) (shared_gap schema ss)) (plans_alike schema s t first)
+    ∙ ap (max (gap_at (plan_of schema t))) (gaps_alike schema ss ts others)
+
+-- ---- what a text's statements have
+
+-- two lists of statements of a text have one joint plan
+same_plans : (schema : Schema) (text : List ℕ) (ss ts : List Statement) → HasStatements schema text (trees_of ss) → HasStatements schema text (trees_of ts) → plans_of [] schema ss ≡ plans_of [] schema ts
+same_plans schema text ss ts h k = joint_plans_alike schema ss ts (one_list schema text ss ts h k)
+
+pub one_gap_of_all : (schema : Schema) (text : List ℕ) (ss ts : List Statement) → AreQueries schema text ss → AreQueries schema text ts → shared_gap schema ss ≡ shared_gap schema ts
+one_gap_of_all schema text ss ts p q = gaps_alike schema ss ts (one_list schema text ss ts p.has q.has)
+
+-- the limits that their joint plans pass are one
+pub one_limit_of_all : (schema : Schema) (text : List ℕ) (l m : Limit) → AreOverLimit schema text l → AreOverLimit schema text m → l ≡ m
+one_limit_of_all schema text l m o p =
+    let same = same_plans schema text p.statements o.statements p.has o.has in
+    sym ((several-one-limit (plans_of [] schema o.statements) l o.pass).only m (subst (λ (all : Several). PassLimit all m) same p.pass))
+
+-- and none is passed where others are within the limits
+pub all_within : (schema : Schema) (text : List ℕ) (ss : List Statement) (l : Limit) → AreOverLimit schema text l → AreQueries schema text ss → ⊥
+all_within schema text ss l o is =
+    let same = same_plans schema text ss o.statements is.has o.has in
+    (several-one-limit (plans_of [] schema o.statements) l o.pass).over (subst AreWithinLimits same is.within)

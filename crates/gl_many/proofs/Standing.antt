@@ -1,0 +1,153 @@
+-- Statements at their roots in a joint plan: what is known of each, and that they can be wired together.
+use Rattle.std.proofs.Common.{◌≡◌, ℕ, ◌+◌, ◌<◌, ◌≤◌, ◌^◌, max, List, [], ◌∷◌, length, map, Global, refl, sym, ap, subst, ◌∙◌, arith}
+use Rattle.std.specs.Prelude.{bytes_eq}
+use Rattle.std.specs.List.{AllByRecursion, AllZip, IsDistinct}
+use Rattle.gl_schema.specs.declared.schema.Schema.{Schema}
+use Rattle.gl_schema.specs.Schemas.{kinds_of}
+use Rattle.gl_query.specs.declared.tree.Statement.{Statement}
+use Rattle.gl_query.specs.Accepted.{IsAccepted}
+use Rattle.gl_query.specs.Checked.{IsChecked}
+use Rattle.gl_algebra.specs.declared.figures.Figures.{Figures}
+use Rattle.gl_algebra.specs.declared.node.PlanNode.{PlanNode}
+use Rattle.gl_algebra.specs.FigureTable.{figures_of}
+use Rattle.gl_algebra.specs.Shapes.{Shape}
+use Rattle.gl_algebra.specs.Shapes as shapes
+use Rattle.gl_algebra.specs.Small.{AreFigures}
+use Rattle.gl_algebra.specs.Views.{reads_time}
+use Rattle.gl_elaborate.specs.Laws.{IsRightAt}
+use Rattle.gl_elaborate.specs.Plans.{Several}
+use Rattle.gl_elaborate.proofs.SeveralLemmas.{several-right}
+use Rattle.gl_elaborate_plan.specs.Planned.{AreAllSmall}
+use Rattle.gl_several_plan.specs.declared.planning.PlannedSeveral.{PlannedSeveral}
+use Rattle.gl_several_plan.specs.Together.{ArePlanned, gap_together, latency_alone, own_figures}
+use Rattle.gl_wiring.specs.Many.{CanWireAll, CanWireRoot, ids_of, intos, result_names, widest_gap}
+use Rattle.gl_wiring.specs.StreamWires.{AreStreamLeaves}
+use Rattle.gl_compiler_text.specs.Meets.{result_columns}
+use Rattle.gl_compiler_text.proofs.KnownOf.{Known, known}
+use Rattle.gl_many.specs.Meets.{own_latency, shared_gap, take_ticks}
+use Rattle.gl_many.specs.Roots.{CanStand, IsNamed, names_of, root_of, roots_of}
+use Rattle.gl_many.proofs.Times.{several-time}
+
+-- a statement at a node of a joint plan
+pub record StandsAt (nodes : List PlanNode) (schema : Schema) (statement : Statement) (id : ℕ) : Type 0 where
+  pub is : IsChecked schema statement
+  pub known' : Known schema statement
+  pub right : IsRightAt nodes schema statement id
+
+module _ (nodes : List PlanNode) (schema : Schema) (statement : Statement) (id : ℕ) (at : StandsAt nodes schema statement id) where
+  -- its figures and its shape are its own
+  pub figures_own : figures_of nodes id ≡ own_figures schema statement
+  figures_own = at.right.figures ∙ sym at.known'.right.figures
+
+  pub kinds_own : shapes.kinds_of nodes id ≡ kinds_of (result_columns schema statement)
+  kinds_own = ap (λ (x : Shape). x.kinds) at.right.shape
+
+  can_wire : CanWireRoot schema nodes (root_of schema statement id)
+  can_wire =
+      let k = at.known' in
+      let same = k.right.shape ∙ sym at.right.shape in
+      record {
+        within = at.right.within;
+        leaves = subst (λ (x : Shape). AreStreamLeaves schema.streams x.leaves) same k.leaves;
+        named = record {
+          many' = k.many ∙ ap (λ (x : Shape). length x.kinds) same;
+          into = k.into;
+          columns = k.named;
+          distinct = k.columns.distinct;
+        };
+      }
+
+abbrev pub AllStand : List PlanNode → Schema → List Statement → List ℕ → Type 0
+AllStand nodes schema ss ids = AllZip (StandsAt nodes schema) ss ids
+
+-- ---- where all stand
+
+module _ (nodes : List PlanNode) (schema : Schema) where
+  ids_are : (ss : List Statement) (ids : List ℕ) → AllStand nodes schema ss ids → ids_of (roots_of schema ss ids) ≡ ids
+  ids_are [] [] all = refl
+  ids_are [] (id ∷ ids) all = absurd all
+  ids_are (s ∷ ss) [] all = absurd all
+  ids_are (s ∷ ss) (id ∷ ids) all = ap (λ (x : List ℕ). id ∷ x) (ids_are ss ids all.1)
+
+  intos_are : (ss : List Statement) (ids : List ℕ) → AllStand nodes schema ss ids → intos (result_names (roots_of schema ss ids)) ≡ names_of ss
+  intos_are [] [] all = refl
+  intos_are [] (id ∷ ids) all = absurd all
+  intos_are (s ∷ ss) [] all = absurd all
+  intos_are (s ∷ ss) (id ∷ ids) all = ap (λ (x : List (List ℕ)). s.name.text ∷ x) (intos_are ss ids all.1)
+
+  each_wires : (ss : List Statement) (ids : List ℕ) → AllStand nodes schema ss ids → AllByRecursion (CanWireRoot schema nodes) (roots_of schema ss ids)
+  each_wires [] [] all = tt
+  each_wires [] (id ∷ ids) all = absurd all
+  each_wires (s ∷ ss) [] all = absurd all
+  each_wires (s ∷ ss) (id ∷ ids) all = (can_wire nodes schema s id all.0, each_wires ss ids all.1)
+
+  pub can_wire_all : (figures : List Figures) (ss : List Statement) (ids : List ℕ) → CanStand schema ss → AreFigures nodes figures → AllStand nodes schema ss ids
+      → CanWireAll schema nodes figures (roots_of schema ss ids)
+  can_wire_all figures ss ids can figured all = record {
+    schema' = can.of_schema;
+    figured = figured;
+    each = each_wires ss ids all;
+    distinct = subst (λ (names : List (List ℕ)). IsDistinct bytes_eq names) (sym (intos_are ss ids all)) can.distinct;
+  }
+
+  pub all_accepted : (ss : List Statement) (ids : List ℕ) → AllStand nodes schema ss ids → AllByRecursion (IsAccepted schema) ss
+  all_accepted [] ids all = tt
+  all_accepted (s ∷ ss) [] all = absurd all
+  all_accepted (s ∷ ss) (id ∷ ids) all = (all.0.is.accepted, all_accepted ss ids all.1)
+
+  -- ---- figures
+
+  gap_own : (ss : List Statement) (ids : List ℕ) → AllStand nodes schema ss ids → gap_together nodes ids ≡ shared_gap schema ss
+  gap_own [] [] all = refl
+  gap_own [] (id ∷ ids) all = absurd all
+  gap_own (s ∷ ss) [] all = absurd all
+  gap_own (s ∷ ss) (id ∷ ids) all =
+      ap (λ (f : Figures). max f.gt (gap_together nodes ids)) (figures_own nodes schema s id all.0) ∙ ap (max (own_figures schema s).gt) (gap_own ss ids all.1)
+
+  widest_is : (ids : List ℕ) → widest_gap nodes ids ≡ gap_together nodes ids
+  widest_is [] = refl
+  widest_is (id ∷ ids) = ap (max (figures_of nodes id).gt) (widest_is ids)
+
+  pub widest_own : (ss : List Statement) (ids : List ℕ) → AllStand nodes schema ss ids → widest_gap nodes (ids_of (roots_of schema ss ids)) ≡ shared_gap schema ss
+  widest_own ss ids all = ap (widest_gap nodes) (ids_are ss ids all) ∙ widest_is ids ∙ gap_own ss ids all
+
+  latencies_own : (ss : List Statement) (ids : List ℕ) → AllStand nodes schema ss ids → map (latency_alone nodes) ids ≡ map (own_latency schema) ss
+  latencies_own [] [] all = refl
+  latencies_own [] (id ∷ ids) all = absurd all
+  latencies_own (s ∷ ss) [] all = absurd all
+  latencies_own (s ∷ ss) (id ∷ ids) all =
+      ap (λ (f : Figures). (f.le + 1) ∷ map (latency_alone nodes) ids) (figures_own nodes schema s id all.0) ∙ ap (λ (x : List ℕ). own_latency schema s ∷ x) (latencies_own ss ids all.1)
+
+-- ---- statements that can stand do, in their joint plan
+
+all_stand : (nodes : List PlanNode) (schema : Schema) (ss : List Statement) (ids : List ℕ) → AllByRecursion (IsChecked schema) ss → AllByRecursion IsNamed ss
+    → AllZip (IsRightAt nodes schema) ss ids → AllStand nodes schema ss ids
+all_stand nodes schema [] [] checked named right = tt
+all_stand nodes schema [] (id ∷ ids) checked named right = absurd right
+all_stand nodes schema (s ∷ ss) [] checked named right = absurd right
+all_stand nodes schema (s ∷ ss) (id ∷ ids) checked named right =
+    (record { is = checked.0; known' = known schema s checked.0 named.0; right = right.0 }, all_stand nodes schema ss ids checked.1 named.1 right.1)
+
+all_short : (nodes : List PlanNode) (ids : List ℕ) → AreAllSmall nodes → AllByRecursion (λ id. id < length nodes) ids
+    → AllByRecursion (λ latency. latency ≤ 2 ^ 32) (map (latency_alone nodes) ids)
+all_short nodes [] small within = tt
+all_short nodes (id ∷ ids) small within = let soon = (small id within.0).le in (omega (arith, soon), all_short nodes ids small within.1)
+
+module _ (schema : Schema) (ss : List Statement) (p : PlannedSeveral) (can : CanStand schema ss) (is : ArePlanned schema ss p) where
+  pub they_stand : AllStand p.plan schema ss p.roots.items
+  they_stand = subst (λ (all : Several). AllStand all.nodes schema ss all.roots) (sym is.at)
+      (all_stand _ schema ss _ can.checked can.named (several-right schema ss can.checked).each)
+
+  pub reads_ticks : Global → reads_time p.plan ≡ take_ticks ss
+  reads_ticks heap = ap (λ (all : Several). reads_time all.nodes) is.at ∙ several-time heap schema ss
+
+  pub latencies_are : p.latencies.items ≡ map (own_latency schema) ss
+  latencies_are = is.latencies' ∙ latencies_own p.plan schema ss p.roots.items they_stand
+
+  pub gap_is : p.gap ≡ shared_gap schema ss
+  gap_is = is.gap' ∙ gap_own p.plan schema ss p.roots.items they_stand
+
+  pub short : AllByRecursion (λ latency. latency ≤ 2 ^ 32) p.latencies.items
+  short =
+      let small = subst (λ (all : Several). AreAllSmall all.nodes) (sym is.at) is.limits.small in
+      subst (AllByRecursion (λ latency. latency ≤ 2 ^ 32)) (sym is.latencies') (all_short p.plan p.roots.items small is.within)

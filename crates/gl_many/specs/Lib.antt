@@ -1,0 +1,4 @@
+pub mod Meets
+pub mod Queries
+pub mod Compiles
+pub mod Roots

@@ -1,0 +1,84 @@
+-- What the text of several statements is: one module with the ports of the schema and of each result, every run of
+-- which, in any order of events, over any beats that keep the gap and from any start, is right for each statement as if
+-- it stood alone, within its own latency and with its own overflow line.
+use Rattle.std.specs.Prelude.{◌≡◌, ℕ, ◌+◌, ◌∷◌, ◌++◌, max, List, [], map, Bool, codes}
+use Rattle.std.specs.List.{AllByRecursion, flat_map, list_any}
+use Rattle.gl_schema.specs.declared.schema.Column.{Column}
+use Rattle.gl_schema.specs.declared.schema.Schema.{Schema}
+use Rattle.gl_schema.specs.Ports.{out_column}
+use Rattle.gl_schema.specs.Profile.{ProfilePort, clk, input, input_ports, output_ports}
+use Rattle.gl_schema.specs.Right.{IsRight}
+use Rattle.gl_query.specs.declared.tree.Statement.{Statement}
+use Rattle.gl_query.specs.Accepted.{IsAccepted}
+use Rattle.gl_query.specs.Results.{IsResult}
+use Rattle.gl_several_plan.specs.Together.{own_figures}
+use Rattle.gl_verilog.specs.Module.{Module}
+use Rattle.gl_verilog.specs.Text.{HasModule}
+use Rattle.gl_verilog_ports.specs.Profile.{declared, ports_of}
+use Rattle.gl_testbench.specs.Runs.{HasRunsOver}
+use Rattle.gl_emission.specs.Driven.{OverRuns}
+use Rattle.gl_emission.specs.Overflow.{TellsGroup}
+use Rattle.gl_emission.specs.Views.{seen_as, within}
+use Rattle.gl_compiler_text.specs.Meets.{result_columns, takes_ticks}
+
+-- ---- figures
+
+-- the cycles from the last beat to the end of a statement's result, whatever stands beside it
+abbrev pub own_latency : Schema → Statement → ℕ
+own_latency schema statement = (own_figures schema statement).le + 1
+
+-- the longest of several
+abbrev pub longest : Schema → List Statement → ℕ
+longest schema [] = 0
+longest schema (s ∷ ss) = max (own_latency schema s) (longest schema ss)
+
+-- the cycles from a beat to the next, at least, for all of them
+abbrev pub shared_gap : Schema → List Statement → ℕ
+shared_gap schema [] = 0
+shared_gap schema (s ∷ ss) = max (own_figures schema s).gt (shared_gap schema ss)
+
+-- ---- ports
+
+-- the circuit takes ticks where some statement has a window of time
+abbrev pub take_ticks : List Statement → Bool
+take_ticks statements = list_any takes_ticks statements
+
+-- the ports of a statement's columns, by the names that they have where it stands alone
+abbrev pub outs_of : Schema → Statement → List (List ℕ)
+outs_of schema statement = map (λ (c : Column). out_column c.name) (result_columns schema statement)
+
+-- a port of a result that stands beside others
+abbrev pub port_among : List ℕ → ProfilePort → ProfilePort
+port_among result p = record { direction = p.direction; name = within result p.name; width = p.width }
+
+-- the outputs of a statement: those that it has where it stands alone, with its name in theirs
+abbrev pub outputs_among : Schema → Statement → List ProfilePort
+outputs_among schema statement = map (port_among statement.name.text) (output_ports (result_columns schema statement))
+
+-- all ports but the clock: the inputs of the schema, with the tick where it is taken, and the outputs of each statement
+abbrev pub profile_of_all : Schema → List Statement → List ProfilePort
+profile_of_all schema statements =
+    input_ports (take_ticks statements) schema ++ flat_map (outputs_among schema) statements
+
+-- ---- the text
+
+-- over beats that keep the gap, and whatever drives the module, what is seen on the ports of a statement is right for
+-- it, within its own latency, and its overflow line never falls, and is 1 only where what has come has a result of this
+-- statement that spills
+pub record IsRightAmong (schema : Schema) (gap : ℕ) (design : Module) (statement : Statement) : Type 0 where
+  pub right : OverRuns design schema gap (λ beats port.
+      IsRight (IsResult schema statement) (own_latency schema statement) beats (outs_of schema statement)
+      (seen_as statement.name.text port))
+  pub group : OverRuns design schema gap (λ beats port.
+      TellsGroup (IsResult schema statement) beats (outs_of schema statement) (seen_as statement.name.text port))
+
+-- the text has one module, whose ports are in order the clock, the inputs of the schema and the outputs of each
+-- statement; there is a run of it from any start over any beats of the schema, and it is right for each statement
+pub record MeetTogether (schema : Schema) (statements : List Statement) (gap : ℕ) (text : List ℕ) : Type 0 where
+  pub accepted : AllByRecursion (IsAccepted schema) statements
+  pub design : Module
+  pub has : HasModule text design
+  pub name : design.name ≡ codes "q__many"
+  pub face : ports_of design ≡ map declared (input clk 1 ∷ profile_of_all schema statements)
+  pub runs : HasRunsOver design schema
+  pub each : AllByRecursion (IsRightAmong schema gap design) statements

@@ -1,0 +1,3 @@
+mod Shown
+pub mod Runs
+mod Each

@@ -1,0 +1,234 @@
+-- What passes does not stop a command, where the texts are told.
+use Rattle.std.proofs.Common.{◌≡◌, ◌≢◌, ℕ, List, Result, Ok, refl, sym, subst, ◌∙◌}
+use Rattle.gl_outside.specs.Told.{Told, Untold}
+use Rattle.gl_dumps.specs.Dumped.{OfLines}
+use Rattle.gl_dumps.specs.Reading.{dump_of}
+use Rattle.gl_schema.specs.declared.schema.Schema.{Schema}
+use Rattle.gl_schema.specs.declared.fault.SchemaFault.{SchemaFault}
+use Rattle.gl_schema.specs.SchemaFaults.{schema_of}
+use Rattle.gl_schema.specs.SchemaText.{IsSchemaText}
+use Rattle.gl_schema.proofs.Complete.{read_again}
+use Rattle.gl_query.specs.declared.tree.Statement.{Statement}
+use Rattle.gl_query.specs.Trees.{statement_tree}
+use Rattle.gl_query_judge.proofs.Judged.{one_meaning}
+use Rattle.gl_compiler_text.proofs.Planning.{gap_by_shape}
+use Rattle.gl_compiler_text.proofs.Shaped.{shapes_alike}
+use Rattle.gl_compiler_text.specs.Built.{gap_of}
+use Rattle.gl_query_compiler.specs.Queries.{IsQuery}
+use Rattle.gl_tuples.specs.declared.beats.Beat.{Beat}
+use Rattle.gl_tuples.specs.declared.fault.TupleFault.{TupleFault}
+use Rattle.gl_many.specs.Meets.{shared_gap}
+use Rattle.gl_many.specs.Queries.{AreQueries}
+use Rattle.gl_many.proofs.OneVerdict.{one_gap_of_all}
+use Rattle.gl_verilog.specs.Module.{Module}
+use Rattle.gl_verilog.specs.Text.{HasModule}
+use Rattle.gl_top_words.specs.declared.command.Command.TheVariants as command
+use Rattle.gl_top_words.specs.declared.command.Part.TheVariants as part
+use Rattle.gl_top_words.specs.Forms.{IsCommand, IsLoadOf, IsNamed, IsOfRun, name_of}
+use Rattle.gl_top_words.proofs.Named.{form_of, load_names_none, many_run_names_queries, named_form, one_query_part, queries_and_no_module, sim_names_no_query}
+use Rattle.gl_top_notes.specs.declared.refusal.Refusal.{Refusal}
+use Rattle.gl_top_texts.specs.Texts.{HasText, SchemaPasses}
+use Rattle.gl_top_judging.specs.Passing.{AsksGap, FilePasses, ModulePasses, OfAll, OfOne, QueriesPass, QueryPasses, kept_beats}
+use Rattle.gl_top_judging.specs.Readings.{One, Several}
+use Rattle.gl_top_judging.proofs.Modules.{module_goes}
+use Rattle.gl_top_judging.proofs.Texts.{asks_named, asks_schema, run_names_query, sim_names_module, sim_names_tuples}
+use Rattle.gl_top.specs.Verdicts.{AllPass, IsTelling, IsUndumped, Loads, OfFile, Three, ThreeOfAll, Two, TwoOfAll, Undumps}
+use Rattle.gl_top.proofs.Dumps.{DumpFails, no_dump, undump_names}
+use Rattle.gl_top.proofs.Failing.{Failing, FailsAt, Fine, no_error, not_both, weaker, with_both}
+use Rattle.gl_top.proofs.Stopping.{AtDump, AtFile, AtModule, AtQuery, AtSchema, AtSecond, AtThird, AtTuples, AtWords, ModuleFails, QueryFails, SchemaFails, SecondStops, Stops, ThirdStops, TuplesFail, filed, queries_out, query_out}
+
+-- ---- one schema, one gap
+
+same_schema : (s t : Schema) (text : List ℕ) → IsSchemaText text s → IsSchemaText text t → s ≡ t
+same_schema s t text a b = let e : ◌≡◌ {A = Result Schema SchemaFault} (Ok s) (Ok t) = sym (read_again text s a) ∙ read_again text t b in cc
+
+pub one_schema : (told : List ℕ → Told) (words : List (List ℕ)) (s t : Schema) → IsTelling told words → SchemaPasses told words s → SchemaPasses told words t → s ≡ t
+one_schema told words s t tells a b = with_both (told (name_of words part.Schema)) (λ text. IsSchemaText text s) (λ text. IsSchemaText text t) (tells part.Schema a.named) a.text b.text (same_schema s t)
+
+-- its statements have one gap
+same_gap : (s : Schema) (st st' : Statement) (text : List ℕ) → IsQuery s text st → IsQuery s text st' → gap_of s st ≡ gap_of s st'
+same_gap s st st' text p q =
+    gap_by_shape s st st' (shapes_alike st st' (one_meaning text (statement_tree st) (statement_tree st') p.has q.has))
+
+one_gap : (told : List ℕ → Told) (words : List (List ℕ)) (s : Schema) (st st' : Statement) → IsTelling told words → QueryPasses told words s st → QueryPasses told words s st' → gap_of s st ≡ gap_of s st'
+one_gap told words s st st' tells p q =
+    with_both (told (name_of words part.Query)) (λ text. IsQuery s text st) (λ text. IsQuery s text st') (tells part.Query p.named) p.text q.text (same_gap s st st')
+
+one_gap_for_all : (told : List ℕ → Told) (words : List (List ℕ)) (s : Schema) (sts sts' : List Statement) → IsTelling told words → QueriesPass told words s sts → QueriesPass told words s sts' → shared_gap s sts ≡ shared_gap s sts'
+one_gap_for_all told words s sts sts' tells p q =
+    with_both (told (name_of words part.Queries)) (λ text. AreQueries s text sts) (λ text. AreQueries s text sts') (tells part.Queries p.named) p.text q.text (λ text. one_gap_of_all s text sts sts')
+
+-- words name one query, or several
+pub not_both_named : (words : List (List ℕ)) {A : Type 0} → IsNamed words part.Query → IsNamed words part.Queries → A
+not_both_named words one several = absurd (one_query_part words one several)
+
+-- so a tuple file is asked for one gap
+asked_gap : (told : List ℕ → Told) (words : List (List ℕ)) (s : Schema) (m n : ℕ) → IsTelling told words → AsksGap told words s m → AsksGap told words s n → m ≡ n
+asked_gap told words s m n tells (OfOne runs st p e) (OfOne runs' st' q h) = e ∙ one_gap told words s st st' tells p q ∙ sym h
+asked_gap told words s m n tells (OfOne runs st p e) (OfAll runs' sts q h) = not_both_named words p.named q.named
+asked_gap told words s m n tells (OfAll runs sts p e) (OfOne runs' st q h) = not_both_named words q.named p.named
+asked_gap told words s m n tells (OfAll runs sts p e) (OfAll runs' sts' q h) = e ∙ one_gap_for_all told words s sts sts' tells p q ∙ sym h
+
+-- ---- what passes does not stop
+
+-- a query passes, or several do
+pub data Passed (told : List ℕ → Told) (words : List (List ℕ)) (s : Schema) : Type 0 where
+  PassedOne : (st : Statement) (passes : QueryPasses told words s st) → Passed told words s
+  PassedAll : (sts : List Statement) (passes : QueriesPass told words s sts) → Passed told words s
+
+asked_passed : (told : List ℕ → Told) (words : List (List ℕ)) (s : Schema) (gap : ℕ) → AsksGap told words s gap → Passed told words s
+asked_passed told words s gap (OfOne runs st passes is) = PassedOne st passes
+asked_passed told words s gap (OfAll runs sts passes is) = PassedAll sts passes
+
+passed_schema : (told : List ℕ → Told) (words : List (List ℕ)) (s : Schema) → Passed told words s → SchemaPasses told words s
+passed_schema told words s (PassedOne st p) = p.before
+passed_schema told words s (PassedAll sts p) = p.before
+
+-- a text of some schema
+abbrev IsText : List ℕ → Type 0
+IsText text = (s : Schema) × IsSchemaText text s
+
+pub schema_goes : (told : List ℕ → Told) (words : List (List ℕ)) (s : Schema) (a : Refusal) {A : Type 0} → IsTelling told words → SchemaPasses told words s → FailsAt told words part.Schema SchemaFails a → A
+schema_goes told words s a tells p f =
+    absurd (not_both (told (name_of words part.Schema)) part.Schema IsText SchemaFails a (tells part.Schema p.named) (λ text is fails. no_error (schema_of text) is.0 fails.fault (read_again text is.0 is.1) fails.found)
+    (weaker (told (name_of words part.Schema)) (λ text. IsSchemaText text s) IsText (λ text h. (s, h)) p.text) f)
+
+query_goes : (told : List ℕ → Told) (words : List (List ℕ)) (s t : Schema) (st : Statement) (a : Refusal) {A : Type 0} → IsTelling told words → QueryPasses told words s st → SchemaPasses told words t
+    → FailsAt told words part.Query (QueryFails One t) a → A
+query_goes told words s t st a tells p q f =
+    let e : t ≡ s = one_schema told words t s tells q p.before in
+    absurd (not_both (told (name_of words part.Query)) part.Query (λ text. IsQuery s text st) (QueryFails One s) a (tells part.Query p.named) (query_out s st a p.before.fine) p.text
+    (subst (λ (x : Schema). FailsAt told words part.Query (QueryFails One x) a) e f))
+
+queries_go : (told : List ℕ → Told) (words : List (List ℕ)) (s t : Schema) (sts : List Statement) (a : Refusal) {A : Type 0} → IsTelling told words → QueriesPass told words s sts → SchemaPasses told words t
+    → FailsAt told words part.Queries (QueryFails Several t) a → A
+queries_go told words s t sts a tells p q f =
+    let e : t ≡ s = one_schema told words t s tells q p.before in
+    absurd (not_both (told (name_of words part.Queries)) part.Queries (λ text. AreQueries s text sts) (QueryFails Several s) a (tells part.Queries p.named) (queries_out s sts a) p.text
+    (subst (λ (x : Schema). FailsAt told words part.Queries (QueryFails Several x) a) e f))
+
+module_passed : (told : List ℕ → Told) (words : List (List ℕ)) (s t : Schema) (m : Module) (a : Refusal) {A : Type 0} → IsTelling told words → ModulePasses told words s m → SchemaPasses told words t
+    → FailsAt told words part.Module (ModuleFails t) a → A
+module_passed told words s t m a tells p q f =
+    let e : t ≡ s = one_schema told words t s tells q p.before in
+    absurd (not_both (told (name_of words part.Module)) part.Module (λ text. HasModule text m) (ModuleFails s) a (tells part.Module (sim_names_module words p.sims))
+    (λ text has fails. module_goes s text m p.ports fails.fault has p.fits fails.found) p.text
+    (subst (λ (x : Schema). FailsAt told words part.Module (ModuleFails x) a) e f))
+
+-- a text of queries is none of `sim`
+passed_no_sim : (told : List ℕ → Told) (words : List (List ℕ)) (s : Schema) {A : Type 0} → Passed told words s → IsCommand words command.Sim → A
+passed_no_sim told words s (PassedOne st p) sims = absurd (sim_names_no_query words sims p.named)
+passed_no_sim told words s (PassedAll sts p) sims = absurd (queries_and_no_module words p.named (sim_names_module words sims))
+
+pub asks_no_sim : (told : List ℕ → Told) (words : List (List ℕ)) (s : Schema) (gap : ℕ) {A : Type 0} → AsksGap told words s gap → IsCommand words command.Sim → A
+asks_no_sim told words s gap asks sims = passed_no_sim told words s (asked_passed told words s gap asks) sims
+
+passed_no_dump : (told : List ℕ → Told) (words : List (List ℕ)) (s : Schema) → Passed told words s → IsNamed words part.Dump → ⊥
+passed_no_dump told words s p named = no_dump words part.Schema refl (passed_schema told words s p).named named
+
+-- what passed behind the schema does not stop there
+query_second : (told : List ℕ → Told) (words : List (List ℕ)) (s t : Schema) (a : Refusal) {A : Type 0} → IsTelling told words → Passed told words s → SchemaPasses told words t → SecondStops told words t a → A
+query_second told words s t a tells (PassedOne st p) q (AtQuery One named f) = query_goes told words s t st a tells p q f
+query_second told words s t a tells (PassedOne st p) q (AtQuery Several named f) = not_both_named words p.named named
+query_second told words s t a tells (PassedAll sts p) q (AtQuery One named f) = not_both_named words named p.named
+query_second told words s t a tells (PassedAll sts p) q (AtQuery Several named f) = queries_go told words s t sts a tells p q f
+query_second told words s t a tells p q (AtModule sims f) = passed_no_sim told words s p sims
+
+module_second : (told : List ℕ → Told) (words : List (List ℕ)) (s t : Schema) (m : Module) (a : Refusal) {A : Type 0} → IsTelling told words → ModulePasses told words s m → SchemaPasses told words t → SecondStops told words t a → A
+module_second told words s t m a tells p q (AtQuery One named f) = absurd (sim_names_no_query words p.sims named)
+module_second told words s t m a tells p q (AtQuery Several named f) = absurd (queries_and_no_module words named (sim_names_module words p.sims))
+module_second told words s t m a tells p q (AtModule sims f) = module_passed told words s t m a tells p q f
+
+pub third_second : (told : List ℕ → Told) (words : List (List ℕ)) (s t : Schema) (a b : Refusal) {A : Type 0} → IsTelling told words → ThirdStops told words s a → SchemaPasses told words t → SecondStops told words t b → A
+third_second told words s t a b tells (AtTuples gap asks f) q h = query_second told words s t b tells (asked_passed told words s gap asks) q h
+third_second told words s t a b tells (AtFile m p f) q h = module_second told words s t m b tells p q h
+
+-- the gap of other statements of the texts
+pub other_gap : (told : List ℕ → Told) (words : List (List ℕ)) (s t : Schema) (m n : ℕ) → IsTelling told words → AsksGap told words s m → AsksGap told words t n
+    → (a : Refusal) → FailsAt told words part.Tuples (TuplesFail (kept_beats t n)) a → FailsAt told words part.Tuples (TuplesFail (kept_beats s m)) a
+other_gap told words s t m n tells p q a f =
+    let e : t ≡ s = one_schema told words t s tells (asks_schema told words t n q) (asks_schema told words s m p) in
+    let q' : AsksGap told words s n = subst (λ (x : Schema). AsksGap told words x n) e q in
+    subst (λ (gap : ℕ). FailsAt told words part.Tuples (TuplesFail (kept_beats s gap)) a) (asked_gap told words s n m tells q' p)
+    (subst (λ (x : Schema). FailsAt told words part.Tuples (TuplesFail (kept_beats x n)) a) e f)
+
+-- the same file over another schema of the texts
+pub other_file : (told : List ℕ → Told) (words : List (List ℕ)) (s t : Schema) → IsTelling told words → SchemaPasses told words s → SchemaPasses told words t
+    → (a : Refusal) → FailsAt told words part.Tuples (TuplesFail (filed t)) a → FailsAt told words part.Tuples (TuplesFail (filed s)) a
+other_file told words s t tells p q a f =
+    let e : t ≡ s = one_schema told words t s tells q p in
+    subst (λ (x : Schema). FailsAt told words part.Tuples (TuplesFail (filed x)) a) e f
+
+abbrev AreTuples : (List ℕ → Result (List Beat) TupleFault) → List ℕ → Type 0
+AreTuples read text = (beats : List Beat) × (read text ≡ Ok beats)
+
+-- beats that are there do not fail
+beats_go : (t : Told) (read : List ℕ → Result (List Beat) TupleFault) (beats : List Beat) (a : Refusal) → t ≢ Untold → Fine t (λ text. read text ≡ Ok beats) → Failing t part.Tuples (TuplesFail read) a → ⊥
+beats_go t read beats a told fine f =
+    not_both t part.Tuples (AreTuples read) (TuplesFail read) a told (λ text is fails. no_error (read text) is.0 fails.fault is.1 fails.found)
+    (weaker t (λ text. read text ≡ Ok beats) (AreTuples read) (λ text h. (beats, h)) fine) f
+
+tuples_third : (told : List ℕ → Told) (words : List (List ℕ)) (s t : Schema) (gap : ℕ) (beats : List Beat) (a : Refusal) → IsTelling told words → AsksGap told words s gap → HasText told words part.Tuples (λ text. kept_beats s gap text ≡ Ok beats)
+    → ThirdStops told words t a → ⊥
+tuples_third told words s t gap beats a tells asks fine (AtTuples n q f) =
+    beats_go (told (name_of words part.Tuples)) (kept_beats s gap) beats a (tells part.Tuples (asks_named told words s gap asks)) fine (other_gap told words s t gap n tells asks q a f)
+tuples_third told words s t gap beats a tells asks fine (AtFile m q f) = asks_no_sim told words s gap asks q.sims
+
+file_third : (told : List ℕ → Told) (words : List (List ℕ)) (s t : Schema) (m : Module) (beats : List Beat) (a : Refusal) → IsTelling told words → FilePasses told words s m beats → ThirdStops told words t a → ⊥
+file_third told words s t m beats a tells p (AtTuples gap asks f) = asks_no_sim told words t gap asks p.before.sims
+file_third told words s t m beats a tells p (AtFile n q f) =
+    beats_go (told (name_of words part.Tuples)) (filed s) beats a (tells part.Tuples (sim_names_tuples words q.sims)) p.text (other_file told words s t tells p.before.before q.before a f)
+
+-- queries pass, and the words run nothing
+no_third : (told : List ℕ → Told) (words : List (List ℕ)) (s t : Schema) (a : Refusal) → Passed told words s → (IsOfRun words → ⊥) → (IsCommand words command.ManyRun → ⊥) → ThirdStops told words t a → ⊥
+no_third told words s t a p one several (AtTuples gap (OfOne runs st q is) f) = one runs
+no_third told words s t a p one several (AtTuples gap (OfAll runs sts q is) f) = several runs
+no_third told words s t a p one several (AtFile m q f) = passed_no_sim told words s p q.sims
+
+two_go : (told : List ℕ → Told) (words : List (List ℕ)) (s : Schema) (a : Refusal) → IsTelling told words → Passed told words s → (IsOfRun words → ⊥) → (IsCommand words command.ManyRun → ⊥) → Stops told words a → ⊥
+two_go told words s a tells p one several (AtWords n e) = n (named_form words part.Schema (passed_schema told words s p).named)
+two_go told words s a tells p one several (AtSchema named f) = schema_goes told words s a tells (passed_schema told words s p) f
+two_go told words s a tells p one several (AtSecond t q h) = query_second told words s t a tells p q h
+two_go told words s a tells p one several (AtThird t q h) = no_third told words s t a p one several h
+two_go told words s a tells p one several (AtDump named f) = passed_no_dump told words s p named
+
+three_go : (told : List ℕ → Told) (words : List (List ℕ)) (s : Schema) (gap : ℕ) (beats : List Beat) (a : Refusal) → IsTelling told words → AsksGap told words s gap → HasText told words part.Tuples (λ text. kept_beats s gap text ≡ Ok beats) → Stops told words a → ⊥
+three_go told words s gap beats a tells asks fine (AtWords n e) = n (named_form words part.Tuples (asks_named told words s gap asks))
+three_go told words s gap beats a tells asks fine (AtSchema named f) = schema_goes told words s a tells (asks_schema told words s gap asks) f
+three_go told words s gap beats a tells asks fine (AtSecond t q h) = query_second told words s t a tells (asked_passed told words s gap asks) q h
+three_go told words s gap beats a tells asks fine (AtThird t q h) = tuples_third told words s t gap beats a tells asks fine h
+three_go told words s gap beats a tells asks fine (AtDump named f) = passed_no_dump told words s (asked_passed told words s gap asks) named
+
+file_goes : (told : List ℕ → Told) (words : List (List ℕ)) (s : Schema) (m : Module) (beats : List Beat) (a : Refusal) → IsTelling told words → FilePasses told words s m beats → Stops told words a → ⊥
+file_goes told words s m beats a tells p (AtWords n e) = n (form_of words command.Sim p.before.sims)
+file_goes told words s m beats a tells p (AtSchema named f) = schema_goes told words s a tells p.before.before f
+file_goes told words s m beats a tells p (AtSecond t q h) = module_second told words s t m a tells p.before q h
+file_goes told words s m beats a tells p (AtThird t q h) = file_third told words s t m beats a tells p h
+file_goes told words s m beats a tells p (AtDump named f) = no_dump words part.Schema refl p.before.before.named named
+
+-- a load names no text that could
+pub load_goes : (told : List ℕ → Told) (words : List (List ℕ)) (count : ℕ) (a : Refusal) → IsLoadOf words count → Stops told words a → ⊥
+load_goes told words count a is (AtWords n e) = n (form_of words command.Load is.loads)
+load_goes told words count a is (AtSchema named f) = load_names_none words part.Schema is.loads named
+load_goes told words count a is (AtSecond s p h) = load_names_none words part.Schema is.loads p.named
+load_goes told words count a is (AtThird s p h) = load_names_none words part.Schema is.loads p.named
+load_goes told words count a is (AtDump named f) = load_names_none words part.Dump is.loads named
+
+-- nor does a dump that is read
+pub dump_goes : (told : List ℕ → Told) (words : List (List ℕ)) (bytes : List ℕ) (a : Refusal) → IsTelling told words → IsUndumped told words bytes → Stops told words a → ⊥
+dump_goes told words bytes a tells d (AtWords n e) = n (form_of words command.Undump d.is)
+dump_goes told words bytes a tells d (AtSchema named f) = no_dump words part.Schema refl named (undump_names words d.is)
+dump_goes told words bytes a tells d (AtSecond s p h) = no_dump words part.Schema refl p.named (undump_names words d.is)
+dump_goes told words bytes a tells d (AtThird s p h) = no_dump words part.Schema refl p.named (undump_names words d.is)
+dump_goes told words bytes a tells d (AtDump named f) =
+    not_both (told (name_of words part.Dump)) part.Dump (λ text. OfLines text (λ lines. bytes ≡ lines)) DumpFails a (tells part.Dump named)
+    (λ text is fails. no_error (dump_of text) is.dump fails.fault is.reads fails.found) d.text f
+
+pub passes_goes : (told : List ℕ → Told) (words : List (List ℕ)) (a : Refusal) → IsTelling told words → AllPass told words → Stops told words a → ⊥
+passes_goes told words a tells (Two s st p other) h = two_go told words s a tells (PassedOne st p) other (λ runs. one_query_part words p.named (many_run_names_queries words runs)) h
+passes_goes told words a tells (Three s st beats p) h = three_go told words s (gap_of s st) beats a tells (OfOne p.runs st p.before refl) p.text h
+passes_goes told words a tells (TwoOfAll s sts p other) h = two_go told words s a tells (PassedAll sts p) (λ runs. one_query_part words (run_names_query words runs) p.named) other h
+passes_goes told words a tells (ThreeOfAll s sts beats p) h = three_go told words s (shared_gap s sts) beats a tells (OfAll p.runs sts p.before refl) p.text h
+passes_goes told words a tells (OfFile s m beats p) h = file_goes told words s m beats a tells p h
+passes_goes told words a tells (Loads count is) h = load_goes told words count a is h
+passes_goes told words a tells (Undumps bytes d) h = dump_goes told words bytes a tells d h

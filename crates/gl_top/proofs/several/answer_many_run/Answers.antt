@@ -1,0 +1,17 @@
+use Rattle.std.proofs.Common.{inl}
+use Rattle.gl_outside.proofs.Takes.{took_none}
+use Rattle.gl_top_judging.specs.Causes.{change}
+use Rattle.gl_top.specs.Verdicts.{Refused}
+use Rattle.gl_top.proofs.several.answer_many_run.Goals as goal
+
+pub returns-in-Ok : goal.returns-in-Ok
+returns-in-Ok g c = c.keep_and_run_all.ensures (change _ _) c.in-Ok.ensures.ready c.in-Ok.ensures.leaves
+
+pub returns-in-Err : goal.returns-in-Err
+returns-in-Err g c = Refused (record {
+  refusal = c.in-Err.refusal;
+  cause = c.in-Err.ensures.leaves;
+  untouched = took_none _;
+  noted = c.tell.ensures;
+  left = inl c.requires.empty;
+})
