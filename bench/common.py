@@ -43,9 +43,9 @@ def timed(words):
     return seconds, [line for line in ran.stdout.decode().splitlines(True) if not line.startswith('- ')]
 
 
-def compiled(program, files, room):
-    """The file in the room with the Verilog text of a query, and the text; or None, and what is told of the refusal."""
-    said = subprocess.run([program, 'compile', *files], stdout=subprocess.PIPE, stderr=subprocess.PIPE, text=True)
+def compiled(program, files, room, command='compile'):
+    """The file in the room with the Verilog text of a query, or of several by `many`, and the text; or None, and what is told of the refusal."""
+    said = subprocess.run([program, command, *files], stdout=subprocess.PIPE, stderr=subprocess.PIPE, text=True)
     if said.returncode:
         return None, said.stderr.strip()
     with open(f'{room}/design.v', 'w') as f:
@@ -103,14 +103,16 @@ def inputs_of(schema, ticks=False):
     return ports + [('tick', 1)] * ticks
 
 
-def harness(module, schema, outs, shown, steps, more=(), ticks=False):
+def harness(module, schema, outs, shown, steps, more=(), ticks=False, results=('',)):
     """A testbench: `shown` is what is done with outputs in the middle of a cycle, `steps` sets the inputs right behind the edge that begins one,
-    `more` stands behind the declarations, `ticks` says whether the module has the port of ticks."""
+    `more` stands behind the declarations, `ticks` says whether the module has the port of ticks. `results` are what stands behind `out__` and
+    `fault__` in the names of each result's lines."""
+    told = [f'{front}__{result}{line}' for result in results for front, line in (('out', 'valid'), ('out', 'eos'), ('fault', 'group'), ('fault', 'queue'))]
     inputs = inputs_of(schema, ticks)
     lines = ['module testbench;', 'reg clk = 0, rst = 1, eos = 0, told = 0;', 'integer cycle = -1;']
     lines += [f'reg [{w - 1}:0] {name} = 0;' for name, w in inputs]
-    lines += ['wire out__valid, out__eos, fault__group, fault__queue;'] + [f'wire [{w - 1}:0] {name};' for name, w in outs] + list(more)
-    names = ['clk', 'rst'] + [n for n, _ in inputs] + ['eos', 'out__valid'] + [n for n, _ in outs] + ['out__eos', 'fault__group', 'fault__queue']
+    lines += ['wire ' + ', '.join(told) + ';'] + [f'wire [{w - 1}:0] {name};' for name, w in outs] + list(more)
+    names = ['clk', 'rst'] + [n for n, _ in inputs] + ['eos'] + told + [n for n, _ in outs]
     lines += [f'{module} unit(' + ', '.join(f'.{n}({n})' for n in names) + ');', 'always #5 clk = ~clk;', 'always @(negedge clk) if (!rst) begin']
     lines += shown + ['end', 'always @(posedge clk) #1 begin', 'cycle = cycle + 1; rst = 0; eos = 0;']
     lines += [f'{name} = 0;' for name, _ in inputs] + steps

@@ -48,6 +48,12 @@ QUERIES = {
     'concat': ('SELECT sum(price) AS p FROM trades CONCAT SELECT count() AS n FROM quotes INTO r', TUPLES),
 }
 
+# Queries for one module: two that share what they filter, and one with groups.
+MANY = '''SELECT price FROM trades WHERE symbol = 'UBSN' INTO a;
+SELECT count() AS n FROM trades WHERE symbol = 'UBSN' INTO b; -- and; last
+SELECT symbol, sum(price) AS s FROM trades GROUP BY symbol GROUPS 4 INTO c
+'''
+
 
 def cases():
     """The name of each case, the words and the texts by the names that stand in the words."""
@@ -63,6 +69,9 @@ def cases():
     for name in ('windows', 'groups'):
         yield f'vcd, {name}', ['vcd', 'S', 'Q', 'T'], {'S': SCHEMA, 'Q': QUERIES[name][0], 'T': QUERIES[name][1]}
     yield 'undump', ['undump', 'D'], SMALL
+    for word in ('many', 'manyfigures'):
+        yield word, [word, 'S', 'M'], {'S': SCHEMA, 'M': MANY}
+    yield 'manyrun', ['manyrun', 'S', 'M', 'T'], {'S': SCHEMA, 'M': MANY, 'T': TUPLES}
 
 
 def put(room, texts):
