@@ -11,9 +11,8 @@ use Rattle.gl_algebra.proofs.FigureLemmas.{figures-kept}
 use Rattle.gl_algebra.proofs.PlanLemmas.{in_order}
 use Rattle.gl_algebra.proofs.ResultLemmas.{meaning-kept, moved}
 use Rattle.gl_algebra.proofs.ShapeLemmas.{shape-kept}
-use Rattle.gl_elaborate.specs.Laws.{AreRightTogether, IsRightAt, SeveralAreRight, leaf_inputs}
+use Rattle.gl_elaborate.specs.Laws.{IsRightAt, SeveralAreRight, leaf_inputs}
 use Rattle.gl_elaborate.specs.Plans.{Several, plan_behind, plans_of}
-use Rattle.gl_elaborate.proofs.PlacedLemmas.{IsOver}
 use Rattle.gl_elaborate.proofs.StatementLemmas.{empty, right-behind}
 
 -- a plan that has the nodes of another in front has what stood there

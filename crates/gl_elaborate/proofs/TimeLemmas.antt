@@ -1,7 +1,6 @@
 -- The nodes of a query's plan read the time exactly where the query does.
 use Rattle.std.proofs.Common.{◌≡◌, ℕ, zero, suc, ◌+◌, Bool, true, false, List, [], ◌∷◌, length, Option, Some, None, inl, inr, refl, sym, ap, ◌∙◌, map, slice_get}
 use Rattle.std.specs.Prelude.{◌||◌, option_map}
-use Rattle.std.specs.List.{list_any}
 use Rattle.std.proofs.lemmas.List.Folds.{list_any-append}
 use Rattle.gl_bits.proofs.Bools.{or_join, or_none}
 use Rattle.gl_schema.specs.declared.schema.Column.{Column as NamedColumn}

@@ -1,5 +1,5 @@
 -- The plan of a query: its source first, then its body, then its own nodes, each added to a plan.
-use Rattle.std.specs.Prelude.{ℕ, zero, suc, ◌+◌, List, [], ◌∷◌, ◌++◌, map, length, Option, Some, None, option_map, option_to_list, bytes_eq}
+use Rattle.std.specs.Prelude.{◌≡◌, ℕ, zero, suc, ◌+◌, List, [], ◌∷◌, ◌++◌, map, length, take, Option, Some, None, option_map, option_to_list, bytes_eq}
 use Rattle.std.specs.List.{position_or_len, range_with_len}
 use Rattle.gl_bits.specs.Words.{Word}
 use Rattle.gl_bits.specs.Kinds.{width_of}
@@ -192,6 +192,10 @@ plan_behind nodes schema statement =
 -- the plan of a statement
 abbrev pub plan_of : Schema → Statement → Placed
 plan_of schema statement = plan_behind [] schema statement
+
+-- the nodes that a plan had are still there, and others may stand behind them
+pub record Keeps (old new : List PlanNode) : Type 0 where
+  pub front : take (length old) new ≡ old
 
 -- the nodes of several statements, and the root of each
 pub record Several : Type 0 where

@@ -9,7 +9,7 @@ ghost use Rattle.gl_algebra.specs.Added.{added, placed_at};
 ghost use Rattle.gl_algebra.specs.Fits.{IsPlan};
 ghost use Rattle.gl_algebra.specs.declared.node.PlanNode.TheVariants as node;
 ghost use Rattle.gl_elaborate.specs.Fitting.{CanPlace, FitsNext, PlacedFit};
-ghost use Rattle.gl_elaborate.specs.Plans.{placed, plan_behind, plan_of, window_node};
+ghost use Rattle.gl_elaborate.specs.Plans.{placed, plan_behind, plan_of, window_node, Keeps};
 ghost use Rattle.gl_elaborate.specs.Sources.{read_of};
 
 use crate::levels::put;
@@ -39,8 +39,9 @@ fn put_window(
     requires most_size { size ≤ 65536 }
     requires most_advance { advance ≤ 65536 }
     requires fits { FitsNext plan.old (window_node measure source body size advance) }
-    ensures { IfOk result (λ id.
+    ensures added { IfOk result (λ id.
         placed_at plan.new id ≡ added plan.old (window_node measure source body size advance)) }
+    ensures keeps { Keeps plan.old plan.new }
 {
     let size = size as u32;
     let advance = advance as u32;
@@ -77,8 +78,9 @@ fn put_group(
     requires most_key { key ≤ 255 }
     requires most_groups { groups ≤ 256 }
     requires fits { FitsNext plan.old (node.Group source body key groups) }
-    ensures { IfOk result (λ id.
+    ensures added { IfOk result (λ id.
         placed_at plan.new id ≡ added plan.old (node.Group source body key groups)) }
+    ensures keeps { Keeps plan.old plan.new }
 {
     let key = key as u8;
     let groups = groups as u16;
@@ -108,9 +110,10 @@ fn put_partition(
     requires most_size { size ≤ 65536 }
     requires most_advance { advance ≤ 65536 }
     requires fits { FitsNext plan.old (node.Partition source body key groups size advance) }
-    ensures { IfOk result (λ id.
+    ensures added { IfOk result (λ id.
         placed_at plan.new id
         ≡ added plan.old (node.Partition source body key groups size advance)) }
+    ensures keeps { Keeps plan.old plan.new }
 {
     let key = key as u8;
     let groups = groups as u16;
@@ -145,6 +148,7 @@ pub fn query_into(
         (query_shape query.now) plan.old) }
     ensures columns { IfOk result (λ r.
         r.1 ≡ columns_of (scope_of sources.entry).sources (query_shape query.now)) }
+    ensures keeps { Keeps plan.old plan.new }
 {
     match query {
         Query::Read(name) => {
@@ -254,7 +258,7 @@ pub fn query_into(
 }
 
 /// Adds the plan of a checked statement to a plan, exactly `plan_behind`, and answers its root. Only want of
-/// memory may come in its place; nodes may have been added then.
+/// memory may come in its place; nodes may have been added then, and none is changed.
 pub fn elaborate_into(alloc: Global, checked: &Checked, plan: &mut Plan) -> Result<PlanId, Memory>
     requires checked { IsChecked checked.now.schema checked.now.statement }
     requires plan { IsPlan plan.old }
@@ -263,6 +267,7 @@ pub fn elaborate_into(alloc: Global, checked: &Checked, plan: &mut Plan) -> Resu
         ≡ plan_behind plan.old checked.now.schema checked.now.statement) }
     ensures within { IfOk result (λ root. root < length plan.new) }
     ensures is { OnOk result (IsPlan plan.new) }
+    ensures keeps { Keeps plan.old plan.new }
 {
     let sources = Sources::Schema(checked.schema.streams.as_slice());
     let (root, _columns) = query_into(alloc, sources, &checked.statement.query, plan)?;

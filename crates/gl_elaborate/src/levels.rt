@@ -4,7 +4,7 @@ ghost use Rattle.std.specs.Prelude.{◌≡◌, ◌+◌, ◌<◌, ◌≤◌, ◌�
 ghost use Rattle.gl_algebra.specs.Added.{added, placed_at};
 ghost use Rattle.gl_elaborate.specs.Terms.{depth_of_all, ops_in_all};
 ghost use Rattle.gl_elaborate.specs.Trees.{term};
-ghost use Rattle.gl_elaborate.specs.Plans.{levelled, levelled_at, with_filter};
+ghost use Rattle.gl_elaborate.specs.Plans.{levelled, levelled_at, with_filter, Keeps};
 ghost use Rattle.gl_elaborate.specs.Fitting.{FitsNext, IsStep, LevelledFit};
 
 use crate::{Tree, are_flat, is_flat, level_over, ops_of, reduce_all, reduce_some};
@@ -15,7 +15,8 @@ use std::alloc::Global;
 /// Adds a node that fits.
 pub fn put(plan: &mut Plan, node: PlanNode) -> Result<PlanId, Memory>
     requires { FitsNext plan.old node }
-    ensures { IfOk result (λ id. placed_at plan.new id ≡ added plan.old node) }
+    ensures added { IfOk result (λ id. placed_at plan.new id ≡ added plan.old node) }
+    ensures keeps { Keeps plan.old plan.new }
 {
     plan.add(node)
 }
@@ -43,9 +44,10 @@ fn add_level(
         (map term items.old) (option_map term filter.old) }
     requires room { base
         + ops_in_all (with_filter (map term items.old) (option_map term filter.old)) < 65536 }
-    ensures { IfOk result (λ r.
+    ensures step { IfOk result (λ r.
         IsStep base (placed_at plan.old at) (map term items.old) (option_map term filter.old)
         r.1 (placed_at plan.new r.0) (map term items.new) (option_map term filter.new)) }
+    ensures keeps { Keeps plan.old plan.new }
 {
     let level = level_over(alloc, items, filter)?;
     let ops = ops_of(alloc, &level)?;
@@ -69,9 +71,10 @@ pub fn levelled(
         (map term items.old) (option_map term filter.old) }
     requires room { base
         + ops_in_all (with_filter (map term items.old) (option_map term filter.old)) < 65536 }
-    ensures { IfOk result (λ id.
+    ensures levels { IfOk result (λ id.
         levelled_at plan.new id (map term items.new) (option_map term filter.new)
         ≡ levelled base (placed_at plan.old at) (map term items.old) (option_map term filter.old)) }
+    ensures keeps { Keeps plan.old plan.new }
 {
     if are_done(items, filter) {
         return Ok(at);

@@ -11,7 +11,7 @@ ghost use Rattle.gl_algebra.specs.Added.{placed_at};
 ghost use Rattle.gl_elaborate.specs.Terms.{IsTerm, Column as TermColumn};
 ghost use Rattle.gl_elaborate.specs.Levels.{operand_of};
 ghost use Rattle.gl_elaborate.specs.Trees.{term};
-ghost use Rattle.gl_elaborate.specs.Plans.{column_under, condition_of, filter_of, picked_terms, projected, rows_over, selected};
+ghost use Rattle.gl_elaborate.specs.Plans.{column_under, condition_of, filter_of, picked_terms, projected, rows_over, selected, Keeps};
 ghost use Rattle.gl_elaborate.specs.Fitting.{CanPlaceRows, FilterTerm, ProjectFits, RowsFit, SelectFits};
 
 use crate::levels::{levelled, put};
@@ -138,8 +138,9 @@ fn column_under(tree: &Tree) -> u16
 // Selects the rows for which the filter, if there is one, is 1.
 fn select(plan: &mut Plan, at: PlanId, filter: &Option<Tree>) -> Result<PlanId, Memory>
     requires { SelectFits (placed_at plan.old at) (option_map term filter.now) }
-    ensures { IfOk result (λ id.
+    ensures root { IfOk result (λ id.
         placed_at plan.new id ≡ selected (placed_at plan.old at) (option_map term filter.now)) }
+    ensures keeps { Keeps plan.old plan.new }
 {
     match filter {
         Some(condition) => put(
@@ -156,8 +157,9 @@ fn select(plan: &mut Plan, at: PlanId, filter: &Option<Tree>) -> Result<PlanId, 
 // Picks of each row the trees' values.
 fn project(alloc: Global, plan: &mut Plan, at: PlanId, items: &[Tree]) -> Result<PlanId, Memory>
     requires { ProjectFits (placed_at plan.old at) (map term items.now) }
-    ensures { IfOk result (λ id.
+    ensures root { IfOk result (λ id.
         placed_at plan.new id ≡ projected (placed_at plan.old at) (map term items.now)) }
+    ensures keeps { Keeps plan.old plan.new }
 {
     let items = operands_of(alloc, items)?;
     put(plan, PlanNode::Project { child: at, items })
@@ -176,10 +178,11 @@ pub fn rows_over(
         (pick_shape pick.now) (option_map expr_shape filter.now) }
     requires fit { RowsFit columns.now (pick_shape pick.now) (option_map expr_shape filter.now)
         (placed_at plan.old at) }
-    ensures { IfOk result (λ id.
+    ensures root { IfOk result (λ id.
         placed_at plan.new id
         ≡ rows_over columns.now (pick_shape pick.now) (option_map expr_shape filter.now)
         (placed_at plan.old at)) }
+    ensures keeps { Keeps plan.old plan.new }
 {
     let mut items = picked_trees(alloc, columns, pick)?;
     let mut condition = filter_tree(alloc, columns, filter)?;

@@ -12,7 +12,7 @@ ghost use Rattle.gl_query.specs.Accepted.{IsAgg};
 ghost use Rattle.gl_algebra.specs.Added.{placed_at};
 ghost use Rattle.gl_elaborate.specs.Terms.{term_of, IsTerm};
 ghost use Rattle.gl_elaborate.specs.Trees.{term};
-ghost use Rattle.gl_elaborate.specs.Plans.{agg_over, aggs_of, arguments_of, arguments_of_all, behind, first_of, rest_of, totals_over, weights_of};
+ghost use Rattle.gl_elaborate.specs.Plans.{agg_over, aggs_of, arguments_of, arguments_of_all, behind, first_of, rest_of, totals_over, weights_of, Keeps};
 ghost use Rattle.gl_elaborate.specs.Fitting.{CanPlaceTotal, TotalsFit};
 
 use crate::levels::{levelled, put};
@@ -216,9 +216,10 @@ pub fn totals_over(
 ) -> Result<PlanId, Memory>
     requires can { CanPlaceTotal columns.now (map agg_item_shape items.now) }
     requires fit { TotalsFit columns.now (map agg_item_shape items.now) (placed_at plan.old at) }
-    ensures { IfOk result (λ id.
+    ensures root { IfOk result (λ id.
         placed_at plan.new id
         ≡ totals_over columns.now (map agg_item_shape items.now) (placed_at plan.old at)) }
+    ensures keeps { Keeps plan.old plan.new }
 {
     let mut trees = Vec::new(alloc);
     push_arguments(alloc, columns, items, &mut trees)?;

@@ -24,7 +24,7 @@ returns-in_ok-root-in-Each-clause-root t c =
     c.in-Each.var.text _ _ (ap query_shape c.deref-in-Each.ensures) (ap query_shape c.deref-in-Each-2.ensures)
     c.in_ok-from-in-Each.ensures.root c.as_slice-in-Each.ensures (c.as_slice-in-Each-2.ensures ∙ c.in_ok-from-in-Each.ensures.columns)
     c.in_ok-into-in-Each.ensures.root Tuples c.in-Each.size.value c.in-Each.advance.value c.in_ok-root-in-Each.root c.put_window.new.plan
-    (ap query_shape c.in-Each.is) c.in_ok-root-in-Each.ensures
+    (ap query_shape c.in-Each.is) c.in_ok-root-in-Each.ensures.added
 
 pub put_window-requires-in-EachTime-clause-fits : goal.put_window-requires-in-EachTime-clause-fits
 put_window-requires-in-EachTime-clause-fits t c =
@@ -43,7 +43,7 @@ returns-in_ok-root-in-EachTime-clause-root t c =
     c.in-EachTime.var.text _ _ (ap query_shape c.deref-in-EachTime.ensures) (ap query_shape c.deref-in-EachTime-2.ensures)
     c.in_ok-from-in-EachTime.ensures.root c.as_slice-in-EachTime.ensures (c.as_slice-in-EachTime-2.ensures ∙ c.in_ok-from-in-EachTime.ensures.columns)
     c.in_ok-into-in-EachTime.ensures.root Time c.in-EachTime.size.value c.in-EachTime.advance.value c.in_ok-root-in-EachTime.root c.put_window-in-EachTime.new.plan
-    (ap query_shape c.in-EachTime.is) c.in_ok-root-in-EachTime.ensures
+    (ap query_shape c.in-EachTime.is) c.in_ok-root-in-EachTime.ensures.added
 
 pub put_group-requires-clause-fits : goal.put_group-requires-clause-fits
 put_group-requires-clause-fits t c =
@@ -66,7 +66,7 @@ returns-in_ok-all-in-PerGroup-clause-root t c =
     c.in_ok-into-in-PerGroup.ensures.root c.in-PerGroup.key.text c.in-PerGroup.groups.value c.column_number-number.result c.in_ok-root-in-PerGroup.root
     c.put_group.new.plan (ap query_shape c.in-PerGroup.is)
     (c.column_number-number.ensures.value ∙ (λ i. column_number (c.as_slice-in-PerGroup-3.ensures i) (c.as_slice-in-PerGroup-4.ensures i))
-    ∙ (λ i. column_number (sym c.as_slice-in-PerGroup-2.ensures i) c.in-PerGroup.key.text)) c.in_ok-root-in-PerGroup.ensures
+    ∙ (λ i. column_number (sym c.as_slice-in-PerGroup-2.ensures i) c.in-PerGroup.key.text)) c.in_ok-root-in-PerGroup.ensures.added
 
 pub put_partition-requires-clause-fits : goal.put_partition-requires-clause-fits
 put_partition-requires-clause-fits t c =
@@ -89,4 +89,4 @@ returns-in_ok-all-in-Partition-clause-root t c =
     c.in_ok-into-in-Partition.ensures.root c.in-Partition.key.text c.in-Partition.groups.value c.in-Partition.size.value c.in-Partition.advance.value c.column_number-number-in-Partition.result c.in_ok-root-in-Partition.root
     c.put_partition.new.plan (ap query_shape c.in-Partition.is)
     (c.column_number-number-in-Partition.ensures.value ∙ (λ i. column_number (c.as_slice-in-Partition-3.ensures i) (c.as_slice-in-Partition-4.ensures i))
-    ∙ (λ i. column_number (sym c.as_slice-in-Partition-2.ensures i) c.in-Partition.key.text)) c.in_ok-root-in-Partition.ensures
+    ∙ (λ i. column_number (sym c.as_slice-in-Partition-2.ensures i) c.in-Partition.key.text)) c.in_ok-root-in-Partition.ensures.added

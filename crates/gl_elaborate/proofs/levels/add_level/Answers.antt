@@ -36,9 +36,9 @@ overflow_add-wider c =
     c.in_ok-level.level.keys c.in_ok-level.ensures c.requires.room in
     omega (arith, room, c.len.ensures.len)
 
-pub returns : goal.returns
-returns c =
+pub returns-clause-step : goal.returns-clause-step
+returns-clause-step c =
     a_step c.args.base (placed_at c.args.plan.now c.args.at) (map term c.args.items.now) (option_map term c.args.filter.now)
     c.in_ok-level.level.keys _ _ _ _ c.in_ok-level.ensures
-    (c.in_ok-next.ensures ∙ ap (λ (ops : List ColOp). added c.args.plan.now (Compute c.args.at ops)) c.in_ok-ops.ensures)
+    (c.in_ok-next.ensures.added ∙ ap (λ (ops : List ColOp). added c.args.plan.now (Compute c.args.at ops)) c.in_ok-ops.ensures)
     (ap (λ n. c.args.base + n) c.len.ensures.len) c.reduce_all.ensures c.reduce_some.ensures c.requires.deep c.requires.fit c.requires.room
