@@ -38,19 +38,22 @@ any_only n f k l only =
 
 -- ---- a lane of slots of which one at most has an event
 
-pub record IsOne (n : ℕ) (takes ends : ℕ → ℕ → Bool) (was : ℕ → ℕ → Bool) (l : Lane) : Type 0 where
+pub record IsOne (n : ℕ) (takes ends : ℕ → ℕ → Bool) (l : Lane) : Type 0 where
   pub unique : (j k c : ℕ) → j < n → k < n → (takes j c || ends j c) ≡ true → (takes k c || ends k c) ≡ true → j ≡ k
-  pub before : (k : ℕ) → was k 0 ≡ false
-  pub after : (k c : ℕ) → k < n → was k (suc c) ≡ ((takes k c || was k c) && not (ends k c))
   pub no_row : l.valid 0 ≡ false
   pub no_end : l.ends 0 ≡ false
-  pub no_first : l.first 0 ≡ false
   pub row : (c : ℕ) → l.valid (suc c) ≡ any_to n (λ k. takes k c)
   pub end : (c : ℕ) → l.ends (suc c) ≡ any_to n (λ k. ends k c)
-  pub begins : (c : ℕ) → l.first (suc c) ≡ any_to n (λ k. (takes k c || ends k c) && not (was k c))
   pub slot : (k c : ℕ) → k < n → (takes k c || ends k c) ≡ true → l.slot (suc c) ≡ k
 
-module _ (n : ℕ) (takes ends was : ℕ → ℕ → Bool) (l : Lane) (h : IsOne n takes ends was l) where
+-- and it tells where a stream begins
+pub record TellsFirst (n : ℕ) (takes ends was : ℕ → ℕ → Bool) (l : Lane) : Type 0 where
+  pub before : (k : ℕ) → was k 0 ≡ false
+  pub after : (k c : ℕ) → k < n → was k (suc c) ≡ ((takes k c || was k c) && not (ends k c))
+  pub no_first : l.first 0 ≡ false
+  pub begins : (c : ℕ) → l.first (suc c) ≡ any_to n (λ k. (takes k c || ends k c) && not (was k c))
+
+module _ (n : ℕ) (takes ends : ℕ → ℕ → Bool) (l : Lane) (h : IsOne n takes ends l) where
   abbrev event : ℕ → ℕ → Bool
   event k c = takes k c || ends k c
 
@@ -88,115 +91,116 @@ module _ (n : ℕ) (takes ends was : ℕ → ℕ → Bool) (l : Lane) (h : IsOne
   end_here : (k c : ℕ) → k < n → event k c ≡ true → l.ends (suc c) ≡ ends k c
   end_here k c less e = h.end c ∙ any_only n (λ j. ends j c) k less (λ j m f. h.unique j k c m less (or_right (takes j c) (ends j c) f) e)
 
-  first_here : (k c : ℕ) → k < n → event k c ≡ true → l.first (suc c) ≡ not (was k c)
-  first_here k c less e =
-      h.begins c ∙ any_only n (λ j. event j c && not (was j c)) k less (λ j m f. h.unique j k c m less (and_left (event j c) (not (was j c)) f) e)
-      ∙ ap (λ b. b && not (was k c)) e
-
-  quiet : (c : ℕ) → ((k : ℕ) → k < n → event k c ≡ true → ⊥) → (l.ends (suc c) ≡ false) × (l.first (suc c) ≡ false)
-  quiet c none = (
-    h.end c ∙ no_one (λ j. ends j c) (λ k less e. none k less (or_right (takes k c) (ends k c) e)),
-    h.begins c ∙ no_one (λ j. event j c && not (was j c)) (λ k less e. none k less (and_left (event k c) (not (was k c)) e)),
-  )
-    where
-      no_one : (f : ℕ → Bool) → ((k : ℕ) → k < n → f k ≡ true → ⊥) → any_to n f ≡ false
-      no_one f none = by_cases (any_to n f) (λ e. let p = any_there n f e in absurd (none p.0 p.1 p.2)) (λ e. e)
-
-  open_first : (k : ℕ) → is_open l k 1 ≡ was k 0
-  open_first k =
-      ap (λ b. if nat_eq (l.slot 0) k then (if b then false else (l.first 0 || false)) else false) h.no_end ∙ ap (λ b. if nat_eq (l.slot 0) k then (b || false) else false) h.no_first
-      ∙ by (nat_eq (l.slot 0) k) ∙ sym (h.before k)
-    where
-      by : (b : Bool) → (if b then (false || false) else false) ≡ false
-      by true = refl
-      by false = refl
-
-  open_come : (k c : ℕ) → k < n → is_open l k (suc c) ≡ was k c → event k c ≡ true → is_open l k (suc (suc c)) ≡ ((takes k c || was k c) && not (ends k c))
-  open_come k c less old e =
-      let at = eq-eqb (l.slot (suc c)) k (h.slot k c less e) in
-      ap (λ b. if b then (if l.ends (suc c) then false else (l.first (suc c) || is_open l k (suc c))) else is_open l k (suc c)) at
-      ∙ ap (λ b. if b then false else (l.first (suc c) || is_open l k (suc c))) (end_here k c less e)
-      ∙ ap (λ b. if ends k c then false else (b || is_open l k (suc c))) (first_here k c less e)
-      ∙ ap (λ b. if ends k c then false else (not (was k c) || b)) old ∙ by (takes k c) (ends k c) (was k c) e
-    where
-      by : (t f w : Bool) → (t || f) ≡ true → (if f then false else (not w || w)) ≡ ((t || w) && not f)
-      by true true w q = refl
-      by true false true q = refl
-      by true false false q = refl
-      by false true true q = refl
-      by false true false q = refl
-      by false false w q = absurd (cc)
-
-  open_stay : (k c : ℕ) → k < n → is_open l k (suc c) ≡ was k c → event k c ≡ false → is_open l k (suc (suc c)) ≡ ((takes k c || was k c) && not (ends k c))
-  open_stay k c less old e =
-      let parts = neither_parts (takes k c) (ends k c) e in
-      by_cases (nat_eq (l.slot (suc c)) k)
-      (λ at. let calm = quiet c (λ j m f. other j m f at) in
-      ap (λ b. if b then (if l.ends (suc c) then false else (l.first (suc c) || is_open l k (suc c))) else is_open l k (suc c)) at
-      ∙ ap (λ b. if b then false else (l.first (suc c) || is_open l k (suc c))) calm.0 ∙ ap (λ b. b || is_open l k (suc c)) calm.1 ∙ old ∙ same (takes k c) (ends k c) (was k c) parts.0 parts.1)
-      (λ away. ap (λ b. if b then (if l.ends (suc c) then false else (l.first (suc c) || is_open l k (suc c))) else is_open l k (suc c)) away ∙ old ∙ same (takes k c) (ends k c) (was k c) parts.0 parts.1)
-    where
-      -- where the slot is this one, no other has an event
-      other : (j : ℕ) → j < n → event j c ≡ true → nat_eq (l.slot (suc c)) k ≡ true → ⊥
-      other j m f at =
-          let here : j ≡ k = sym (h.slot j c m f) ∙ eqb-true (l.slot (suc c)) k at in
-          let own : event k c ≡ true = subst (λ i. event i c ≡ true) here f in
-          not_both (event k c) own e
-
-      same : (t f w : Bool) → t ≡ false → f ≡ false → w ≡ ((t || w) && not f)
-      same true f w a b = absurd (cc)
-      same false true w a b = absurd (cc)
-      same false false true a b = refl
-      same false false false a b = refl
-
-  open_is : (k c : ℕ) → k < n → is_open l k (suc c) ≡ was k c
-  open_is k zero less = open_first k
-  open_is k (suc c) less = let old = open_is k c less in by_cases (event k c) (open_come k c less old) (open_stay k c less old) ∙ sym (h.after k c less)
-
-  fresh_here : (k c : ℕ) → k < n → event k c ≡ true → IsFresh l (suc c)
-  fresh_here k c less e = first_here k c less e ∙ ap not (sym (open_is k c less) ∙ ap (λ i. is_open l i (suc c)) (sym (h.slot k c less e)))
-
-  pub begins_are : Begins l
-  begins_are = record {
-    no_row = h.no_row;
-    no_end = h.no_end;
-    no_first = h.no_first;
-    rows = rows;
-    ends = ending;
-    only = only;
-  }
-    where
-      rows : (c : ℕ) → l.valid c ≡ true → IsFresh l c
-      rows zero e = let z = h.no_row in absurd (cc)
-      rows (suc c) e = let p = any_there n (λ k. takes k c) (sym (h.row c) ∙ e) in fresh_here p.0 c p.1 (or_left (takes p.0 c) (ends p.0 c) p.2)
-
-      ending : (c : ℕ) → l.ends c ≡ true → IsFresh l c
-      ending zero e = let z = h.no_end in absurd (cc)
-      ending (suc c) e = let p = any_there n (λ k. ends k c) (sym (h.end c) ∙ e) in fresh_here p.0 c p.1 (or_right (takes p.0 c) (ends p.0 c) p.2)
-
-      only : (c : ℕ) → l.first c ≡ true → is_open l (l.slot c) c ≡ false
-      only zero e = refl
-      only (suc c) e =
-          let p = any_there n (λ k. event k c && not (was k c)) (sym (h.begins c) ∙ e) in
-          let parts = and_parts (event p.0 c) (not (was p.0 c)) p.2 in
-          ap (λ i. is_open l i (suc c)) (h.slot p.0 c p.1 parts.0) ∙ open_is p.0 c p.1 ∙ low (was p.0 c) parts.1
-        where
-          low : (w : Bool) → not w ≡ true → w ≡ false
-          low true q = absurd (cc)
-          low false q = refl
-
   pub within : (c : ℕ) → (l.valid (suc c) || l.ends (suc c)) ≡ true → l.slot (suc c) < n
   within c e = elim (or_cases (l.valid (suc c)) (l.ends (suc c)) e) [
     | inl v ↦ (let p = any_there n (λ k. takes k c) (sym (h.row c) ∙ v) in subst (λ i. i < n) (sym (h.slot p.0 c p.1 (or_left (takes p.0 c) (ends p.0 c) p.2))) p.1)
     | inr v ↦ (let p = any_there n (λ k. ends k c) (sym (h.end c) ∙ v) in subst (λ i. i < n) (sym (h.slot p.0 c p.1 (or_right (takes p.0 c) (ends p.0 c) p.2))) p.1)
   ]
 
+  module _ (was : ℕ → ℕ → Bool) (told : TellsFirst n takes ends was l) where
+    first_here : (k c : ℕ) → k < n → event k c ≡ true → l.first (suc c) ≡ not (was k c)
+    first_here k c less e =
+        told.begins c ∙ any_only n (λ j. event j c && not (was j c)) k less (λ j m f. h.unique j k c m less (and_left (event j c) (not (was j c)) f) e)
+        ∙ ap (λ b. b && not (was k c)) e
+
+    quiet : (c : ℕ) → ((k : ℕ) → k < n → event k c ≡ true → ⊥) → (l.ends (suc c) ≡ false) × (l.first (suc c) ≡ false)
+    quiet c none = (
+      h.end c ∙ no_one (λ j. ends j c) (λ k less e. none k less (or_right (takes k c) (ends k c) e)),
+      told.begins c ∙ no_one (λ j. event j c && not (was j c)) (λ k less e. none k less (and_left (event k c) (not (was k c)) e)),
+    )
+      where
+        no_one : (f : ℕ → Bool) → ((k : ℕ) → k < n → f k ≡ true → ⊥) → any_to n f ≡ false
+        no_one f none = by_cases (any_to n f) (λ e. let p = any_there n f e in absurd (none p.0 p.1 p.2)) (λ e. e)
+
+    open_first : (k : ℕ) → is_open l k 1 ≡ was k 0
+    open_first k =
+        ap (λ b. if nat_eq (l.slot 0) k then (if b then false else (l.first 0 || false)) else false) h.no_end ∙ ap (λ b. if nat_eq (l.slot 0) k then (b || false) else false) told.no_first
+        ∙ by (nat_eq (l.slot 0) k) ∙ sym (told.before k)
+      where
+        by : (b : Bool) → (if b then (false || false) else false) ≡ false
+        by true = refl
+        by false = refl
+
+    open_come : (k c : ℕ) → k < n → is_open l k (suc c) ≡ was k c → event k c ≡ true → is_open l k (suc (suc c)) ≡ ((takes k c || was k c) && not (ends k c))
+    open_come k c less old e =
+        let at = eq-eqb (l.slot (suc c)) k (h.slot k c less e) in
+        ap (λ b. if b then (if l.ends (suc c) then false else (l.first (suc c) || is_open l k (suc c))) else is_open l k (suc c)) at
+        ∙ ap (λ b. if b then false else (l.first (suc c) || is_open l k (suc c))) (end_here k c less e)
+        ∙ ap (λ b. if ends k c then false else (b || is_open l k (suc c))) (first_here k c less e)
+        ∙ ap (λ b. if ends k c then false else (not (was k c) || b)) old ∙ by (takes k c) (ends k c) (was k c) e
+      where
+        by : (t f w : Bool) → (t || f) ≡ true → (if f then false else (not w || w)) ≡ ((t || w) && not f)
+        by true true w q = refl
+        by true false true q = refl
+        by true false false q = refl
+        by false true true q = refl
+        by false true false q = refl
+        by false false w q = absurd (cc)
+
+    open_stay : (k c : ℕ) → k < n → is_open l k (suc c) ≡ was k c → event k c ≡ false → is_open l k (suc (suc c)) ≡ ((takes k c || was k c) && not (ends k c))
+    open_stay k c less old e =
+        let parts = neither_parts (takes k c) (ends k c) e in
+        by_cases (nat_eq (l.slot (suc c)) k)
+        (λ at. let calm = quiet c (λ j m f. other j m f at) in
+        ap (λ b. if b then (if l.ends (suc c) then false else (l.first (suc c) || is_open l k (suc c))) else is_open l k (suc c)) at
+        ∙ ap (λ b. if b then false else (l.first (suc c) || is_open l k (suc c))) calm.0 ∙ ap (λ b. b || is_open l k (suc c)) calm.1 ∙ old ∙ same (takes k c) (ends k c) (was k c) parts.0 parts.1)
+        (λ away. ap (λ b. if b then (if l.ends (suc c) then false else (l.first (suc c) || is_open l k (suc c))) else is_open l k (suc c)) away ∙ old ∙ same (takes k c) (ends k c) (was k c) parts.0 parts.1)
+      where
+        -- where the slot is this one, no other has an event
+        other : (j : ℕ) → j < n → event j c ≡ true → nat_eq (l.slot (suc c)) k ≡ true → ⊥
+        other j m f at =
+            let here : j ≡ k = sym (h.slot j c m f) ∙ eqb-true (l.slot (suc c)) k at in
+            let own : event k c ≡ true = subst (λ i. event i c ≡ true) here f in
+            not_both (event k c) own e
+
+        same : (t f w : Bool) → t ≡ false → f ≡ false → w ≡ ((t || w) && not f)
+        same true f w a b = absurd (cc)
+        same false true w a b = absurd (cc)
+        same false false true a b = refl
+        same false false false a b = refl
+
+    open_is : (k c : ℕ) → k < n → is_open l k (suc c) ≡ was k c
+    open_is k zero less = open_first k
+    open_is k (suc c) less = let old = open_is k c less in by_cases (event k c) (open_come k c less old) (open_stay k c less old) ∙ sym (told.after k c less)
+
+    fresh_here : (k c : ℕ) → k < n → event k c ≡ true → IsFresh l (suc c)
+    fresh_here k c less e = first_here k c less e ∙ ap not (sym (open_is k c less) ∙ ap (λ i. is_open l i (suc c)) (sym (h.slot k c less e)))
+
+    pub begins_are : Begins l
+    begins_are = record {
+      no_row = h.no_row;
+      no_end = h.no_end;
+      no_first = told.no_first;
+      rows = rows;
+      ends = ending;
+      only = only;
+    }
+      where
+        rows : (c : ℕ) → l.valid c ≡ true → IsFresh l c
+        rows zero e = let z = h.no_row in absurd (cc)
+        rows (suc c) e = let p = any_there n (λ k. takes k c) (sym (h.row c) ∙ e) in fresh_here p.0 c p.1 (or_left (takes p.0 c) (ends p.0 c) p.2)
+
+        ending : (c : ℕ) → l.ends c ≡ true → IsFresh l c
+        ending zero e = let z = h.no_end in absurd (cc)
+        ending (suc c) e = let p = any_there n (λ k. ends k c) (sym (h.end c) ∙ e) in fresh_here p.0 c p.1 (or_right (takes p.0 c) (ends p.0 c) p.2)
+
+        only : (c : ℕ) → l.first c ≡ true → is_open l (l.slot c) c ≡ false
+        only zero e = refl
+        only (suc c) e =
+            let p = any_there n (λ k. event k c && not (was k c)) (sym (told.begins c) ∙ e) in
+            let parts = and_parts (event p.0 c) (not (was p.0 c)) p.2 in
+            ap (λ i. is_open l i (suc c)) (h.slot p.0 c p.1 parts.0) ∙ open_is p.0 c p.1 ∙ low (was p.0 c) parts.1
+          where
+            low : (w : Bool) → not w ≡ true → w ≡ false
+            low true q = absurd (cc)
+            low false q = refl
+
 -- ---- the machine's slots: no two have one key
 
 abbrev pub Apart : List ℕ → Type 0
 Apart ks = (j k x : ℕ) → slice_get ks j ≡ Some x → slice_get ks k ≡ Some x → j ≡ k
 
-not_listed : (ks : List ℕ) (y j : ℕ) → list_any (nat_eq y) ks ≡ false → slice_get ks j ≡ Some y → ⊥
+pub not_listed : (ks : List ℕ) (y j : ℕ) → list_any (nat_eq y) ks ≡ false → slice_get ks j ≡ Some y → ⊥
 not_listed [] y j none at = absurd (cc)
 not_listed (x ∷ ks) y zero none at = let e : x ≡ y = cc in let own = eq-eqb y x (sym e) in let p = neither_parts (nat_eq y x) (list_any (nat_eq y) ks) none in let q = p.0 in absurd (cc)
 not_listed (x ∷ ks) y (suc j) none at = not_listed ks y j (neither_parts (nat_eq y x) (list_any (nat_eq y) ks) none).1 at

@@ -1,5 +1,5 @@
 -- The parts of the front together are the machine.
-use Rattle.std.proofs.Common.{◌≡◌, ℕ, zero, suc, ◌+◌, ◌-◌, ◌*◌, ◌<◌, ◌≤◌, List, length, Some, None, Bool, true, false, refl, sym, ap, ◌∙◌, arith}
+use Rattle.std.proofs.Common.{◌≡◌, ℕ, zero, suc, ◌+◌, ◌-◌, ◌*◌, ◌<◌, ◌≤◌, List, length, Some, None, Bool, true, false, refl, sym, ap, ◌∙◌, subst, arith}
 use Rattle.std.specs.Prelude.{slice_index, nat_eq, not, ◌&&◌, ◌||◌, if◌then◌else◌}
 use Rattle.gl_bits.specs.Results.{Row}
 use Rattle.gl_net.specs.declared.node.Bit.{Bit}
@@ -11,35 +11,25 @@ use Rattle.gl_wire.specs.Wire.{carried, line_at, row_at, tuple_at, widths}
 use Rattle.gl_wire.proofs.ColumnLemmas.{bit_kept, bus_kept, buses_kept, wire_kept}
 use Rattle.gl_wire_registers.specs.Held.{counted_down, held_at}
 use Rattle.gl_wire_registers.specs.declared.lines.LineOp.TheVariants.{Both, Either}
-use Rattle.gl_wire_registers.specs.Lines.{AddsLines, any_to, line_of, pairs}
+use Rattle.gl_wire_registers.specs.Lines.{AddsLines, line_of, pairs}
 use Rattle.gl_wire_registers.specs.Rows.{AddsWires}
-use Rattle.gl_wire_registers.proofs.LineLemmas.{any_same, bits_kept, gates_some, line_of-first}
+use Rattle.gl_wire_registers.proofs.LineLemmas.{bits_kept, gates_some, line_of-first}
 use Rattle.gl_groups.specs.declared.front.Chosen.{Chosen}
 use Rattle.gl_groups.specs.declared.front.Looked.{Looked}
 use Rattle.gl_groups.specs.declared.front.Lookup.{Lookup}
 use Rattle.gl_groups.specs.declared.front.Turning.{Turning}
 use Rattle.gl_groups.specs.declared.parts.Flush.{Flush}
 use Rattle.gl_groups.specs.declared.parts.Tail.{Tail}
-use Rattle.gl_groups.specs.declared.slots.Seen.{Seen}
 use Rattle.gl_groups.specs.declared.slots.SlotLines.{SlotLines}
-use Rattle.gl_groups.specs.SlotLines.{AddsSlots, AreSlotLines, IsLatest, IsSeen, held_of, sought_at}
-use Rattle.gl_groups.specs.Fronts.{AddsChosen, AddsFront, AddsLooked, AddsLookup, AddsTurning, IsLooked, IsLookup, IsSettled, IsTurning, column_of, ends_of, takes_of, takes_row}
+use Rattle.gl_groups.specs.SlotLines.{AddsSlots, AreSlotLines, IsLatest, held_of, sought_at}
+use Rattle.gl_groups.specs.Fronts.{AddsChosen, AddsFront, AddsLooked, AddsLookup, AddsTurning, IsLooked, IsLookup, IsTurning, column_of, ends_of, takes_of, takes_row}
 use Rattle.gl_groups.specs.Groupings.{AreKeys}
 use Rattle.gl_groups.specs.Parts.{AddsFlush, AddsTail, IsFlush, IsTail, TakesOf}
-use Rattle.gl_groups.specs.Seeking.{Sought, asked, found, has, is_next, matches, takes}
+use Rattle.gl_groups.specs.Seeking.{asked, found, has, is_next, matches}
 use Rattle.gl_groups.specs.Slots.{Slots, further_line, is_further, keys_at, no_slots, slots_at}
 use Rattle.gl_groups.specs.Values.{Cycle, Mirrors, Steps, Values, due_of, end_of, sought_of, tail_of, valid_of}
 use Rattle.gl_groups.proofs.MachineLemmas.{end_is, further_is, mirrors_next, taken_is}
-use Rattle.gl_groups.proofs.SeekLemmas.{takes_last}
 use Rattle.gl_groups.proofs.SeenNet.{seen_kept}
-
--- how what the slots make of a key hangs together
-pub settled_by : (run : Run) (n : ℕ) (s : Sought) (r : Seen) (t : ℕ) → IsSeen run n s r t → IsSettled run n r t
-settled_by run n s r t h = record {
-  takes = λ k l. h.takes k l ∙ takes_last n s k ∙ ap (λ b. b && not (any_to n (found s))) (sym (h.nexts k l)) ∙ ap (λ b. line_of run r.nexts k t && not b) (sym h.one);
-  has = λ k l. h.has k l ∙ ap (λ b. b || takes n s k) (sym (h.kept k l)) ∙ ap (λ b. line_of run r.kept k t || b) (sym (h.takes k l));
-  one = h.one ∙ any_same n (found s) (λ k. line_of run r.found k t) (λ k l. sym (h.found k l));
-}
 
 -- the key of the row that comes, or else of the one that came last
 abbrev pub latest_key : Run → Wire → ℕ → Lookup → ℕ → ℕ
@@ -155,8 +145,12 @@ module _ (run : Run) (w : Wire) (key count stride : ℕ) (f : Flush) (h : Tail) 
     mirrors zero = mirrors_first
     mirrors (suc c) = mirrors_next count stride (column_of key) some (s c) (at c) (mirrors c) (e c) (v c) (x c) (y c) (is_key c) (at (suc c)) (steps c)
 
-    keys_shown : AreKeys count (column_of key) stride (carried run w) (held_of run r.keys)
-    keys_shown = record { shown = λ k c z l there. by (line_of run r.used k c) (held_of run r.keys k c) z (sym ((mirrors c).slots k l) ∙ there) }
+    keys_shown : AreKeys count (column_of key) stride 0 (carried run w) (held_of run r.keys)
+    keys_shown = record {
+      shown = λ k c d z l at there.
+          (let same : c ≡ d = omega (arith, at) in
+          subst (λ t. held_of run r.keys k t ≡ z) same (by (line_of run r.used k c) (held_of run r.keys k c) z (sym ((mirrors c).slots k l) ∙ there)));
+    }
       where
         by : (b : Bool) (n z : ℕ) → (if b then Some n else None) ≡ Some z → n ≡ z
         by true n z q = cc
@@ -214,7 +208,6 @@ module _ (n0 n1 n2 n3 n4 n5 : Net) (w : Wire) (key count stride width : ℕ) (so
     keys = λ k b e. (bus_kept n4 n5 b k45 (is_r.keys_there.each k b e), is_r.keys_width k b e ∙ is_look.here_width);
     look = record {
       seen = seen_kept n4 n5 count r.seen k45 is_r.are;
-      settled = λ run z t. settled_by run count (sought_at run r.used r.keys f.free w.valid (latest_key run w key look) t) r.seen t ((slot_lines run z).seen t);
       turns_count = is_g.turns_count;
       turns = is_g.bits;
       tail = bit_kept n2 n5 h.tail k25 is_h.bit;

@@ -7,7 +7,7 @@ use Rattle.gl_bits.proofs.Bools.{or_join}
 use Rattle.gl_algebra.specs.declared.figures.Figures.{Figures}
 use Rattle.gl_algebra.specs.FigureTable.{IsSound, group_gap, groups_over, stride_of}
 use Rattle.gl_algebra.proofs.SoundLemmas.{groups_sound}
-use Rattle.gl_wire.specs.Apart.{Carries, CarriesApart, an_end}
+use Rattle.gl_wire.specs.Apart.{CarriesApart, an_end}
 use Rattle.gl_wire.specs.Beats.{Beats, Ends, Spaced, beats_of}
 use Rattle.gl_wire.specs.Serves.{Fits}
 use Rattle.gl_wire.specs.Serving.{Serving}
@@ -19,12 +19,12 @@ use Rattle.gl_wire.proofs.ServingLemmas.{serving_as, serving_then}
 use Rattle.gl_wire_copies.specs.Coming.{by_tuples}
 use Rattle.gl_wire_copies.specs.Lift.{Visits, tuple_of_any}
 use Rattle.gl_wire_copies.specs.Rotates.{OverCopies, Rotates, delay_of_whole, lines_of_all, turns_of}
-use Rattle.gl_wire_copies.specs.Timed.{Origin, Rested, Timed}
+use Rattle.gl_wire_copies.specs.Timed.{Origin, Timed}
 use Rattle.gl_wire_copies.proofs.LiftSpillLemmas.{lift_spills}
 use Rattle.gl_wire_copies.proofs.TimeLemmas.{next_stream, timed_by}
 use Rattle.gl_wire_copies.proofs.WholeServes.{whole_lines}
 use Rattle.gl_wire_registers.specs.Timers.{IsClose}
-use Rattle.gl_groups.specs.Groupings.{AreKeys, OfGroups, key_of, line_of_further, with_keys}
+use Rattle.gl_groups.specs.Groupings.{AreKeys, AwaitsTurns, OfGroups, key_of, line_of_further, with_keys}
 use Rattle.gl_wire_copies.specs.Bodies.{OfBody}
 use Rattle.gl_groups.specs.Laws.{GroupingsServe, GroupsGroup}
 use Rattle.gl_groups.specs.Slots.{AreSlots, came_further, key_or, slot_or, slots_at, who_slots}
@@ -107,12 +107,13 @@ module _ (s : Figures) (sound : IsSound s) (count : ℕ) (key : Row → ℕ) (a 
       let x = slot_origin setting v k h in
       keys_stay setting x.0 c x.1 (omega (arith, x.2, low)) (omega (arith, x.3, high)) ∙ sym (keys_stay setting x.0 v x.1 (omega (arith, x.2)) (omega (arith, x.3)))
 
-  -- so the numbers that stand for a slot's key are its key all that time
-  pub key_shown : (keys : ℕ → ℕ → ℕ) → AreKeys count key (stride_of s) a keys → (v k c : ℕ) → k < count → group_visits v ≡ Some k → v ≤ c → c ≤ v + s.le
+  -- so the numbers that stand for a slot's key, so many cycles late, are its key all that time
+  pub key_shown : (late : ℕ) (keys : ℕ → ℕ → ℕ) → AreKeys count key (stride_of s) late a keys → (v k c : ℕ) → k < count → group_visits v ≡ Some k → v + late ≤ c → c ≤ v + s.le
       → keys k c ≡ key_or (slice_get (slots_at count key (stride_of s) a v).keys k)
-  key_shown keys are v k c l h low high =
+  key_shown late keys are v k c l h low high =
       let y = visit_key setting v k h in
-      are.shown k c y.0 l (ap (λ z. slice_get z k) (keys_kept v k c h low high) ∙ y.1) ∙ sym (ap key_or y.1)
+      let at : c - late + late ≡ c = omega (arith, low) in
+      are.shown k (c - late) c y.0 l at (ap (λ z. slice_get z k) (keys_kept v k (c - late) h (omega (arith, low)) (omega (arith, low, high))) ∙ y.1) ∙ sym (ap key_or y.1)
 
 -- the table's row is that of such a whole
 pub group_table : (count : ℕ) (f s : Figures) → 1 ≤ count → IsSound s → OverCopies f s (groups_over count f s) count (group_gap s) (rest_gap count s) (λ n. 0) (λ n. count)
@@ -157,29 +158,35 @@ groups_then f h means count key Body Like to before own beats a b source whole =
       any = q.5 ∙ ap (λ z. q.1 || z) q.4.2 ∙ sym (or_join q.1 q.4.0 (has_further count key q.0));
     }) (serving_then f h means (OfGroups count key Body) before own beats a b source whole)
 
+-- over spaced beats whatever comes finds the flush of each end before it over
+module _ (f s : Figures) (sound_f : IsSound f) (sound_s : IsSound s) (count : ℕ) (some : 1 ≤ count) (a : Carried) (beats : Beats) (spaced : Spaced (groups_over count f s) beats) (fits : Fits f beats a)
+    (near : CarriesApart (group_gap s) a) where
+  pub in_time : Timed (group_gap s) (rest_gap count s) a (by_tuples a)
+  in_time = timed_by f (groups_over count f s) (group_gap s) (rest_gap count s) beats a sound_f (omega (arith, sound_s.tuples_gap)) (omega arith) (omega arith) spaced fits near
+
+  pub flush_awaited : AwaitsTurns count (stride_of s) a
+  flush_awaited x k = record { over = λ u p l. let y = in_time.after u x p k l in let z = flush_fits count s some sound_s in omega (arith, y, z) }
+
 -- ---- the theorem, over beats in which the source is carried far enough apart
 
 module _ (f s : Figures) (sound_f : IsSound f) (sound_s : IsSound s) (closing : s.nt ≡ 0) (count : ℕ) (key : Row → ℕ) (some : 1 ≤ count)
-    (a : Carried) (ins outs : ℕ → Carried) (law : AreSlots count key (stride_of s) a ins) (keys : ℕ → ℕ → ℕ) (are : AreKeys count key (stride_of s) a keys)
-    (further : ℕ → Bool) (tells : ((c : ℕ) → Carries a c → Rested (count * stride_of s) a c) → (c : ℕ) → further c ≡ came_further count key a c) (Body : List Row → Results) (lines : ℕ → Lines)
+    (a : Carried) (ins outs : ℕ → Carried) (law : AreSlots count key (stride_of s) a ins) (cycles : ℕ) (in_body : cycles ≤ s.a) (keys : ℕ → ℕ → ℕ) (are : AreKeys count key (stride_of s) cycles a keys)
+    (further : ℕ → Bool) (tells : AwaitsTurns count (stride_of s) a → (c : ℕ) → further c ≡ came_further count key a c) (Body : List Row → Results) (lines : ℕ → Lines)
     (b : Carried) (close : ℕ → Bool) (back : IsDelayed 1 (record { tuple = tuple_of_any (with_keys keys outs) count; ends = close }) b)
     (closes : IsClose (s.le + turns_of count s + 1) (s.le + turns_of count s + 1 + 1) a.ends close) where
   abbrev pub h : Figures
   h = groups_over count f s
 
-  late : s.le + turns_of count s + 1 + 1 ≡ s.le + turns_of count s + 2
-  late = omega arith
+  closing_late : s.le + turns_of count s + 1 + 1 ≡ s.le + turns_of count s + 2
+  closing_late = omega arith
 
   close_first : (c : ℕ) → c < s.le + turns_of count s + 2 → close c ≡ false
-  close_first c l = closes.before c (omega (arith, l, late))
+  close_first c l = closes.before c (omega (arith, l, closing_late))
 
   closes_late : Timed (group_gap s) (rest_gap count s) a (by_tuples a) → (c : ℕ) → close (c + (s.le + turns_of count s + 2)) ≡ a.ends c
   closes_late timed c =
-      ap (λ (n : ℕ). close (c + n)) (sym late)
+      ap (λ (n : ℕ). close (c + n)) (sym closing_late)
       ∙ closes.later (λ u d p q l. let y = timed.after u d p (an_end q) l in omega (arith, y)) c
-
-  in_time : (beats : Beats) → Spaced h beats → Fits f beats a → CarriesApart (group_gap s) a → Timed (group_gap s) (rest_gap count s) a (by_tuples a)
-  in_time beats spaced fits near = timed_by f h (group_gap s) (rest_gap count s) beats a sound_f (omega (arith, sound_s.tuples_gap)) (omega arith) (omega arith) spaced fits near
 
   -- a copy's wire with keys gives what the body makes of the groups of its visits
   shown : (timed : Timed (group_gap s) (rest_gap count s) a (by_tuples a)) (k : ℕ) → k < count → Spaced s (beats_of (ins k))
@@ -187,7 +194,7 @@ module _ (f s : Figures) (sound_f : IsSound f) (sound_s : IsSound s) (closing : 
       → Serving s (λ t. IsOfGroup Body (visit_group s sound_s count key a ins law some timed (t, stream (ins k) t))) (lines k) (beats_of (ins k)) (with_keys keys outs k)
   shown timed k l spaced x =
       let y = keyed_serving (keys k) (outs k) s key_for (λ t. Body (stream (ins k) t)) (lines k) (beats_of (ins k)) sound_s closing spaced
-      (λ t c p low high. key_shown s sound_s count key a ins law some timed keys are t k c l (visit t p) (omega (arith, low)) high) x
+      (λ t c p low high. key_shown s sound_s count key a ins law some timed cycles keys are t k c l (visit t p) (omega (arith, low, in_body)) high) x
       in
       record {
         fits = y.fits;
@@ -212,7 +219,7 @@ module _ (f s : Figures) (sound_f : IsSound f) (sound_s : IsSound s) (closing : 
       → ((k : ℕ) → k < count → Spaced s (beats_of (ins k)) → Serving s (λ t. Body (stream (ins k) t)) (lines k) (beats_of (ins k)) (outs k))
       → ServedWithLines f h (λ xs ys p. AreJoined (IsOfGroup Body) (groups count key xs) ys p) (lines_of_all lines count) beats a b
   groups_joined beats spaced fits near served =
-      let timed = in_time beats spaced fits near in
+      let timed = in_time f s sound_f sound_s count some a beats spaced fits near in
       let rot = rotates s sound_s count key a ins law some timed in
       let lifted = lift_spills s (λ u xs. IsOfGroup Body (visit_group s sound_s count key a ins law some timed (u, xs))) count (who_slots count key (stride_of s) a) lines ins (with_keys keys outs) sound_s closing rot.schedules
       (λ k l. shown timed k l (rot.schedules.spaced k l) (served k l (rot.schedules.spaced k l)))
@@ -229,10 +236,10 @@ module _ (f s : Figures) (sound_f : IsSound f) (sound_s : IsSound s) (closing : 
       (groups_joined beats spaced fits near served)
     where
       timed : Timed (group_gap s) (rest_gap count s) a (by_tuples a)
-      timed = in_time beats spaced fits near
+      timed = in_time f s sound_f sound_s count some a beats spaced fits near
 
       line : (c : ℕ) → further c ≡ came_further count key a c
-      line = tells (λ x k. record { over = λ u p l. let y = timed.after u x p k l in let z = flush_fits count s some sound_s in omega (arith, y, z) })
+      line = tells (flush_awaited f s sound_f sound_s count some a beats spaced fits near)
 
       told : Ends beats → (d : ℕ) → a.ends d ≡ true → has_further count key (stream a d) ≡ true → (c : ℕ) × (further c ≡ true)
       told en d p e = let x = further_told count key a d e in (x.0, line x.0 ∙ x.1)
@@ -273,7 +280,7 @@ module _ (f s : Figures) (sound_f : IsSound f) (sound_s : IsSound s) (closing : 
 -- for a body of a plan
 pub groupings_serve : GroupingsServe
 groupings_serve r f a b keys ins outs close further lines is sound_f front are tells closes back nodes body beats spaced fits near served =
-    groups_served f r.body sound_f is.sound is.closing r.slots (key_of r) is.some' a ins outs front keys are further tells (OfBody nodes body) lines b close back closes
+    groups_served f r.body sound_f is.sound is.closing r.slots (key_of r) is.some' a ins outs front 0 (omega arith) keys are further tells (OfBody nodes body) lines b close back closes
     beats spaced fits near served
 
 pub groups_group : GroupsGroup

@@ -1,5 +1,5 @@
 -- A front and a back in a netlist, from their parts, and what they serve.
-use Rattle.std.proofs.Common.{◌≡◌, ℕ, ◌+◌, ◌*◌, ◌<◌, ◌≤◌, List, [], ◌∷◌, length, Some, refl, sym, ap, ◌∙◌, subst, arith}
+use Rattle.std.proofs.Common.{◌≡◌, ℕ, ◌+◌, ◌<◌, ◌≤◌, List, [], ◌∷◌, length, Some, refl, sym, ap, ◌∙◌, subst, arith}
 use Rattle.std.specs.Prelude.{slice_get}
 use Rattle.gl_algebra.specs.FigureTable.{stride_of}
 use Rattle.gl_net.specs.declared.node.Bit.{Bit}
@@ -15,7 +15,6 @@ use Rattle.gl_wire.specs.Wire.{Carried, IsWire, carried, line_at}
 use Rattle.gl_wire.proofs.ColumnLemmas.{bus_kept, wire_kept, bit_kept}
 use Rattle.gl_wire.proofs.FaultLemmas.{lines_kept}
 use Rattle.gl_wire_copies.specs.Lift.{tuple_of_any}
-use Rattle.gl_wire_copies.proofs.NumberLemmas.{all_turns}
 use Rattle.gl_wire_copies.specs.Rotates.{lines_of_all}
 use Rattle.gl_wire_registers.specs.Lines.{carried_of}
 use Rattle.gl_wire_registers.specs.Timers.{IsClose, IsCloseLine}
@@ -31,29 +30,13 @@ use Rattle.gl_groups.specs.Joins.{AreKeyBuses, JoinsAll, width_of_keys}
 use Rattle.gl_groups.specs.Picks.{bits_of_slots}
 use Rattle.gl_wire_registers.specs.Joins.{columns_of, gives_of, told_of}
 use Rattle.gl_groups.specs.Slots.{AreSlots}
-use Rattle.gl_groups.proofs.Setting.{Setting}
+use Rattle.gl_groups.proofs.Setting.{Setting, awaited}
 use Rattle.gl_groups.proofs.FurtherLemmas.{further_came}
 use Rattle.gl_groups.proofs.GroupLemmas.{groupings_serve}
 
 -- what is given behind a source that awaits each flush
 abbrev pub setting_of : (r : Grouping) (a : Carried) (ins : ℕ → Carried) → IsGrouping r → AreSlots r.slots (key_of r) (stride_of r.body) a ins → AwaitsFlush r a → Setting
-setting_of r a ins is law awaits = record {
-  count = r.slots;
-  key = key_of r;
-  stride = stride_of r.body;
-  g1 = 1;
-  g2 = r.slots * stride_of r.body + 1;
-  gap_end = stride_of r.body;
-  a = a;
-  ins = ins;
-  law = law;
-  slots_some = is.some';
-  stride_some = omega arith;
-  timed = record { apart = λ c d p q l. omega (arith, l); after = λ u d p q l. (awaits d q).over u p l };
-  wide = omega arith;
-  strides = omega arith;
-  far = omega (arith, all_turns r.slots (stride_of r.body) is.some');
-}
+setting_of r a ins is law awaits = awaited r.slots (key_of r) (stride_of r.body) a ins is.some' (omega arith) law awaits
 
 -- wires and keys of a front, and a line of ends behind it
 pub is_fronted : (old mid new : Net) (r : Grouping) (source : Emitted) (g : Front) (close : Bit) (stride cycles width : ℕ) → stride ≡ stride_of r.body → cycles ≡ close_cycles r → width ≡ bits_of_slots r.slots + 1 → IsGrouping r

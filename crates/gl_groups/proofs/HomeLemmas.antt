@@ -49,13 +49,13 @@ module _ (n : ℕ) (s : Sought) (order : InOrder n s) where
     ]
   ]
 
-  found_key : (k : ℕ) → found s k ≡ true → s.value ≡ s.key k
+  pub found_key : (k : ℕ) → found s k ≡ true → s.value ≡ s.key k
   found_key k h = eqb-true s.value (s.key k) (and_right (kept s k) (nat_eq s.value (s.key k)) h)
 
-  found_kept : (k : ℕ) → found s k ≡ true → kept s k ≡ true
+  pub found_kept : (k : ℕ) → found s k ≡ true → kept s k ≡ true
   found_kept k h = and_left (kept s k) (nat_eq s.value (s.key k)) h
 
-  found_here : (k : ℕ) → kept s k ≡ true → s.value ≡ s.key k → found s k ≡ true
+  pub found_here : (k : ℕ) → kept s k ≡ true → s.value ≡ s.key k → found s k ≡ true
   found_here k h e = and_both (kept s k) (nat_eq s.value (s.key k)) h (eq-eqb s.value (s.key k) e)
 
   found_only : (j k : ℕ) → j < n → k < n → found s j ≡ true → found s k ≡ true → j ≡ k
@@ -71,13 +71,13 @@ module _ (n : ℕ) (s : Sought) (order : InOrder n s) where
 
   -- a cycle later
   module _ (q : Sought) (used : (k : ℕ) → k < n → q.used k ≡ has n s k) (keys : (k : ℕ) → k < n → q.key k ≡ (if is_next s k then s.value else s.key k)) where
-    comes_from : (k : ℕ) → k < n → q.used k ≡ true → (kept s k || takes n s k) ≡ true
+    pub comes_from : (k : ℕ) → k < n → q.used k ≡ true → (kept s k || takes n s k) ≡ true
     comes_from k l h = sym (used k l) ∙ h
 
-    key_kept : (k : ℕ) → k < n → kept s k ≡ true → q.key k ≡ s.key k
+    pub key_kept : (k : ℕ) → k < n → kept s k ≡ true → q.key k ≡ s.key k
     key_kept k l h = keys k l ∙ ap (λ (b : Bool). if b then s.value else s.key k) (else_false (is_next s k) (λ e. not_both (kept s k) h (next_free k e)))
 
-    key_taken : (k : ℕ) → k < n → takes n s k ≡ true → q.key k ≡ s.value
+    pub key_taken : (k : ℕ) → k < n → takes n s k ≡ true → q.key k ≡ s.value
     key_taken k l h = keys k l ∙ ap (λ (b : Bool). if b then s.value else s.key k) (takes_parts k h).0
 
     -- one that is used and one that takes the key differ

@@ -1,192 +1,255 @@
 -- One wire for all slots, from its parts.
-use Rattle.std.proofs.Common.{◌≡◌, ℕ, zero, suc, ◌+◌, ◌*◌, ◌<◌, ◌≤◌, Option, Some, None, Bool, true, false, refl, sym, ap, ◌∙◌, arith, inl, inr, eqb-true}
-use Rattle.std.specs.Prelude.{slice_index, ◌&&◌, ◌||◌, if◌then◌else◌, nat_eq}
+use Rattle.std.proofs.Common.{◌≡◌, ℕ, zero, suc, ◌+◌, ◌*◌, ◌<◌, ◌≤◌, List, [], Option, Some, None, Bool, true, false, refl, sym, ap, ◌∙◌, subst, arith}
+use Rattle.std.specs.Prelude.{slice_get, not, ◌&&◌, ◌||◌, if◌then◌else◌, nat_eq}
+use Rattle.std.specs.List.{list_any}
 use Rattle.gl_bits.specs.Results.{Row}
-use Rattle.gl_bits.proofs.Bools.{and_parts, or_cases}
-use Rattle.gl_net.specs.declared.node.Bus.{Bus}
-use Rattle.gl_net.specs.declared.node.Bit.{Bit}
-use Rattle.gl_net.specs.Net.{Net, Run, IsRun, Keeps}
-use Rattle.gl_net.proofs.Determined.{keeps_then}
 use Rattle.gl_wire.specs.declared.wire.Wire.{Wire}
-use Rattle.gl_wire.specs.Stages.{IsLaterBus, IsLaterLine}
-use Rattle.gl_wire.specs.Wire.{Carried, carried, line_at, row_at, tuple_at, widths}
-use Rattle.gl_wire.proofs.ColumnLemmas.{bit_kept, bus_kept, buses_kept}
+use Rattle.gl_wire.specs.Wire.{Carried, carried, line_at, row_at, tuple_at}
 use Rattle.gl_wire_lanes.specs.Lanes.{Lane}
-use Rattle.gl_wire_lanes.specs.Shares.{lane_of, slot_of}
+use Rattle.gl_wire_lanes.specs.Shares.{lane_of, share, slot_of}
 use Rattle.gl_wire_registers.specs.Held.{held_at}
-use Rattle.gl_wire_registers.proofs.LineLemmas.{gates_some, line_of-first}
-use Rattle.gl_groups.specs.declared.front.Looked.{Looked}
+use Rattle.gl_wire_registers.specs.Lines.{any_to, line_of}
+use Rattle.gl_wire_registers.proofs.LineLemmas.{any_same}
 use Rattle.gl_groups.specs.declared.lane.LaneLines.{LaneLines}
-use Rattle.gl_groups.specs.declared.lane.Told.{Told}
-use Rattle.gl_groups.specs.Fronts.{AddsLooked, IsLooked, column_of, ends_of, takes_of}
-use Rattle.gl_groups.specs.Lanes.{AddsLane, AreTold, IsLane, PutsTold}
-use Rattle.gl_groups.specs.Slots.{further_line, keys_at, slot_at, slot_ends_at, slot_takes, slots_at}
-use Rattle.gl_groups.proofs.EventLemmas.{IsOne, apart_keys, begins_are, share_end, share_row, takes_turn, takes_where, within}
+use Rattle.gl_groups.specs.Ahead.{sought_in}
+use Rattle.gl_groups.specs.Seeking.{is_next}
+use Rattle.gl_groups.specs.Firsts.{TellsNew, ends_at, is_begun, takes_row_at}
+use Rattle.gl_groups.specs.Fronts.{KeysCome, column_of}
+use Rattle.gl_groups.specs.Groupings.{AreKeys, AwaitsTurns}
+use Rattle.gl_groups.specs.Lanes.{IsLane}
+use Rattle.gl_groups.specs.SlotLines.{TakeKeys, held_of}
+use Rattle.gl_groups.specs.Slots.{AreSlots, freed, further_line, is_further, keys_at, slot_at, slot_ends_at, slot_takes, slots_at}
+use Rattle.gl_groups.proofs.EventLemmas.{IsOne, TellsFirst, begins_are, share_end, share_row, within}
+use Rattle.gl_groups.proofs.FirstLemmas.{first_awaited}
+use Rattle.gl_groups.proofs.LaneKeys.{one_next, same_words}
+use Rattle.gl_groups.proofs.LaneMachine.{ends_late, keys_late, slots_late, takes_late, takes_some, unique_event}
+use Rattle.gl_groups.proofs.LaneRun.{Running, all, ended_in, ends_in, end_in, finds, further_at, is_key, mirrors, one_at, row_in, slot_event, taken_in, takes_in}
 
--- ---- in one run
+module _ (set : Running) where
+  open set use {run, source, late, key, count, stride, width, apart, f, h, o, last, here, r, m, is_late, is_r, is_m}
 
-module _ (run : Run) (w : Wire) (key count stride : ℕ) (r : Looked) (law : IsLooked run key count stride w r) where
+  abbrev some : 1 ≤ count
+  some = set.some'
+
   abbrev a : Carried
-  a = carried run w
+  a = carried run source
+
+  abbrev b : Carried
+  b = carried run late
+
+  abbrev key_of : Row → ℕ
+  key_of = column_of key
+
+  -- ---- the source one cycle later
+
+  no_tuple : b.tuple 0 ≡ None
+  unfolding tuple_at line_at
+  no_tuple = refl
+
+  no_end : b.ends 0 ≡ false
+  unfolding line_at
+  no_end = refl
+
+  tuples : (c : ℕ) → b.tuple (suc c) ≡ a.tuple c
+  unfolding tuple_at line_at
+  tuples zero = ap (λ (x : Bool). if x then Some (row_at run 1 late.columns) else None) (is_late.valid 0)
+  tuples (suc c) =
+      ap (λ (x : Bool). if x then Some (row_at run (suc (suc c)) late.columns) else None) (is_late.valid (suc c))
+      ∙ ap (λ (x : Row). if line_at run source.valid (suc c) then Some x else None) (is_late.row c) ∙ by (line_at run source.valid (suc c)) (row_at run (suc c) source.columns) (row_at run (suc c) late.columns)
+    where
+      by : (x : Bool) (p q : Row) → (if x then Some (if x then p else q) else None) ≡ (if x then Some p else None)
+      by true p q = refl
+      by false p q = refl
+
+  -- ---- what is told, cycle by cycle of the source
 
   abbrev taken : ℕ → ℕ → Bool
-  taken k c = takes_of run w r k c
+  taken k c = taken_in set k (suc c)
 
   abbrev ended : ℕ → ℕ → Bool
-  ended k c = ends_of run r k c
+  ended k c = ended_in set k (suc c)
 
-  -- the machine's slot of what is taken, and of what ends
-  row_of : (k c : ℕ) → k < count → taken k c ≡ true
-      → slot_takes (column_of key) (a.ends c) (a.tuple c) (keys_at count (column_of key) stride a c) (slots_at count (column_of key) stride a c) k ≡ Some (row_at run (suc c) r.row)
-  row_of k c l e = sym (law.takes k c l) ∙ ap (λ (b : Bool). if b then Some (row_at run (suc c) r.row) else None) e
+  takes_are : (k c : ℕ) → k < count → (if taken k c then Some (row_at run (suc c) late.columns) else None) ≡ slot_takes key_of (a.ends c) (a.tuple c) (keys_at count key_of stride a c) (slots_at count key_of stride a c) k
+  takes_are k c l =
+      takes_in set k (suc c) l ∙ takes_late count stride key_of a b no_tuple no_end tuples is_late.eos k c
 
-  end_of : (k c : ℕ) → k < count → ended k c ≡ true → (slot_ends_at count (column_of key) stride a c ≡ true) × (k ≡ slot_at count (column_of key) stride a c)
-  end_of k c l e =
-      let p = and_parts (slot_ends_at count (column_of key) stride a c) (nat_eq k (slot_at count (column_of key) stride a c)) (sym (law.ends k c l) ∙ e) in
-      (p.0, eqb-true k (slot_at count (column_of key) stride a c) p.1)
+  ends_are : (k c : ℕ) → k < count → ended k c ≡ (slot_ends_at count key_of stride a c && nat_eq k (slot_at count key_of stride a c))
+  ends_are k c l =
+      ends_in set k (suc c) l ∙ ends_late count stride key_of a b no_tuple no_end tuples is_late.eos k c
 
-  turn_of : (j k c : ℕ) → j < count → k < count → taken j c ≡ true → ended k c ≡ true → j ≡ k
-  turn_of j k c l m e f =
-      let p = end_of k c m f in
-      takes_turn (column_of key) (keys_at count (column_of key) stride a c) (slots_at count (column_of key) stride a c) (apart_keys count (column_of key) stride a c) (a.ends c) (a.tuple c) j
-      (row_at run (suc c) r.row) (row_of j c l e) p.0
-      ∙ sym p.1
+  abbrev wire : Wire
+  wire = record { valid = m.row; eos = m.end; columns = late.columns }
 
-  pub unique_event : (j k c : ℕ) → j < count → k < count → (taken j c || ended j c) ≡ true → (taken k c || ended k c) ≡ true → j ≡ k
-  unique_event j k c l m e f = elim (or_cases (taken j c) (ended j c) e) [
-    | inl p ↦ elim (or_cases (taken k c) (ended k c) f) [
-      | inl q ↦
-          takes_where (column_of key) (keys_at count (column_of key) stride a c) (slots_at count (column_of key) stride a c) (apart_keys count (column_of key) stride a c) (a.ends c) (a.tuple c) j k
-          (row_at run (suc c) r.row) (row_at run (suc c) r.row) (row_of j c l p) (row_of k c m q)
-      | inr q ↦ turn_of j k c l m p q
-    ]
-    | inr p ↦ elim (or_cases (taken k c) (ended k c) f) [
-      | inl q ↦ sym (turn_of k j c m l q p)
-      | inr q ↦ (end_of j c l p).1 ∙ sym (end_of k c m q).1
-    ]
-  ]
+  abbrev lane : Lane
+  lane = lane_of run wire m.slot m.first
 
--- one after another the parts are a lane
-module _ (n0 n1 n2 n3 n4 n5 n6 n7 : Net) (w : Wire) (key count stride width : ℕ) (some : 1 ≤ count) (r : Looked) (m : Told) (valid eos first further : Bit) (slot : Bus)
-    (is_r : AddsLooked n0 n1 key count stride (width + 1) w r) (is_m : PutsTold n1 n2 count width w r m) (is_valid : IsLaterLine n2 n3 m.row valid) (is_eos : IsLaterLine n3 n4 m.end eos)
-    (is_slot : IsLaterBus n4 n5 m.slot slot) (is_first : IsLaterLine n5 n6 m.first first) (is_further : IsLaterLine n6 n7 r.seen.passes further) where
-  k6 : Keeps n6 n7
-  k6 = is_further.keeps
+  one_lane : IsOne count taken ended lane
+  unfolding line_at
+  one_lane = record {
+    unique = unique_event count stride key_of a (λ c. row_at run (suc c) late.columns) taken ended takes_are ends_are;
+    no_row = refl;
+    no_end = refl;
+    row = λ c. row_in set (suc c);
+    end = λ c. end_in set (suc c);
+    slot = λ k c l q. slot_event set k c l q;
+  }
 
-  k5 : Keeps n5 n7
-  k5 = keeps_then n5 n6 n7 is_first.keeps k6
+  no_first : (x : Bool) (p : Option Row) → p ≡ None → (if x then p else None) ≡ None
+  no_first true p q = q
+  no_first false p q = refl
 
-  k4 : Keeps n4 n7
-  k4 = keeps_then n4 n5 n7 is_slot.keeps k5
+  low_first : (x : Bool) → (x && false) ≡ false
+  low_first true = refl
+  low_first false = refl
 
-  k3 : Keeps n3 n7
-  k3 = keeps_then n3 n4 n7 is_eos.keeps k4
+  front : AreSlots count key_of stride a (λ k. share (slot_of run m.slot) k (carried run wire))
+  unfolding tuple_at line_at
+  front = record {
+    no_tuple = λ k l. no_first (nat_eq (slot_of run m.slot 0) k) ((carried run wire).tuple 0) refl;
+    no_end = λ k l. low_first (nat_eq (slot_of run m.slot 0) k);
+    tuples = λ k c l. share_row count taken ended lane one_lane (Some (row_at run (suc c) late.columns)) k c l ∙ takes_are k c l;
+    ends = λ k c l. share_end count taken ended lane one_lane k c l ∙ ends_are k c l;
+  }
 
-  k2 : Keeps n2 n7
-  k2 = keeps_then n2 n3 n7 is_valid.keeps k3
+  within_at : (c : ℕ) → (line_at run m.row c || line_at run m.end c) ≡ true → slot_of run m.slot c < count
+  unfolding line_at
+  within_at zero q = absurd (cc)
+  within_at (suc c) q = within count taken ended lane one_lane c q
 
-  k1 : Keeps n1 n7
-  k1 = keeps_then n1 n2 n7 is_m.keeps k2
+  -- ---- where streams begin
 
-  abbrev lines : LaneLines
-  lines = record { wire = record { valid = valid; eos = eos; columns = r.row }; slot = slot; first = first; keys = r.keys; further = further }
+  abbrev new : ℕ → Bool
+  new c = line_at run m.key.new (suc c)
 
-  module _ (run : Run) (z : IsRun n7 run) where
-    law : IsLooked run key count stride w r
-    law = is_r.law run (k1.runs run z)
+  tells_new : TellsNew count key_of stride a new
+  unfolding tuple_at
+  tells_new = record { comes = comes; stays = stays }
+    where
+      valid_of : (x : Bool) (p : Row) (rr : Row) → (if x then Some p else None) ≡ Some rr → (x ≡ true) × (p ≡ rr)
+      valid_of true p rr q = (refl, cc)
+      valid_of false p rr q = absurd (cc)
 
-    made : AreTold run count (takes_of run w r) (ends_of run r) m
-    made = is_m.law run (k2.runs run z)
+      none_of : (x : Bool) (p : Row) → (if x then Some p else None) ≡ None → x ≡ false
+      none_of true p q = absurd (cc)
+      none_of false p q = refl
 
-    abbrev takes : ℕ → ℕ → Bool
-    takes k c = takes_of run w r k c
+      freed_is : (g : Bool) (xs : List ℕ) (v e : Bool) → v ≡ true → (if g && (v || e) then [] else xs) ≡ (if g then [] else xs)
+      freed_is true xs true e q = refl
+      freed_is false xs true e q = refl
+      freed_is g xs false e q = absurd (cc)
 
-    abbrev ends : ℕ → ℕ → Bool
-    ends k c = ends_of run r k c
+      comes : (c : ℕ) (rr : Row) → a.tuple c ≡ Some rr → new c ≡ not (list_any (nat_eq (key_of rr)) (freed (slots_at count key_of stride a c)))
+      comes c rr q =
+          let at = valid_of (line_at run late.valid (suc c)) (row_at run (suc c) late.columns) rr (tuples c ∙ q) in
+          let late_slots = slots_late count stride key_of a b no_tuple no_end tuples is_late.eos c in
+          let value = is_key set (suc c) at.0 ∙ ap key_of at.1 in
+          let one = one_at set (suc c) at.0 in
+          let base = freed_is (slots_at count key_of stride b (suc c)).flush (slots_at count key_of stride b (suc c)).keys (line_at run late.valid (suc c)) (line_at run late.eos (suc c)) at.0 in
+          is_m.new_is (suc c)
+          ∙ ap (λ x. (x && not (line_at run r.sought.one.one (suc c))) || (line_at run m.key.was (suc c) && not x)) at.0
+          ∙ low (line_at run r.sought.one.one (suc c)) (line_at run m.key.was (suc c))
+          ∙ ap not (one ∙ ap (λ n. list_any (nat_eq n) (if (slots_at count key_of stride b (suc c)).flush && (line_at run late.valid (suc c) || line_at run late.eos (suc c)) then [] else (slots_at count key_of stride b (suc c)).keys)) value
+          ∙ ap (list_any (nat_eq (key_of rr))) (base ∙ ap freed late_slots))
+        where
+          low : (x y : Bool) → ((true && not x) || (y && not true)) ≡ not x
+          low true true = refl
+          low true false = refl
+          low false y = refl
 
-    abbrev lane : Lane
-    lane = lane_of run lines.wire slot first
+      stays : (c : ℕ) → a.tuple (suc c) ≡ None → new (suc c) ≡ new c
+      stays c q =
+          let low = none_of (line_at run late.valid (suc (suc c))) (row_at run (suc (suc c)) late.columns) (tuples (suc c) ∙ q) in
+          is_m.new_is (suc (suc c))
+          ∙ ap (λ x. (x && not (line_at run r.sought.one.one (suc (suc c)))) || (line_at run m.key.was (suc (suc c)) && not x)) low
+          ∙ same (line_at run m.key.was (suc (suc c))) ∙ is_m.next (suc c)
+        where
+          same : (y : Bool) → ((false && not (line_at run r.sought.one.one (suc (suc c)))) || (y && not false)) ≡ y
+          same true = refl
+          same false = refl
 
-    none_first : (k : ℕ) → (takes k 0 || ends k 0) ≡ false
-    none_first k =
-        let x = line_of-first run r.seen.found k in
-        let y = line_of-first run r.seen.takes k in
-        let u = line_of-first run r.turns k in
-        rw (x, y, u) refl
+  abbrev begun : ℕ → ℕ → Bool
+  begun k c = is_begun count key_of stride a k c
 
-    -- the number is that of the slot with the event
-    slot_is : (k c : ℕ) → k < count → (takes k c || ends k c) ≡ true → slot_of run slot (suc c) ≡ k
-    unfolding held_at
-    slot_is k zero l e = let x = none_first k in absurd (cc)
-    slot_is k (suc c) l e =
-        is_slot.value run (k5.runs run z) c ∙ (made.tells (suc c)).slot k l e (λ j n f. unique_event run w key count stride r law j k (suc c) n l f e)
+  row_any : (c : ℕ) → any_to count (λ k. taken k c) ≡ any_to count (λ k. takes_row_at count key_of stride a k c)
+  row_any c = any_same count (λ k. taken k c) (λ k. takes_row_at count key_of stride a k c) (λ k l. takes_some count stride key_of a (λ c. row_at run (suc c) late.columns) taken ended takes_are ends_are k c l)
 
-    one_lane : IsOne count takes ends made.was lane
-    unfolding line_at
-    one_lane = record {
-      unique = λ j k c l n e f. unique_event run w key count stride r law j k c l n e f;
-      before = made.before;
-      after = made.after;
-      no_row = refl;
-      no_end = refl;
-      no_first = refl;
-      row = λ c. is_valid.line run (k3.runs run z) c ∙ (made.tells c).row;
-      end = λ c. is_eos.line run (k4.runs run z) c ∙ (made.tells c).end;
-      begins = λ c. is_first.line run (k6.runs run z) c ∙ (made.tells c).first;
-      slot = slot_is;
-    }
+  begins_at : AwaitsTurns count stride a → (c : ℕ) → line_at run m.first (suc c) ≡ any_to count (λ k. (taken k c || ended k c) && not (begun k c))
+  begins_at awaits c =
+      is_m.first (suc c) ∙ ap (λ x. x && new c) (one_lane.row c ∙ row_any c)
+      ∙ first_awaited count key_of stride a some apart awaits new tells_new c
+      ∙ sym (any_same count (λ k. (taken k c || ended k c) && not (begun k c)) (λ k. (takes_row_at count key_of stride a k c || ends_at count key_of stride a k c) && not (begun k c)) each)
+    where
+      each : (k : ℕ) → k < count → ((taken k c || ended k c) && not (begun k c)) ≡ ((takes_row_at count key_of stride a k c || ends_at count key_of stride a k c) && not (begun k c))
+      each k l =
+          ap (λ x. (x || ended k c) && not (begun k c)) (takes_some count stride key_of a (λ c. row_at run (suc c) late.columns) taken ended takes_are ends_are k c l)
+          ∙ ap (λ x. (takes_row_at count key_of stride a k c || x) && not (begun k c)) (ends_are k c l)
 
-    no_first : (b : Bool) (o : Option Row) → o ≡ None → (if b then o else None) ≡ None
-    no_first true o e = e
-    no_first false o e = refl
+  tells_first : AwaitsTurns count stride a → TellsFirst count taken ended begun lane
+  unfolding line_at is_begun
+  tells_first awaits = record {
+    before = λ k. refl;
+    after = λ k c l.
+        ap (λ x. (x || begun k c) && not (ends_at count key_of stride a k c)) (sym (takes_some count stride key_of a (λ c. row_at run (suc c) late.columns) taken ended takes_are ends_are k c l))
+        ∙ ap (λ x. (taken k c || begun k c) && not x) (sym (ends_are k c l));
+    no_first = refl;
+    begins = begins_at awaits;
+  }
 
-    low_first : (b : Bool) → (b && false) ≡ false
-    low_first true = refl
-    low_first false = refl
+  -- ---- keys, and further ones
 
-    told_at : (c : ℕ) → line_at run further c ≡ further_line count (column_of key) stride (carried run w) c
-    unfolding line_at
-    told_at zero = refl
-    told_at (suc c) = is_further.line run z c ∙ law.further c
+  slots_shown : (k c z : ℕ) → k < count → slice_get (slots_at count key_of stride a c).keys k ≡ Some z → ((all set).used k (suc c) ≡ true) × (held_of run r.sought.keys k (suc c) ≡ z)
+  slots_shown k c z l there =
+      let mirror = mirrors set (suc c) in
+      by ((all set).used k (suc c)) (held_of run r.sought.keys k (suc c)) z
+      (sym (mirror.slots k l) ∙ ap (λ q. slice_get q.keys k) (slots_late count stride key_of a b no_tuple no_end tuples is_late.eos c) ∙ there)
+    where
+      by : (x : Bool) (p z : ℕ) → (if x then Some p else None) ≡ Some z → (x ≡ true) × (p ≡ z)
+      by true p z q = (refl, cc)
+      by false p z q = absurd (cc)
 
-    within_at : (c : ℕ) → (line_at run valid c || line_at run eos c) ≡ true → slot_of run slot c < count
-    unfolding line_at
-    within_at zero e = absurd (cc)
-    within_at (suc c) e = within count takes ends made.was lane one_lane c e
+  told_at : (c : ℕ) → line_at run r.sought.passes c ≡ further_line count key_of stride a c
+  unfolding line_at
+  told_at zero = refl
+  told_at (suc c) =
+      further_at set (suc c)
+      ∙ ap (λ ks. is_further key_of ks (b.tuple (suc c))) (keys_late count stride key_of a b no_tuple no_end tuples is_late.eos c) ∙ ap (is_further key_of (keys_at count key_of stride a c)) (tuples c)
 
-    pub lane_is : IsLane run key count stride w lines
-    unfolding tuple_at line_at
-    lane_is = record {
-      front = record {
-        no_tuple = λ k l. no_first (nat_eq (slot_of run slot 0) k) ((carried run lines.wire).tuple 0) refl;
-        no_end = λ k l. low_first (nat_eq (slot_of run slot 0) k);
-        tuples = λ k c l. share_row count takes ends made.was lane one_lane (Some (row_at run (suc c) r.row)) k c l ∙ law.takes k c l;
-        ends = λ k c l. share_end count takes ends made.was lane one_lane k c l ∙ law.ends k c l;
-      };
-      within = within_at;
-      begins = begins_are count takes ends made.was lane one_lane;
-      shown = law.shown;
-      told = told_at;
-    }
+  nexts_are : (k t : ℕ) → k < count → line_of run r.sought.asked.nexts k t ≡ is_next (sought_in (all set) t) k
+  nexts_are = is_r.nexts
 
-  pub lanes_are : AddsLane n0 n7 key count stride width w lines
-  lanes_are =
-      let g = gates_some count some in
-      let bits : count * (slice_index (widths w.columns) key + 2) ≡ count * (slice_index (widths w.columns) key + 1) + count = omega arith in
-      record {
-        keeps = keeps_then n0 n1 n7 is_r.keeps k1;
-        cost = record {
-          nodes = omega (arith, is_r.cost.nodes, is_m.cost.nodes, is_valid.cost.nodes, is_eos.cost.nodes, is_slot.cost.nodes, is_first.cost.nodes, is_further.cost.nodes, g, some);
-          registers = omega (arith, is_r.cost.registers, is_m.cost.registers, is_valid.cost.registers, is_eos.cost.registers, is_slot.cost.registers, is_first.cost.registers, is_further.cost.registers, is_m.is.slot_width, bits);
-          memories = omega (arith, is_r.cost.memories, is_m.cost.memories, is_valid.cost.memories, is_eos.cost.memories, is_slot.cost.memories, is_first.cost.memories, is_further.cost.memories);
-        };
-        wire = record { valid = bit_kept n3 n7 valid k3 is_valid.bit; eos = bit_kept n4 n7 eos k4 is_eos.bit; columns = buses_kept n1 n7 r.row k1 is_r.row_buses };
-        same_widths = is_r.row_widths;
-        slot = bus_kept n5 n7 slot k5 is_slot.bus;
-        slot_width = is_slot.same_width ∙ is_m.is.slot_width;
-        first = bit_kept n6 n7 first k6 is_first.bit;
-        keys_count = is_r.keys_count;
-        keys = λ k b e. let h = is_r.keys k b e in (bus_kept n1 n7 b k1 h.0, h.1);
-        further = is_further.bit;
-        law = λ run z. lane_is run z;
-      }
+  shown : AreKeys count key_of stride 1 a (held_of run r.sought.keys)
+  shown = record {
+    shown = λ k c d z l at there. (let same : suc c ≡ d = omega (arith, at) in subst (λ t. held_of run r.sought.keys k t ≡ z) same (slots_shown k c z l there).1);
+  }
+
+  registers : TakeKeys run count r.sought.asked.nexts last (held_of run r.sought.keys)
+  registers k t l =
+      is_r.goes.key k (suc t) l ∙ ap (λ (x : Bool). if x then held_at 0 run last (suc t) else held_of run r.sought.keys k (suc t)) (sym (nexts_are k (suc t) l))
+
+  words_shown : (words : ℕ → ℕ → ℕ) → TakeKeys run count r.sought.asked.nexts last words → AreKeys count key_of stride 1 a words
+  words_shown words take = record {
+    shown = λ k c d z l at there.
+        (let same : suc c ≡ d = omega (arith, at) in
+        let p = slots_shown k c z l there in
+        subst (λ t. words k t ≡ z) same (same_words count (all set) is_r.goes (finds set) words (λ k t l. take k t l ∙ ap (λ (x : Bool). if x then held_at 0 run last (suc t) else words k (suc t)) (nexts_are k (suc t) l)) k (suc c) l p.0 ∙ p.1));
+  }
+
+  come : KeysCome run key count stride 1 source r.sought.asked.nexts last r.sought.keys
+  come = record {
+    one = λ j k t l n p q. one_next count (all set) is_r.goes (finds set) j k t l n (sym (nexts_are j t l) ∙ p) (sym (nexts_are k t n) ∙ q);
+    registers = registers;
+    words = words_shown;
+  }
+
+  abbrev pub lines : LaneLines
+  lines = record { wire = wire; slot = m.slot; first = m.first; keys = r.sought.keys; nexts = r.sought.asked.nexts; here = last; further = r.sought.passes }
+
+  pub lane_is : IsLane run key count stride source lines
+  lane_is = record {
+    front = front;
+    within = within_at;
+    begins = λ awaits. begins_are count taken ended lane one_lane begun (tells_first awaits);
+    shown = shown;
+    come = come;
+    told = told_at;
+  }

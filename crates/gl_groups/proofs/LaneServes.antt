@@ -7,8 +7,8 @@ use Rattle.gl_algebra.specs.FigureTable.{IsSound, delayed, group_gap, input_figu
 use Rattle.gl_wire_copies.specs.Bodies.{OfBody}
 use Rattle.gl_wire_copies.specs.Lift.{tuple_of_any}
 use Rattle.gl_groups.specs.Groupings.{in_front, with_keys}
-use Rattle.gl_groups.proofs.GroupLemmas.{groups_served}
-use Rattle.gl_groups.specs.LaneLaws.{LanesServe, direct_figures}
+use Rattle.gl_groups.proofs.GroupLemmas.{flush_awaited, groups_served}
+use Rattle.gl_groups.specs.LaneLaws.{Laned, LanesServe, direct_figures}
 use Rattle.gl_groups.proofs.LaneShares.{share_steady, tuple_of_all}
 use Rattle.gl_wire_lanes.specs.Shares.{share}
 use Rattle.gl_wire.specs.Apart.{CarriesApart}
@@ -67,12 +67,18 @@ direct_sound d m = record {
 }
 
 pub lanes_serve : LanesServe
-lanes_serve f count d m key step total a lane mid out b slot slot_mid slot_out keys further close nodes body sound some h makes beats spaced fits =
-    groups_served f (direct_figures d m) sound (direct_sound d m) refl count key some a (λ k. share slot k lane) (λ k. share slot_out k out) h.front keys h.shown further h.tells (OfBody nodes body) (λ k. no_lines) b close
+lanes_serve f count d m key step total a lane mid out b slot slot_mid slot_out keys further close nodes body sound some laned makes beats spaced fits =
+    groups_served f (direct_figures d m) sound (direct_sound d m) refl count key some a (λ k. share slot k lane) (λ k. share slot_out k out) h.front 1 in_body keys h.shown further (λ awaits. h.tells) (OfBody nodes body) (λ k. no_lines) b close
     back h.closes beats spaced fits near serves
   where
     near : CarriesApart (group_gap (direct_figures d m)) a
     near c e p q l = omega (arith, l)
+
+    h : Laned count d m key step total a lane mid out b slot slot_mid slot_out keys further close
+    h = laned (flush_awaited f (direct_figures d m) sound (direct_sound d m) count some a beats spaced fits near)
+
+    in_body : 1 ≤ (direct_figures d m).a
+    in_body = omega (arith, h.delay)
 
     back : IsDelayed 1 (record { tuple = tuple_of_any (with_keys keys (λ k. share slot_out k out)) count; ends = close }) b
     back =

@@ -8,16 +8,17 @@ use Rattle.std.proofs.Math.Bool.{and-true, and-false}
 use Rattle.gl_bits.specs.Results.{Row}
 use Rattle.gl_bits.proofs.Bools.{by_cases, same_test}
 use Rattle.gl_wire_registers.specs.Held.{counted_down}
-use Rattle.gl_groups.specs.Seeking.{Sought, asked, has, is_next, kept, matches, takes}
+use Rattle.gl_wire_registers.specs.Lines.{any_to}
+use Rattle.gl_groups.specs.Seeking.{Sought, asked, found, has, is_next, kept, matches, takes}
 use Rattle.gl_groups.specs.Slots.{Slots, is_further, keys_now, of_slot, same_key, slot_ends, slot_now, slot_takes, slots_next, with_tuple}
 use Rattle.gl_groups.specs.Values.{Cycle, Mirrors, Steps, Values, at_of, due_of, end_of, sought_of, tail_of, valid_of}
-use Rattle.gl_groups.proofs.SeekLemmas.{get_some, has_is, joined, later_few, left_is, matches_is, next_at, next_used}
+use Rattle.gl_groups.proofs.SeekLemmas.{get_some, has_is, joined, later_few, left_is, matches_is, new_is, next_at, next_used}
 
 abbrev pub tuple_of : Bool → Row → Option Row
 tuple_of v x = if v then Some x else None
 
 -- the keys before what comes
-abbrev base : Bool → Bool → Slots → List ℕ
+abbrev pub base : Bool → Bool → Slots → List ℕ
 base e v s = if s.flush && (v || e) then [] else s.keys
 
 keys_are : (count : ℕ) (key : Row → ℕ) (e v : Bool) (x : Row) (s : Slots) → keys_now count key e (tuple_of v x) s ≡ joined count v (key x) (base e v s)
@@ -83,6 +84,16 @@ module _ (count stride : ℕ) (key : Row → ℕ) (some : 1 ≤ count) (s : Slot
 
   few_next : length ks ≤ count
   few_next = subst (λ (zs : List ℕ). length zs ≤ count) (sym keys_later) (later_few count (base e v s) seen shown few_base)
+
+  -- whether a key that comes is new
+  pub one_is : v ≡ true → any_to count (found seen) ≡ list_any (nat_eq y) (base e v s)
+  one_is h = by (any_to count (found seen)) (list_any (nat_eq y) (base e v s)) (ap (λ b. b && not (any_to count (found seen))) (sym h) ∙ new_is count (base e v s) seen shown few_base ∙ ap (λ b. b && not (list_any (nat_eq y) (base e v s))) h)
+    where
+      by : (b c : Bool) → (true && not b) ≡ (true && not c) → b ≡ c
+      by true true q = refl
+      by false false q = refl
+      by true false q = absurd (cc)
+      by false true q = absurd (cc)
 
   -- a row of a further key is left over
   pub further_is : asked count seen count ≡ is_further key ks (tuple_of v x)

@@ -162,7 +162,7 @@ module _ (count : ℕ) (ks : List ℕ) (s : Sought) (shown : (k : ℕ) → k < c
       by true = refl
       by false = refl
 
-  new_is : is_new count s ≡ (s.ask && not (list_any (nat_eq s.value) ks))
+  pub new_is : is_new count s ≡ (s.ask && not (list_any (nat_eq s.value) ks))
   new_is = ap (λ b. s.ask && not b) (any_same count (found s) (λ k. same_key (slice_get ks k) s.value) (λ k l. found_is k l) ∙ any_listed count ks s.value few)
 
   takes_is : (k : ℕ) → k < count → takes count s k ≡ (s.ask && taken_at ks s.value k)

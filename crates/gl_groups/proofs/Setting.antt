@@ -1,9 +1,11 @@
 -- What is given where a front of groups is reasoned about: the machine behind a source, and what the source keeps to in time.
-use Rattle.std.specs.Prelude.{ℕ, ◌+◌, ◌-◌, ◌*◌, ◌≤◌}
+use Rattle.std.proofs.Common.{ℕ, ◌+◌, ◌-◌, ◌*◌, ◌≤◌, arith}
 use Rattle.gl_bits.specs.Results.{Row}
 use Rattle.gl_wire.specs.Wire.{Carried}
 use Rattle.gl_wire_copies.specs.Coming.{by_tuples}
 use Rattle.gl_wire_copies.specs.Timed.{Timed}
+use Rattle.gl_wire_copies.proofs.NumberLemmas.{all_turns}
+use Rattle.gl_groups.specs.Groupings.{AwaitsTurns}
 use Rattle.gl_groups.specs.Slots.{AreSlots}
 
 pub record Setting : Type 0 where
@@ -23,3 +25,23 @@ pub record Setting : Type 0 where
   pub wide : count * stride + 1 ≤ g2
   pub strides : stride ≤ gap_end
   pub far : (count - 1) * stride + gap_end + 1 ≤ g2
+
+-- behind a source that awaits each flush
+abbrev pub awaited : (count : ℕ) (key : Row → ℕ) (stride : ℕ) (a : Carried) (ins : ℕ → Carried) → 1 ≤ count → 1 ≤ stride → AreSlots count key stride a ins → AwaitsTurns count stride a → Setting
+awaited count key stride a ins some stride_some law awaits = record {
+  count = count;
+  key = key;
+  stride = stride;
+  g1 = 1;
+  g2 = count * stride + 1;
+  gap_end = stride;
+  a = a;
+  ins = ins;
+  law = law;
+  slots_some = some;
+  stride_some = stride_some;
+  timed = record { apart = λ c d p q l. omega (arith, l); after = λ u d p q l. (awaits d q).over u p l };
+  wide = omega arith;
+  strides = omega arith;
+  far = omega (arith, all_turns count stride some);
+}

@@ -9,14 +9,13 @@ use Rattle.gl_wire.specs.declared.wire.Wire.{Wire}
 use Rattle.gl_wire.specs.Costs.{Costs}
 use Rattle.gl_wire.specs.Wire.{AreBuses, IsWire, carried, line_at, row_at, widths}
 use Rattle.gl_wire_registers.specs.Held.{counted_down, held_at, with_registers}
-use Rattle.gl_wire_registers.specs.Lines.{AreBits, any_to, carried_of, gates_of, line_of}
+use Rattle.gl_wire_registers.specs.Lines.{AreBits, carried_of, gates_of, line_of}
 use Rattle.gl_groups.specs.declared.front.Chosen.{Chosen}
 use Rattle.gl_groups.specs.declared.front.Front.{Front}
 use Rattle.gl_groups.specs.declared.front.Looked.{Looked}
 use Rattle.gl_groups.specs.declared.front.Lookup.{Lookup}
 use Rattle.gl_groups.specs.declared.front.Turning.{Turning}
-use Rattle.gl_groups.specs.declared.slots.Seen.{Seen}
-use Rattle.gl_groups.specs.SlotLines.{AreSeen, held_of}
+use Rattle.gl_groups.specs.SlotLines.{AreSeen, OneAtMost, TakeKeys, held_of}
 use Rattle.gl_groups.specs.Groupings.{AreKeys}
 use Rattle.gl_groups.specs.Slots.{AreSlots, further_line, is_further, keys_at, slot_at, slot_ends_at, slot_takes, slots_at}
 
@@ -57,16 +56,9 @@ pub record AddsTurning (old new : Net) (eos due : Bit) (count : ℕ) (r : Turnin
   pub cost : Costs old new (with_registers (count * 3 + 13) 32)
   pub law : (run : Run) → IsRun new run → IsTurning run eos due count r
 
--- how what n slots make of a key hangs together in a cycle
-pub record IsSettled (run : Run) (n : ℕ) (r : Seen) (t : ℕ) : Type 0 where
-  pub takes : (k : ℕ) → k < n → line_of run r.takes k t ≡ (line_of run r.nexts k t && not (line_at run r.one t))
-  pub has : (k : ℕ) → k < n → line_of run r.has k t ≡ (line_of run r.kept k t || line_of run r.takes k t)
-  pub one : line_at run r.one t ≡ any_to n (λ k. line_of run r.found k t)
-
 -- lines of n slots that are looked at
 pub record IsLook (net : Net) (n : ℕ) (r : Looked) : Type 0 where
   pub seen : AreSeen net n r.seen
-  pub settled : (run : Run) → IsRun net run → (t : ℕ) → IsSettled run n r.seen t
   pub turns_count : length r.turns ≡ n
   pub turns : AreBits net r.turns
   pub tail : IsBit net r.tail
@@ -76,20 +68,22 @@ abbrev pub takes_row : Run → Wire → Looked → Bool → Bool → ℕ → Boo
 takes_row run source r matches ends t =
     matches && ((ends && line_at run r.tail t) || (line_at run source.valid t && not (line_at run source.eos t)))
 
--- the slots that end if these are used, and those that take the row if these have its key
-abbrev pub ends_if : Run → Looked → List Bit → ℕ → ℕ → Bool
-ends_if run r has k t = line_of run r.turns k t && line_of run has k t
-
-abbrev pub takes_if : Run → Wire → Looked → List Bit → List Bit → ℕ → ℕ → Bool
-takes_if run source r has matches k t = takes_row run source r (line_of run matches k t) (ends_if run r has k t) t
-
--- those that do
+-- the slots that end, and those that take the row
 abbrev pub ends_of : Run → Looked → ℕ → ℕ → Bool
-ends_of run r = ends_if run r r.seen.has
+ends_of run r k t = line_of run r.turns k t && line_of run r.seen.has k t
 
 abbrev pub takes_of : Run → Wire → Looked → ℕ → ℕ → Bool
 takes_of run source r k t =
     takes_row run source r (line_of run r.seen.found k t || line_of run r.seen.takes k t) (ends_of run r k t) t
+
+-- how keys come to the slots of a machine over this wire: one slot at most may take the key that comes; numbers that take
+-- keys so are those of the slots that are used, so many cycles late, and the registers do
+pub record KeysCome (run : Run) (key count stride late : ℕ) (source : Wire) (nexts : List Bit) (here : Bus)
+    (keys : List Bus) : Type 0 where
+  pub one : OneAtMost run count nexts
+  pub registers : TakeKeys run count nexts here (held_of run keys)
+  pub words : (w : ℕ → ℕ → ℕ) → TakeKeys run count nexts here w
+      → AreKeys count (column_of key) stride late (carried run source) w
 
 -- the machine of slots: which slots take the row that stands here one cycle later and which one ends, the keys, and the
 -- line of further keys
@@ -102,7 +96,7 @@ pub record IsLooked (run : Run) (key count stride : ℕ) (source : Wire) (r : Lo
   pub ends : (k c : ℕ) → k < count
       → ends_of run r k c ≡ (slot_ends_at count (column_of key) stride (carried run source) c
       && nat_eq k (slot_at count (column_of key) stride (carried run source) c))
-  pub shown : AreKeys count (column_of key) stride (carried run source) (held_of run r.keys)
+  pub shown : AreKeys count (column_of key) stride 0 (carried run source) (held_of run r.keys)
   pub further : (c : ℕ) → line_at run r.seen.passes c
       ≡ is_further (column_of key) (keys_at count (column_of key) stride (carried run source) c)
       ((carried run source).tuple c)
@@ -130,7 +124,7 @@ pub record IsChosen (run : Run) (key count stride : ℕ) (source : Wire) (r : Ch
   pub ends : (k c : ℕ) → k < count
       → line_of run r.ends k c ≡ (slot_ends_at count (column_of key) stride (carried run source) c
       && nat_eq k (slot_at count (column_of key) stride (carried run source) c))
-  pub shown : AreKeys count (column_of key) stride (carried run source) (held_of run r.keys)
+  pub shown : AreKeys count (column_of key) stride 0 (carried run source) (held_of run r.keys)
   pub further : (c : ℕ) → line_at run r.passes c
       ≡ is_further (column_of key) (keys_at count (column_of key) stride (carried run source) c)
       ((carried run source).tuple c)
@@ -154,7 +148,7 @@ pub record AddsChosen (old new : Net) (key count stride width : ℕ) (source : W
 -- wires behind the machine of slots, the keys of the slots, and the line of further keys
 pub record IsFront (run : Run) (key count stride : ℕ) (source : Wire) (r : Front) : Type 0 where
   pub front : AreSlots count (column_of key) stride (carried run source) (carried_of run r.wires)
-  pub shown : AreKeys count (column_of key) stride (carried run source) (held_of run r.keys)
+  pub shown : AreKeys count (column_of key) stride 0 (carried run source) (held_of run r.keys)
   pub told : (c : ℕ) → line_at run r.further c ≡ further_line count (column_of key) stride (carried run source) c
 
 pub record AddsFront (old new : Net) (key count stride width : ℕ) (source : Wire) (r : Front) : Type 0 where

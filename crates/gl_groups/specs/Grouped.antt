@@ -40,7 +40,7 @@ pub record Fronts (net : Net) (r : Grouping) (f : Fronted) : Type 0 where
   pub close : IsBit net f.close
   pub front : (run : Run) → IsRun net run
       → AreSlots r.slots (key_of r) (stride_of r.body) (carried run f.source.wire) (carried_of run f.wires)
-  pub shown : (run : Run) → IsRun net run → AreKeys r.slots (key_of r) (stride_of r.body) (carried run f.source.wire)
+  pub shown : (run : Run) → IsRun net run → AreKeys r.slots (key_of r) (stride_of r.body) 0 (carried run f.source.wire)
       (held_of run f.keys)
   -- after reset it is 1 exactly in the cycle after one in which a tuple came whose key is not among its stream's first
   -- keys

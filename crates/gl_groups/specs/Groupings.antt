@@ -37,12 +37,16 @@ pub record IsGrouping (r : Grouping) : Type 0 where
   pub timed : r.body.le + turns_of r.slots r.body + 3 < 2 ^ 32
 
 -- whatever comes finds the flush of each end before it over: in so many cycles each slot has its turn
-abbrev pub AwaitsFlush : Grouping → Carried → Type 0
-AwaitsFlush r a = (c : ℕ) → Carries a c → Rested (r.slots * stride_of r.body) a c
+abbrev pub AwaitsTurns : ℕ → ℕ → Carried → Type 0
+AwaitsTurns count stride a = (c : ℕ) → Carries a c → Rested (count * stride) a c
 
--- numbers, for each slot and cycle, that are the keys of the slots that are used
-pub record AreKeys (count : ℕ) (key : Row → ℕ) (stride : ℕ) (a : Carried) (keys : ℕ → ℕ → ℕ) : Type 0 where
-  pub shown : (k c x : ℕ) → k < count → slice_get (slots_at count key stride a c).keys k ≡ Some x → keys k c ≡ x
+abbrev pub AwaitsFlush : Grouping → Carried → Type 0
+AwaitsFlush r a = AwaitsTurns r.slots (stride_of r.body) a
+
+-- numbers, for each slot and cycle, that are the keys of the slots that are used, so many cycles late
+pub record AreKeys (count : ℕ) (key : Row → ℕ) (stride late : ℕ) (a : Carried) (keys : ℕ → ℕ → ℕ) : Type 0 where
+  pub shown : (k c d x : ℕ) → k < count → c + late ≡ d → slice_get (slots_at count key stride a c).keys k ≡ Some x
+      → keys k d ≡ x
 
 -- a number in front of a tuple
 abbrev pub in_front : ℕ → Option Row → Option Row

@@ -1,10 +1,9 @@
 -- What a lane, row operators, a table and a gatherer serve together.
-use Rattle.std.specs.Prelude.{◌≡◌, ℕ, suc, ◌+◌, ◌*◌, ◌<◌, ◌≤◌, List, [], ◌∷◌, Option, Some, None, Bool, false, filter_map}
+use Rattle.std.specs.Prelude.{◌≡◌, ℕ, suc, ◌+◌, ◌<◌, ◌≤◌, List, [], ◌∷◌, Option, Some, None, Bool, false, filter_map}
 use Rattle.gl_bits.specs.Results.{Row}
 use Rattle.gl_algebra.specs.declared.figures.Figures.{Figures}
 use Rattle.gl_algebra.specs.declared.node.PlanNode.{PlanNode}
 use Rattle.gl_algebra.specs.FigureTable.{IsSound, aggregate_figures, delayed, groups_over, input_figures, stride_of}
-use Rattle.gl_wire.specs.Apart.{Carries}
 use Rattle.gl_wire.specs.Beats.{Beats, Spaced}
 use Rattle.gl_wire.specs.Serves.{Fits}
 use Rattle.gl_wire.specs.Shapes.{AtEnds, IsDelayed, Steady}
@@ -12,10 +11,9 @@ use Rattle.gl_wire.specs.Spills.{ServedWithLines, both_lines, no_lines}
 use Rattle.gl_wire.specs.Wire.{Carried}
 use Rattle.gl_wire_copies.specs.Bodies.{OfBody}
 use Rattle.gl_wire_copies.specs.Rotates.{lines_of_all, turns_of}
-use Rattle.gl_wire_copies.specs.Timed.{Rested}
 use Rattle.gl_wire_lanes.specs.Shares.{share}
 use Rattle.gl_wire_registers.specs.Timers.{IsClose}
-use Rattle.gl_groups.specs.Groupings.{AreKeys, OfGroups, in_front, line_of_further}
+use Rattle.gl_groups.specs.Groupings.{AreKeys, AwaitsTurns, OfGroups, in_front, line_of_further}
 use Rattle.gl_groups.specs.Slots.{AreSlots, came_further}
 
 -- the figures of a body that is so many cycles of row operators, and a total
@@ -30,13 +28,13 @@ pub record Laned (count d m : ℕ) (key : Row → ℕ) (step : Row → Option Ro
   pub front : AreSlots count key (stride_of (direct_figures d m)) a (λ k. share slot k lane)
   pub no_row : lane.tuple 0 ≡ None
   pub no_end : lane.ends 0 ≡ false
-  pub shown : AreKeys count key (stride_of (direct_figures d m)) a keys
-  pub tells : ((c : ℕ) → Carries a c → Rested (count * stride_of (direct_figures d m)) a c) → (c : ℕ)
-      → further c ≡ came_further count key a c
+  pub shown : AreKeys count key (stride_of (direct_figures d m)) 1 a keys
+  pub tells : (c : ℕ) → further c ≡ came_further count key a c
   -- row operators, with the slot so many cycles later
   pub rows : Steady d step lane mid
   pub slots : (c : ℕ) → slot_mid (suc c + d) ≡ slot (suc c)
-  -- the table
+  -- the table, which takes a cycle at least
+  pub delay : 1 ≤ m
   pub table : (k : ℕ) → AtEnds m total (share slot_mid k mid) (share slot_out k out)
   pub within : (c : ℕ) (r : Row) → out.tuple c ≡ Some r → slot_out c < count
   -- the gatherer
@@ -45,13 +43,15 @@ pub record Laned (count d m : ℕ) (key : Row → ℕ) (step : Row → Option Ro
   pub closes : IsClose ((direct_figures d m).le + turns_of count (direct_figures d m) + 1)
       ((direct_figures d m).le + turns_of count (direct_figures d m) + 1 + 1) a.ends close
 
--- it serves what the body makes of groups, where the body makes that total of the rows that the operators leave
+-- where each flush is over before anything comes, these serve what the body makes of groups, if the body makes that
+-- total of the rows that the operators leave
 abbrev pub LanesServe : Type 0
 LanesServe =
     (f : Figures) (count d m : ℕ) (key : Row → ℕ) (step : Row → Option Row) (total : List Row → Row)
     (a lane mid out b : Carried) (slot slot_mid slot_out : ℕ → ℕ) (keys : ℕ → ℕ → ℕ) (further close : ℕ → Bool)
     (nodes : List PlanNode) (body : ℕ) → IsSound f → 1 ≤ count
-    → Laned count d m key step total a lane mid out b slot slot_mid slot_out keys further close
+    → (AwaitsTurns count (stride_of (direct_figures d m)) a
+    → Laned count d m key step total a lane mid out b slot slot_mid slot_out keys further close)
     → ((xs : List Row) → OfBody nodes body xs (total (filter_map step xs) ∷ []) false)
     → (beats : Beats) → Spaced (groups_over count f (direct_figures d m)) beats → Fits f beats a
     → ServedWithLines f (groups_over count f (direct_figures d m)) (OfGroups count key (OfBody nodes body))

@@ -1,147 +1,161 @@
 -- One wire for all slots of a group, in a netlist.
-use Rattle.std.specs.Prelude.{◌≡◌, ℕ, suc, ◌+◌, ◌*◌, ◌<◌, List, length, Some, Bool, true, false, slice_get, slice_index, not, ◌&&◌, ◌||◌, if◌then◌else◌}
+use Rattle.std.specs.Prelude.{◌≡◌, ℕ, zero, suc, ◌+◌, ◌-◌, ◌*◌, ◌<◌, ◌^◌, length, Some, Bool, true, false, slice_get, slice_index, not, ◌&&◌, ◌||◌, if◌then◌else◌, nat_eq, nat_lt}
 use Rattle.std.specs.List.{sum}
 use Rattle.gl_net.specs.declared.node.Bus.{Bus}
 use Rattle.gl_net.specs.declared.node.Bit.{Bit}
 use Rattle.gl_net.specs.Net.{Net, Run, IsRun, IsBit, IsBus, Keeps}
 use Rattle.gl_wire.specs.declared.wire.Wire.{Wire}
 use Rattle.gl_wire.specs.Costs.{Costs, nodes_alone}
-use Rattle.gl_wire.specs.Wire.{IsWire, carried, line_at, widths}
+use Rattle.gl_wire.specs.Wire.{IsWire, carried, line_at, row_at, widths}
 use Rattle.gl_wire_lanes.specs.Lanes.{Begins}
 use Rattle.gl_wire_lanes.specs.Shares.{lane_of, share, slot_of}
-use Rattle.gl_wire_registers.specs.Held.{held_at, with_registers}
-use Rattle.gl_wire_registers.specs.Lines.{AreBits, any_to, gates_of, line_of}
-use Rattle.gl_groups.specs.declared.lane.Begun.{Begun}
-use Rattle.gl_groups.specs.declared.front.Looked.{Looked}
+use Rattle.gl_wire_registers.specs.Held.{counted_down, held_at, with_registers}
+use Rattle.gl_wire_registers.specs.Lines.{AreBits, line_of}
+use Rattle.gl_groups.specs.declared.finding.Sought.{Sought}
+use Rattle.gl_groups.specs.declared.lane.HeldEnd.{HeldEnd}
 use Rattle.gl_groups.specs.declared.lane.LaneLines.{LaneLines}
-use Rattle.gl_groups.specs.declared.lane.Streams.{Streams}
+use Rattle.gl_groups.specs.declared.lane.NewKey.{NewKey}
+use Rattle.gl_groups.specs.declared.lane.Over.{Over}
 use Rattle.gl_groups.specs.declared.lane.Told.{Told}
-use Rattle.gl_groups.specs.Fronts.{column_of, ends_if, ends_of, takes_if, takes_of}
-use Rattle.gl_groups.specs.Groupings.{AreKeys}
-use Rattle.gl_groups.specs.Picks.{AreAlike}
+use Rattle.gl_groups.specs.declared.lane.Turns.{Turns}
+use Rattle.gl_groups.specs.Fronts.{KeysCome, column_of}
+use Rattle.gl_groups.specs.Groupings.{AreKeys, AwaitsTurns}
 use Rattle.gl_groups.specs.SlotLines.{held_of}
 use Rattle.gl_groups.specs.Slots.{AreSlots, further_line}
 
--- the events of slots, which of them begin a stream, and the streams that are open behind them
-pub record IsBegun (run : Run) (takes ends was : List Bit) (r : Begun) : Type 0 where
-  pub event : (k t : ℕ) → k < length takes
-      → line_of run r.events k t ≡ (line_of run takes k t || line_of run ends k t)
-  pub first : (t : ℕ) → line_at run r.first t
-      ≡ any_to (length takes)
-      (λ k. (line_of run takes k t || line_of run ends k t) && not (line_of run was k t))
-  pub next : (k t : ℕ) → k < length takes
-      → line_of run r.nexts k t ≡ ((line_of run takes k t || line_of run was k t) && not (line_of run ends k t))
+-- a wire one cycle behind another, with the columns of the row that came last
+pub record IsLate (run : Run) (source late : Wire) : Type 0 where
+  pub valid : (t : ℕ) → line_at run late.valid (suc t) ≡ line_at run source.valid t
+  pub eos : (t : ℕ) → line_at run late.eos (suc t) ≡ line_at run source.eos t
+  pub row : (t : ℕ) → row_at run (suc (suc t)) late.columns
+      ≡ (if line_at run source.valid (suc t) then row_at run (suc t) source.columns else row_at run (suc t) late.columns)
 
-pub record AddsBegun (old new : Net) (takes ends was : List Bit) (r : Begun) : Type 0 where
+pub record AddsLate (old new : Net) (source late : Wire) : Type 0 where
   pub keeps : Keeps old new
-  pub events_count : length r.events ≡ length takes
-  pub events : AreBits new r.events
-  pub first : IsBit new r.first
-  pub nexts_count : length r.nexts ≡ length takes
-  pub nexts : AreBits new r.nexts
-  pub cost : Costs old new (nodes_alone (length takes * 4 + gates_of (length takes)))
-  pub law : (run : Run) → IsRun new run → IsBegun run takes ends was r
+  pub wire : IsWire new late
+  pub same_widths : widths late.columns ≡ widths source.columns
+  pub cost : Costs old new (with_registers (length (widths source.columns) * 2 + 2) (sum (widths source.columns) + 2))
+  pub law : (run : Run) → IsRun new run → IsLate run source late
 
--- what one wire tells of n slots in a cycle
-pub record Telling : Type 0 where
-  pub row : Bool
-  pub end : Bool
-  pub first : Bool
-  pub opens : ℕ → Bool
-  pub slot : ℕ
-
--- where these slots take the row, these end, and the streams of these are open: the number is that of the slot with an
--- event, where it is the only one
-pub record Tells (n : ℕ) (takes ends was : ℕ → Bool) (l : Telling) : Type 0 where
-  pub row : l.row ≡ any_to n takes
-  pub end : l.end ≡ any_to n ends
-  pub first : l.first ≡ any_to n (λ k. (takes k || ends k) && not (was k))
-  pub opens : (k : ℕ) → k < n → l.opens k ≡ ((takes k || was k) && not (ends k))
-  pub slot : (k : ℕ) → k < n → (takes k || ends k) ≡ true
-      → ((j : ℕ) → j < n → (takes j || ends j) ≡ true → j ≡ k) → l.slot ≡ k
-
-abbrev pub telling_at : Run → Told → ℕ → Telling
-telling_at run r t = record {
-  row = line_at run r.row t;
-  end = line_at run r.end t;
-  first = line_at run r.first t;
-  opens = λ k. line_of run r.opens k t;
-  slot = held_at 0 run r.slot t;
-}
-
--- its lines, for n slots with numbers of so many bits
-pub record IsTold (net : Net) (n width : ℕ) (r : Told) : Type 0 where
-  pub row : IsBit net r.row
-  pub end : IsBit net r.end
-  pub first : IsBit net r.first
-  pub opens_count : length r.opens ≡ n
-  pub opens : AreBits net r.opens
-  pub slot : IsBus net r.slot
-  pub slot_width : r.slot.width ≡ width
-
--- n slots with their numbers, and lines of their streams
-pub record AreStreams (net : Net) (n : ℕ) (s : Streams) : Type 0 where
-  pub numbers_count : length s.numbers ≡ n
-  pub numbers : AreAlike net s.width s.numbers
-  pub value : (run : Run) → IsRun net run → (k t : ℕ) → k < n → held_of run s.numbers k (suc t) ≡ k
-  pub was_count : length s.was ≡ n
-  pub was : AreBits net s.was
-
--- what is told if these slots are used and these have the key
-pub record AddsTold (old new : Net) (source : Wire) (look : Looked) (streams : Streams) (has matches : List Bit) (r : Told)
-    : Type 0 where
+-- whether a tuple came with the end
+pub record AddsHeldEnd (old new : Net) (valid eos : Bit) (r : HeldEnd) : Type 0 where
   pub keeps : Keeps old new
-  pub is : IsTold new (length look.turns) streams.width r
-  pub cost : Costs old new (nodes_alone (length look.turns * 10 + gates_of (length look.turns) * 3 + 1))
-  pub law : (run : Run) → IsRun new run → (t : ℕ)
-      → Tells (length look.turns) (λ k. takes_if run source look has matches k t) (λ k. ends_if run look has k t)
-      (λ k. line_of run streams.was k t) (telling_at run r t)
+  pub with_end_bit : IsBit new r.with_end
+  pub held_bit : IsBit new r.held
+  pub cost : Costs old new (with_registers 4 1)
+  pub with_end : (run : Run) → IsRun new run → (t : ℕ)
+      → line_at run r.with_end t ≡ (line_at run eos t && line_at run valid t)
+  pub next : (run : Run) → IsRun new run → (t : ℕ)
+      → line_at run r.held (suc t)
+      ≡ ((line_at run eos t && line_at run valid t) || (line_at run r.held t && not (line_at run eos t)))
 
--- one of two
-pub record ChoosesTold (old new : Net) (line : Bit) (left right r : Told) : Type 0 where
+-- the slots that have not had their turn, and those that have
+pub record AddsOver (old new : Net) (eos due : Bit) (count width : ℕ) (r : Over) : Type 0 where
   pub keeps : Keeps old new
-  pub is : IsTold new (length left.opens) left.slot.width r
-  pub cost : Costs old new (nodes_alone (length left.opens + 4))
-  pub law : (run : Run) → IsRun new run → (t : ℕ) (takes ends was : ℕ → Bool)
-      → Tells (length left.opens) takes ends was
-      (if line_at run line t then telling_at run left t else telling_at run right t)
-      → Tells (length left.opens) takes ends was (telling_at run r t)
+  pub over_bus : IsBus new r.over
+  pub over_width : r.over.width ≡ width
+  pub cost : Costs old new (with_registers 12 width)
+  pub next : (run : Run) → IsRun new run → (t : ℕ)
+      → held_at count run r.rest (suc t)
+      ≡ counted_down (count - 1) 0 (line_at run eos t) (line_at run due t) (held_at count run r.rest t)
+  pub over : (run : Run) → IsRun new run → (t : ℕ)
+      → held_at 0 run r.over t ≡ count - held_at count run r.rest t
+
+-- whether a number is less than another; in the reset cycle nothing counts
+unfoldable pub less_at : Bus → Bus → Run → ℕ → Bool
+less_at x y run zero = false
+less_at x y run (suc t) = nat_lt (run.at (suc t) x.node) (run.at (suc t) y.node)
+
+-- the lines of turns are in the netlist
+pub record AreTurns (net : Net) (r : Turns) : Type 0 where
+  pub due : IsBit net r.due
+  pub with_end : IsBit net r.with_end
+  pub held : IsBit net r.held
+  pub over : IsBus net r.over
+
+-- whether the first slot, where it is kept, has the key
+abbrev pub head_line : Run → Sought → ℕ → Bool
+head_line run r t =
+    if line_at run r.moved t then line_of run r.hits 0 t
+    else (line_at run r.one.had t && nat_eq (held_at 0 run r.place.home t) 0)
+
+-- whether a slot takes a row
+unfoldable pub row_line : Wire → Sought → Turns → Run → ℕ → Bool
+row_line w r u run t =
+    (((line_at run w.valid t && not (line_at run w.eos t)) && not (line_at run r.passes t))
+    || (line_at run u.with_end t && not (line_of run r.kept 0 t && not (head_line run r t))))
+    || ((line_at run u.due t && line_at run u.held t)
+    && (line_at run r.one.had t && nat_eq (held_at 0 run r.place.home t) (held_at 0 run u.over t)))
+
+-- whether one ends
+unfoldable pub end_line : Wire → Sought → Turns → Run → ℕ → Bool
+end_line w r u run t =
+    (line_at run u.due t && nat_lt (held_at 0 run u.over t) (held_at 0 run r.many.many t))
+    || (line_at run w.eos t && (line_at run w.valid t || line_of run r.kept 0 t))
+
+-- the number of a slot before its highest bit is cut off
+abbrev pub slot_number : Run → Bit → Turns → Bus → ℕ → ℕ
+slot_number run eos u number t =
+    if line_at run eos t || line_at run u.due t then (if line_at run eos t then 0 else held_at 0 run u.over t)
+    else held_at 0 run number t
+
+pub record AddsSlot (old new : Net) (eos : Bit) (u : Turns) (number : Bus) (width : ℕ) (b : Bus) : Type 0 where
+  pub keeps : Keeps old new
+  pub bus : IsBus new b
+  pub same_width : b.width ≡ width
+  pub cost : Costs old new (nodes_alone 5)
+  pub slot : (run : Run) → IsRun new run → (t : ℕ) → slot_number run eos u number (suc t) < 2 ^ width
+      → slot_of run b (suc t) ≡ slot_number run eos u number (suc t)
+
+-- whether the key of the row that came last was none of the slots'
+pub record AddsNew (old new : Net) (valid one : Bit) (r : NewKey) : Type 0 where
+  pub keeps : Keeps old new
+  pub new_bit : IsBit new r.new
+  pub cost : Costs old new (with_registers 6 1)
+  pub new_is : (run : Run) → IsRun new run → (t : ℕ)
+      → line_at run r.new t
+      ≡ ((line_at run valid t && not (line_at run one t)) || (line_at run r.was t && not (line_at run valid t)))
+  pub next : (run : Run) → IsRun new run → (t : ℕ)
+      → line_at run r.was (suc t)
+      ≡ ((line_at run valid t && not (line_at run one t)) || (line_at run r.was t && not (line_at run valid t)))
 
 -- what is told of the slots
-pub record TellsBoth (old new : Net) (source : Wire) (look : Looked) (streams : Streams) (r : Told) : Type 0 where
+pub record IsTold (run : Run) (late : Wire) (r : Sought) (u : Turns) (width : ℕ) (m : Told) : Type 0 where
+  pub row : (t : ℕ) → line_at run m.row t ≡ row_line late r u run t
+  pub end : (t : ℕ) → line_at run m.end t ≡ end_line late r u run t
+  pub slot : (t : ℕ) → slot_number run late.eos u r.place.number (suc t) < 2 ^ width
+      → slot_of run m.slot (suc t) ≡ slot_number run late.eos u r.place.number (suc t)
+  pub first : (t : ℕ) → line_at run m.first t ≡ (line_at run m.row t && line_at run m.key.new t)
+  pub new_is : (t : ℕ) → line_at run m.key.new t
+      ≡ ((line_at run late.valid t && not (line_at run r.one.one t))
+      || (line_at run m.key.was t && not (line_at run late.valid t)))
+  pub next : (t : ℕ) → line_at run m.key.was (suc t) ≡ line_at run m.key.new t
+
+pub record AddsTold (old new : Net) (late : Wire) (r : Sought) (u : Turns) (width : ℕ) (m : Told) : Type 0 where
   pub keeps : Keeps old new
-  pub is : IsTold new (length look.turns) streams.width r
-  pub cost : Costs old new (nodes_alone (length look.turns * 22 + gates_of (length look.turns) * 6 + 6))
-  pub law : (run : Run) → IsRun new run → (t : ℕ)
-      → Tells (length look.turns) (λ k. takes_of run source look k t) (λ k. ends_of run look k t)
-      (λ k. line_of run streams.was k t) (telling_at run r t)
+  pub row_bit : IsBit new m.row
+  pub end_bit : IsBit new m.end
+  pub slot_bus : IsBus new m.slot
+  pub slot_width : m.slot.width ≡ width
+  pub first_bit : IsBit new m.first
+  pub cost : Costs old new (with_registers 31 1)
+  pub law : (run : Run) → IsRun new run → IsTold run late r u width m
 
--- the same with the streams that are open in registers
-pub record AreTold (run : Run) (n : ℕ) (takes ends : ℕ → ℕ → Bool) (r : Told) : Type 0 where
-  pub was : ℕ → ℕ → Bool
-  pub before : (k : ℕ) → was k 0 ≡ false
-  pub after : (k t : ℕ) → k < n → was k (suc t) ≡ ((takes k t || was k t) && not (ends k t))
-  pub tells : (t : ℕ) → Tells n (λ k. takes k t) (λ k. ends k t) (λ k. was k t) (telling_at run r t)
-
-pub record PutsTold (old new : Net) (n width : ℕ) (source : Wire) (look : Looked) (r : Told) : Type 0 where
-  pub keeps : Keeps old new
-  pub is : IsTold new n width r
-  pub cost : Costs old new (with_registers (n * 24 + gates_of n * 6 + 6) n)
-  pub law : (run : Run) → IsRun new run → AreTold run n (takes_of run source look) (ends_of run look) r
-
--- the shares of a lane are what the slots take, and it tells where streams begin
+-- the shares of a lane are what the slots take, and it tells where streams begin if each flush is over before anything
+-- comes; the keys are those of the slots a cycle before
 pub record IsLane (run : Run) (key count stride : ℕ) (source : Wire) (r : LaneLines) : Type 0 where
   pub front : AreSlots count (column_of key) stride (carried run source)
       (λ k. share (slot_of run r.slot) k (carried run r.wire))
   pub within : (c : ℕ) → (line_at run r.wire.valid c || line_at run r.wire.eos c) ≡ true → slot_of run r.slot c < count
-  pub begins : Begins (lane_of run r.wire r.slot r.first)
-  pub shown : AreKeys count (column_of key) stride (carried run source) (held_of run r.keys)
+  pub begins : AwaitsTurns count stride (carried run source) → Begins (lane_of run r.wire r.slot r.first)
+  pub shown : AreKeys count (column_of key) stride 1 (carried run source) (held_of run r.keys)
+  pub come : KeysCome run key count stride 1 source r.nexts r.here r.keys
   pub told : (c : ℕ) → line_at run r.further c ≡ further_line count (column_of key) stride (carried run source) c
 
 pub record AddsLane (old new : Net) (key count stride width : ℕ) (source : Wire) (r : LaneLines) : Type 0 where
   pub keeps : Keeps old new
-  pub cost : Costs old new (with_registers (count * 51 + length (widths source.columns) * 2 + 45)
-      (count * (slice_index (widths source.columns) key + 2) + sum (widths source.columns) + width * 2 + 71))
+  pub cost : Costs old new (with_registers (count * 15 + length (widths source.columns) * 2 + 86)
+      (count * (slice_index (widths source.columns) key + 2) + sum (widths source.columns) + width * 3 + 42))
   pub wire : IsWire new r.wire
   pub same_widths : widths r.wire.columns ≡ widths source.columns
   pub slot : IsBus new r.slot
@@ -150,5 +164,9 @@ pub record AddsLane (old new : Net) (key count stride width : ℕ) (source : Wir
   pub keys_count : length r.keys ≡ count
   pub keys : (k : ℕ) (b : Bus) → slice_get r.keys k ≡ Some b → IsBus new b
       × (b.width ≡ slice_index (widths source.columns) key)
+  pub nexts_count : length r.nexts ≡ count
+  pub nexts : AreBits new r.nexts
+  pub here_bus : IsBus new r.here
+  pub here_width : r.here.width ≡ slice_index (widths source.columns) key
   pub further : IsBit new r.further
   pub law : (run : Run) → IsRun new run → IsLane run key count stride source r

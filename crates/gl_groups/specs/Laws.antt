@@ -20,7 +20,7 @@ GroupingsServe =
     (close further : ℕ → Bool) (lines : ℕ → Lines)
     → IsGrouping r → IsSound f
     → AreSlots r.slots (key_of r) (stride_of r.body) a ins
-    → AreKeys r.slots (key_of r) (stride_of r.body) a keys
+    → AreKeys r.slots (key_of r) (stride_of r.body) 0 a keys
     → (AwaitsFlush r a → (c : ℕ) → further c ≡ came_further r.slots (key_of r) a c)
     → IsClose (close_cycles r) (close_delay r) a.ends close
     → IsDelayed 1 (record { tuple = tuple_of_any (with_keys keys outs) r.slots; ends = close }) b

@@ -11,6 +11,10 @@ pub mod Picks
 pub mod Homes
 pub mod Choices
 pub mod Lanes
+pub mod Ahead
+pub mod Telling
+pub mod Firsts
+pub mod Finding
 pub mod Laned
 pub mod Grouped
 pub mod LaneLaws

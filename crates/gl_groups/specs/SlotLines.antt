@@ -200,6 +200,17 @@ pub record IsLatest (run : Run) (ask : Bit) (here : Bus) (value : ℕ → ℕ) :
   pub comes : (t : ℕ) → line_at run ask t ≡ true → value t ≡ held_at 0 run here t
   pub stays : (t : ℕ) → line_at run ask (suc (suc t)) ≡ false → value (suc (suc t)) ≡ value (suc t)
 
+-- numbers for n slots, of which that of a slot that may take the key takes it
+abbrev pub TakeKeys : Run → ℕ → List Bit → Bus → (ℕ → ℕ → ℕ) → Type 0
+TakeKeys run n nexts here words =
+    (k t : ℕ) → k < n
+    → words k (suc (suc t)) ≡ (if line_of run nexts k (suc t) then held_at 0 run here (suc t) else words k (suc t))
+
+-- one line at most is 1
+abbrev pub OneAtMost : Run → ℕ → List Bit → Type 0
+OneAtMost run n lines =
+    (j k t : ℕ) → j < n → k < n → line_of run lines j t ≡ true → line_of run lines k t ≡ true → j ≡ k
+
 -- n slots
 pub record AreSlotLines (run : Run) (free ask : Bit) (value : ℕ → ℕ) (n : ℕ) (r : SlotLines) : Type 0 where
   pub used : (k t : ℕ) → k < n

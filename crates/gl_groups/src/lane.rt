@@ -1,27 +1,66 @@
-//! One wire for all slots, in place of a wire for each.
+//! One wire for all slots, in place of a wire for each. The slots find a row's key one cycle after it came, so the machine of the slots runs
+//! one cycle behind the source, and what it tells needs no register behind it.
 
-ghost use Rattle.std.specs.Prelude.{◌≡◌, ◌<◌, ◌≤◌, ◌^◌, IfOk, length};
+ghost use Rattle.std.specs.Prelude.{◌≡◌, ◌+◌, ◌<◌, ◌≤◌, ◌^◌, IfOk, length};
 ghost use Rattle.gl_bits.specs.Words.{IsWidth};
-ghost use Rattle.gl_net.specs.Net.{IsBit};
+ghost use Rattle.gl_net.specs.Net.{IsBit, IsBus};
 ghost use Rattle.gl_wire.specs.Wire.{IsWire};
-ghost use Rattle.gl_wire_registers.specs.Lines.{AreBits};
-ghost use Rattle.gl_groups.specs.Fronts.{IsLook};
-ghost use Rattle.gl_groups.specs.Lanes.{AddsBegun, AddsLane, AddsTold, AreStreams, ChoosesTold, IsTold, PutsTold, TellsBoth};
+ghost use Rattle.gl_wire_registers.specs.Lines.{AddsLine};
+ghost use Rattle.gl_groups.specs.Finding.{HasSought};
+ghost use Rattle.gl_groups.specs.Lanes.{AddsHeldEnd, AddsLane, AddsLate, AddsNew, AddsOver, AddsSlot, AddsTold, AreTurns, end_line, less_at, row_line};
 
-use crate::choices::{choose_bit, choose_each};
-use crate::front::{Looked, look_all};
-use crate::parts::take_rows;
-use crate::pick::{numbers, pick};
+use crate::choices::choose_bit;
+use crate::finding::{Asking, Sought, find_slots};
+use crate::parts::count_flush;
+use crate::pick::number;
 use gl_bits::Memory;
-use gl_net::{Bit, Bus, Buses, NetBuilder};
-use gl_wire::{Wire, later, later_bit};
-use gl_wire_registers::{
-    Bits, LineOp, any, buses_of, drive_all, lines_of, open_same, pairwise, word,
-};
+use gl_net::{BinaryOp, Bit, Bus, Buses, NetBuilder};
+use gl_wire::{Wire, both, but_not, either, later_bit, same};
+use gl_wire_registers::{Bits, count_down, hold_all, latch, number_or, when_equal};
 use std::alloc::Global;
 
+/// What came with the last end.
+#[derive(Clone, Copy, PartialEq, Eq, Debug)]
+pub struct HeldEnd {
+    /// 1 where a tuple comes with an end.
+    pub with_end: Bit,
+    /// 1 where a tuple came with the last one.
+    pub held: Bit,
+}
+
+/// The turns of a flush.
+#[derive(Clone, Copy, PartialEq, Eq, Debug)]
+pub struct Over {
+    /// The slots that have not had their turn.
+    pub rest: Bus,
+    /// Those that have: the number of the one whose turn is next.
+    pub over: Bus,
+}
+
+/// Which slot has its turn.
+#[derive(Clone, Copy, PartialEq, Eq, Debug)]
+pub struct Turns {
+    /// 1 where one has its turn of a flush.
+    pub due: Bit,
+    /// 1 where a tuple comes with an end.
+    pub with_end: Bit,
+    /// 1 where a tuple came with the last one.
+    pub held: Bit,
+    /// The number of the slot whose turn is next.
+    pub over: Bus,
+}
+
+/// Whether the key of the row that came last was none of the slots'.
+#[derive(Clone, Copy, PartialEq, Eq, Debug)]
+pub struct NewKey {
+    /// With the row that comes.
+    pub new: Bit,
+    /// Before it.
+    pub was: Bit,
+}
+
 /// What one wire tells of the slots in a cycle.
-#[derive(Drop)]
+#[derive(Clone, Copy, PartialEq, Eq, Debug)]
 pub struct Told {
     /// 1 where a slot takes the row.
     pub row: Bit,
@@ -29,32 +68,10 @@ pub struct Told {
     pub end: Bit,
     /// The number of that slot.
     pub slot: Bus,
-    /// 1 where its stream had not begun.
+    /// Whether its stream had not begun: the row's key is new.
+    pub key: NewKey,
+    /// 1 with a row of a new key.
     pub first: Bit,
-    /// The slots whose streams are open behind this cycle.
-    pub opens: Bits,
-}
-
-/// What is known of the streams of the slots.
-#[derive(Drop)]
-pub struct Streams {
-    /// For each slot its number.
-    pub numbers: Buses,
-    /// The bits of such a number.
-    pub width: u8,
-    /// The slots whose streams are open at the beginning of the cycle.
-    pub was: Bits,
-}
-
-/// What follows from the streams that are open.
-#[derive(Drop)]
-pub struct Begun {
-    /// For each slot whether it takes a row or ends.
-    pub events: Bits,
-    /// 1 where one does whose stream had not begun.
-    pub first: Bit,
-    /// The slots whose streams are open behind this cycle.
-    pub nexts: Bits,
 }
 
 /// One wire for the slots.
@@ -68,160 +85,191 @@ pub struct LaneLines {
     pub first: Bit,
     /// For each slot its key.
     pub keys: Buses,
+    /// The slot that may take the key that came.
+    pub nexts: Bits,
+    /// That key.
+    pub here: Bus,
     /// 1 one cycle after a row of a further key.
     pub further: Bit,
 }
 
-/// Which events begin streams, beside the lines that tell which ones are open.
-#[tactic(auto, using(gl_wire_registers::proofs::LineLemmas::bits_kept))]
-pub fn begin_streams(
-    alloc: Global,
-    net: &mut NetBuilder,
-    takes: &Bits,
-    ends: &Bits,
-    was: &Bits,
-) -> Result<Begun, Memory>
-    requires takes { AreBits net.old takes.now }
-    requires ends { AreBits net.old ends.now }
-    requires was { AreBits net.old was.now }
-    requires ends_count { length ends.now ≡ length takes.now }
-    requires was_count { length was.now ≡ length takes.now }
-    ensures { IfOk result (AddsBegun net.old net.new takes.now ends.now was.now) }
-{
-    let events = pairwise(alloc, net, LineOp::Either, takes, ends)?;
-    let begins = pairwise(alloc, net, LineOp::ButNot, &events, was)?;
-    let first = any(net, &begins)?;
-    let came = pairwise(alloc, net, LineOp::Either, takes, was)?;
-    let nexts = pairwise(alloc, net, LineOp::ButNot, &came, ends)?;
-    Ok(Begun {
-        events,
-        first,
-        nexts,
-    })
-}
-
-/// What is told if these slots are used and these have the key that is looked for.
-#[tactic(auto, using(gl_wire_registers::proofs::LineLemmas::bits_kept))]
-pub fn tell(
-    alloc: Global,
-    net: &mut NetBuilder,
-    wire: &Wire,
-    look: &Looked,
-    streams: &Streams,
-    has: &Bits,
-    matches: &Bits,
-) -> Result<Told, Memory>
+/// A wire one cycle later, with the columns of the row that came last.
+pub fn hold_wire(alloc: Global, net: &mut NetBuilder, wire: &Wire) -> Result<Wire, Memory>
     requires wire { IsWire net.old wire.now }
-    requires look { IsLook net.old (length look.now.turns) look.now }
-    requires streams { AreStreams net.old (length look.now.turns) streams.now }
-    requires some { 1 ≤ length look.now.turns }
-    requires has { AreBits net.old has.now }
-    requires has_count { length has.now ≡ length look.now.turns }
-    requires matches { AreBits net.old matches.now }
-    requires matches_count { length matches.now ≡ length look.now.turns }
-    ensures { IfOk result
-        (AddsTold net.old net.new wire.now look.now streams.now has.now matches.now) }
+    ensures { IfOk result (AddsLate net.old net.new wire.now) }
 {
-    let ends = pairwise(alloc, net, LineOp::Both, &look.turns, has)?;
-    let takes = take_rows(alloc, net, wire.valid, wire.eos, look.tail, matches, &ends)?;
-    let begun = begin_streams(alloc, net, &takes, &ends, &streams.was)?;
-    let row = any(net, &takes)?;
-    let end = any(net, &ends)?;
-    let slot = pick(
-        net,
-        begun.events.as_slice(),
-        streams.numbers.as_slice(),
-        streams.width,
-    )?;
-    Ok(Told {
-        row,
-        end,
-        slot,
-        first: begun.first,
-        opens: begun.nexts,
+    let valid = later_bit(net, wire.valid)?;
+    let eos = later_bit(net, wire.eos)?;
+    let columns = hold_all(alloc, net, wire.valid, &wire.columns)?;
+    Ok(Wire {
+        valid,
+        eos,
+        columns,
     })
 }
 
-/// What is told where the line is 1, and else the other.
-pub fn tell_one(
-    alloc: Global,
-    net: &mut NetBuilder,
-    line: Bit,
-    yes: &Told,
-    no: &Told,
-) -> Result<Told, Memory>
-    requires line { IsBit net.old line }
-    requires yes { IsTold net.old (length yes.now.opens) yes.now.slot.width yes.now }
-    requires no { IsTold net.old (length yes.now.opens) yes.now.slot.width no.now }
-    ensures { IfOk result (ChoosesTold net.old net.new line yes.now no.now) }
+/// Keeps whether a tuple came with the end.
+pub fn hold_end(net: &mut NetBuilder, valid: Bit, eos: Bit) -> Result<HeldEnd, Memory>
+    requires valid { IsBit net.old valid }
+    requires eos { IsBit net.old eos }
+    ensures { IfOk result (AddsHeldEnd net.old net.new valid eos) }
 {
-    let row = choose_bit(net, line, yes.row, no.row)?;
-    let end = choose_bit(net, line, yes.end, no.end)?;
-    let slot = net.choose(line, yes.slot, no.slot)?;
-    let first = choose_bit(net, line, yes.first, no.first)?;
-    let opens = choose_each(alloc, net, line, yes.opens.as_slice(), no.opens.as_slice())?;
-    Ok(Told {
-        row,
-        end,
-        slot,
-        first,
-        opens,
-    })
+    let with_end = both(net, eos, valid)?;
+    let held = latch(net, with_end, eos)?;
+    Ok(HeldEnd { with_end, held })
 }
 
-/// What is told of the slots: once as if one had the key and once as if none had, and whether one has it chooses at the very end.
-#[tactic(auto, using(gl_wire_registers::proofs::LineLemmas::bits_kept))]
-pub fn tell_both(
-    alloc: Global,
+/// Counts the turns of a flush, in so many bits.
+pub fn count_over(
     net: &mut NetBuilder,
-    wire: &Wire,
-    look: &Looked,
-    streams: &Streams,
-) -> Result<Told, Memory>
-    requires wire { IsWire net.old wire.now }
-    requires look { IsLook net.old (length look.now.turns) look.now }
-    requires streams { AreStreams net.old (length look.now.turns) streams.now }
-    requires some { 1 ≤ length look.now.turns }
-    ensures { IfOk result (TellsBoth net.old net.new wire.now look.now streams.now) }
-{
-    let kept = &look.seen.kept;
-    let nexts = &look.seen.nexts;
-    let with_next = pairwise(alloc, net, LineOp::Either, kept, nexts)?;
-    let yes = tell(alloc, net, wire, look, streams, kept, &look.seen.found)?;
-    let no = tell(alloc, net, wire, look, streams, &with_next, nexts)?;
-    // Named, since a goal speaks of the value.
-    let told = tell_one(alloc, net, look.seen.one, &yes, &no)?;
-    Ok(told)
-}
-
-/// The same with a register for each slot that tells whether its stream is open.
-pub fn put_told(
-    alloc: Global,
-    net: &mut NetBuilder,
-    wire: &Wire,
-    look: &Looked,
+    eos: Bit,
+    due: Bit,
     count: u32,
     width: u8,
-) -> Result<Told, Memory>
-    requires wire { IsWire net.old wire.now }
-    requires look { IsLook net.old count look.now }
+) -> Result<Over, Memory>
+    requires eos { IsBit net.old eos }
+    requires due { IsBit net.old due }
     requires count { 1 ≤ count }
     requires width { IsWidth width }
-    requires fits { count ≤ 2 ^ width }
-    ensures { IfOk result (PutsTold net.old net.new count width wire.now look.now) }
+    requires fits { count < 2 ^ width }
+    ensures { IfOk result (AddsOver net.old net.new eos due count width) }
 {
-    let numbers = numbers(alloc, net, count, width)?;
-    let flags = open_same(alloc, net, word(0, 1), count as usize)?;
-    let was = Bits::from_vec(lines_of(alloc, flags.as_slice())?);
-    let streams = Streams {
-        numbers,
-        width,
-        was,
-    };
-    let told = tell_both(alloc, net, wire, look, &streams)?;
-    let nexts = buses_of(alloc, told.opens.as_slice())?;
-    drive_all(net, flags.as_slice(), nexts.as_slice())?;
-    Ok(told)
+    let all = u128::from(count);
+    let others = u128::from(count - 1);
+    let rest = count_down(net, eos, due, width, all, others, 0)?;
+    let slots = number(net, count, width)?;
+    let over = net.binary(BinaryOp::Sub, slots, rest)?;
+    Ok(Over { rest, over })
+}
+
+/// 1 where a number is less than another.
+pub fn less(net: &mut NetBuilder, left: Bus, right: Bus) -> Result<Bit, Memory>
+    requires left { IsBus net.old left }
+    requires right { IsBus net.old right }
+    requires widths { left.width ≡ right.width }
+    ensures { IfOk result (λ b. AddsLine net.old net.new 1 b (less_at left right)) }
+{
+    let bus = net.binary(BinaryOp::Lt, left, right)?;
+    Ok(bus.bit())
+}
+
+/// 1 where a slot takes a row: one that comes alone and is not left over, one that comes with the end and is of the first slot, or in a flush
+/// the one that came with the end, in the turn of its slot.
+pub fn tell_row(
+    net: &mut NetBuilder,
+    late: &Wire,
+    sought: &Sought,
+    turns: &Turns,
+) -> Result<Bit, Memory>
+    requires late { IsWire net.old late.now }
+    requires sought { HasSought net.old turns.now.over.width sought.now }
+    requires some { 1 ≤ length sought.now.kept }
+    requires turns { AreTurns net.old turns.now }
+    ensures { IfOk result (λ b.
+        AddsLine net.old net.new 14 b (row_line late.now sought.now turns.now)) }
+{
+    let place = sought.place;
+    let alone = but_not(net, late.valid, late.eos)?;
+    let plain = but_not(net, alone, sought.passes)?;
+    let before = when_equal(net, sought.one.had, place.home, 0)?;
+    let head = choose_bit(net, sought.moved, sought.hits.as_slice()[0], before)?;
+    let missed = but_not(net, sought.kept.as_slice()[0], head)?;
+    let first = but_not(net, turns.with_end, missed)?;
+    let turn = same(net, place.home, turns.over)?;
+    let there = both(net, sought.one.had, turn)?;
+    let rests = both(net, turns.due, turns.held)?;
+    let tail = both(net, rests, there)?;
+    let came = either(net, plain, first)?;
+    let row = either(net, came, tail)?;
+    Ok(row)
+}
+
+/// 1 where a slot ends: one that is used, in its turn of a flush; with the end the first one.
+pub fn tell_end(
+    net: &mut NetBuilder,
+    late: &Wire,
+    sought: &Sought,
+    turns: &Turns,
+) -> Result<Bit, Memory>
+    requires late { IsWire net.old late.now }
+    requires sought { HasSought net.old turns.now.over.width sought.now }
+    requires some { 1 ≤ length sought.now.kept }
+    requires turns { AreTurns net.old turns.now }
+    ensures { IfOk result (λ b.
+        AddsLine net.old net.new 5 b (end_line late.now sought.now turns.now)) }
+{
+    let used = less(net, turns.over, sought.many.many)?;
+    let turn = both(net, turns.due, used)?;
+    let some = either(net, late.valid, sought.kept.as_slice()[0])?;
+    let end = both(net, late.eos, some)?;
+    let either = either(net, turn, end)?;
+    Ok(either)
+}
+
+/// The number of the slot that has its turn, and else of the one that has the row's key, in so many bits.
+pub fn tell_slot(
+    net: &mut NetBuilder,
+    eos: Bit,
+    turns: &Turns,
+    number: Bus,
+    width: u8,
+) -> Result<Bus, Memory>
+    requires eos { IsBit net.old eos }
+    requires turns { AreTurns net.old turns.now }
+    requires number { IsBus net.old number }
+    requires same_width { number.width ≡ turns.now.over.width }
+    requires width { IsWidth width }
+    requires wide { number.width ≡ width + 1 }
+    ensures { IfOk result (AddsSlot net.old net.new eos turns.now number width) }
+{
+    let at = number_or(net, eos, 0, turns.over)?;
+    let turned = either(net, eos, turns.due)?;
+    let told = net.choose(turned, at, number)?;
+    let slot = net.cut(told, width - 1, 0)?;
+    Ok(slot)
+}
+
+/// Keeps whether the key of the row that came last was none of the slots'.
+pub fn tell_new(net: &mut NetBuilder, valid: Bit, one: Bit) -> Result<NewKey, Memory>
+    requires valid { IsBit net.old valid }
+    requires one { IsBit net.old one }
+    ensures { IfOk result (AddsNew net.old net.new valid one) }
+{
+    let comes = but_not(net, valid, one)?;
+    let was = latch(net, comes, valid)?;
+    let stays = but_not(net, was, valid)?;
+    let new = either(net, comes, stays)?;
+    Ok(NewKey { new, was })
+}
+
+/// What the slots do in a cycle, told of one of them.
+pub fn tell(
+    net: &mut NetBuilder,
+    late: &Wire,
+    sought: &Sought,
+    turns: &Turns,
+    width: u8,
+) -> Result<Told, Memory>
+    requires late { IsWire net.old late.now }
+    requires sought { HasSought net.old turns.now.over.width sought.now }
+    requires some { 1 ≤ length sought.now.kept }
+    requires turns { AreTurns net.old turns.now }
+    requires width { IsWidth width }
+    requires wide { turns.now.over.width ≡ width + 1 }
+    ensures { IfOk result (AddsTold net.old net.new late.now sought.now turns.now width) }
+{
+    let row = tell_row(net, late, sought, turns)?;
+    let end = tell_end(net, late, sought, turns)?;
+    let slot = tell_slot(net, late.eos, turns, sought.place.number, width)?;
+    let key = tell_new(net, late.valid, sought.one.one)?;
+    let first = both(net, row, key.new)?;
+    Ok(Told {
+        row,
+        end,
+        slot,
+        key,
+        first,
+    })
 }
 
 /// One wire for so many slots, by the key in a column, whose ends are `stride` cycles apart in a flush; the number of a slot has so many bits.
@@ -243,22 +291,38 @@ pub fn put_lane(
     requires fits { count ≤ 2 ^ width }
     ensures { IfOk result (AddsLane net.old net.new key count stride width wire.now) }
 {
-    let look = look_all(alloc, net, wire, key, count, stride, width + 1)?;
-    let told = put_told(alloc, net, wire, &look, count, width)?;
-    let valid = later_bit(net, told.row)?;
-    let eos = later_bit(net, told.end)?;
-    let slot = later(net, told.slot)?;
-    let first = later_bit(net, told.first)?;
-    let further = later_bit(net, look.seen.passes)?;
+    let late = hold_wire(alloc, net, wire)?;
+    let flush = count_flush(net, late.valid, late.eos, stride)?;
+    let end = hold_end(net, late.valid, late.eos)?;
+    let over = count_over(net, late.eos, flush.due, count, width + 1)?;
+    let asking = Asking {
+        free: flush.free,
+        ask: late.valid,
+        last: late.columns.as_slice()[key],
+        come: wire.valid,
+        here: wire.columns.as_slice()[key],
+    };
+    let found = find_slots(alloc, net, &asking, count, width + 1)?;
+    let turns = Turns {
+        due: flush.due,
+        with_end: end.with_end,
+        held: end.held,
+        over: over.over,
+    };
+    let told = tell(net, &late, &found.sought, &turns, width)?;
+    let sought = found.sought;
+    let asked = sought.asked;
     Ok(LaneLines {
         wire: Wire {
-            valid,
-            eos,
-            columns: look.row,
+            valid: told.row,
+            eos: told.end,
+            columns: late.columns,
         },
-        slot,
-        first,
-        keys: look.keys,
-        further,
+        slot: told.slot,
+        first: told.first,
+        keys: sought.keys,
+        nexts: asked.nexts,
+        here: asking.last,
+        further: sought.passes,
     })
 }

@@ -4,6 +4,7 @@
 #![tactic(auto)]
 
 pub mod choices;
+pub mod finding;
 pub mod front;
 pub mod grouping;
 pub mod homes;

@@ -134,7 +134,12 @@ pub fn find_all(
 }
 
 // Slots fill in order: a key asks the first one, and each one behind a slot that is used.
-fn ask_each(alloc: Global, net: &mut NetBuilder, ask: Bit, kept: &[Bit]) -> Result<Asks, Memory>
+pub(crate) fn ask_each(
+    alloc: Global,
+    net: &mut NetBuilder,
+    ask: Bit,
+    kept: &[Bit],
+) -> Result<Asks, Memory>
     requires ask { IsBit net.old ask }
     requires kept { AreBits net.old kept.now }
     ensures { IfOk result (AddsAsks net.old net.new ask kept.now (length kept.now)) }
@@ -149,7 +154,7 @@ fn ask_each(alloc: Global, net: &mut NetBuilder, ask: Bit, kept: &[Bit]) -> Resu
 }
 
 // For each slot its key, or the one that it may take.
-fn key_each(
+pub(crate) fn key_each(
     alloc: Global,
     net: &mut NetBuilder,
     nexts: &[Bit],

@@ -12,8 +12,8 @@ use Rattle.gl_wire.proofs.ColumnLemmas.{bit_kept, bus_kept}
 
 pub keep_kept : (old new : Net) (keep : Keep) → Keeps old new → KeepFits old keep → KeepFits new keep
 keep_kept old new Register keeps fits = fits
-keep_kept old new (Slots first slot next) keeps fits =
-    (bit_kept old new first keeps fits.0, bus_kept old new slot keeps fits.1, bus_kept old new next keeps fits.2, fits.3, fits.4)
+keep_kept old new (Slots first begins slot next) keeps fits =
+    (bit_kept old new first keeps fits.0, bit_kept old new begins keeps fits.1, bus_kept old new slot keeps fits.2, bus_kept old new next keeps fits.3, fits.4, fits.5)
 
 pub stream_kept : (old new : Net) (s : Stream) → Keeps old new → IsStream old s → IsStream new s
 stream_kept old new s keeps is = record {
@@ -25,4 +25,4 @@ stream_kept old new s keeps is = record {
 
 pub lag_small : (keep : Keep) → lag_of keep ≤ 1
 lag_small Register = omega arith
-lag_small (Slots first slot next) = omega arith
+lag_small (Slots first begins slot next) = omega arith

@@ -1,5 +1,5 @@
 -- What a memory of states carries: each slot's word, read a cycle ahead past what is written at once, is a state that is kept.
-use Rattle.std.proofs.Common.{◌≡◌, ℕ, suc, Bool, true, false, refl, sym, ap, ◌∙◌}
+use Rattle.std.proofs.Common.{◌≡◌, ℕ, zero, suc, Bool, true, false, refl, sym, ap, ◌∙◌}
 use Rattle.std.specs.Prelude.{◌&&◌, if◌then◌else◌, nat_eq}
 use Rattle.gl_net.specs.declared.node.Bus.{Bus}
 use Rattle.gl_net.specs.declared.node.Bit.{Bit}
@@ -45,23 +45,37 @@ module _ (run : Run) (valid first : Bit) (slot next now : Bus) where
         ∙ ap (λ (n : ℕ). if same_at run slot next (suc t) && writes_at run valid first (suc t) then run.at (suc t) now.node else n) (held.reads (suc t));
   }
 
-  -- the fold behind a register, which carries the word of its cycle's slot
-  pub slots_folded : (width initial : ℕ) (step : Step) (eos : Bit) (word before out : Bus) → IsPast run valid first slot next now out
-      → ((t : ℕ) → run.at (suc t) before.node ≡ (if line_at run first (suc t) then initial else run.at (suc t) word.node))
-      → ((t : ℕ) → run.at (suc t) now.node ≡ (if line_at run valid (suc t) then next_of step run width (suc t) (run.at (suc t) before.node) else run.at (suc t) before.node))
-      → ((t : ℕ) → run.at (suc (suc t)) word.node ≡ run.at (suc t) out.node) → IsLed run valid (Slots first slot next)
-      → IsFolded run width initial step (in_memory valid eos first slot next) before now
-  slots_folded width initial step eos word before out h begins with_row later led = record {
-    kept = ahead_is_kept initial (lane_by run (in_memory valid eos first slot next)) (λ t. run.at t before.node) (λ t. run.at t now.node)
+  -- the fold behind a register, which carries the word of its cycle's slot, or the first state where its stream begins
+  pub slots_folded : (width initial : ℕ) (step : Step) (eos begins : Bit) (word out : Bus) → IsPast run valid first slot next now out
+      → ((t : ℕ) → run.at (suc t) now.node ≡ (if line_at run valid (suc t) then next_of step run width (suc t) (run.at (suc t) word.node) else run.at (suc t) word.node))
+      → ((t : ℕ) → run.at (suc (suc t)) word.node ≡ (if line_at run begins (suc t) then initial else run.at (suc t) out.node)) → IsLed run valid (Slots first begins slot next)
+      → IsFolded run width initial step (in_memory valid eos first begins slot next) word now
+  unfolding line_at
+  slots_folded width initial step eos begins word out h with_row later led = record {
+    kept = ahead_is_kept initial (lane_by run (in_memory valid eos first begins slot next)) (λ t. run.at t word.node) (λ t. run.at t now.node)
         (record {
           word = h.word;
-          ahead = λ t. run.at t word.node;
-          begins = λ t p. begins t ∙ ap (λ (b : Bool). if b then initial else run.at (suc t) word.node) p;
-          takes = λ t p. begins t ∙ ap (λ (b : Bool). if b then initial else run.at (suc t) word.node) p;
+          ahead = ahead;
+          begins = cleared;
+          takes = taken;
           leaves = h.leaves;
           reads = λ t.
-              later t ∙ h.reads t
+              h.reads t
               ∙ ap (λ (n : ℕ). if nat_eq (run.at (suc t) slot.node) n && writes_at run valid first (suc t) then run.at (suc t) now.node else h.word (suc t) n) (sym (led.1 t));
         });
     with_row = with_row;
   }
+    where
+      -- the word before it is cleared
+      ahead : ℕ → ℕ
+      ahead zero = run.at 0 word.node
+      ahead (suc zero) = run.at 1 word.node
+      ahead (suc (suc t)) = run.at (suc t) out.node
+
+      cleared : (t : ℕ) → line_at run first (suc t) ≡ true → run.at (suc t) word.node ≡ initial
+      cleared zero p = absurd (let z = led.2 0 in cc (z, p))
+      cleared (suc t) p = later t ∙ ap (λ (b : Bool). if b then initial else run.at (suc t) out.node) (sym (led.2 (suc t)) ∙ p)
+
+      taken : (t : ℕ) → line_at run first (suc t) ≡ false → run.at (suc t) word.node ≡ ahead (suc t)
+      taken zero p = refl
+      taken (suc t) p = later t ∙ ap (λ (b : Bool). if b then initial else run.at (suc t) out.node) (sym (led.2 (suc t)) ∙ p)

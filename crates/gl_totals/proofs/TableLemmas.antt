@@ -21,7 +21,7 @@ delay_some kinds (agg ∷ aggs) = omega (arith, delay_some kinds aggs, le-max_ri
 
 module _ (kinds : List Kind) (all : All IsKind kinds) where
   -- what is kept of a slot's stream
-  agg_kept : (agg : PlanAgg) → AggFits kinds agg → kept_of_agg kinds agg ≤ 128
+  pub agg_kept : (agg : PlanAgg) → AggFits kinds agg → kept_of_agg kinds agg ≤ 128
   agg_kept Count fits = omega arith
   agg_kept (Sum operand) fits = omega (arith, operand_width kinds operand all fits.0)
   agg_kept (Min operand) fits = omega (arith, operand_width kinds operand all fits)

@@ -1,6 +1,6 @@
 -- A table: the lines of a lane one cycle later, the aggregates behind them, and what waits beside these.
 use Rattle.std.proofs.Common.{◌≡◌, ℕ, suc, ◌+◌, ◌-◌, ◌*◌, ◌^◌, ◌<◌, ◌≤◌, inl, inr, List, length, Bool, false, sym, ap, subst, ◌∙◌, arith}
-use Rattle.std.specs.Prelude.{All}
+use Rattle.std.specs.Prelude.{All, sum_by}
 use Rattle.std.proofs.lemmas.Bool.{cases_lt}
 use Rattle.std.proofs.lemmas.List.{map-id}
 use Rattle.gl_bits.specs.Kinds.{IsKind}
@@ -22,6 +22,7 @@ use Rattle.gl_wire_lanes.specs.Lanes.{Lane, Begins, IsFresh, IsLaneBehind, rows_
 use Rattle.gl_wire_lanes.specs.Shares.{lane_of, rows_of}
 use Rattle.gl_wire_lanes.proofs.BehindLemmas.{begins_again, fresh_behind}
 use Rattle.gl_wire_lanes.proofs.RowLemmas.{now_behind}
+use Rattle.gl_totals.specs.Costs.{kept_of_agg}
 use Rattle.gl_totals.specs.Delays.{IsBitBehind, IsBusBehind}
 use Rattle.gl_totals.specs.Open.{AreTold, in_memory, lane_by, row_by}
 use Rattle.gl_totals.specs.Tables.{AreLinesBehind, IsTable}
@@ -30,7 +31,7 @@ use Rattle.gl_totals.specs.declared.rows.Keep.TheVariants.{Slots}
 use Rattle.gl_totals.specs.declared.table.Lines.{Lines}
 use Rattle.gl_totals.specs.declared.table.Table.{Table}
 use Rattle.gl_totals.proofs.TableEnds.{at_ends}
-use Rattle.gl_totals.proofs.TableLemmas.{delay_some, table_registers, table_words}
+use Rattle.gl_totals.proofs.TableLemmas.{delay_some, table_registers}
 
 line_joined : (run : Run) (n m : ℕ) (source mid out : Bit) → IsLineBehind run n source mid → IsLineBehind run m mid out → IsLineBehind run (n + m) source out
 line_joined run n m source mid out h g = record { before = before; line = line }
@@ -54,10 +55,10 @@ module _ (run : Run) (w : Wire) (slot : Bus) (first : Bit) (l : Lines) (begins :
   a = lane_of run w slot first
 
   abbrev d : Lane
-  d = lane_by run (in_memory l.valid l.eos l.first l.slot slot)
+  d = lane_by run (in_memory l.valid l.eos l.first first l.slot slot)
 
   abbrev made : ℕ → Row
-  made = row_by run (Slots l.first l.slot slot) w.columns
+  made = row_by run (Slots l.first first l.slot slot) w.columns
 
   next : (line source : ℕ → Bool) → ((t : ℕ) → line (suc t) ≡ source t) → (c : ℕ) → line (c + 1) ≡ source c
   next line source h c = let q : c + 1 ≡ suc c = omega arith in ap line q ∙ h c
@@ -76,8 +77,8 @@ module _ (run : Run) (w : Wire) (slot : Bus) (first : Bit) (l : Lines) (begins :
     slots = λ c. let q : suc c + 1 ≡ suc (suc c) = omega arith in ap (λ (n : ℕ). run.at n l.slot.node) q ∙ slots c;
   }
 
-  pub lines_told : AreTold run (in_memory l.valid l.eos l.first l.slot slot)
-  lines_told = record { begins = begins_again 1 a d begins behind; led = (valids 0 ∙ line_first run w.valid, slots) }
+  pub lines_told : AreTold run (in_memory l.valid l.eos l.first first l.slot slot)
+  lines_told = record { begins = begins_again 1 a d begins behind; led = (valids 0 ∙ line_first run w.valid, slots, firsts) }
 
   pub fresh_later : (t : ℕ) → IsFresh a (suc t) → IsFresh d (suc (suc t))
   fresh_later t fresh = let q : suc t + 1 ≡ suc (suc t) = omega arith in subst (λ n. IsFresh d n) q (fresh_behind 1 a d begins behind t fresh)
@@ -96,7 +97,7 @@ pub table_is : (old one two three new : Net) (table : Table) (w : Wire) (slot : 
     → All IsKind table.kinds.now → All (AggFits table.kinds.now) table.aggs.now → 1 ≤ length table.aggs.now → slot.width ≤ 8 → source.columns.now ≡ w.columns
     → AreLinesBehind old one w slot first l
     → AreAggsOf one two (delay_of_aggs table.kinds.now table.aggs.now - 1)
-    (record { rows = in_memory l.valid l.eos l.first l.slot slot; source = record source { kinds = table.kinds } }) table.aggs.now outs
+    (record { rows = in_memory l.valid l.eos l.first first l.slot slot; source = record source { kinds = table.kinds } }) table.aggs.now outs
     → IsBitBehind two three (delay_of_aggs table.kinds.now table.aggs.now - 1) l.eos end
     → IsBusBehind three new (delay_of_aggs table.kinds.now table.aggs.now - 1) l.slot place
     → IsTable old new table w slot first (record { wire = wire_of end end outs; slot = place })
@@ -107,8 +108,7 @@ table_is old one two three new table w slot first l source outs end place kinds_
     let least : 1 ≤ m = delay_some kinds aggs in
     let behind_all = keeps_then two three new line.keeps later.keeps in
     let wide : 2 ^ l.slot.width ≡ 2 ^ slot.width = ap (λ (b : ℕ). 2 ^ b) lines.same_width in
-    let words = table_words kinds kinds_are aggs (2 ^ l.slot.width) fit in
-    let most : length aggs * 2 ^ l.slot.width ≡ length aggs * 2 ^ slot.width = ap (λ (n : ℕ). length aggs * n) wide in
+    let words : 2 ^ l.slot.width * sum_by (kept_of_agg kinds) aggs ≡ 2 ^ slot.width * sum_by (kept_of_agg kinds) aggs = ap (λ (n : ℕ). n * sum_by (kept_of_agg kinds) aggs) wide in
     let places : l.slot.width * (m - 1) ≡ slot.width * (m - 1) = ap (λ (b : ℕ). b * (m - 1)) lines.same_width in
     let slot_at : (run : Run) → ((t : ℕ) → run.at (suc t + (m - 1)) place.node ≡ run.at (suc t) l.slot.node)
     → ((t : ℕ) → run.at (suc (suc t)) l.slot.node ≡ run.at (suc t) slot.node) → (t : ℕ) → run.at (suc t + m) place.node ≡ run.at (suc t) slot.node =
@@ -118,7 +118,7 @@ table_is old one two three new table w slot first l source outs end place kinds_
       cost = record {
         nodes = omega (arith, lines.cost.nodes, all.cost.nodes, line.cost.nodes, later.cost.nodes, least);
         registers = omega (arith, lines.cost.registers, all.cost.registers, line.cost.registers, later.cost.registers, places, table_registers kinds kinds_are aggs slot.width fit some few);
-        memories = omega (arith, lines.cost.memories, all.cost.memories, line.cost.memories, later.cost.memories, words, most);
+        memories = omega (arith, lines.cost.memories, all.cost.memories, line.cost.memories, later.cost.memories, words);
       };
       wire = record {
         valid = bit_kept three new end later.keeps line.bit;
@@ -144,6 +144,6 @@ table_is old one two three new table w slot first l source outs end place kinds_
           let e : suc t + m ≡ suc (suc t) + (m - 1) = omega (arith, least) in
           ap (λ (n : ℕ). row_at run n outs) e
           ∙ all.row run at_all (lines_told run w slot first l begins valids ends firsts slots) (suc t) (fresh_later run w slot first l begins valids ends firsts slots t fresh)
-          ∙ ap (λ (bs : List Bus). total_row kinds aggs (rows_now (lane_by run (in_memory l.valid l.eos l.first l.slot slot)) (row_by run (Slots l.first l.slot slot) bs) (suc (suc t)))) is_columns
+          ∙ ap (λ (bs : List Bus). total_row kinds aggs (rows_now (lane_by run (in_memory l.valid l.eos l.first first l.slot slot)) (row_by run (Slots l.first first l.slot slot) bs) (suc (suc t)))) is_columns
           ∙ ap (total_row kinds aggs) (rows_later run w slot first l begins valids ends firsts slots t)) k;
     }

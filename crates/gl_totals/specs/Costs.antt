@@ -15,12 +15,12 @@ use Rattle.gl_wire.specs.Costs.{Cost}
 -- how many cycles the lines are behind the columns
 abbrev pub lag_of : Keep → ℕ
 lag_of Register = 0
-lag_of (Slots first slot next) = 1
+lag_of (Slots first begins slot next) = 1
 
 -- the words of a memory that keeps a state for each slot
 abbrev pub slot_words : Keep → ℕ
 slot_words Register = 0
-slot_words (Slots first slot next) = 2 ^ slot.width
+slot_words (Slots first begins slot next) = 2 ^ slot.width
 
 -- a register of this width that folds the open stream by a step of so many nodes; that of each slot takes six nodes
 -- more, and a word as wide
@@ -142,5 +142,5 @@ cost_of_table bits kinds aggs =
     record {
       nodes = 2 * (cycles + 1) + 6 * length aggs + sum_by (λ agg. cycles - 1 + weight_of_agg kinds agg) aggs;
       registers = 256 * (length aggs * cycles);
-      memories = 128 * (length aggs * 2 ^ bits);
+      memories = 2 ^ bits * sum_by (kept_of_agg kinds) aggs;
     }

@@ -15,24 +15,25 @@ abbrev pub in_register : Bit → Bit → Rows
 in_register valid eos = record { valid = valid; eos = eos; keep = Register }
 
 -- streams of many slots, with a state for each in a memory
-abbrev pub in_memory : Bit → Bit → Bit → Bus → Bus → Rows
-in_memory valid eos first slot next = record { valid = valid; eos = eos; keep = Slots first slot next }
+abbrev pub in_memory : Bit → Bit → Bit → Bit → Bus → Bus → Rows
+in_memory valid eos first begins slot next = record { valid = valid; eos = eos; keep = Slots first begins slot next }
 
 -- what tells whose a state is, is in the netlist
 abbrev pub KeepFits : Net → Keep → Type 0
 KeepFits net Register = ⊤
-KeepFits net (Slots first slot next) =
-    IsBit net first × IsBus net slot × IsBus net next × IsAddressWidth slot.width × (next.width ≡ slot.width)
+KeepFits net (Slots first begins slot next) =
+    IsBit net first × IsBit net begins × IsBus net slot × IsBus net next × IsAddressWidth slot.width
+    × (next.width ≡ slot.width)
 
 -- whose stream each cycle is of: of one alone, where they come one after another
 abbrev pub slot_by : Run → Keep → ℕ → ℕ
 slot_by run Register = λ c. 0
-slot_by run (Slots first slot next) = λ c. run.at c slot.node
+slot_by run (Slots first begins slot next) = λ c. run.at c slot.node
 
 -- where streams begin
 abbrev pub first_by : Run → Bit → Keep → ℕ → Bool
 first_by run eos Register = first_of (line_at run eos)
-first_by run eos (Slots first slot next) = line_at run first
+first_by run eos (Slots first begins slot next) = line_at run first
 
 abbrev pub lane_by : Run → Rows → Lane
 lane_by run rows = record {
@@ -45,14 +46,16 @@ lane_by run rows = record {
 -- the row of each cycle: before a memory the lines are one cycle behind the columns
 abbrev pub row_by : Run → Keep → List Bus → ℕ → Row
 row_by run Register columns c = row_at run c columns
-row_by run (Slots first slot next) columns zero = row_at run zero columns
-row_by run (Slots first slot next) columns (suc c) = row_at run c columns
+row_by run (Slots first begins slot next) columns zero = row_at run zero columns
+row_by run (Slots first begins slot next) columns (suc c) = row_at run c columns
 
--- what a memory asks: no row in the first cycle, whose slot nobody told, and each later slot told in the cycle before
+-- what a memory asks: no row in the first cycle, whose slot nobody told; and each later slot, and whether its stream begins,
+-- told in the cycle before
 abbrev pub IsLed : Run → Bit → Keep → Type 0
 IsLed run valid Register = ⊤
-IsLed run valid (Slots first slot next) =
+IsLed run valid (Slots first begins slot next) =
     (line_at run valid 1 ≡ false) × ((t : ℕ) → run.at (suc (suc t)) slot.node ≡ run.at (suc t) next.node)
+    × ((t : ℕ) → line_at run first (suc t) ≡ line_at run begins t)
 
 -- the lines tell where streams begin, and whose slot comes next
 pub record AreTold (run : Run) (rows : Rows) : Type 0 where

@@ -9,20 +9,16 @@ use Rattle.gl_totals.specs.declared.fold.Step.{Step}
 use Rattle.gl_wire.specs.Costs.{Costs, CostsAtMost, nodes_alone}
 use Rattle.gl_wire.specs.Wire.{line_at}
 
--- the first state where a stream begins and else a word, and what it is with the cycle's row
-pub record IsNow (old new : Net) (valid first : Bit) (word : Bus) (width initial : ℕ) (step : Step) (f : Fold)
-    : Type 0 where
+-- a word as a state, and what it is with the cycle's row
+pub record IsNow (old new : Net) (valid : Bit) (word : Bus) (step : Step) (f : Fold) : Type 0 where
   pub keeps : Keeps old new
-  pub cost : CostsAtMost old new (nodes_alone (3 + nodes_of step))
-  pub before : IsBus new f.before
-  pub before_width : f.before.width ≡ width
+  pub cost : CostsAtMost old new (nodes_alone (1 + nodes_of step))
+  pub before : f.before ≡ word
   pub now : IsBus new f.now
-  pub now_width : f.now.width ≡ width
-  pub begins : (run : Run) → IsRun new run → (t : ℕ)
-      → run.at (suc t) f.before.node ≡ (if line_at run first (suc t) then initial else run.at (suc t) word.node)
+  pub now_width : f.now.width ≡ word.width
   pub with_row : (run : Run) → IsRun new run → (t : ℕ) → run.at (suc t) f.now.node
-      ≡ (if line_at run valid (suc t) then next_of step run width (suc t) (run.at (suc t) f.before.node)
-      else run.at (suc t) f.before.node)
+      ≡ (if line_at run valid (suc t) then next_of step run word.width (suc t) (run.at (suc t) word.node)
+      else run.at (suc t) word.node)
 
 -- whether a slot's word is written in a cycle
 abbrev pub writes_at : Run → Bit → Bit → ℕ → Bool

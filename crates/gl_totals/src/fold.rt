@@ -149,28 +149,16 @@ fn put_register(
     Ok(Fold { before, now })
 }
 
-// The first state where a stream begins, and else a word; and what that is with this cycle's row.
-fn put_now(
-    net: &mut NetBuilder,
-    valid: Bit,
-    first: Bit,
-    word: Bus,
-    initial: Word,
-    step: Step,
-) -> Result<Fold, Memory>
+// A word as a state, and what that is with this cycle's row.
+fn put_now(net: &mut NetBuilder, valid: Bit, word: Bus, step: Step) -> Result<Fold, Memory>
     requires valid { IsBit net.old valid }
-    requires first { IsBit net.old first }
     requires word { IsBus net.old word }
-    requires width { word.width ≡ initial.width }
-    requires step { StepFits net.old initial.width step }
-    ensures { IfOk result
-        (IsNow net.old net.new valid first word initial.width initial.bits step) }
+    requires step { StepFits net.old word.width step }
+    ensures { IfOk result (IsNow net.old net.new valid word step) }
 {
-    let again = net.constant(initial)?;
-    let before = net.choose(first, again, word)?;
-    let stepped = put_next(net, before, step)?;
-    let now = net.choose(valid, stepped, before)?;
-    Ok(Fold { before, now })
+    let stepped = put_next(net, word, step)?;
+    let now = net.choose(valid, stepped, word)?;
+    Ok(Fold { before: word, now })
 }
 
 // The words of the slots, written where a row comes or a stream begins, and the word of the slot that comes next. What is written at once
@@ -201,11 +189,13 @@ fn put_passing(
     Ok(out)
 }
 
-// The same in a memory with a word for each slot. A register holds the word of this cycle's slot, so that the memory may answer a cycle late.
+// The same in a memory with a word for each slot. A register holds the word of this cycle's slot, or the first state where its stream begins, so
+// that the memory may answer a cycle late and nothing stands between the register and the step.
 fn put_slots(
     net: &mut NetBuilder,
     valid: Bit,
     first: Bit,
+    begins: Bit,
     slot: Bus,
     next: Bus,
     initial: Word,
@@ -213,18 +203,21 @@ fn put_slots(
 ) -> Result<Fold, Memory>
     requires valid { IsBit net.old valid }
     requires first { IsBit net.old first }
+    requires begins { IsBit net.old begins }
     requires slot { IsBus net.old slot }
     requires next { IsBus net.old next }
     requires bits { IsAddressWidth slot.width }
     requires same_width { next.width ≡ slot.width }
     requires step { StepFits net.old initial.width step }
     ensures { (eos : Bit) → IfOk result (IsFold net.old net.new initial.width initial.bits step
-        (in_memory valid eos first slot next)) }
+        (in_memory valid eos first begins slot next)) }
 {
     let word = net.register(initial.width(), None)?;
-    let fold = put_now(net, valid, first, word, initial, step)?;
+    let fold = put_now(net, valid, word, step)?;
     let ahead = put_passing(net, valid, first, slot, next, fold.now)?;
-    net.drive(word, ahead)?;
+    let again = net.constant(initial)?;
+    let state = net.choose(begins, again, ahead)?;
+    net.drive(word, state)?;
     Ok(fold)
 }
 
@@ -239,9 +232,10 @@ pub fn put_fold(net: &mut NetBuilder, rows: Rows, first: Word, step: Step) -> Re
     match rows.keep {
         rows::Keep::Register => put_register(net, rows.valid, rows.eos, first, step),
         rows::Keep::Slots {
-            first: begins,
+            first: opens,
+            begins,
             slot,
             next,
-        } => put_slots(net, rows.valid, begins, slot, next, first, step),
+        } => put_slots(net, rows.valid, opens, begins, slot, next, first, step),
     }
 }

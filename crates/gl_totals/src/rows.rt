@@ -11,6 +11,8 @@ pub enum Keep {
     Slots {
         /// 1 in a cycle in which the stream of its slot begins.
         first: Bit,
+        /// 1 where that of the next cycle's slot begins in that one.
+        begins: Bit,
         /// The slot of the cycle.
         slot: Bus,
         /// The slot of the next cycle.

@@ -43,15 +43,17 @@ pub struct Lines {
 }
 
 impl Lines {
-    // The rows behind these lines, with a state for each slot in a memory, where the slot of the next cycle is told.
-    fn kept(self, next: Bus) -> Rows
-        ensures { result ≡ in_memory self.valid self.eos self.first self.slot next }
+    // The rows behind these lines, with a state for each slot in a memory, where the slot of the next cycle is told, and whether its stream
+    // begins.
+    fn kept(self, begins: Bit, next: Bus) -> Rows
+        ensures { result ≡ in_memory self.valid self.eos self.first begins self.slot next }
     {
         Rows {
             valid: self.valid,
             eos: self.eos,
             keep: Keep::Slots {
                 first: self.first,
+                begins,
                 slot: self.slot,
                 next,
             },
@@ -103,7 +105,7 @@ impl Table<'_> {
     {
         let lines = put_lines(net, rows, slot, first)?;
         let stream = Stream {
-            rows: lines.kept(slot),
+            rows: lines.kept(first, slot),
             source: Source {
                 columns: rows.columns.as_slice(),
                 kinds: self.kinds,

@@ -22,8 +22,7 @@ use Rattle.gl_wire.specs.Shapes.{AtEnds}
 use Rattle.gl_wire.specs.Wire.{Carried, carried, widths}
 use Rattle.gl_wire_copies.specs.Bodies.{alone}
 use Rattle.gl_wire_lanes.specs.declared.table.TableOut.{TableOut}
-use Rattle.gl_wire_lanes.specs.Lanes.{Begins}
-use Rattle.gl_wire_lanes.specs.Shares.{lane_of, share, slot_of}
+use Rattle.gl_wire_lanes.specs.Shares.{share, slot_of}
 use Rattle.gl_wiring.specs.declared.rows.LaneRows.{LaneRows}
 use Rattle.gl_wiring.specs.declared.rows.Place.{Place}
 use Rattle.gl_wiring.specs.Lanes.{AreRows, IsBodyTable, IsDirectBehind}
@@ -46,17 +45,15 @@ module _ (nodes : List PlanNode) (body child : ℕ) (aggs : List PlanAgg) (plan 
   columns_are : widths out.wire.columns ≡ total_widths kinds aggs
   columns_are = t.same_widths ∙ ap (λ (l : List Kind). total_widths l table.aggs.now) kinds_are ∙ ap (total_widths kinds) aggs_are
 
-  is_behind : (run : Run) → IsRun new run → Begins (lane_of run lane place.slot place.first)
-      → IsDirectBehind h.depth (delay_of_aggs kinds aggs) h.step (total_row kinds aggs) (carried run lane) (carried run out.wire)
-      (slot_of run place.slot) (slot_of run out.slot)
-  is_behind run r begins =
+  is_behind : (run : Run) → IsRun new run → IsDirectBehind run h.depth (delay_of_aggs kinds aggs) h.step (total_row kinds aggs) lane place out
+  is_behind run r =
       let at_mid = t.keeps.runs run r in
       record {
         mid = carried run below.rows.wire;
         slot_mid = slot_of run below.place.slot;
         rows = h.steady run at_mid;
         slots = h.slots run at_mid;
-        table = λ k.
+        table = λ begins k.
             let a : Carried = share (slot_of run below.place.slot) k (carried run below.rows.wire) in
             let b : Carried = share (slot_of run out.slot) k (carried run out.wire) in
             subst (λ (l : List PlanAgg). AtEnds (delay_of_aggs kinds l) (total_row kinds l) a b) aggs_are

@@ -1,15 +1,17 @@
 -- What a group over a direct body costs is within what a plan counts for it.
-use Rattle.std.proofs.Common.{◌≡◌, ℕ, zero, suc, ◌+◌, ◌-◌, ◌*◌, ◌^◌, ◌<◌, ◌≤◌, List, [], ◌∷◌, length, map, ap, ◌∙◌, subst, arith}
+use Rattle.std.proofs.Common.{◌≡◌, ℕ, zero, suc, ◌+◌, ◌-◌, ◌*◌, ◌^◌, ◌<◌, ◌≤◌, List, [], ◌∷◌, length, map, Bool, true, false, refl, ap, ◌∙◌, subst, arith, eqb-true}
 use Rattle.std.specs.Prelude.{slice_get, slice_index, Some, sum_by}
 use Rattle.std.specs.List.{All, sum}
 use Rattle.std.proofs.lemmas.List.{length-map}
+use Rattle.std.proofs.lemmas.List.Elements.{All-head, All-tail}
 use Rattle.std.proofs.lemmas.List.Sums.{sum_by-cons}
+use Rattle.std.proofs.Math.Nat.{mul-le-mul_left}
 use Rattle.gl_bits.specs.Kinds.{IsKind, width_of}
 use Rattle.gl_bits.specs.declared.kind.Kind.{Kind}
 use Rattle.gl_algebra.specs.declared.node.PlanAgg.{PlanAgg}
 use Rattle.gl_algebra.specs.declared.node.PlanNode.{PlanNode}
 use Rattle.gl_algebra.specs.declared.node.PlanNode.TheVariants.{Aggregate, Group}
-use Rattle.gl_algebra.specs.Columns.{kind_of_agg, kind_of_column}
+use Rattle.gl_algebra.specs.Columns.{AggFits, kind_of_agg, kind_of_column}
 use Rattle.gl_algebra.specs.Cost.{lean_of, lean_of_spacer, ring}
 use Rattle.gl_algebra.specs.Direct.{totalling, form_of}
 use Rattle.gl_algebra.specs.FigureTable.{delay_of_aggs, figures_of, group_gap}
@@ -21,14 +23,18 @@ use Rattle.gl_algebra.proofs.TableLemmas.{nodes_follow_tables}
 use Rattle.gl_net.specs.Net.{Net}
 use Rattle.gl_reach.specs.Reach.{keys_part, lean_part, store_part, weight_part}
 use Rattle.gl_reach.proofs.PartLemmas.{HasParts, parts_at}
+use Rattle.gl_groups.specs.declared.laning.Lane.{Lane}
+use Rattle.gl_groups.specs.Joins.{width_of_keys}
+use Rattle.gl_groups.specs.Laned.{words_of_keys}
 use Rattle.gl_groups.specs.Picks.{bits_of_slots}
-use Rattle.gl_wire.specs.Costs.{Cost, Costs, CostsAtMost, nodes_alone}
-use Rattle.gl_wire_registers.specs.Held.{with_registers}
+use Rattle.gl_totals.proofs.TableLemmas.{agg_kept, table_words}
+use Rattle.gl_totals.specs.Costs.{kept_of_agg}
+use Rattle.gl_wire.specs.Costs.{Cost, CostsAtMost, nodes_alone}
 use Rattle.gl_wiring.specs.declared.groups.GroupOf.{GroupOf}
 use Rattle.gl_wiring.specs.Copies.{cost_of_spaced}
 use Rattle.gl_wiring.specs.Groups.{IsGroupNode}
 use Rattle.gl_wiring.specs.LaneGroups.{cost_to_lane}
-use Rattle.gl_wiring.specs.Lanes.{cost_of_body}
+use Rattle.gl_wiring.specs.Lanes.{cost_of_body, has_room}
 use Rattle.gl_wiring.specs.Leaves.{widths_of}
 use Rattle.gl_wiring.specs.Put.{counted_own}
 use Rattle.gl_wiring.proofs.CostLemmas.{bits_within}
@@ -58,16 +64,34 @@ once zero x some = absurd (omega (arith, some))
 once (suc n) x some = let e : suc n * x ≡ x + n * x = omega arith in omega (arith, e)
 
 nodes_within : (body child spacer parts n a k m : ℕ) → 1 ≤ n → 1 ≤ k → m ≤ 98 → body ≡ child + (4 * (k + 2) + (parts + k * (m + 1)))
-    → spacer + (n * 51 + a * 2 + 65) + (child + (2 * (m + 1) + 6 * k + parts)) + (n * 4 + k + 3) + 2 ≤ weight_of_copies n body (a + 2) (k + 1 + 2) + spacer
+    → spacer + (n * 15 + a * 2 + 106) + (child + (2 * (m + 1) + 6 * k + parts)) + (n * 4 + k + 4) + 2 ≤ weight_of_copies n body (a + 2) (k + 1 + 2) + spacer
 nodes_within body child spacer parts n a k m some aggs few is =
     let each : n * (body + 8 * (a + 2 + (k + 1 + 2) + 4)) ≡ n * body + 8 * (n * a) + 8 * (n * k) + 72 * n = omega arith in
     let product : k * (m + 1) ≡ k * m + k = omega arith in
     omega (arith, each, product, once n body some, once k m aggs, some, few, is)
 
 bits_of : (body child spacer n a k m w bits front out : ℕ) → child ≤ body → front ≤ 64 * a → bits ≤ 8 → out ≤ 64 * (k + 1)
-    → 64 * spacer + (n * (w + 2) + front + bits * 2 + 104) + (64 * child + 256 * (k * m)) + (out + 2)
+    → 64 * spacer + (n * (w + 2) + front + bits * 3 + 75) + (64 * child + 256 * (k * m)) + (out + 2)
     ≤ 64 * (body + 4 * (a + 2 + (k + 1 + 2) + 8) + 4 * (k * m) + spacer) + n * (w + 2)
 bits_of body child spacer n a k m w bits front out less columns few own = omega (arith, less, columns, few, own)
+
+-- words with keys beside the states
+room_is : (kinds : List Kind) (all : All IsKind kinds) (aggs : List PlanAgg) (key : ℕ) → All (AggFits kinds) aggs → has_room kinds aggs key ≡ true → key + sum_by (kept_of_agg kinds) aggs ≤ 128 * length aggs
+room_is kinds all [] key fit h = omega (arith, eqb-true key 0 h)
+room_is kinds all (agg ∷ aggs) key fit h =
+    let rest = room_is kinds all aggs (key - (128 - kept_of_agg kinds agg)) (All-tail (AggFits kinds) agg aggs fit) h in
+    omega (arith, rest, agg_kept kinds all agg (All-head (AggFits kinds) agg aggs fit), sum_by-cons (kept_of_agg kinds) agg aggs)
+
+pub words_fit : (kinds : List Kind) → All IsKind kinds → (aggs : List PlanAgg) → All (AggFits kinds) aggs → (stored : Bool) (slots key : ℕ) (l : Lane) → width_of_keys l.keys ≡ key → (stored ≡ true → has_room kinds aggs key ≡ true)
+    → 2 ^ bits_of_slots slots * sum_by (kept_of_agg kinds) aggs + words_of_keys stored slots l ≤ 128 * (length aggs * 2 ^ bits_of_slots slots)
+words_fit kinds all aggs fit false slots key l is fits = let h = table_words kinds all aggs (2 ^ bits_of_slots slots) fit in omega (arith, h)
+words_fit kinds all aggs fit true slots key l is fits =
+    let words = 2 ^ bits_of_slots slots in
+    let all_in = mul-le-mul_left words (room_is kinds all aggs key fit (fits refl)) in
+    let own : words * width_of_keys l.keys ≡ words * key = ap (λ n. words * n) is in
+    let parts : words * (key + sum_by (kept_of_agg kinds) aggs) ≡ words * key + words * sum_by (kept_of_agg kinds) aggs = omega arith in
+    let most : words * (128 * length aggs) ≡ 128 * (length aggs * words) = omega arith in
+    omega (arith, all_in, own, parts, most)
 
 -- all parts
 module _ (nodes : List PlanNode) (g : GroupOf) (plan : IsPlan nodes) (at : IsGroupNode nodes g) (kinds_source : All IsKind (kinds_of nodes g.source))
@@ -145,8 +169,9 @@ module _ (nodes : List PlanNode) (g : GroupOf) (plan : IsPlan nodes) (at : IsGro
 
   pub lane_cost : (old mid net last new : Net) → CostsAtMost old mid (cost_to_lane nodes g)
       → CostsAtMost mid net (cost_of_body nodes child aggs (bits_of_slots g.groups))
-      → Costs net last (with_registers (g.groups * 4 + length aggs + 3) (sum own + 2)) → CostsAtMost last new (nodes_alone 2) → CostsAtMost old new (counted_own nodes g.id)
-  lane_cost old mid net last new front tables gathered lines =
+      → (words : ℕ) → 2 ^ bits_of_slots g.groups * sum_by (kept_of_agg (kinds_of nodes child)) aggs + words ≤ 128 * (length aggs * 2 ^ bits_of_slots g.groups)
+      → CostsAtMost net last (record { nodes = g.groups * 4 + length aggs + 4; registers = sum own + 2; memories = words }) → CostsAtMost last new (nodes_alone 2) → CostsAtMost old new (counted_own nodes g.id)
+  lane_cost old mid net last new front tables words room gathered lines =
       let key : slice_index source g.key ≡ w = key_width_is (kinds_of nodes g.source) g.key within in
       let n = nodes_within (weight_of nodes g.body) (weight_of nodes child) spacer.nodes parts g.groups (length source) (length aggs) delay
       some many fast weight_body in
@@ -158,5 +183,5 @@ module _ (nodes : List PlanNode) (g : GroupOf) (plan : IsPlan nodes) (at : IsGro
       record {
         nodes = omega (arith, front.nodes, tables.nodes, gathered.nodes, lines.nodes, weight, n);
         registers = omega (arith, front.registers, tables.registers, gathered.registers, lines.registers, lean, keys, b, bits);
-        memories = omega (arith, front.memories, tables.memories, gathered.memories, lines.memories, store);
+        memories = omega (arith, front.memories, tables.memories, gathered.memories, lines.memories, store, room);
       }

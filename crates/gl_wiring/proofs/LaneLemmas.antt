@@ -29,21 +29,20 @@ use Rattle.gl_net.specs.declared.node.Bus.{Bus}
 use Rattle.gl_net.specs.Net.{Net, Run, IsRun, Keeps}
 use Rattle.gl_net.proofs.Determined.{keeps_then}
 use Rattle.gl_groups.specs.declared.laning.Lane.{Lane}
-use Rattle.gl_groups.specs.Groupings.{AreKeys, OfGroups, key_of, line_of_further}
+use Rattle.gl_groups.specs.Fronts.{KeysCome}
+use Rattle.gl_groups.specs.Groupings.{AreKeys, AwaitsFlush, AwaitsTurns, OfGroups, key_of, line_of_further}
 use Rattle.gl_groups.specs.Joins.{width_of_keys}
-use Rattle.gl_groups.specs.Laned.{IsGathered, IsLaned, cost_of_lane}
+use Rattle.gl_groups.specs.Laned.{IsGathered, IsLaned, cost_of_lane, words_of_keys}
 use Rattle.gl_groups.specs.LaneLaws as laws
 use Rattle.gl_groups.specs.Picks.{bits_of_slots}
-use Rattle.gl_groups.specs.SlotLines.{held_of}
-use Rattle.gl_groups.specs.Slots.{AreSlots, came_further}
+use Rattle.gl_groups.specs.Slots.{AreSlots}
 use Rattle.gl_groups.proofs.GroupLemmas.{groups_then}
 use Rattle.gl_groups.proofs.LaneServes.{lanes_serve}
 use Rattle.gl_wire.specs.declared.emitted.Emitted.{Emitted}
 use Rattle.gl_wire.specs.declared.emitted.Faults.{Faults}
 use Rattle.gl_wire.specs.declared.wire.Wire.{Wire}
-use Rattle.gl_wire.specs.Apart.{Carries}
 use Rattle.gl_wire.specs.Beats.{Beats, Spaced}
-use Rattle.gl_wire.specs.Costs.{Costs, CostsAtMost}
+use Rattle.gl_wire.specs.Costs.{CostsAtMost}
 use Rattle.gl_wire.specs.Faults.{AreBoth, line_of, lines_of}
 use Rattle.gl_wire.specs.Serves.{Fits}
 use Rattle.gl_wire.specs.Serving.{inputs_at}
@@ -56,17 +55,17 @@ use Rattle.gl_wire.proofs.ServingLemmas.{serving_as, serving_lines}
 use Rattle.gl_wire.proofs.StageLemmas.{line_first, tuple_by}
 use Rattle.gl_wire_copies.specs.Bodies.{OfBody, alone}
 use Rattle.gl_wire_copies.specs.Rotates.{any_of, lines_of_all, turns_of}
-use Rattle.gl_wire_copies.specs.Timed.{Rested}
 use Rattle.gl_wire_lanes.specs.declared.table.TableOut.{TableOut}
-use Rattle.gl_wire_lanes.specs.Shares.{share, slot_of}
-use Rattle.gl_wire_registers.specs.Held.{with_registers}
+use Rattle.gl_wire_lanes.specs.Lanes.{Begins}
+use Rattle.gl_wire_lanes.specs.Shares.{lane_of, share, slot_of}
 use Rattle.gl_wire_registers.specs.Timers.{IsClose}
+use Rattle.gl_wire_registers.proofs.LineLemmas.{bits_kept}
 use Rattle.gl_wiring.specs.declared.groups.GroupOf.{GroupOf}
 use Rattle.gl_wiring.specs.declared.lanes.Laned.{Laned}
 use Rattle.gl_wiring.specs.Copies.{IsSpacedFor}
 use Rattle.gl_wiring.specs.Groups.{IsGroupNode, group_whole, grouping_of, spaced_source}
 use Rattle.gl_wiring.specs.LaneGroups.{HasLane, IsGroupLane}
-use Rattle.gl_wiring.specs.Lanes.{IsBodyTable, IsDirectBehind, cost_of_body, place_of}
+use Rattle.gl_wiring.specs.Lanes.{IsBodyTable, IsDirectBehind, cost_of_body, has_room, place_of}
 use Rattle.gl_wiring.specs.Leaves.{HaveLeaves, leaf, widths_of}
 use Rattle.gl_wiring.specs.Put.{Gives, IsPutBehind, counted_own}
 use Rattle.gl_wiring.proofs.BodyLemmas.{columns_between, no_more, source_apart, source_cost, source_gives, source_keeps}
@@ -75,7 +74,7 @@ use Rattle.gl_wiring.proofs.CopyLemmas.{body_leaves}
 use Rattle.gl_wiring.proofs.FormLemmas.{IsDirect, direct_is}
 use Rattle.gl_wiring.proofs.GroupCosts.{key_width_is}
 use Rattle.gl_wiring.proofs.GroupLemmas.{fits, follows, in_body, in_source, room, sound_source}
-use Rattle.gl_wiring.proofs.LaneCosts.{lane_cost}
+use Rattle.gl_wiring.proofs.LaneCosts.{lane_cost, words_fit}
 use Rattle.gl_wiring.proofs.TotalCosts.{delay_some, delays_within}
 
 -- ---- the bits of a slot's number
@@ -177,6 +176,12 @@ module _ (nodes : List PlanNode) (g : GroupOf) (plan : IsPlan nodes) (at : IsGro
   pub some_slots : (old new : Net) (tick : Option Bit) (leaves : List Wire) (l : Laned) → IsGroupLane nodes g old new tick leaves l → 1 ≤ l.lane.slot.width
   some_slots old new tick leaves l is = let some = some_bits g.groups in omega (arith, is.lane.slot_width, some)
 
+  -- the slots' keys are as wide as the one that comes
+  keys_here : (old new : Net) (tick : Option Bit) (leaves : List Wire) (l : Laned) → IsGroupLane nodes g old new tick leaves l → width_of_keys l.lane.keys ≡ l.lane.here.width
+  keys_here old new tick leaves l is =
+      keys_width l.lane.keys (slice_index (widths l.source.wire.columns) g.key) (omega (arith, is.lane.keys_count, (fits nodes g plan at).suits.2.least)) (λ k b e. (is.lane.keys k b e).1)
+      ∙ sym is.lane.here_width
+
   -- also once the body is put
   pub lane_there : (old mid new : Net) (tick : Option Bit) (leaves : List Wire) (l : Laned) → Keeps mid new → IsGroupLane nodes g old mid tick leaves l → HasLane new g.groups l
   lane_there old mid new tick leaves l keeps is = record {
@@ -186,6 +191,10 @@ module _ (nodes : List PlanNode) (g : GroupOf) (plan : IsPlan nodes) (at : IsGro
       same_width = keys_alike l.lane.keys (slice_index (widths l.source.wire.columns) g.key) (λ k b e. (is.lane.keys k b e).1);
     };
     keys_count = is.lane.keys_count;
+    nexts = bits_kept mid new l.lane.nexts keeps is.lane.nexts;
+    nexts_count = is.lane.nexts_count;
+    here = bus_kept mid new l.lane.here keeps is.lane.here_bus;
+    here_width = sym (keys_here old mid tick leaves l is);
     further = bit_kept mid new l.lane.further keeps is.lane.further;
     lines = lines_kept mid new l.source.faults keeps is.gives.lines;
   }
@@ -194,7 +203,7 @@ module _ (nodes : List PlanNode) (g : GroupOf) (plan : IsPlan nodes) (at : IsGro
 
   module _ (old mid net last new : Net) (tick : Option Bit) (leaves : List Wire) (l : Laned) (out : TableOut) (wire : Wire) (faults : Faults) (is : IsGroupLane nodes g old mid tick leaves l)
       (direct : is_direct (form_of nodes g.body) ≡ true) (t : IsBodyTable nodes g.body mid net l.lane.wire (place_of l.lane) out)
-      (ga : IsGathered net last (grouping_of nodes g) l.lane out wire)
+      (stored : Bool) (stores : stored ≡ true → has_room (kinds_of nodes t.child) t.aggs l.lane.here.width ≡ true) (ga : IsGathered net last (grouping_of nodes g) l.lane out stored wire)
       (both : AreBoth last new l.source.faults (record { passed = None; further = Some l.lane.further }) faults) where
     abbrev own_kinds : List Kind
     own_kinds = kind_of_column (kinds_of nodes g.source) g.key ∷ kinds_of nodes g.body
@@ -202,17 +211,22 @@ module _ (nodes : List PlanNode) (g : GroupOf) (plan : IsPlan nodes) (at : IsGro
     abbrev delay : ℕ
     delay = delay_of_aggs (kinds_of nodes t.child) t.aggs
 
+    some_delay : 1 ≤ delay
+    some_delay =
+        let in_child = first_within nodes g.body (Aggregate t.child t.aggs) plan t.at t.child [] refl in
+        delay_some (kinds_of nodes t.child) (columns_have_kinds nodes t.child plan in_child) t.aggs
+
     below : FollowsTables nodes g.body (Aggregate t.child t.aggs)
     below = nodes_follow_tables nodes g.body (Aggregate t.child t.aggs) plan t.at
 
     is_totals : IsDirect (form_of nodes t.child) (kinds_of nodes t.child) t.aggs
     is_totals = direct_is (form_of nodes t.child) (kinds_of nodes t.child) t.aggs (sym (ap is_direct below.form) ∙ direct)
 
+    key_width : width_of_keys l.lane.keys ≡ l.lane.here.width
+    key_width = keys_here old mid tick leaves l is
+
     key : width_of_keys l.lane.keys ≡ width_of (kind_of_column (kinds_of nodes g.source) g.key)
-    key =
-        keys_width l.lane.keys (slice_index (widths l.source.wire.columns) g.key) (omega (arith, is.lane.keys_count, (fits nodes g plan at).suits.2.least))
-        (λ k b e. (is.lane.keys k b e).1)
-        ∙ ap (λ (ws : List ℕ). slice_index ws g.key) is.gives.same_widths ∙ key_width_is (kinds_of nodes g.source) g.key (fits nodes g plan at).suits.1
+    key = key_width ∙ is.lane.here_width ∙ ap (λ (ws : List ℕ). slice_index ws g.key) is.gives.same_widths ∙ key_width_is (kinds_of nodes g.source) g.key (fits nodes g plan at).suits.1
 
     own : width_of_keys l.lane.keys ∷ widths out.wire.columns ≡ widths_of own_kinds
     own = ap (λ w. w ∷ widths out.wire.columns) key ∙ ap (λ (ws : List ℕ). width_of (kind_of_column (kinds_of nodes g.source) g.key) ∷ ws) t.same_widths
@@ -224,7 +238,7 @@ module _ (nodes : List PlanNode) (g : GroupOf) (plan : IsPlan nodes) (at : IsGro
     bits : width_of_keys l.lane.keys + sum (widths out.wire.columns) ≡ sum (widths_of own_kinds)
     bits = sym (sum_by-cons (λ (w : ℕ). w) (width_of_keys l.lane.keys) (widths out.wire.columns)) ∙ ap sum own
 
-    gathered : Costs net last (with_registers (g.groups * 4 + length t.aggs + 3) (sum (widths_of own_kinds) + 2))
+    gathered : CostsAtMost net last (record { nodes = g.groups * 4 + length t.aggs + 4; registers = sum (widths_of own_kinds) + 2; memories = words_of_keys stored g.groups l.lane })
     gathered = record {
       nodes = omega (arith, ga.cost.nodes, many);
       registers = omega (arith, ga.cost.registers, bits);
@@ -242,8 +256,9 @@ module _ (nodes : List PlanNode) (g : GroupOf) (plan : IsPlan nodes) (at : IsGro
         lane_cost nodes g plan at (columns_have_kinds nodes g.source plan (in_source nodes g plan at))
         (subst (λ (x : Shape). All IsKind x.kinds) (follows nodes g plan at).shape (columns_have_kinds nodes g.id plan (slice_get_within nodes g.id _ at)))
         t.child t.aggs t.at (fits nodes g plan at).suits.2.least is_totals.some' (fits nodes g plan at).suits.1 (few_bits g.groups (fits nodes g plan at).suits.2.most)
-        (delays_within kinds (columns_have_kinds nodes t.child plan in_child) t.aggs suits) (delay_some kinds (columns_have_kinds nodes t.child plan in_child) t.aggs)
-        (below.form ∙ is_totals.is) old mid net last new is.cost tables gathered both.cost
+        (delays_within kinds (columns_have_kinds nodes t.child plan in_child) t.aggs suits) some_delay
+        (below.form ∙ is_totals.is) old mid net last new is.cost tables (words_of_keys stored g.groups l.lane)
+        (words_fit kinds (columns_have_kinds nodes t.child plan in_child) t.aggs suits stored g.groups l.lane.here.width l.lane key_width stores) gathered both.cost
 
     module _ (run : Run) (r : IsRun new run) where
       run_last : IsRun last run
@@ -255,8 +270,8 @@ module _ (nodes : List PlanNode) (g : GroupOf) (plan : IsPlan nodes) (at : IsGro
       run_mid : IsRun mid run
       run_mid = t.keeps.runs run run_net
 
-      behind : IsDirectBehind t.depth delay t.step t.total (carried run l.lane.wire) (carried run out.wire) (slot_of run l.lane.slot) (slot_of run out.slot)
-      behind = t.behind run run_net (is.lane.begins run run_mid)
+      behind : IsDirectBehind run t.depth delay t.step t.total l.lane.wire (place_of l.lane) out
+      behind = t.behind run run_net
 
       came : (o : Option Row) (x : Row) → o ≡ Some x → o ≡ None → ⊥
       came o x p q = cc (p, q)
@@ -283,18 +298,19 @@ module _ (nodes : List PlanNode) (g : GroupOf) (plan : IsPlan nodes) (at : IsGro
               let few = is.lane.within run run_mid (suc x) (or_right (line_at run l.lane.wire.valid (suc x)) (line_at run l.lane.wire.eos (suc x)) ended) in
               omega (arith, few, own_slot)
 
-      -- and so is a row of the table
-      row_within : (c : ℕ) (x : Row) → (carried run out.wire).tuple c ≡ Some x → slot_of run out.slot c < g.groups
-      row_within c x p =
+      -- and so is a row of the table, where the lane tells where streams begin
+      row_within : Begins (lane_of run l.lane.wire l.lane.slot l.lane.first) → (c : ℕ) (x : Row) → (carried run out.wire).tuple c ≡ Some x → slot_of run out.slot c < g.groups
+      row_within begins c x p =
           let k = slot_of run out.slot c in
+          let rows = behind.table begins k in
           let shared : (share (slot_of run out.slot) k (carried run out.wire)).tuple c ≡ Some x =
           ap (λ z. if z then (carried run out.wire).tuple c else None) (eq-eqb k k refl) ∙ p in
           elim (cases_lt c delay) [
-            | inl lt ↦ absurd (came _ x shared ((behind.table k).before c lt))
+            | inl lt ↦ absurd (came _ x shared (rows.before c lt))
             | inr le ↦
                 (let z : c ≡ (c - delay) + delay = omega (arith, le) in
                 let ended : (nat_eq (behind.slot_mid (c - delay)) k && behind.mid.ends (c - delay)) ≡ true =
-                end_came _ x _ (sym ((behind.table k).tuples (c - delay)) ∙ ap (share (slot_of run out.slot) k (carried run out.wire)).tuple (sym z) ∙ shared) in
+                end_came _ x _ (sym (rows.tuples (c - delay)) ∙ ap (share (slot_of run out.slot) k (carried run out.wire)).tuple (sym z) ∙ shared) in
                 end_within k (c - delay) (eqb-true (behind.slot_mid (c - delay)) k (and_left (nat_eq (behind.slot_mid (c - delay)) k) (behind.mid.ends (c - delay)) ended))
                 (and_right (nat_eq (behind.slot_mid (c - delay)) k) (behind.mid.ends (c - delay)) ended))
           ]
@@ -306,24 +322,35 @@ module _ (nodes : List PlanNode) (g : GroupOf) (plan : IsPlan nodes) (at : IsGro
       no_row = tuple_by run l.lane.wire.valid l.lane.wire.columns 0
           ∙ ap (λ (b : Bool). if b then Some (row_at run 0 l.lane.wire.columns) else None) (line_first run l.lane.wire.valid)
 
-      laned : laws.Laned g.groups t.depth delay (key_of (grouping_of nodes g)) t.step t.total (carried run l.source.wire) (carried run l.lane.wire) behind.mid
-          (carried run out.wire) (carried run wire) (slot_of run l.lane.slot) behind.slot_mid (slot_of run out.slot) (held_of run l.lane.keys)
+      come : KeysCome run g.key g.groups (stride_of (figures_of nodes g.body)) 1 l.source.wire l.lane.nexts l.lane.here l.lane.keys
+      come = is.lane.come run run_mid
+
+      abbrev words : ℕ → ℕ → ℕ
+      words = ga.words run run_last
+
+      words_shown : AreKeys g.groups (key_of (grouping_of nodes g)) (stride_of (figures_of nodes g.body)) 1 (carried run l.source.wire) words
+      words_shown = come.words words (ga.take run run_last come.one come.registers)
+
+      laned : AwaitsTurns g.groups (stride_of d) (carried run l.source.wire) → laws.Laned g.groups t.depth delay (key_of (grouping_of nodes g)) t.step t.total (carried run l.source.wire) (carried run l.lane.wire) behind.mid
+          (carried run out.wire) (carried run wire) (slot_of run l.lane.slot) behind.slot_mid (slot_of run out.slot) words
           (line_at run l.lane.further) (line_at run l.lane.close)
-      laned =
+      laned awaits =
           let a = carried run l.source.wire in
+          let awaits_own : AwaitsFlush (grouping_of nodes g) a = subst (λ (z : Figures). AwaitsTurns g.groups (stride_of z) a) (sym t.figures) awaits in
+          let begins = is.lane.begins run run_mid awaits_own in
           record {
             front = subst (λ (z : Figures). AreSlots g.groups (key_of (grouping_of nodes g)) (stride_of z) a (λ k. share (slot_of run l.lane.slot) k (carried run l.lane.wire)))
                 t.figures (is.lane.front run run_mid);
             no_row = no_row;
             no_end = line_first run l.lane.wire.eos;
-            shown = subst (λ (z : Figures). AreKeys g.groups (key_of (grouping_of nodes g)) (stride_of z) a (held_of run l.lane.keys)) t.figures (is.lane.shown run run_mid);
-            tells = subst (λ (z : Figures). ((c : ℕ) → Carries a c → Rested (g.groups * stride_of z) a c) → (c : ℕ)
-                → line_at run l.lane.further c ≡ came_further g.groups (key_of (grouping_of nodes g)) a c) t.figures (is.lane.told run run_mid);
+            shown = subst (λ (z : Figures). AreKeys g.groups (key_of (grouping_of nodes g)) (stride_of z) 1 a words) t.figures words_shown;
+            tells = is.lane.told run run_mid awaits_own;
             rows = behind.rows;
             slots = behind.slots;
-            table = behind.table;
-            within = row_within;
-            gathers = ga.gathers run run_last row_within;
+            delay = some_delay;
+            table = behind.table begins;
+            within = row_within begins;
+            gathers = ga.gathers run run_last (row_within begins);
             closes = subst (λ (z : Figures). IsClose (z.le + turns_of g.groups z + 1) (z.le + turns_of g.groups z + 1 + 1) a.ends (line_at run l.lane.close)) t.figures
                 (is.lane.closes run run_mid);
           }
@@ -336,7 +363,7 @@ module _ (nodes : List PlanNode) (g : GroupOf) (plan : IsPlan nodes) (at : IsGro
           (both_lines (lines_of_all (λ k. no_lines) g.groups) (line_of_further (line_at run l.lane.further))) beats (carried run l.source.wire) (carried run wire))
           (sym t.figures)
           (lanes_serve f g.groups t.depth delay (key_of (grouping_of nodes g)) t.step t.total (carried run l.source.wire) (carried run l.lane.wire) behind.mid
-          (carried run out.wire) (carried run wire) (slot_of run l.lane.slot) behind.slot_mid (slot_of run out.slot) (held_of run l.lane.keys)
+          (carried run out.wire) (carried run wire) (slot_of run l.lane.slot) behind.slot_mid (slot_of run out.slot) words
           (line_at run l.lane.further) (line_at run l.lane.close) nodes g.body (sound_source nodes g plan at) (fits nodes g plan at).suits.2.least laned t.means beats
           (subst (λ (z : Figures). Spaced (groups_over g.groups f z) beats) t.figures spaced_beats) fitting)
 

@@ -6,8 +6,8 @@ use Rattle.gl_algebra.specs.FigureTable.{figures_of, group_gap}
 use Rattle.gl_algebra.specs.Results.{IsPlanResult}
 use Rattle.gl_algebra.specs.Shapes.{kinds_of, shape_of}
 use Rattle.gl_net.specs.declared.node.Bit.{Bit}
-use Rattle.gl_net.specs.Net.{Net, Run, IsRun, IsBit, Keeps}
-use Rattle.gl_groups.specs.Joins.{AreKeyBuses}
+use Rattle.gl_net.specs.Net.{Net, Run, IsRun, IsBit, IsBus, Keeps}
+use Rattle.gl_groups.specs.Joins.{AreKeyBuses, width_of_keys}
 use Rattle.gl_groups.specs.Laned.{IsLaneOf, cost_of_lane}
 use Rattle.gl_wire.specs.declared.wire.Wire.{Wire}
 use Rattle.gl_wire.specs.Apart.{CarriesApart}
@@ -15,6 +15,7 @@ use Rattle.gl_wire.specs.Beats.{Beats, Spaced}
 use Rattle.gl_wire.specs.Costs.{Cost, CostsAtMost}
 use Rattle.gl_wire.specs.Faults.{AreLines}
 use Rattle.gl_wire.specs.Wire.{carried}
+use Rattle.gl_wire_registers.specs.Lines.{AreBits}
 use Rattle.gl_wiring.specs.declared.groups.GroupOf.{GroupOf}
 use Rattle.gl_wiring.specs.declared.lanes.Laned.{Laned}
 use Rattle.gl_wiring.specs.Leaves.{LeavesFit, widths_of}
@@ -51,5 +52,9 @@ pub record HasLane (net : Net) (groups : ℕ) (l : Laned) : Type 0 where
   pub close : IsBit net l.lane.close
   pub keys : AreKeyBuses net l.lane.keys
   pub keys_count : length l.lane.keys ≡ groups
+  pub nexts : AreBits net l.lane.nexts
+  pub nexts_count : length l.lane.nexts ≡ groups
+  pub here : IsBus net l.lane.here
+  pub here_width : l.lane.here.width ≡ width_of_keys l.lane.keys
   pub further : IsBit net l.lane.further
   pub lines : AreLines net l.source.faults

@@ -1,6 +1,7 @@
 -- Direct bodies on a lane, in a netlist: operators of rows that stand once for all slots, and a table of their totals.
-use Rattle.std.specs.Prelude.{◌≡◌, ℕ, suc, ◌+◌, ◌*◌, ◌<◌, ◌≤◌, List, [], ◌∷◌, filter_map, Option, Some, false, slice_get}
+use Rattle.std.specs.Prelude.{◌≡◌, ℕ, suc, ◌+◌, ◌-◌, ◌*◌, ◌<◌, ◌≤◌, List, [], ◌∷◌, filter_map, Option, Some, Bool, false, nat_eq, slice_get}
 use Rattle.gl_bits.specs.Results.{Row}
+use Rattle.gl_bits.specs.declared.kind.Kind.{Kind}
 use Rattle.gl_algebra.specs.declared.node.PlanAgg.{PlanAgg}
 use Rattle.gl_algebra.specs.declared.node.PlanNode.{PlanNode}
 use Rattle.gl_algebra.specs.declared.node.PlanNode.TheVariants.{Aggregate}
@@ -9,7 +10,7 @@ use Rattle.gl_algebra.specs.FigureTable.{delayed, delay_of_aggs, figures_of, inp
 use Rattle.gl_algebra.specs.Shapes.{kinds_of}
 use Rattle.gl_algebra.specs.Weights.{weight_of}
 use Rattle.gl_net.specs.Net.{Net, Run, IsRun, IsBit, IsBus, Keeps}
-use Rattle.gl_totals.specs.Costs.{cost_of_table}
+use Rattle.gl_totals.specs.Costs.{cost_of_table, kept_of_agg}
 use Rattle.gl_wire.specs.declared.wire.Wire.{Wire}
 use Rattle.gl_wire.specs.Costs.{Cost, Costs, CostsAtMost}
 use Rattle.gl_wire.specs.Faults.{no_faults}
@@ -73,14 +74,20 @@ pub record AreRows (nodes : List PlanNode) (id : ℕ) (old new : Net) (lane : Wi
       → line_at run r.place.first (t + depth) ≡ line_at run place.first t
 
 -- behind a lane a step for each row, so many cycles later, and then, so many cycles after each end of a slot, one row of
--- that slot's stream
-pub record IsDirectBehind (depth delay : ℕ) (step : Row → Option Row) (total : List Row → Row) (lane out : Carried)
-    (slot slot_out : ℕ → ℕ) : Type 0 where
+-- that slot's stream, if the lane tells where streams begin
+pub record IsDirectBehind (run : Run) (depth delay : ℕ) (step : Row → Option Row) (total : List Row → Row)
+    (lane : Wire) (place : Place) (out : TableOut) : Type 0 where
   pub mid : Carried
   pub slot_mid : ℕ → ℕ
-  pub rows : Steady depth step lane mid
-  pub slots : (c : ℕ) → slot_mid (suc c + depth) ≡ slot (suc c)
-  pub table : (k : ℕ) → AtEnds delay total (share slot_mid k mid) (share slot_out k out)
+  pub rows : Steady depth step (carried run lane) mid
+  pub slots : (c : ℕ) → slot_mid (suc c + depth) ≡ slot_of run place.slot (suc c)
+  pub table : Begins (lane_of run lane place.slot place.first) → (k : ℕ)
+      → AtEnds delay total (share slot_mid k mid) (share (slot_of run out.slot) k (carried run out.wire))
+
+-- whether a key of so many bits is within what these aggregates leave of the 128 bits that a plan counts for each
+abbrev pub has_room : List Kind → List PlanAgg → ℕ → Bool
+has_room kinds [] key = nat_eq key 0
+has_room kinds (agg ∷ aggs) key = has_room kinds aggs (key - (128 - kept_of_agg kinds agg))
 
 -- what operators of rows up to a node and a table behind them count, for slots whose numbers have so many bits
 abbrev pub cost_of_body : List PlanNode → ℕ → List PlanAgg → ℕ → Cost
@@ -92,7 +99,7 @@ cost_of_body nodes child aggs bits =
       memories = table.memories;
     }
 
--- a direct body behind a lane that tells where streams begin
+-- a direct body behind a lane
 pub record IsBodyTable (nodes : List PlanNode) (body : ℕ) (old new : Net) (lane : Wire) (place : Place) (out : TableOut)
     : Type 0 where
   pub child : ℕ
@@ -109,6 +116,5 @@ pub record IsBodyTable (nodes : List PlanNode) (body : ℕ) (old new : Net) (lan
   pub total : List Row → Row
   pub figures : figures_of nodes body ≡ direct_figures depth (delay_of_aggs (kinds_of nodes child) aggs)
   pub means : (rows : List Row) → OfBody nodes body rows (total (filter_map step rows) ∷ []) false
-  pub behind : (run : Run) → IsRun new run → Begins (lane_of run lane place.slot place.first)
-      → IsDirectBehind depth (delay_of_aggs (kinds_of nodes child) aggs) step total (carried run lane)
-      (carried run out.wire) (slot_of run place.slot) (slot_of run out.slot)
+  pub behind : (run : Run) → IsRun new run
+      → IsDirectBehind run depth (delay_of_aggs (kinds_of nodes child) aggs) step total lane place out

@@ -1,17 +1,20 @@
 //! Groups over direct bodies: one lane for all slots, the body once behind it, and the keys in front of its totals.
 
-ghost use Rattle.std.specs.Prelude.{◌≡◌, ◌<◌, ◌≤◌, ◌∷◌, [], List, Option, IfOk, length, true};
+ghost use Rattle.std.specs.Prelude.{◌≡◌, ℕ, ◌-◌, ◌<◌, ◌≤◌, ◌∷◌, [], List, Option, IfOk, Some, length, slice_get, true};
+ghost use Rattle.gl_algebra.specs.declared.node.PlanAgg.{PlanAgg as PlanAggOf};
+ghost use Rattle.gl_algebra.specs.declared.node.PlanNode.TheVariants.{Aggregate};
 ghost use Rattle.gl_algebra.specs.Direct.{form_of, is_direct};
-ghost use Rattle.gl_algebra.specs.Shapes.{shape_of};
+ghost use Rattle.gl_algebra.specs.Shapes.{kinds_of, shape_of};
 ghost use Rattle.gl_algebra.specs.Small.{AreFigures};
 ghost use Rattle.gl_groups.specs.Picks.{bits_of_slots};
 ghost use Rattle.gl_net.specs.declared.node.Bit.{Bit as BitOf};
 ghost use Rattle.gl_net.specs.Net.{Net, IsBit, IsBus};
+ghost use Rattle.gl_totals.specs.Costs.{kept_of_agg};
 ghost use Rattle.gl_wire.specs.declared.wire.Wire.{Wire as WireOf};
 ghost use Rattle.gl_wire.specs.Wire.{IsWire};
 ghost use Rattle.gl_wiring.specs.Groups.{IsGroupNode};
 ghost use Rattle.gl_wiring.specs.LaneGroups.{HasLane, IsGroupLane};
-ghost use Rattle.gl_wiring.specs.Lanes.{IsBodyTable, place_of};
+ghost use Rattle.gl_wiring.specs.Lanes.{IsBodyTable, has_room, place_of};
 ghost use Rattle.gl_wiring.specs.Leaves.{HaveLeaves};
 ghost use Rattle.gl_wiring.specs.Put.{CanPut, Gives, HasColumns, IsPutBehind};
 ghost use Rattle.gl_wiring.specs.Tables.{HaveChildren};
@@ -21,8 +24,9 @@ use crate::groups::GroupOf;
 use crate::rows::{Place, put_rows};
 use crate::tables::taken;
 use crate::windows::put_apart;
-use gl_algebra::{Figures, Plan, PlanId, PlanNode};
-use gl_bits::Memory;
+use gl_algebra::columns::kind_of_agg;
+use gl_algebra::{Figures, Plan, PlanAgg, PlanId, PlanNode};
+use gl_bits::{Kind, Memory};
 use gl_groups::Lane;
 use gl_net::{Bit, NetBuilder};
 use gl_totals::table::Table;
@@ -86,7 +90,46 @@ pub(crate) fn put_table(
     }
 }
 
+// What an aggregate leaves of the bits that a plan counts for its state.
+fn spare_of(kinds: &[Kind], agg: &PlanAgg) -> u64
+    ensures { result ≡ 128 - kept_of_agg kinds.now agg.now }
+{
+    let left = 128u64.saturating_sub(u64::from(kind_of_agg(kinds, agg).bits()));
+    match agg {
+        PlanAgg::Count | PlanAgg::Sum(_) => left,
+        PlanAgg::Min(_) | PlanAgg::Max(_) => left.saturating_sub(1),
+        PlanAgg::Avg(_) => left.saturating_sub(64),
+        PlanAgg::Wsum(_, weights) => left.saturating_sub(weights.len() as u64),
+    }
+}
+
+// Whether a key of so many bits is within what these aggregates leave of the bits that a plan counts for each.
+fn has_room(kinds: &[Kind], aggs: &[PlanAgg], key: u64) -> bool
+    ensures { result ≡ has_room kinds.now aggs.now key }
+{
+    match aggs.split_first() {
+        None => key == 0,
+        Some((agg, rest)) => has_room(kinds, rest, key.saturating_sub(spare_of(kinds, agg))),
+    }
+}
+
 impl GroupOf {
+    // Whether a memory has room for keys of so many bits.
+    fn stores(&self, plan: &Plan, key: u8) -> bool
+        requires node { IsGroupNode plan.now self.now }
+        ensures { (child : ℕ) (aggs : List PlanAggOf)
+            → slice_get plan.now self.now.body ≡ Some (Aggregate child aggs)
+            → result ≡ has_room (kinds_of plan.now child) aggs key }
+    {
+        let _ = plan.len();
+        match plan.node(self.body) {
+            PlanNode::Aggregate { child, aggs } => {
+                has_room(plan.kinds(*child), aggs.as_slice(), u64::from(key))
+            }
+            _ => false,
+        }
+    }
+
     /// The source's rows far enough apart for the body, and the lane behind them.
     pub(crate) fn lane(
         &self,
@@ -139,7 +182,8 @@ impl GroupOf {
     {
         let _ = plan.len();
         let grouping = self.grouping(plan, figures);
-        let wire = grouping.gather(alloc, net, &laned.lane, out)?;
+        let stored = self.stores(plan, laned.lane.here.width);
+        let wire = grouping.gather(alloc, net, &laned.lane, out, stored)?;
         let own = Faults {
             passed: None,
             further: Some(laned.lane.further),

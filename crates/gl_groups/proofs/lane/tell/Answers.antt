@@ -1,25 +1,49 @@
-use Rattle.std.proofs.Common.{◌*◌, List, length, subst, sym}
-use Rattle.gl_net.specs.declared.node.Bit.{Bit}
-use Rattle.gl_net.specs.declared.node.Bus.{Bus}
+use Rattle.std.proofs.Common.{length, sym, arith, ◌∙◌}
 use Rattle.gl_net.proofs.Determined.{keeps_then}
-use Rattle.gl_groups.specs.Picks.{AreAlike, PicksOne}
-use Rattle.gl_groups.proofs.PickLemmas.{alike_kept}
-use Rattle.gl_groups.proofs.ToldNet.{told_are}
+use Rattle.gl_wire.proofs.ColumnLemmas.{bit_kept, bus_kept, wire_kept}
+use Rattle.gl_groups.proofs.FoundNet.{sought_kept}
 use Rattle.gl_groups.proofs.lane.tell.Goals as goal
 
-pub pick-requires-clause-buses : goal.pick-requires-clause-buses
-pick-requires-clause-buses c =
-    let four = keeps_then c.begin_streams.new.net c.any.new.net c.any-2.new.net c.in_ok-row.ensures.keeps c.in_ok-end.ensures.keeps in
-    let three = keeps_then c.take_rows.new.net c.begin_streams.new.net c.any-2.new.net c.in_ok-begun.ensures.keeps four in
-    let two = keeps_then c.pairwise.new.net c.take_rows.new.net c.any-2.new.net c.in_ok-takes.ensures.keeps three in
-    let all = keeps_then c.args.net.now c.pairwise.new.net c.any-2.new.net c.in_ok-ends.ensures.keeps two in
-    subst (AreAlike c.any-2.new.net c.args.streams.now.width) (sym c.as_slice-2.ensures)
-    (alike_kept c.args.net.now c.any-2.new.net c.args.streams.now.width c.args.streams.now.numbers all c.requires.streams.numbers)
+pub tell_end-requires-clause-late : goal.tell_end-requires-clause-late
+tell_end-requires-clause-late c = wire_kept c.args.net.now c.tell_row.new.net c.args.late.now c.in_ok-row.ensures.keeps c.requires.late
+
+pub tell_end-requires-clause-sought : goal.tell_end-requires-clause-sought
+tell_end-requires-clause-sought c = (
+  c.requires.sought.0,
+  sought_kept c.args.net.now c.tell_row.new.net (length c.args.sought.now.kept) c.args.turns.now.over.width c.requires.sought.0 c.args.sought.now c.in_ok-row.ensures.keeps c.requires.sought.1,
+)
 
 pub returns : goal.returns
 returns c =
-    let picked = subst (λ (bs : List Bus). PicksOne c.any-2.new.net c.pick.new.net c.in_ok-begun.begun.events bs c.args.streams.now.width (length c.in_ok-begun.begun.events * 2) c.in_ok-slot.slot) c.as_slice-2.ensures
-    (subst (λ (ls : List Bit). PicksOne c.any-2.new.net c.pick.new.net ls c.as_slice-2.result.now c.args.streams.now.width (length ls * 2) c.in_ok-slot.slot) c.as_slice.ensures c.in_ok-slot.ensures) in
-    told_are c.args.net.now c.pairwise.new.net c.take_rows.new.net c.begin_streams.new.net c.any.new.net c.any-2.new.net c.pick.new.net c.args.wire.now c.args.look.now c.args.streams.now
-    c.args.has.now c.args.matches.now c.in_ok-ends.ends c.in_ok-takes.takes c.in_ok-begun.begun c.in_ok-row.row c.in_ok-end.end c.in_ok-slot.slot c.requires.matches_count c.requires.streams
-    c.in_ok-ends.ensures c.in_ok-takes.ensures c.in_ok-begun.ensures c.in_ok-row.ensures c.in_ok-end.ensures picked
+    let row = c.in_ok-row.ensures in
+    let end = c.in_ok-end.ensures in
+    let slot = c.in_ok-slot.ensures in
+    let key = c.in_ok-key.ensures in
+    let first = c.in_ok-first.ensures in
+    let last = c.both.new.net in
+    let k_slot = keeps_then c.tell_slot.new.net c.tell_new.new.net last key.keeps first.keeps in
+    let k_end = keeps_then c.tell_end.new.net c.tell_slot.new.net last slot.keeps k_slot in
+    let k_row = keeps_then c.tell_row.new.net c.tell_end.new.net last end.keeps k_end in
+    record {
+      keeps = keeps_then c.args.net.now c.tell_row.new.net last row.keeps k_row;
+      row_bit = bit_kept c.tell_row.new.net last c.in_ok-row.row k_row row.bit;
+      end_bit = bit_kept c.tell_end.new.net last c.in_ok-end.end k_end end.bit;
+      slot_bus = bus_kept c.tell_slot.new.net last c.in_ok-slot.slot k_slot slot.bus;
+      slot_width = slot.same_width;
+      first_bit = first.bit;
+      cost = record {
+        nodes = omega (arith, row.cost.nodes, end.cost.nodes, slot.cost.nodes, key.cost.nodes, first.cost.nodes);
+        registers = omega (arith, row.cost.registers, end.cost.registers, slot.cost.registers, key.cost.registers, first.cost.registers);
+        memories = omega (arith, row.cost.memories, end.cost.memories, slot.cost.memories, key.cost.memories, first.cost.memories);
+      };
+      law = λ run z.
+          let at_key = first.keeps.runs run z in
+          record {
+            row = row.line run (k_row.runs run z);
+            end = end.line run (k_end.runs run z);
+            slot = slot.slot run (k_slot.runs run z);
+            first = first.line run z;
+            new_is = key.new_is run at_key;
+            next = λ t. key.next run at_key t ∙ sym (key.new_is run at_key t);
+          };
+    }

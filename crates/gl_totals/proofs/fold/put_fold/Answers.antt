@@ -22,14 +22,17 @@ returns-in-Slots c =
 pub put_slots-requires-clause-first : goal.put_slots-requires-clause-first
 put_slots-requires-clause-first c = (subst (KeepFits c.args.net.now) c.in-Slots.is c.requires.keep).0
 
+pub put_slots-requires-clause-begins : goal.put_slots-requires-clause-begins
+put_slots-requires-clause-begins c = (subst (KeepFits c.args.net.now) c.in-Slots.is c.requires.keep).1
+
 pub put_slots-requires-clause-slot : goal.put_slots-requires-clause-slot
-put_slots-requires-clause-slot c = (subst (KeepFits c.args.net.now) c.in-Slots.is c.requires.keep).1
+put_slots-requires-clause-slot c = (subst (KeepFits c.args.net.now) c.in-Slots.is c.requires.keep).2
 
 pub put_slots-requires-clause-next : goal.put_slots-requires-clause-next
-put_slots-requires-clause-next c = (subst (KeepFits c.args.net.now) c.in-Slots.is c.requires.keep).2
+put_slots-requires-clause-next c = (subst (KeepFits c.args.net.now) c.in-Slots.is c.requires.keep).3
 
 pub put_slots-requires-clause-bits : goal.put_slots-requires-clause-bits
-put_slots-requires-clause-bits c = (subst (KeepFits c.args.net.now) c.in-Slots.is c.requires.keep).3
+put_slots-requires-clause-bits c = (subst (KeepFits c.args.net.now) c.in-Slots.is c.requires.keep).4
 
 pub put_slots-requires-clause-same_width : goal.put_slots-requires-clause-same_width
-put_slots-requires-clause-same_width c = (subst (KeepFits c.args.net.now) c.in-Slots.is c.requires.keep).4
+put_slots-requires-clause-same_width c = (subst (KeepFits c.args.net.now) c.in-Slots.is c.requires.keep).5

@@ -8,5 +8,5 @@ returns-in-Register c =
 
 pub returns-in_ok-held-in-Slots : goal.returns-in_ok-held-in-Slots
 returns-in_ok-held-in-Slots c =
-    value_later c.args.net.now c.put_operand.new.net c.later.new.net c.args.stream c.args.operand c.in_ok-value.value c.in_ok-held-in-Slots.held _ _ _
+    value_later c.args.net.now c.put_operand.new.net c.later.new.net c.args.stream c.args.operand c.in_ok-value.value c.in_ok-held-in-Slots.held _ _ _ _
     c.in_ok-value.ensures c.in_ok-held-in-Slots.ensures (sym c.in-Slots.is)

@@ -1,7 +1,7 @@
 use Rattle.std.proofs.Common.{◌≡◌, ◌-◌, ℕ, List, sym, subst, arith}
 use Rattle.gl_net.specs.declared.node.Bus.{Bus}
 use Rattle.gl_rows.specs.Made.{IsSource}
-use Rattle.gl_wire.proofs.ColumnLemmas.{bus_kept, buses_kept}
+use Rattle.gl_wire.proofs.ColumnLemmas.{bit_kept, bus_kept, buses_kept}
 use Rattle.gl_rows.specs.declared.operand.Source.{Source}
 use Rattle.gl_totals.specs.Delays.{IsBitBehind, IsBusBehind}
 use Rattle.gl_totals.specs.Open.{in_memory}
@@ -23,6 +23,7 @@ put_aggs-requires-clause-stream c =
       eos = lines.end_line;
       keep = (
         lines.first_line,
+        bit_kept _ _ c.args.first lines.keeps c.requires.first,
         lines.slot_bus,
         bus_kept _ _ c.args.slot lines.keeps c.requires.slot,
         record { some' = omega (arith, wide, c.requires.bits); most = omega (arith, wide, c.requires.few) },
@@ -47,7 +48,7 @@ returns c =
     let aggs = table.aggs.now in
     let l = c.in_ok-lines.lines in
     let source : Source = record { columns = c.as_slice.result; kinds = table.kinds } in
-    let s : Stream = record { rows = in_memory l.valid l.eos l.first l.slot c.args.slot; source = source } in
+    let s : Stream = record { rows = in_memory l.valid l.eos l.first c.args.first l.slot c.args.slot; source = source } in
     let kept = subst (λ (k : Rows). AreAggsOf one two (c.delay_of_aggs-more.result - 1) (record { rows = k; source = source }) aggs c.in_ok-columns.columns) c.kept.ensures
     c.in_ok-columns.ensures in
     let is = c.delay_of_aggs-more.ensures in
