@@ -21,19 +21,21 @@ pub bit_line : (run : Run) (line : Bit) (t : ℕ) (b : Bool) → run.at (suc t) 
 unfolding line_at
 bit_line run line t b e = ap (λ (n : ℕ). nat_eq n 1) e ∙ bit_is b
 
-better_is : (extreme : Extreme) (kind : Kind) (state x : ℕ) → (if is_better extreme kind state x then x else state) ≡ better extreme kind state x
+pub better_is : (extreme : Extreme) (kind : Kind) (state x : ℕ) → (if is_better extreme kind state x then x else state) ≡ better extreme kind state x
 better_is Least kind state x = refl
 better_is Greatest kind state x = refl
 
-not_choice : (v : Bool) (x y : ℕ) → (if not v then y else x) ≡ (if v then x else y)
-not_choice true x y = refl
-not_choice false x y = refl
+same_choice : (b : Bool) (x : ℕ) → (if b then x else x) ≡ x
+same_choice true x = refl
+same_choice false x = refl
 
--- the state is kept where it counts and the value is no better
-pub kept_is : (some' : Bool) (extreme : Extreme) (kind : Kind) (state x : ℕ)
-    → (if some' && not (is_better extreme kind state x) then state else x) ≡ (if some' then better extreme kind state x else x)
-kept_is true extreme kind state x = not_choice (is_better extreme kind state x) x state ∙ better_is extreme kind state x
-kept_is false extreme kind state x = refl
+-- the better where the state counts, and else the value, with the comparison as the last choice
+pub best_is : (row counts : Bool) (extreme : Extreme) (kind : Kind) (state x : ℕ)
+    → (if is_better extreme kind state x then (if row then x else state) else (if row && not counts then x else state))
+    ≡ (if row then (if counts then better extreme kind state x else x) else state)
+best_is true true extreme kind state x = better_is extreme kind state x
+best_is true false extreme kind state x = same_choice (is_better extreme kind state x) x
+best_is false counts extreme kind state x = same_choice (is_better extreme kind state x) state
 
 -- a line that carries 0
 pub low_line : (run : Run) (line : Bit) (t : ℕ) → run.at (suc t) line.node ≡ 0 → line_at run line (suc t) ≡ false

@@ -32,10 +32,10 @@ cost_of_fold keep step width =
 abbrev pub cost_of_count : Keep → Cost
 cost_of_count keep = record { nodes = 6 + 6 * lag_of keep; registers = 32; memories = slot_words keep * 32 }
 
--- a fold of values by six nodes, and one that tells whether there was one
+-- a bit that tells whether there was a value, and a register of 14 nodes; in slots a fold of values by seven nodes
 abbrev pub cost_of_extreme : Keep → ℕ → Cost
 cost_of_extreme keep width =
-    record { nodes = 15 + 12 * lag_of keep; registers = width + 1; memories = slot_words keep * (width + 1) }
+    record { nodes = 19 + 9 * lag_of keep; registers = width + 1; memories = slot_words keep * (width + 1) }
 
 -- a sum of values that five nodes extend, and a count
 abbrev pub cost_of_fraction : Keep → ℕ → Cost

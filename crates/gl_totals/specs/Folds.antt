@@ -63,7 +63,7 @@ next_of Set run width t state = 1
 -- the nodes that it takes at most
 abbrev pub nodes_of : Step → ℕ
 nodes_of (Add value) = 1
-nodes_of (Keep best) = 6
+nodes_of (Keep best) = 7
 nodes_of Shift = 3
 nodes_of Set = 1
 

@@ -3,6 +3,7 @@ pub mod Costs
 pub mod Delays
 pub mod Folds
 pub mod Slots
+pub mod Extremes
 pub mod Totals
 pub mod Tables
 pub mod Averages

@@ -2,11 +2,11 @@
 
 ghost use Rattle.std.specs.Prelude.{◌≡◌, ◌<◌, IfOk};
 ghost use Rattle.gl_bits.specs.Words.{IsWidth, bit};
-ghost use Rattle.gl_net.specs.Net.{IsAddressWidth, IsBit, IsBus};
+ghost use Rattle.gl_net.specs.Net.{IsAddressWidth, IsBit, IsBus, Net};
 ghost use Rattle.gl_totals.specs.Folds.{BestFits, IsBetter, IsFold, IsNext, StepFits};
 ghost use Rattle.gl_totals.specs.Open.{KeepFits, in_memory, in_register};
 ghost use Rattle.gl_totals.specs.Slots.{IsNow, IsPassing};
-ghost use Rattle.gl_totals.specs.declared.fold.Step.TheVariants.{Keep};
+ghost use Rattle.gl_totals.specs.declared.fold.Step.TheVariants.{Add, Keep, Set, Shift};
 
 use crate::rows::{self, Rows};
 use gl_bits::{Kind, Memory, Op, Word};
@@ -77,8 +77,8 @@ pub fn small_word(number: bool, width: u8) -> Word
     Word::new(bit_number(number), width).unwrap()
 }
 
-// Whether a value is better than a state.
-fn put_better(net: &mut NetBuilder, state: Bus, best: Best) -> Result<Bus, Memory>
+/// Whether a value is better than a state.
+pub fn put_better(net: &mut NetBuilder, state: Bus, best: Best) -> Result<Bus, Memory>
     requires state { IsBus net.old state }
     requires best { BestFits net.old state.width best }
     ensures { IfOk result (IsBetter net.old net.new state best) }
@@ -89,44 +89,90 @@ fn put_better(net: &mut NetBuilder, state: Bus, best: Best) -> Result<Bus, Memor
     }
 }
 
-// The better of a state and a value, or the value alone.
-fn put_kept(net: &mut NetBuilder, state: Bus, best: Best) -> Result<Bus, Memory>
+// The sum of a state and a value.
+fn put_added(net: &mut NetBuilder, state: Bus, value: Bus) -> Result<Bus, Memory>
     requires state { IsBus net.old state }
-    requires best { BestFits net.old state.width best }
-    ensures { IfOk result (IsNext net.old net.new state (Keep best)) }
+    requires value { IsBus net.old value }
+    requires same_width { value.width ≡ state.width }
+    ensures { IfOk result (IsNext net.old net.new state (Add value)) }
 {
-    let better = put_better(net, state, best)?;
-    let keep = but_not(net, best.some, better.bit())?;
-    // Named, since a goal speaks of the value.
-    let out = net.choose(keep, state, best.value)?;
+    let out = net.binary(BinaryOp::Add, state, value)?;
     Ok(out)
 }
 
-/// What a state becomes with this cycle's row.
-pub fn put_next(net: &mut NetBuilder, state: Bus, step: Step) -> Result<Bus, Memory>
-    requires state { IsBus net.old state }
-    requires step { StepFits net.old state.width step }
-    ensures { IfOk result (IsNext net.old net.new state step) }
+// A state with all bits one place higher.
+fn put_moved(net: &mut NetBuilder, state: Bus) -> Result<Bus, Memory>
+    requires { IsBus net.old state }
+    ensures { IfOk result (IsNext net.old net.new state Shift) }
+{
+    let low = net.constant(small_word(false, 1))?;
+    let out = shifted(net, state, low.bit())?;
+    Ok(out)
+}
+
+// 1, as wide as a state.
+fn put_one(net: &mut NetBuilder, state: Bus) -> Result<Bus, Memory>
+    requires { IsBus net.old state }
+    ensures { IfOk result (IsNext net.old net.new state Set) }
+{
+    let out = net.constant(small_word(true, state.width))?;
+    Ok(out)
+}
+
+// What a word becomes where a row comes, and the word itself where none does.
+fn put_stepped(net: &mut NetBuilder, valid: Bit, word: Bus, next: Bus) -> Result<Fold, Memory>
+    requires valid { IsBit net.old valid }
+    requires word { IsBus net.old word }
+    requires next { IsBus net.old next }
+    requires same_width { next.width ≡ word.width }
+    ensures { (start : Net) (step : Step) → IsNext start net.old word step next
+        → IfOk result (IsNow start net.new valid word step) }
+{
+    let now = net.choose(valid, next, word)?;
+    Ok(Fold { before: word, now })
+}
+
+// The better of a word and a value where a row comes; the value alone where the word does not count. The comparison is the last choice, so
+// that nothing stands behind it.
+fn put_best(net: &mut NetBuilder, valid: Bit, word: Bus, best: Best) -> Result<Fold, Memory>
+    requires valid { IsBit net.old valid }
+    requires word { IsBus net.old word }
+    requires best { BestFits net.old word.width best }
+    ensures { IfOk result (IsNow net.old net.new valid word (Keep best)) }
+{
+    let better = put_better(net, word, best)?;
+    let taken = net.choose(valid, best.value, word)?;
+    let alone = but_not(net, valid, best.some)?;
+    let begun = net.choose(alone, best.value, word)?;
+    let now = net.choose(better.bit(), taken, begun)?;
+    Ok(Fold { before: word, now })
+}
+
+// A word as a state, and what that is with this cycle's row.
+fn put_now(net: &mut NetBuilder, valid: Bit, word: Bus, step: Step) -> Result<Fold, Memory>
+    requires valid { IsBit net.old valid }
+    requires word { IsBus net.old word }
+    requires step { StepFits net.old word.width step }
+    ensures { IfOk result (IsNow net.old net.new valid word step) }
 {
     match step {
         Step::Add(value) => {
-            let out = net.binary(BinaryOp::Add, state, value)?;
-            Ok(out)
+            let next = put_added(net, word, value)?;
+            put_stepped(net, valid, word, next)
         }
-        Step::Keep(best) => put_kept(net, state, best),
+        Step::Keep(best) => put_best(net, valid, word, best),
         Step::Shift => {
-            let low = net.constant(small_word(false, 1))?;
-            let out = shifted(net, state, low.bit())?;
-            Ok(out)
+            let next = put_moved(net, word)?;
+            put_stepped(net, valid, word, next)
         }
         Step::Set => {
-            let out = net.constant(small_word(true, state.width))?;
-            Ok(out)
+            let next = put_one(net, word)?;
+            put_stepped(net, valid, word, next)
         }
     }
 }
 
-// The same in a register, which begins anew behind each end.
+// A fold in a register, which begins anew behind each end.
 fn put_register(
     net: &mut NetBuilder,
     valid: Bit,
@@ -141,24 +187,11 @@ fn put_register(
         (IsFold net.old net.new first.width first.bits step (in_register valid eos)) }
 {
     let before = net.register(first.width(), Some(first))?;
-    let stepped = put_next(net, before, step)?;
-    let now = net.choose(valid, stepped, before)?;
+    let fold = put_now(net, valid, before, step)?;
     let again = net.constant(first)?;
-    let next = net.choose(eos, again, now)?;
+    let next = net.choose(eos, again, fold.now)?;
     net.drive(before, next)?;
-    Ok(Fold { before, now })
-}
-
-// A word as a state, and what that is with this cycle's row.
-fn put_now(net: &mut NetBuilder, valid: Bit, word: Bus, step: Step) -> Result<Fold, Memory>
-    requires valid { IsBit net.old valid }
-    requires word { IsBus net.old word }
-    requires step { StepFits net.old word.width step }
-    ensures { IfOk result (IsNow net.old net.new valid word step) }
-{
-    let stepped = put_next(net, word, step)?;
-    let now = net.choose(valid, stepped, word)?;
-    Ok(Fold { before: word, now })
+    Ok(fold)
 }
 
 // The words of the slots, written where a row comes or a stream begins, and the word of the slot that comes next. What is written at once

@@ -1,25 +1,27 @@
-use Rattle.std.proofs.Common.{ℕ, suc, refl, ap, arith, ◌∙◌}
-use Rattle.std.specs.Prelude.{if◌then◌else◌}
-use Rattle.gl_net.proofs.Determined.{keeps_then}
-use Rattle.gl_wire.specs.Wire.{line_at}
-use Rattle.gl_wire.proofs.GateLemmas.{choose_line}
+use Rattle.std.proofs.Common.{sym, subst}
+use Rattle.std.specs.Prelude.{IfOk}
+use Rattle.gl_totals.specs.Slots.{IsNow}
+use Rattle.gl_totals.specs.declared.fold.Step.{Step}
+use Rattle.gl_totals.specs.declared.fold.Step.TheVariants.{Add, Set, Shift}
 use Rattle.gl_totals.proofs.fold.put_now.Goals as goal
 
-pub returns : goal.returns
-returns c =
-    let stepped = c.in_ok-stepped.ensures in
-    let now = c.in_ok-now.ensures in
-    record {
-      keeps = keeps_then c.args.net.now c.put_next.new.net c.choose.new.self stepped.keeps now.keeps;
-      cost = record {
-        nodes = omega (arith, stepped.cost.nodes, now.size);
-        registers = omega (arith, stepped.cost.registers, now.register_bits);
-        memories = omega (arith, stepped.cost.memories, now.memory_bits);
-      };
-      before = refl;
-      now = now.bus;
-      now_width = now.width ∙ stepped.same_width;
-      with_row = λ run r t.
-          now.value run r (suc t) ∙ choose_line run c.args.valid (run.at (suc t) c.in_ok-stepped.stepped.node) (run.at (suc t) c.args.word.node) t
-          ∙ ap (λ (n : ℕ). if line_at run c.args.valid (suc t) then n else run.at (suc t) c.args.word.node) (stepped.value run (now.keeps.runs run r) t);
-    }
+pub returns-in_ok-next-in-Add : goal.returns-in_ok-next-in-Add
+returns-in_ok-next-in-Add c =
+    let old = c.args.net.now in
+    let new = c.put_stepped.new.net in
+    subst (λ (s : Step). IfOk c.put_stepped.result (IsNow old new c.args.valid c.args.word s)) (sym c.in-Add.is)
+    (c.put_stepped.ensures old (Add c.in-Add.value) c.in_ok-next-in-Add.ensures)
+
+pub returns-in_ok-next-in-Shift : goal.returns-in_ok-next-in-Shift
+returns-in_ok-next-in-Shift c =
+    let old = c.args.net.now in
+    let new = c.put_stepped-in-Shift.new.net in
+    subst (λ (s : Step). IfOk c.put_stepped-in-Shift.result (IsNow old new c.args.valid c.args.word s)) (sym c.in-Shift.is)
+    (c.put_stepped-in-Shift.ensures old Shift c.in_ok-next-in-Shift.ensures)
+
+pub returns-in_ok-next-in-Set : goal.returns-in_ok-next-in-Set
+returns-in_ok-next-in-Set c =
+    let old = c.args.net.now in
+    let new = c.put_stepped-in-Set.new.net in
+    subst (λ (s : Step). IfOk c.put_stepped-in-Set.result (IsNow old new c.args.valid c.args.word s)) (sym c.in-Set.is)
+    (c.put_stepped-in-Set.ensures old Set c.in_ok-next-in-Set.ensures)
