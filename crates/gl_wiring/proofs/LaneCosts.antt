@@ -1,6 +1,7 @@
 -- What a group over a direct body costs is within what a plan counts for it.
-use Rattle.std.proofs.Common.{◌≡◌, ℕ, zero, suc, ◌+◌, ◌-◌, ◌*◌, ◌^◌, ◌<◌, ◌≤◌, List, [], ◌∷◌, length, map, Bool, true, false, refl, ap, ◌∙◌, subst, arith, eqb-true}
+use Rattle.std.proofs.Common.{◌≡◌, ℕ, zero, suc, ◌+◌, ◌-◌, ◌*◌, ◌^◌, ◌<◌, ◌≤◌, List, [], ◌∷◌, length, map, Bool, true, false, refl, ap, ◌∙◌, subst, arith}
 use Rattle.std.specs.Prelude.{slice_get, slice_index, Some, sum_by}
+use Rattle.std.proofs.lemmas.Bool.{leb-true}
 use Rattle.std.specs.List.{All, sum}
 use Rattle.std.proofs.lemmas.List.{length-map}
 use Rattle.std.proofs.lemmas.List.Elements.{All-head, All-tail}
@@ -75,12 +76,16 @@ bits_of : (body child spacer n a k m w bits front out : ℕ) → child ≤ body 
     ≤ 64 * (body + 4 * (a + 2 + (k + 1 + 2) + 8) + 4 * (k * m) + spacer) + n * (w + 2)
 bits_of body child spacer n a k m w bits front out less columns few own = omega (arith, less, columns, few, own)
 
+-- what aggregates leave and what they keep is all of it
+left_over : (kinds : List Kind) (all : All IsKind kinds) (aggs : List PlanAgg) → All (AggFits kinds) aggs → sum_by (λ a. 128 - kept_of_agg kinds a) aggs + sum_by (kept_of_agg kinds) aggs ≡ 128 * length aggs
+left_over kinds all [] fit = omega arith
+left_over kinds all (agg ∷ aggs) fit =
+    let rest = left_over kinds all aggs (All-tail (AggFits kinds) agg aggs fit) in
+    omega (arith, rest, agg_kept kinds all agg (All-head (AggFits kinds) agg aggs fit), sum_by-cons (kept_of_agg kinds) agg aggs, sum_by-cons (λ a. 128 - kept_of_agg kinds a) agg aggs)
+
 -- words with keys beside the states
 room_is : (kinds : List Kind) (all : All IsKind kinds) (aggs : List PlanAgg) (key : ℕ) → All (AggFits kinds) aggs → has_room kinds aggs key ≡ true → key + sum_by (kept_of_agg kinds) aggs ≤ 128 * length aggs
-room_is kinds all [] key fit h = omega (arith, eqb-true key 0 h)
-room_is kinds all (agg ∷ aggs) key fit h =
-    let rest = room_is kinds all aggs (key - (128 - kept_of_agg kinds agg)) (All-tail (AggFits kinds) agg aggs fit) h in
-    omega (arith, rest, agg_kept kinds all agg (All-head (AggFits kinds) agg aggs fit), sum_by-cons (kept_of_agg kinds) agg aggs)
+room_is kinds all aggs key fit h = omega (arith, left_over kinds all aggs fit, leb-true key (sum_by (λ a. 128 - kept_of_agg kinds a) aggs) h)
 
 pub words_fit : (kinds : List Kind) → All IsKind kinds → (aggs : List PlanAgg) → All (AggFits kinds) aggs → (stored : Bool) (slots key : ℕ) (l : Lane) → width_of_keys l.keys ≡ key → (stored ≡ true → has_room kinds aggs key ≡ true)
     → 2 ^ bits_of_slots slots * sum_by (kept_of_agg kinds) aggs + words_of_keys stored slots l ≤ 128 * (length aggs * 2 ^ bits_of_slots slots)

@@ -1,5 +1,5 @@
 -- Direct bodies on a lane, in a netlist: operators of rows that stand once for all slots, and a table of their totals.
-use Rattle.std.specs.Prelude.{◌≡◌, ℕ, suc, ◌+◌, ◌-◌, ◌*◌, ◌<◌, ◌≤◌, List, [], ◌∷◌, filter_map, Option, Some, Bool, false, nat_eq, slice_get}
+use Rattle.std.specs.Prelude.{◌≡◌, ℕ, suc, ◌+◌, ◌-◌, ◌*◌, ◌<◌, ◌≤◌, List, [], ◌∷◌, filter_map, Option, Some, Bool, false, nat_le, slice_get, sum_by}
 use Rattle.gl_bits.specs.Results.{Row}
 use Rattle.gl_bits.specs.declared.kind.Kind.{Kind}
 use Rattle.gl_algebra.specs.declared.node.PlanAgg.{PlanAgg}
@@ -86,8 +86,7 @@ pub record IsDirectBehind (run : Run) (depth delay : ℕ) (step : Row → Option
 
 -- whether a key of so many bits is within what these aggregates leave of the 128 bits that a plan counts for each
 abbrev pub has_room : List Kind → List PlanAgg → ℕ → Bool
-has_room kinds [] key = nat_eq key 0
-has_room kinds (agg ∷ aggs) key = has_room kinds aggs (key - (128 - kept_of_agg kinds agg))
+has_room kinds aggs key = nat_le key (sum_by (λ agg. 128 - kept_of_agg kinds agg) aggs)
 
 -- what operators of rows up to a node and a table behind them count, for slots whose numbers have so many bits
 abbrev pub cost_of_body : List PlanNode → ℕ → List PlanAgg → ℕ → Cost
