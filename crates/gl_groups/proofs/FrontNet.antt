@@ -199,7 +199,7 @@ module _ (n0 n1 n2 n3 n4 n5 : Net) (w : Wire) (key count stride width : ℕ) (so
     keeps = keeps_then n0 n1 n5 is_f.keeps k15;
     cost = record {
       nodes = omega (arith, is_f.cost.nodes, is_h.cost.nodes, is_look.cost.nodes, is_r.cost.nodes, is_g.cost.nodes);
-      registers = omega (arith, is_f.cost.registers, is_h.cost.registers, is_look.cost.registers, is_r.cost.registers, is_g.cost.registers, slots_bits);
+      registers = omega (arith, is_f.cost.registers, is_h.cost.registers, is_look.cost.registers, is_r.cost.registers, is_g.cost.registers, slots_bits, is_f.few, is_g.few);
       memories = omega (arith, is_f.cost.memories, is_h.cost.memories, is_look.cost.memories, is_r.cost.memories, is_g.cost.memories);
     };
     row_buses = buses_kept n3 n5 look.row k35 is_look.row_buses;

@@ -46,7 +46,7 @@ is_fronted old mid new r source g close stride cycles width is_stride is_cycles 
   keeps = keeps_then old mid new f.keeps c.keeps;
   cost = record {
     nodes = omega (arith, f.cost.nodes, c.cost.nodes);
-    registers = omega (arith, f.cost.registers, c.cost.registers, is_width);
+    registers = omega (arith, f.cost.registers, c.cost.registers, c.few, is_width);
     memories = omega (arith, f.cost.memories, c.cost.memories);
   };
   same = refl;

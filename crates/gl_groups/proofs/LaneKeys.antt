@@ -1,17 +1,10 @@
 -- How keys come to the slots of a machine one cycle behind its source.
-use Rattle.std.proofs.Common.{◌≡◌, ℕ, zero, suc, ◌<◌, Bool, true, false, refl, sym, ap, ◌∙◌, arith, inl, inr}
-use Rattle.std.specs.Prelude.{not, ◌&&◌, ◌||◌, if◌then◌else◌, nat_lt}
+use Rattle.std.proofs.Common.{◌≡◌, ℕ, zero, suc, ◌<◌, Bool, true, false, refl, sym, ap, ◌∙◌, arith, inl, inr, lt-ltb, ltb-true}
+use Rattle.std.specs.Prelude.{not, ◌&&◌, ◌||◌, if◌then◌else◌}
 use Rattle.std.proofs.lemmas.Bool.{cases_lt}
-use Rattle.std.proofs.lemmas.Bool.Decides.{leb_tells}
 use Rattle.gl_bits.proofs.Bools.{and_left, and_right, not_both, not_true}
 use Rattle.gl_groups.specs.Ahead.{Ahead, Finds, GoesOn, sought_in}
 use Rattle.gl_groups.specs.Seeking.{asks, is_next, kept}
-
-below : (a b : ℕ) → nat_lt a b ≡ true → a < b
-below a b h = elim (leb_tells (suc a) b) [ inl q ↦ q.1 | inr q ↦ absurd (not_both (nat_lt a b) h q.0) ]
-
-tells_below : (a b : ℕ) → a < b → nat_lt a b ≡ true
-tells_below a b l = elim (leb_tells (suc a) b) [ inl q ↦ q.0 | inr q ↦ absurd (omega (arith, l, q.1)) ]
 
 module _ (n : ℕ) (a : Ahead) (g : GoesOn n a) (f : Finds n a) where
   -- slots fill in order, so all before the next one are kept
@@ -20,8 +13,8 @@ module _ (n : ℕ) (a : Ahead) (g : GoesOn n a) (f : Finds n a) where
   kept_below j (suc k) t l m h =
       let before : kept (sought_in a t) k ≡ true = and_right (a.ask t) (kept (sought_in a t) k) (and_left (asks (sought_in a t) (suc k)) (not (kept (sought_in a t) (suc k))) h) in
       let used : a.used k t ≡ true = and_left (a.used k t) (not (a.free t)) before in
-      let far = below k (a.many t) (sym (f.many k t (omega (arith, m))) ∙ used) in
-      let own : a.used j t ≡ true = f.many j t (omega (arith, l, m)) ∙ tells_below j (a.many t) (omega (arith, l, far)) in
+      let far = ltb-true k (a.many t) (sym (f.many k t (omega (arith, m))) ∙ used) in
+      let own : a.used j t ≡ true = f.many j t (omega (arith, l, m)) ∙ lt-ltb j (a.many t) (omega (arith, l, far)) in
       ap (λ b. b && not (a.free t)) (own ∙ sym used) ∙ before
 
   not_kept : (k t : ℕ) → is_next (sought_in a t) k ≡ true → kept (sought_in a t) k ≡ false

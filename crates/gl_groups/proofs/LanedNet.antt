@@ -44,10 +44,10 @@ is_laned old mid new r source g close stride cycles width is_stride is_cycles is
   keeps = keeps_then old mid new f.keeps c.keeps;
   cost = record {
     nodes = omega (arith, f.cost.nodes, c.cost.nodes);
-    registers = omega (arith, f.cost.registers, c.cost.registers, is_width);
+    registers = omega (arith, f.cost.registers, c.cost.registers, c.few, is_width);
     memories = omega (arith, f.cost.memories, c.cost.memories);
   };
-  bound = omega (arith, f.cost.registers, c.cost.registers, small);
+  bound = omega (arith, f.cost.registers, c.cost.registers, c.few, small);
   lane = record {
     wire = wire_kept mid new g.wire c.keeps f.wire;
     same_widths = f.same_widths;

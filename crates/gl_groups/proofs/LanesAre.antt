@@ -91,7 +91,7 @@ module _ (n0 n1 n2 n3 n4 n5 n6 : Net) (source late : Wire) (key count stride wid
         keeps = keeps_then n0 n1 n6 is_late.keeps k1;
         cost = record {
           nodes = omega (arith, is_late.cost.nodes, is_f.cost.nodes, is_h.cost.nodes, is_o.cost.nodes, is_r.cost.nodes, is_m.cost.nodes, g, some);
-          registers = omega (arith, is_late.cost.registers, is_f.cost.registers, is_h.cost.registers, is_o.cost.registers, is_r.cost.registers, is_m.cost.registers, bits);
+          registers = omega (arith, is_late.cost.registers, is_f.cost.registers, is_h.cost.registers, is_o.cost.registers, is_r.cost.registers, is_m.cost.registers, bits, is_f.few);
           memories = omega (arith, is_late.cost.memories, is_f.cost.memories, is_h.cost.memories, is_o.cost.memories, is_r.cost.memories, is_m.cost.memories);
         };
         wire = record { valid = is_m.row_bit; eos = is_m.end_bit; columns = buses_kept n1 n6 late.columns k1 is_late.wire.columns };

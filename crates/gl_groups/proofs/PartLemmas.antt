@@ -1,5 +1,5 @@
 -- The parts of a front, from the lines that they are made of.
-use Rattle.std.proofs.Common.{◌≡◌, ℕ, zero, suc, ◌-◌, ◌<◌, List, length, Some, refl, sym, ap, ◌∙◌, subst, arith}
+use Rattle.std.proofs.Common.{◌≡◌, ℕ, zero, suc, ◌-◌, ◌^◌, ◌<◌, ◌≤◌, List, length, Some, refl, sym, ap, ◌∙◌, subst, arith}
 use Rattle.std.specs.Prelude.{slice_get, slice_index, slice_index_or, nat_eq, not, ◌&&◌, ◌||◌, if◌then◌else◌}
 use Rattle.std.proofs.lemmas.Option.{get_or_from_slice_get, slice_get-get_or}
 use Rattle.gl_bits.proofs.AllLists.{get_mapped}
@@ -33,22 +33,23 @@ turns_law : (run : Run) (eos due trigger : Bit) (rest at : Bus) (count : ℕ)
 unfolding held_at
 turns_law run eos due trigger rest at count next is_at is_trigger = record { next = next; at = is_at; trigger = is_trigger }
 
-pub turns_are : (n0 n1 n2 n3 : Net) (eos due : Bit) (count all others : ℕ) (rest at : Bus) (trigger : Bit) → all ≡ count → others ≡ count - 1
-    → IsCounter n0 n1 eos due 32 all others 0 rest → IsNumberOr n1 n2 eos all rest at → IsGate n2 n3 (λ x y. x || y) eos due trigger
+pub turns_are : (n0 n1 n2 n3 : Net) (eos due : Bit) (count all others bits : ℕ) (rest at : Bus) (trigger : Bit) → all ≡ count → others ≡ count - 1 → bits ≤ 32 → count < 2 ^ bits
+    → IsCounter n0 n1 eos due bits all others 0 rest → IsNumberOr n1 n2 eos all rest at → IsGate n2 n3 (λ x y. x || y) eos due trigger
     → AddsTurns n0 n3 eos due count (record { rest = rest; at = at; trigger = trigger })
-turns_are n0 n1 n2 n3 eos due count all others rest at trigger is_all is_others a' b' c =
-    let a = subst (λ (n : ℕ). IsCounter n0 n1 eos due 32 count n 0 rest) is_others (subst (λ (n : ℕ). IsCounter n0 n1 eos due 32 n others 0 rest) is_all a') in
+turns_are n0 n1 n2 n3 eos due count all others bits rest at trigger is_all is_others few fits a' b' c =
+    let a = subst (λ (n : ℕ). IsCounter n0 n1 eos due bits count n 0 rest) is_others (subst (λ (n : ℕ). IsCounter n0 n1 eos due bits n others 0 rest) is_all a') in
     let b = subst (λ (n : ℕ). IsNumberOr n1 n2 eos n rest at) is_all b' in
     record {
       keeps = keeps_then n0 n1 n3 a.keeps (keeps_then n1 n2 n3 b.keeps c.keeps);
       at_bus = record { there = c.keeps.shapes at.node _ b.bus.there; width = b.bus.width };
-      at_width = b.width ∙ a.width;
+      at_fits = subst (λ n. count < 2 ^ n) (sym (b.width ∙ a.width)) fits;
       trigger_bit = c.bit;
       cost = record {
         nodes = omega (arith, a.cost.nodes, b.cost.nodes, c.cost.nodes);
-        registers = omega (arith, a.cost.registers, b.cost.registers, c.cost.registers);
+        registers = omega (arith, a.cost.registers, b.cost.registers, c.cost.registers, a.width);
         memories = omega (arith, a.cost.memories, b.cost.memories, c.cost.memories);
       };
+      few = omega (arith, a.width, few);
       law = λ run r.
           let at_b = c.keeps.runs run r in
           turns_law run eos due trigger rest at count (a.next run (b.keeps.runs run at_b)) (b.value run at_b) (c.line run r);
@@ -98,6 +99,7 @@ turning_is n0 n1 n2 eos due count lines r a b = record {
     registers = omega (arith, a.cost.registers, b.cost.registers);
     memories = omega (arith, a.cost.memories, b.cost.memories);
   };
+  few = a.few;
   law = λ run z.
       let law = a.law run (b.keeps.runs run z) in
       record { next = law.next; turn = λ k t l. b.line run z k t l ∙ turned_line run eos due count r law k t };

@@ -4,8 +4,6 @@ use Rattle.std.specs.Prelude.{slice_get, if◌then◌else◌, bit_or}
 use Rattle.std.specs.Int.Bits.{or_zero_r}
 use Rattle.std.proofs.Math.Pow.{pow-lt}
 use Rattle.std.proofs.lemmas.Bool.{cases_lt}
-use Rattle.gl_algebra.specs.Cost.{least_exponent}
-use Rattle.gl_algebra.proofs.ExponentLemmas.{exponent_covers}
 use Rattle.gl_bits.specs.Words.{IsWidth, choose_of}
 use Rattle.gl_bits.proofs.AllLists.{get_front, get_there}
 use Rattle.gl_bits.proofs.Bools.{by_cases}
@@ -24,7 +22,7 @@ use Rattle.gl_wire_registers.specs.Lines.{line_of}
 use Rattle.gl_wire_registers.proofs.HalfLemmas.{AreHalves, get_behind, halves}
 use Rattle.gl_wire_registers.proofs.LineLemmas.{line_of-get}
 use Rattle.gl_wire_registers.proofs.RegisterLemmas.{length_taken}
-use Rattle.gl_groups.specs.Picks.{AddsNumbers, AreAlike, CarriesZero, IsNumber, IsPicked, Masks, Merges, PicksOne, bits_of_slots}
+use Rattle.gl_groups.specs.Picks.{AddsNumbers, AreAlike, CarriesZero, IsNumber, IsPicked, Masks, Merges, PicksOne}
 use Rattle.gl_groups.specs.SlotLines.{held_of}
 use Rattle.gl_groups.proofs.SlotNet.{held_of-get, held_of-new, held_of-old}
 
@@ -184,12 +182,6 @@ cut_both ls first second bs left right many some front back front_bus back_bus =
     (cut, cut_bus, two ∙ sym one, omega (arith, one, two, all, all_bus, many))
 
 -- ---- the bits of a number
-
-pub bits_cover : (slots : ℕ) → slots ≤ 2 ^ bits_of_slots slots
-bits_cover slots = exponent_covers slots 1 slots (omega arith)
-
-pub bits_from : (slots more depth bits : ℕ) → more ≡ slots → depth ≡ slots → bits ≡ least_exponent more 1 depth → bits ≡ bits_of_slots slots
-bits_from slots more depth bits a b h = h ∙ ap (λ n. least_exponent n 1 depth) a ∙ ap (least_exponent slots 1) b
 
 -- one bit more has room for one number more
 pub room_for_mark : (slots width : ℕ) → slots ≤ 2 ^ width → slots < 2 ^ (width + 1)

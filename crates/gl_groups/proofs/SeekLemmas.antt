@@ -1,5 +1,5 @@
 -- A key is found where the list of keys has it, and else goes behind the last one.
-use Rattle.std.proofs.Common.{◌≡◌, ℕ, zero, suc, ◌+◌, ◌-◌, ◌<◌, ◌≤◌, List, [], ◌∷◌, ◌++◌, length, Some, None, Bool, true, false, refl, sym, ap, ◌∙◌, subst, arith, inl, inr, ◌⊎◌, length-append}
+use Rattle.std.proofs.Common.{◌≡◌, ℕ, zero, suc, ◌+◌, ◌-◌, ◌<◌, ◌≤◌, List, [], ◌∷◌, ◌++◌, length, Some, None, Bool, true, false, refl, sym, ap, ◌∙◌, subst, arith, inl, inr, ◌⊎◌, length-append, lt-ltb}
 use Rattle.std.specs.Prelude.{slice_get, not, ◌&&◌, ◌||◌, if◌then◌else◌, nat_eq, nat_lt, is_some}
 use Rattle.std.specs.List.{list_any}
 use Rattle.std.proofs.lemmas.Bool.{cases_lt, eq-eqb, ne_eqb}
@@ -80,9 +80,6 @@ get_before (x ∷ ks) y (suc k) l = get_before ks y k (omega (arith, l))
 abbrev pub taken_at : List ℕ → ℕ → ℕ → Bool
 taken_at ks y k = not (list_any (nat_eq y) ks) && nat_eq k (length ks)
 
-less : (a b : ℕ) → a < b → nat_lt a b ≡ true
-less a b l = elim (lt_tells a b) [ inl h ↦ h.0 | inr h ↦ absurd (omega (arith, l, h.1)) ]
-
 pub with_key_at : (count : ℕ) (ks : List ℕ) (y k : ℕ) → k < count → slice_get (with_key count ks y) k ≡ (if taken_at ks y k then Some y else slice_get ks k)
 unfolding with_key
 with_key_at count ks y k l = by (list_any (nat_eq y) ks)
@@ -101,7 +98,7 @@ with_key_at count ks y k l = by (list_any (nat_eq y) ks)
     by false = elim (eqb_tells k (length ks)) [
       | inl h ↦
           (let a = h.0 in
-          let room = less (length ks) count (omega (arith, h.1, l)) in
+          let room = lt-ltb (length ks) count (omega (arith, h.1, l)) in
           rw (a, room) (ap (slice_get (ks ++ y ∷ [])) h.1 ∙ get_last ks y))
       | inr h ↦ (let a = h.0 in rw a (far (nat_lt (length ks) count && true) h.1))
     ]
@@ -122,7 +119,7 @@ left_over : (count n : ℕ) (ks : List ℕ) (y : ℕ) → count ≡ n + 1 → le
 unfolding with_key
 left_over count n ks y last few = elim (lt_tells (length ks) count) [
   | inl h ↦ (let a = h.0 in rw a (by (list_any (nat_eq y) ks) refl (elim (lt_tells n (length ks)) [ inl q ↦ absurd (omega (arith, h.1, q.1, last)) | inr q ↦ q.0 ])))
-  | inr h ↦ (let a = h.0 in let full = less n (length ks) (omega (arith, h.1, last)) in rw (a, full) (and-true (not (list_any (nat_eq y) ks))))
+  | inr h ↦ (let a = h.0 in let full = lt-ltb n (length ks) (omega (arith, h.1, last)) in rw (a, full) (and-true (not (list_any (nat_eq y) ks))))
 ]
   where
     by : (b : Bool) → list_any (nat_eq y) ks ≡ b → nat_lt n (length ks) ≡ false → (not b && nat_lt n (length ks)) ≡ not (list_any (nat_eq y) (if not b then ks ++ y ∷ [] else ks))

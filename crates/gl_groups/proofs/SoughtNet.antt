@@ -18,45 +18,44 @@ use Rattle.gl_groups.specs.declared.finding.Many.{Many}
 use Rattle.gl_groups.specs.declared.finding.One.{One}
 use Rattle.gl_groups.specs.declared.finding.Place.{Place}
 use Rattle.gl_groups.specs.declared.finding.Sought.{Sought}
-use Rattle.gl_groups.specs.Finding.{AddsAsked, AddsKeysTaken, AddsMany, AddsMet, AddsMoved, AddsOne, AddsPlace, AddsSought, AreSought, IsSought}
-use Rattle.gl_groups.specs.Picks.{AddsNumbers}
+use Rattle.gl_groups.specs.Finding.{AddsAsked, AddsKeysTaken, AddsMany, AddsMet, AddsMoved, AddsOne, AddsPlaceOf, AddsSought, AreSought, IsSought}
 use Rattle.gl_groups.specs.SlotLines.{asked_of}
 use Rattle.gl_groups.proofs.FindingNet.{either_new}
 
-module _ (n0 n1 n2 n3 n4 n5 n6 n7 n8 n9 n10 n11 : Net) (a : Asking) (used : List Bit) (n width : ℕ) (many_used : length used ≡ n) (kept hits : List Bit) (q : Asked) (keys places : List Bus) (moved : Bit) (one : One)
+module _ (n0 n1 n2 n3 n4 n5 n6 n7 n8 n9 n10 : Net) (a : Asking) (used : List Bit) (n width : ℕ) (many_used : length used ≡ n) (kept hits : List Bit) (q : Asked) (keys : List Bus) (moved : Bit) (one : One)
     (new passes : Bit) (m : Many) (p : Place) (is_kept : AddsLines n0 n1 (length used) 1 kept (with_line ButNot used a.free)) (is_asked : AddsAsked n1 n2 a.ask kept q) (is_keys : AddsKeysTaken n2 n3 q.nexts a.last keys)
     (is_hits : AddsMet n3 n4 kept keys a.here hits) (is_moved : AddsMoved n4 n5 a moved) (is_one : AddsOne n5 n6 hits moved a.free q.room one) (is_new : IsGate n6 n7 (λ x y. x && not y) q.room one.one new)
-    (is_passes : IsGate n7 n8 (λ x y. x && not y) q.full one.one passes) (is_many : AddsMany n8 n9 a.free new width m) (is_places : AddsNumbers n9 n10 (λ k. k) n width places)
-    (is_place : AddsPlace n10 n11 one.one moved hits m.base places p) where
-  k10 : Keeps n10 n11
-  k10 = is_place.keeps
+    (is_passes : IsGate n7 n8 (λ x y. x && not y) q.full one.one passes) (is_many : AddsMany n8 n9 a.free new width m)
+    (is_place : AddsPlaceOf n9 n10 one.one moved hits m.base n p) where
+  k10 : Keeps is_place.mid n10
+  k10 = is_place.place.keeps
 
-  k9 : Keeps n9 n11
-  k9 = keeps_then n9 n10 n11 is_places.keeps k10
+  k9 : Keeps n9 n10
+  k9 = keeps_then n9 is_place.mid n10 is_place.counts.keeps k10
 
-  k8 : Keeps n8 n11
-  k8 = keeps_then n8 n9 n11 is_many.keeps k9
+  k8 : Keeps n8 n10
+  k8 = keeps_then n8 n9 n10 is_many.keeps k9
 
-  k7 : Keeps n7 n11
-  k7 = keeps_then n7 n8 n11 is_passes.keeps k8
+  k7 : Keeps n7 n10
+  k7 = keeps_then n7 n8 n10 is_passes.keeps k8
 
-  k6 : Keeps n6 n11
-  k6 = keeps_then n6 n7 n11 is_new.keeps k7
+  k6 : Keeps n6 n10
+  k6 = keeps_then n6 n7 n10 is_new.keeps k7
 
-  k5 : Keeps n5 n11
-  k5 = keeps_then n5 n6 n11 is_one.keeps k6
+  k5 : Keeps n5 n10
+  k5 = keeps_then n5 n6 n10 is_one.keeps k6
 
-  k4 : Keeps n4 n11
-  k4 = keeps_then n4 n5 n11 is_moved.keeps k5
+  k4 : Keeps n4 n10
+  k4 = keeps_then n4 n5 n10 is_moved.keeps k5
 
-  k3 : Keeps n3 n11
-  k3 = keeps_then n3 n4 n11 is_hits.keeps k4
+  k3 : Keeps n3 n10
+  k3 = keeps_then n3 n4 n10 is_hits.keeps k4
 
-  k2 : Keeps n2 n11
-  k2 = keeps_then n2 n3 n11 is_keys.keeps k3
+  k2 : Keeps n2 n10
+  k2 = keeps_then n2 n3 n10 is_keys.keeps k3
 
-  k1 : Keeps n1 n11
-  k1 = keeps_then n1 n2 n11 is_asked.keeps k2
+  k1 : Keeps n1 n10
+  k1 = keeps_then n1 n2 n10 is_asked.keeps k2
 
   kept_count : length kept ≡ n
   kept_count = is_kept.count ∙ many_used
@@ -73,30 +72,30 @@ module _ (n0 n1 n2 n3 n4 n5 n6 n7 n8 n9 n10 n11 : Net) (a : Asking) (used : List
   abbrev r : Sought
   r = record { kept = kept; keys = keys; hits = hits; moved = moved; one = one; asked = q; new = new; passes = passes; many = m; place = p }
 
-  are : AreSought n11 n width a.last.width r
+  are : AreSought n10 n width a.last.width r
   are = record {
     kept_count = kept_count;
-    kept = bits_kept n1 n11 kept k1 is_kept.bits;
+    kept = bits_kept n1 n10 kept k1 is_kept.bits;
     keys_count = keys_count;
-    keys = record { each = λ k b e. bus_kept n3 n11 b k3 (is_keys.are.each k b e) };
+    keys = record { each = λ k b e. bus_kept n3 n10 b k3 (is_keys.are.each k b e) };
     keys_width = is_keys.are.widths;
     hits_count = hits_count;
-    hits = bits_kept n4 n11 hits k4 is_hits.bits;
-    moved = bit_kept n5 n11 moved k5 is_moved.bit;
-    one = bit_kept n6 n11 one.one k6 is_one.one_bit;
-    had = bit_kept n6 n11 one.had k6 is_one.had_bit;
+    hits = bits_kept n4 n10 hits k4 is_hits.bits;
+    moved = bit_kept n5 n10 moved k5 is_moved.bit;
+    one = bit_kept n6 n10 one.one k6 is_one.one_bit;
+    had = bit_kept n6 n10 one.had k6 is_one.had_bit;
     nexts_count = nexts_count;
-    nexts = bits_kept n2 n11 q.nexts k2 is_asked.nexts_bits;
-    passes = bit_kept n8 n11 passes k8 is_passes.bit;
-    many = bus_kept n9 n11 m.many k9 is_many.many_bus;
+    nexts = bits_kept n2 n10 q.nexts k2 is_asked.nexts_bits;
+    passes = bit_kept n8 n10 passes k8 is_passes.bit;
+    many = bus_kept n9 n10 m.many k9 is_many.many_bus;
     many_width = is_many.many_width;
-    number = is_place.number_bus;
-    number_width = is_place.number_width ∙ is_many.base_width;
-    home = is_place.home_bus;
-    home_width = is_place.home_width ∙ is_many.base_width;
+    number = is_place.place.number_bus;
+    number_width = is_place.place.number_width ∙ is_many.base_width;
+    home = is_place.place.home_bus;
+    home_width = is_place.place.home_width ∙ is_many.base_width;
   }
 
-  module _ (run : Run) (z : IsRun n11 run) where
+  module _ (run : Run) (z : IsRun n10 run) where
     base_is : (t : ℕ) → held_at 0 run m.base t ≡ (if line_at run a.free t then 0 else held_at 0 run m.many t)
     base_is = is_many.base run (k9.runs run z)
 
@@ -121,32 +120,32 @@ module _ (n0 n1 n2 n3 n4 n5 n6 n7 n8 n9 n10 n11 : Net) (a : Asking) (used : List
     law : IsSought run a used n width r
     unfolding with_line
     law = record {
-      met = is_place.met run;
+      met = is_place.place.met run;
       kept = λ k t l. is_kept.line run (k1.runs run z) k t (omega (arith, l, many_used));
       nexts = λ k t l. is_asked.nexts run (k2.runs run z) k t (omega (arith, l, kept_count));
       key = λ k t l. is_keys.next run (k3.runs run z) k t (omega (arith, l, nexts_count));
       hit = λ k t l. is_hits.line run (k4.runs run z) k t (omega (arith, l, kept_count));
       moved = is_moved.line run (k5.runs run z);
       had = had_is;
-      home = is_place.home run z;
+      home = is_place.place.home run z;
       many = many_is;
       met_one = λ k t l high only. met_at k t l high only;
       one = λ t. is_one.one run (k6.runs run z) t
           ∙ ap (λ i. (if line_at run moved t then any_to i (λ k. line_of run hits k t) else line_at run one.had t) && not (line_at run a.free t)) hits_count;
       new = λ t. new_is t ∙ ap (λ b. b && not (line_at run one.one t)) (room_is t);
       passes = λ t. is_passes.line run (k8.runs run z) t ∙ ap (λ b. b && not (line_at run one.one t)) (full_is t);
-      number = λ t. is_place.number run z t
-          ∙ ap (λ (i : ℕ). if line_at run one.one (suc t) then (if line_at run moved (suc t) then is_place.met run (suc t) else held_at 0 run p.home (suc t)) else i) (base_is (suc t));
+      number = λ t. is_place.place.number run z t
+          ∙ ap (λ (i : ℕ). if line_at run one.one (suc t) then (if line_at run moved (suc t) then is_place.place.met run (suc t) else held_at 0 run p.home (suc t)) else i) (base_is (suc t));
     }
       where
-        met_at : (k t : ℕ) → k < n → line_of run hits k t ≡ true → ((j : ℕ) → j < n → line_of run hits j t ≡ true → j ≡ k) → is_place.met run t ≡ k
+        met_at : (k t : ℕ) → k < n → line_of run hits k t ≡ true → ((j : ℕ) → j < n → line_of run hits j t ≡ true → j ≡ k) → is_place.place.met run t ≡ k
         met_at k zero l high only = (let x = line_of-first run hits k in absurd (cc))
         met_at k (suc t) l high only =
-            (is_place.picked run z (suc t)).one k (omega (arith, l, hits_count)) high (λ j m e. only j (omega (arith, m, hits_count)) e) ∙ is_places.value run (k10.runs run z) k t l
+            (is_place.place.picked run z (suc t)).one k (omega (arith, l, hits_count)) high (λ j m e. only j (omega (arith, m, hits_count)) e) ∙ is_place.counts.value run (k10.runs run z) k t l
 
-  pub sought_are : AddsSought n0 n11 a used n width r
+  pub sought_are : AddsSought n0 n10 a used n width r
   sought_are = record {
-    keeps = keeps_then n0 n1 n11 is_kept.keeps k1;
+    keeps = keeps_then n0 n1 n10 is_kept.keeps k1;
     are = are;
     cost = record {
       nodes = omega (
@@ -160,8 +159,8 @@ module _ (n0 n1 n2 n3 n4 n5 n6 n7 n8 n9 n10 n11 : Net) (a : Asking) (used : List
         is_new.cost.nodes,
         is_passes.cost.nodes,
         is_many.cost.nodes,
-        is_places.cost.nodes,
-        is_place.cost.nodes,
+        is_place.counts.cost.nodes,
+        is_place.place.cost.nodes,
         many_used,
         kept_count,
         nexts_count,
@@ -179,14 +178,14 @@ module _ (n0 n1 n2 n3 n4 n5 n6 n7 n8 n9 n10 n11 : Net) (a : Asking) (used : List
         is_new.cost.registers,
         is_passes.cost.registers,
         is_many.cost.registers,
-        is_places.cost.registers,
-        is_place.cost.registers,
+        is_place.counts.cost.registers,
+        is_place.place.cost.registers,
         kept_count,
         is_many.base_width,
         ap (λ i. i * a.last.width) nexts_count,
         bits,
       );
-      memories = omega (arith, is_kept.cost.memories, is_asked.cost.memories, is_keys.cost.memories, is_hits.cost.memories, is_moved.cost.memories, is_one.cost.memories, is_new.cost.memories, is_passes.cost.memories, is_many.cost.memories, is_places.cost.memories, is_place.cost.memories);
+      memories = omega (arith, is_kept.cost.memories, is_asked.cost.memories, is_keys.cost.memories, is_hits.cost.memories, is_moved.cost.memories, is_one.cost.memories, is_new.cost.memories, is_passes.cost.memories, is_many.cost.memories, is_place.counts.cost.memories, is_place.place.cost.memories);
     };
     law = λ run z. law run z;
   }

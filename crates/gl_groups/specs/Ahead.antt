@@ -70,6 +70,10 @@ pub record GoesOn (n : ℕ) (a : Ahead) : Type 0 where
   pub number : (t : ℕ) → a.number (suc t)
       ≡ (if a.one (suc t) then (if a.moved (suc t) then a.met (suc t) else a.home (suc t)) else many_kept a (suc t))
 
+-- whether the first slot, where it is kept, has the key
+abbrev pub head_in : Ahead → ℕ → Bool
+head_in a t = if a.moved t then a.hit 0 t else (a.had t && nat_eq (a.home t) 0)
+
 -- so they find what is to be found
 pub record Finds (n : ℕ) (a : Ahead) : Type 0 where
   pub used : (k t : ℕ) → k < n → a.used k (suc t) ≡ has n (sought_in a t) k
@@ -81,5 +85,4 @@ pub record Finds (n : ℕ) (a : Ahead) : Type 0 where
   -- where no row comes and nothing is set free, the registers alone tell which slot has the key
   pub home : (k t : ℕ) → k < n → a.ask t ≡ false → a.free t ≡ false → (a.had t && nat_eq (a.home t) k) ≡ found (sought_in a t) k
   -- and in any cycle whether the first slot has it, where that one is kept
-  pub head : (t : ℕ) → 1 ≤ n → kept (sought_in a t) 0 ≡ true
-      → (if a.moved t then a.hit 0 t else (a.had t && nat_eq (a.home t) 0)) ≡ found (sought_in a t) 0
+  pub head : (t : ℕ) → 1 ≤ n → kept (sought_in a t) 0 ≡ true → head_in a t ≡ found (sought_in a t) 0

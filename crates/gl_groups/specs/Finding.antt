@@ -16,7 +16,7 @@ use Rattle.gl_groups.specs.declared.finding.Place.{Place}
 use Rattle.gl_groups.specs.declared.finding.SlotsFound.{SlotsFound}
 use Rattle.gl_groups.specs.declared.finding.Sought.{Sought}
 use Rattle.gl_groups.specs.Ahead.{Ahead, GoesOn, sought_in}
-use Rattle.gl_groups.specs.Picks.{IsPicked}
+use Rattle.gl_groups.specs.Picks.{AddsNumbers, IsPicked}
 use Rattle.gl_groups.specs.Seeking.{is_next, kept}
 use Rattle.gl_groups.specs.Telling.{passes_in}
 use Rattle.gl_groups.specs.SlotLines.{AreKeysOf, asked_of, held_of, same_to}
@@ -125,6 +125,13 @@ pub record AddsPlace (old new : Net) (one moved : Bit) (hits : List Bit) (base :
       else held_at 0 run base (suc t))
   pub home : (run : Run) → IsRun new run → (t : ℕ)
       → held_at 0 run r.home (suc (suc t)) ≡ held_at 0 run r.number (suc t)
+
+-- such a number, where the slots are n
+pub record AddsPlaceOf (old new : Net) (one moved : Bit) (hits : List Bit) (base : Bus) (n : ℕ) (r : Place) : Type 0 where
+  pub mid : Net
+  pub numbers : List Bus
+  pub counts : AddsNumbers old mid (λ k. k) n base.width numbers
+  pub place : AddsPlace mid new one moved hits base numbers r
 
 -- the lines of n slots
 pub record AreSought (net : Net) (n width key : ℕ) (r : Sought) : Type 0 where

@@ -1,12 +1,12 @@
 -- A front of groups in a netlist: its wires, its keys and its own line.
-use Rattle.std.specs.Prelude.{◌≡◌, ℕ, suc, ◌+◌, ◌-◌, ◌*◌, ◌<◌, List, length, Some, None, Bool, slice_get, slice_index, if◌then◌else◌, nat_eq, not, ◌&&◌, ◌||◌}
+use Rattle.std.specs.Prelude.{◌≡◌, ℕ, suc, ◌+◌, ◌-◌, ◌*◌, ◌<◌, ◌≤◌, List, length, Some, None, Bool, slice_get, slice_index, if◌then◌else◌, nat_eq, not, ◌&&◌, ◌||◌}
 use Rattle.std.specs.List.{sum}
 use Rattle.gl_bits.specs.Results.{Row}
 use Rattle.gl_net.specs.declared.node.Bus.{Bus}
 use Rattle.gl_net.specs.declared.node.Bit.{Bit}
 use Rattle.gl_net.specs.Net.{Net, Run, IsRun, IsBit, IsBus, Keeps}
 use Rattle.gl_wire.specs.declared.wire.Wire.{Wire}
-use Rattle.gl_wire.specs.Costs.{Costs}
+use Rattle.gl_wire.specs.Costs.{Costs, CostsAtMost}
 use Rattle.gl_wire.specs.Wire.{AreBuses, IsWire, carried, line_at, row_at, widths}
 use Rattle.gl_wire_registers.specs.Held.{counted_down, held_at, with_registers}
 use Rattle.gl_wire_registers.specs.Lines.{AreBits, carried_of, gates_of, line_of}
@@ -53,7 +53,8 @@ pub record AddsTurning (old new : Net) (eos due : Bit) (count : ℕ) (r : Turnin
   pub keeps : Keeps old new
   pub turns_count : length r.turns ≡ count
   pub bits : AreBits new r.turns
-  pub cost : Costs old new (with_registers (count * 3 + 13) 32)
+  pub cost : Costs old new (with_registers (count * 3 + 13) r.rest.width)
+  pub few : r.rest.width ≤ 32
   pub law : (run : Run) → IsRun new run → IsTurning run eos due count r
 
 -- lines of n slots that are looked at
@@ -103,7 +104,7 @@ pub record IsLooked (run : Run) (key count stride : ℕ) (source : Wire) (r : Lo
 
 pub record AddsLooked (old new : Net) (key count stride width : ℕ) (source : Wire) (r : Looked) : Type 0 where
   pub keeps : Keeps old new
-  pub cost : Costs old new (with_registers (count * 20 + gates_of count + length (widths source.columns) * 2 + 41)
+  pub cost : CostsAtMost old new (with_registers (count * 20 + gates_of count + length (widths source.columns) * 2 + 41)
       (count * (slice_index (widths source.columns) key + 1) + sum (widths source.columns) + width + 66))
   pub row_buses : AreBuses new r.row
   pub row_widths : widths r.row ≡ widths source.columns
@@ -131,7 +132,7 @@ pub record IsChosen (run : Run) (key count stride : ℕ) (source : Wire) (r : Ch
 
 pub record AddsChosen (old new : Net) (key count stride width : ℕ) (source : Wire) (r : Chosen) : Type 0 where
   pub keeps : Keeps old new
-  pub cost : Costs old new (with_registers (count * 26 + length (widths source.columns) * 2 + 41)
+  pub cost : CostsAtMost old new (with_registers (count * 26 + length (widths source.columns) * 2 + 41)
       (count * (slice_index (widths source.columns) key + 1) + sum (widths source.columns) + width + 66))
   pub row_buses : AreBuses new r.row
   pub row_widths : widths r.row ≡ widths source.columns
@@ -153,7 +154,7 @@ pub record IsFront (run : Run) (key count stride : ℕ) (source : Wire) (r : Fro
 
 pub record AddsFront (old new : Net) (key count stride width : ℕ) (source : Wire) (r : Front) : Type 0 where
   pub keeps : Keeps old new
-  pub cost : Costs old new (with_registers (count * 28 + length (widths source.columns) * 2 + 42)
+  pub cost : CostsAtMost old new (with_registers (count * 28 + length (widths source.columns) * 2 + 42)
       (count * (slice_index (widths source.columns) key + 3) + sum (widths source.columns) + width + 67))
   pub as_many : length r.wires ≡ count
   pub wires : (k : ℕ) (w : Wire) → slice_get r.wires k ≡ Some w → IsWire new w

@@ -6,7 +6,7 @@ use Rattle.gl_net.specs.declared.node.Bus.{Bus}
 use Rattle.gl_net.specs.Net.{Net, Run, IsRun, IsBit, IsBus, Keeps}
 use Rattle.gl_wire.specs.declared.emitted.Emitted.{Emitted}
 use Rattle.gl_wire.specs.declared.wire.Wire.{Wire}
-use Rattle.gl_wire.specs.Costs.{Costs, CostsAtMost}
+use Rattle.gl_wire.specs.Costs.{CostsAtMost}
 use Rattle.gl_wire.specs.Faults.{AreLines, lines_of}
 use Rattle.gl_wire.specs.Spills.{SameLines, both_lines}
 use Rattle.gl_wire.specs.Wire.{IsWire, carried, line_at, widths}
@@ -52,7 +52,7 @@ pub record Fronts (net : Net) (r : Grouping) (f : Fronted) : Type 0 where
 -- such a front more
 pub record IsFronted (old new : Net) (r : Grouping) (source : Emitted) (f : Fronted) : Type 0 where
   pub keeps : Keeps old new
-  pub cost : Costs old new (cost_of_front r.slots r.key (widths source.wire.columns))
+  pub cost : CostsAtMost old new (cost_of_front r.slots r.key (widths source.wire.columns))
   pub same : f.source ≡ source
   pub fronts : Fronts new r f
 

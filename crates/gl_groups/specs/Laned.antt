@@ -6,7 +6,7 @@ use Rattle.gl_bits.specs.Results.{Row}
 use Rattle.gl_net.specs.declared.node.Bus.{Bus}
 use Rattle.gl_net.specs.Net.{Net, Run, IsRun, IsBit, IsBus, Keeps, register_bits_of}
 use Rattle.gl_wire.specs.declared.wire.Wire.{Wire}
-use Rattle.gl_wire.specs.Costs.{Cost, Costs, CostsAtMost}
+use Rattle.gl_wire.specs.Costs.{Cost, CostsAtMost}
 use Rattle.gl_wire.specs.Shapes.{IsDelayed}
 use Rattle.gl_wire.specs.Wire.{IsWire, carried, line_at, widths}
 use Rattle.gl_wire_lanes.specs.declared.table.TableOut.{TableOut}
@@ -66,7 +66,7 @@ pub record IsLaneOf (net : Net) (r : Grouping) (source : Wire) (l : Lane) : Type
 -- such a lane more; it has few bits for each slot
 pub record IsLaned (old new : Net) (r : Grouping) (source : Wire) (l : Lane) : Type 0 where
   pub keeps : Keeps old new
-  pub cost : Costs old new (cost_of_lane r.slots r.key (widths source.columns))
+  pub cost : CostsAtMost old new (cost_of_lane r.slots r.key (widths source.columns))
   pub bound : register_bits_of new
       ≤ register_bits_of old + (r.slots * (slice_index (widths source.columns) r.key + 2)
       + 3 * (sum (widths source.columns) + 2) + 200)

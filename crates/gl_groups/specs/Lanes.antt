@@ -5,7 +5,7 @@ use Rattle.gl_net.specs.declared.node.Bus.{Bus}
 use Rattle.gl_net.specs.declared.node.Bit.{Bit}
 use Rattle.gl_net.specs.Net.{Net, Run, IsRun, IsBit, IsBus, Keeps}
 use Rattle.gl_wire.specs.declared.wire.Wire.{Wire}
-use Rattle.gl_wire.specs.Costs.{Costs, nodes_alone}
+use Rattle.gl_wire.specs.Costs.{Costs, CostsAtMost, nodes_alone}
 use Rattle.gl_wire.specs.Wire.{IsWire, carried, line_at, row_at, widths}
 use Rattle.gl_wire_lanes.specs.Lanes.{Begins}
 use Rattle.gl_wire_lanes.specs.Shares.{lane_of, share, slot_of}
@@ -141,6 +141,21 @@ pub record AddsTold (old new : Net) (late : Wire) (r : Sought) (u : Turns) (widt
   pub cost : Costs old new (with_registers 31 1)
   pub law : (run : Run) → IsRun new run → IsTold run late r u width m
 
+-- a lane that tells so, behind a key that was looked for
+pub record AddsLaneLines (old new : Net) (late : Wire) (r : Sought) (u : Turns) (here : Bus) (width : ℕ) (l : LaneLines)
+    : Type 0 where
+  pub told : Told
+  pub adds : AddsTold old new late r u width told
+  pub lines : l ≡ record {
+    wire = record { valid = told.row; eos = told.end; columns = late.columns };
+    slot = told.slot;
+    first = told.first;
+    keys = r.keys;
+    nexts = r.asked.nexts;
+    here = here;
+    further = r.passes;
+  }
+
 -- the shares of a lane are what the slots take, and it tells where streams begin if each flush is over before anything
 -- comes; the keys are those of the slots a cycle before
 pub record IsLane (run : Run) (key count stride : ℕ) (source : Wire) (r : LaneLines) : Type 0 where
@@ -154,7 +169,7 @@ pub record IsLane (run : Run) (key count stride : ℕ) (source : Wire) (r : Lane
 
 pub record AddsLane (old new : Net) (key count stride width : ℕ) (source : Wire) (r : LaneLines) : Type 0 where
   pub keeps : Keeps old new
-  pub cost : Costs old new (with_registers (count * 15 + length (widths source.columns) * 2 + 86)
+  pub cost : CostsAtMost old new (with_registers (count * 15 + length (widths source.columns) * 2 + 86)
       (count * (slice_index (widths source.columns) key + 2) + sum (widths source.columns) + width * 3 + 42))
   pub wire : IsWire new r.wire
   pub same_widths : widths r.wire.columns ≡ widths source.columns

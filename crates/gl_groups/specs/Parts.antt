@@ -1,5 +1,5 @@
 -- The parts of the front, each by its equations, from the reset cycle on.
-use Rattle.std.specs.Prelude.{◌≡◌, ℕ, suc, ◌+◌, ◌-◌, ◌*◌, ◌<◌, List, length, nat_eq, not, ◌&&◌, ◌||◌, if◌then◌else◌, Bool}
+use Rattle.std.specs.Prelude.{◌≡◌, ℕ, suc, ◌+◌, ◌-◌, ◌*◌, ◌<◌, ◌≤◌, ◌^◌, List, length, nat_eq, not, ◌&&◌, ◌||◌, if◌then◌else◌, Bool}
 use Rattle.gl_net.specs.declared.node.Bus.{Bus}
 use Rattle.gl_net.specs.declared.node.Bit.{Bit}
 use Rattle.gl_net.specs.Net.{Net, Run, IsRun, IsBit, IsBus, Keeps}
@@ -27,7 +27,8 @@ pub record AddsFlush (old new : Net) (valid eos : Bit) (stride : ℕ) (f : Flush
   pub idle : IsBit new f.idle
   pub free : IsBit new f.free
   pub due : IsBit new f.due
-  pub cost : Costs old new (with_registers 19 33)
+  pub cost : Costs old new (with_registers 19 (f.wait.width + 1))
+  pub few : f.wait.width ≤ 32
   pub law : (run : Run) → IsRun new run → IsFlush run valid eos stride f
 
 -- which slot has its turn: with an end the first one
@@ -42,9 +43,10 @@ pub record IsTurns (run : Run) (eos due : Bit) (count : ℕ) (r : Turns) : Type 
 pub record AddsTurns (old new : Net) (eos due : Bit) (count : ℕ) (r : Turns) : Type 0 where
   pub keeps : Keeps old new
   pub at_bus : IsBus new r.at
-  pub at_width : r.at.width ≡ 32
+  pub at_fits : count < 2 ^ r.at.width
   pub trigger_bit : IsBit new r.trigger
-  pub cost : Costs old new (with_registers 13 32)
+  pub cost : Costs old new (with_registers 13 r.rest.width)
+  pub few : r.rest.width ≤ 32
   pub law : (run : Run) → IsRun new run → IsTurns run eos due count r
 
 -- whether the slot that ends takes the row that came with the end

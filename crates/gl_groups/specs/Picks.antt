@@ -1,6 +1,5 @@
 -- Of buses the one whose line is 1.
 use Rattle.std.specs.Prelude.{◌≡◌, ℕ, suc, ◌<◌, List, length, Some, true, false, slice_get, if◌then◌else◌, bit_or}
-use Rattle.gl_algebra.specs.Cost.{least_exponent}
 use Rattle.gl_net.specs.declared.node.Bus.{Bus}
 use Rattle.gl_net.specs.declared.node.Bit.{Bit}
 use Rattle.gl_net.specs.Net.{Net, Run, IsRun, IsBus, Keeps}
@@ -8,11 +7,12 @@ use Rattle.gl_wire.specs.Costs.{Costs, nodes_alone}
 use Rattle.gl_wire.specs.Wire.{line_at}
 use Rattle.gl_wire_registers.specs.Held.{held_at}
 use Rattle.gl_wire_registers.specs.Lines.{line_of}
+use Rattle.gl_wire_registers.specs.Numbers.{bits_below}
 use Rattle.gl_groups.specs.SlotLines.{held_of}
 
 -- the bits of a slot's number: the least, and at least one
 abbrev pub bits_of_slots : ℕ → ℕ
-bits_of_slots slots = least_exponent slots 1 slots
+bits_of_slots = bits_below
 
 -- buses of this width are in the netlist
 pub record AreAlike (net : Net) (width : ℕ) (bs : List Bus) : Type 0 where

@@ -1,6 +1,6 @@
 -- What a lane tells in a cycle, from what is found and from the turns of a flush.
 use Rattle.std.specs.Prelude.{ℕ, ◌-◌, Bool, not, ◌&&◌, ◌||◌, if◌then◌else◌, nat_eq, nat_lt}
-use Rattle.gl_groups.specs.Ahead.{Ahead, sought_in}
+use Rattle.gl_groups.specs.Ahead.{Ahead, head_in, sought_in}
 use Rattle.gl_groups.specs.Seeking.{kept}
 use Rattle.gl_groups.specs.Values.{Cycle, Values, due_of}
 
@@ -11,10 +11,6 @@ turn_of n p = n - p.rest
 -- whether a row is left over: its key is none of the slots', and no slot is free
 abbrev pub passes_in : ℕ → Ahead → ℕ → Bool
 passes_in n a t = (a.ask t && kept (sought_in a t) (n - 1)) && not (a.one t)
-
--- whether the first slot, where it is kept, has the key
-abbrev pub head_in : Ahead → ℕ → Bool
-head_in a t = if a.moved t then a.hit 0 t else (a.had t && nat_eq (a.home t) 0)
 
 -- whether a slot takes a row: one that comes alone, where it is not left over; one with the end, where the first slot has it;
 -- the one that came with the end, in the turn of its slot

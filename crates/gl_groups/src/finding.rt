@@ -4,8 +4,8 @@
 ghost use Rattle.std.specs.Prelude.{◌≡◌, ◌<◌, ◌≤◌, ◌^◌, IfOk, length};
 ghost use Rattle.gl_bits.specs.Words.{IsWidth};
 ghost use Rattle.gl_net.specs.Net.{IsBit, IsBus};
-ghost use Rattle.gl_wire_registers.specs.Lines.{AddsLine, AreBits};
-ghost use Rattle.gl_groups.specs.Finding.{AddsAsked, AddsHeld, AddsKeysTaken, AddsLater, AddsMany, AddsMet, AddsMoved, AddsOne, AddsPlace, AddsSlotsFound, AddsSought, AreAsking};
+ghost use Rattle.gl_wire_registers.specs.Lines.{AreBits};
+ghost use Rattle.gl_groups.specs.Finding.{AddsAsked, AddsHeld, AddsKeysTaken, AddsLater, AddsMany, AddsMet, AddsMoved, AddsOne, AddsPlace, AddsPlaceOf, AddsSlotsFound, AddsSought, AreAsking};
 ghost use Rattle.gl_groups.specs.Picks.{AreAlike};
 ghost use Rattle.gl_groups.specs.SlotLines.{AreKeysOf};
 
@@ -261,6 +261,31 @@ pub fn find_place(
     Ok(Place { number, home })
 }
 
+// The number of the slot that has the key, or that takes it, of so many slots.
+fn place_of(
+    alloc: Global,
+    net: &mut NetBuilder,
+    one: Bit,
+    moved: Bit,
+    hits: &Bits,
+    base: Bus,
+    count: u32,
+) -> Result<Place, Memory>
+    requires one { IsBit net.old one }
+    requires moved { IsBit net.old moved }
+    requires hits { AreBits net.old hits.now }
+    requires base { IsBus net.old base }
+    requires count { length hits.now ≡ count }
+    requires some { 1 ≤ count }
+    requires fits { count ≤ 2 ^ base.width }
+    ensures { IfOk result (AddsPlaceOf net.old net.new one moved hits.now base count) }
+{
+    let places = numbers(alloc, net, count, base.width)?;
+    // Named, since a goal speaks of the value.
+    let place = find_place(net, one, moved, hits.as_slice(), base, places.as_slice())?;
+    Ok(place)
+}
+
 /// What slots that are used make of a row's key, and their keys; numbers have so many bits.
 #[tactic(auto, using(gl_wire_registers::proofs::LineLemmas::bits_kept))]
 pub fn seek_slots(
@@ -288,15 +313,7 @@ pub fn seek_slots(
     let new = but_not(net, asked.room, one.one)?;
     let passes = but_not(net, asked.full, one.one)?;
     let many = count_used(net, asking.free, new, width)?;
-    let places = numbers(alloc, net, count, width)?;
-    let place = find_place(
-        net,
-        one.one,
-        moved,
-        hits.as_slice(),
-        many.base,
-        places.as_slice(),
-    )?;
+    let place = place_of(alloc, net, one.one, moved, &hits, many.base, count)?;
     Ok(Sought {
         kept,
         keys,

@@ -7,7 +7,7 @@ ghost use Rattle.gl_net.specs.Net.{IsBit, IsBus};
 ghost use Rattle.gl_wire.specs.Wire.{IsWire};
 ghost use Rattle.gl_wire_registers.specs.Lines.{AddsLine};
 ghost use Rattle.gl_groups.specs.Finding.{HasSought};
-ghost use Rattle.gl_groups.specs.Lanes.{AddsHeldEnd, AddsLane, AddsLate, AddsNew, AddsOver, AddsSlot, AddsTold, AreTurns, end_line, less_at, row_line};
+ghost use Rattle.gl_groups.specs.Lanes.{AddsHeldEnd, AddsLane, AddsLaneLines, AddsLate, AddsNew, AddsOver, AddsSlot, AddsTold, AreTurns, end_line, less_at, row_line};
 
 use crate::choices::choose_bit;
 use crate::finding::{Asking, Sought, find_slots};
@@ -272,6 +272,40 @@ pub fn tell(
     })
 }
 
+// The wire that tells so of the slots, behind a key that was looked for.
+fn tell_lane(
+    net: &mut NetBuilder,
+    late: Wire,
+    sought: Sought,
+    turns: &Turns,
+    here: Bus,
+    width: u8,
+) -> Result<LaneLines, Memory>
+    requires late { IsWire net.old late }
+    requires sought { HasSought net.old turns.now.over.width sought }
+    requires some { 1 ≤ length sought.kept }
+    requires turns { AreTurns net.old turns.now }
+    requires width { IsWidth width }
+    requires wide { turns.now.over.width ≡ width + 1 }
+    ensures { IfOk result (AddsLaneLines net.old net.new late sought turns.now here width) }
+{
+    let told = tell(net, &late, &sought, turns, width)?;
+    let asked = sought.asked;
+    Ok(LaneLines {
+        wire: Wire {
+            valid: told.row,
+            eos: told.end,
+            columns: late.columns,
+        },
+        slot: told.slot,
+        first: told.first,
+        keys: sought.keys,
+        nexts: asked.nexts,
+        here,
+        further: sought.passes,
+    })
+}
+
 /// One wire for so many slots, by the key in a column, whose ends are `stride` cycles apart in a flush; the number of a slot has so many bits.
 pub fn put_lane(
     alloc: Global,
@@ -309,20 +343,6 @@ pub fn put_lane(
         held: end.held,
         over: over.over,
     };
-    let told = tell(net, &late, &found.sought, &turns, width)?;
-    let sought = found.sought;
-    let asked = sought.asked;
-    Ok(LaneLines {
-        wire: Wire {
-            valid: told.row,
-            eos: told.end,
-            columns: late.columns,
-        },
-        slot: told.slot,
-        first: told.first,
-        keys: sought.keys,
-        nexts: asked.nexts,
-        here: asking.last,
-        further: sought.passes,
-    })
+    let lines = tell_lane(net, late, found.sought, &turns, asking.last, width)?;
+    Ok(lines)
 }

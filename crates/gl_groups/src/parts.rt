@@ -1,6 +1,6 @@
 //! The parts of a front of groups, each with its registers.
 
-ghost use Rattle.std.specs.Prelude.{◌≡◌, ◌<◌, ◌≤◌, IfOk, length};
+ghost use Rattle.std.specs.Prelude.{◌≡◌, ◌<◌, ◌≤◌, ◌^◌, IfOk, length};
 ghost use Rattle.gl_net.specs.Net.{IsBit, IsBus};
 ghost use Rattle.gl_wire_registers.specs.Lines.{AddsLine, AddsLines, AreBits};
 ghost use Rattle.gl_groups.specs.Parts.{AddsFlush, AddsTail, AddsTurns, TakesOf, turned_at, turned_to};
@@ -9,7 +9,7 @@ use gl_bits::Memory;
 use gl_net::{Bit, Bus, NetBuilder};
 use gl_wire::{both, but_not, either};
 use gl_wire_registers::{
-    Bits, LineOp, count_down, latch, number_or, pairwise, when_equal, with_all,
+    Bits, LineOp, bits_to, count_down, latch, number_or, pairwise, when_equal, with_all,
 };
 use std::alloc::Global;
 
@@ -60,7 +60,7 @@ pub fn count_flush(net: &mut NetBuilder, valid: Bit, eos: Bit, stride: u32) -> R
     let flush = latch(net, eos, valid)?;
     let idle = but_not(net, flush, comes)?;
     let free = both(net, flush, comes)?;
-    let wait = count_down(net, eos, idle, 32, 0, last, last)?;
+    let wait = count_down(net, eos, idle, bits_to(stride - 1), 0, last, last)?;
     let due = when_equal(net, idle, wait, 0)?;
     Ok(Flush {
         flush,
@@ -80,7 +80,7 @@ pub fn count_turns(net: &mut NetBuilder, eos: Bit, due: Bit, count: u32) -> Resu
 {
     let all = u128::from(count);
     let others = u128::from(count - 1);
-    let rest = count_down(net, eos, due, 32, all, others, 0)?;
+    let rest = count_down(net, eos, due, bits_to(count), all, others, 0)?;
     let at = number_or(net, eos, all, rest)?;
     let trigger = either(net, eos, due)?;
     Ok(Turns { rest, at, trigger })
@@ -105,7 +105,7 @@ pub fn keep_tail(net: &mut NetBuilder, valid: Bit, eos: Bit, idle: Bit) -> Resul
 fn at_slot(net: &mut NetBuilder, line: Bit, at: Bus, count: u32, slot: u32) -> Result<Bit, Memory>
     requires line { IsBit net.old line }
     requires at { IsBus net.old at }
-    requires width { at.width ≡ 32 }
+    requires fits { count < 2 ^ at.width }
     requires below { slot < count }
     ensures { IfOk result (λ b. AddsLine net.old net.new 3 b (turned_at count line at slot)) }
 {
@@ -124,7 +124,7 @@ pub fn turn_lines(
 ) -> Result<Bits, Memory>
     requires line { IsBit net.old line }
     requires at { IsBus net.old at }
-    requires width { at.width ≡ 32 }
+    requires fits { count < 2 ^ at.width }
     ensures { IfOk result (λ bs. AddsLines net.old net.new count 3 bs (turned_to count line at)) }
 {
     let mut all = Bits::new(alloc);

@@ -1,7 +1,6 @@
 //! Of buses the one whose line is 1: each bus where its line is 1 and else 0, and the bits of all of them together, in a tree.
 
 ghost use Rattle.std.specs.Prelude.{◌≡◌, ◌<◌, ◌≤◌, ◌*◌, ◌-◌, ◌^◌, IfOk, length};
-ghost use Rattle.gl_algebra.specs.Cost.{least_exponent};
 ghost use Rattle.gl_bits.specs.Words.{IsWidth};
 ghost use Rattle.gl_net.specs.Net.{IsBit, IsBus};
 ghost use Rattle.gl_wire_registers.specs.Lines.{AreBits};
@@ -9,7 +8,7 @@ ghost use Rattle.gl_groups.specs.Picks.{AddsNumbers, AreAlike, CarriesZero, IsNu
 
 use gl_bits::Memory;
 use gl_net::{BinaryOp, Bit, Bus, Buses, NetBuilder};
-use gl_wire_registers::word;
+use gl_wire_registers::{bits_below, word};
 use std::alloc::Global;
 
 // A bus where its line is 1, and else 0.
@@ -101,21 +100,6 @@ pub fn numbers(alloc: Global, net: &mut NetBuilder, count: u32, width: u8) -> Re
     Ok(all)
 }
 
-// The least exponent, of so many from this one on, whose power of two is at least the number of slots.
-fn least_exponent(more: u64, exponent: u8, slots: u64) -> u8
-    requires exponent { exponent ≤ 32 }
-    requires slots { slots ≤ 2 ^ 32 }
-    ensures value { result ≡ least_exponent more exponent slots }
-    ensures low { exponent ≤ result }
-    ensures high { result ≤ 32 }
-{
-    if more == 0 || slots <= 1u64 << exponent {
-        exponent
-    } else {
-        least_exponent(more - 1, exponent + 1, slots)
-    }
-}
-
 /// The bits of a slot's number.
 pub fn slot_bits(slots: u32) -> u8
     ensures value { result ≡ bits_of_slots slots }
@@ -123,5 +107,5 @@ pub fn slot_bits(slots: u32) -> u8
     ensures few { result ≤ 32 }
     ensures enough { slots ≤ 2 ^ result }
 {
-    least_exponent(u64::from(slots), 1, u64::from(slots))
+    bits_below(u64::from(slots))
 }

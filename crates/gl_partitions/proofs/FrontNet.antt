@@ -21,7 +21,7 @@ use Rattle.gl_wire_registers.proofs.LineLemmas.{any_same, line_of-get}
 use Rattle.gl_windows.proofs.MachineLemmas.{tuple_of}
 use Rattle.gl_groups.specs.Fronts.{column_of}
 use Rattle.gl_groups.specs.SlotLines.{held_of}
-use Rattle.gl_groups.specs.Slots.{Slots, further_line, is_further, keys_at, of_slot, same_key, slots_at, slots_next}
+use Rattle.gl_groups.specs.Slots.{Slots, further_line, keys_at, of_slot, same_key, slots_at, slots_next}
 use Rattle.gl_partitions.specs.declared.front.Look.{Look}
 use Rattle.gl_partitions.specs.declared.slot.Chosen.{Chosen}
 use Rattle.gl_partitions.specs.declared.slot.SlotWindows.{SlotWindows}

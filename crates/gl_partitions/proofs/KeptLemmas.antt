@@ -9,7 +9,7 @@ use Rattle.gl_bits.proofs.AllLists.{get_front}
 use Rattle.gl_wire.specs.Apart.{Carries, a_tuple, an_end}
 use Rattle.gl_groups.specs.Slots.{Slots, freed, keys_now}
 use Rattle.gl_partitions.proofs.Setting.{Setting, Spacing}
-use Rattle.gl_partitions.proofs.EndingLemmas.{keys, keys_stay, slots}
+use Rattle.gl_partitions.proofs.EndingLemmas.{keys_stay, slots}
 use Rattle.gl_partitions.proofs.FlushLemmas.{Flush}
 use Rattle.gl_partitions.proofs.PhaseLemmas.{Phase, all, flows, flushes, phase}
 use Rattle.gl_partitions.proofs.CauseLemmas.{Source, comes', comes_tuple, in_turn, turn_early}

@@ -273,7 +273,7 @@ module _ (n0 n1 n2 n3 n4 n5 n6 n7 : Net) (w : Wire) (key slots copies stride wid
     keeps = keeps_then n0 n1 n7 is_f.keeps k17;
     cost = record {
       nodes = omega (arith, is_f.cost.nodes, is_h.cost.nodes, is_look.cost.nodes, is_r.cost.nodes, is_g.cost.nodes, is_dues.cost.nodes, is_ms.cost.nodes, is_r.are.found_count, gates_some slots some);
-      registers = omega (arith, is_f.cost.registers, is_h.cost.registers, is_look.cost.registers, is_r.cost.registers, is_g.cost.registers, is_dues.cost.registers, is_ms.cost.registers, slots_bits);
+      registers = omega (arith, is_f.cost.registers, is_h.cost.registers, is_look.cost.registers, is_r.cost.registers, is_g.cost.registers, is_dues.cost.registers, is_ms.cost.registers, is_f.few, is_g.few, slots_bits);
       memories = omega (arith, is_f.cost.memories, is_h.cost.memories, is_look.cost.memories, is_r.cost.memories, is_g.cost.memories, is_dues.cost.memories, is_ms.cost.memories);
     };
     row_buses = buses_kept n3 n7 look.row k37 is_look.row_buses;

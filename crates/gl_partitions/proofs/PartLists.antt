@@ -7,13 +7,16 @@ use Rattle.std.proofs.lemmas.Bool.{cases_lt, and_from, and_parts, eq-eqb, eqb-tr
 use Rattle.std.proofs.lemmas.List.{append-nil, append_assoc, map-append}
 use Rattle.std.proofs.lemmas.List.Elements.{filter-append}
 use Rattle.std.proofs.lemmas.Nat.{div-add-mod', div-mul-add, mod-mul-add}
+use Rattle.gl_algebra.proofs.ListLemmas.{get-append}
 use Rattle.gl_bits.specs.Lists.{Group, groups, keys_of, part, rows_with}
 use Rattle.gl_bits.specs.Partitions.{completed, keyed, short_slices, shorts}
+use Rattle.gl_bits.proofs.AllLists.{get_past}
 use Rattle.gl_bits.proofs.Bools.{true_or_false}
 use Rattle.gl_bits.proofs.Grouping.{AreDistinct}
 use Rattle.gl_wire_copies.proofs.NumberLemmas.{mul_below}
 use Rattle.gl_windows.specs.Firsts.{firsts}
 use Rattle.gl_windows.proofs.SliceLemmas.{firsts-slices}
+use Rattle.gl_groups.proofs.EventLemmas.{not_listed}
 
 -- ---- the window that a row completes
 
@@ -60,26 +63,16 @@ get_here [] x (suc m) e = absurd (omega (arith, e))
 get_here (y ∷ xs) x zero e = absurd (omega (arith, e))
 get_here (y ∷ xs) x (suc m) e = get_here xs x m (omega (arith, e))
 
-get_before : {A : Type 0} (xs ys : List A) (m : ℕ) → m < length xs → slice_get (xs ++ ys) m ≡ slice_get xs m
-get_before [] ys m l = absurd (omega (arith, l))
-get_before (x ∷ xs) ys zero l = refl
-get_before (x ∷ xs) ys (suc m) l = get_before xs ys m (omega (arith, l))
-
-get_behind : {A : Type 0} (xs : List A) (m : ℕ) → length xs ≤ m → slice_get xs m ≡ None
-get_behind [] m l = refl
-get_behind (x ∷ xs) zero l = absurd (omega (arith, l))
-get_behind (x ∷ xs) (suc m) l = get_behind xs m (omega (arith, l))
-
 pub later_get : {A : Type 0} (size advance f k m : ℕ) (zs : List A) → m < k → slice_get (later_parts size advance f k zs) m ≡ Some (part size ((f + m) * advance) zs)
 later_get size advance f zero m zs l = absurd (omega (arith, l))
 later_get size advance f (suc k) m zs l = elim (cases_lt m k) [
-  | inl p ↦ get_before (later_parts size advance f k zs) (part size ((f + k) * advance) zs ∷ []) m (omega (arith, p, length-later size advance f k zs)) ∙ later_get size advance f k m zs p
+  | inl p ↦ get-append (later_parts size advance f k zs) (part size ((f + k) * advance) zs ∷ []) m (omega (arith, p, length-later size advance f k zs)) ∙ later_get size advance f k m zs p
   | inr p ↦ (let e : k ≡ m = omega (arith, l, p) in
       subst (λ v. slice_get (later_parts size advance f (suc k) zs) v ≡ Some (part size ((f + v) * advance) zs)) e (get_here (later_parts size advance f k zs) (part size ((f + k) * advance) zs) k (length-later size advance f k zs)))
 ]
 
 pub later_past : {A : Type 0} (size advance f k m : ℕ) (zs : List A) → k ≤ m → slice_get (later_parts size advance f k zs) m ≡ None
-later_past size advance f k m zs l = get_behind (later_parts size advance f k zs) m (omega (arith, l, length-later size advance f k zs))
+later_past size advance f k m zs l = get_past (later_parts size advance f k zs) m (omega (arith, l, length-later size advance f k zs))
 
 length-part : {A : Type 0} (size from : ℕ) (zs : List A) → length (part size from zs) ≡ min size (length zs - from)
 length-part size from zs = length-take size (drop from zs) ∙ ap (λ (v : ℕ). min size v) (length-drop from zs)
@@ -126,26 +119,13 @@ place_with (k ∷ ks) x h = by (nat_eq x k) refl h (place_with ks x)
     by true e g later = (0, let same = eqb-true x k e in ap (λ (v : ℕ). Some v) (sym same))
     by false e g later = let p = later g in (suc p.0, p.1)
 
-any_at : (ks : List ℕ) (x j : ℕ) → slice_get ks j ≡ Some x → list_any (nat_eq x) ks ≡ true
-any_at [] x j h = absurd (cc)
-any_at (k ∷ ks) x zero h = let same : k ≡ x = cc in ap (λ (b : Bool). b || list_any (nat_eq x) ks) (eq-eqb x k (sym same))
-any_at (k ∷ ks) x (suc j) h = by (nat_eq x k) (any_at ks x j h)
-  where
-    by : (b : Bool) → list_any (nat_eq x) ks ≡ true → (b || list_any (nat_eq x) ks) ≡ true
-    by true e = refl
-    by false e = e
-
 -- of a list without repetitions it has one
 pub one_place : (ks : List ℕ) (x i j : ℕ) → AreDistinct ks → slice_get ks i ≡ Some x → slice_get ks j ≡ Some x → i ≡ j
 one_place [] x i j d h g = absurd (cc)
 one_place (k ∷ ks) x zero zero d h g = refl
 one_place (k ∷ ks) x (suc i) (suc j) d h g = ap suc (one_place ks x i j d.1 h g)
-one_place (k ∷ ks) x zero (suc j) d h g = absurd (let same : k ≡ x = cc in let none = d.0 in let some = any_at ks k j (g ∙ ap (λ (v : ℕ). Some v) (sym same)) in cc (none, some))
-one_place (k ∷ ks) x (suc i) zero d h g = absurd (let same : k ≡ x = cc in let none = d.0 in let some = any_at ks k i (h ∙ ap (λ (v : ℕ). Some v) (sym same)) in cc (none, some))
-
--- a number that stands nowhere is no other one's
-pub no_place : (ks : List ℕ) (x j : ℕ) → list_any (nat_eq x) ks ≡ false → slice_get ks j ≡ Some x → ⊥
-no_place ks x j none h = let some = any_at ks x j h in absurd (cc (none, some))
+one_place (k ∷ ks) x zero (suc j) d h g = absurd (let same : k ≡ x = cc in not_listed ks k j d.0 (g ∙ ap (λ (v : ℕ). Some v) (sym same)))
+one_place (k ∷ ks) x (suc i) zero d h g = absurd (let same : k ≡ x = cc in not_listed ks k i d.0 (h ∙ ap (λ (v : ℕ). Some v) (sym same)))
 
 -- ---- turns
 

@@ -33,7 +33,7 @@ use Rattle.gl_groups.proofs.FurtherLemmas.{further_carries, further_so, further_
 use Rattle.gl_groups.proofs.KeyedLemmas.{keyed_serving}
 use Rattle.gl_partitions.specs.declared.partitioning.Partitioning.{Partitioning}
 use Rattle.gl_partitions.specs.Laws.{PartitioningsServe}
-use Rattle.gl_partitions.specs.Machine.{ArePartitions, comes, copy_of, oldest, who_ends}
+use Rattle.gl_partitions.specs.Machine.{ArePartitions, copy_of, oldest, who_ends}
 use Rattle.gl_partitions.specs.Partitionings.{AreKeys, AwaitsFlush, IsPartitioning, OfPartitions, all_copies, all_turns, close_cycles, close_delay, key_of, numbers_of}
 use Rattle.gl_partitions.proofs.Setting.{Setting, Spacing}
 use Rattle.gl_partitions.proofs.EndingLemmas.{of_part, oldest_below, slot_of, slots}

@@ -1,5 +1,5 @@
 -- A front and a back in a netlist, from their parts, and what they serve.
-use Rattle.std.proofs.Common.{◌≡◌, ℕ, zero, suc, ◌+◌, ◌-◌, ◌*◌, ◌<◌, ◌≤◌, List, [], ◌∷◌, length, Option, Some, None, Bool, false, ◌&&◌, refl, sym, ap, ◌∙◌, subst, arith}
+use Rattle.std.proofs.Common.{◌≡◌, ℕ, zero, suc, ◌+◌, ◌*◌, ◌<◌, ◌≤◌, List, [], ◌∷◌, length, Option, Some, None, Bool, false, ◌&&◌, refl, sym, ap, ◌∙◌, subst, arith}
 use Rattle.std.specs.Prelude.{nat_eq, slice_get}
 use Rattle.std.proofs.Math.Nat.{mul-le-mul_left, mul-le-mul_right, mul-pos}
 use Rattle.gl_algebra.specs.FigureTable.{stride_of}
@@ -83,7 +83,7 @@ is_fronted old mid new r source g close stride cycles width is_stride is_cycles 
   keeps = keeps_then old mid new f.keeps c.keeps;
   cost = record {
     nodes = omega (arith, f.cost.nodes, c.cost.nodes);
-    registers = omega (arith, f.cost.registers, c.cost.registers, is_width);
+    registers = omega (arith, f.cost.registers, c.cost.registers, c.few, is_width);
     memories = omega (arith, f.cost.memories, c.cost.memories);
   };
   same = refl;

@@ -3,7 +3,7 @@ use Rattle.std.proofs.Common.{◌≡◌, ℕ, zero, suc, ◌+◌, ◌-◌, ◌*�
 use Rattle.std.specs.Prelude.{slice_get}
 use Rattle.std.proofs.lemmas.Nat.{div-add-mod', mod_below}
 use Rattle.gl_bits.specs.Lists.{keys_of, rows_with}
-use Rattle.gl_bits.specs.Partitions.{fulls, parts, short_slices, shorts}
+use Rattle.gl_bits.specs.Partitions.{fulls, parts, short_slices}
 use Rattle.gl_bits.specs.Results.{Row}
 use Rattle.gl_bits.proofs.AllLists.{get_below}
 use Rattle.gl_wire.specs.Apart.{Carries, a_tuple, an_end}

@@ -75,10 +75,10 @@ module _ (run : Run) (valid eos tail matches due own last : Bit) (size advance c
   }
 
 -- one after another the parts are a slot
-module _ (n0 n1 n2 n3 n4 n5 n6 n7 : Net) (valid eos tail matches due own last : Bit) (size advance copies most : ℕ) (some : 1 ≤ copies) (most_is : most ≡ copies - 1)
+module _ (n0 n1 n2 n3 n4 n5 n6 n7 : Net) (valid eos tail matches due own last : Bit) (size advance copies bits most : ℕ) (some : 1 ≤ copies) (few : bits ≤ 32) (most_is : most ≡ copies - 1)
     (o : Opening) (g : Filled) (opened : Bus) (r : OpenCopies) (takes : List Bit)
     (is_own : IsGate n0 n1 (λ x y. x && y) valid matches own) (is_last : IsGate n1 n2 (λ x y. x && y) tail matches last)
-    (is_o : AddsOpening n2 n3 own eos 0 advance o) (is_g : AddsFilled n3 n4 own eos due size advance g) (is_p : IsPointer n4 n5 o.opens 32 most opened)
+    (is_o : AddsOpening n2 n3 own eos 0 advance o) (is_g : AddsFilled n3 n4 own eos due size advance g) (is_p : IsPointer n4 n5 o.opens bits most opened)
     (is_r : AddsRotation n5 n6 copies 0 0 o.opens opened g.trigger r) (is_t : TakesOf n6 n7 own eos last r.mids r.ends takes) where
   k67 : Keeps n6 n7
   k67 = is_t.keeps
@@ -108,7 +108,7 @@ module _ (n0 n1 n2 n3 n4 n5 n6 n7 : Net) (valid eos tail matches due own last : 
     ends = bits_kept n6 n7 r.ends k67 is_r.ends;
     cost = record {
       nodes = omega (arith, is_own.cost.nodes, is_last.cost.nodes, is_o.cost.nodes, is_g.cost.nodes, is_p.cost.nodes, is_r.cost.nodes, is_t.cost.nodes, is_r.mids_count);
-      registers = omega (arith, is_own.cost.registers, is_last.cost.registers, is_o.cost.registers, is_g.cost.registers, is_p.cost.registers, is_r.cost.registers, is_t.cost.registers);
+      registers = omega (arith, is_own.cost.registers, is_last.cost.registers, is_o.cost.registers, is_g.cost.registers, is_p.cost.registers, is_r.cost.registers, is_t.cost.registers, is_o.few, is_g.few, few, is_p.width);
       memories = omega (arith, is_own.cost.memories, is_last.cost.memories, is_o.cost.memories, is_g.cost.memories, is_p.cost.memories, is_r.cost.memories, is_t.cost.memories);
     };
     law = λ run z.

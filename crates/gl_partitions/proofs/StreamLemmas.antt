@@ -14,12 +14,13 @@ use Rattle.gl_bits.proofs.Parting.{fulls-push}
 use Rattle.gl_wire.specs.Wire.{pending, stream}
 use Rattle.gl_wire_copies.proofs.VisitLemmas.{did, did_none, did_one}
 use Rattle.gl_groups.specs.Slots.{freed, with_tuple, of_slot, rows_of_key, same_key}
+use Rattle.gl_groups.proofs.EventLemmas.{not_listed}
 use Rattle.gl_groups.proofs.KeyLemmas.{keys-push, rows-push, rows_kept}
 use Rattle.gl_partitions.specs.Machine.{Windows, closes, closing, comes, copy_of, due, mid, next, oldest, opening, windows_at}
 use Rattle.gl_partitions.proofs.Setting.{Setting}
 use Rattle.gl_partitions.proofs.OwnCopies.{Step, step_at, wire}
 use Rattle.gl_partitions.proofs.OwnFlow.{Own, own_mid, own_tuple, own_rests, Completes, whole_now, not_yet, completes}
-use Rattle.gl_partitions.proofs.PartLists.{completed_now, completed_not, no_place, one_place, place_with}
+use Rattle.gl_partitions.proofs.PartLists.{completed_now, completed_not, one_place, place_with}
 use Rattle.gl_partitions.proofs.EndingLemmas.{ending_none, ending_one, keys, of_part, part_shown, slots, who}
 
 module _ (front : Setting) where
@@ -122,7 +123,7 @@ module _ (front : Setting) where
 
     no_ones : list_any (nat_eq (key r)) ks ≡ false → (i : ℕ) → of_slot key ks i (Some r) ≡ None
     no_ones none i = elim (true_or_false (same_key (slice_get ks i) (key r))) [
-      | inl t ↦ absurd (no_place ks (key r) i none (has_same r (slice_get ks i) t))
+      | inl t ↦ absurd (not_listed ks (key r) i none (has_same r (slice_get ks i) t))
       | inr f ↦ of_slot_by ks r i false f
     ]
 

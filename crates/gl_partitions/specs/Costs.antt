@@ -1,4 +1,4 @@
--- What windows of each key cost: their front with the line of ends, and their back.
+-- What windows of each key cost at most: their front with the line of ends, and their back.
 use Rattle.std.specs.Prelude.{ℕ, ◌+◌, ◌*◌, ◌≤◌, List, length, slice_index}
 use Rattle.std.specs.List.{sum}
 use Rattle.gl_algebra.specs.Weights.{weight_of_copies}

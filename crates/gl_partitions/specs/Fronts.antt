@@ -6,7 +6,7 @@ use Rattle.gl_net.specs.declared.node.Bus.{Bus}
 use Rattle.gl_net.specs.declared.node.Bit.{Bit}
 use Rattle.gl_net.specs.Net.{Net, Run, IsRun, IsBit, IsBus, Keeps}
 use Rattle.gl_wire.specs.declared.wire.Wire.{Wire}
-use Rattle.gl_wire.specs.Costs.{Costs}
+use Rattle.gl_wire.specs.Costs.{CostsAtMost}
 use Rattle.gl_wire.specs.Wire.{AreBuses, IsWire, carried, line_at, row_at, widths}
 use Rattle.gl_wire_registers.specs.Held.{with_registers}
 use Rattle.gl_wire_registers.specs.Lines.{AreBits, carried_of, line_of}
@@ -40,7 +40,7 @@ pub record AddsSlots (old new : Net) (valid eos tail : Bit) (matches dues : List
   pub takes : AreBits new r.takes
   pub ends_count : length r.ends ≡ n * copies
   pub ends : AreBits new r.ends
-  pub cost : Costs old new (with_registers (n * (copies * 14 + 45)) (n * (copies + 128)))
+  pub cost : CostsAtMost old new (with_registers (n * (copies * 14 + 45)) (n * (copies + 128)))
   pub each : (run : Run) → IsRun new run → (i : ℕ) (m d : Bit) → i < n → slice_get matches i ≡ Some m
       → slice_get dues i ≡ Some d → HasSlot run valid eos tail m d size advance copies i r
 
@@ -79,7 +79,7 @@ pub record IsLook (run : Run) (n : Numbers) (source : Wire) (r : Look) : Type 0 
 
 pub record AddsLook (old new : Net) (key slots copies stride width : ℕ) (source : Wire) (r : Look) : Type 0 where
   pub keeps : Keeps old new
-  pub cost : Costs old new (with_registers (slots * 22 + length (widths source.columns) * 2 + 50)
+  pub cost : CostsAtMost old new (with_registers (slots * 22 + length (widths source.columns) * 2 + 50)
       (slots * (slice_index (widths source.columns) key + 1) + sum (widths source.columns) + width + 98))
   pub row_buses : AreBuses new r.row
   pub row_widths : widths r.row ≡ widths source.columns
@@ -107,7 +107,7 @@ pub record IsFront (run : Run) (n : Numbers) (source : Wire) (r : Front) : Type 
 pub record AddsFront (old new : Net) (key slots size advance copies stride width : ℕ) (source : Wire) (r : Front)
     : Type 0 where
   pub keeps : Keeps old new
-  pub cost : Costs old new
+  pub cost : CostsAtMost old new
       (with_registers (slots * copies * 16 + slots * 67 + length (widths source.columns) * 2 + 51)
       (slots * copies * 3 + slots * (slice_index (widths source.columns) key + 129) + sum (widths source.columns) + width
       + 99))

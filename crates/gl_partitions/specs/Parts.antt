@@ -1,8 +1,8 @@
 -- The parts of the front, each by its equations, from the reset cycle on.
-use Rattle.std.specs.Prelude.{◌≡◌, ℕ, suc, ◌+◌, ◌-◌, ◌*◌, ◌<◌, length, false, nat_eq, not, ◌&&◌, ◌||◌}
+use Rattle.std.specs.Prelude.{◌≡◌, ℕ, suc, ◌+◌, ◌-◌, ◌*◌, ◌<◌, ◌≤◌, ◌^◌, length, false, nat_eq, not, ◌&&◌, ◌||◌}
 use Rattle.gl_net.specs.declared.node.Bit.{Bit}
 use Rattle.gl_net.specs.Net.{Net, Run, IsRun, IsBit, IsBus, Keeps}
-use Rattle.gl_wire.specs.Costs.{Costs}
+use Rattle.gl_wire.specs.Costs.{Costs, CostsAtMost}
 use Rattle.gl_wire.specs.Wire.{line_at}
 use Rattle.gl_wire_registers.specs.Held.{held_at, counted_down, turned, with_registers}
 use Rattle.gl_wire_registers.specs.Lines.{AreBits, any_to, line_of}
@@ -22,8 +22,9 @@ pub record IsTurns (run : Run) (eos due : Bit) (slots copies : ℕ) (r : Turns) 
 pub record AddsTurns (old new : Net) (eos due : Bit) (slots copies : ℕ) (r : Turns) : Type 0 where
   pub keeps : Keeps old new
   pub rest_bus : IsBus new r.rest
-  pub rest_width : r.rest.width ≡ 32
-  pub cost : Costs old new (with_registers 23 64)
+  pub rest_fits : slots < 2 ^ r.rest.width
+  pub cost : Costs old new (with_registers 23 (r.within.width + r.rest.width))
+  pub few : r.within.width + r.rest.width ≤ 64
   pub law : (run : Run) → IsRun new run → IsTurns run eos due slots copies r
 
 -- when the oldest window of a slot ends, if it is open: with its last tuple, or in its turn
@@ -38,7 +39,8 @@ pub record IsFilled (run : Run) (valid eos due : Bit) (size advance : ℕ) (r : 
 pub record AddsFilled (old new : Net) (valid eos due : Bit) (size advance : ℕ) (r : Filled) : Type 0 where
   pub keeps : Keeps old new
   pub bit : IsBit new r.trigger
-  pub cost : Costs old new (with_registers 14 32)
+  pub cost : Costs old new (with_registers 14 r.left.width)
+  pub few : r.left.width ≤ 32
   pub law : (run : Run) → IsRun new run → IsFilled run valid eos due size advance r
 
 -- the windows of a slot, to which the row that comes belongs where `matches` is 1, and so does the one that came last:
@@ -81,5 +83,5 @@ pub record AddsSlot (old new : Net) (valid eos tail matches due : Bit) (size adv
   pub takes : AreBits new r.takes
   pub ends_count : length r.ends ≡ copies
   pub ends : AreBits new r.ends
-  pub cost : Costs old new (with_registers (copies * 14 + 45) (copies + 128))
+  pub cost : CostsAtMost old new (with_registers (copies * 14 + 45) (copies + 128))
   pub law : (run : Run) → IsRun new run → IsSlot run valid eos tail matches due size advance copies r

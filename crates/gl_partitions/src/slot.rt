@@ -12,7 +12,7 @@ use gl_net::{Bit, Bus, NetBuilder};
 use gl_windows::parts::{count_openings, take_rows};
 use gl_windows::turns::rotate;
 use gl_wire::both;
-use gl_wire_registers::{Bits, pointer};
+use gl_wire_registers::{Bits, bits_to, pointer};
 use std::alloc::Global;
 
 /// The windows of a slot.
@@ -73,7 +73,7 @@ pub fn put_slot(
     let last = both(net, tail, mine)?;
     let next = count_openings(net, own, eos, 0, advance)?;
     let filled = count_filled(net, own, eos, due, size, advance)?;
-    let opened = pointer(net, next.opens, 32, u128::from(copies - 1))?;
+    let opened = pointer(net, next.opens, bits_to(copies - 1), u128::from(copies - 1))?;
     let open = rotate(alloc, net, next.opens, opened, filled.trigger, 0, 0, copies)?;
     let takes = take_rows(alloc, net, own, eos, last, &open.mids, &open.ends)?;
     Ok(SlotWindows {

@@ -170,10 +170,10 @@ module _ (run : Run) (w : Wire) (size advance count stride : ℕ) (hs : 1 ≤ si
   }
 
 -- one after another the parts are a front
-module _ (n0 n1 n2 n3 n4 n5 n6 n7 n8 n9 : Net) (w : Wire) (size advance count stride last : ℕ) (hs : 1 ≤ size) (ha : 1 ≤ advance) (hc : 1 ≤ count) (last_is : last ≡ count - 1)
+module _ (n0 n1 n2 n3 n4 n5 n6 n7 n8 n9 : Net) (w : Wire) (size advance count stride bits last : ℕ) (few : bits ≤ 32) (hs : 1 ≤ size) (ha : 1 ≤ advance) (hc : 1 ≤ count) (last_is : last ≡ count - 1)
     (o : Opening) (f : Flush) (g : Trigger) (h : Tail) (opened : Bus) (r : OpenCopies) (takes : List Bit) (row : List Bus) (ws : List Wire)
     (is_o : AddsOpening n0 n1 w.valid w.eos 0 advance o) (is_f : AddsFlush n1 n2 w.valid w.eos stride f) (is_g : AddsTrigger n2 n3 w.valid w.eos f.due size advance g)
-    (is_h : AddsTail n3 n4 w.valid w.eos f.idle h) (is_p : IsPointer n4 n5 o.opens 32 last opened) (is_r : AddsRotation n5 n6 count 0 0 o.opens opened g.trigger r)
+    (is_h : AddsTail n3 n4 w.valid w.eos f.idle h) (is_p : IsPointer n4 n5 o.opens bits last opened) (is_r : AddsRotation n5 n6 count 0 0 o.opens opened g.trigger r)
     (is_t : TakesOf n6 n7 w.valid w.eos h.tail r.mids r.ends takes) (is_row : HoldsRow n7 n8 w.valid w.columns row) (is_w : AddsWires n8 n9 (length takes) takes r.ends row ws) where
   k79 : Keeps n7 n9
   k79 = keeps_then n7 n8 n9 is_row.keeps is_w.keeps
@@ -204,7 +204,24 @@ module _ (n0 n1 n2 n3 n4 n5 n6 n7 n8 n9 : Net) (w : Wire) (size advance count st
     keeps = keeps_then n0 n1 n9 is_o.keeps k19;
     cost = record {
       nodes = omega (arith, is_o.cost.nodes, is_f.cost.nodes, is_g.cost.nodes, is_h.cost.nodes, is_p.cost.nodes, is_r.cost.nodes, is_t.cost.nodes, is_row.cost.nodes, is_w.cost.nodes, is_r.mids_count, takes_count);
-      registers = omega (arith, is_o.cost.registers, is_f.cost.registers, is_g.cost.registers, is_h.cost.registers, is_p.cost.registers, is_r.cost.registers, is_t.cost.registers, is_row.cost.registers, is_w.cost.registers, takes_count);
+      registers = omega (
+        arith,
+        is_o.cost.registers,
+        is_f.cost.registers,
+        is_g.cost.registers,
+        is_h.cost.registers,
+        is_p.cost.registers,
+        is_r.cost.registers,
+        is_t.cost.registers,
+        is_row.cost.registers,
+        is_w.cost.registers,
+        takes_count,
+        is_o.few,
+        is_f.few,
+        is_g.few,
+        is_p.width,
+        few,
+      );
       memories = omega (arith, is_o.cost.memories, is_f.cost.memories, is_g.cost.memories, is_h.cost.memories, is_p.cost.memories, is_r.cost.memories, is_t.cost.memories, is_row.cost.memories, is_w.cost.memories);
     };
     as_many = is_w.count ∙ takes_count;

@@ -32,7 +32,7 @@ is_fronted old mid new r source ws close stride flush is_stride is_flush wire li
   keeps = keeps_then old mid new f.keeps c.keeps;
   cost = record {
     nodes = omega (arith, f.cost.nodes, c.cost.nodes);
-    registers = omega (arith, f.cost.registers, c.cost.registers);
+    registers = omega (arith, f.cost.registers, c.cost.registers, c.few);
     memories = omega (arith, f.cost.memories, c.cost.memories);
   };
   same = refl;

@@ -9,7 +9,7 @@ use Rattle.gl_net.specs.Net.{Net, Run, IsRun, IsBit, Keeps}
 use Rattle.gl_net.proofs.Determined.{keeps_then}
 use Rattle.gl_wire.specs.declared.emitted.Emitted.{Emitted}
 use Rattle.gl_wire.specs.declared.wire.Wire.{Wire}
-use Rattle.gl_wire.specs.Costs.{Costs, CostsAtMost}
+use Rattle.gl_wire.specs.Costs.{CostsAtMost}
 use Rattle.gl_wire.specs.Faults.{AreLines, lines_of}
 use Rattle.gl_wire.specs.Gates.{IsGate}
 use Rattle.gl_wire.specs.Shapes.{IsDelayed}
@@ -47,13 +47,13 @@ keeps_on {n0} {n1} {n2} {n3} {n4} {n5} {n6} {n7} {n8} {n9} {n10} {n11} {n12} k0 
     keeps_then n0 n1 n12 k0 (keeps_then n1 n2 n12 k1 (keeps_then n2 n3 n12 k2 (keeps_then n3 n4 n12 k3 (keeps_then n4 n5 n12 k4 (keeps_then n5 n6 n12 k5 (keeps_then n6 n7 n12 k6 (keeps_then n7 n8 n12 k7 (keeps_then n8 n9 n12 k8 (keeps_then n9 n10 n12 k9 (keeps_then n10 n11 n12 k10 k11))))))))))
 
 -- one after another the parts are a front
-module _ (n0 n1 n2 n3 n4 n5 n6 n7 n8 n9 n10 n11 n12 n13 n14 n15 : Net) (r : TimeRotation) (w : Wire) (tick : Bit) (count stride turns last first : ℕ) (hc : 1 ≤ count)
+module _ (n0 n1 n2 n3 n4 n5 n6 n7 n8 n9 n10 n11 n12 n13 n14 n15 : Net) (r : TimeRotation) (w : Wire) (tick : Bit) (count stride turns bits last first : ℕ) (few : bits ≤ 32) (hc : 1 ≤ count)
     (count_is : count ≡ copies_of r) (stride_is : stride ≡ stride_of r.body) (turns_is : turns ≡ turns_of (copies_of r) r.body) (last_is : last ≡ count - 1) (first_is : first ≡ count - 1)
     (rearm brings busy opening tail : Bit) (o : Opening) (f : Flush) (g : Trigger) (h : Tail) (opened : Bus) (t : OpenCopies) (stay takes : List Bit) (row : List Bus) (ws : List Wire)
     (is_rearm : IsTimer n0 n1 w.eos turns rearm) (is_brings : IsGate n1 n2 (λ p q. p || q) tick w.valid brings) (is_busy : IsGate n2 n3 (λ p q. p || q) brings rearm busy)
     (is_o : AddsOpening n3 n4 tick w.eos (r.advance - 1) r.advance o) (is_opening : IsGate n4 n5 (λ p q. p || q) o.opens rearm opening)
     (is_f : AddsFlush n5 n6 busy w.eos stride f) (is_g : AddsTrigger n6 n7 tick w.eos f.due r.size r.advance g) (is_h : AddsTail n7 n8 w.valid w.eos f.idle h)
-    (is_tail : IsGate n8 n9 (λ p q. p && not q) h.tail g.last tail) (is_p : IsPointer n9 n10 opening 32 last opened) (is_t : AddsRotation n10 n11 count 1 first opening opened g.trigger t)
+    (is_tail : IsGate n8 n9 (λ p q. p && not q) h.tail g.last tail) (is_p : IsPointer n9 n10 opening bits last opened) (is_t : AddsRotation n10 n11 count 1 first opening opened g.trigger t)
     (is_stay : AddsLines n11 n12 (length t.mids) 1 stay (pairs ButNot t.mids t.ends)) (is_takes : TakesOf n12 n13 w.valid w.eos tail stay t.ends takes)
     (is_row : HoldsRow n13 n14 w.valid w.columns row) (is_w : AddsWires n14 n15 (length takes) takes t.ends row ws) where
   k13 : Keeps n13 n15
@@ -127,9 +127,33 @@ module _ (n0 n1 n2 n3 n4 n5 n6 n7 n8 n9 n10 n11 n12 n13 n14 n15 : Net) (r : Time
   pub time_fronts_are : AreTimeFronts n0 n15 r tick w ws
   time_fronts_are = record {
     keeps = keeps_then n0 n1 n15 is_rearm.keeps k1;
-    cost = subst (λ (n : ℕ). Costs n0 n15 (with_registers (n * 17 + length (widths w.columns) * 2 + 92) (n * 3 + sum (widths w.columns) + 195))) count_is (record {
+    cost = subst (λ (n : ℕ). CostsAtMost n0 n15 (with_registers (n * 17 + length (widths w.columns) * 2 + 92) (n * 3 + sum (widths w.columns) + 195))) count_is (record {
       nodes = omega (arith, is_rearm.cost.nodes, is_brings.cost.nodes, is_busy.cost.nodes, is_o.cost.nodes, is_opening.cost.nodes, is_f.cost.nodes, is_g.cost.nodes, is_h.cost.nodes, is_tail.cost.nodes, is_p.cost.nodes, is_t.cost.nodes, is_stay.cost.nodes, is_takes.cost.nodes, is_row.cost.nodes, is_w.cost.nodes, is_t.mids_count, stay_count, takes_count);
-      registers = omega (arith, is_rearm.cost.registers, is_brings.cost.registers, is_busy.cost.registers, is_o.cost.registers, is_opening.cost.registers, is_f.cost.registers, is_g.cost.registers, is_h.cost.registers, is_tail.cost.registers, is_p.cost.registers, is_t.cost.registers, is_stay.cost.registers, is_takes.cost.registers, is_row.cost.registers, is_w.cost.registers, takes_count);
+      registers = omega (
+        arith,
+        is_rearm.cost.registers,
+        is_brings.cost.registers,
+        is_busy.cost.registers,
+        is_o.cost.registers,
+        is_opening.cost.registers,
+        is_f.cost.registers,
+        is_g.cost.registers,
+        is_h.cost.registers,
+        is_tail.cost.registers,
+        is_p.cost.registers,
+        is_t.cost.registers,
+        is_stay.cost.registers,
+        is_takes.cost.registers,
+        is_row.cost.registers,
+        is_w.cost.registers,
+        takes_count,
+        is_rearm.few,
+        is_o.few,
+        is_f.few,
+        is_g.few,
+        is_p.width,
+        few,
+      );
       memories = omega (arith, is_rearm.cost.memories, is_brings.cost.memories, is_busy.cost.memories, is_o.cost.memories, is_opening.cost.memories, is_f.cost.memories, is_g.cost.memories, is_h.cost.memories, is_tail.cost.memories, is_p.cost.memories, is_t.cost.memories, is_stay.cost.memories, is_takes.cost.memories, is_row.cost.memories, is_w.cost.memories);
     });
     as_many = is_w.count ∙ takes_count ∙ count_is;
@@ -145,7 +169,7 @@ is_time_fronted old mid new r tick source ws close flush is_flush wire lines tic
   keeps = keeps_then old mid new f.keeps c.keeps;
   cost = record {
     nodes = omega (arith, f.cost.nodes, c.cost.nodes);
-    registers = omega (arith, f.cost.registers, c.cost.registers);
+    registers = omega (arith, f.cost.registers, c.cost.registers, c.few);
     memories = omega (arith, f.cost.memories, c.cost.memories);
   };
   same = refl;

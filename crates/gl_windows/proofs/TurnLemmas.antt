@@ -37,7 +37,7 @@ module _ (n0 n1 n2 n3 n4 n5 n6 n7 : Net) (count : ℕ) (opens : Bit) (opened : B
     (d' : AddsLines n3 n4 (length chosen) 1 ends (pairs Both chosen mids))
     (e' : AddsLine n4 n5 (gates_of (length ends)) closes (any_line (length ends) ends))
     (g' : AddsLines n5 n6 (length mids) 1 kept (pairs ButNot mids ends))
-    (point : IsNextPointer n6 n7 oldest closes last next) (width : oldest.width ≡ 32) (last_is : last ≡ count - 1) (some : 1 ≤ count) where
+    (point : IsNextPointer n6 n7 oldest closes last next) (last_is : last ≡ count - 1) (some : 1 ≤ count) where
   pub turns_of : Turns n0 n7 count opens opened trigger flags oldest (record { mids = mids; ends = ends; kept = kept; next = next })
   unfolding pairs any_line
   turns_of =
@@ -59,7 +59,7 @@ module _ (n0 n1 n2 n3 n4 n5 n6 n7 : Net) (count : ℕ) (opens : Bit) (opened : B
         ends_count = d.count;
         kept_count = g.count;
         next = point.bus;
-        next_width = point.width ∙ width;
+        next_width = point.width;
         cost = record { nodes = omega (arith, a.cost.nodes, b.cost.nodes, c.cost.nodes, d.cost.nodes, e'.cost.nodes, g.cost.nodes, point.cost.nodes, ap gates_of d.count, gates_some count some); registers = omega (arith, a.cost.registers, b.cost.registers, c.cost.registers, d.cost.registers, e'.cost.registers, g.cost.registers, point.cost.registers); memories = omega (arith, a.cost.memories, b.cost.memories, c.cost.memories, d.cost.memories, e'.cost.memories, g.cost.memories, point.cost.memories) };
         mid = λ run r k t l. b.line run (k27.runs run r) k t l ∙ ap (λ q. line_of run flags k t || q) (a.line run (k17.runs run r) k t l);
         end = λ run r k t l. d.line run (k47.runs run r) k t l ∙ ap (λ q. q && line_of run mids k t) (c.line run (k37.runs run r) k t l);
@@ -84,12 +84,12 @@ abbrev pub flag_words : ℕ → Word → Word → List Word
 flag_words others z l = replicate others z ++ l ∷ []
 
 -- the bits of a flag for each copy and of a pointer
-bits_of_words : (others : ℕ) (z l f : Word) → z.width ≡ 1 → l.width ≡ 1 → f.width ≡ 32 → sum (word_widths (flag_words others z l ++ f ∷ [])) ≡ others + 1 + 32
-bits_of_words others z l f hz hl hf =
+bits_of_words : (others bits : ℕ) (z l f : Word) → z.width ≡ 1 → l.width ≡ 1 → f.width ≡ bits → sum (word_widths (flag_words others z l ++ f ∷ [])) ≡ others + 1 + bits
+bits_of_words others bits z l f hz hl hf =
     widths_more (flag_words others z l) f ∙ omega (arith, widths_more (replicate others z) l, same_bits others z, ap (λ n. others * n) hz, hl, hf)
 
-module _ (n0 n1 : Net) (count last_number first_number : ℕ) (some : 1 ≤ count) (below : first_number < count) (zero_word last first : Word) (regs : List Bus)
-    (zero_bits : zero_word.bits ≡ 0) (zero_width : zero_word.width ≡ 1) (last_bits : last.bits ≡ last_number) (last_width : last.width ≡ 1) (first_bits : first.bits ≡ first_number) (first_width : first.width ≡ 32)
+module _ (n0 n1 : Net) (count last_number first_number : ℕ) (some : 1 ≤ count) (below : first_number < count) (zero_word last first : Word) (regs : List Bus) (opened : Bus)
+    (zero_bits : zero_word.bits ≡ 0) (zero_width : zero_word.width ≡ 1) (last_bits : last.bits ≡ last_number) (last_width : last.width ≡ 1) (first_bits : first.bits ≡ first_number) (first_width : first.width ≡ opened.width)
     (o : Opens n0 n1 (flag_words (count - 1) zero_word last ++ first ∷ []) regs) where
   abbrev words : List Word
   words = flag_words (count - 1) zero_word last
@@ -142,10 +142,10 @@ module _ (n0 n1 : Net) (count last_number first_number : ℕ) (some : 1 ≤ coun
   pub flags_count : length (map to_bit (take count regs)) ≡ count
   flags_count = length_map to_bit (take count regs) ∙ length_taken regs count (let e = regs_length in omega (arith, e))
 
-  pub oldest_is : (b : Bus) → slice_get regs count ≡ Some b → IsBus n1 b × (b.width ≡ 32)
+  pub oldest_is : (b : Bus) → slice_get regs count ≡ Some b → IsBus n1 b × (b.width ≡ opened.width)
   oldest_is b h = (o.each count b h, o.widths count b first h word_last ∙ first_width)
 
-  module _ (n2 : Net) (opens : Bit) (opened : Bus) (trigger : Bit) (oldest : Bus) (r : Turn) (has : slice_get regs count ≡ Some oldest)
+  module _ (n2 : Net) (opens trigger : Bit) (oldest : Bus) (r : Turn) (has : slice_get regs count ≡ Some oldest)
       (turns : Turns n1 n2 count opens opened trigger (map to_bit (take count regs)) oldest r) where
     nexts : List Bus
     nexts = map to_bus r.kept ++ r.next ∷ []
@@ -179,7 +179,7 @@ module _ (n0 n1 : Net) (count last_number first_number : ℕ) (some : 1 ≤ coun
         | inr e ↦
             (let at : k ≡ count = e.0 ∙ kept_length in
             let same : b ≡ oldest = (let q = ap (slice_get regs) at in cc) in
-            ap (λ (x : Bus). x.width) (sym e.1) ∙ turns.next_width ∙ sym ((oldest_is oldest has).1) ∙ ap (λ (x : Bus). x.width) (sym same))
+            ap (λ (x : Bus). x.width) (sym e.1) ∙ turns.next_width ∙ ap (λ (x : Bus). x.width) (sym same))
       ];
     }
 
@@ -222,7 +222,7 @@ module _ (n0 n1 : Net) (count last_number first_number : ℕ) (some : 1 ≤ coun
         ends_count = turns.ends_count;
         cost = record {
           nodes = omega (arith, d.cost.nodes, turns.cost.nodes, o.cost.nodes, length-append words (first ∷ []), words_length);
-          registers = omega (arith, d.cost.registers, turns.cost.registers, o.cost.registers, bits_of_words (count - 1) zero_word last first zero_width last_width first_width, some);
+          registers = omega (arith, d.cost.registers, turns.cost.registers, o.cost.registers, bits_of_words (count - 1) opened.width zero_word last first zero_width last_width first_width, some);
           memories = omega (arith, d.cost.memories, turns.cost.memories, o.cost.memories);
         };
         rotating = rotation_law;

@@ -1,5 +1,5 @@
 -- The parts of the front, each by its equations, from the reset cycle on.
-use Rattle.std.specs.Prelude.{◌≡◌, ℕ, suc, ◌+◌, ◌-◌, ◌*◌, ◌<◌, List, length, nat_eq, not, ◌&&◌, ◌||◌}
+use Rattle.std.specs.Prelude.{◌≡◌, ℕ, suc, ◌+◌, ◌-◌, ◌*◌, ◌<◌, ◌≤◌, List, length, nat_eq, not, ◌&&◌, ◌||◌}
 use Rattle.gl_net.specs.declared.node.Bit.{Bit}
 use Rattle.gl_net.specs.Net.{Net, Run, IsRun, IsBit, Keeps}
 use Rattle.gl_wire.specs.Costs.{Costs, nodes_alone}
@@ -20,7 +20,8 @@ pub record IsOpening (run : Run) (unit eos : Bit) (before advance : ℕ) (o : Op
 pub record AddsOpening (old new : Net) (unit eos : Bit) (before advance : ℕ) (o : Opening) : Type 0 where
   pub keeps : Keeps old new
   pub bit : IsBit new o.opens
-  pub cost : Costs old new (with_registers 13 32)
+  pub cost : Costs old new (with_registers 13 o.until.width)
+  pub few : o.until.width ≤ 32
   pub law : (run : Run) → IsRun new run → IsOpening run unit eos before advance o
 
 -- the flush after an end, up to the next tuple: in which cycles a copy has its turn
@@ -37,7 +38,8 @@ pub record AddsFlush (old new : Net) (valid eos : Bit) (stride : ℕ) (f : Flush
   pub keeps : Keeps old new
   pub idle : IsBit new f.idle
   pub due : IsBit new f.due
-  pub cost : Costs old new (with_registers 17 33)
+  pub cost : Costs old new (with_registers 17 (f.wait.width + 1))
+  pub few : f.wait.width ≤ 32
   pub law : (run : Run) → IsRun new run → IsFlush run valid eos stride f
 
 -- when the oldest copy ends, if it is open: with the end, with the unit that completes it, or in its turn
@@ -54,7 +56,8 @@ pub record AddsTrigger (old new : Net) (unit eos due : Bit) (size advance : ℕ)
   pub keeps : Keeps old new
   pub last : IsBit new r.last
   pub bit : IsBit new r.trigger
-  pub cost : Costs old new (with_registers 15 32)
+  pub cost : Costs old new (with_registers 15 r.left.width)
+  pub few : r.left.width ≤ 32
   pub law : (run : Run) → IsRun new run → IsTrigger run unit eos due size advance r
 
 -- whether the copy that ends takes the row that came with the end

@@ -12,7 +12,7 @@ use Rattle.gl_wire.specs.declared.emitted.Emitted.{Emitted}
 use Rattle.gl_wire.specs.declared.wire.Wire.{Wire}
 use Rattle.gl_wire.specs.Apart.{CarriesApart}
 use Rattle.gl_wire.specs.Beats.{Beats, Spaced, beats_of}
-use Rattle.gl_wire.specs.Costs.{Costs, CostsAtMost}
+use Rattle.gl_wire.specs.Costs.{CostsAtMost}
 use Rattle.gl_wire.specs.Faults.{AreLines, lines_of}
 use Rattle.gl_wire.specs.Serves.{Fits}
 use Rattle.gl_wire.specs.Serving.{Serving}
@@ -43,7 +43,7 @@ pub record IsRotation (r : Rotation) : Type 0 where
 -- wires behind the machine of a front
 pub record AreFronts (old new : Net) (size advance count stride : ℕ) (source : Wire) (ws : List Wire) : Type 0 where
   pub keeps : Keeps old new
-  pub cost : Costs old new (with_registers (count * 16 + length (widths source.columns) * 2 + 68)
+  pub cost : CostsAtMost old new (with_registers (count * 16 + length (widths source.columns) * 2 + 68)
       (count * 3 + sum (widths source.columns) + 162))
   pub as_many : length ws ≡ count
   pub wires : (k : ℕ) (w : Wire) → slice_get ws k ≡ Some w → IsWire new w × (widths w.columns ≡ widths source.columns)
@@ -70,7 +70,7 @@ pub record Fronts (net : Net) (r : Rotation) (f : Fronted) : Type 0 where
 -- such a front more
 pub record IsFronted (old new : Net) (r : Rotation) (source : Emitted) (f : Fronted) : Type 0 where
   pub keeps : Keeps old new
-  pub cost : Costs old new (cost_of_front r.copies r.body.a (widths source.wire.columns))
+  pub cost : CostsAtMost old new (cost_of_front r.copies r.body.a (widths source.wire.columns))
   pub same : f.source ≡ source
   pub fronts : Fronts new r f
 

@@ -14,7 +14,7 @@ use Rattle.gl_net.specs.Net.{Net, Run, IsRun, IsBit, Keeps}
 use Rattle.gl_wire.specs.declared.emitted.Emitted.{Emitted}
 use Rattle.gl_wire.specs.declared.wire.Wire.{Wire}
 use Rattle.gl_wire.specs.Beats.{Beats, Spaced, beats_of}
-use Rattle.gl_wire.specs.Costs.{Costs, CostsAtMost}
+use Rattle.gl_wire.specs.Costs.{CostsAtMost}
 use Rattle.gl_wire.specs.Faults.{AreLines, lines_of}
 use Rattle.gl_wire.specs.Serves.{Fits}
 use Rattle.gl_wire.specs.Serving.{Serving}
@@ -66,7 +66,7 @@ pub record IsTimeRotation (r : TimeRotation) : Type 0 where
 -- wires behind the machine of a front, where it has room
 pub record AreTimeFronts (old new : Net) (r : TimeRotation) (tick : Bit) (source : Wire) (ws : List Wire) : Type 0 where
   pub keeps : Keeps old new
-  pub cost : Costs old new (with_registers (copies_of r * 17 + length (widths source.columns) * 2 + 92)
+  pub cost : CostsAtMost old new (with_registers (copies_of r * 17 + length (widths source.columns) * 2 + 92)
       (copies_of r * 3 + sum (widths source.columns) + 195))
   pub as_many : length ws ≡ copies_of r
   pub wires : (k : ℕ) (w : Wire) → slice_get ws k ≡ Some w → IsWire new w × (widths w.columns ≡ widths source.columns)
@@ -97,7 +97,7 @@ pub record TimeFronts (net : Net) (r : TimeRotation) (tick : Bit) (f : Fronted) 
 -- such a front more
 pub record IsTimeFronted (old new : Net) (r : TimeRotation) (tick : Bit) (source : Emitted) (f : Fronted) : Type 0 where
   pub keeps : Keeps old new
-  pub cost : Costs old new (cost_of_time_front (copies_of r) r.body.a (widths source.wire.columns))
+  pub cost : CostsAtMost old new (cost_of_time_front (copies_of r) r.body.a (widths source.wire.columns))
   pub same : f.source ≡ source
   pub fronts : TimeFronts new r tick f
 

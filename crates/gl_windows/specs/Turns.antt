@@ -20,7 +20,7 @@ pub record Turns (old new : Net) (count : ℕ) (opens : Bit) (opened : Bus) (tri
   pub ends_count : length r.ends ≡ count
   pub kept_count : length r.kept ≡ count
   pub next : IsBus new r.next
-  pub next_width : r.next.width ≡ 32
+  pub next_width : r.next.width ≡ oldest.width
   pub cost : Costs old new (nodes_alone (count * 10 + 6))
   pub mid : (run : Run) → IsRun new run → (k t : ℕ) → k < count
       → line_of run r.mids k t ≡ (line_of run flags k t || pointed opens opened run k t)
@@ -54,5 +54,5 @@ pub record AddsRotation (old new : Net) (count last first : ℕ) (opens : Bit) (
   pub ends : AreBits new r.ends
   pub mids_count : length r.mids ≡ count
   pub ends_count : length r.ends ≡ count
-  pub cost : Costs old new (with_registers (count * 11 + 7) (count + 32))
+  pub cost : Costs old new (with_registers (count * 11 + 7) (count + opened.width))
   pub rotating : (run : Run) → IsRun new run → Rotating run count last first opens opened trigger r

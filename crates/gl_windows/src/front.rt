@@ -9,7 +9,7 @@ use crate::turns::rotate;
 use gl_bits::Memory;
 use gl_net::NetBuilder;
 use gl_wire::Wire;
-use gl_wire_registers::{Wires, copy_wires, hold_all, pointer};
+use gl_wire_registers::{Wires, bits_to, copy_wires, hold_all, pointer};
 use std::alloc::Global;
 
 /// The wires of the copies of windows of `size` rows, one from each `advance`-th row on, whose ends are `stride` cycles apart in a flush.
@@ -36,7 +36,8 @@ pub fn put_front(
     let flush = count_flush(net, v, e, stride)?;
     let trigger = count_left(net, v, e, flush.due, size, advance)?;
     let tail = keep_tail(net, v, e, flush.idle)?;
-    let opened = pointer(net, opening.opens, 32, u128::from(count - 1))?;
+    let bits = bits_to(count - 1);
+    let opened = pointer(net, opening.opens, bits, u128::from(count - 1))?;
     let open = rotate(
         alloc,
         net,

@@ -8,7 +8,7 @@ ghost use Rattle.gl_windows.specs.Parts.{AddsFlush, AddsOpening, AddsTail, AddsT
 use gl_bits::Memory;
 use gl_net::{Bit, Bus, NetBuilder};
 use gl_wire::{both, but_not, either};
-use gl_wire_registers::{Bits, LineOp, count_down, latch, pairwise, when_equal, with_all};
+use gl_wire_registers::{Bits, LineOp, bits_to, count_down, latch, pairwise, when_equal, with_all};
 use std::alloc::Global;
 
 /// When a copy opens.
@@ -68,7 +68,8 @@ pub fn count_openings(
 {
     let first = u128::from(before);
     let again = u128::from(advance - 1);
-    let until = count_down(net, eos, unit, 32, first, first, again)?;
+    let bits = bits_to(before.max(advance - 1));
+    let until = count_down(net, eos, unit, bits, first, first, again)?;
     let opens = when_equal(net, unit, until, 0)?;
     Ok(Opening { until, opens })
 }
@@ -83,7 +84,7 @@ pub fn count_flush(net: &mut NetBuilder, valid: Bit, eos: Bit, stride: u32) -> R
     let last = u128::from(stride - 1);
     let flush = latch(net, eos, valid)?;
     let idle = but_not(net, flush, valid)?;
-    let wait = count_down(net, eos, idle, 32, 0, last, last)?;
+    let wait = count_down(net, eos, idle, bits_to(stride - 1), 0, last, last)?;
     let due = when_equal(net, idle, wait, 0)?;
     Ok(Flush {
         flush,
@@ -111,7 +112,8 @@ pub fn count_left(
 {
     let rows = u128::from(size - 1);
     let again = u128::from(advance - 1);
-    let left = count_down(net, eos, unit, 32, rows, rows, again)?;
+    let bits = bits_to(size.max(advance) - 1);
+    let left = count_down(net, eos, unit, bits, rows, rows, again)?;
     let last = when_equal(net, unit, left, 0)?;
     let may = either(net, last, due)?;
     let trigger = either(net, eos, may)?;

@@ -18,7 +18,7 @@ use gl_bits::Memory;
 use gl_net::{Bit, NetBuilder};
 use gl_wire::{Emitted, Wire, but_not, either};
 use gl_wire_registers::{
-    LineOp, Wires, close_line, copy_wires, hold_all, join_all, pairwise, pointer, timer,
+    LineOp, Wires, bits_to, close_line, copy_wires, hold_all, join_all, pairwise, pointer, timer,
 };
 use std::alloc::Global;
 
@@ -64,8 +64,8 @@ fn put_time_front(
     let trigger = count_left(net, tick, e, flush.due, r.size, r.advance)?;
     let kept = keep_tail(net, v, e, flush.idle)?;
     let tail = but_not(net, kept.tail, trigger.last)?;
-    let opened = pointer(net, opens, 32, u128::from(count - 1))?;
     let first = count - 1;
+    let opened = pointer(net, opens, bits_to(first), u128::from(first))?;
     let open = rotate(alloc, net, opens, opened, trigger.trigger, 1, first, count)?;
     let stay = pairwise(alloc, net, LineOp::ButNot, &open.mids, &open.ends)?;
     let takes = take_rows(alloc, net, v, e, tail, &stay, &open.ends)?;

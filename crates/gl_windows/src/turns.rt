@@ -1,6 +1,6 @@
 //! Copies that open one after another and end one after another.
 
-ghost use Rattle.std.specs.Prelude.{◌≡◌, ◌∷◌, ◌++◌, ◌<◌, ◌≤◌, [], IfOk, length, replicate};
+ghost use Rattle.std.specs.Prelude.{◌≡◌, ◌∷◌, ◌++◌, ◌<◌, ◌≤◌, ◌^◌, [], IfOk, length, replicate};
 ghost use Rattle.gl_net.specs.Net.{IsBit, IsBus};
 ghost use Rattle.gl_wire_registers.specs.Lines.{AreBits};
 ghost use Rattle.gl_windows.specs.Turns.{AddsRotation, Turns};
@@ -53,12 +53,12 @@ pub fn take_turn(
 ) -> Result<Turn, Memory>
     requires opens { IsBit net.old opens }
     requires opened { IsBus net.old opened }
-    requires opened_width { opened.width ≡ 32 }
+    requires opened_fits { count ≤ 2 ^ opened.width }
     requires trigger { IsBit net.old trigger }
     requires flags { AreBits net.old flags.now }
     requires flags_count { length flags.now ≡ count }
     requires oldest { IsBus net.old oldest }
-    requires oldest_width { oldest.width ≡ 32 }
+    requires oldest_fits { count ≤ 2 ^ oldest.width }
     requires some_copy { 1 ≤ count }
     ensures { IfOk result (Turns net.old net.new count opens opened trigger flags.now oldest) }
 {
@@ -99,7 +99,7 @@ fn resets(
     }
 }
 
-/// The copies, in registers that reset clears, but for the last copy's flag and the pointer to the oldest one.
+/// The copies, in registers that reset clears, but for the last copy's flag and the pointer to the oldest one, which is as wide as `opened`.
 pub fn rotate(
     alloc: Global,
     net: &mut NetBuilder,
@@ -112,7 +112,7 @@ pub fn rotate(
 ) -> Result<OpenCopies, Memory>
     requires opens { IsBit net.old opens }
     requires opened { IsBus net.old opened }
-    requires opened_width { opened.width ≡ 32 }
+    requires opened_fits { count ≤ 2 ^ opened.width }
     requires trigger { IsBit net.old trigger }
     requires some_copy { 1 ≤ count }
     requires last { last ≤ 1 }
@@ -121,7 +121,7 @@ pub fn rotate(
 {
     let copies = count as usize;
     let flag = word(u128::from(last), 1);
-    let pointer = word(u128::from(first), 32);
+    let pointer = word(u128::from(first), opened.width);
     let resets = resets(alloc, word(0, 1), flag, pointer, copies - 1)?;
     let registers = open_all(alloc, net, resets.as_slice())?;
     let (bits, pointers) = registers.as_slice().split_at(copies);

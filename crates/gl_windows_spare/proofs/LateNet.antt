@@ -90,7 +90,7 @@ module _ (n0 n1 n2 n3 n4 n5 n6 n7 n8 : Net) (w : Wire) (shift cycles : ℕ) (som
     keeps = keeps_then n0 n1 n8 c.keeps k18;
     cost = record {
       nodes = omega (arith, c.cost.nodes, al.cost.nodes, we.cost.nodes, la.cost.nodes, h.cost.nodes, ls.cost.nodes, v.cost.nodes, ch.cost.nodes, held_length);
-      registers = omega (arith, c.cost.registers, al.cost.registers, we.cost.registers, la.cost.registers, h.cost.registers, ls.cost.registers, v.cost.registers, ch.cost.registers);
+      registers = omega (arith, c.cost.registers, al.cost.registers, we.cost.registers, la.cost.registers, h.cost.registers, ls.cost.registers, v.cost.registers, ch.cost.registers, c.few);
       memories = omega (arith, c.cost.memories, al.cost.memories, we.cost.memories, la.cost.memories, h.cost.memories, ls.cost.memories, v.cost.memories, ch.cost.memories);
     };
     wire = record { valid = bit_kept n7 n8 valid k78 v.bit; eos = bit_kept n1 n8 fired k18 c.bit; columns = ch.buses };

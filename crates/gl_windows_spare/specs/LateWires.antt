@@ -3,7 +3,7 @@ use Rattle.std.specs.Prelude.{◌≡◌, ℕ, ◌+◌, ◌*◌, length}
 use Rattle.std.specs.List.{sum}
 use Rattle.gl_net.specs.Net.{Net, Run, IsRun, Keeps}
 use Rattle.gl_wire.specs.declared.wire.Wire.{Wire}
-use Rattle.gl_wire.specs.Costs.{Costs, CostsAtMost}
+use Rattle.gl_wire.specs.Costs.{CostsAtMost}
 use Rattle.gl_wire.specs.Wire.{IsWire, carried, widths}
 use Rattle.gl_wire_registers.specs.Held.{with_registers}
 use Rattle.gl_windows_spare.specs.LateEnds.{IsLate, IsQuiet}
@@ -11,7 +11,8 @@ use Rattle.gl_windows_spare.specs.LateEnds.{IsLate, IsQuiet}
 -- a wire with late ends more
 pub record AddsLate (old new : Net) (shift : ℕ) (source late : Wire) : Type 0 where
   pub keeps : Keeps old new
-  pub cost : Costs old new (with_registers (length (widths source.columns) * 3 + 27) (sum (widths source.columns) + 34))
+  pub cost : CostsAtMost old new
+      (with_registers (length (widths source.columns) * 3 + 27) (sum (widths source.columns) + 34))
   pub wire : IsWire new late
   pub same_widths : widths late.columns ≡ widths source.columns
   -- wherever nothing comes in so many cycles after an end

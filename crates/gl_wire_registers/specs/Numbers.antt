@@ -1,5 +1,6 @@
 -- Lines and buses that carry a number, and tests of a bus against one. What a bus carries is said from cycle 1 on.
 use Rattle.std.specs.Prelude.{◌≡◌, ℕ, suc, true, false, if◌then◌else◌, nat_eq, ◌&&◌}
+use Rattle.gl_algebra.specs.Cost.{least_exponent}
 use Rattle.gl_net.specs.declared.node.BinaryOp.{BinaryOp}
 use Rattle.gl_net.specs.declared.node.Bus.{Bus}
 use Rattle.gl_net.specs.declared.node.Bit.{Bit}
@@ -7,6 +8,10 @@ use Rattle.gl_net.specs.Net.{Net, Run, IsRun, IsBus, IsBit, Keeps, binary_of, bi
 use Rattle.gl_wire.specs.Costs.{Costs, nodes_alone}
 use Rattle.gl_wire.specs.Wire.{line_at}
 use Rattle.gl_wire_registers.specs.Held.{held_at}
+
+-- the bits of each number below so many: the least, and at least one
+abbrev pub bits_below : ℕ → ℕ
+bits_below count = least_exponent count 1 count
 
 -- a line that is 1 where another one is and a register holds a number, whatever reset gives the register
 pub record IsWhenEqual (old new : Net) (source : Bit) (register : Bus) (number : ℕ) (out : Bit) : Type 0 where

@@ -1,10 +1,11 @@
 -- A timer, and a line of ends that comes late.
-use Rattle.std.specs.Prelude.{◌≡◌, ℕ, zero, suc, ◌+◌, ◌-◌, ◌<◌, Bool, true, false, not, ◌&&◌, nat_eq}
+use Rattle.std.specs.Prelude.{◌≡◌, ℕ, zero, suc, ◌+◌, ◌-◌, ◌<◌, ◌≤◌, Bool, true, false, not, ◌&&◌, nat_eq}
 use Rattle.gl_net.specs.declared.node.Bit.{Bit}
 use Rattle.gl_net.specs.Net.{Net, Run, IsRun, IsBit, Keeps}
 use Rattle.gl_wire.specs.Costs.{Costs}
 use Rattle.gl_wire.specs.Wire.{line_at}
 use Rattle.gl_wire_registers.specs.Held.{with_registers}
+use Rattle.gl_wire_registers.specs.Numbers.{bits_below}
 
 -- a timer: a line sets it, and some cycles after it was set it fires
 pub record Timer : Type 0 where
@@ -25,7 +26,8 @@ timer_at n ends (suc c) = ticked n (ends c) (timer_at n ends c)
 -- the line of a timer that runs so many cycles
 pub record IsTimer (old new : Net) (set : Bit) (cycles : ℕ) (out : Bit) : Type 0 where
   pub keeps : Keeps old new
-  pub cost : Costs old new (with_registers 20 33)
+  pub cost : Costs old new (with_registers 20 (bits_below (cycles + 1) + 1))
+  pub few : bits_below (cycles + 1) ≤ 32
   pub bit : IsBit new out
   pub line : (run : Run) → IsRun new run → (t : ℕ) → line_at run out t ≡ fires (timer_at cycles (line_at run set) t)
 
@@ -45,6 +47,7 @@ pub record IsClose (apart delay : ℕ) (ends close : ℕ → Bool) : Type 0 wher
 -- such a line behind that of the ends
 pub record IsCloseLine (old new : Net) (cycles more : ℕ) (source out : Bit) : Type 0 where
   pub keeps : Keeps old new
-  pub cost : Costs old new (with_registers (20 + more) (33 + more))
+  pub cost : Costs old new (with_registers (20 + more) (bits_below (cycles + 1) + 1 + more))
+  pub few : bits_below (cycles + 1) ≤ 32
   pub bit : IsBit new out
   pub close : (run : Run) → IsRun new run → IsClose cycles (cycles + 1 + more) (line_at run source) (line_at run out)

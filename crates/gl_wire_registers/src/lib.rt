@@ -11,6 +11,7 @@ pub mod numbers;
 pub mod registers;
 pub mod rows;
 pub mod timers;
+pub mod widths;
 
 pub use back::{choose_row, join_copies};
 pub use counters::{count_down, hold, latch, next_count, next_pointer, pointer};
@@ -22,3 +23,4 @@ pub use numbers::{always, never, number_at, number_or, when_equal, word};
 pub use registers::{drive_all, open_all, open_same};
 pub use rows::{Wires, copy_wires, hold_all, same_buses};
 pub use timers::{close_line, later_by, timer};
+pub use widths::{bits_below, bits_to};

@@ -1,6 +1,6 @@
 //! Lines of many copies, one for each.
 
-ghost use Rattle.std.specs.Prelude.{◌≡◌, ◌<◌, ◌∷◌, ◌++◌, [], IfOk, length, map};
+ghost use Rattle.std.specs.Prelude.{◌≡◌, ◌<◌, ◌≤◌, ◌^◌, ◌∷◌, ◌++◌, [], IfOk, length, map};
 ghost use Rattle.gl_net.specs.Net.{IsBit, IsBus};
 ghost use Rattle.gl_wire_registers.specs.Lines.{AddsLine, AddsLines, AreBits, any_line, gated, gates_of, pairs, pointed, pointed_at, to_bit, to_bus, with_line};
 
@@ -87,7 +87,7 @@ fn with_all_of(
 fn at_copy(net: &mut NetBuilder, line: Bit, pointer: Bus, copy: u32) -> Result<Bit, Memory>
     requires line { IsBit net.old line }
     requires pointer { IsBus net.old pointer }
-    requires width { pointer.width ≡ 32 }
+    requires fits { copy < 2 ^ pointer.width }
     ensures { IfOk result (λ b. AddsLine net.old net.new 3 b (pointed_at line pointer copy)) }
 {
     // Named, since a goal speaks of the value.
@@ -105,7 +105,7 @@ pub fn decode(
 ) -> Result<Bits, Memory>
     requires line { IsBit net.old line }
     requires pointer { IsBus net.old pointer }
-    requires width { pointer.width ≡ 32 }
+    requires fits { count ≤ 2 ^ pointer.width }
     ensures { IfOk result (λ bs. AddsLines net.old net.new count 3 bs (pointed line pointer)) }
 {
     let mut all = Bits::new(alloc);

@@ -6,6 +6,7 @@ ghost use Rattle.gl_wire_registers.specs.Timers.{IsCloseLine, IsLaterBy, IsTimer
 
 use crate::counters::{count_down, latch};
 use crate::numbers::{always, when_equal};
+use crate::widths::bits_to;
 use gl_bits::Memory;
 use gl_net::{Bit, NetBuilder};
 use gl_wire::later_bit;
@@ -16,7 +17,8 @@ pub fn timer(net: &mut NetBuilder, set: Bit, cycles: u32) -> Result<Bit, Memory>
     ensures { IfOk result (IsTimer net.old net.new set cycles) }
 {
     let one = always(net)?;
-    let left = count_down(net, set, one, 32, 0, u128::from(cycles), 0)?;
+    let bits = bits_to(cycles);
+    let left = count_down(net, set, one, bits, 0, u128::from(cycles), 0)?;
     let over = when_equal(net, one, left, 0)?;
     let on = latch(net, set, over)?;
     // Named, since a goal speaks of the value.

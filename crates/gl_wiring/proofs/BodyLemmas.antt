@@ -19,7 +19,7 @@ use Rattle.gl_wire.specs.declared.emitted.Emitted.{Emitted}
 use Rattle.gl_wire.specs.declared.wire.Wire.{Wire}
 use Rattle.gl_wire.specs.Apart.{CarriesApart}
 use Rattle.gl_wire.specs.Beats.{Beats, Spaced, beats_of}
-use Rattle.gl_wire.specs.Costs.{Cost, Costs, CostsAtMost}
+use Rattle.gl_wire.specs.Costs.{Cost, CostsAtMost}
 use Rattle.gl_wire.specs.Faults.{line_of, lines_of}
 use Rattle.gl_wire.specs.Serving.{Serving, inputs_at}
 use Rattle.gl_wire.specs.Spills.{Lines}
@@ -38,9 +38,6 @@ wires_get : (copies : List Emitted) (k : ℕ) (e : Emitted) → slice_get copies
 wires_get [] k e h = absurd (cc)
 wires_get (x ∷ xs) zero e h = let same : x ≡ e = cc in ap (λ (y : Emitted). Some y.wire) same
 wires_get (x ∷ xs) (suc k) e h = wires_get xs k e h
-
-pub no_more : (old new : Net) (cost : Cost) → Costs old new cost → CostsAtMost old new cost
-no_more old new cost h = record { nodes = omega (arith, h.nodes); registers = omega (arith, h.registers); memories = omega (arith, h.memories) }
 
 -- ---- the source
 

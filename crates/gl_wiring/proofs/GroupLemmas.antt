@@ -49,7 +49,7 @@ use Rattle.gl_wiring.specs.Copies.{AreBodies, CanCopy, IsSpacedFor, LeavesRoom, 
 use Rattle.gl_wiring.specs.Groups.{IsGroupFront, IsGroupNode, group_whole, grouping_of, spaced_source}
 use Rattle.gl_wiring.specs.Leaves.{leaf, widths_of}
 use Rattle.gl_wiring.specs.Put.{CanPut, Gives, GivesAs, HasColumns, IsPutBehind}
-use Rattle.gl_wiring.proofs.BodyLemmas.{columns_between, copies_serve, no_more, source_apart, source_cost, source_gives, source_keeps}
+use Rattle.gl_wiring.proofs.BodyLemmas.{columns_between, copies_serve, source_apart, source_cost, source_gives, source_keeps}
 use Rattle.gl_wiring.proofs.CanLemmas.{first_within, second_within}
 use Rattle.gl_wiring.proofs.CopyLemmas.{bodies_columns, can_copies}
 use Rattle.gl_wiring.proofs.GroupCosts.{group_cost, key_width_is}
@@ -126,7 +126,7 @@ module _ (nodes : List PlanNode) (g : GroupOf) (plan : IsPlan nodes) (at : IsGro
       let gap = group_gap s in
       let columns = columns_between nodes g.source gap h room old net new tick leaves below between put sp fr.keeps in
       let fore : CostsAtMost net new (cost_of_front g.groups g.key (widths_of (kinds_of nodes g.source))) =
-      subst (λ (cs : List ℕ). CostsAtMost net new (cost_of_front g.groups g.key cs)) columns (no_more net new _ fr.cost) in
+      subst (λ (cs : List ℕ). CostsAtMost net new (cost_of_front g.groups g.key cs)) columns fr.cost in
       record {
         keeps = source_keeps nodes g.source gap h room old net new tick leaves below between put sp fr.keeps;
         cost = source_cost nodes g.source gap h room old net new tick leaves below between put sp fr.keeps _ fore;

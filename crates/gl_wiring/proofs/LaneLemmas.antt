@@ -68,7 +68,7 @@ use Rattle.gl_wiring.specs.LaneGroups.{HasLane, IsGroupLane}
 use Rattle.gl_wiring.specs.Lanes.{IsBodyTable, IsDirectBehind, cost_of_body, has_room, place_of}
 use Rattle.gl_wiring.specs.Leaves.{HaveLeaves, leaf, widths_of}
 use Rattle.gl_wiring.specs.Put.{Gives, IsPutBehind, counted_own}
-use Rattle.gl_wiring.proofs.BodyLemmas.{columns_between, no_more, source_apart, source_cost, source_gives, source_keeps}
+use Rattle.gl_wiring.proofs.BodyLemmas.{columns_between, source_apart, source_cost, source_gives, source_keeps}
 use Rattle.gl_wiring.proofs.CanLemmas.{first_within}
 use Rattle.gl_wiring.proofs.CopyLemmas.{body_leaves}
 use Rattle.gl_wiring.proofs.FormLemmas.{IsDirect, direct_is}
@@ -154,7 +154,7 @@ module _ (nodes : List PlanNode) (g : GroupOf) (plan : IsPlan nodes) (at : IsGro
       let apart = room nodes g plan at in
       let columns = columns_between nodes g.source gap h apart old net new tick leaves below between put sp is.keeps in
       let fore : CostsAtMost net new (cost_of_lane g.groups g.key (widths_of (kinds_of nodes g.source))) =
-      subst (λ (cs : List ℕ). CostsAtMost net new (cost_of_lane g.groups g.key cs)) columns (no_more net new _ is.cost) in
+      subst (λ (cs : List ℕ). CostsAtMost net new (cost_of_lane g.groups g.key cs)) columns is.cost in
       record {
         keeps = source_keeps nodes g.source gap h apart old net new tick leaves below between put sp is.keeps;
         cost = source_cost nodes g.source gap h apart old net new tick leaves below between put sp is.keeps _ fore;

@@ -58,7 +58,7 @@ use Rattle.gl_wiring.specs.Copies.{AreBodies, CanCopy, IsSpacedFor, LeavesRoom, 
 use Rattle.gl_wiring.specs.Leaves.{leaf, widths_of}
 use Rattle.gl_wiring.specs.Partitions.{IsPartitionFront, IsPartitionNode, parted_whole, partitioning_of, spaced_parted}
 use Rattle.gl_wiring.specs.Put.{CanPut, Gives, GivesAs, HasColumns, IsPutBehind}
-use Rattle.gl_wiring.proofs.BodyLemmas.{columns_between, copies_serve, no_more, source_apart, source_cost, source_gives, source_keeps}
+use Rattle.gl_wiring.proofs.BodyLemmas.{columns_between, copies_serve, source_apart, source_cost, source_gives, source_keeps}
 use Rattle.gl_wiring.proofs.CanLemmas.{first_within, second_within}
 use Rattle.gl_wiring.proofs.CopyLemmas.{bodies_columns, can_copies}
 use Rattle.gl_wiring.proofs.GroupCosts.{key_width_is}
@@ -167,7 +167,7 @@ module _ (nodes : List PlanNode) (p : PartitionOf) (plan : IsPlan nodes) (at : I
       let gap = window_gap s in
       let columns = columns_between nodes p.source gap h room old net new tick leaves below between put sp fr.keeps in
       let fore : CostsAtMost net new (cost_of_front p.groups (copies_of_window p.size p.advance) p.key (widths_of (kinds_of nodes p.source))) =
-      subst (λ (cs : List ℕ). CostsAtMost net new (cost_of_front p.groups (copies_of_window p.size p.advance) p.key cs)) columns (no_more net new _ fr.cost) in
+      subst (λ (cs : List ℕ). CostsAtMost net new (cost_of_front p.groups (copies_of_window p.size p.advance) p.key cs)) columns fr.cost in
       record {
         keeps = source_keeps nodes p.source gap h room old net new tick leaves below between put sp fr.keeps;
         cost = source_cost nodes p.source gap h room old net new tick leaves below between put sp fr.keeps _ fore;

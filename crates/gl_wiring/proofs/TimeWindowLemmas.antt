@@ -51,7 +51,7 @@ use Rattle.gl_wiring.specs.Leaves.{HasLeaf, HaveLeaves, HaveLine, LeavesFit, car
 use Rattle.gl_wiring.specs.Put.{CanPut, Gives, GivesAs, IsPutBehind}
 use Rattle.gl_wiring.specs.TimeWindows.{IsTimeFrontOf, IsTimeWindow, time_rotation_of}
 use Rattle.gl_wiring.specs.Copies.{AreBodies, CanCopy}
-use Rattle.gl_wiring.proofs.BodyLemmas.{copies_serve, no_more}
+use Rattle.gl_wiring.proofs.BodyLemmas.{copies_serve}
 use Rattle.gl_wiring.proofs.CanLemmas.{first_within, second_within}
 use Rattle.gl_wiring.proofs.CopyLemmas.{bodies_columns, can_copies}
 use Rattle.gl_wiring.proofs.GivesLemmas.{gives_kept}
@@ -146,7 +146,7 @@ module _ (nodes : List PlanNode) (w : TimeWindowOf) (plan : IsPlan nodes) (at : 
       → IsTimeFronted old new r tick below front → IsTimeFrontOf nodes w old new tick leaves front
   front_put old new tick leaves below front h fr =
       let fore : CostsAtMost old new (cost_of_time_front c s.a (widths_of (kinds_of nodes w.source))) =
-      subst (λ (cs : List ℕ). CostsAtMost old new (cost_of_time_front c s.a cs)) h.same_widths (no_more old new _ fr.cost) in
+      subst (λ (cs : List ℕ). CostsAtMost old new (cost_of_time_front c s.a cs)) h.same_widths fr.cost in
       record {
         keeps = fr.keeps;
         cost = fore;

@@ -46,7 +46,7 @@ use Rattle.gl_wiring.specs.Put.{CanPut, Gives, GivesAs, HasColumns, IsPutBehind}
 use Rattle.gl_wiring.specs.Windows.{IsFrontOf, IsWindow, rotation_of, source_figures, whole_figures}
 use Rattle.gl_wiring.specs.Copies.{AreBodies, CanCopy, IsSpacedFor, LeavesRoom, paceless}
 use Rattle.gl_wiring.proofs.CanLemmas.{first_within, second_within}
-use Rattle.gl_wiring.proofs.BodyLemmas.{columns_between, copies_serve, no_more, source_apart, source_cost, source_gives, source_keeps}
+use Rattle.gl_wiring.proofs.BodyLemmas.{columns_between, copies_serve, source_apart, source_cost, source_gives, source_keeps}
 use Rattle.gl_wiring.proofs.CopyLemmas.{bodies_columns, can_copies}
 use Rattle.gl_wiring.proofs.WindowCosts.{window_cost}
 
@@ -131,7 +131,7 @@ module _ (nodes : List PlanNode) (w : WindowOf) (plan : IsPlan nodes) (at : IsWi
       let gap = window_gap s in
       let columns = columns_between nodes w.source gap g room old net new tick leaves below between h sp fr.keeps in
       let fore : CostsAtMost net new (cost_of_front c s.a (widths_of (kinds_of nodes w.source))) =
-      subst (λ (cs : List ℕ). CostsAtMost net new (cost_of_front c s.a cs)) columns (no_more net new _ fr.cost) in
+      subst (λ (cs : List ℕ). CostsAtMost net new (cost_of_front c s.a cs)) columns fr.cost in
       record {
         keeps = source_keeps nodes w.source gap g room old net new tick leaves below between h sp fr.keeps;
         cost = source_cost nodes w.source gap g room old net new tick leaves below between h sp fr.keeps _ fore;

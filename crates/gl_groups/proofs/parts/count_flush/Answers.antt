@@ -24,9 +24,10 @@ returns c =
       due = due.bit;
       cost = record {
         nodes = omega (arith, comes.cost.nodes, flush.cost.nodes, idle.cost.nodes, free.cost.nodes, wait.cost.nodes, due.cost.nodes);
-        registers = omega (arith, comes.cost.registers, flush.cost.registers, idle.cost.registers, free.cost.registers, wait.cost.registers, due.cost.registers);
+        registers = omega (arith, comes.cost.registers, flush.cost.registers, idle.cost.registers, free.cost.registers, wait.cost.registers, due.cost.registers, wait.width);
         memories = omega (arith, comes.cost.memories, flush.cost.memories, idle.cost.memories, free.cost.memories, wait.cost.memories, due.cost.memories);
       };
+      few = omega (arith, wait.width, c.bits_to.ensures.few);
       law = λ run r.
           let at_wait = due.keeps.runs run r in
           let at_free = wait.keeps.runs run at_wait in

@@ -7,4 +7,4 @@ returns c =
     let at = c.in_ok-at.ensures in
     let trigger = c.in_ok-trigger.ensures in
     turns_are c.args.net.now c.count_down.new.net c.number_or.new.net c.either.new.net c.args.eos c.args.due c.args.count c.from-all.result c.from-others.result
-    c.in_ok-rest.rest c.in_ok-at.at c.in_ok-trigger.trigger c.from-all.ensures c.from-others.ensures rest at trigger
+    c.bits_to.result c.in_ok-rest.rest c.in_ok-at.at c.in_ok-trigger.trigger c.from-all.ensures c.from-others.ensures c.bits_to.ensures.few c.bits_to.ensures.fits rest at trigger

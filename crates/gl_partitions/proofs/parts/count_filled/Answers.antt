@@ -13,9 +13,10 @@ returns c =
       bit = trigger.bit;
       cost = record {
         nodes = omega (arith, left.cost.nodes, last.cost.nodes, trigger.cost.nodes);
-        registers = omega (arith, left.cost.registers, last.cost.registers, trigger.cost.registers);
+        registers = omega (arith, left.cost.registers, last.cost.registers, trigger.cost.registers, left.width);
         memories = omega (arith, left.cost.memories, last.cost.memories, trigger.cost.memories);
       };
+      few = omega (arith, left.width, c.bits_to-bits.ensures.few);
       law = λ run r.
           let at_last = trigger.keeps.runs run r in
           filled_is run c.args.valid c.args.eos c.args.due c.args.size c.args.advance c.from-rows.result c.from-again.result c.in_ok-left.left c.in_ok-last.last c.in_ok-trigger.trigger

@@ -28,6 +28,6 @@ take_rows-requires-clause-tail c =
 pub returns : goal.returns
 returns c =
     slot_adds c.args.net.now c.both.new.net c.both-2.new.net c.count_openings.new.net c.count_filled.new.net c.pointer.new.net c.rotate.new.net c.take_rows.new.net
-    c.args.valid c.args.eos c.args.tail c.args.mine c.args.due c.in_ok-own.own c.in_ok-last.last c.args.size c.args.advance c.args.copies c.from.result c.requires.copies c.from.ensures
+    c.args.valid c.args.eos c.args.tail c.args.mine c.args.due c.in_ok-own.own c.in_ok-last.last c.args.size c.args.advance c.args.copies c.bits_to.result c.from.result c.requires.copies c.bits_to.ensures.few c.from.ensures
     c.in_ok-next.next c.in_ok-filled.filled c.in_ok-opened.opened c.in_ok-open.open c.in_ok-takes.takes
     c.in_ok-own.ensures c.in_ok-last.ensures c.in_ok-next.ensures c.in_ok-filled.ensures c.in_ok-opened.ensures c.in_ok-open.ensures c.in_ok-takes.ensures

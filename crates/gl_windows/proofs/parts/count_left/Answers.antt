@@ -17,9 +17,10 @@ returns c =
       bit = trigger.bit;
       cost = record {
         nodes = omega (arith, left.cost.nodes, last.cost.nodes, may.cost.nodes, trigger.cost.nodes);
-        registers = omega (arith, left.cost.registers, last.cost.registers, may.cost.registers, trigger.cost.registers);
+        registers = omega (arith, left.cost.registers, last.cost.registers, may.cost.registers, trigger.cost.registers, left.width);
         memories = omega (arith, left.cost.memories, last.cost.memories, may.cost.memories, trigger.cost.memories);
       };
+      few = omega (arith, left.width, c.bits_to-bits.ensures.few);
       law = λ run r.
           let at_may = trigger.keeps.runs run r in
           let at_last = may.keeps.runs run at_may in

@@ -14,9 +14,10 @@ returns c =
       bit = opens.bit;
       cost = record {
         nodes = omega (arith, until.cost.nodes, opens.cost.nodes);
-        registers = omega (arith, until.cost.registers, opens.cost.registers);
+        registers = omega (arith, until.cost.registers, opens.cost.registers, until.width);
         memories = omega (arith, until.cost.memories, opens.cost.memories);
       };
+      few = omega (arith, until.width, c.bits_to-bits.ensures.few);
       law = λ run r. record {
         next = λ t. ap (λ (n : ℕ). held_at n run c.in_ok-until.until (suc t)) (sym c.from-first.ensures) ∙ until.next run (opens.keeps.runs run r) t
             ∙ (λ i. counted_down (c.from-first.ensures i) (c.from-again.ensures i) (line_at run c.args.eos t) (line_at run c.args.unit t) (held_at (c.from-first.ensures i) run c.in_ok-until.until t));

@@ -15,6 +15,7 @@ returns c =
         registers = omega (arith, fired.cost.registers, close.cost.registers);
         memories = omega (arith, fired.cost.memories, close.cost.memories);
       };
+      few = fired.few;
       bit = close.bit;
       close = λ run r.
           close_is c.args.cycles c.args.more (line_at run c.args.ends) (line_at run c.in_ok-fired.fired) (line_at run c.in_ok-close.close)

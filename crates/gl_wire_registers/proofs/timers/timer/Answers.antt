@@ -1,4 +1,4 @@
-use Rattle.std.proofs.Common.{◌≡◌, ℕ, suc, subst, arith}
+use Rattle.std.proofs.Common.{◌≡◌, ◌≤◌, ℕ, suc, subst, arith}
 use Rattle.gl_net.proofs.Determined.{keeps_then}
 use Rattle.gl_wire.specs.Wire.{line_at}
 use Rattle.gl_wire_registers.specs.Held.{held_at, counted_down}
@@ -17,9 +17,10 @@ returns c =
           (keeps_then _ c.when_equal.new.net _ over.keeps (keeps_then _ c.latch.new.net c.when_equal-2.new.net on.keeps fired.keeps)));
       cost = record {
         nodes = omega (arith, one.cost.nodes, left.cost.nodes, over.cost.nodes, on.cost.nodes, fired.cost.nodes);
-        registers = omega (arith, one.cost.registers, left.cost.registers, over.cost.registers, on.cost.registers, fired.cost.registers);
+        registers = omega (arith, one.cost.registers, left.cost.registers, over.cost.registers, on.cost.registers, fired.cost.registers, c.bits_to-bits.ensures.value);
         memories = omega (arith, one.cost.memories, left.cost.memories, over.cost.memories, on.cost.memories, fired.cost.memories);
       };
+      few = subst (λ (n : ℕ). n ≤ 32) c.bits_to-bits.ensures.value c.bits_to-bits.ensures.few;
       bit = fired.bit;
       line = λ run r4.
           let r3 = fired.keeps.runs run r4 in
