@@ -21,6 +21,7 @@ pub record Declaration : Type 0 where
   pub is_vector : Bool
   pub kind : Kind
 
+-- the operators between two words: arithmetic modulo the width, bitwise operators, and comparisons of unsigned numbers
 pub data BinaryOp : Type 0 where
   Add : BinaryOp
   Sub : BinaryOp
@@ -59,6 +60,7 @@ pub record Assignment : Type 0 where
   pub target : ℕ
   pub value : Expr
 
+-- a module: the first declarations are its ports, assignments drive wires, and blocks run at the clock's edge
 pub record Module : Type 0 where
   pub name : List ℕ
   pub ports : ℕ
@@ -75,6 +77,7 @@ number_of (d ∷ ds) name = if bytes_eq d.name name then Some 0 else option_map 
 abbrev pub Nets : Type 0
 Nets = ℕ → ℕ
 
+-- what memories hold: a word for each memory's number and each address
 abbrev pub Memories : Type 0
 Memories = ℕ → ℕ → ℕ
 
@@ -135,6 +138,7 @@ abbrev pub assigned_by : Nets → Memories → List Statement → ℕ → Option
 assigned_by v m [] r = None
 assigned_by v m (b ∷ bs) r = later_or (assigned_by v m bs r) (assigned v m b r)
 
+-- the word that blocks write to an address of a memory at an edge, if any; the last write wins
 abbrev pub written_by : Nets → Memories → List Statement → ℕ → ℕ → Option ℕ
 written_by v m [] k at = None
 written_by v m (b ∷ bs) k at = later_or (written_by v m bs k at) (written v m b k at)
