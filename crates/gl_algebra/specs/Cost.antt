@@ -43,6 +43,7 @@ own_lean shapes figures forms leans lines (Group source body key groups) =
     + part_of_spacer lean_of_spacer shapes figures (Group source body key groups)
 own_lean shapes figures forms leans lines node = own_part lean_of_spacer shapes figures leans lines node
 
+-- what bounds the registers of a node: those of its children, and its own part over the lines of its wire
 abbrev pub lean_from : (ℕ → Shape) → (ℕ → Figures) → (ℕ → Form) → (ℕ → ℕ) → PlanNode → ℕ
 lean_from shapes figures forms leans node =
     sum_over_children leans node + own_lean shapes figures forms leans (lines_of (shape_from shapes node)) node
@@ -64,6 +65,7 @@ own_keys shapes forms keys (Group source body key groups) =
     keys_of_groups (forms body) groups (keys body) (width_of (kind_of_column (shapes source).kinds key))
 own_keys shapes forms keys node = copies_in node * of_body keys node
 
+-- the key bits of a node: those of its children, and those of its own groups
 abbrev pub keys_from : (ℕ → Shape) → (ℕ → Form) → (ℕ → ℕ) → PlanNode → ℕ
 keys_from shapes forms keys node = sum_over_children keys node + own_keys shapes forms keys node
 
@@ -92,6 +94,7 @@ own_store shapes figures forms stores lines (Group source body key groups) =
 own_store shapes figures forms stores lines node =
     copies_in node * of_body stores node + part_of_spacer store_of_spacer shapes figures node
 
+-- the memory bits of a node: those of its children, and its own part over the lines of its wire
 abbrev pub store_from : (ℕ → Shape) → (ℕ → Figures) → (ℕ → Form) → (ℕ → ℕ) → PlanNode → ℕ
 store_from shapes figures forms stores node =
     sum_over_children stores node + own_store shapes figures forms stores (lines_of (shape_from shapes node)) node

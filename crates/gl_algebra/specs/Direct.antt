@@ -21,6 +21,7 @@ is_rowwise copied = false
 is_rowwise rowwise = true
 is_rowwise (totalling many delay) = false
 
+-- a body of totals stands once for all slots of a group; every other body is copied
 abbrev pub is_direct : Form → Bool
 is_direct copied = false
 is_direct rowwise = false

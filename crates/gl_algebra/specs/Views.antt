@@ -57,5 +57,6 @@ abbrev pub is_time : PlanNode → Bool
 is_time (TimeWindow source body size advance) = true
 is_time node = false
 
+-- some node of a plan has windows over time
 abbrev pub reads_time : List PlanNode → Bool
 reads_time nodes = list_any is_time nodes

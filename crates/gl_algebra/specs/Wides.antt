@@ -4,6 +4,7 @@ use Rattle.std.specs.Prelude.{◌^◌, ◌<◌}
 use Rattle.gl_algebra.specs.declared.figures.Figures.{Figures}
 use Rattle.gl_algebra.specs.declared.wide.Wide.{Wide}
 
+-- wide figures as the figures of a node
 abbrev pub plain : Wide → Figures
 plain w = record { a = w.a; lt = w.lt; le = w.le; nt = w.nt; ne = w.ne; gt = w.gt; ge = w.ge }
 

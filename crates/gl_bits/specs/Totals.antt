@@ -15,6 +15,7 @@ sum_total width xs = sum xs % 2 ^ width
 abbrev pub lesser : Kind → ℕ → ℕ → ℕ
 lesser kind x y = if is_below kind y x then y else x
 
+-- the greater of two words of one kind, by the numbers that they stand for
 abbrev pub greater : Kind → ℕ → ℕ → ℕ
 greater kind x y = if is_below kind x y then y else x
 

@@ -34,9 +34,11 @@ bit false = 0
 unfoldable pub sum_of : ℕ → ℕ → ℕ → ℕ
 sum_of w x y = (x + y) % 2 ^ w
 
+-- the difference of two words, modulo two to the power of the width
 unfoldable pub difference_of : ℕ → ℕ → ℕ → ℕ
 difference_of w x y = (x + (2 ^ w - y)) % 2 ^ w
 
+-- the product of two words, modulo two to the power of the width
 unfoldable pub product_of : ℕ → ℕ → ℕ → ℕ
 product_of w x y = (x * y) % 2 ^ w
 
@@ -48,9 +50,11 @@ not_of w x = 2 ^ w - 1 - x
 unfoldable pub eq_of : ℕ → ℕ → ℕ
 eq_of x y = bit (nat_eq x y)
 
+-- one bit that tells whether the first word is below the second
 unfoldable pub lt_of : ℕ → ℕ → ℕ
 lt_of x y = bit (nat_lt x y)
 
+-- one bit that tells whether the first word is at most the second
 unfoldable pub le_of : ℕ → ℕ → ℕ
 le_of x y = bit (nat_le x y)
 

@@ -23,6 +23,7 @@ abbrev pub figures_unless : Option Spare → Figures → Figures → Figures
 figures_unless None own root = own
 figures_unless (Some it) own root = root
 
+-- the figures of a statement: its query's own, or its root's where windows there have spare copies
 abbrev pub statement_figures : Schema → Statement → Figures
 statement_figures schema statement =
     let at = plan_of schema statement in
@@ -34,6 +35,7 @@ statement_figures schema statement =
 abbrev pub latency_of : Schema → Statement → ℕ
 latency_of schema statement = (statement_figures schema statement).le + 1
 
+-- how many cycles a statement wants from one beat to the next, at least
 abbrev pub gap_of : Schema → Statement → ℕ
 gap_of schema statement = (statement_figures schema statement).gt
 

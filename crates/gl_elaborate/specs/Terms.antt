@@ -13,6 +13,7 @@ use Rattle.gl_query.specs.Shapes as shape
 use Rattle.gl_query.specs.Values.{column_number, kind_alone, operand_place}
 use Rattle.gl_algebra.specs.Columns.{bit_kind, kind_of_column, SortFits}
 
+-- an expression over columns by number; each literal is a word of its kind
 pub data Term : Type 0 where
   Column : (number : ℕ) → Term
   Literal : (word : Word) (kind : Kind) → Term
@@ -70,6 +71,7 @@ depth_of (Not t) = 1 + depth_of t
 depth_of (Cast t kind) = 1 + depth_of t
 depth_of (Binary op l r) = 1 + max (depth_of l) (depth_of r)
 
+-- the depth of the deepest term; 0 where there is none
 abbrev pub depth_of_all : List Term → ℕ
 depth_of_all [] = 0
 depth_of_all (t ∷ ts) = max (depth_of t) (depth_of_all ts)
@@ -82,6 +84,7 @@ ops_in (Not t) = 1 + ops_in t
 ops_in (Cast t kind) = 1 + ops_in t
 ops_in (Binary op l r) = 1 + ops_in l + ops_in r
 
+-- how many operations stand in all terms together
 abbrev pub ops_in_all : List Term → ℕ
 ops_in_all [] = 0
 ops_in_all (t ∷ ts) = ops_in t + ops_in_all ts

@@ -13,13 +13,16 @@ use Rattle.gl_query_reader.specs.Written.{Item, Statement, Column, Letters, Bina
 
 -- ---- the schema
 
+-- a column of this name and kind
 abbrev pub column : List ℕ → Kind → NamedColumn
 column name kind = record { name = name; kind = kind }
 
+-- the columns of the load's stream: a symbol of four letters, and a price and a volume of 32 bits
 abbrev pub load_columns : List NamedColumn
 load_columns =
     column (codes "symbol") (Text 4) ∷ column (codes "price") (Unsigned 32) ∷ column (codes "volume") (Unsigned 32) ∷ []
 
+-- the load's schema: the one stream `trades`
 abbrev pub load_schema : Schema
 load_schema = record { streams = record { name = codes "trades"; columns = load_columns } ∷ [] }
 
@@ -28,6 +31,7 @@ schema_text = codes "stream trades (symbol text4, price u32, volume u32);"
 
 -- ---- the query
 
+-- the load's query: count, volume and highest price of one symbol in each 600 trades, every 60 trades
 unfoldable pub query_text : List ℕ
 query_text =
     codes "SELECT count() AS n, sum(volume) AS v, max(price) AS top "

@@ -11,9 +11,11 @@ pub record Piece : Type 0 where
   pub tokens : List Lexeme
   pub end : ℕ
 
+-- some tokens, and the place behind them
 abbrev pub piece : List Lexeme → ℕ → Piece
 piece tokens end = record { tokens = tokens; end = end }
 
+-- a token that ends a query in a text of several
 abbrev pub is_semicolon : Token → Bool
 is_semicolon (token.Plain Semicolon) = true
 is_semicolon t = false

@@ -28,6 +28,7 @@ pub record DumpsWhole (m : Module) (beats : List Beat) (port : PortValues) (old 
   pub are : IsDumpOf m beats port bytes
   pub taken : Appends old new bytes
 
+-- the first bytes of a dump of the run were written, perhaps none and perhaps all
 pub record DumpsFront (m : Module) (beats : List Beat) (port : PortValues) (old new : Option (List ℕ)) : Type 0 where
   pub bytes : List ℕ
   pub are : IsDumpOf m beats port bytes

@@ -2,6 +2,7 @@
 use Rattle.std.specs.Prelude.{◌≡◌, ◌⊎◌, ℕ, ◌+◌, ◌<◌, ◌≤◌, Bool, List, IsFalse, IsTrue}
 use Rattle.gl_schema.specs.Beats.{Beat, last_cycle}
 
+-- the first cycle in which the end holds, looked for from the cycle of the last beat on
 pub record IsFirstEnd (beats : List Beat) (ends : ℕ → Bool) (n : ℕ) : Type 0 where
   pub soonest : last_cycle beats ≤ n
   pub holds : IsTrue (ends n)

@@ -52,6 +52,7 @@ pub record Writes (kinds : List Kind) (beats : List Beat) (outs : List (List ℕ
   pub are : AreLinesOf kinds beats outs port bytes
   pub taken : Appends old new bytes
 
+-- the first bytes of the run's lines were written, perhaps none and perhaps all
 pub record WritesFront (kinds : List Kind) (beats : List Beat) (outs : List (List ℕ)) (port : PortValues)
     (old new : Option (List ℕ)) : Type 0 where
   pub bytes : List ℕ

@@ -43,6 +43,7 @@ told_by f port n = has_group (seen_below (seen_as f.name port) (outs_of f) n)
 abbrev pub line_as : List ℕ → ℕ → List ℕ → List ℕ
 line_as name cycle told = decimal cycle ++ 44 ∷ (name ++ told)
 
+-- the line of a result's row under the result's name, if a row is shown
 abbrev pub row_as : List ℕ → List Kind → ℕ → Option (List ℕ) → List ℕ
 row_as name kinds cycle None = []
 row_as name kinds cycle (Some row) = line_as name cycle (values_text kinds row ++ 10 ∷ [])
@@ -57,9 +58,11 @@ lines_as name kinds told s =
 abbrev pub lines_in : PortValues → ℕ → Face → List ℕ
 lines_in port n f = lines_as f.name (kinds_of f.columns) (told_by f port n) (shown_by f port n)
 
+-- the lines of all results in one cycle, in their order
 abbrev pub all_lines : List Face → PortValues → ℕ → List ℕ
 all_lines faces port n = flat_map (lines_in port n) faces
 
+-- the lines of all results from the first cycle through this one
 abbrev pub lines_through : List Face → PortValues → ℕ → List ℕ
 lines_through faces port zero = all_lines faces port 0
 lines_through faces port (suc n) = lines_through faces port n ++ all_lines faces port (suc n)
@@ -77,12 +80,14 @@ all_ended faces last port n = list_all (λ f. ended_before last (λ k. (shown_by
 
 -- ---- what was written
 
+-- the lines of all results were written, through the cycle by which each result has ended
 pub record WritesAll (faces : List Face) (beats : List Beat) (port : PortValues) (old new : Option (List ℕ)) : Type 0
   where
     pub ended : ℕ
     pub is : IsFirstEnd beats (all_ended faces (last_cycle beats) port) ended
     pub taken : Appends old new (lines_through faces port ended)
 
+-- the first bytes of all results' lines were written, perhaps none and perhaps all
 pub record WritesAllFront (faces : List Face) (beats : List Beat) (port : PortValues) (old new : Option (List ℕ))
     : Type 0 where
   pub ended : ℕ

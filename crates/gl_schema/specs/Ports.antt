@@ -12,9 +12,11 @@ use Rattle.gl_schema.specs.Beats.{Beat, rows_at, ends_at, ticks_at}
 unfoldable pub rst : List ℕ
 rst = codes "rst"
 
+-- the input port on which the end comes
 unfoldable pub eos : List ℕ
 eos = codes "eos"
 
+-- the input port on which a tick comes
 unfoldable pub tick : List ℕ
 tick = codes "tick"
 
@@ -22,6 +24,7 @@ tick = codes "tick"
 unfoldable pub in_valid : List ℕ → List ℕ
 in_valid stream = codes "in__" ++ stream ++ codes "__valid"
 
+-- the input port of a column of a stream
 unfoldable pub in_column : List ℕ → List ℕ → List ℕ
 in_column stream column = codes "in__" ++ stream ++ codes "__" ++ column
 
@@ -29,9 +32,11 @@ in_column stream column = codes "in__" ++ stream ++ codes "__" ++ column
 unfoldable pub out_valid : List ℕ
 out_valid = codes "out__valid"
 
+-- the output port of a column of the result
 unfoldable pub out_column : List ℕ → List ℕ
 out_column column = codes "out__" ++ column
 
+-- the output port that shows the end of the result
 unfoldable pub out_eos : List ℕ
 out_eos = codes "out__eos"
 
@@ -39,6 +44,7 @@ out_eos = codes "out__eos"
 unfoldable pub fault_group : List ℕ
 fault_group = codes "fault__group"
 
+-- the output port that shows that a queue overflowed
 unfoldable pub fault_queue : List ℕ
 fault_queue = codes "fault__queue"
 
@@ -47,6 +53,7 @@ pub record Pin : Type 0 where
   pub name : List ℕ
   pub value : ℕ
 
+-- a port by its name, with the value that it takes
 abbrev pub pin : List ℕ → ℕ → Pin
 pin name value = record { name = name; value = value }
 

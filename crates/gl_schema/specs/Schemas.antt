@@ -14,6 +14,7 @@ use Rattle.gl_schema.specs.Written.{is_written}
 abbrev pub column_names : List Column → List (List ℕ)
 column_names columns = map (λ c. c.name) columns
 
+-- the names of streams in their order
 abbrev pub stream_names : List Stream → List (List ℕ)
 stream_names streams = map (λ s. s.name) streams
 
@@ -21,6 +22,7 @@ stream_names streams = map (λ s. s.name) streams
 unfoldable pub has_column : List Column → List ℕ → Bool
 has_column columns name = list_any (λ c. bytes_eq name c.name) columns
 
+-- some stream has this name
 unfoldable pub has_stream : List Stream → List ℕ → Bool
 has_stream streams name = list_any (λ s. bytes_eq name s.name) streams
 

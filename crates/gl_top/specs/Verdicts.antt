@@ -59,6 +59,7 @@ WritesLines schema statement beats start text out =
     (λ outs port. Writes (kinds_of (result_columns schema statement)) (plain_beats beats) outs port
     out.old.taken out.new.taken)
 
+-- of every run of the text over the beats, the first bytes of its lines were written
 abbrev pub WritesLinesFront : Schema → Statement → List Beat → Start → List ℕ → Puts → Type 0
 WritesLinesFront schema statement beats start text out =
     OfEachRun text schema (plain_beats beats) start
@@ -297,6 +298,7 @@ SaysBy status.Verilog call = (fault : VerilogFault) × IsBadVerilog call.shelf.o
 SaysBy status.NoEnd call = IsEndless call
 SaysBy status.Dump call = (fault : VcdFault) × IsBadDump call.shelf.old.told call.words fault
 
+-- what a call's status says of its words, its texts and what it wrote is true
 abbrev pub Says : Call → Type 0
 Says call = SaysBy call.status call
 

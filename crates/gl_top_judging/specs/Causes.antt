@@ -135,6 +135,7 @@ pub record Change : Type 0 where
   pub old : ShelfState
   pub new : ShelfState
 
+-- the state of a shelf before and after
 abbrev pub change : ShelfState → ShelfState → Change
 change old new = record { old = old; new = new }
 

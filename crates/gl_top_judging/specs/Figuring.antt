@@ -9,6 +9,7 @@ use Rattle.gl_compiler_text.specs.Compiles.{HasCost}
 use Rattle.gl_compiler_text.specs.Built.{IsNoFarther, copies_of, gap_of, latency_of}
 use Rattle.gl_many.specs.Meets.{own_latency, shared_gap}
 
+-- one figure on a line: its name and its number
 unfoldable pub figure_line : List ℕ → ℕ → List ℕ
 figure_line name number = name ++ decimal number ++ codes "\n"
 

@@ -63,6 +63,7 @@ schema_kind (schema.Twice at) = codes "Twice"
 schema_kind (schema.TooMany at) = codes "TooMany"
 schema_kind schema.Memory = codes "Memory"
 
+-- where in the schema's text a fault is; want of memory has no place and gives 0
 abbrev pub schema_place : SchemaFault → ℕ
 schema_place (schema.Syntax at) = at
 schema_place (schema.BadName at) = at
@@ -71,6 +72,7 @@ schema_place (schema.Twice at) = at
 schema_place (schema.TooMany at) = at
 schema_place schema.Memory = 0
 
+-- the word by which a fault of a query is told
 unfoldable pub query_kind : QueryFault → List ℕ
 query_kind (query.Syntax at) = codes "Syntax"
 query_kind (query.UnknownStream at) = codes "UnknownStream"
@@ -88,6 +90,7 @@ query_kind (query.TooDeep at) = codes "TooDeep"
 query_kind (query.NoTime at) = codes "NoTime"
 query_kind query.Memory = codes "Memory"
 
+-- where in the query's text a fault is; want of memory gives 0
 abbrev pub query_place : QueryFault → ℕ
 query_place (query.Syntax at) = at
 query_place (query.UnknownStream at) = at
@@ -105,6 +108,7 @@ query_place (query.TooDeep at) = at
 query_place (query.NoTime at) = at
 query_place query.Memory = 0
 
+-- the word by which a fault of a module is told
 unfoldable pub verilog_kind : VerilogFault → List ℕ
 verilog_kind (verilog.Syntax at) = codes "Syntax"
 verilog_kind (verilog.Undeclared at) = codes "Undeclared"
@@ -121,6 +125,7 @@ verilog_kind (verilog.BadTarget at) = codes "BadTarget"
 verilog_kind (verilog.TooDeep at) = codes "TooDeep"
 verilog_kind verilog.Memory = codes "Memory"
 
+-- where in the module's text a fault is; want of memory gives 0
 abbrev pub verilog_place : VerilogFault → ℕ
 verilog_place (verilog.Syntax at) = at
 verilog_place (verilog.Undeclared at) = at
@@ -137,6 +142,7 @@ verilog_place (verilog.BadTarget at) = at
 verilog_place (verilog.TooDeep at) = at
 verilog_place verilog.Memory = 0
 
+-- the word by which a fault of a tuple file is told
 unfoldable pub tuples_kind : TupleFault → List ℕ
 tuples_kind (tuples.NotUtf8 number) = codes "NotUtf8"
 tuples_kind (tuples.BadCycle number) = codes "BadCycle"
@@ -151,6 +157,7 @@ tuples_kind (tuples.AfterEnd number) = codes "AfterEnd"
 tuples_kind (tuples.TooClose number) = codes "TooClose"
 tuples_kind tuples.Memory = codes "Memory"
 
+-- which record of a tuple file is at fault, counted from 1; want of memory gives 0
 abbrev pub tuples_record : TupleFault → ℕ
 tuples_record (tuples.NotUtf8 number) = number
 tuples_record (tuples.BadCycle number) = number
@@ -165,6 +172,7 @@ tuples_record (tuples.AfterEnd number) = number
 tuples_record (tuples.TooClose number) = number
 tuples_record tuples.Memory = 0
 
+-- the word by which a fault of a dump is told
 unfoldable pub dump_kind : VcdFault → List ℕ
 dump_kind (dump.Syntax at) = codes "Syntax"
 dump_kind (dump.UnknownSignal at) = codes "UnknownSignal"
@@ -175,6 +183,7 @@ dump_kind (dump.Twice at) = codes "Twice"
 dump_kind (dump.NoPort at) = codes "NoPort"
 dump_kind (dump.TooLate at) = codes "TooLate"
 
+-- where in the dump's text a fault is
 abbrev pub dump_place : VcdFault → ℕ
 dump_place (dump.Syntax at) = at
 dump_place (dump.UnknownSignal at) = at
@@ -203,6 +212,7 @@ usage_line =
 unfoldable pub memory_line : List ℕ
 memory_line = codes "out of memory\n"
 
+-- what is noted where the output could not be written
 unfoldable pub write_line : List ℕ
 write_line = codes "write fault\n"
 
@@ -243,6 +253,7 @@ pub record Puts : Type 0 where
   pub old : SinkState
   pub new : SinkState
 
+-- the state of a sink before and after
 abbrev pub puts : SinkState → SinkState → Puts
 puts old new = record { old = old; new = new }
 

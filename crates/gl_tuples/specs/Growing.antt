@@ -11,6 +11,7 @@ use Rattle.gl_tuples.specs.declared.beats.Beat.{Beat}
 abbrev pub columns_of : Stream → List ℕ
 columns_of s = map (λ c. width_of c.kind) s.columns
 
+-- the columns of each stream of a schema
 abbrev pub shape_of : Schema → List (List ℕ)
 shape_of schema = map columns_of schema.streams
 
