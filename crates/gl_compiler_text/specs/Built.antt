@@ -53,6 +53,7 @@ pub record IsNoFarther (schema : Schema) (statement : Statement) (gap : ℕ) : T
   pub with_spare : (it : Spare) → spare_at (plan_of schema statement).nodes (plan_of schema statement).root ≡ Some it
       → gap < own_gap_of schema statement
 
+-- the gap that is printed for a statement is no greater than its query's own, and less with spare copies
 abbrev pub GapsAreNoFarther : Type 0
 GapsAreNoFarther = (schema : Schema) (statement : Statement) → IsChecked schema statement
     → IsNoFarther schema statement (gap_of schema statement)

@@ -29,6 +29,7 @@ pub record Division : Type 0 where
 abbrev pub next_digit : ℕ → Division → Bool
 next_digit width d = highest width d.digits
 
+-- the divisor fits into the rest with the next digit behind it
 abbrev pub fits_next : ℕ → Division → Bool
 fits_next width d = fits d.rest d.bottom (next_digit width d)
 

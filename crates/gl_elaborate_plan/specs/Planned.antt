@@ -62,5 +62,6 @@ pub record HasOneLimit (at : Placed) (limit : Limit) : Type 0 where
   pub only : (other : Limit) → PassesLimit at other → other ≡ limit
   pub over : IsWithinLimits at → ⊥
 
+-- a plan that passes limits has one that is answered, and no other
 abbrev pub PlansPassOneLimit : Type 0
 PlansPassOneLimit = (at : Placed) (limit : Limit) → PassesLimit at limit → HasOneLimit at limit

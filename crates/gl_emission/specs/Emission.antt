@@ -52,10 +52,12 @@ pub record IsTraced (net : Net) (schema : Schema) (beats : List Beat) (port : Po
 
 -- ---- ports
 
+-- a direction of a netlist's port as a direction of the profile
 abbrev pub way_of : circuit.Direction → Direction
 way_of way.In = In
 way_of way.Out = Out
 
+-- a port that a netlist shows, as a port of the profile
 abbrev pub port_like : PortShape → ProfilePort
 port_like s = record { direction = way_of s.direction; name = s.name; width = s.width }
 

@@ -26,6 +26,7 @@ load_columns =
 abbrev pub load_schema : Schema
 load_schema = record { streams = record { name = codes "trades"; columns = load_columns } ∷ [] }
 
+-- the text of the load's schema
 unfoldable pub schema_text : List ℕ
 schema_text = codes "stream trades (symbol text4, price u32, volume u32);"
 
@@ -41,6 +42,7 @@ query_text =
 abbrev pub name : List ℕ → ℕ → Name
 name text at = record { text = text; at = at }
 
+-- a number with its place in the query's text
 abbrev pub number : ℕ → ℕ → Num
 number value at = record { value = value; at = at }
 
@@ -52,6 +54,7 @@ load_items =
     ∷ Total (Fold' Max 39 42 (Column (name (codes "price") 43))) (name (codes "top") 53)
     ∷ []
 
+-- the load's query as it is written, with its places in the text
 abbrev pub load_written : Statement
 load_written = record {
   query =

@@ -22,25 +22,31 @@ IsNode net x b = (run : Run) → IsRun net run → Holds run b.node x
 abbrev pub IsConstant : Net → Word → Bus → Type 0
 IsConstant net word b = (run : Run) → IsRun net run → (t : ℕ) → run.at t b.node ≡ word.bits
 
+-- a bus carries the inversion of another in every run
 abbrev pub IsNot : Net → Bus → Bus → Type 0
 IsNot net x b = (run : Run) → IsRun net run → (t : ℕ) → run.at t b.node ≡ not_of x.width (run.at t x.node)
 
+-- a bus carries what an operator makes of two others in every run
 abbrev pub IsBinary : Net → BinaryOp → Bus → Bus → Bus → Type 0
 IsBinary net op x y b =
     (run : Run) → IsRun net run → (t : ℕ) → run.at t b.node ≡ binary_of op x.width (run.at t x.node) (run.at t y.node)
 
+-- a bus carries one of two others in every run, by a bit
 abbrev pub IsChoice : Net → Bit → Bus → Bus → Bus → Type 0
 IsChoice net test x y b =
     (run : Run) → IsRun net run → (t : ℕ) → run.at t b.node ≡ choose_of (run.at t test.node) (run.at t x.node)
     (run.at t y.node)
 
+-- a bus carries the bits of two others in every run, the second below the first
 abbrev pub IsJoined : Net → Bus → Bus → Bus → Type 0
 IsJoined net x y b =
     (run : Run) → IsRun net run → (t : ℕ) → run.at t b.node ≡ join_of y.width (run.at t x.node) (run.at t y.node)
 
+-- a bus carries some bits of another in every run
 abbrev pub IsCut : Net → Bus → ℕ → ℕ → Bus → Type 0
 IsCut net x high low b = (run : Run) → IsRun net run → (t : ℕ) → run.at t b.node ≡ cut_of high low (run.at t x.node)
 
+-- a bus carries in every run the word that a memory holds at the address on another
 abbrev pub IsWordAt : Net → Store → Bus → Bus → Type 0
 IsWordAt net s x b = (run : Run) → IsRun net run → (t : ℕ) → run.at t b.node ≡ run.word t s.node (run.at t x.node)
 
@@ -74,9 +80,11 @@ Takes net s write address value =
     → run.word (suc t) s.node k ≡ stored_of (run.at t write.node) (run.at t address.node) (run.at t value.node) k
     (run.word t s.node k)
 
+-- the register bits of a netlist grow by those of one register of this width
 abbrev pub AddsRegister : Net → Net → ℕ → Type 0
 AddsRegister old new width = register_bits_of new ≡ register_bits_of old + width
 
+-- the memory bits of a netlist grow by those of one memory of this size
 abbrev pub AddsMemory : Net → Net → ℕ → ℕ → Type 0
 AddsMemory old new address_bits width = memory_bits_of new ≡ memory_bits_of old + 2 ^ address_bits * width
 
@@ -97,6 +105,7 @@ PutsInput old new ports width = new ≡ old ++ Input (length ports) width ∷ []
 abbrev pub IsOpenRegister : List Node → ℕ → Type 0
 IsOpenRegister nodes at = (w : ℕ) × (reset : Option ℕ) × (slice_get nodes at ≡ Some (Register w reset None))
 
+-- this node is a memory that nothing writes yet
 abbrev pub IsOpenMemory : List Node → ℕ → Type 0
 IsOpenMemory nodes at = (a : ℕ) × (w : ℕ) × (slice_get nodes at ≡ Some (Memory a w None))
 
@@ -106,6 +115,7 @@ PutsNext old new at next =
     (w : ℕ) (reset : Option ℕ) → slice_get old at ≡ Some (Register w reset None)
     → new ≡ slice_set old at (Register w reset (Some next))
 
+-- a memory gets what writes it, and all other nodes stay
 abbrev pub PutsDrive : List Node → List Node → ℕ → MemoryDrive → Type 0
 PutsDrive old new at drive =
     (a w : ℕ) → slice_get old at ≡ Some (Memory a w None) → new ≡ slice_set old at (Memory a w (Some drive))

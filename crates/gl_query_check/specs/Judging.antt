@@ -20,6 +20,7 @@ pub record IsFixed (columns : List Column) (e : ExprTree) (kind : Kind) (fault :
   pub kind' : own_kind columns (expr_alike e) ≡ Some kind
   pub fault' : (place : Kind) → expr_fault columns place e ≡ fault
 
+-- what code knows of an expression is so: it has no kind of its own, or this kind and this fault
 abbrev pub Judges : List Column → ExprTree → Judged → Type 0
 Judges columns e Loose = own_kind columns (expr_alike e) ≡ None
 Judges columns e (Fixed kind fault) = IsFixed columns e kind fault

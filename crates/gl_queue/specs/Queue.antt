@@ -6,6 +6,7 @@ abbrev pub oldest : {A : Type 0} → List A → Option A
 oldest [] = None
 oldest (x ∷ xs) = Some x
 
+-- all entries but the oldest
 abbrev pub behind : {A : Type 0} → List A → List A
 behind [] = []
 behind (x ∷ xs) = xs

@@ -7,6 +7,7 @@ abbrev pub newer : {A : Type 0} → Option A → Option A → Option A
 newer None held = held
 newer (Some r) held = Some r
 
+-- a queue of one place: what came last stays until it leaves, and a push before that passes the place
 pub record IsSingle {A : Type 0} (push : ℕ → Option A) (go : ℕ → Bool) (shown : ℕ → Option A)
     (passed : ℕ → Bool) : Type 0 where
   pub first : shown 0 ≡ None

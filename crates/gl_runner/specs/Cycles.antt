@@ -86,6 +86,7 @@ pub record Driven : Type 0 where
   pub extra : ℕ
   pub cycle : ℕ
 
+-- the module that is driven
 abbrev pub design_of : Driven → Module
 design_of d = module_of d.sim.design
 

@@ -24,9 +24,11 @@ abbrev pub numbers_from : ℕ → List Declaration → List ℕ
 numbers_from n [] = []
 numbers_from n (d ∷ ds) = if bytes_eq d.name clk then numbers_from (n + 1) ds else n ∷ numbers_from (n + 1) ds
 
+-- the numbers of a module's ports, the clock left out
 abbrev pub numbers_of : Module → List ℕ
 numbers_of m = numbers_from 0 (take m.ports m.declarations)
 
+-- the widths of a module's ports, the clock left out
 abbrev pub widths_in : Module → List ℕ
 widths_in m = map (λ p. p.width) (ports_of m)
 
@@ -49,10 +51,12 @@ pub record IsRoomFor (face : Here) (w : DumpLines) : Type 0 where
   pub before' : widths_of w.before ≡ widths_in (module_of face)
   pub end' : w.end ≡ end_in (module_of face)
 
+-- the watcher has room for the module's ports and waits for the first cycle
 pub record IsInFront (face : Here) (w : DumpLines) : Type 0 where
   pub room : IsRoomFor face w
   pub next' : w.next ≡ 0
 
+-- the watcher holds no port of the module yet
 pub record IsEmptyFor (face : Here) (w : DumpLines) : Type 0 where
   pub can : CanDump face
   pub ports' : w.ports.items ≡ []

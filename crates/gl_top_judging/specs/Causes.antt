@@ -86,6 +86,7 @@ IsModuleFault schema text verilog.Memory = ⊥
 IsModuleFault schema text (verilog.BadPort at) = IsPortFault text schema at
 IsModuleFault schema text fault = IsFaultIn text fault
 
+-- a module's text has this fault, or memory ran out
 abbrev pub IsModuleFaultOrMemory : Schema → List ℕ → VerilogFault → Type 0
 IsModuleFaultOrMemory schema text fault = IsModuleFault schema text fault ⊎ (fault ≡ verilog.Memory)
 

@@ -25,18 +25,22 @@ abbrev pub schema_refusal : SchemaFault → Refusal
 schema_refusal schema.Memory = Memory
 schema_refusal fault = Schema fault
 
+-- a fault of a query as a refusal; want of memory is the refusal for that
 abbrev pub query_refusal : QueryFault → Refusal
 query_refusal query.Memory = Memory
 query_refusal fault = Query fault
 
+-- a fault of a module as a refusal; want of memory is the refusal for that
 abbrev pub verilog_refusal : VerilogFault → Refusal
 verilog_refusal verilog.Memory = Memory
 verilog_refusal fault = Verilog fault
 
+-- a fault of a tuple file as a refusal; want of memory is the refusal for that
 abbrev pub tuples_refusal : TupleFault → Refusal
 tuples_refusal tuples.Memory = Memory
 tuples_refusal fault = Tuples fault
 
+-- a fault of a dump as a refusal
 abbrev pub dump_refusal : VcdFault → Refusal
 dump_refusal fault = Dump fault
 

@@ -39,5 +39,6 @@ Fit (s ∷ ss) (r ∷ rs) = IfSome r (λ words. widths_of words ≡ s) × Fit ss
 abbrev pub IsNarrow : ℕ → Type 0
 IsNarrow width = width ≤ 64
 
+-- every column has few enough bits for a word
 abbrev pub AreNarrow : List (List ℕ) → Type 0
 AreNarrow shape = AllByRecursion (AllByRecursion IsNarrow) shape

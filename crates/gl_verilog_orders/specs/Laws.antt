@@ -79,5 +79,6 @@ pub record IsSeen (m : Module) (value : ℕ → Nets) (word : ℕ → Memories) 
   pub same : (t : ℕ) → SameNets m.declarations (value t) (value' t)
       × SameState m.declarations (value t) (word t) (value' t) (word' t)
 
+-- every two-phase run of a module is seen in some order of its events
 abbrev pub RunsAreSeen : Module → Type 0
 RunsAreSeen m = (value : ℕ → Nets) (word : ℕ → Memories) → IsRun m value word → IsSeen m value word

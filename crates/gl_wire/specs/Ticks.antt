@@ -11,6 +11,7 @@ ticks_before tick a zero = 0
 ticks_before tick a (suc c) =
     if a.ends c then 0 else (if tick c then suc (ticks_before tick a c) else ticks_before tick a c)
 
+-- the ticks since the end before, the cycle's own among them
 abbrev pub ticks_at : (ℕ → Bool) → Carried → ℕ → ℕ
 ticks_at tick a c = if tick c then suc (ticks_before tick a c) else ticks_before tick a c
 
@@ -19,11 +20,13 @@ abbrev pub times_of : Option Row → ℕ → List ℕ
 times_of None time = []
 times_of (Some r) time = time ∷ []
 
+-- the times of the tuples since the end before, the cycle's own left out
 abbrev pub times_before : (ℕ → Bool) → Carried → ℕ → List ℕ
 times_before tick a zero = []
 times_before tick a (suc c) =
     if a.ends c then [] else times_before tick a c ++ times_of (a.tuple c) (ticks_at tick a c)
 
+-- the times of the tuples since the end before, the cycle's own among them
 abbrev pub times_at : (ℕ → Bool) → Carried → ℕ → List ℕ
 times_at tick a c = times_before tick a c ++ times_of (a.tuple c) (ticks_at tick a c)
 
