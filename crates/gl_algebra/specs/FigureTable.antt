@@ -172,7 +172,7 @@ spaced gap f = if needs_spacer gap f then spacer_figures gap f else f
 abbrev pub stride_of : Figures → ℕ
 stride_of body = body.le - body.a + 1
 
--- the cycles that a window's copy, or a group's, needs from one tuple to the next
+-- the cycles that a window's copy needs from one tuple to the next
 abbrev pub window_gap : Figures → ℕ
 window_gap body = max body.gt body.ge
 

@@ -79,7 +79,7 @@ latency_of nodes root = (root_figures nodes root).le + 1
 abbrev pub gap_of : List PlanNode → ℕ → ℕ
 gap_of nodes root = (root_figures nodes root).gt
 
--- their weight, their registers and their memories
+-- what the further copies of a root add in weight
 abbrev pub further_weight : List PlanNode → ℕ → ℕ
 further_weight nodes root =
     of_further (part_of_copy (shape_of nodes) (weight_of nodes) (lines_of (shape_of nodes root))) nodes root
@@ -106,13 +106,13 @@ abbrev pub copies_with_spare : List PlanNode → ℕ → ℕ
 copies_with_spare nodes root =
     copies_of nodes root + of_further (λ node. 1 + of_body (copies_of nodes) node) nodes root
 
--- the most register bits, and the most memory bits, of the circuit of a plan
+-- the most register bits of the circuit of a plan, those of keys among them
 abbrev pub most_registers : List PlanNode → ℕ → ℕ
 most_registers nodes root =
     64 * (lean_of nodes root + further_lean nodes root + output_part nodes root)
     + (keys_of nodes root + further_keys nodes root)
 
--- the memory bits of a whole plan, with the further copies of its root
+-- the most memory bits of the circuit of a plan, those of the root's further copies among them
 abbrev pub most_memory : List PlanNode → ℕ → ℕ
 most_memory nodes root = store_of nodes root + further_store nodes root
 

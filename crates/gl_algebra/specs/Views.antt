@@ -52,7 +52,7 @@ copies_in node = 0
 abbrev pub of_body : (ℕ → ℕ) → PlanNode → ℕ
 of_body values node = unwrap_or (option_map values (body_of node)) 0
 
--- whether a node is a window of time, and whether one of these is
+-- whether a node is a window of time
 abbrev pub is_time : PlanNode → Bool
 is_time (TimeWindow source body size advance) = true
 is_time node = false

@@ -11,7 +11,7 @@ count_of xs = length xs % 2 ^ 32
 unfoldable pub sum_total : ℕ → List ℕ → ℕ
 sum_total width xs = sum xs % 2 ^ width
 
--- of two words of a kind the lesser, or the greater, by their numbers
+-- the lesser of two words of one kind, by the numbers that they stand for
 abbrev pub lesser : Kind → ℕ → ℕ → ℕ
 lesser kind x y = if is_below kind y x then y else x
 

@@ -30,7 +30,7 @@ abbrev pub bit : Bool → ℕ
 bit true = 1
 bit false = 0
 
--- sum, difference and product wrap in the width
+-- the sum of two words, modulo two to the power of the width
 unfoldable pub sum_of : ℕ → ℕ → ℕ → ℕ
 sum_of w x y = (x + y) % 2 ^ w
 
@@ -46,7 +46,7 @@ product_of w x y = (x * y) % 2 ^ w
 unfoldable pub not_of : ℕ → ℕ → ℕ
 not_of w x = 2 ^ w - 1 - x
 
--- comparisons are those of numbers, and give one bit
+-- one bit that tells whether two words are equal
 unfoldable pub eq_of : ℕ → ℕ → ℕ
 eq_of x y = bit (nat_eq x y)
 

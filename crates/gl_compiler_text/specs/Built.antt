@@ -30,8 +30,7 @@ statement_figures schema statement =
     figures_unless (spare_at at.nodes at.root) (query_figures schema.streams (query_shape statement.query))
     (root_figures at.nodes at.root)
 
--- the cycles from the last beat to the end of the result, which comes one cycle behind the query's, and from one beat
--- to the next
+-- the cycles from the last beat to the end of the result, which comes one cycle behind the query's
 abbrev pub latency_of : Schema → Statement → ℕ
 latency_of schema statement = (statement_figures schema statement).le + 1
 

@@ -25,7 +25,7 @@ pub record Division : Type 0 where
   pub rest : ℕ
   pub bottom : ℕ
 
--- the digit that comes next, and whether the bottom fits into it with what is left
+-- the digit that comes next
 abbrev pub next_digit : ℕ → Division → Bool
 next_digit width d = highest width d.digits
 

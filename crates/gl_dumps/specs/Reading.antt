@@ -111,7 +111,7 @@ width_by r t width = if nat_eq width 0 || nat_lt 128 width then Err (TooWide t.a
 abbrev pub width_next : Reading → Token → Step
 width_next r t = only (is_number t.bytes) t (width_by r t (number_in t.bytes))
 
--- an identifier, and a name, that no signal has
+-- an identifier is no `$end`, and no earlier signal has it
 abbrev pub code_next : Reading → ℕ → Token → Step
 code_next r width t =
     only (not (is t (codes "$end"))) t
@@ -171,7 +171,7 @@ abbrev pub scalar_next : Reading → ℕ → ℕ → List ℕ → Step
 scalar_next r at value [] = Err (Syntax at)
 scalar_next r at value (c ∷ cs) = given r at value (c ∷ cs)
 
--- the number that binary digits spell
+-- a byte that is the digit 0 or 1
 abbrev pub is_bit : ℕ → Bool
 is_bit b = nat_eq b 48 || nat_eq b 49
 
@@ -179,7 +179,7 @@ is_bit b = nat_eq b 48 || nat_eq b 49
 abbrev pub binary_in : List ℕ → ℕ
 binary_in digits = fold (λ n b. 2 * n + (b - 48)) 0 digits
 
--- `b` and binary digits, behind a first time; the identifier is the next token
+-- binary digits, at least one
 abbrev pub are_bits : List ℕ → Bool
 are_bits [] = false
 are_bits (d ∷ ds) = list_all is_bit (d ∷ ds)
@@ -194,7 +194,7 @@ abbrev pub first_time : Reading → ℕ → List ℕ → Step
 first_time r at digits =
     if bytes_eq digits (codes "0") then Ok (record r { time = Some 0 }) else Err (Syntax at)
 
--- a later time is above the one before; behind time 0 each signal has a value
+-- the time is still 0, and some signal has no value yet
 abbrev pub lacks_value : Reading → ℕ → Bool
 lacks_value r time = nat_eq time 0 && not (all_given r.changes (length r.signals))
 

@@ -39,7 +39,7 @@ abbrev pub all_given : List Change → ℕ → Bool
 all_given changes zero = true
 all_given changes (suc n) = is_some (value_at changes n 0) && all_given changes n
 
--- the number of the signal with an identifier, and of that with a name
+-- the number of the signal with this identifier
 abbrev pub number_of_code : List Signal → List ℕ → Option ℕ
 number_of_code signals code = position (λ s. bytes_eq s.code code) signals
 

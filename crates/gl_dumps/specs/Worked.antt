@@ -17,7 +17,7 @@ shown_by (Err fault) = Err fault
 abbrev pub shows : List ℕ → Result (List ℕ) VcdFault
 shows text = shown_by (dump_of text)
 
--- a scope, one with what shows a result without columns, and the end of both
+-- the beginning of a dump, in which the one scope opens
 abbrev pub scope : List ℕ
 scope = codes "$scope module q $end "
 

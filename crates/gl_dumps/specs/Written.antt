@@ -30,7 +30,7 @@ line text = text ++ 10 ∷ []
 abbrev pub code_of : ℕ → List ℕ
 code_of i = (33 + i / 94) ∷ (33 + i % 94) ∷ []
 
--- the declarations of ports, from a number on
+-- the line that declares a port, under the identifier of its number
 abbrev pub declaration : ℕ → Port → List ℕ
 declaration i p = line (codes "$var wire " ++ decimal p.width ++ 32 ∷ (code_of i ++ 32 ∷ (p.name ++ codes " $end")))
 
@@ -69,7 +69,7 @@ abbrev pub is_new : Option (List Word) → ℕ → Word → Bool
 is_new None i w = true
 is_new (Some before) i w = differs (slice_get before i) w
 
--- the changes of a row, from a place on, and whether there are some
+-- the lines of the ports that changed, from a place of the row on
 abbrev pub changes : Option (List Word) → ℕ → List Word → List ℕ
 changes before i [] = []
 changes before i (w ∷ ws) = (if is_new before i w then change i w else []) ++ changes before (i + 1) ws

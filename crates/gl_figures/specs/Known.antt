@@ -28,7 +28,7 @@ capped n = min n (2 ^ 62)
 abbrev pub capped_at : (ℕ → ℕ) → ℕ → ℕ
 capped_at value number = capped (value number)
 
--- the own part, and the weight, of a node that has so many lines, from the capped weights of the nodes that it names
+-- the own part of a node with this many lines, from the capped weights of the nodes that it names
 abbrev pub own_weight_by : List PlanNode → ℕ → PlanNode → ℕ
 own_weight_by nodes lines node = own_weight (shape_of nodes) (figures_of nodes) (capped_at (weight_of nodes)) lines node
 

@@ -18,7 +18,7 @@ total_of_group = aggregate_figures 1 (group_figures 1 input_figures (aggregate_f
 abbrev pub spares : ℕ → ℕ → ℕ → Option Spare
 spares copies gap shift = Some (record { copies = copies; gap = gap; shift = shift })
 
--- over a stream, and how many cycles after the last beat the end leaves a circuit
+-- the spare copies of windows over a stream
 abbrev pub over_stream : ℕ → ℕ → Figures → Option Spare
 over_stream size advance body = spare_of size advance input_figures body
 

@@ -38,11 +38,11 @@ query_text =
     codes "SELECT count() AS n, sum(volume) AS v, max(price) AS top "
     ++ codes "FROM trades [SIZE 600 ADVANCE 60 TUPLES] WHERE symbol = 'UBSN' INTO load"
 
--- a name and a number, each with the byte where it stands
+-- a name with the byte where it stands
 abbrev pub name : List ℕ → ℕ → Name
 name text at = record { text = text; at = at }
 
--- a number with its place in the query's text
+-- a number with the byte where it stands
 abbrev pub number : ℕ → ℕ → Num
 number value at = record { value = value; at = at }
 

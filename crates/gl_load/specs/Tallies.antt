@@ -21,7 +21,7 @@ lines_of (b ∷ bs) = if b == 10 then [] ∷ lines_of bs else in_front b (lines_
 abbrev pub comma_in : List ℕ → Option ℕ
 comma_in line = position (λ b. b == 44) line
 
--- the bytes before a place, and those behind it; without a place all, and none
+-- the bytes before a place of a line; all of them where there is no such place
 abbrev pub before_place : List ℕ → Option ℕ → List ℕ
 before_place line None = line
 before_place line (Some k) = take k line

@@ -101,7 +101,7 @@ PutsPort old new direction name node =
 abbrev pub PutsInput : List Node → List Node → List Port → ℕ → Type 0
 PutsInput old new ports width = new ≡ old ++ Input (length ports) width ∷ []
 
--- a register, or a memory, that nothing drives stands at the place
+-- this node is a register that nothing drives yet
 abbrev pub IsOpenRegister : List Node → ℕ → Type 0
 IsOpenRegister nodes at = (w : ℕ) × (reset : Option ℕ) × (slice_get nodes at ≡ Some (Register w reset None))
 

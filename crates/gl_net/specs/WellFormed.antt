@@ -13,7 +13,7 @@ use Rattle.gl_net.specs.declared.node.Direction.{Direction}
 use Rattle.gl_net.specs.declared.node.Direction.TheVariants.{In, Out}
 use Rattle.gl_net.specs.Net.{Net, Value, shape_in, IsBus, IsBit, IsStore, IsAddressWidth}
 
--- the node with the number n reads a bus, a bit or a store, which stands before it
+-- a node reads a bus that stands before it
 pub record ReadsBus (net : Net) (n : ℕ) (b : Bus) : Type 0 where
   pub before : b.node < n
   pub bus : IsBus net b

@@ -16,7 +16,7 @@ pub record Held : Type 0 where
   pub misses : ℕ
   pub last : Option (List ℕ)
 
--- no text yet, and one more
+-- no text is there yet and none was missing, while these are the known names
 abbrev pub no_texts : List (List ℕ) → Held
 no_texts names = record { names = names; texts = []; misses = 0; last = None }
 

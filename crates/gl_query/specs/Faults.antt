@@ -95,7 +95,7 @@ abbrev pub of_operands : Bool → Bool → Option QueryFault → Option QueryFau
 of_operands left_loose right_loose left right =
     if left_loose && not right_loose then or_else right left else or_else left right
 
--- the first fault of an expression in a place: those of its operands from the left, then its operator's own
+-- the first fault of an expression in a place; the faults of operands stand before their operator's own
 abbrev pub expr_fault : List NamedColumn → Kind → ExprTree → Option QueryFault
 expr_fault columns place (Column name) = unless (has_column columns name.text) (UnknownColumn name.at)
 expr_fault columns place (Number n) = number_fault place n

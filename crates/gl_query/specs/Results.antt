@@ -78,7 +78,7 @@ said_of said none env name = unwrap_or (option_map said (find (λ (s : Source). 
 abbrev pub rows_of : Env → List ℕ → List Row
 rows_of env name = said_of (λ (s : Source). s.rows) [] env name
 
--- the times of the rows of a query that is a source itself, and the ticks that it sees
+-- the times of the rows of a query that is a source itself; none for any other query
 abbrev pub times_in : Env → QueryShape → List ℕ
 times_in env (shape.Read name) = said_of (λ (s : Source). s.times) [] env name
 times_in env q = []

@@ -36,7 +36,7 @@ pub data AggShape : Type 0 where
   Avg : (e : ExprShape) → AggShape
   Wsum : (e : ExprShape) (weights : List ℕ) → AggShape
 
--- an item of a select, or an aggregate, under its name
+-- an expression of a select and the name of its column
 pub record ItemShape : Type 0 where
   pub expr : ExprShape
   pub name : List ℕ

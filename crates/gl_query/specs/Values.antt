@@ -44,7 +44,7 @@ own_kind columns (shape.Not e) = Some (Unsigned 1)
 own_kind columns (shape.Cast kind e) = Some kind
 own_kind columns (shape.Binary op l r) = operator_kind (sort_of op) (own_kind columns l) (own_kind columns r)
 
--- an expression made of literals alone is loose: it has no kind until its place gives one
+-- an expression is loose where it has no kind of its own and takes the one that its place gives
 abbrev pub is_loose : List Column → ExprShape → Bool
 is_loose columns e = is_none (own_kind columns e)
 

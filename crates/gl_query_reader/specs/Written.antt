@@ -104,8 +104,7 @@ level (Cast at open' e word kind) = 0
 level (Not at e) = 4
 level (Binary o at l r) = looseness o
 
--- an expression is written by the grammar: operands bind tighter than their operator, and a conversion's word names a
--- kind
+-- an expression is written by the grammar: operands bind tightly enough for their operator, and a CAST names a kind
 abbrev pub IsExpr : Expr → Type 0
 IsExpr (Column name) = Unit {0}
 IsExpr (Number n) = Unit {0}

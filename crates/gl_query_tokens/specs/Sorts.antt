@@ -33,7 +33,7 @@ abbrev pub is_plain : Plain → Token → Bool
 is_plain plain (token.Plain other) = plain_eq other plain
 is_plain plain t = false
 
--- the name, the number, and the place of the bracket or the keyword that a token is
+-- the name that a token is, if it is one
 abbrev pub name_in : Token → Option Name
 name_in (token.Name name) = Some name
 name_in t = None

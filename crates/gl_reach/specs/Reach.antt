@@ -27,7 +27,7 @@ reaches nodes number id = nat_eq number id || lies_below nodes id number
 abbrev pub reached : List PlanNode → List ℕ → ℕ → Bool
 reached nodes roots id = list_any (λ root. reaches nodes root id) roots
 
--- the sum of the values of the numbers below a limit, and of those that pass a test
+-- the sum of the values of the numbers below a limit
 abbrev pub sum_to : (ℕ → ℕ) → ℕ → ℕ
 sum_to value zero = 0
 sum_to value (suc limit) = sum_to value limit + value limit
@@ -36,7 +36,7 @@ sum_to value (suc limit) = sum_to value limit + value limit
 abbrev pub sum_where : (ℕ → Bool) → (ℕ → ℕ) → ℕ → ℕ
 sum_where test value limit = sum_to (λ id. if test id then value id else 0) limit
 
--- a node's own part of the weight, of the registers, of the bits of keys, of the memories
+-- a node's own part of some total, which may depend on the lines of its wire
 abbrev pub part_at : (ℕ → PlanNode → ℕ) → List PlanNode → ℕ → ℕ
 part_at own nodes number =
     value_at_node (λ node. own (lines_of (shape_from (shape_of nodes) node)) node) 0 (slice_get nodes number)

@@ -22,7 +22,7 @@ pub record IsDumpOf (m : Module) (beats : List Beat) (port : PortValues) (bytes 
   pub is : IsEnd beats (result_names m) port ended
   pub all : bytes ≡ dump_text m.name (ports_of m) (rows_to (ports_of m) port ended)
 
--- they were written, or a front of them
+-- a dump of the run was written
 pub record DumpsWhole (m : Module) (beats : List Beat) (port : PortValues) (old new : Option (List ℕ)) : Type 0 where
   pub bytes : List ℕ
   pub are : IsDumpOf m beats port bytes

@@ -54,7 +54,7 @@ lines_as name kinds told s =
     (if s.group && not told then line_as name s.cycle (codes ",overflow\n") else [])
     ++ (row_as name kinds s.cycle s.row ++ (if s.end then line_as name s.cycle (codes ",end\n") else []))
 
--- of all results in a cycle, and in the cycles up to one
+-- the lines of one result in a cycle
 abbrev pub lines_in : PortValues → ℕ → Face → List ℕ
 lines_in port n f = lines_as f.name (kinds_of f.columns) (told_by f port n) (shown_by f port n)
 

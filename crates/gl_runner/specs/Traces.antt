@@ -26,8 +26,7 @@ abbrev pub HasNoEnd : List Beat → List (List ℕ) → PortValues → ℕ → T
 HasNoEnd beats outs port extra =
     (k : ℕ) → last_cycle beats ≤ k → k ≤ last_cycle beats + extra → IsFalse (shown port outs k).end
 
--- the last cycle that is run: the first from the last beat's on in which the end is seen, if it comes in time; else the
--- last that is waited for
+-- the trace ends in the first cycle from the last beat's on in which the end is seen, while it is waited for
 pub record EndsIn (beats : List Beat) (outs : List (List ℕ)) (port : PortValues) (extra n : ℕ) : Type 0 where
   pub is : IsEnd beats outs port n
   pub in_time : n ≤ last_cycle beats + extra
@@ -41,7 +40,7 @@ pub record RunsOut (beats : List Beat) (outs : List (List ℕ)) (port : PortValu
 abbrev pub IsLastRun : List Beat → List (List ℕ) → PortValues → ℕ → ℕ → Type 0
 IsLastRun beats outs port extra n = EndsIn beats outs port extra n ⊎ RunsOut beats outs port extra n
 
--- the lines up to a cycle were written, or, up to the last cycle that is run, a front of them
+-- the lines of a trace up to a cycle were written
 abbrev pub WritesTo : List Kind → List (List ℕ) → PortValues → ℕ → Option (List ℕ) → Option (List ℕ) → Type 0
 WritesTo kinds outs port n old new = Appends old new (lines kinds (seen port outs n))
 

@@ -60,7 +60,7 @@ pub record AreFirst (kinds : List Kind) (shows : Shows) (w : ResultLines) : Type
   pub told' : w.told ≡ false
   pub ended' : w.ended ≡ false
 
--- of a dump: the row of the ports in the cycle, behind that of the cycle before
+-- what a dump tells of a cycle: the word on each port
 abbrev pub row_in : List Port → PortValues → ℕ → List Word
 row_in ports port n = map (λ p. record { bits = value_at port (suc n) p.name; width = p.width }) ports
 

@@ -98,8 +98,7 @@ KeepsGap gap (b ∷ c ∷ bs) = (b.cycle + gap ≤ c.cycle) × KeepsGap gap (c �
 abbrev pub beat_at : List Beat → ℕ → Option Beat
 beat_at beats n = find (λ b. b.cycle == n) beats
 
--- what comes in a cycle: the rows of its beat, one entry for each stream or none at all, whether the end does, and
--- whether a tick does
+-- the rows of a cycle's beat, one entry for each stream, or none at all
 abbrev pub rows_at : List Beat → ℕ → List (Option (List ℕ))
 rows_at beats n = option_map_or (λ b. b.rows) (beat_at beats n) []
 

@@ -8,7 +8,7 @@ use Rattle.gl_schema.specs.declared.schema.Stream.{Stream}
 use Rattle.gl_schema.specs.declared.schema.Schema.{Schema}
 use Rattle.gl_schema.specs.Beats.{Beat, rows_at, ends_at, ticks_at}
 
--- the names of the ports: reset, the end of the input, and a tick
+-- the input port of the reset
 unfoldable pub rst : List ℕ
 rst = codes "rst"
 
@@ -20,7 +20,7 @@ eos = codes "eos"
 unfoldable pub tick : List ℕ
 tick = codes "tick"
 
--- of a stream: whether a tuple comes, and its columns
+-- the input port that says whether a tuple of a stream comes
 unfoldable pub in_valid : List ℕ → List ℕ
 in_valid stream = codes "in__" ++ stream ++ codes "__valid"
 
@@ -28,7 +28,7 @@ in_valid stream = codes "in__" ++ stream ++ codes "__valid"
 unfoldable pub in_column : List ℕ → List ℕ → List ℕ
 in_column stream column = codes "in__" ++ stream ++ codes "__" ++ column
 
--- of the result: whether a row leaves, its columns, and the end
+-- the output port that says whether a row of the result leaves
 unfoldable pub out_valid : List ℕ
 out_valid = codes "out__valid"
 
@@ -40,7 +40,7 @@ out_column column = codes "out__" ++ column
 unfoldable pub out_eos : List ℕ
 out_eos = codes "out__eos"
 
--- that a further group came, and that a queue overflowed
+-- the output port that shows that a further group came
 unfoldable pub fault_group : List ℕ
 fault_group = codes "fault__group"
 

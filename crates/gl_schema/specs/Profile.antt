@@ -29,7 +29,7 @@ input name width = record { direction = In; name = name; width = width }
 abbrev pub output : List ℕ → ℕ → ProfilePort
 output name width = record { direction = Out; name = name; width = width }
 
--- the inputs of a stream: whether a tuple comes, and its columns
+-- the input ports of a stream's columns
 abbrev pub column_inputs : List ℕ → List Column → List ProfilePort
 column_inputs stream [] = []
 column_inputs stream (c ∷ cs) = input (in_column stream c.name) (width_of c.kind) ∷ column_inputs stream cs

@@ -10,7 +10,7 @@ use Rattle.gl_schema.specs.declared.schema.Schema.{Schema}
 use Rattle.gl_schema.specs.Names.{IsName}
 use Rattle.gl_schema.specs.Written.{is_written}
 
--- the names of columns and of streams, in order
+-- the names of columns in their order
 abbrev pub column_names : List Column → List (List ℕ)
 column_names columns = map (λ c. c.name) columns
 
@@ -18,7 +18,7 @@ column_names columns = map (λ c. c.name) columns
 abbrev pub stream_names : List Stream → List (List ℕ)
 stream_names streams = map (λ s. s.name) streams
 
--- a column, or a stream, has this name
+-- some column has this name
 unfoldable pub has_column : List Column → List ℕ → Bool
 has_column columns name = list_any (λ c. bytes_eq name c.name) columns
 

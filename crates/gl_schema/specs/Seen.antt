@@ -88,7 +88,7 @@ values_text (k ∷ ks) (v ∷ vs) = 44 ∷ (printed k v ++ values_text ks vs)
 unfoldable pub line_of : ℕ → List Kind → List ℕ → List ℕ
 line_of cycle kinds row = decimal cycle ++ values_text kinds row ++ 10 ∷ []
 
--- the line that says that a further group came, and that of the end
+-- the line that says that a further group came
 unfoldable pub overflow_line : ℕ → List ℕ
 overflow_line cycle = decimal cycle ++ codes ",overflow" ++ 10 ∷ []
 

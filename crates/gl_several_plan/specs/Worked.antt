@@ -11,7 +11,7 @@ use Rattle.gl_query.specs.Shapes as shape
 use Rattle.gl_elaborate.specs.Plans.{Several, plans_of}
 use Rattle.gl_several_plan.specs.Together.{gap_together, latency_alone, weight_together}
 
--- a symbol, a price and a volume
+-- a column of this name and kind
 abbrev pub column : List ℕ → Kind → NamedColumn
 column name kind = record { name = name; kind = kind }
 

@@ -78,7 +78,7 @@ pub record IsAggOf (old new : Net) (stages cycles : ℕ) (s : Stream) (agg : Pla
       → (t : ℕ) → IsFresh (lane_by run s.rows) (suc t)
       → run.at (suc t + cycles) out.node ≡ total_of s.source.kinds.now (rows_at run s (suc t)) agg
 
--- the row of all aggregates of some rows, and the widths of its columns
+-- the row of all aggregates over some rows
 abbrev pub total_row : List Kind → List PlanAgg → List Row → Row
 total_row kinds aggs rows = map (total_of kinds rows) aggs
 

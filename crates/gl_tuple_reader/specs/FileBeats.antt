@@ -116,7 +116,7 @@ abbrev pub number_of_records : ℕ → List (List (List ℕ)) → Option ℕ
 number_of_records cycle [] = if 0 == cycle then Some 0 else None
 number_of_records cycle (r ∷ rs) = number_from 1 cycle (r ∷ rs)
 
--- the beat of a cycle: its number, its row of stream k, and whether it has a tick
+-- the number of the beat of a cycle, if there is one
 abbrev pub number_at : List Beat → ℕ → Option ℕ
 number_at beats cycle = option_map (λ b. b.number) (find (λ b. b.cycle == cycle) beats)
 

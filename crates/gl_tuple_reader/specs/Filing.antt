@@ -49,7 +49,7 @@ beat_with number beat (Tuple k row) =
     if has_row beat.rows k then Err (StreamTwice number)
     else Ok (record beat { rows = slice_set beat.rows k (Some row) })
 
--- the beats that are whole in front of a cycle, and the beat of the cycle
+-- the beats that are whole before a cycle
 abbrev pub whole_before : ℕ → List Beat → Option Beat → List Beat
 whole_before cycle whole None = whole
 whole_before cycle whole (Some beat) = if beat.cycle == cycle then whole else whole ++ beat ∷ []

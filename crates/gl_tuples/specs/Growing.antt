@@ -7,11 +7,11 @@ use Rattle.gl_schema.specs.declared.schema.Schema.{Schema}
 use Rattle.gl_schema.specs.declared.schema.Stream.{Stream}
 use Rattle.gl_tuples.specs.declared.beats.Beat.{Beat}
 
--- the bits of the columns of a stream, and of each stream of a schema
+-- the bits of each column of a stream
 abbrev pub columns_of : Stream → List ℕ
 columns_of s = map (λ c. width_of c.kind) s.columns
 
--- the columns of each stream of a schema
+-- the bits of each column of each stream of a schema
 abbrev pub shape_of : Schema → List (List ℕ)
 shape_of schema = map columns_of schema.streams
 

@@ -13,7 +13,7 @@ use Rattle.gl_schema.specs.Schemas.{text_word}
 unfoldable pub is_utf8 : List ℕ → Bool
 is_utf8 field = utf8_valid_len field == length field
 
--- one or more decimal digits
+-- each byte is a decimal digit
 unfoldable pub are_digits : List ℕ → Bool
 are_digits field = list_all is_digit field
 

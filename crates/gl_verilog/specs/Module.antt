@@ -73,7 +73,7 @@ abbrev pub number_of : List Declaration → List ℕ → Option ℕ
 number_of [] name = None
 number_of (d ∷ ds) name = if bytes_eq d.name name then Some 0 else option_map (λ n. n + 1) (number_of ds name)
 
--- what each net holds, and each word of each memory
+-- what each net holds, by the net's number
 abbrev pub Nets : Type 0
 Nets = ℕ → ℕ
 
@@ -133,7 +133,7 @@ written v m (Write memory address value) k at =
 written v m (Both first second) k at = later_or (written v m second k at) (written v m first k at)
 written v m (If test yes' no') k at = taken (value_of v m test) (written v m yes' k at) (written v m no' k at)
 
--- the same for all blocks; no two blocks of a valid module assign one register
+-- what all blocks assign to a register at an edge, if any does; no two blocks of a valid module assign one
 abbrev pub assigned_by : Nets → Memories → List Statement → ℕ → Option ℕ
 assigned_by v m [] r = None
 assigned_by v m (b ∷ bs) r = later_or (assigned_by v m bs r) (assigned v m b r)

@@ -50,7 +50,7 @@ declared_all kind range s k [] = Ok s
 declared_all kind range s k (n ∷ ns) =
     then' (declared s k (declare kind range n)) (λ s'. declared_all kind range s' (k + 2) ns)
 
--- the tokens of a range, and of a direction
+-- how many tokens a range has
 abbrev pub range_size : Range → ℕ
 range_size None = 0
 range_size (Some high) = 5
@@ -115,7 +115,7 @@ with_assignment e k name n t = record e {
   end = t.end + 1;
 }
 
--- a block begins, and ends: what it drives has a driver
+-- where a block begins, none of its names is driven before a statement
 abbrev pub block_begins : Drivers → Drivers
 block_begins v = record v { before = [] }
 

@@ -54,7 +54,7 @@ abbrev pub or_breaks : {A : Type 0} → Rule → ℕ → Option A → Result A B
 or_breaks rule token None = breaks rule token
 or_breaks rule token (Some x) = Ok x
 
--- a name at a target or a clock, and in an expression
+-- a name at a target or at a clock is declared
 abbrev pub named : List Declaration → ℕ → List ℕ → Result Known Broken
 named ds k name = or_breaks Undeclared k (known ds name)
 
@@ -98,7 +98,7 @@ judged_select ds k name high low end =
     (asks WidthsDiffer k (d.is_vector && (nat_le low high && nat_lt high d.width))
     (Ok (typed (Select high low d.number) (high + 1 - low) end))))
 
--- a memory that is indexed, and its word
+-- a name that is read as a memory is one
 abbrev pub judged_memory : List Declaration → ℕ → List ℕ → Result Known Broken
 judged_memory ds k name = then' (read ds k name) (λ d. asks BadMemory k (is_memory_kind d.kind) (Ok d))
 

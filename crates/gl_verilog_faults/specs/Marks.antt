@@ -154,7 +154,7 @@ next (Index d) t = inside Index Aims d (turn t)
 next (Test d) t = inside Test Ground d (turn t)
 next Value t = in_value (turn t)
 
--- the roles of tokens, and the state behind them
+-- the roles of tokens, where the reader stands in this state before them
 abbrev pub marks : State → List Token → List Role
 marks s [] = []
 marks s (t ∷ ts) = role_at s t ∷ marks (next s t) ts

@@ -78,7 +78,7 @@ pub data Stage : Type 0 where
 
 -- ---- tests of tokens
 
--- the number of a sign, and of a reserved word, in the order of their declarations
+-- each sign has its own number
 abbrev pub sign_number : Sign → ℕ
 sign_number OpenParen = 0
 sign_number CloseParen = 1

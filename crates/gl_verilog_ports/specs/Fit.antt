@@ -51,7 +51,7 @@ first_bad schema n columns [] = None
 first_bad schema n columns (d ∷ ds) =
     if is_bad schema columns d then Some n else first_bad schema (n + 1) (with_port columns d) ds
 
--- the number of the input of a name, and of the output
+-- the place of the input of a name among the ports
 abbrev pub input_at : List Declaration → List ℕ → Option ℕ
 input_at [] name = None
 input_at (d ∷ ds) name =

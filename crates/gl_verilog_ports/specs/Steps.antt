@@ -15,7 +15,7 @@ behind [] name = Some name
 behind (x ∷ front) [] = None
 behind (x ∷ front) (y ∷ name) = if x == y then behind front name else None
 
--- the name of a stream's valid line, and of a column
+-- a name is `in__`, a stream, and `__valid`
 abbrev pub is_valid_name : List ℕ → List ℕ → Bool
 is_valid_name stream name =
     option_map_or (λ rest. option_map_or (λ last. bytes_eq (codes "__valid") last) (behind stream rest) false)

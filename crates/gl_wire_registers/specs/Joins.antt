@@ -23,7 +23,7 @@ cost_of_back copies own = record {
   memories = 0;
 }
 
--- the wires of copies, and what they give
+-- the wires of copies, in their order
 abbrev pub wires_of : List Emitted → List Wire
 wires_of copies = map (λ e. e.wire) copies
 
