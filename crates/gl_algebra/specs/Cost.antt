@@ -27,8 +27,8 @@ ring depth = 2 ^ least_exponent depth 1 depth
 abbrev pub lean_of_spacer : ℕ → Figures → ℕ → ℕ
 lean_of_spacer gap f lines = if needs_spacer gap f then 8 * lines else 0
 
--- those of so many groups over a body that counts so much, between lines of a source and own ones: a direct body stands
--- once, and a table of its totals behind it
+-- what groups count in registers: a direct body counts once, with a table of its totals behind it; any other body
+-- counts for each slot
 abbrev pub lean_of_groups : Form → ℕ → ℕ → ℕ → ℕ → ℕ
 lean_of_groups copied groups body source own = weight_of_copies groups body source own
 lean_of_groups rowwise groups body source own = weight_of_copies groups body source own

@@ -64,7 +64,7 @@ delay_of_agg kinds (Max operand) = 1
 delay_of_agg kinds (Avg operand) = width_of (kind_of_operand kinds operand) + 34
 delay_of_agg kinds (Wsum operand weights) = 1
 
--- that of the slowest
+-- the cycles of the slowest aggregate, at least 1
 abbrev pub delay_of_aggs : List Kind → List PlanAgg → ℕ
 delay_of_aggs kinds [] = 1
 delay_of_aggs kinds (agg ∷ aggs) = max (delay_of_agg kinds agg) (delay_of_aggs kinds aggs)

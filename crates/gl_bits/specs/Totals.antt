@@ -48,6 +48,6 @@ weighted [] xs = 0
 weighted (n ∷ weights) [] = 0
 weighted (n ∷ weights) (x ∷ xs) = n * x + weighted weights xs
 
--- their sum, which wraps in the width
+-- the sum of values by their weights, modulo two to the power of the width
 unfoldable pub weighted_sum : ℕ → List ℕ → List ℕ → ℕ
 weighted_sum width weights xs = weighted weights xs % 2 ^ width

@@ -265,7 +265,7 @@ next_at (Vector at digits) r t = given r at (binary_in digits) t.bytes
 unfoldable pub next : Reading → Token → Step
 next r t = next_at r.stage r t
 
--- at the end of a text of this length a time has come, each signal has a value, and nothing is begun
+-- at the end of a text of this length a time has come, and each signal has a value
 abbrev pub end_by : Reading → ℕ → Option ℕ → Result Dump VcdFault
 end_by r len None = Err (Syntax len)
 end_by r len (Some time) =

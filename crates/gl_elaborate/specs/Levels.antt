@@ -36,7 +36,7 @@ op_of (Not t) = option_map op.Not (leaf_of t)
 op_of (Cast t kind) = option_map (λ x. op.Cast x kind) (leaf_of t)
 op_of (Binary op l r) = binary_of op (leaf_of l) (leaf_of r)
 
--- it alone, or else these
+-- an operation alone, or else these
 abbrev pub or_these : Option ColOp → List ColOp → List ColOp
 or_these None ops = ops
 or_these (Some op) ops = op ∷ []
@@ -54,7 +54,7 @@ abbrev pub innermost_of_all : List Term → List ColOp
 innermost_of_all [] = []
 innermost_of_all (t ∷ ts) = innermost t ++ innermost_of_all ts
 
--- each of them once, in order of first occurrence
+-- the innermost operations of terms, each once, in order of first occurrence
 unfoldable pub level_of : List Term → List ColOp
 level_of terms = insert_all same_op [] (innermost_of_all terms)
 

@@ -45,7 +45,7 @@ levels (suc depth) base at items filter =
     levels depth (base + length level) (added at.nodes (node.Compute at.root level))
     (map (reduced base level) items) (option_map (reduced base level) filter)
 
--- as many as the terms are deep
+-- as many levels as the terms are deep, over a node with `base` columns
 abbrev pub levelled : ℕ → Placed → List Term → Option Term → Levelled
 levelled base at items filter = levels (depth_of_all (with_filter items filter)) base at items filter
 

@@ -21,7 +21,7 @@ use Rattle.gl_algebra.specs.declared.figures.Spare.{Spare}
 unfoldable pub numbered : List ℕ → ℕ → List ℕ
 numbered front number = front ++ decimal number
 
--- a node is `p` and its number, a column `c` and its number
+-- a node is written as `p` and its number
 abbrev pub node_text : ℕ → List ℕ
 node_text number = numbered (codes " p") number
 
@@ -113,7 +113,7 @@ lines_of schema nodes = lines_from schema nodes 0 nodes
 unfoldable pub root_text : ℕ → List ℕ
 root_text root = codes "root" ++ node_text root ++ codes "\n"
 
--- its spare copies, where it has some: their number, the gap, and how late the end comes
+-- the line of a root's spare copies, where it has some: their number, the gap, and how late the end comes
 unfoldable pub spare_text : Option Spare → List ℕ
 spare_text None = []
 spare_text (Some it) =

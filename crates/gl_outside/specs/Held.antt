@@ -73,7 +73,7 @@ next_fails failing calls = list_any (λ call. nat_eq call (next_count calls)) fa
 abbrev pub served : MemoryShelfState → List ℕ → ℕ → ℕ → Fetch
 served s name at room = if next_fails s.failing s.calls then Failed else given (told_of s.held.texts name) at room
 
--- the shelf behind it: a failed call is counted once and its name kept
+-- the shelf behind a call that failed: the fault is counted once, and the name of the text is kept
 abbrev pub failed : MemoryShelfState → List ℕ → MemoryShelfState
 failed s name =
     record s { held = record s.held { last = Some name }; calls = next_count s.calls; faults = next_count s.faults }

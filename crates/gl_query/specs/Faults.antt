@@ -59,7 +59,7 @@ abbrev pub are_distinct : List (List ℕ) → Bool
 are_distinct [] = true
 are_distinct (name ∷ names) = not (list_any (bytes_eq name) names) && are_distinct names
 
--- one and the same pace
+-- both sides have a pace, and it is one
 abbrev pub same_pace : Option Pace → Option Pace → Bool
 same_pace (Some Once) (Some Once) = true
 same_pace (Some (Step a)) (Some (Step b)) = bytes_eq a b

@@ -67,7 +67,7 @@ pub record HaveFirstFault (schema : Schema) (ps : List Piece) (f : QueryFault) :
 abbrev pub HasStatements : Schema → List ℕ → List StatementTree → Type 0
 HasStatements schema text ss = AreStatements schema [] (pieces_of text) ss
 
--- or this is what is wrong with it
+-- this is the first thing that is wrong with a text of several queries
 abbrev pub IsListFault : Schema → List ℕ → QueryFault → Type 0
 IsListFault schema text f = HaveFirstFault schema (pieces_of text) f
 

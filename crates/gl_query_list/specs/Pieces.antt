@@ -20,7 +20,7 @@ abbrev pub is_semicolon : Token → Bool
 is_semicolon (token.Plain Semicolon) = true
 is_semicolon t = false
 
--- these pieces, where there are tokens for them
+-- these pieces, where there are tokens for them; none otherwise
 abbrev pub where_some : List Lexeme → List Piece → List Piece
 where_some [] ps = []
 where_some (l ∷ ls) ps = ps

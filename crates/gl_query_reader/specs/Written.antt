@@ -230,7 +230,7 @@ spell_window w =
     token.Plain plain.LeftSquare ∷ token.Size w.at ∷ token.Number w.size ∷ token.Plain plain.Advance
     ∷ token.Number w.advance ∷ token.Plain (measure_word w.measure) ∷ token.Plain plain.RightSquare ∷ []
 
--- that of groups counts rows alone
+-- the tokens of a window of groups, which counts rows alone; none where there is no window
 abbrev pub spell_row_window : Option RowWindow → List Token
 spell_row_window None = []
 spell_row_window (Some w) =

@@ -40,7 +40,7 @@ OfTimelyPorts latency m schema beats start P =
     (value : ℕ → Nets) (word : ℕ → Memories) → IsRunOver m schema beats start value word
     → EndsWithin latency beats (result_names m) (port_of m value) → P m (port_of m value)
 
--- and in each run of the module of a text
+-- a fact of a module and its ports, in each run of the module of a text from this start over these beats
 abbrev pub OfEachPorts : List ℕ → Schema → List Beat → Start → (Module → PortValues → Type 0) → Type 0
 OfEachPorts text schema beats start P =
     (m : Module) (value : ℕ → Nets) (word : ℕ → Memories) → HasModule text m

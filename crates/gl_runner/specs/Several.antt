@@ -69,12 +69,12 @@ lines_through faces port (suc n) = lines_through faces port n ++ all_lines faces
 
 -- ---- the end
 
--- it was seen in one of the cycles before this one, from the last beat's on
+-- the end was seen in one of the cycles before this one, from the last beat's on
 abbrev pub ended_before : ℕ → (ℕ → Bool) → ℕ → Bool
 ended_before last ends zero = false
 ended_before last ends (suc n) = ended_before last ends n || (nat_le last n && ends n)
 
--- that of each result was seen, in this cycle or in an earlier one
+-- the end of each result was seen, in this cycle or in an earlier one
 abbrev pub all_ended : List Face → ℕ → PortValues → ℕ → Bool
 all_ended faces last port n = list_all (λ f. ended_before last (λ k. (shown_by f port k).end) (suc n)) faces
 

@@ -65,6 +65,6 @@ number_of bytes = fold (λ n b. 256 * n + b) 0 bytes
 abbrev pub padded : ℕ → List ℕ → List ℕ
 padded n text = text ++ replicate (n - length text) 0
 
--- its word
+-- the word of a text: its bytes as one number, the first one highest
 unfoldable pub text_word : ℕ → List ℕ → ℕ
 text_word n text = number_of (padded n text)

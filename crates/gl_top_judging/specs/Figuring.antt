@@ -22,7 +22,7 @@ figure_lines p cost =
     ++ figure_line (codes "registers ") cost.registers
     ++ figure_line (codes "memories ") cost.memories
 
--- they are those of the statement and of the text that was emitted for it
+-- the bytes are the figures of the statement, with the cost of the text that was emitted for it
 pub record IsFigured (schema : Schema) (statement : Statement) (bytes text : List ℕ) : Type 0 where
   pub printed : Printed
   pub cost : Cost

@@ -233,7 +233,7 @@ limit_line (limit.Nodes weight) = line (codes "limit: Nodes ") (decimal weight)
 abbrev pub verilog_line : VerilogFault → List ℕ
 verilog_line fault = kind_line (codes "verilog: ") (verilog_kind fault) (codes " at ") (verilog_place fault)
 
--- and of a value change dump
+-- the line that tells a fault of a value change dump
 abbrev pub dump_line : VcdFault → List ℕ
 dump_line fault = kind_line (codes "dump: ") (dump_kind fault) (codes " at ") (dump_place fault)
 

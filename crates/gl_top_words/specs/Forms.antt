@@ -56,7 +56,7 @@ values_in option false (w ∷ ws) =
 unfoldable pub names_of : List (List ℕ) → List (List ℕ)
 names_of words = names_in (option_word words) false (drop 1 words)
 
--- every value that the option is given, and None for each dashed word that does not fit
+-- the values that the option is given, in order; None for a dashed word that is no option and for a missing value
 unfoldable pub values_of : List (List ℕ) → List (Option (List ℕ))
 values_of words = values_in (option_word words) false (drop 1 words)
 
@@ -90,7 +90,7 @@ abbrev pub extra_at : Option ℕ → Option ℕ
 extra_at None = None
 extra_at (Some n) = if nat_le n 1000000 then Some n else None
 
--- as many as the digits of the one value spell
+-- as many cycles as the digits of the one value spell
 abbrev pub extra_in : List (Option (List ℕ)) → Option ℕ
 extra_in [] = None
 extra_in (None ∷ vs) = None
@@ -108,7 +108,7 @@ abbrev pub load_at : Option ℕ → Option ℕ
 load_at None = None
 load_at (Some n) = if nat_le 1 n && nat_le n 1000000 then Some n else None
 
--- as many as the digits of the first name spell
+-- as many tuples as the digits of the first name spell
 abbrev pub load_in : List (List ℕ) → Option ℕ
 load_in [] = None
 load_in (name ∷ names) = load_at (number_of name)
@@ -156,7 +156,7 @@ takes_values Sim values = is_some (extra_in values)
 takes_values c [] = true
 takes_values c (v ∷ vs) = false
 
--- and the names: of a load, a number; else any
+-- a load's name is a number in range; the names of any other command may be any
 abbrev pub takes_names : Command → List (List ℕ) → Bool
 takes_names Load names = is_some (load_in names)
 takes_names c names = true
@@ -202,7 +202,7 @@ pub record IsLoadOf (words : List (List ℕ)) (n : ℕ) : Type 0 where
 
 -- ---- the texts
 
--- those that a command names, in their order; a load names none
+-- the texts that a command names, in their order; a load names none
 abbrev pub parts_of : Command → List Part
 parts_of Compile = Schema ∷ Query ∷ []
 parts_of Figures = Schema ∷ Query ∷ []

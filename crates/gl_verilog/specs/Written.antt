@@ -265,7 +265,7 @@ abbrev pub spell_ports : List WrittenPort → List Token
 spell_ports [] = []
 spell_ports (p ∷ ps) = spell_port p ++ spell_more_ports ps
 
--- names in the same way
+-- the tokens of further names, each behind a comma
 abbrev pub spell_more_names : List (List ℕ) → List Token
 spell_more_names [] = []
 spell_more_names (n ∷ ns) = Mark Comma ∷ Name n ∷ spell_more_names ns
