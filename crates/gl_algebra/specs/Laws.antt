@@ -73,7 +73,7 @@ pub record HaveSameRows (inputs others : Inputs) : Type 0 where
   pub streams : (number : ℕ) → inputs.streams number ≡ others.streams number
   pub body : inputs.body ≡ others.body
 
--- without a window of time a plan has the same results for them
+-- without a window of time a plan has equal results for inputs whose rows are equal
 abbrev pub UntimedResults : Type 0
 UntimedResults = (nodes : List PlanNode) (number : ℕ) → IsPlan nodes → number < length nodes → reads_time nodes ≡ false
     → (inputs others : Inputs) → HaveSameRows inputs others

@@ -18,7 +18,7 @@ pub record IsWide (w : Wide) : Type 0 where
   pub gt : w.gt < 2 ^ 80
   pub ge : w.ge < 2 ^ 80
 
--- as figures have it
+-- each of some wide figures fits 32 bits, as figures do
 pub record IsNarrow (w : Wide) : Type 0 where
   pub a : w.a < 2 ^ 32
   pub lt : w.lt < 2 ^ 32

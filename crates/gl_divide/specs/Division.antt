@@ -14,7 +14,7 @@ with_bit width x b = (2 * x + bit b) % 2 ^ width
 unfoldable pub fits : ℕ → ℕ → Bool → Bool
 fits rest bottom next = nat_le bottom (2 * rest + bit next)
 
--- and what is left then
+-- what is left behind a digit: the rest with the next digit, less the divisor where that fits
 unfoldable pub left : ℕ → ℕ → Bool → ℕ
 left rest bottom next = if fits rest bottom next then 2 * rest + bit next - bottom else 2 * rest + bit next
 

@@ -149,7 +149,7 @@ pub record IsReady (c : Changing) : Type 0 where
   pub room : HaveRoom (signals_of c.signals.now) c.values.items
   pub bits : HoldsBits c.waits
 
--- the signals are the same, and the time does not fall
+-- a token leaves the signals as they are, and the time does not fall
 pub record GoesOn (old new : Changing) : Type 0 where
   pub signals' : new.signals ≡ old.signals
   pub later : unwrap_or old.time 0 ≤ unwrap_or new.time 0
@@ -163,7 +163,7 @@ pub record Holds (r : Reading) (c : Changing) : Type 0 where
   pub late : now_of r ≤ 67108864
   pub values' : (i : ℕ) → i < length c.values.items → bits_in c.values.items i ≡ value_at r.changes i (now_of r)
 
--- and knows what may come next
+-- what is held agrees with what was read, and so does what may come next
 pub record Keeps (r : Reading) (c : Changing) : Type 0 where
   pub stage' : r.stage ≡ waiting_of c.waits
   pub holds : Holds r c

@@ -37,7 +37,7 @@ term_of columns place (shape.Binary op l r) =
     Binary op (term_of columns (operand_place columns op place l r) l)
     (term_of columns (operand_place columns op place r l) r)
 
--- its kind over columns of these kinds
+-- the kind of a term over columns of these kinds
 abbrev pub term_kind : List Kind → Term → Kind
 term_kind kinds (Column number) = kind_of_column kinds number
 term_kind kinds (Literal word kind) = kind
@@ -45,7 +45,7 @@ term_kind kinds (Not t) = bit_kind
 term_kind kinds (Cast t kind) = kind
 term_kind kinds (Binary op l r) = result_kind (sort_of op) (term_kind kinds l)
 
--- its value over a row
+-- the value of a term over a row
 abbrev pub term_value : List Kind → List ℕ → Term → ℕ
 term_value kinds row (Column number) = slice_index row number
 term_value kinds row (Literal word kind) = word.bits
@@ -53,7 +53,7 @@ term_value kinds row (Not t) = not_of 1 (term_value kinds row t)
 term_value kinds row (Cast t kind) = cast_of (term_kind kinds t) kind (term_value kinds row t)
 term_value kinds row (Binary op l r) = operate op (term_kind kinds l) (term_value kinds row l) (term_value kinds row r)
 
--- its columns are there, its literals are words of their kinds, its operators fit their operands
+-- a term's columns are there, its literals are words of their kinds, and its operators fit their operands
 abbrev pub IsTerm : List Kind → Term → Type 0
 IsTerm kinds (Column number) = number < length kinds
 IsTerm kinds (Literal word kind) = IsWord word × IsKind kind × (word.width ≡ width_of kind)

@@ -68,7 +68,7 @@ StartsAt net b word = (run : Run) → IsRun net run → run.at 1 b.node ≡ word
 abbrev pub Follows : Net → Bus → Bus → Type 0
 Follows net b next = (run : Run) → IsRun net run → (t : ℕ) → run.at (suc (suc t)) b.node ≡ run.at (suc t) next.node
 
--- and in cycle 1, where it has no reset value
+-- a register without a reset value carries in cycle 1 what drives it in cycle 0
 abbrev pub FollowsFirst : Net → Net → Bus → Bus → Type 0
 FollowsFirst old new b next =
     is_free old b.node ≡ true → (run : Run) → IsRun new run → run.at 1 b.node ≡ run.at 0 next.node
@@ -109,7 +109,7 @@ IsOpenRegister nodes at = (w : ℕ) × (reset : Option ℕ) × (slice_get nodes 
 abbrev pub IsOpenMemory : List Node → ℕ → Type 0
 IsOpenMemory nodes at = (a : ℕ) × (w : ℕ) × (slice_get nodes at ≡ Some (Memory a w None))
 
--- it gives way to the same with what drives it
+-- a register gets what drives it, and all other nodes stay
 abbrev pub PutsNext : List Node → List Node → ℕ → Bus → Type 0
 PutsNext old new at next =
     (w : ℕ) (reset : Option ℕ) → slice_get old at ≡ Some (Register w reset None)

@@ -46,7 +46,7 @@ binary_of Ne w x y = not_of 1 (eq_of x y)
 binary_of Lt w x y = lt_of x y
 binary_of Le w x y = le_of x y
 
--- and the width of that
+-- the width of what an operation gives
 abbrev pub binary_width : BinaryOp → ℕ → ℕ
 binary_width Add w = w
 binary_width Sub w = w

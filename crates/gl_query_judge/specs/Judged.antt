@@ -34,7 +34,7 @@ pub record IsQueryFault (schema : Schema) (text : List ℕ) (f : QueryFault) : T
   pub real : f ≢ fault.Memory
   pub found : HasNoStatement text f ⊎ BreaksRule schema text f
 
--- such a fault, or want of memory
+-- the text of a query has this fault, or memory ran out
 abbrev pub IsFaultOrMemory : Schema → List ℕ → QueryFault → Type 0
 IsFaultOrMemory schema text f = IsQueryFault schema text f ⊎ (f ≡ fault.Memory)
 

@@ -13,7 +13,7 @@ use Rattle.gl_query_list.specs.Lists.{AreStatements, HaveFirstFault, IsCheckedOv
 abbrev pub names_before : List Checked → List (List ℕ)
 names_before cs = names_of (map tree_of cs)
 
--- its name may stand behind these, or this is wrong with it
+-- the name of a statement may stand behind these, or this is wrong with it
 abbrev pub IsNamed : List (List ℕ) → Checked → Result Checked QueryFault → Type 0
 IsNamed names c (Ok d) = (d ≡ c) × (name_fault names c.statement.name ≡ None)
 IsNamed names c (Err f) = name_fault names c.statement.name ≡ Some f

@@ -74,7 +74,7 @@ IsGated old new op left right b =
     Carries old new 1 (binary_width (gate_of op) left.width)
     (λ run t. gated op left.width (run.at t left.node) (run.at t right.node)) b
 
--- the same, with the highest bit of both turned
+-- a bus carries what an operator's gate makes of two others whose highest bits are turned
 abbrev pub IsGatedTurned : Net → Net → Op → Bus → Bus → Bus → Type 0
 IsGatedTurned old new op left right b =
     Carries old new 4 (binary_width (gate_of op) left.width)

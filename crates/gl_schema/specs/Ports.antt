@@ -81,7 +81,7 @@ pins schema beats (suc n) =
     (bit (ticks_at beats n))
     ∷ [])
 
--- their names
+-- the names of ports with values, in their order
 abbrev pub pin_names : List Pin → List (List ℕ)
 pin_names ps = map (λ p. p.name) ps
 

@@ -65,7 +65,7 @@ output_ports columns =
 abbrev pub profile : Bool → Schema → List Column → List ProfilePort
 profile ticks schema columns = input_ports ticks schema ++ output_ports columns
 
--- their names
+-- the names of the profile's ports, in their order
 abbrev pub port_names : List ProfilePort → List (List ℕ)
 port_names ports = map (λ p. p.name) ports
 

@@ -32,7 +32,7 @@ pub record IsCheckedOver (schema : Schema) (checked : Checked) : Type 0 where
 abbrev pub statements_of : List Checked → List Statement
 statements_of all = map (λ (checked : Checked). checked.statement) all
 
--- their plan behind a plan's nodes
+-- the joint plan of checked statements behind a plan's nodes
 abbrev pub plans_over : List PlanNode → Schema → List Checked → Several
 plans_over nodes schema all = plans_of nodes schema (statements_of all)
 

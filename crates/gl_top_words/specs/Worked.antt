@@ -54,7 +54,7 @@ Names words c names = (command_of words ≡ Some c) × (names_of words ≡ names
 abbrev pub RunsFrom : List (List ℕ) → Start → Type 0
 RunsFrom words start = Names words Run (s ∷ q ∷ t ∷ []) × (start_of words ≡ start)
 
--- and these the texts S, Q and T of several queries
+-- these words run the texts S, Q and T of several queries from this start
 abbrev pub RunsManyFrom : List (List ℕ) → Start → Type 0
 RunsManyFrom words start = Names words ManyRun (s ∷ q ∷ t ∷ []) × (start_of words ≡ start)
 

@@ -235,7 +235,7 @@ put_target ds v k target width =
     (asks TwiceDriven k (not (is_among target v.done) && not (is_among target v.beside))
     (asks WidthsDiffer k (nat_eq d.width width) (Ok d.number)))))
 
--- the same of a memory, for an address of this width
+-- a memory may be written here at an address of this width, with words of this width
 abbrev pub write_target : List Declaration → Drivers → ℕ → List ℕ → ℕ → ℕ → Result ℕ Broken
 write_target ds v k target address width =
     then' (named ds k target) (λ d. asks BadTarget k (is_clocked_kind d.kind)

@@ -15,7 +15,7 @@ pub record Rests (m : Module) (s : State) : Type 0 where
 abbrev pub ComesToRest : Module → Type 0
 ComesToRest m = (s t : State) → Schedule m s t → Rests m t
 
--- and none goes on for ever
+-- no schedule of events goes on for ever
 abbrev pub Ends : Module → Type 0
 Ends m = (s : ℕ → State) → ((n : ℕ) → Step m (s n) (s (suc n))) → ⊥
 

@@ -47,7 +47,7 @@ pub record IsClose (apart delay : ℕ) (ends close : ℕ → Bool) : Type 0 wher
   pub before : (c : ℕ) → c < delay → close c ≡ false
   pub later : ((u d : ℕ) → ends u ≡ true → ends d ≡ true → u < d → u + apart < d) → (c : ℕ) → close (c + delay) ≡ ends c
 
--- such a line behind that of the ends
+-- a line that follows the ends on another after a fixed delay, where they are far enough apart, and what it costs
 pub record IsCloseLine (old new : Net) (cycles more : ℕ) (source out : Bit) : Type 0 where
   pub keeps : Keeps old new
   pub cost : Costs old new (with_registers (20 + more) (bits_below (cycles + 1) + 1 + more))
