@@ -11,6 +11,7 @@ pub record Placed : Type 0 where
   pub nodes : List PlanNode
   pub root : ℕ
 
+-- a plan whose root is the node of this number
 abbrev pub placed_at : List PlanNode → ℕ → Placed
 placed_at nodes root = record { nodes = nodes; root = root }
 

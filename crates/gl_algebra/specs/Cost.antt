@@ -27,8 +27,8 @@ ring depth = 2 ^ least_exponent depth 1 depth
 abbrev pub lean_of_spacer : ℕ → Figures → ℕ → ℕ
 lean_of_spacer gap f lines = if needs_spacer gap f then 8 * lines else 0
 
--- those of so many groups over a body that counts so much, between lines of a source and own ones: a direct body stands
--- once, and a table of its totals behind it
+-- what groups count in registers: a direct body counts once, with a table of its totals behind it; any other body
+-- counts for each slot
 abbrev pub lean_of_groups : Form → ℕ → ℕ → ℕ → ℕ → ℕ
 lean_of_groups copied groups body source own = weight_of_copies groups body source own
 lean_of_groups rowwise groups body source own = weight_of_copies groups body source own
@@ -43,6 +43,7 @@ own_lean shapes figures forms leans lines (Group source body key groups) =
     + part_of_spacer lean_of_spacer shapes figures (Group source body key groups)
 own_lean shapes figures forms leans lines node = own_part lean_of_spacer shapes figures leans lines node
 
+-- what bounds the registers of a node: those of its children, and its own part over the lines of its wire
 abbrev pub lean_from : (ℕ → Shape) → (ℕ → Figures) → (ℕ → Form) → (ℕ → ℕ) → PlanNode → ℕ
 lean_from shapes figures forms leans node =
     sum_over_children leans node + own_lean shapes figures forms leans (lines_of (shape_from shapes node)) node
@@ -64,6 +65,7 @@ own_keys shapes forms keys (Group source body key groups) =
     keys_of_groups (forms body) groups (keys body) (width_of (kind_of_column (shapes source).kinds key))
 own_keys shapes forms keys node = copies_in node * of_body keys node
 
+-- the key bits of a node: those of its children, and those of its own groups
 abbrev pub keys_from : (ℕ → Shape) → (ℕ → Form) → (ℕ → ℕ) → PlanNode → ℕ
 keys_from shapes forms keys node = sum_over_children keys node + own_keys shapes forms keys node
 
@@ -92,6 +94,7 @@ own_store shapes figures forms stores lines (Group source body key groups) =
 own_store shapes figures forms stores lines node =
     copies_in node * of_body stores node + part_of_spacer store_of_spacer shapes figures node
 
+-- the memory bits of a node: those of its children, and its own part over the lines of its wire
 abbrev pub store_from : (ℕ → Shape) → (ℕ → Figures) → (ℕ → Form) → (ℕ → ℕ) → PlanNode → ℕ
 store_from shapes figures forms stores node =
     sum_over_children stores node + own_store shapes figures forms stores (lines_of (shape_from shapes node)) node

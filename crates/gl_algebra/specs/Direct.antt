@@ -15,12 +15,13 @@ pub data Form : Type 0 where
   rowwise : Form
   totalling : ℕ → ℕ → Form
 
--- whether it gives of each row of a body's input one or none, and whether it is a direct body
+-- whether a body gives of each row of its input one or none
 abbrev pub is_rowwise : Form → Bool
 is_rowwise copied = false
 is_rowwise rowwise = true
 is_rowwise (totalling many delay) = false
 
+-- a body of totals stands once for all slots of a group; every other body is copied
 abbrev pub is_direct : Form → Bool
 is_direct copied = false
 is_direct rowwise = false

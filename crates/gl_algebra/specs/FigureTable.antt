@@ -47,6 +47,7 @@ abbrev pub last_of : ℕ → ℕ → ℕ → ℕ
 last_of zero first last = first
 last_of (suc tuples) first last = last
 
+-- figures whose last cycle of a beat without the end is the first one where no tuple comes after such a beat
 abbrev pub settled : Figures → Figures
 settled f = record f { lt = last_of f.nt f.a f.lt }
 
@@ -63,7 +64,7 @@ delay_of_agg kinds (Max operand) = 1
 delay_of_agg kinds (Avg operand) = width_of (kind_of_operand kinds operand) + 34
 delay_of_agg kinds (Wsum operand weights) = 1
 
--- that of the slowest
+-- the cycles of the slowest aggregate, at least 1
 abbrev pub delay_of_aggs : List Kind → List PlanAgg → ℕ
 delay_of_aggs kinds [] = 1
 delay_of_aggs kinds (agg ∷ aggs) = max (delay_of_agg kinds agg) (delay_of_aggs kinds aggs)
@@ -100,6 +101,7 @@ merged p q =
       ge = max (max p.ge q.ge) (le - a + 1);
     }
 
+-- the side that begins earlier waits for the other, and both are merged one tuple a cycle
 abbrev pub union_figures : Figures → Figures → Figures
 union_figures p q = merged (delayed (wait_of p q) p) (delayed (wait_of q p) q)
 
@@ -138,6 +140,7 @@ at_end p q =
 abbrev pub joined : Figures → Figures → Figures
 joined p q = if is_fixed p && is_fixed q then in_step p q else at_end p q
 
+-- the side that begins earlier waits for the other, and both stand side by side
 abbrev pub beside_figures : Figures → Figures → Figures
 beside_figures p q = joined (delayed (wait_of p q) p) (delayed (wait_of q p) q)
 
@@ -161,6 +164,7 @@ spacer_figures gap f =
 abbrev pub needs_spacer : ℕ → Figures → Bool
 needs_spacer gap f = nat_lt 1 gap && nat_lt f.a f.le
 
+-- figures behind a spacer of this gap, where one is needed
 abbrev pub spaced : ℕ → Figures → Figures
 spaced gap f = if needs_spacer gap f then spacer_figures gap f else f
 
@@ -168,10 +172,11 @@ spaced gap f = if needs_spacer gap f then spacer_figures gap f else f
 abbrev pub stride_of : Figures → ℕ
 stride_of body = body.le - body.a + 1
 
--- the cycles that a window's copy, or a group's, needs from one tuple to the next
+-- the cycles that a window's copy needs from one tuple to the next
 abbrev pub window_gap : Figures → ℕ
 window_gap body = max body.gt body.ge
 
+-- the cycles that a group's copy needs from one tuple to the next
 abbrev pub group_gap : Figures → ℕ
 group_gap body = body.gt
 
@@ -198,6 +203,7 @@ windows_over copies f body =
       ge = max f.ge (f.le - f.a + ((copies - 1) * stride_of body + body.ge + 1));
     }
 
+-- the figures of windows over a source, behind a spacer where their copies need one
 abbrev pub window_figures : ℕ → Figures → Figures → Figures
 window_figures copies f body = windows_over copies (spaced (window_gap body) f) body
 
@@ -213,6 +219,7 @@ groups_over groups f body = record {
   ge = max f.ge (f.le - f.a + ((groups - 1) * stride_of body + max (body.ge + 1) (body.le + 3)));
 }
 
+-- the figures of groups over a source, behind a spacer where their copies need one
 abbrev pub group_figures : ℕ → Figures → Figures → Figures
 group_figures groups f body = groups_over groups (spaced (group_gap body) f) body
 
@@ -231,6 +238,7 @@ partitions_over copies f body =
       ge = max f.ge (f.le - f.a + (copies * stride_of body + max body.ge (body.le + 2) + 1));
     }
 
+-- the figures of windows of each key over a source, behind a spacer where their copies need one
 abbrev pub partition_figures : ℕ → Figures → Figures → Figures
 partition_figures copies f body = partitions_over copies (spaced (window_gap body) f) body
 

@@ -73,7 +73,7 @@ pub record HaveSameRows (inputs others : Inputs) : Type 0 where
   pub streams : (number : ℕ) → inputs.streams number ≡ others.streams number
   pub body : inputs.body ≡ others.body
 
--- without a window of time a plan has the same results for them
+-- without a window of time a plan has equal results for inputs whose rows are equal
 abbrev pub UntimedResults : Type 0
 UntimedResults = (nodes : List PlanNode) (number : ℕ) → IsPlan nodes → number < length nodes → reads_time nodes ≡ false
     → (inputs others : Inputs) → HaveSameRows inputs others
@@ -94,6 +94,7 @@ is_union node = false
 abbrev pub has_union_from : (ℕ → Bool) → PlanNode → Bool
 has_union_from unions node = is_union node || list_any unions (named_by node)
 
+-- a node is a UNION or has one below it, in a body too
 unfoldable pub has_union : List PlanNode → ℕ → Bool
 has_union nodes = nodewise has_union_from false nodes
 
@@ -120,6 +121,8 @@ pub record FollowsTables (nodes : List PlanNode) (number : ℕ) (node : PlanNode
   pub results : (inputs : Inputs) (out : List Row) (spill : Bool) → IsPlanResult nodes number inputs out spill
       ↔ meaning_from (shape_of nodes) (IsPlanResult nodes) node inputs out spill
 
+-- each node of a plan has the shape, figures, weight, bits and results that the tables give it from the nodes that it
+-- names
 abbrev pub NodesFollowTables : Type 0
 NodesFollowTables =
     (nodes : List PlanNode) (number : ℕ) (node : PlanNode) → IsPlan nodes → slice_get nodes number ≡ Some node
@@ -134,6 +137,7 @@ pub record IsKept (nodes more : List PlanNode) (number : ℕ) : Type 0 where
   pub results : (inputs : Inputs) (out : List Row) (spill : Bool) → IsPlanResult (nodes ++ more) number inputs out spill
       ↔ IsPlanResult nodes number inputs out spill
 
+-- nodes that are put behind a plan change nothing of the nodes that it had
 abbrev pub EarlierNodesAreKept : Type 0
 EarlierNodesAreKept =
     (nodes more : List PlanNode) (number : ℕ) → IsPlan nodes → number < length nodes → IsKept nodes more number

@@ -60,12 +60,15 @@ total_of kinds rows (Wsum operand weights) =
 abbrev pub computed : List Kind → List ColOp → Row → Row
 computed kinds ops row = row ++ map (value_of_op kinds row) ops
 
+-- the rows whose condition column is 1, in their order
 abbrev pub selected : ℕ → List Row → List Row
 selected column rows = filter (λ row. nat_eq (slice_index row column) 1) rows
 
+-- one row of the items' values, each a column or a literal
 abbrev pub projected : List Operand → Row → Row
 projected items row = map (value_of_operand row) items
 
+-- the single row of all aggregates over the rows
 abbrev pub totalled : List Kind → List PlanAgg → List Row → List Row
 totalled kinds aggs rows = map (total_of kinds rows) aggs ∷ []
 

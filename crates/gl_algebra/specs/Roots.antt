@@ -79,18 +79,21 @@ latency_of nodes root = (root_figures nodes root).le + 1
 abbrev pub gap_of : List PlanNode → ℕ → ℕ
 gap_of nodes root = (root_figures nodes root).gt
 
--- their weight, their registers and their memories
+-- what the further copies of a root add in weight
 abbrev pub further_weight : List PlanNode → ℕ → ℕ
 further_weight nodes root =
     of_further (part_of_copy (shape_of nodes) (weight_of nodes) (lines_of (shape_of nodes root))) nodes root
 
+-- what the further copies of a root add to the bound on registers
 abbrev pub further_lean : List PlanNode → ℕ → ℕ
 further_lean nodes root =
     of_further (part_of_copy (shape_of nodes) (lean_of nodes) (lines_of (shape_of nodes root))) nodes root
 
+-- what the further copies of a root add in memory bits
 abbrev pub further_store : List PlanNode → ℕ → ℕ
 further_store nodes root = of_further (of_body (store_of nodes)) nodes root
 
+-- what the further copies of a root add in bits of keys
 abbrev pub further_keys : List PlanNode → ℕ → ℕ
 further_keys nodes root = of_further (of_body (keys_of nodes)) nodes root
 
@@ -103,12 +106,13 @@ abbrev pub copies_with_spare : List PlanNode → ℕ → ℕ
 copies_with_spare nodes root =
     copies_of nodes root + of_further (λ node. 1 + of_body (copies_of nodes) node) nodes root
 
--- the most register bits, and the most memory bits, of the circuit of a plan
+-- the most register bits of the circuit of a plan, those of keys among them
 abbrev pub most_registers : List PlanNode → ℕ → ℕ
 most_registers nodes root =
     64 * (lean_of nodes root + further_lean nodes root + output_part nodes root)
     + (keys_of nodes root + further_keys nodes root)
 
+-- the most memory bits of the circuit of a plan, those of the root's further copies among them
 abbrev pub most_memory : List PlanNode → ℕ → ℕ
 most_memory nodes root = store_of nodes root + further_store nodes root
 
@@ -117,5 +121,6 @@ pub record ComesCloser (nodes : List PlanNode) (root : ℕ) : Type 0 where
   pub never_farther : gap_of nodes root ≤ (figures_of nodes root).gt
   pub with_spare : (it : Spare) → spare_at nodes root ≡ Some it → gap_of nodes root < (figures_of nodes root).gt
 
+-- a root's gap is at most its node's own, and less where the root has spare copies
 abbrev pub RootsComeCloser : Type 0
 RootsComeCloser = (nodes : List PlanNode) (root : ℕ) → IsPlan nodes → root < length nodes → ComesCloser nodes root

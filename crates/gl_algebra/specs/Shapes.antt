@@ -14,6 +14,7 @@ pub data Pace : Type 0 where
   with_stream : ℕ → Pace
   with_body : Pace
 
+-- what a node is from outside: its columns, when its rows come, at what pace, and from which leaves
 pub record Shape : Type 0 where
   -- the kinds of the columns, in order
   pub kinds : List Kind

@@ -90,6 +90,7 @@ pub record Suffices (f s : Figures) (size advance : ℕ) (it : Spare) : Type 0 w
   pub numbers : AreSpareNumbers f s size advance it.copies it.gap it.shift
   pub closer : it.gap < (window_figures (copies_of_window size advance) f s).gt
 
+-- the spare copies that windows get are enough, and let beats come closer than without them
 abbrev pub SparesSuffice : Type 0
 SparesSuffice = (f s : Figures) (size advance : ℕ) (it : Spare) → IsSound f → 1 ≤ size → 1 ≤ advance
     → spare_of size advance f s ≡ Some it → Suffices f s size advance it

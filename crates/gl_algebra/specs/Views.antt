@@ -52,10 +52,11 @@ copies_in node = 0
 abbrev pub of_body : (ℕ → ℕ) → PlanNode → ℕ
 of_body values node = unwrap_or (option_map values (body_of node)) 0
 
--- whether a node is a window of time, and whether one of these is
+-- whether a node is a window of time
 abbrev pub is_time : PlanNode → Bool
 is_time (TimeWindow source body size advance) = true
 is_time node = false
 
+-- some node of a plan has windows over time
 abbrev pub reads_time : List PlanNode → Bool
 reads_time nodes = list_any is_time nodes

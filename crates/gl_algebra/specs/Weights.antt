@@ -83,7 +83,7 @@ own_part spacer shapes figures weights lines (Partition source body key groups s
     + 16 * groups
     + part_of_spacer spacer shapes figures (Partition source body key groups size advance)
 
--- its own part in the weight
+-- a node's own part in the weight
 abbrev pub own_weight : (ℕ → Shape) → (ℕ → Figures) → (ℕ → ℕ) → ℕ → PlanNode → ℕ
 own_weight = own_part weight_of_spacer
 

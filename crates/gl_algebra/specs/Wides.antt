@@ -4,6 +4,7 @@ use Rattle.std.specs.Prelude.{◌^◌, ◌<◌}
 use Rattle.gl_algebra.specs.declared.figures.Figures.{Figures}
 use Rattle.gl_algebra.specs.declared.wide.Wide.{Wide}
 
+-- wide figures as the figures of a node
 abbrev pub plain : Wide → Figures
 plain w = record { a = w.a; lt = w.lt; le = w.le; nt = w.nt; ne = w.ne; gt = w.gt; ge = w.ge }
 
@@ -17,7 +18,7 @@ pub record IsWide (w : Wide) : Type 0 where
   pub gt : w.gt < 2 ^ 80
   pub ge : w.ge < 2 ^ 80
 
--- as figures have it
+-- each of some wide figures fits 32 bits, as figures do
 pub record IsNarrow (w : Wide) : Type 0 where
   pub a : w.a < 2 ^ 32
   pub lt : w.lt < 2 ^ 32

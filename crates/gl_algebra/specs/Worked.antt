@@ -104,6 +104,7 @@ pub record Has (nodes : List PlanNode) (root latency gap copies : ℕ) : Type 0 
   pub is_apart : gap_of nodes root ≡ gap
   pub is_copied : copies_with_spare nodes root ≡ copies
 
+-- the figures, weights and copies of the worked plans, computed from the tables
 pub record WorkedFigures : Type 0 where
   pub counts : figures_of counts_in_windows 6 ≡ record { a = 5; lt = 5; le = 7; nt = 1; ne = 2; gt = 1; ge = 3 }
   pub counts_in_windows : Has counts_in_windows 6 8 1 2

@@ -65,66 +65,96 @@ pub enum PlanNode {
     Body(Kinds),
     /// Each row of the child with one more column for each operation.
     Compute {
+        /// The number of the node that is read.
         child: PlanId,
+        /// The operations, each over columns of the child.
         ops: Ops,
     },
     /// The rows of the child whose column of this number is 1.
     Select {
+        /// The number of the node that is read.
         child: PlanId,
+        /// The number of the column that is tested, which has one bit.
         column: u16,
     },
     /// Of each row of the child these values.
     Project {
+        /// The number of the node that is read.
         child: PlanId,
+        /// The columns and literals that make a row, in order.
         items: Operands,
     },
     /// One row: the aggregates over all rows of the child.
     Aggregate {
+        /// The number of the node that is read.
         child: PlanId,
+        /// The aggregates, one for each column of the row.
         aggs: PlanAggs,
     },
     /// The rows of both children, in any order that keeps each child's.
     Union {
+        /// The number of the node on the left.
         left: PlanId,
+        /// The number of the node on the right.
         right: PlanId,
     },
     /// The rows of both children side by side.
     Beside {
+        /// The number of the node on the left.
         left: PlanId,
+        /// The number of the node on the right.
         right: PlanId,
     },
     /// What the body makes of each window of the source: of the `size` rows or fewer that begin at every row whose place is a
     /// multiple of `advance`.
     Window {
+        /// The number of the node whose rows are parted.
         source: PlanId,
+        /// The number of the body's root, a node over `Body`.
         body: PlanId,
+        /// How many rows a window has at most.
         size: u32,
+        /// How many rows lie between the beginnings of two windows.
         advance: u32,
     },
     /// What the body makes of each window of time of the source, a stream: of the rows whose time is within `size` ticks from
     /// every multiple of `advance` on, up to the number of all ticks.
     TimeWindow {
+        /// The number of the node whose rows are parted.
         source: PlanId,
+        /// The number of the body's root, a node over `Body`.
         body: PlanId,
+        /// How many ticks a window lasts.
         size: u32,
+        /// How many ticks lie between the beginnings of two windows.
         advance: u32,
     },
     /// What the body makes of each of the first `groups` groups of the source by the column `key`, the key first in each row.
     Group {
+        /// The number of the node whose rows are parted.
         source: PlanId,
+        /// The number of the body's root, a node over `Body`.
         body: PlanId,
+        /// The number of the source's column by which rows are grouped.
         key: u8,
+        /// How many groups are kept: the first ones that come.
         groups: u16,
     },
     /// What the body makes of each window of each of the first `groups` groups of the source by the column `key`: each group has
     /// windows of its own, of `size` rows or fewer, one from each of its rows on whose place in it is a multiple of `advance`. The
     /// key is first in each row.
     Partition {
+        /// The number of the node whose rows are parted.
         source: PlanId,
+        /// The number of the body's root, a node over `Body`.
         body: PlanId,
+        /// The number of the source's column by which rows are grouped.
         key: u8,
+        /// How many groups are kept: the first ones that come.
         groups: u16,
+        /// How many rows of its group a window has at most.
         size: u32,
+        /// How many rows of a group lie between the beginnings of two windows.
         advance: u32,
     },
 }

@@ -54,6 +54,7 @@ lowest kind bits = if is_signed kind then pos 0 -ℤ pos (2 ^ (bits - 1)) else p
 abbrev pub IsKind : Kind → Type 0
 IsKind kind = (fewest kind ≤ width_of kind) × (width_of kind ≤ 64)
 
+-- a kind whose width is allowed: at least its fewest bits, and at most 64
 abbrev pub is_kind : Kind → Bool
 is_kind kind = nat_le (fewest kind) (width_of kind) && nat_le (width_of kind) 64
 
@@ -68,12 +69,15 @@ are_alike Numbers Texts = false
 are_alike Texts Numbers = false
 are_alike Texts Texts = true
 
+-- values of the kind are numbers
 abbrev pub is_number : Kind → Bool
 is_number kind = are_alike (family_of kind) Numbers
 
+-- values of the kind are texts
 abbrev pub is_text : Kind → Bool
 is_text kind = are_alike (family_of kind) Texts
 
+-- both kinds are of numbers, or both of texts
 abbrev pub same_family : Kind → Kind → Bool
 same_family first second = are_alike (family_of first) (family_of second)
 
@@ -81,6 +85,7 @@ same_family first second = are_alike (family_of first) (family_of second)
 abbrev pub is_below : Kind → ℕ → ℕ → Bool
 is_below kind x y = int_lt (number_of kind x) (number_of kind y)
 
+-- a word stands for no greater number than another of its kind
 abbrev pub is_at_most : Kind → ℕ → ℕ → Bool
 is_at_most kind x y = int_le (number_of kind x) (number_of kind y)
 

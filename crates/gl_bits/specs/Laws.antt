@@ -52,6 +52,7 @@ pub record HaveFirstKeys {A : Type 0} (n : ℕ) (key_of : A → ℕ) (xs : List 
   pub whole : sum_by (λ (g : Group A). length g.rows) (groups n key_of xs) ≡ length
       (filter (λ x. list_any (nat_eq (key_of x)) (take n (keys_of key_of xs))) xs)
 
+-- the groups of any list are those of its first distinct keys, as many as there may be, each with its rows in order
 abbrev pub GroupsHaveFirstKeys : Type 0 → Type 0
 GroupsHaveFirstKeys A = (n : ℕ) (key_of : A → ℕ) (xs : List A) → HaveFirstKeys n key_of xs
 

@@ -25,6 +25,7 @@ sort_of Ge = Comparison
 sort_of And = Logic
 sort_of Or = Logic
 
+-- an operator that adds, subtracts or multiplies
 abbrev pub is_arithmetic : Sort → Bool
 is_arithmetic Arithmetic = true
 is_arithmetic Comparison = false

@@ -45,7 +45,7 @@ beside [] rs = []
 beside (l ∷ ls) [] = []
 beside (l ∷ ls) (r ∷ rs) = (l ++ r) ∷ beside ls rs
 
--- as many on both sides
+-- both sides have equally many rows, and each row of the result is one of the left with one of the right
 pub record AreBeside (left right out : List Row) : Type 0 where
   pub paired : length left ≡ length right
   pub rows : out ≡ beside left right

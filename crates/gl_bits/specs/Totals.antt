@@ -11,10 +11,11 @@ count_of xs = length xs % 2 ^ 32
 unfoldable pub sum_total : ℕ → List ℕ → ℕ
 sum_total width xs = sum xs % 2 ^ width
 
--- of two words of a kind the lesser, or the greater, by their numbers
+-- the lesser of two words of one kind, by the numbers that they stand for
 abbrev pub lesser : Kind → ℕ → ℕ → ℕ
 lesser kind x y = if is_below kind y x then y else x
 
+-- the greater of two words of one kind, by the numbers that they stand for
 abbrev pub greater : Kind → ℕ → ℕ → ℕ
 greater kind x y = if is_below kind x y then y else x
 
@@ -47,6 +48,6 @@ weighted [] xs = 0
 weighted (n ∷ weights) [] = 0
 weighted (n ∷ weights) (x ∷ xs) = n * x + weighted weights xs
 
--- their sum, which wraps in the width
+-- the sum of values by their weights, modulo two to the power of the width
 unfoldable pub weighted_sum : ℕ → List ℕ → List ℕ → ℕ
 weighted_sum width weights xs = weighted weights xs % 2 ^ width

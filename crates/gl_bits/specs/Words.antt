@@ -30,13 +30,15 @@ abbrev pub bit : Bool → ℕ
 bit true = 1
 bit false = 0
 
--- sum, difference and product wrap in the width
+-- the sum of two words, modulo two to the power of the width
 unfoldable pub sum_of : ℕ → ℕ → ℕ → ℕ
 sum_of w x y = (x + y) % 2 ^ w
 
+-- the difference of two words, modulo two to the power of the width
 unfoldable pub difference_of : ℕ → ℕ → ℕ → ℕ
 difference_of w x y = (x + (2 ^ w - y)) % 2 ^ w
 
+-- the product of two words, modulo two to the power of the width
 unfoldable pub product_of : ℕ → ℕ → ℕ → ℕ
 product_of w x y = (x * y) % 2 ^ w
 
@@ -44,13 +46,15 @@ product_of w x y = (x * y) % 2 ^ w
 unfoldable pub not_of : ℕ → ℕ → ℕ
 not_of w x = 2 ^ w - 1 - x
 
--- comparisons are those of numbers, and give one bit
+-- one bit that tells whether two words are equal
 unfoldable pub eq_of : ℕ → ℕ → ℕ
 eq_of x y = bit (nat_eq x y)
 
+-- one bit that tells whether the first word is below the second
 unfoldable pub lt_of : ℕ → ℕ → ℕ
 lt_of x y = bit (nat_lt x y)
 
+-- one bit that tells whether the first word is at most the second
 unfoldable pub le_of : ℕ → ℕ → ℕ
 le_of x y = bit (nat_le x y)
 

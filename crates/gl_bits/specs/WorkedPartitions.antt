@@ -3,9 +3,11 @@ use Rattle.std.specs.Prelude.{ℕ, ◌≡◌, ◌/◌, List, [], ◌∷◌}
 use Rattle.gl_bits.specs.Lists.{Group}
 use Rattle.gl_bits.specs.Partitions.{parts}
 
+-- the tens of a number
 abbrev pub tens : ℕ → ℕ
 tens x = x / 10
 
+-- the group of a key with these rows
 abbrev pub of : ℕ → List ℕ → Group ℕ
 of key rows = record { key = key; rows = rows }
 
@@ -13,6 +15,7 @@ of key rows = record { key = key; rows = rows }
 abbrev pub windows_of_two : ℕ → ℕ → List ℕ → List (Group ℕ)
 windows_of_two size advance xs = parts 2 tens size advance xs
 
+-- the windows of keys of some short lists, in the order in which they come
 pub record WorkedParts : Type 0 where
   pub nothing : windows_of_two 2 2 [] ≡ []
   -- windows come as they fill up, whatever the order of the keys; the third element of key 1 stands alone at the end

@@ -6,16 +6,27 @@ ghost use Rattle.gl_bits.specs.Operators.{sort_of};
 /// A binary operator.
 #[derive(Clone, Copy, PartialEq, Eq, Hash, Debug)]
 pub enum Op {
+    /// The sum of two numbers of one kind.
     Add,
+    /// The difference of two numbers of one kind.
     Sub,
+    /// The product of two numbers of one kind.
     Mul,
+    /// Whether two values of one kind are equal.
     Eq,
+    /// Whether two values of one kind differ.
     Ne,
+    /// Whether the left value is below the right one.
     Lt,
+    /// Whether the left value is at most the right one.
     Le,
+    /// Whether the left value is above the right one.
     Gt,
+    /// Whether the left value is at least the right one.
     Ge,
+    /// Whether both of two bits are 1.
     And,
+    /// Whether at least one of two bits is 1.
     Or,
 }
 

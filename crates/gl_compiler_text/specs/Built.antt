@@ -23,17 +23,18 @@ abbrev pub figures_unless : Option Spare → Figures → Figures → Figures
 figures_unless None own root = own
 figures_unless (Some it) own root = root
 
+-- the figures of a statement: its query's own, or its root's where windows there have spare copies
 abbrev pub statement_figures : Schema → Statement → Figures
 statement_figures schema statement =
     let at = plan_of schema statement in
     figures_unless (spare_at at.nodes at.root) (query_figures schema.streams (query_shape statement.query))
     (root_figures at.nodes at.root)
 
--- the cycles from the last beat to the end of the result, which comes one cycle behind the query's, and from one beat
--- to the next
+-- the cycles from the last beat to the end of the result, which comes one cycle behind the query's
 abbrev pub latency_of : Schema → Statement → ℕ
 latency_of schema statement = (statement_figures schema statement).le + 1
 
+-- how many cycles a statement wants from one beat to the next, at least
 abbrev pub gap_of : Schema → Statement → ℕ
 gap_of schema statement = (statement_figures schema statement).gt
 
@@ -51,6 +52,7 @@ pub record IsNoFarther (schema : Schema) (statement : Statement) (gap : ℕ) : T
   pub with_spare : (it : Spare) → spare_at (plan_of schema statement).nodes (plan_of schema statement).root ≡ Some it
       → gap < own_gap_of schema statement
 
+-- the gap that is printed for a statement is no greater than its query's own, and less with spare copies
 abbrev pub GapsAreNoFarther : Type 0
 GapsAreNoFarther = (schema : Schema) (statement : Statement) → IsChecked schema statement
     → IsNoFarther schema statement (gap_of schema statement)

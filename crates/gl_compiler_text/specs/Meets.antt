@@ -29,7 +29,7 @@ result_columns schema statement = columns_of schema.streams (query_shape stateme
 abbrev pub takes_ticks : Statement → Bool
 takes_ticks statement = has_time (query_shape statement.query)
 
--- this holds of the beats and of what is seen on the result's columns, whatever drives the module
+-- a fact holds of the beats and of what is seen on the result's columns, whatever drives the module
 abbrev pub WhereDriven : Module → Schema → ℕ → (List Beat → List (List ℕ) → PortValues → Type 0) → Type 0
 WhereDriven m schema gap P = (beats : List Beat) (value : ℕ → Nets) (word : ℕ → Memories)
     → Drives m schema gap beats value word → P beats (result_names m) (port_of m value)

@@ -14,7 +14,7 @@ with_bit width x b = (2 * x + bit b) % 2 ^ width
 unfoldable pub fits : ℕ → ℕ → Bool → Bool
 fits rest bottom next = nat_le bottom (2 * rest + bit next)
 
--- and what is left then
+-- what is left behind a digit: the rest with the next digit, less the divisor where that fits
 unfoldable pub left : ℕ → ℕ → Bool → ℕ
 left rest bottom next = if fits rest bottom next then 2 * rest + bit next - bottom else 2 * rest + bit next
 
@@ -25,10 +25,11 @@ pub record Division : Type 0 where
   pub rest : ℕ
   pub bottom : ℕ
 
--- the digit that comes next, and whether the bottom fits into it with what is left
+-- the digit that comes next
 abbrev pub next_digit : ℕ → Division → Bool
 next_digit width d = highest width d.digits
 
+-- the divisor fits into the rest with the next digit behind it
 abbrev pub fits_next : ℕ → Division → Bool
 fits_next width d = fits d.rest d.bottom (next_digit width d)
 

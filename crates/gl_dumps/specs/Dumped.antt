@@ -12,6 +12,7 @@ pub record Port : Type 0 where
   pub name : List ℕ
   pub width : ℕ
 
+-- a signal as a port: its name and its width
 abbrev pub port_of : Signal → Port
 port_of s = record { name = s.name; width = s.width }
 

@@ -4,6 +4,7 @@ use Rattle.std.specs.Prelude.{◌≡◌, ℕ, ◌<◌, ◌≤◌, List, [], ◌�
 use Rattle.gl_dumps.specs.declared.tokens.Token.{Token as Here}
 use Rattle.gl_dumps.specs.Tokens.{Token, tokens_from}
 
+-- a token as the reader holds it: its place and its bytes
 abbrev pub token_of : Here → Token
 token_of t = record { at = t.at; bytes = t.bytes.now }
 

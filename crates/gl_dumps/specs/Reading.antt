@@ -43,9 +43,11 @@ pub record Reading : Type 0 where
   pub time : Option ℕ
   pub changes : List Change
 
+-- a reading begins between sections, before any scope, with no signal, no time and no change
 abbrev pub start : Reading
 start = record { stage = Section; scope = Before; signals = []; time = None; changes = [] }
 
+-- what a token leads to: a further reading, or the first fault of the text
 abbrev pub Step : Type 0
 Step = Result Reading VcdFault
 
@@ -61,13 +63,16 @@ to r stage = Ok (record r { stage = stage })
 abbrev pub only : Bool → Token → Step → Step
 only fits t next = if fits then next else Err (Syntax t.at)
 
+-- a section ends with `$end` and with nothing else
 abbrev pub ends : Token → Step → Step
 ends t next = only (is t (codes "$end")) t next
 
+-- the scope has not come yet
 abbrev pub is_before : Scope → Bool
 is_before Before = true
 is_before _ = false
 
+-- the scope is open
 abbrev pub is_open : Scope → Bool
 is_open Open = true
 is_open _ = false
@@ -79,10 +84,12 @@ abbrev pub definitions_end : Reading → Token → Step
 definitions_end r t =
     if is_open r.scope then Err (Syntax t.at) else if show_none r.signals then Err (NoPort t.at) else to r DefinitionsEnd
 
+-- a section that says nothing of signals and is passed over
 abbrev pub is_passed : Token → Bool
 is_passed t =
     is t (codes "$date") || is t (codes "$version") || is t (codes "$comment") || is t (codes "$timescale")
 
+-- between sections stands the beginning of the next one, in an order that keeps the signals inside the one scope
 abbrev pub section_next : Reading → Token → Step
 section_next r t =
     if is_passed t then to r Passed
@@ -96,18 +103,21 @@ section_next r t =
 abbrev pub scope_next : Reading → Scope → Token → Step
 scope_next r scope t = ends t (Ok (record r { stage = Section; scope = scope }))
 
+-- a signal has 1 to 128 bits
 abbrev pub width_by : Reading → Token → ℕ → Step
 width_by r t width = if nat_eq width 0 || nat_lt 128 width then Err (TooWide t.at) else to r (VarCode width)
 
+-- the width of a signal is a decimal number
 abbrev pub width_next : Reading → Token → Step
 width_next r t = only (is_number t.bytes) t (width_by r t (number_in t.bytes))
 
--- an identifier, and a name, that no signal has
+-- an identifier is no `$end`, and no earlier signal has it
 abbrev pub code_next : Reading → ℕ → Token → Step
 code_next r width t =
     only (not (is t (codes "$end"))) t
     (if is_some (number_of_code r.signals t.bytes) then Err (Twice t.at) else to r (VarName width t.bytes))
 
+-- the name of a signal is no `$end`, and no earlier signal has it
 abbrev pub name_next : Reading → ℕ → List ℕ → Token → Step
 name_next r width code t =
     only (not (is t (codes "$end"))) t
@@ -118,10 +128,12 @@ name_next r width code t =
 abbrev pub declared : Reading → Signal → Step
 declared r signal = Ok (record r { stage = Section; signals = r.signals ++ signal ∷ [] })
 
+-- the first of some bytes is this one
 abbrev pub begins_with : ℕ → List ℕ → Bool
 begins_with b [] = false
 begins_with b (c ∷ cs) = nat_eq b c
 
+-- behind a signal's name stands `$end`, or a range in square brackets, which is passed over
 abbrev pub range_next : Reading → Signal → Token → Step
 range_next r signal t =
     if is t (codes "$end") then declared r signal else only (begins_with 91 t.bytes) t (to r (VarEnd signal))
@@ -140,6 +152,7 @@ given_to r time at value number (Some s) =
     then Ok (with_change r (record { time = time; signal = number; value = value }))
     else Err (TooWide at)
 
+-- a value for a signal whose identifier was looked up; an unknown one is the fault
 abbrev pub given_at : Reading → ℕ → ℕ → ℕ → Option ℕ → Step
 given_at r time at value None = Err (UnknownSignal at)
 given_at r time at value (Some number) = given_to r time at value number (slice_get r.signals number)
@@ -149,6 +162,7 @@ abbrev pub given_in : Reading → Option ℕ → ℕ → ℕ → List ℕ → St
 given_in r None at value code = Err (Syntax at)
 given_in r (Some time) at value code = given_at r time at value (number_of_code r.signals code)
 
+-- the signal of an identifier gets a value in the time that was read last
 abbrev pub given : Reading → ℕ → ℕ → List ℕ → Step
 given r at value code = given_in r r.time at value code
 
@@ -157,18 +171,20 @@ abbrev pub scalar_next : Reading → ℕ → ℕ → List ℕ → Step
 scalar_next r at value [] = Err (Syntax at)
 scalar_next r at value (c ∷ cs) = given r at value (c ∷ cs)
 
--- the number that binary digits spell
+-- a byte that is the digit 0 or 1
 abbrev pub is_bit : ℕ → Bool
 is_bit b = nat_eq b 48 || nat_eq b 49
 
+-- the number that binary digits spell, the most significant first
 abbrev pub binary_in : List ℕ → ℕ
 binary_in digits = fold (λ n b. 2 * n + (b - 48)) 0 digits
 
--- `b` and binary digits, behind a first time; the identifier is the next token
+-- binary digits, at least one
 abbrev pub are_bits : List ℕ → Bool
 are_bits [] = false
 are_bits (d ∷ ds) = list_all is_bit (d ∷ ds)
 
+-- behind `b` stand binary digits, and a first time has come; the identifier is the next token
 abbrev pub vector_next : Reading → ℕ → List ℕ → Step
 vector_next r at digits =
     if is_some r.time && are_bits digits then to r (Vector at digits) else Err (Syntax at)
@@ -178,10 +194,11 @@ abbrev pub first_time : Reading → ℕ → List ℕ → Step
 first_time r at digits =
     if bytes_eq digits (codes "0") then Ok (record r { time = Some 0 }) else Err (Syntax at)
 
--- a later time is above the one before; behind time 0 each signal has a value
+-- the time is still 0, and some signal has no value yet
 abbrev pub lacks_value : Reading → ℕ → Bool
 lacks_value r time = nat_eq time 0 && not (all_given r.changes (length r.signals))
 
+-- a time above the one before and at most 67,108,864; at time 0 every signal must have got a value
 abbrev pub later_time : Reading → ℕ → ℕ → ℕ → Step
 later_time r at time next =
     if nat_le next time then Err (TimeFalls at)
@@ -189,6 +206,7 @@ later_time r at time next =
     else if nat_lt 67108864 next then Err (TooLate at)
     else Ok (record r { time = Some next })
 
+-- the first time is 0, and every further one is a decimal number above it
 abbrev pub time_by : Reading → ℕ → List ℕ → Option ℕ → Step
 time_by r at digits None = first_time r at digits
 time_by r at digits (Some time) =
@@ -206,10 +224,12 @@ begun r t b bs =
     else if is_bit b then scalar_next r t.at (b - 48) bs
     else Err (Syntax t.at)
 
+-- the first byte of a token shows whether it is a time, a bit or a vector
 abbrev pub by_byte : Reading → Token → List ℕ → Step
 by_byte r t [] = Err (Syntax t.at)
 by_byte r t (b ∷ bs) = begun r t b bs
 
+-- among the changes stand comments, the words around the first values, times, and values
 abbrev pub change_next : Reading → Token → Step
 change_next r t =
     if is t (codes "$comment") then to r Comment
@@ -222,6 +242,7 @@ change_next r t =
 abbrev pub passed : Reading → Token → Stage → Step
 passed r t behind = if is t (codes "$end") then to r behind else Ok r
 
+-- what may come at each stage, and what it leads to
 abbrev pub next_at : Stage → Reading → Token → Step
 next_at Section r t = section_next r t
 next_at Passed r t = passed r t Section
@@ -244,17 +265,19 @@ next_at (Vector at digits) r t = given r at (binary_in digits) t.bytes
 unfoldable pub next : Reading → Token → Step
 next r t = next_at r.stage r t
 
--- at the end of a text of this length a time has come, each signal has a value, and nothing is begun
+-- at the end of a text of this length a time has come, and each signal has a value
 abbrev pub end_by : Reading → ℕ → Option ℕ → Result Dump VcdFault
 end_by r len None = Err (Syntax len)
 end_by r len (Some time) =
     if lacks_value r time then Err (NoValue len)
     else Ok (record { signals = r.signals; changes = r.changes; last = time })
 
+-- no change and no comment is begun
 abbrev pub is_between : Stage → Bool
 is_between Changes = true
 is_between _ = false
 
+-- the dump that a reading comes to where its text ends, or the fault of ending there
 unfoldable pub end_of : Reading → ℕ → Result Dump VcdFault
 end_of r len = if is_between r.stage then end_by r len r.time else Err (Syntax len)
 
@@ -264,6 +287,7 @@ abbrev pub ◌>>=◌ : {A B : Type 0} → Result A VcdFault → (A → Result B 
 (Ok x) >>= f = f x
 (Err e) >>= f = Err e
 
+-- the dump that tokens give from a reading on, or their first fault
 abbrev pub dump_from : ℕ → List Token → Reading → Result Dump VcdFault
 dump_from len [] r = end_of r len
 dump_from len (t ∷ ts) r = next r t >>= dump_from len ts

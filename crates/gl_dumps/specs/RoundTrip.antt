@@ -19,6 +19,7 @@ abbrev pub AreApart : List (List ℕ) → Type 0
 AreApart [] = Unit {0}
 AreApart (name ∷ names) = (list_any (bytes_eq name) names ≡ false) × AreApart names
 
+-- the names of ports in their order
 abbrev pub names_of : List Port → List (List ℕ)
 names_of ports = map (λ p. p.name) ports
 
@@ -65,10 +66,12 @@ lines_over ports run cycles =
     let columns = columns_of (signals_from 0 ports) in
     lines (map kind_of columns) (seen_below run (map (λ s. s.name) columns) cycles)
 
+-- a text is a dump of a run and shows the lines of that run
 pub record ReadsBack (text : List ℕ) (ports : List Port) (cycles : ℕ) (run : PortValues) : Type 0 where
   pub dumped : IsDumped text ports cycles run
   pub shows : OfLines text (λ bytes. bytes ≡ lines_over ports run cycles)
 
+-- what is written of a run, over ports that can be dumped, reads back as that run with its lines
 abbrev pub DumpsReadBack : Type 0
 DumpsReadBack =
     (name : List ℕ) (ports : List Port) (rows : List (List Word)) (run : PortValues)

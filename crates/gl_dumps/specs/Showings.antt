@@ -25,6 +25,7 @@ value_in values number = unwrap_or (option_and_then (bits_in values) number) 0
 abbrev pub steady : List Signal → List (Option Word) → PortValues
 steady signals values t name = option_and_then (bits_in values) (number_of_name signals name)
 
+-- the names of the signals that show columns
 abbrev pub names_shown : List Signal → List (List ℕ)
 names_shown signals = map (λ s. s.name) (columns_of signals)
 

@@ -30,6 +30,7 @@ given_from given [] signal time = given
 given_from given (c ∷ cs) signal time =
     given_from (if nat_eq c.signal signal && nat_le c.time time then Some c.value else given) cs signal time
 
+-- the value that a signal was given last up to a time, if any
 unfoldable pub value_at : List Change → ℕ → ℕ → Option ℕ
 value_at changes signal time = given_from None changes signal time
 
@@ -38,10 +39,11 @@ abbrev pub all_given : List Change → ℕ → Bool
 all_given changes zero = true
 all_given changes (suc n) = is_some (value_at changes n 0) && all_given changes n
 
--- the number of the signal with an identifier, and of that with a name
+-- the number of the signal with this identifier
 abbrev pub number_of_code : List Signal → List ℕ → Option ℕ
 number_of_code signals code = position (λ s. bytes_eq s.code code) signals
 
+-- the number of the signal with this name
 abbrev pub number_of_name : List Signal → List ℕ → Option ℕ
 number_of_name signals name = position (λ s. bytes_eq s.name name) signals
 
@@ -53,6 +55,7 @@ abbrev pub value_of : Dump → ℕ → Option ℕ → Option ℕ
 value_of dump n None = None
 value_of dump n (Some signal) = value_at dump.changes signal n
 
+-- the signals of a dump as ports of a run; simulation cycle 0 comes before the dump's first time
 abbrev pub ports_of : Dump → PortValues
 ports_of dump zero name = None
 ports_of dump (suc n) name = value_of dump n (number_of_name dump.signals name)
@@ -62,6 +65,7 @@ abbrev pub shows_column : Signal → Bool
 shows_column s =
     bytes_eq (take 5 s.name) (codes "out__") && not (bytes_eq s.name out_valid) && not (bytes_eq s.name out_eos)
 
+-- the signals that show the columns of a result, in their order
 abbrev pub columns_of : List Signal → List Signal
 columns_of signals = filter shows_column signals
 

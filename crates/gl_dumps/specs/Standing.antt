@@ -26,9 +26,11 @@ use Rattle.gl_dumps.specs.Signals.{Dump, Signal, number_of_code, number_of_name,
 
 -- ---- signals
 
+-- a signal as the reader holds it
 abbrev pub signal_of : Here → Signal
 signal_of s = record { code = s.code.now; name = s.name.now; width = s.width }
 
+-- the signals that the reader holds, in their order
 abbrev pub signals_of : Signals → List Signal
 signals_of s = map signal_of s.list.items
 
@@ -47,12 +49,14 @@ pub record IsIndexed (s : Signals) : Type 0 where
   pub widths' : AllByRecursion (λ x. IsWidth x.width) (signals_of s)
   pub apart' : AreNumbered (signals_of s)
 
+-- the reader stopped at a fault of the text, and not for want of memory
 abbrev pub is_fault : Stop → Bool
 is_fault stop.Memory = false
 is_fault (stop.Fault fault) = true
 
 -- ---- declarations
 
+-- where the reader of declarations stands, as the spec names it
 abbrev pub stage_of : Coming → Stage
 stage_of coming.Section = Section
 stage_of coming.Passed = Passed
@@ -69,11 +73,13 @@ stage_of (coming.VarEnd signal) = VarEnd (signal_of signal)
 stage_of coming.DefinitionsEnd = DefinitionsEnd
 stage_of coming.Changes = Changes
 
+-- how far the one scope has come, as the spec names it
 abbrev pub scope_of : Around → Scope
 scope_of around.Before = Before
 scope_of around.Open = Open
 scope_of around.Closed = Closed
 
+-- what was read while the declarations last: signals alone, and neither time nor change
 abbrev pub declaring_of : Declaring → Reading
 declaring_of d = record {
   stage = stage_of d.stage;
@@ -99,6 +105,7 @@ IsNewAt all DefinitionsEnd = show_none all ≡ false
 IsNewAt all Changes = show_none all ≡ false
 IsNewAt all _ = Unit {0}
 
+-- the reader of declarations is sound: its signals are numbered, and what it has begun is new among them
 pub record CanDeclare (d : Declaring) : Type 0 where
   pub indexed : IsIndexed d.signals
   pub new : IsNewAt (signals_of d.signals) (stage_of d.stage)
@@ -111,6 +118,7 @@ Declares said new (Err stop.Memory) = Unit {0}
 
 -- ---- changes
 
+-- where the reader of changes stands, as the spec names it
 abbrev pub waiting_of : Waiting → Stage
 waiting_of waiting.Change = Changes
 waiting_of waiting.Comment = Comment
@@ -141,7 +149,7 @@ pub record IsReady (c : Changing) : Type 0 where
   pub room : HaveRoom (signals_of c.signals.now) c.values.items
   pub bits : HoldsBits c.waits
 
--- the signals are the same, and the time does not fall
+-- a token leaves the signals as they are, and the time does not fall
 pub record GoesOn (old new : Changing) : Type 0 where
   pub signals' : new.signals ≡ old.signals
   pub later : unwrap_or old.time 0 ≤ unwrap_or new.time 0
@@ -155,7 +163,7 @@ pub record Holds (r : Reading) (c : Changing) : Type 0 where
   pub late : now_of r ≤ 67108864
   pub values' : (i : ℕ) → i < length c.values.items → bits_in c.values.items i ≡ value_at r.changes i (now_of r)
 
--- and knows what may come next
+-- what is held agrees with what was read, and so does what may come next
 pub record Keeps (r : Reading) (c : Changing) : Type 0 where
   pub stage' : r.stage ≡ waiting_of c.waits
   pub holds : Holds r c
@@ -166,6 +174,7 @@ pub record KeepsNext (said : Step) (c : Changing) : Type 0 where
   pub says : said ≡ Ok read
   pub keeps : Keeps read c
 
+-- what a token did to the changes agrees with the spec: a reading that is kept, or the fault
 abbrev pub Changed : Step → Changing → Result (Unit {0}) VcdFault → Type 0
 Changed said new (Ok u) = KeepsNext said new
 Changed said new (Err fault) = said ≡ Err fault
@@ -177,6 +186,7 @@ pub record Takes (c : Changing) (t : Token) : Type 0 where
   pub behind : Reading
   pub says : next read t ≡ Ok behind
 
+-- the reader of changes keeps a reading from which the tokens left give a dump
 pub record IsJudged (len : ℕ) (ts : List Token) (c : Changing) : Type 0 where
   pub read : Reading
   pub keeps : Keeps read c

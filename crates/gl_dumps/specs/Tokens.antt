@@ -25,5 +25,6 @@ tokens_from held at (b ∷ bs) =
     if is_blank b then completed held ++ tokens_from None (at + 1) bs
     else tokens_from (Some (with_byte held at b)) (at + 1) bs
 
+-- the tokens of a whole text with their places
 unfoldable pub tokens_of : List ℕ → List Token
 tokens_of text = tokens_from None 0 text

@@ -13,16 +13,19 @@ abbrev pub shown_by : Result Dump VcdFault → Result (List ℕ) VcdFault
 shown_by (Ok dump) = Ok (lines_of dump)
 shown_by (Err fault) = Err fault
 
+-- the lines that a text shows, or its fault
 abbrev pub shows : List ℕ → Result (List ℕ) VcdFault
 shows text = shown_by (dump_of text)
 
--- a scope, one with what shows a result without columns, and the end of both
+-- the beginning of a dump, in which the one scope opens
 abbrev pub scope : List ℕ
 scope = codes "$scope module q $end "
 
+-- a scope whose signals show no column of a result
 abbrev pub columnless : List ℕ
 columnless = scope ++ codes "$var wire 1 ! out__valid $end $var wire 1 $ out__eos $end "
 
+-- the end of a scope and of the declarations
 abbrev pub ended : List ℕ
 ended = codes "$upscope $end $enddefinitions $end "
 
@@ -31,6 +34,7 @@ abbrev pub declared : List ℕ
 declared =
     scope ++ codes "$var wire 1 ! out__valid $end $var reg 8 # out__v [7:0] $end $var wire 1 $ out__eos $end " ++ ended
 
+-- a port of this name and width
 abbrev pub port : List ℕ → ℕ → Port
 port name width = record { name = name; width = width }
 
@@ -46,11 +50,13 @@ abbrev pub row_of : List Port → List ℕ → List Word
 row_of (p ∷ ps) (v ∷ vs) = record { bits = v; width = p.width } ∷ row_of ps vs
 row_of ps vs = []
 
+-- the rows of two cycles of a module with one column: a price that comes in, and the same price as result
 abbrev pub rows_of_price : List (List Word)
 rows_of_price =
     row_of ports_of_price (0 ∷ 1 ∷ 5 ∷ 1 ∷ 0 ∷ 0 ∷ 0 ∷ 0 ∷ 0 ∷ [])
     ∷ row_of ports_of_price (0 ∷ 0 ∷ 0 ∷ 0 ∷ 1 ∷ 5 ∷ 1 ∷ 0 ∷ 0 ∷ []) ∷ []
 
+-- the dump of those two cycles, line by line
 abbrev pub text_of_price : List ℕ
 text_of_price =
     line (codes "$timescale 1 ns $end") ++ line (codes "$scope module q__r $end")

@@ -7,6 +7,7 @@ use Rattle.gl_schema.specs.Profile.{clk}
 use Rattle.gl_verilog.specs.Module.{Declaration, Module}
 use Rattle.gl_dumps.specs.Dumped.{Port}
 
+-- a declaration as a port of the dump: its name and its width
 abbrev pub port_declared : Declaration → Port
 port_declared d = record { name = d.name; width = d.width }
 
@@ -15,6 +16,7 @@ abbrev pub ports_among : List Declaration → List Port
 ports_among [] = []
 ports_among (d ∷ ds) = if bytes_eq d.name clk then ports_among ds else port_declared d ∷ ports_among ds
 
+-- the ports of a module as the dump shows them, the clock left out
 abbrev pub ports_of : Module → List Port
 ports_of m = ports_among (take m.ports m.declarations)
 
@@ -28,14 +30,16 @@ line text = text ++ 10 ∷ []
 abbrev pub code_of : ℕ → List ℕ
 code_of i = (33 + i / 94) ∷ (33 + i % 94) ∷ []
 
--- the declarations of ports, from a number on
+-- the line that declares a port, under the identifier of its number
 abbrev pub declaration : ℕ → Port → List ℕ
 declaration i p = line (codes "$var wire " ++ decimal p.width ++ 32 ∷ (code_of i ++ 32 ∷ (p.name ++ codes " $end")))
 
+-- one line for each port, numbered from here on
 abbrev pub declarations : ℕ → List Port → List ℕ
 declarations i [] = []
 declarations i (p ∷ ps) = declaration i p ++ declarations (i + 1) ps
 
+-- what stands before the first time: the unit of time, the module as the one scope, and its ports
 unfoldable pub header : List ℕ → List Port → List ℕ
 header name ports =
     line (codes "$timescale 1 ns $end") ++ line (codes "$scope module " ++ name ++ codes " $end")
@@ -51,6 +55,7 @@ binary v = digits_onto 128 2 false v []
 abbrev pub value_text : Word → List ℕ
 value_text w = if nat_eq w.width 1 then decimal w.bits else 98 ∷ (binary w.bits ++ 32 ∷ [])
 
+-- the line that gives a port its value
 abbrev pub change : ℕ → Word → List ℕ
 change i w = line (value_text w ++ code_of i)
 
@@ -59,15 +64,17 @@ abbrev pub differs : Option Word → Word → Bool
 differs None w = true
 differs (Some old) w = not (nat_eq old.bits w.bits)
 
+-- a word differs from that of the row before, or no row is before
 abbrev pub is_new : Option (List Word) → ℕ → Word → Bool
 is_new None i w = true
 is_new (Some before) i w = differs (slice_get before i) w
 
--- the changes of a row, from a place on, and whether there are some
+-- the lines of the ports that changed, from a place of the row on
 abbrev pub changes : Option (List Word) → ℕ → List Word → List ℕ
 changes before i [] = []
 changes before i (w ∷ ws) = (if is_new before i w then change i w else []) ++ changes before (i + 1) ws
 
+-- some word of a row differs from the row before
 abbrev pub has_new : Option (List Word) → ℕ → List Word → Bool
 has_new before i [] = false
 has_new before i (w ∷ ws) = is_new before i w || has_new before (i + 1) ws

@@ -50,16 +50,22 @@ pub enum Stage<'a> {
 /// The one scope: it has not come, or is open, or is closed.
 #[derive(Clone, Copy, PartialEq, Eq, Debug)]
 pub enum Scope {
+    /// No scope has come.
     Before,
+    /// The scope is open: signals may be declared.
     Open,
+    /// The scope is closed: no signal may come any more.
     Closed,
 }
 
 /// The signals so far, where the scope stands, and what may come next.
 #[derive(Drop)]
 pub struct Declaring<'a> {
+    /// The signals that were declared, in their order.
     pub signals: Signals<'a>,
+    /// How far the one scope has come.
     pub scope: Scope,
+    /// What may come next, with what is known of a signal that is begun.
     pub stage: Stage<'a>,
 }
 

@@ -24,6 +24,7 @@ use Rattle.gl_elaborate.specs.Plans.{levelled, selected, column_under, picked_te
 abbrev pub FitsNext : List PlanNode → PlanNode → Type 0
 FitsNext nodes n = Fits nodes (length nodes) n
 
+-- each node that a number of levels adds fits the plan at which it is added
 abbrev pub LevelsFit : ℕ → ℕ → Placed → List Term → Option Term → Type 0
 LevelsFit zero base at items filter = Unit {0}
 LevelsFit (suc depth) base at items filter =
@@ -32,13 +33,16 @@ LevelsFit (suc depth) base at items filter =
     × LevelsFit depth (base + length level) (added at.nodes (node.Compute at.root level))
     (map (reduced base level) items) (option_map (reduced base level) filter)
 
+-- the levels that take apart the items and the filter fit
 abbrev pub LevelledFit : ℕ → Placed → List Term → Option Term → Type 0
 LevelledFit base at items filter = LevelsFit (depth_of_all (with_filter items filter)) base at items filter
 
+-- the node of the filter fits, where there is a filter
 abbrev pub SelectFits : Placed → Option Term → Type 0
 SelectFits at None = Unit {0}
 SelectFits at (Some t) = FitsNext at.nodes (node.Select at.root (column_under (operand_of t)))
 
+-- the node that picks the items fits
 abbrev pub ProjectFits : Placed → List Term → Type 0
 ProjectFits at items = FitsNext at.nodes (node.Project at.root (map operand_of items))
 
@@ -121,6 +125,7 @@ pub record CanPlaceRows (columns : List NamedColumn) (pick : PickShape) (filter 
   pub filter_term : FilterTerm columns filter
   pub room : length columns + ops_in_all (with_filter (picked_terms columns pick) (filter_of columns filter)) < 65536
 
+-- aggregates can become nodes: they are accepted, their kinds and terms are sound, and columns stay below 65,536
 pub record CanPlaceTotal (columns : List NamedColumn) (items : List AggItemShape) : Type 0 where
   pub typed : AllByRecursion (λ (i : AggItemShape). IsAgg columns i.agg) items
   pub kinds : AllByRecursion (λ (i : AggItemShape). IsKind (agg_kind columns i.agg)) items

@@ -47,6 +47,7 @@ pub record IsRightPlan (schema : Schema) (statement : Statement) : Type 0 where
       → IsPlanResult (plan_of schema statement).nodes (plan_of schema statement).root (leaf_inputs inputs body) out spill
       → IsResult schema statement inputs out spill
 
+-- the plan of every accepted statement is right for that statement
 abbrev pub PlansAreRight : Type 0
 PlansAreRight = (schema : Schema) (statement : Statement) → IsChecked schema statement → IsRightPlan schema statement
 
@@ -66,6 +67,7 @@ pub record AreRightTogether (schema : Schema) (statements : List Statement) (all
   pub plan : IsPlan all.nodes
   pub each : AllZip (IsRightAt all.nodes schema) statements all.roots
 
+-- the joint plan of accepted statements is right for each of them
 abbrev pub SeveralAreRight : Type 0
 SeveralAreRight = (schema : Schema) (statements : List Statement) → AllByRecursion (IsChecked schema) statements
     → AreRightTogether schema statements (plans_of [] schema statements)

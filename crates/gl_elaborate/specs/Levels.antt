@@ -10,6 +10,7 @@ use Rattle.gl_algebra.specs.declared.node.ColOp.TheVariants as op
 use Rattle.gl_algebra.specs.contracts.node.ColOpPartialEq.TheImpl as OfColOp
 use Rattle.gl_elaborate.specs.Terms.{Term, Column, Literal, Not, Cast, Binary}
 
+-- two operations on columns are equal
 abbrev pub same_op : ColOp → ColOp → Bool
 same_op = OfColOp.ghosts.eq
 
@@ -21,6 +22,7 @@ leaf_of (Not t) = None
 leaf_of (Cast t kind) = None
 leaf_of (Binary op l r) = None
 
+-- an operation of two operands, where both are columns or literals
 abbrev pub binary_of : Op → Option Operand → Option Operand → Option ColOp
 binary_of operator None right = None
 binary_of operator (Some x) None = None
@@ -34,7 +36,7 @@ op_of (Not t) = option_map op.Not (leaf_of t)
 op_of (Cast t kind) = option_map (λ x. op.Cast x kind) (leaf_of t)
 op_of (Binary op l r) = binary_of op (leaf_of l) (leaf_of r)
 
--- it alone, or else these
+-- an operation alone, or else these
 abbrev pub or_these : Option ColOp → List ColOp → List ColOp
 or_these None ops = ops
 or_these (Some op) ops = op ∷ []
@@ -47,11 +49,12 @@ innermost (Not t) = or_these (op_of (Not t)) (innermost t)
 innermost (Cast t kind) = or_these (op_of (Cast t kind)) (innermost t)
 innermost (Binary op l r) = or_these (op_of (Binary op l r)) (innermost l ++ innermost r)
 
+-- the innermost operations of terms, from left to right
 abbrev pub innermost_of_all : List Term → List ColOp
 innermost_of_all [] = []
 innermost_of_all (t ∷ ts) = innermost t ++ innermost_of_all ts
 
--- each of them once, in order of first occurrence
+-- the innermost operations of terms, each once, in order of first occurrence
 unfoldable pub level_of : List Term → List ColOp
 level_of terms = insert_all same_op [] (innermost_of_all terms)
 

@@ -45,7 +45,7 @@ levels (suc depth) base at items filter =
     levels depth (base + length level) (added at.nodes (node.Compute at.root level))
     (map (reduced base level) items) (option_map (reduced base level) filter)
 
--- as many as the terms are deep
+-- as many levels as the terms are deep, over a node with `base` columns
 abbrev pub levelled : ℕ → Placed → List Term → Option Term → Levelled
 levelled base at items filter = levels (depth_of_all (with_filter items filter)) base at items filter
 
@@ -59,6 +59,7 @@ condition_of (Not t) = Not t
 condition_of (Cast t kind) = Cast t kind
 condition_of (Binary op l r) = Binary op l r
 
+-- a filter as a term of one bit, if there is a filter
 abbrev pub filter_of : List NamedColumn → Option ExprShape → Option Term
 filter_of columns filter = option_map (λ e. condition_of (term_of columns (Unsigned 1) e)) filter
 
@@ -67,6 +68,7 @@ abbrev pub picked_terms : List NamedColumn → PickShape → List Term
 picked_terms columns shape.All = map Column (range_with_len 0 (length columns))
 picked_terms columns (shape.Items items) = map (λ (i : ItemShape). term_of columns (kind_alone i.expr) i.expr) items
 
+-- the column that an operand names; a literal names none and counts as column 0
 abbrev pub column_under : Operand → ℕ
 column_under (operand.Column column) = column
 column_under (operand.Literal word kind) = 0
@@ -76,9 +78,11 @@ abbrev pub selected : Placed → Option Term → Placed
 selected at None = at
 selected at (Some t) = added at.nodes (node.Select at.root (column_under (operand_of t)))
 
+-- a node that picks these terms, each a column or a literal by now, behind a plan
 abbrev pub projected : Placed → List Term → Placed
 projected at items = added at.nodes (node.Project at.root (map operand_of items))
 
+-- a select of rows: what its items and its filter compute, then the filter, then the items
 abbrev pub rows_over : List NamedColumn → PickShape → Option ExprShape → Placed → Placed
 rows_over columns pick filter at =
     let over = levelled (length columns) at (picked_terms columns pick) (filter_of columns filter) in
@@ -95,6 +99,7 @@ arguments_of columns (shape.Max e) = term_of columns (kind_alone e) e ∷ []
 arguments_of columns (shape.Avg e) = term_of columns (kind_alone e) e ∷ []
 arguments_of columns (shape.Wsum e weights) = term_of columns (kind_alone e) e ∷ []
 
+-- the terms of all arguments in the order of their aggregates; counts have none
 abbrev pub arguments_of_all : List NamedColumn → List AggItemShape → List Term
 arguments_of_all columns [] = []
 arguments_of_all columns (i ∷ items) = arguments_of columns i.agg ++ arguments_of_all columns items
@@ -104,10 +109,12 @@ abbrev pub first_of : List Term → Operand
 first_of [] = operand.Column 0
 first_of (t ∷ ts) = operand_of t
 
+-- all terms but the first
 abbrev pub rest_of : List Term → List Term
 rest_of [] = []
 rest_of (t ∷ ts) = ts
 
+-- weights as words of the argument's width
 abbrev pub weights_of : Kind → List ℕ → List Word
 weights_of kind weights = map (λ n. record { bits = n; width = width_of kind }) weights
 
@@ -130,10 +137,12 @@ behind (shape.Max e) terms = rest_of terms
 behind (shape.Avg e) terms = rest_of terms
 behind (shape.Wsum e weights) terms = rest_of terms
 
+-- the aggregates of a plan's node, each over the operand that its argument became
 abbrev pub aggs_of : List NamedColumn → List AggItemShape → List Term → List PlanAgg
 aggs_of columns [] terms = []
 aggs_of columns (i ∷ items) terms = agg_over columns i.agg terms ∷ aggs_of columns items (behind i.agg terms)
 
+-- a select of aggregates: what their arguments compute, then the aggregates over it
 abbrev pub totals_over : List NamedColumn → List AggItemShape → Placed → Placed
 totals_over columns aggs at =
     let over = levelled (length columns) at (arguments_of_all columns aggs) None in
@@ -181,6 +190,7 @@ placed read sources (shape.Concat l r) nodes =
 abbrev pub stream_number : List Stream → List ℕ → ℕ
 stream_number streams name = position_or_len (λ s. bytes_eq name s.name) streams
 
+-- the node that reads a stream of the schema, by its number and the kinds of its columns
 abbrev pub stream_node : List Stream → List ℕ → PlanNode
 stream_node streams name = node.Stream (stream_number streams name) (kinds_of (source_columns streams name))
 

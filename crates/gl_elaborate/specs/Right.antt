@@ -25,6 +25,7 @@ pace_at (node.TimeWindow source body size advance) = unsteady
 pace_at (node.Group source body key groups) = unsteady
 pace_at (node.Partition source body key groups size advance) = unsteady
 
+-- the pace of a query as that of a plan's node: none, one row, or in step with the node of a source
 abbrev pub plan_pace : (List ℕ → PlanNode) → Option query.Pace → Pace
 plan_pace read None = unsteady
 plan_pace read (Some query.Once) = once
@@ -41,6 +42,7 @@ leaves_of read (shape.Partition var source key groups size advance body) = leave
 leaves_of read (shape.Union l r) = leaves_of read l ++ leaves_of read r
 leaves_of read (shape.Concat l r) = leaves_of read l ++ leaves_of read r
 
+-- the shape that a query's node must have: its columns, closing, pace and leaves
 abbrev pub shape_for : (List ℕ → PlanNode) → List Stream → QueryShape → Shape
 shape_for read sources q = record {
   kinds = kinds_of (columns_of sources q);

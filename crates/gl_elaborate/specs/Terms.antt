@@ -13,6 +13,7 @@ use Rattle.gl_query.specs.Shapes as shape
 use Rattle.gl_query.specs.Values.{column_number, kind_alone, operand_place}
 use Rattle.gl_algebra.specs.Columns.{bit_kind, kind_of_column, SortFits}
 
+-- an expression over columns by number; each literal is a word of its kind
 pub data Term : Type 0 where
   Column : (number : ℕ) → Term
   Literal : (word : Word) (kind : Kind) → Term
@@ -36,7 +37,7 @@ term_of columns place (shape.Binary op l r) =
     Binary op (term_of columns (operand_place columns op place l r) l)
     (term_of columns (operand_place columns op place r l) r)
 
--- its kind over columns of these kinds
+-- the kind of a term over columns of these kinds
 abbrev pub term_kind : List Kind → Term → Kind
 term_kind kinds (Column number) = kind_of_column kinds number
 term_kind kinds (Literal word kind) = kind
@@ -44,7 +45,7 @@ term_kind kinds (Not t) = bit_kind
 term_kind kinds (Cast t kind) = kind
 term_kind kinds (Binary op l r) = result_kind (sort_of op) (term_kind kinds l)
 
--- its value over a row
+-- the value of a term over a row
 abbrev pub term_value : List Kind → List ℕ → Term → ℕ
 term_value kinds row (Column number) = slice_index row number
 term_value kinds row (Literal word kind) = word.bits
@@ -52,7 +53,7 @@ term_value kinds row (Not t) = not_of 1 (term_value kinds row t)
 term_value kinds row (Cast t kind) = cast_of (term_kind kinds t) kind (term_value kinds row t)
 term_value kinds row (Binary op l r) = operate op (term_kind kinds l) (term_value kinds row l) (term_value kinds row r)
 
--- its columns are there, its literals are words of their kinds, its operators fit their operands
+-- a term's columns are there, its literals are words of their kinds, and its operators fit their operands
 abbrev pub IsTerm : List Kind → Term → Type 0
 IsTerm kinds (Column number) = number < length kinds
 IsTerm kinds (Literal word kind) = IsWord word × IsKind kind × (word.width ≡ width_of kind)
@@ -70,6 +71,7 @@ depth_of (Not t) = 1 + depth_of t
 depth_of (Cast t kind) = 1 + depth_of t
 depth_of (Binary op l r) = 1 + max (depth_of l) (depth_of r)
 
+-- the depth of the deepest term; 0 where there is none
 abbrev pub depth_of_all : List Term → ℕ
 depth_of_all [] = 0
 depth_of_all (t ∷ ts) = max (depth_of t) (depth_of_all ts)
@@ -82,6 +84,7 @@ ops_in (Not t) = 1 + ops_in t
 ops_in (Cast t kind) = 1 + ops_in t
 ops_in (Binary op l r) = 1 + ops_in l + ops_in r
 
+-- how many operations stand in all terms together
 abbrev pub ops_in_all : List Term → ℕ
 ops_in_all [] = 0
 ops_in_all (t ∷ ts) = ops_in t + ops_in_all ts

@@ -10,10 +10,15 @@ use gl_bits::{Kind, Op, Word};
 /// An expression over the columns of a node, by their numbers.
 #[derive(Drop)]
 pub enum Tree {
+    /// A column by its number.
     Column(u16),
+    /// A literal: its word, of its kind.
     Literal(Word, Kind),
+    /// The other bit.
     Not(Box<Tree>),
+    /// The value as another kind.
     Cast(Box<Tree>, Kind),
+    /// Two operands under an operator.
     Binary(Op, Box<Tree>, Box<Tree>),
 }
 

@@ -21,7 +21,7 @@ use Rattle.gl_elaborate_plan.specs.declared.planning.Planned.{Planned}
 abbrev pub AreAllSmall : List PlanNode → Type 0
 AreAllSmall nodes = AreSmallBefore nodes (length nodes)
 
--- and its weight with the output is at most 262,144
+-- every figure of a plan is below 2^32, and its weight with the output is at most 262,144
 pub record IsWithinLimits (at : Placed) : Type 0 where
   pub small : AreAllSmall at.nodes
   pub light : weight_with_output at.nodes at.root ≤ most_weight
@@ -62,5 +62,6 @@ pub record HasOneLimit (at : Placed) (limit : Limit) : Type 0 where
   pub only : (other : Limit) → PassesLimit at other → other ≡ limit
   pub over : IsWithinLimits at → ⊥
 
+-- a plan that passes limits has one that is answered, and no other
 abbrev pub PlansPassOneLimit : Type 0
 PlansPassOneLimit = (at : Placed) (limit : Limit) → PassesLimit at limit → HasOneLimit at limit

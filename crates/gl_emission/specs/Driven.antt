@@ -19,7 +19,7 @@ pub record Drives (m : Module) (schema : Schema) (gap : ℕ) (beats : List Beat)
 abbrev pub Property : Type 1
 Property = List Beat → PortValues → Type 0
 
--- it holds of the beats and of the module's ports, whatever drives the module
+-- a property holds of the beats and of the module's ports, whatever drives the module
 abbrev pub OverRuns : Module → Schema → ℕ → Property → Type 0
 OverRuns m schema gap P = (beats : List Beat) (value : ℕ → Nets) (word : ℕ → Memories)
     → Drives m schema gap beats value word → P beats (port_of m value)

@@ -30,7 +30,7 @@ abbrev pub IsPastClock : Property → Type 0
 IsPastClock P =
     (beats : List Beat) (port port' : PortValues) → SameButClock port port' → P beats port → P beats port'
 
--- it holds of each trace of the netlist that has beats of the schema on its input ports which keep the gap
+-- a property holds of each trace of the netlist over beats of the schema that keep the gap
 abbrev pub OverTraces : Net → Schema → ℕ → Property → Type 0
 OverTraces net schema gap P =
     (run : Run) (beats : List Beat) → IsTrace net run → AreBeats schema beats → KeepsGap gap beats
@@ -42,8 +42,7 @@ abbrev pub HoldsOfRuns : Net → Schema → Module → Type 1
 HoldsOfRuns net schema m =
     (gap : ℕ) (P : Property) → IsPastClock P → OverTraces net schema gap P → OverRuns m schema gap P
 
--- the same told without a property: some trace of the netlist over these beats has ports that carry this, the clock
--- aside
+-- some trace of the netlist over these beats has ports that carry this, the clock aside
 pub record IsTraced (net : Net) (schema : Schema) (beats : List Beat) (port : PortValues) : Type 0 where
   pub run : Run
   pub trace : IsTrace net run
@@ -52,10 +51,12 @@ pub record IsTraced (net : Net) (schema : Schema) (beats : List Beat) (port : Po
 
 -- ---- ports
 
+-- a direction of a netlist's port as a direction of the profile
 abbrev pub way_of : circuit.Direction → Direction
 way_of way.In = In
 way_of way.Out = Out
 
+-- a port that a netlist shows, as a port of the profile
 abbrev pub port_like : PortShape → ProfilePort
 port_like s = record { direction = way_of s.direction; name = s.name; width = s.width }
 

@@ -6,7 +6,7 @@ use Rattle.gl_elaborate.specs.Plans.{plan_of}
 use Rattle.gl_elaborate_plan.specs.Planned.{IsWithinLimits}
 use Rattle.gl_explain.specs.Lines.{plan_text}
 
--- its plan is within the limits, and these are the bytes of both
+-- a statement's plan is within the limits, and the bytes are the text of that plan
 pub record IsExplained (schema : Schema) (statement : Statement) (bytes : List ℕ) : Type 0 where
   pub within : IsWithinLimits (plan_of schema statement)
   pub is : bytes ≡ plan_text schema statement (plan_of schema statement)

@@ -21,10 +21,11 @@ use Rattle.gl_algebra.specs.declared.figures.Spare.{Spare}
 unfoldable pub numbered : List ℕ → ℕ → List ℕ
 numbered front number = front ++ decimal number
 
--- a node is `p` and its number, a column `c` and its number
+-- a node is written as `p` and its number
 abbrev pub node_text : ℕ → List ℕ
 node_text number = numbered (codes " p") number
 
+-- a column of a plan is written as `c` and its number
 abbrev pub column_text : ℕ → List ℕ
 column_text number = numbered (codes " c") number
 
@@ -33,6 +34,7 @@ abbrev pub operand_text : Operand → List ℕ
 operand_text (Column number) = column_text number
 operand_text (Literal word kind) = numbered (codes " #") word.bits
 
+-- operands one behind the other, each with its space
 abbrev pub operands_text : List Operand → List ℕ
 operands_text [] = []
 operands_text (x ∷ xs) = operand_text x ++ operands_text xs
@@ -46,6 +48,7 @@ agg_text (agg.Max x) = codes " max"
 agg_text (agg.Avg x) = codes " avg"
 agg_text (agg.Wsum x weights) = codes " wsum"
 
+-- aggregates one behind the other
 abbrev pub aggs_text : List PlanAgg → List ℕ
 aggs_text [] = []
 aggs_text (a ∷ as') = agg_text a ++ aggs_text as'
@@ -55,6 +58,7 @@ abbrev pub name_of : Option Stream → List ℕ
 name_of None = []
 name_of (Some s) = s.name
 
+-- a stream's node is told as `input` and the name of the stream
 unfoldable pub stream_text : Schema → ℕ → List ℕ
 stream_text schema number = codes "input " ++ name_of (slice_get schema.streams number)
 
@@ -109,7 +113,7 @@ lines_of schema nodes = lines_from schema nodes 0 nodes
 unfoldable pub root_text : ℕ → List ℕ
 root_text root = codes "root" ++ node_text root ++ codes "\n"
 
--- its spare copies, where it has some: their number, the gap, and how late the end comes
+-- the line of a root's spare copies, where it has some: their number, the gap, and how late the end comes
 unfoldable pub spare_text : Option Spare → List ℕ
 spare_text None = []
 spare_text (Some it) =

@@ -24,13 +24,15 @@ small_over nodes node = small_of (figures_from (shape_of nodes) (figures_of node
 abbrev pub capped : ℕ → ℕ
 capped n = min n (2 ^ 62)
 
+-- the value of a node, or 2^62 where it is more
 abbrev pub capped_at : (ℕ → ℕ) → ℕ → ℕ
 capped_at value number = capped (value number)
 
--- the own part, and the weight, of a node that has so many lines, from the capped weights of the nodes that it names
+-- the own part of a node with this many lines, from the capped weights of the nodes that it names
 abbrev pub own_weight_by : List PlanNode → ℕ → PlanNode → ℕ
 own_weight_by nodes lines node = own_weight (shape_of nodes) (figures_of nodes) (capped_at (weight_of nodes)) lines node
 
+-- the weight of a node, from the capped weights of its children and its own part
 abbrev pub weight_by : List PlanNode → ℕ → PlanNode → ℕ
 weight_by nodes lines node = sum_over_children (capped_at (weight_of nodes)) node + own_weight_by nodes lines node
 
@@ -43,6 +45,7 @@ abbrev pub copies_in_body : List PlanNode → PlanNode → ℕ
 copies_in_body nodes (Window source body size advance) = capped (copies_of nodes body)
 copies_in_body nodes node = 0
 
+-- the capped copies in the body of a root that is windows over tuples
 unfoldable pub copies_inside : List PlanNode → ℕ → ℕ
 copies_inside nodes root = value_at_node (copies_in_body nodes) 0 (slice_get nodes root)
 

@@ -13,9 +13,11 @@ use Rattle.gl_algebra.specs.Shapes.{Shape, shape_of, with_stream, with_body}
 abbrev pub trades : List Kind
 trades = Text 4 ∷ Unsigned 32 ∷ Unsigned 32 ∷ []
 
+-- the stream of trades gives rows in step with itself
 abbrev pub of_stream : Shape
 of_stream = record { kinds = trades; closing = false; pace = with_stream 0; leaves = Stream 0 trades ∷ [] }
 
+-- a body's input of trades gives rows in step with the body
 abbrev pub of_input : Shape
 of_input = record { kinds = trades; closing = false; pace = with_body; leaves = Body trades ∷ [] }
 

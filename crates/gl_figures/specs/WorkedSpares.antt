@@ -14,16 +14,19 @@ greatest_of neighbours =
 abbrev pub total_of_group : Figures
 total_of_group = aggregate_figures 1 (group_figures 1 input_figures (aggregate_figures 1 input_figures))
 
+-- spare copies with these numbers
 abbrev pub spares : ℕ → ℕ → ℕ → Option Spare
 spares copies gap shift = Some (record { copies = copies; gap = gap; shift = shift })
 
--- over a stream, and how many cycles after the last beat the end leaves a circuit
+-- the spare copies of windows over a stream
 abbrev pub over_stream : ℕ → ℕ → Figures → Option Spare
 over_stream size advance body = spare_of size advance input_figures body
 
+-- the cycles until the end of windows with spare copies, over a stream
 abbrev pub latency : ℕ → ℕ → Figures → ℕ
 latency size advance body = (spare_figures size advance input_figures body).le + 1
 
+-- spare copies and latencies of worked windows, from the definitions by hand
 pub record WorkedSpares : Type 0 where
   -- the body's ends are 3 cycles apart, so windows of 4 rows each fill up late enough
   pub each : over_stream 4 4 (greatest_of 2) ≡ spares 2 1 2

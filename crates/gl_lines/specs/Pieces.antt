@@ -14,8 +14,10 @@ sampled s n row =
 abbrev pub overflow_if : Bool → ℕ → List ℕ
 overflow_if due n = if due then overflow_line n else []
 
+-- the line of a row where one is shown, and nothing elsewhere
 abbrev pub row_if : Bool → List Kind → ℕ → List ℕ → List ℕ
 row_if due kinds n row = row_line kinds n (if due then Some row else None)
 
+-- the line of the end where it is shown, and nothing elsewhere
 abbrev pub end_if : Bool → ℕ → List ℕ
 end_if due n = if due then end_line n else []

@@ -13,6 +13,7 @@ use Rattle.gl_load.specs.declared.tally.Tally.{Tally as Rust}
 use Rattle.gl_load.specs.Query.{load_schema, query_text, schema_text}
 use Rattle.gl_load.specs.Tallies.{Tally}
 
+-- the tally that the code's value stands for
 abbrev pub tally_in : Rust → Tally
 tally_in t = record { results = t.results; counted = t.counted; last = t.last.now; end = t.end.now }
 
@@ -25,6 +26,7 @@ pub record Kept : Type 0 where
   pub bytes : List ℕ
   pub faults : ℕ
 
+-- a sink that keeps its bytes and never loses one
 abbrev pub kept_state : Kept → SinkState
 kept_state s = record { taken = Some s.bytes; faults = s.faults }
 

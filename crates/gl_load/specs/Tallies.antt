@@ -21,18 +21,21 @@ lines_of (b ∷ bs) = if b == 10 then [] ∷ lines_of bs else in_front b (lines_
 abbrev pub comma_in : List ℕ → Option ℕ
 comma_in line = position (λ b. b == 44) line
 
--- the bytes before a place, and those behind it; without a place all, and none
+-- the bytes before a place of a line; all of them where there is no such place
 abbrev pub before_place : List ℕ → Option ℕ → List ℕ
 before_place line None = line
 before_place line (Some k) = take k line
 
+-- what stands behind a place of a line; nothing where there is no such place
 abbrev pub behind_place : List ℕ → Option ℕ → List ℕ
 behind_place line None = []
 behind_place line (Some k) = drop (k + 1) line
 
+-- the bytes of a line before its first comma
 abbrev pub first_field : List ℕ → List ℕ
 first_field line = before_place line (comma_in line)
 
+-- the bytes of a line behind its first comma
 abbrev pub behind_comma : List ℕ → List ℕ
 behind_comma line = behind_place line (comma_in line)
 
@@ -45,6 +48,7 @@ pub record Tally : Type 0 where
   pub last : List ℕ
   pub end : List ℕ
 
+-- the tally before any line
 abbrev pub no_lines : Tally
 no_lines = record { results = 0; counted = 0; last = []; end = [] }
 
@@ -57,13 +61,16 @@ small (Some n) = if nat_lt n (2 ^ 64) then Some n else None
 unfoldable pub count_in : List ℕ → Option ℕ
 count_in line = small (number_of (first_field (behind_comma line)))
 
+-- a line that tells a count is one more result, counted and kept as the last
 abbrev pub with_count : Tally → List ℕ → Option ℕ → Tally
 with_count t line None = t
 with_count t line (Some n) = record t { results = t.results + 1; counted = t.counted + n; last = line }
 
+-- one line more: it may be a result, and its first field is the end's until another line comes
 abbrev pub with_line : Tally → List ℕ → Tally
 with_line t line = with_count (record t { end = first_field line }) line (count_in line)
 
+-- what is told of all lines of a text
 unfoldable pub tally_of : List ℕ → Tally
 tally_of text = fold with_line no_lines (lines_of text)
 

@@ -18,6 +18,7 @@ later_line kinds before cycle (Some row) = decimal cycle ++ values_text kinds ro
 abbrev pub last_line : List Kind → List Shown → List ℕ
 last_line kinds all = fold (λ before s. later_line kinds before s.cycle s.row) [] all
 
+-- a line that begins with its head
 abbrev pub line : List ℕ → List ℕ → List ℕ
 line head rest = head ++ rest ++ codes "\n"
 

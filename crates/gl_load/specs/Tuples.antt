@@ -15,9 +15,10 @@ symbol_at (suc (suc (suc n))) = codes "ABB"
 abbrev pub load_row : ℕ → List ℕ
 load_row i = text_word 4 (symbol_at (i % 4)) ∷ (100 + (7 * i) % 1000) ∷ (1 + i % 100) ∷ []
 
--- it comes in cycle i, and the end with the last of n
+-- tuple i of n comes in cycle i, and the end comes with the last of them
 abbrev pub load_beat : ℕ → ℕ → Beat
 load_beat n i = record { cycle = i; rows = Some (load_row i) ∷ []; tick = false; end = i + 1 == n }
 
+-- the first beats of the load, one for each tuple
 abbrev pub load_beats : ℕ → List Beat
 load_beats n = map (load_beat n) (range_with_len 0 n)

@@ -11,9 +11,13 @@ use gl_tuples::value::number_of;
 /// first field of the last line of all.
 #[derive(Clone, Copy)]
 pub struct Tally<'a> {
+    /// How many lines tell a result.
     pub results: u64,
+    /// The sum of the counts that the results tell.
     pub counted: u128,
+    /// The last line that tells a result; empty before the first.
     pub last: &'a [u8],
+    /// The first field of the last line, which is its cycle; empty before the first.
     pub end: &'a [u8],
 }
 

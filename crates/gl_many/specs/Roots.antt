@@ -19,7 +19,7 @@ names_of statements = map (λ (s : Statement). s.name.text) statements
 abbrev pub IsNamed : Statement → Type 0
 IsNamed statement = StatementHasNames (statement_shape statement)
 
--- each was checked over the schema, the names in it are names, and no two of them are called the same
+-- the statements were checked over the schema, the names in them are names, and no two have one name
 pub record CanStand (schema : Schema) (statements : List Statement) : Type 0 where
   pub of_schema : IsSchema schema
   pub checked : AllByRecursion (IsChecked schema) statements
@@ -33,7 +33,7 @@ root_of schema statement id = record {
   names = record { into = statement.name.text; columns = column_names (result_columns schema statement) };
 }
 
--- those of several, each at its node
+-- the roots of several statements, each at its node
 abbrev pub roots_of : Schema → List Statement → List ℕ → List Root
 roots_of schema [] ids = []
 roots_of schema (s ∷ statements) [] = []

@@ -24,6 +24,7 @@ use Rattle.gl_many.specs.declared.compiling.Many.{Many}
 abbrev pub face_of : Schema → Statement → Face
 face_of schema s = record { name = s.name.text; columns = result_columns schema s }
 
+-- what each statement shows as its result, in the order of the statements
 abbrev pub faces_of : Schema → List Statement → List Face
 faces_of schema statements = map (face_of schema) statements
 

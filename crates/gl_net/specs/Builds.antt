@@ -22,25 +22,31 @@ IsNode net x b = (run : Run) → IsRun net run → Holds run b.node x
 abbrev pub IsConstant : Net → Word → Bus → Type 0
 IsConstant net word b = (run : Run) → IsRun net run → (t : ℕ) → run.at t b.node ≡ word.bits
 
+-- a bus carries the inversion of another in every run
 abbrev pub IsNot : Net → Bus → Bus → Type 0
 IsNot net x b = (run : Run) → IsRun net run → (t : ℕ) → run.at t b.node ≡ not_of x.width (run.at t x.node)
 
+-- a bus carries what an operator makes of two others in every run
 abbrev pub IsBinary : Net → BinaryOp → Bus → Bus → Bus → Type 0
 IsBinary net op x y b =
     (run : Run) → IsRun net run → (t : ℕ) → run.at t b.node ≡ binary_of op x.width (run.at t x.node) (run.at t y.node)
 
+-- a bus carries one of two others in every run, by a bit
 abbrev pub IsChoice : Net → Bit → Bus → Bus → Bus → Type 0
 IsChoice net test x y b =
     (run : Run) → IsRun net run → (t : ℕ) → run.at t b.node ≡ choose_of (run.at t test.node) (run.at t x.node)
     (run.at t y.node)
 
+-- a bus carries the bits of two others in every run, the second below the first
 abbrev pub IsJoined : Net → Bus → Bus → Bus → Type 0
 IsJoined net x y b =
     (run : Run) → IsRun net run → (t : ℕ) → run.at t b.node ≡ join_of y.width (run.at t x.node) (run.at t y.node)
 
+-- a bus carries some bits of another in every run
 abbrev pub IsCut : Net → Bus → ℕ → ℕ → Bus → Type 0
 IsCut net x high low b = (run : Run) → IsRun net run → (t : ℕ) → run.at t b.node ≡ cut_of high low (run.at t x.node)
 
+-- a bus carries in every run the word that a memory holds at the address on another
 abbrev pub IsWordAt : Net → Store → Bus → Bus → Type 0
 IsWordAt net s x b = (run : Run) → IsRun net run → (t : ℕ) → run.at t b.node ≡ run.word t s.node (run.at t x.node)
 
@@ -62,7 +68,7 @@ StartsAt net b word = (run : Run) → IsRun net run → run.at 1 b.node ≡ word
 abbrev pub Follows : Net → Bus → Bus → Type 0
 Follows net b next = (run : Run) → IsRun net run → (t : ℕ) → run.at (suc (suc t)) b.node ≡ run.at (suc t) next.node
 
--- and in cycle 1, where it has no reset value
+-- a register without a reset value carries in cycle 1 what drives it in cycle 0
 abbrev pub FollowsFirst : Net → Net → Bus → Bus → Type 0
 FollowsFirst old new b next =
     is_free old b.node ≡ true → (run : Run) → IsRun new run → run.at 1 b.node ≡ run.at 0 next.node
@@ -74,9 +80,11 @@ Takes net s write address value =
     → run.word (suc t) s.node k ≡ stored_of (run.at t write.node) (run.at t address.node) (run.at t value.node) k
     (run.word t s.node k)
 
+-- the register bits of a netlist grow by those of one register of this width
 abbrev pub AddsRegister : Net → Net → ℕ → Type 0
 AddsRegister old new width = register_bits_of new ≡ register_bits_of old + width
 
+-- the memory bits of a netlist grow by those of one memory of this size
 abbrev pub AddsMemory : Net → Net → ℕ → ℕ → Type 0
 AddsMemory old new address_bits width = memory_bits_of new ≡ memory_bits_of old + 2 ^ address_bits * width
 
@@ -93,19 +101,21 @@ PutsPort old new direction name node =
 abbrev pub PutsInput : List Node → List Node → List Port → ℕ → Type 0
 PutsInput old new ports width = new ≡ old ++ Input (length ports) width ∷ []
 
--- a register, or a memory, that nothing drives stands at the place
+-- this node is a register that nothing drives yet
 abbrev pub IsOpenRegister : List Node → ℕ → Type 0
 IsOpenRegister nodes at = (w : ℕ) × (reset : Option ℕ) × (slice_get nodes at ≡ Some (Register w reset None))
 
+-- this node is a memory that nothing writes yet
 abbrev pub IsOpenMemory : List Node → ℕ → Type 0
 IsOpenMemory nodes at = (a : ℕ) × (w : ℕ) × (slice_get nodes at ≡ Some (Memory a w None))
 
--- it gives way to the same with what drives it
+-- a register gets what drives it, and all other nodes stay
 abbrev pub PutsNext : List Node → List Node → ℕ → Bus → Type 0
 PutsNext old new at next =
     (w : ℕ) (reset : Option ℕ) → slice_get old at ≡ Some (Register w reset None)
     → new ≡ slice_set old at (Register w reset (Some next))
 
+-- a memory gets what writes it, and all other nodes stay
 abbrev pub PutsDrive : List Node → List Node → ℕ → MemoryDrive → Type 0
 PutsDrive old new at drive =
     (a w : ℕ) → slice_get old at ≡ Some (Memory a w None) → new ≡ slice_set old at (Memory a w (Some drive))

@@ -15,9 +15,11 @@ use Rattle.gl_net.specs.WellFormed.{IsWellFormed}
 abbrev pub is_letter : ℕ → Bool
 is_letter c = (nat_le 65 c && nat_le c 90) || (nat_le 97 c && nat_le c 122) || nat_eq c 95
 
+-- a decimal digit in ASCII
 abbrev pub is_digit : ℕ → Bool
 is_digit c = nat_le 48 c && nat_le c 57
 
+-- the first byte of a name is a letter
 abbrev pub begins_with_letter : List ℕ → Bool
 begins_with_letter [] = false
 begins_with_letter (c ∷ cs) = is_letter c
@@ -45,6 +47,7 @@ abbrev pub has_reset_value : Node → Bool
 has_reset_value (Register w (Some value) next) = true
 has_reset_value _ = false
 
+-- some register takes its first value from a reset
 unfoldable pub needs_reset : Net → Bool
 needs_reset net = list_any has_reset_value net.nodes
 
@@ -54,6 +57,7 @@ pub record HasReset (net : Net) : Type 0 where
   pub port : IsPort net In reset_name node
   pub bit : shape_in net.nodes node ≡ Some (Value 1)
 
+-- a netlist that can be written: nothing is left undriven, and names are allowed, distinct and none the clock's
 pub record IsFinished (net : Net) : Type 0 where
   pub driven : (n : ℕ) → open_at net n ≡ None
   pub module_name : IsSomeAnd net.name IsName

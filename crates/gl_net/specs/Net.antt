@@ -46,7 +46,7 @@ binary_of Ne w x y = not_of 1 (eq_of x y)
 binary_of Lt w x y = lt_of x y
 binary_of Le w x y = le_of x y
 
--- and the width of that
+-- the width of what an operation gives
 abbrev pub binary_width : BinaryOp → ℕ → ℕ
 binary_width Add w = w
 binary_width Sub w = w
@@ -59,6 +59,7 @@ binary_width Ne w = 1
 binary_width Lt w = 1
 binary_width Le w = 1
 
+-- how many bits a node carries, or how many words of how many bits it keeps
 abbrev pub shape_of : Node → Shape
 shape_of (Input port w) = Value w
 shape_of (Constant word) = Value word.width
@@ -102,6 +103,7 @@ abbrev pub Fits : Run → ℕ → Shape → Type 0
 Fits run n (Value w) = (t : ℕ) → run.at t n < 2 ^ w
 Fits run n (Words bits w) = (t k : ℕ) → run.word t n k < 2 ^ w
 
+-- the name of the reset port
 abbrev pub reset_name : List ℕ
 reset_name = codes "rst"
 
@@ -136,9 +138,11 @@ open_shape (Register w reset None) = Some (Value w)
 open_shape (Memory bits w None) = Some (Words bits w)
 open_shape _ = None
 
+-- the shape of a node that waits for what drives it; none for any other node
 unfoldable pub open_in : List Node → ℕ → Option Shape
 open_in nodes n = option_and_then open_shape (slice_get nodes n)
 
+-- the shape of a netlist's node that waits for what drives it; none for any other node
 abbrev pub open_at : Net → ℕ → Option Shape
 open_at net n = open_in net.nodes n
 
@@ -181,6 +185,7 @@ abbrev pub has_no_reset : Node → Bool
 has_no_reset (Register w None next) = true
 has_no_reset _ = false
 
+-- a node is a register without a reset value
 unfoldable pub is_free : Net → ℕ → Bool
 is_free net n = option_map_or has_no_reset (slice_get net.nodes n) false
 
@@ -189,6 +194,7 @@ abbrev pub is_inner : Node → Bool
 is_inner (Input port w) = false
 is_inner _ = true
 
+-- how many nodes a netlist has, input ports left out
 unfoldable pub size_of : Net → ℕ
 size_of net = count_by is_inner net.nodes
 
@@ -202,8 +208,10 @@ abbrev pub memory_bits : Node → ℕ
 memory_bits (Memory bits w drive) = 2 ^ bits * w
 memory_bits _ = 0
 
+-- the bits of all registers of a netlist
 unfoldable pub register_bits_of : Net → ℕ
 register_bits_of net = sum_by register_bits net.nodes
 
+-- the bits of all memories of a netlist
 unfoldable pub memory_bits_of : Net → ℕ
 memory_bits_of net = sum_by memory_bits net.nodes

@@ -10,6 +10,7 @@ abbrev pub port_values : Net → Run → ℕ → List ℕ → Option ℕ
 port_values net run t name =
     option_map (λ (p : Port). run.at t p.node) (find (λ (p : Port). bytes_eq p.name name) net.ports)
 
+-- a port leads into the netlist
 abbrev pub leads_in : Direction → Bool
 leads_in In = true
 leads_in Out = false
@@ -36,6 +37,7 @@ pub record PortShape : Type 0 where
   pub name : List ℕ
   pub width : ℕ
 
+-- a port as it is seen from without: its direction, its name and its width
 abbrev pub port_shape : Net → Port → PortShape
 port_shape net p = record { direction = p.direction; name = p.name; width = bits_of (shape_in net.nodes p.node) }
 

@@ -8,5 +8,6 @@ abbrev pub IsAddressed : Node → Type 0
 IsAddressed (Memory bits width drive) = bits ≤ 32
 IsAddressed _ = Unit {0}
 
+-- every memory among the nodes has addresses of few bits
 abbrev pub AreAddressed : List Node → Type 0
 AreAddressed nodes = (n : ℕ) (x : Node) → slice_get nodes n ≡ Some x → IsAddressed x

@@ -44,7 +44,7 @@ pub record Drives (old new : Net) (register next : Bus) : Type 0 where
   pub ports : new.ports ≡ old.ports
   pub name : new.name ≡ old.name
 
--- the same of a memory
+-- a memory that nothing wrote gets what writes it, and all else stays
 pub record DrivesMemory (old new : Net) (store : Store) (drive : MemoryDrive) : Type 0 where
   pub there : slice_get old.nodes store.node ≡ Some (Memory store.address_bits store.width None)
   pub nodes : new.nodes ≡ slice_set old.nodes store.node (Memory store.address_bits store.width (Some drive))

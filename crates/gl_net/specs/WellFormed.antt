@@ -13,15 +13,17 @@ use Rattle.gl_net.specs.declared.node.Direction.{Direction}
 use Rattle.gl_net.specs.declared.node.Direction.TheVariants.{In, Out}
 use Rattle.gl_net.specs.Net.{Net, Value, shape_in, IsBus, IsBit, IsStore, IsAddressWidth}
 
--- the node with the number n reads a bus, a bit or a store, which stands before it
+-- a node reads a bus that stands before it
 pub record ReadsBus (net : Net) (n : ℕ) (b : Bus) : Type 0 where
   pub before : b.node < n
   pub bus : IsBus net b
 
+-- a node reads one bit of a node before it
 pub record ReadsBit (net : Net) (n : ℕ) (b : Bit) : Type 0 where
   pub before : b.node < n
   pub bit : IsBit net b
 
+-- a node reads a memory that stands before it
 pub record ReadsStore (net : Net) (n : ℕ) (s : Store) : Type 0 where
   pub before : s.node < n
   pub store : IsStore net s
@@ -57,6 +59,7 @@ abbrev pub EndFits : Net → ℕ → Direction → ℕ → Type 0
 EndFits net place In n = (w : ℕ) × (slice_get net.nodes n ≡ Some (Input place w))
 EndFits net place Out n = (w : ℕ) × (shape_in net.nodes n ≡ Some (Value w))
 
+-- every node fits the nodes that it reads, and every port fits the node at its end
 pub record IsWellFormed (net : Net) : Type 0 where
   pub nodes : (n : ℕ) (x : Node) → slice_get net.nodes n ≡ Some x → NodeFits net n x
   pub ends : (place : ℕ) (p : Port) → slice_get net.ports place ≡ Some p → EndFits net place p.direction p.node

@@ -8,15 +8,25 @@ use gl_bits::{Listed, Word};
 /// An operation on two words of one width.
 #[derive(Clone, Copy, PartialEq, Eq, Debug)]
 pub enum BinaryOp {
+    /// The sum, modulo two to the power of the width.
     Add,
+    /// The difference, modulo two to the power of the width.
     Sub,
+    /// The product, modulo two to the power of the width.
     Mul,
+    /// Each bit that is 1 in both words.
     And,
+    /// Each bit that is 1 in one of the words alone.
     Xor,
+    /// Each bit that is 1 in at least one of the words.
     Or,
+    /// One bit: whether the words are equal.
     Eq,
+    /// One bit: whether the words differ.
     Ne,
+    /// One bit: whether the first word is below the second, both without a sign.
     Lt,
+    /// One bit: whether the first word is at most the second, both without a sign.
     Le,
 }
 
@@ -40,7 +50,9 @@ impl BinaryOp {
 /// The number of a node that carries a value, with its width in bits.
 #[derive(Clone, Copy, PartialEq, Eq, Debug)]
 pub struct Bus {
+    /// The number of the node.
     pub node: usize,
+    /// How many bits it carries, from 1 to 128.
     pub width: u8,
 }
 
@@ -57,6 +69,7 @@ impl Bus {
 /// The number of a node that carries one bit.
 #[derive(Clone, Copy, PartialEq, Eq, Debug)]
 pub struct Bit {
+    /// The number of the node.
     pub node: usize,
 }
 
@@ -76,8 +89,11 @@ impl Bit {
 /// The number of a memory's node, with the bits of its addresses and of its words.
 #[derive(Clone, Copy, PartialEq, Eq, Debug)]
 pub struct Store {
+    /// The number of the memory's node.
     pub node: usize,
+    /// How many bits an address has.
     pub address_bits: u8,
+    /// How many bits a word has.
     pub width: u8,
 }
 
@@ -87,8 +103,11 @@ pub type Buses = Listed<Bus>;
 /// What a memory takes: `value` at `address`, at the edge of each cycle in which `write` is 1.
 #[derive(Clone, Copy, PartialEq, Eq, Debug)]
 pub struct MemoryDrive {
+    /// Whether a word is written in a cycle.
     pub write: Bit,
+    /// The address of the word that is written.
     pub address: Bus,
+    /// What is written.
     pub value: Bus,
 }
 
@@ -121,14 +140,19 @@ pub enum Node {
 /// Which way a port leads.
 #[derive(Clone, Copy, PartialEq, Eq, Debug)]
 pub enum Direction {
+    /// The port leads into the netlist: its value comes from without.
     In,
+    /// The port leads out: it shows what a node carries.
     Out,
 }
 
 /// A port: its direction, its name, and the number of its node.
 #[derive(Drop, Debug)]
 pub struct Port {
+    /// Which way the port leads.
     pub direction: Direction,
+    /// The bytes of its name.
     pub name: Listed<u8>,
+    /// The number of its input node, or of the node that it shows.
     pub node: usize,
 }

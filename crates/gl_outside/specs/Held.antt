@@ -16,10 +16,11 @@ pub record Held : Type 0 where
   pub misses : ℕ
   pub last : Option (List ℕ)
 
--- no text yet, and one more
+-- no text is there yet and none was missing, while these are the known names
 abbrev pub no_texts : List (List ℕ) → Held
 no_texts names = record { names = names; texts = []; misses = 0; last = None }
 
+-- one text more under its name, behind the others
 abbrev pub with_text : Held → List ℕ → List ℕ → Held
 with_text h name bytes = record h { texts = h.texts ++ (name, bytes) ∷ [] }
 
@@ -56,9 +57,11 @@ pub record MemoryShelfState : Type 0 where
   pub calls : ℕ
   pub faults : ℕ
 
+-- the state of a shelf in memory, as that of any shelf
 abbrev pub shelf_state : MemoryShelfState → ShelfState
 shelf_state s = held_state s.faults s.held
 
+-- a shelf in memory with no text yet under any of these names, and no call that fails
 abbrev pub new_shelf : List (List ℕ) → MemoryShelfState
 new_shelf names = record { held = no_texts names; failing = []; calls = 0; faults = 0 }
 
@@ -70,11 +73,12 @@ next_fails failing calls = list_any (λ call. nat_eq call (next_count calls)) fa
 abbrev pub served : MemoryShelfState → List ℕ → ℕ → ℕ → Fetch
 served s name at room = if next_fails s.failing s.calls then Failed else given (told_of s.held.texts name) at room
 
--- the shelf behind it: a failed call is counted once and its name kept
+-- the shelf behind a call that failed: the fault is counted once, and the name of the text is kept
 abbrev pub failed : MemoryShelfState → List ℕ → MemoryShelfState
 failed s name =
     record s { held = record s.held { last = Some name }; calls = next_count s.calls; faults = next_count s.faults }
 
+-- a shelf behind a call for a text: the call failed, or the text under the name was told
 abbrev pub behind_call : MemoryShelfState → List ℕ → MemoryShelfState
 behind_call s name = if next_fails s.failing s.calls then failed s name
     else record s { held = asked s.held name (told_of s.held.texts name); calls = next_count s.calls }
@@ -87,9 +91,11 @@ pub record MemorySinkState : Type 0 where
   pub calls : ℕ
   pub faults : ℕ
 
+-- the state of a sink in memory, as that of any sink
 abbrev pub sink_state : MemorySinkState → SinkState
 sink_state s = record { taken = Some s.bytes; faults = s.faults }
 
+-- an empty sink in memory with room for a number of bytes, and no call that fails
 abbrev pub new_sink : ℕ → MemorySinkState
 new_sink room = record { bytes = []; room = room; failing = []; calls = 0; faults = 0 }
 

@@ -7,14 +7,14 @@ use Rattle.gl_outside.specs.States.{ShelfState}
 use Rattle.gl_outside.specs.declared.shelf.Fetch.{Fetch}
 use Rattle.gl_outside.specs.declared.shelf.Fetch.TheVariants.{Missing, Failed, Memory}
 
--- its names, its counts, and the name that was last refused
+-- the state of a shelf of files: its names, its counts, and the name that was last refused
 pub record FilesState : Type 0 where
   pub names : List (List ℕ)
   pub misses : ℕ
   pub faults : ℕ
   pub last : Option (List ℕ)
 
--- it tells no texts
+-- a shelf of files as any shelf: it tells no texts
 abbrev pub files_state : FilesState → ShelfState
 files_state s = record { names = s.names; told = λ _. Untold; misses = s.misses; faults = s.faults; last = s.last }
 

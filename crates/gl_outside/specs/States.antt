@@ -62,7 +62,7 @@ pub record SinkState : Type 0 where
   pub taken : Option (List ℕ)
   pub faults : ℕ
 
--- these bytes were taken after the earlier ones, where they are told
+-- a sink took these bytes behind the earlier ones, where it is told what it took
 abbrev pub Appends : Option (List ℕ) → Option (List ℕ) → List ℕ → Type 0
 Appends None new bytes = Unit {0}
 Appends (Some old) new bytes = new ≡ Some (old ++ bytes)

@@ -10,7 +10,7 @@ pub record StreamState : Type 0 where
   pub contents : Option (List ℕ)
   pub faults : ℕ
 
--- as a sink it tells no bytes, since those of a put that failed may stand in the writer
+-- a stream as any sink: it tells no bytes, since those of a failed put may stand in the writer
 abbrev pub stream_state : StreamState → SinkState
 stream_state s = record { taken = None; faults = s.faults }
 

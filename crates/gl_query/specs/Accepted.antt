@@ -34,6 +34,8 @@ pub record IsWeighted (columns : List Column) (e : ExprShape) (weights : List �
   pub most : length weights ≤ limit.most_weights
   pub fit : AllByRecursion (IsNumberOf (kind_of columns (kind_alone e) e)) weights
 
+-- a count is always accepted; the argument of any other aggregate has a kind, and what SUM, AVG and WSUM take is a
+-- number
 abbrev pub IsAgg : List Column → AggShape → Type 0
 IsAgg columns shape.Count = Unit {0}
 IsAgg columns (shape.Sum e) = IsSummed columns e
@@ -47,6 +49,7 @@ pub record AreItems (columns : List Column) (items : List ItemShape) : Type 0 wh
   pub typed : AllByRecursion (λ (i : ItemShape). HasKind columns (kind_alone i.expr) i.expr) items
   pub result : AreResultColumns (picked_columns columns (shape.Items items))
 
+-- the star is always accepted; a list of items is accepted where its expressions have kinds and its names are distinct
 abbrev pub IsPick : List Column → PickShape → Type 0
 IsPick columns shape.All = Unit {0}
 IsPick columns (shape.Items items) = AreItems columns items
@@ -56,6 +59,7 @@ pub record IsCondition (columns : List Column) (e : ExprShape) : Type 0 where
   pub typed : HasKind columns (Unsigned 1) e
   pub bit : kind_of columns (Unsigned 1) e ≡ Unsigned 1
 
+-- a filter may be absent; one that is there is a condition over the columns of the source
 abbrev pub IsFilter : List Column → Option ExprShape → Type 0
 IsFilter columns None = Unit {0}
 IsFilter columns (Some e) = IsCondition columns e
@@ -68,10 +72,12 @@ pub record IsWindow (measure : Measure) (size advance : ℕ) : Type 0 where
   pub most_advance : advance ≤ limit.most_rows
   pub copies : copies_of measure size advance ≤ limit.most_copies
 
+-- a select of rows is accepted where its items and its filter are
 pub record IsRows (source : List Column) (pick : PickShape) (filter : Option ExprShape) : Type 0 where
   pub picks : IsPick source pick
   pub filters : IsFilter source filter
 
+-- a select of aggregates is accepted where each aggregate is, and their names make columns of a result
 pub record IsTotal (source : List Column) (aggs : List AggItemShape) (result : List Column) : Type 0 where
   pub typed : AllByRecursion (λ (i : AggItemShape). IsAgg source i.agg) aggs
   pub columns : AreResultColumns result
@@ -102,9 +108,11 @@ pub record Scope : Type 0 where
   pub sources : List Stream
   pub timed : Bool
 
+-- at the top a query reads the streams of the schema, whose rows have times
 abbrev pub schema_scope : Schema → Scope
 schema_scope schema = record { sources = schema.streams; timed = true }
 
+-- inside a body a query reads the body's variable alone, whose rows have no times
 abbrev pub body_scope : List ℕ → List Column → Scope
 body_scope var columns = record { sources = variable var columns; timed = false }
 

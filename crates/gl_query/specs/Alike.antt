@@ -6,6 +6,7 @@ use Rattle.gl_query.specs.Shapes as shape
 use Rattle.gl_query.specs.Trees.{ExprTree, AggTree, ItemTree, AggItemTree, PickTree, QueryTree, StatementTree}
 use Rattle.gl_query.specs.Trees as tree
 
+-- an expression without the places of its parts
 abbrev pub expr_alike : ExprTree → ExprShape
 expr_alike (tree.Column name) = shape.Column name.text
 expr_alike (tree.Number n) = shape.Number n.value
@@ -15,6 +16,7 @@ expr_alike (tree.Not e at) = shape.Not (expr_alike e)
 expr_alike (tree.Cast e kind at) = shape.Cast kind (expr_alike e)
 expr_alike (tree.Binary o l r at) = shape.Binary o (expr_alike l) (expr_alike r)
 
+-- an aggregate without the places of its parts
 abbrev pub agg_alike : AggTree → AggShape
 agg_alike (tree.Count at) = shape.Count
 agg_alike (tree.Sum e) = shape.Sum (expr_alike e)
@@ -23,16 +25,20 @@ agg_alike (tree.Max e) = shape.Max (expr_alike e)
 agg_alike (tree.Avg e) = shape.Avg (expr_alike e)
 agg_alike (tree.Wsum e weights) = shape.Wsum (expr_alike e) (map (λ (n : Num). n.value) weights)
 
+-- an item of a select without the places of its parts
 abbrev pub item_alike : ItemTree → ItemShape
 item_alike i = record { expr = expr_alike i.expr; name = i.name.text }
 
+-- a named aggregate without the places of its parts
 abbrev pub agg_item_alike : AggItemTree → AggItemShape
 agg_item_alike i = record { agg = agg_alike i.agg; name = i.name.text }
 
+-- what a select picks, without the places of its items
 abbrev pub pick_alike : PickTree → PickShape
 pick_alike tree.All = shape.All
 pick_alike (tree.Items items) = shape.Items (map item_alike items)
 
+-- a query without the places of its names, numbers and operators
 abbrev pub query_alike : QueryTree → QueryShape
 query_alike (tree.Read name) = shape.Read name.text
 query_alike (tree.Rows pick filter source) =

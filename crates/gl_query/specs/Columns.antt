@@ -26,12 +26,15 @@ agg_kind columns (shape.Max e) = kind_of columns (kind_alone e) e
 agg_kind columns (shape.Avg e) = kind_of columns (kind_alone e) e
 agg_kind columns (shape.Wsum e weights) = kind_of columns (kind_alone e) e
 
+-- an item gives a column of its name, whose kind is the one that its expression has alone
 abbrev pub item_column : List Column → ItemShape → Column
 item_column columns i = record { name = i.name; kind = kind_of columns (kind_alone i.expr) i.expr }
 
+-- a named aggregate gives a column of its name, whose kind is the aggregate's
 abbrev pub agg_column : List Column → AggItemShape → Column
 agg_column columns i = record { name = i.name; kind = agg_kind columns i.agg }
 
+-- the star keeps the columns of the source; items give one column each, in their order
 abbrev pub picked_columns : List Column → PickShape → List Column
 picked_columns columns shape.All = columns
 picked_columns columns (shape.Items items) = map (item_column columns) items
@@ -73,6 +76,7 @@ abbrev pub unfiltered : {A B : Type 0} → Option A → Option B → Option B
 unfiltered None pace = pace
 unfiltered (Some e) pace = None
 
+-- the pace of a query, where it has one: filters, windows, groups and UNION have none, and CONCAT has its left side's
 abbrev pub pace_of : QueryShape → Option Pace
 pace_of (shape.Read name) = Some (Step name)
 pace_of (shape.Rows pick filter source) = unfiltered filter (pace_of source)

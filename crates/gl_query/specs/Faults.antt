@@ -39,6 +39,7 @@ unless false f = Some f
 
 -- ---- tests
 
+-- two lists of kinds have the same length and the same kinds in order
 abbrev pub same_kinds : List Kind → List Kind → Bool
 same_kinds [] [] = true
 same_kinds [] (k ∷ ks) = false
@@ -58,7 +59,7 @@ abbrev pub are_distinct : List (List ℕ) → Bool
 are_distinct [] = true
 are_distinct (name ∷ names) = not (list_any (bytes_eq name) names) && are_distinct names
 
--- one and the same pace
+-- both sides have a pace, and it is one
 abbrev pub same_pace : Option Pace → Option Pace → Bool
 same_pace (Some Once) (Some Once) = true
 same_pace (Some (Step a)) (Some (Step b)) = bytes_eq a b
@@ -77,10 +78,13 @@ abbrev pub negative_fault : Kind → Num → Option QueryFault
 negative_fault kind n =
     or_else (unless (is_number kind) (KindsDiffer n.at)) (unless (has_negative kind n.value) (LiteralTooWide n.at))
 
+-- a text literal stands where its place wants a text, and its letters fit into that text's width
 abbrev pub letters_fault : Kind → List ℕ → ℕ → Option QueryFault
 letters_fault kind text at =
     or_else (unless (is_text kind) (KindsDiffer at)) (unless (letters_fit kind text) (LiteralTooWide at))
 
+-- the first fault of an operator's operands: arithmetic wants equal kinds of numbers, comparisons equal kinds, logic
+-- single bits
 abbrev pub operator_fault : Sort → Kind → Kind → ℕ → Option QueryFault
 operator_fault Arithmetic left right at = unless (same_kind left right && is_number left) (KindsDiffer at)
 operator_fault Comparison left right at = unless (same_kind left right) (KindsDiffer at)
@@ -91,6 +95,7 @@ abbrev pub of_operands : Bool → Bool → Option QueryFault → Option QueryFau
 of_operands left_loose right_loose left right =
     if left_loose && not right_loose then or_else right left else or_else left right
 
+-- the first fault of an expression in a place; the faults of operands stand before their operator's own
 abbrev pub expr_fault : List NamedColumn → Kind → ExprTree → Option QueryFault
 expr_fault columns place (Column name) = unless (has_column columns name.text) (UnknownColumn name.at)
 expr_fault columns place (Number n) = number_fault place n
@@ -114,6 +119,7 @@ expr_fault columns place (Binary op l r at) =
 abbrev pub whole_fault : List NamedColumn → ExprTree → Option QueryFault
 whole_fault columns e = expr_fault columns (kind_alone (expr_alike e)) e
 
+-- the kind that an expression has where no place gives one
 abbrev pub whole_kind : List NamedColumn → ExprTree → Kind
 whole_kind columns e = kind_of columns (kind_alone (expr_alike e)) (expr_alike e)
 
@@ -127,6 +133,8 @@ first_place (Not e at) = at
 first_place (Cast e kind at) = at
 first_place (Binary op l r at) = first_place l
 
+-- a filter's first fault: one inside its expression, or else that it is no single bit, told at its first token,
+-- brackets aside
 abbrev pub filter_fault : List NamedColumn → Option ExprTree → Option QueryFault
 filter_fault columns None = None
 filter_fault columns (Some e) =
@@ -135,6 +143,7 @@ filter_fault columns (Some e) =
 
 -- ---- what is under a name: of each the 33rd's place, its own fault, and its name where an earlier one has it
 
+-- the first fault in a list of named items: each may be one too many, broken itself, or named as an earlier one
 abbrev pub named_fault : {A : Type 0} → (A → Name) → (A → Option QueryFault) → List A → List A → Option QueryFault
 named_fault name own earlier [] = None
 named_fault name own earlier (i ∷ items) =
@@ -143,28 +152,34 @@ named_fault name own earlier (i ∷ items) =
     (or_else (unless (not (list_any (λ j. bytes_eq (name i).text (name j).text) earlier)) (TwiceNamed (name i).at))
     (named_fault name own (earlier ++ i ∷ []) items)))
 
+-- the first fault of the items of a select, behind those that were already looked at
 abbrev pub items_fault : List NamedColumn → List ItemTree → List ItemTree → Option QueryFault
 items_fault columns earlier items =
     named_fault (λ (i : ItemTree). i.name) (λ (i : ItemTree). whole_fault columns i.expr) earlier items
 
+-- the star has no fault; a list of items has the fault of its first broken item
 abbrev pub pick_fault : List NamedColumn → PickTree → Option QueryFault
 pick_fault columns All = None
 pick_fault columns (Items items) = items_fault columns [] items
 
 -- ---- aggregates: the argument, its kind, the 65th weight, and the first weight that is too wide
 
+-- what is summed has no fault of its own and is a number; a text is told at the name of its item
 abbrev pub summed_fault : List NamedColumn → ExprTree → Name → Option QueryFault
 summed_fault columns e name =
     or_else (whole_fault columns e) (unless (is_number (whole_kind columns e)) (KindsDiffer name.at))
 
+-- a number that stands past the longest list that is allowed is the fault
 abbrev pub too_many : Option Num → Option QueryFault
 too_many None = None
 too_many (Some n) = Some (OutOfRange n.at)
 
+-- the first weight that does not fit into the kind of what it multiplies
 abbrev pub weights_fault : Kind → List Num → Option QueryFault
 weights_fault kind [] = None
 weights_fault kind (n ∷ ns) = or_else (number_fault kind n) (weights_fault kind ns)
 
+-- an aggregate's first fault: that of its argument, and for WSUM a weight too many or too wide
 abbrev pub agg_fault : List NamedColumn → AggTree → Name → Option QueryFault
 agg_fault columns (Count at) name = None
 agg_fault columns (Sum e) name = summed_fault columns e name
@@ -175,6 +190,7 @@ agg_fault columns (Wsum e weights) name =
     or_else (summed_fault columns e name) (or_else (too_many (slice_get weights most_weights))
     (weights_fault (whole_kind columns e) weights))
 
+-- the first fault of a list of named aggregates, behind those that were already looked at
 abbrev pub aggs_fault : List NamedColumn → List AggItemTree → List AggItemTree → Option QueryFault
 aggs_fault columns earlier items =
     named_fault (λ (i : AggItemTree). i.name) (λ (i : AggItemTree). agg_fault columns i.agg i.name) earlier items
@@ -199,12 +215,15 @@ key_fault key columns =
     or_else (unless (not (list_any (bytes_eq key.text) (column_names columns))) (TwiceNamed key.at))
     (unless (nat_lt (length columns) most_columns) (OutOfRange key.at))
 
+-- the fault of two sides put beside each other: unequal paces, a name on both, or too many columns
 abbrev pub beside_fault : QueryShape → QueryShape → List NamedColumn → ℕ → Option QueryFault
 beside_fault l r columns at =
     or_else (unless (same_pace (pace_of l) (pace_of r)) (PaceDiffers at))
     (or_else (unless (are_distinct (column_names columns)) (TwiceNamed at))
     (unless (nat_le (length columns) most_columns) (OutOfRange at)))
 
+-- the first rule of acceptance that a query breaks in a scope, with its place; sources are judged before what stands
+-- over them
 abbrev pub query_fault : Scope → QueryTree → Option QueryFault
 query_fault scope (Read name) = unless (has_stream scope.sources name.text) (UnknownStream name.at)
 query_fault scope (Rows pick filter source) =

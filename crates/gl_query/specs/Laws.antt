@@ -56,7 +56,7 @@ AcceptedHaveResults =
 abbrev pub HoldsIn : (List Column → Row → Type 0) → Env → Type 0
 HoldsIn P env = (name : List ℕ) → AllByRecursion (P (source_columns (streams_of env) name)) (rows_of env name)
 
--- and of the rows of each result of an accepted query
+-- a fact that holds of the rows of the sources holds of the rows of each result of an accepted query
 abbrev pub HoldsOfResults : (List Column → Row → Type 0) → Type 0
 HoldsOfResults P = (q : QueryShape) (env : Env) (timed : Bool) (out : List Row) (spill : Bool)
     → IsAcceptedOver (scope_of env timed) q → HoldsIn P env → IsResultIn q env out spill

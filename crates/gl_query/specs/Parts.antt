@@ -13,16 +13,20 @@ InAgg E (shape.Max e) = E e
 InAgg E (shape.Avg e) = E e
 InAgg E (shape.Wsum e weights) = E e
 
+-- one property holds of an item's expression, another of its name
 abbrev pub InItem : (ExprShape → Type 0) → (List ℕ → Type 0) → ItemShape → Type 0
 InItem E N i = E i.expr × N i.name
 
+-- one property holds of an aggregate's argument, another of its name
 abbrev pub InAggItem : (ExprShape → Type 0) → (List ℕ → Type 0) → AggItemShape → Type 0
 InAggItem E N i = InAgg E i.agg × N i.name
 
+-- both properties hold of every item that is picked; the star has none
 abbrev pub InPick : (ExprShape → Type 0) → (List ℕ → Type 0) → PickShape → Type 0
 InPick E N shape.All = Unit {0}
 InPick E N (shape.Items items) = AllByRecursion (InItem E N) items
 
+-- a property holds of a filter's expression, where there is a filter
 abbrev pub InFilter : (ExprShape → Type 0) → Option ExprShape → Type 0
 InFilter E None = Unit {0}
 InFilter E (Some e) = E e

@@ -30,6 +30,7 @@ abbrev pub keeps : List Column → Option ExprShape → Row → Bool
 keeps columns None row = true
 keeps columns (Some e) row = nat_eq (value_of columns (Unsigned 1) e row) 1
 
+-- the rows that satisfy a condition, in their order; all of them where there is none
 abbrev pub kept : List Column → Option ExprShape → List Row → List Row
 kept columns condition rows = filter (keeps columns condition) rows
 
@@ -61,6 +62,7 @@ pub record Source : Type 0 where
   pub times : List ℕ
   pub ticks : ℕ
 
+-- all sources that a query may read
 abbrev pub Env : Type 0
 Env = List Source
 
@@ -76,11 +78,12 @@ said_of said none env name = unwrap_or (option_map said (find (λ (s : Source). 
 abbrev pub rows_of : Env → List ℕ → List Row
 rows_of env name = said_of (λ (s : Source). s.rows) [] env name
 
--- the times of the rows of a query that is a source itself, and the ticks that it sees
+-- the times of the rows of a query that is a source itself; none for any other query
 abbrev pub times_in : Env → QueryShape → List ℕ
 times_in env (shape.Read name) = said_of (λ (s : Source). s.times) [] env name
 times_in env q = []
 
+-- how many ticks come beside the rows of a query that is a source itself; 0 for any other query
 abbrev pub ticks_in : Env → QueryShape → ℕ
 ticks_in env (shape.Read name) = said_of (λ (s : Source). s.ticks) 0 env name
 ticks_in env q = 0
@@ -101,6 +104,7 @@ numbered k (s ∷ streams) inputs =
     record { stream = s; rows = inputs.rows k; times = inputs.times k; ticks = inputs.ticks }
     ∷ numbered (k + 1) streams inputs
 
+-- each stream of a schema with the rows, times and ticks that come over it
 abbrev pub env_of : Schema → Inputs → Env
 env_of schema inputs = numbered 0 schema.streams inputs
 

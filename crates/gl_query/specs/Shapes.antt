@@ -36,11 +36,12 @@ pub data AggShape : Type 0 where
   Avg : (e : ExprShape) → AggShape
   Wsum : (e : ExprShape) (weights : List ℕ) → AggShape
 
--- an item of a select, or an aggregate, under its name
+-- an expression of a select and the name of its column
 pub record ItemShape : Type 0 where
   pub expr : ExprShape
   pub name : List ℕ
 
+-- an aggregate and the name of its column
 pub record AggItemShape : Type 0 where
   pub agg : AggShape
   pub name : List ℕ
@@ -62,12 +63,14 @@ pub data QueryShape : Type 0 where
   Union : (l r : QueryShape) → QueryShape
   Concat : (l r : QueryShape) → QueryShape
 
+-- a statement: a query and the name of its result
 pub record StatementShape : Type 0 where
   pub query : QueryShape
   pub name : List ℕ
 
 -- ---- the shapes of trees
 
+-- the shape of an expression that code holds
 abbrev pub expr_shape : Expr → ExprShape
 expr_shape (expr.Column name) = Column name.text
 expr_shape (expr.Number n) = Number n.value
@@ -77,6 +80,7 @@ expr_shape (expr.Not' p e at) = Not (expr_shape e)
 expr_shape (expr.Cast' p e kind at) = Cast kind (expr_shape e)
 expr_shape (expr.Binary' op p l q r at) = Binary op (expr_shape l) (expr_shape r)
 
+-- the shape of an aggregate that code holds
 abbrev pub agg_shape : Agg → AggShape
 agg_shape (agg.Count at) = Count
 agg_shape (agg.Sum e) = Sum (expr_shape e)
@@ -85,16 +89,20 @@ agg_shape (agg.Max e) = Max (expr_shape e)
 agg_shape (agg.Avg e) = Avg (expr_shape e)
 agg_shape (agg.Wsum e weights) = Wsum (expr_shape e) (map (λ (n : Num). n.value) weights)
 
+-- the shape of an item that code holds
 abbrev pub item_shape : Item → ItemShape
 item_shape i = record { expr = expr_shape i.expr; name = i.name.text }
 
+-- the shape of a named aggregate that code holds
 abbrev pub agg_item_shape : AggItem → AggItemShape
 agg_item_shape i = record { agg = agg_shape i.agg; name = i.name.text }
 
+-- the shape of what a select picks, as code holds it
 abbrev pub pick_shape : Pick → PickShape
 pick_shape pick.All = All
 pick_shape (pick.Items items) = Items (map item_shape items)
 
+-- the shape of a query that code holds; windows over tuples and over time differ by their measure
 abbrev pub query_shape : Query → QueryShape
 query_shape (query.Read name) = Read name.text
 query_shape (query.Rows' pick filter p source) =
@@ -111,5 +119,6 @@ query_shape (query.Partition' var p source key groups size advance q body at) =
 query_shape (query.Union' p l q r at) = Union (query_shape l) (query_shape r)
 query_shape (query.Concat' p l q r at) = Concat (query_shape l) (query_shape r)
 
+-- the shape of a statement that code holds
 abbrev pub statement_shape : Statement → StatementShape
 statement_shape s = record { query = query_shape s.query; name = s.name.text }

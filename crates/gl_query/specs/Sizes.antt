@@ -27,6 +27,7 @@ abbrev pub PickHasItems : PickShape → Type 0
 PickHasItems shape.All = Unit {0}
 PickHasItems (shape.Items items) = 1 ≤ length items
 
+-- no select in a query has an empty list of items, however deep it stands
 abbrev pub HasItems : QueryShape → Type 0
 HasItems (shape.Read name) = Unit {0}
 HasItems (shape.Rows pick filter source) = HasItems source × PickHasItems pick

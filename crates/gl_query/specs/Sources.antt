@@ -6,6 +6,7 @@ use Rattle.gl_query.specs.Accepted.{Scope}
 use Rattle.gl_query.specs.declared.columns.Sources.{Sources}
 use Rattle.gl_query.specs.declared.columns.Sources.TheVariants.{Schema, Variable}
 
+-- the scope that code holds: a schema's streams, with times, or one variable, without
 abbrev pub scope_of : Sources → Scope
 scope_of (Schema streams) = record { sources = streams.now; timed = true }
 scope_of (Variable name columns) = record { sources = variable name.now columns.now; timed = false }

@@ -18,6 +18,7 @@ use Rattle.gl_query.specs.declared.tree.Query.{Query}
 use Rattle.gl_query.specs.declared.tree.Query.TheVariants as query
 use Rattle.gl_query.specs.declared.tree.Statement.{Statement}
 
+-- an expression with its places: a column, a literal, a negation, a conversion, or an operator between two expressions
 pub data ExprTree : Type 0 where
   Column : (name : Name) → ExprTree
   Number : (n : Num) → ExprTree
@@ -27,6 +28,7 @@ pub data ExprTree : Type 0 where
   Cast : (e : ExprTree) (kind : Kind) (at : ℕ) → ExprTree
   Binary : (o : Op) (l r : ExprTree) (at : ℕ) → ExprTree
 
+-- an aggregate with its places: a count, a fold of an argument, or a sum of an argument's last values with weights
 pub data AggTree : Type 0 where
   Count : (at : ℕ) → AggTree
   Sum : (e : ExprTree) → AggTree
@@ -35,18 +37,22 @@ pub data AggTree : Type 0 where
   Avg : (e : ExprTree) → AggTree
   Wsum : (e : ExprTree) (weights : List Num) → AggTree
 
+-- an expression of a select and the name of its column
 pub record ItemTree : Type 0 where
   pub expr : ExprTree
   pub name : Name
 
+-- an aggregate of a select and the name of its column
 pub record AggItemTree : Type 0 where
   pub agg : AggTree
   pub name : Name
 
+-- what a select picks: all columns of its source, or a list of items
 pub data PickTree : Type 0 where
   All : PickTree
   Items : (items : List ItemTree) → PickTree
 
+-- a query in its eight forms, with the places of its names, its numbers and its keywords
 pub data QueryTree : Type 0 where
   Read : (name : Name) → QueryTree
   Rows : (pick : PickTree) (filter : Option ExprTree) (source : QueryTree) → QueryTree
@@ -58,10 +64,12 @@ pub data QueryTree : Type 0 where
   Union : (l r : QueryTree) (at : ℕ) → QueryTree
   Concat : (l r : QueryTree) (at : ℕ) → QueryTree
 
+-- a statement with its places: a query and the name of its result
 pub record StatementTree : Type 0 where
   pub query : QueryTree
   pub name : Name
 
+-- the tree of an expression that code holds in boxes
 abbrev pub expr_tree : Expr → ExprTree
 expr_tree (expr.Column name) = Column name
 expr_tree (expr.Number n) = Number n
@@ -71,6 +79,7 @@ expr_tree (expr.Not' p e at) = Not (expr_tree e) at
 expr_tree (expr.Cast' p e kind at) = Cast (expr_tree e) kind at
 expr_tree (expr.Binary' o p l q r at) = Binary o (expr_tree l) (expr_tree r) at
 
+-- the tree of an aggregate that code holds in boxes
 abbrev pub agg_tree : Agg → AggTree
 agg_tree (agg.Count at) = Count at
 agg_tree (agg.Sum e) = Sum (expr_tree e)
@@ -79,19 +88,24 @@ agg_tree (agg.Max e) = Max (expr_tree e)
 agg_tree (agg.Avg e) = Avg (expr_tree e)
 agg_tree (agg.Wsum e weights) = Wsum (expr_tree e) weights
 
+-- the tree of an item that code holds
 abbrev pub item_tree : Item → ItemTree
 item_tree i = record { expr = expr_tree i.expr; name = i.name }
 
+-- the tree of a named aggregate that code holds
 abbrev pub agg_item_tree : AggItem → AggItemTree
 agg_item_tree i = record { agg = agg_tree i.agg; name = i.name }
 
+-- the tree of what a select picks, as code holds it
 abbrev pub pick_tree : Pick → PickTree
 pick_tree pick.All = All
 pick_tree (pick.Items items) = Items (map item_tree items)
 
+-- the tree of a filter, where there is one
 abbrev pub filter_tree : Option Expr → Option ExprTree
 filter_tree o = option_map expr_tree o
 
+-- the tree of a query that code holds; windows over tuples and over time differ by their measure
 abbrev pub query_tree : Query → QueryTree
 query_tree (query.Read name) = Read name
 query_tree (query.Rows' pick filter p source) = Rows (pick_tree pick) (filter_tree filter) (query_tree source)
@@ -107,5 +121,6 @@ query_tree (query.Partition' var p source key groups size advance q body at) =
 query_tree (query.Union' p l q r at) = Union (query_tree l) (query_tree r) at
 query_tree (query.Concat' p l q r at) = Concat (query_tree l) (query_tree r) at
 
+-- the tree of a statement that code holds
 abbrev pub statement_tree : Statement → StatementTree
 statement_tree s = record { query = query_tree s.query; name = s.name }

@@ -21,7 +21,7 @@ use Rattle.gl_query.specs.Shapes as shape
 abbrev pub column_number : List Column → List ℕ → ℕ
 column_number columns name = position_or_len (λ c. bytes_eq name c.name) columns
 
--- its kind
+-- the kind of the column of a name
 abbrev pub column_kind : List Column → List ℕ → Kind
 column_kind columns name =
     unwrap_or (option_map (λ c. c.kind) (slice_get columns (column_number columns name))) (Unsigned 1)
@@ -44,10 +44,11 @@ own_kind columns (shape.Not e) = Some (Unsigned 1)
 own_kind columns (shape.Cast kind e) = Some kind
 own_kind columns (shape.Binary op l r) = operator_kind (sort_of op) (own_kind columns l) (own_kind columns r)
 
+-- an expression is loose where it has no kind of its own and takes the one that its place gives
 abbrev pub is_loose : List Column → ExprShape → Bool
 is_loose columns e = is_none (own_kind columns e)
 
--- its kind in a place: its own, or else the one that the place gives
+-- the kind of an expression in a place: its own, or else the one that the place gives
 abbrev pub kind_of : List Column → Kind → ExprShape → Kind
 kind_of columns place e = unwrap_or (own_kind columns e) place
 
@@ -109,7 +110,7 @@ letters_fit kind text = nat_le (length text) (bytes_in kind) && list_all (λ b. 
 abbrev pub IsLettersOf : Kind → List ℕ → Type 0
 IsLettersOf kind text = IsTrue (is_text kind) × IsTrue (letters_fit kind text)
 
--- its columns are there, its literals fit, and its operators fit their operands
+-- the columns of an expression are there, its literals fit, and its operators fit their operands
 abbrev pub HasKind : List Column → Kind → ExprShape → Type 0
 HasKind columns place (shape.Column name) = IsTrue (has_column columns name)
 HasKind columns place (shape.Number n) = IsNumberOf place n

@@ -10,6 +10,7 @@ use Rattle.gl_query.specs.declared.tree.Measure.TheVariants.{Tuples, Time}
 use Rattle.gl_query.specs.Shapes.{QueryShape}
 use Rattle.gl_query.specs.Shapes as shape
 
+-- a window is measured in ticks of time and not in tuples
 abbrev pub is_time : Measure → Bool
 is_time Tuples = false
 is_time Time = true

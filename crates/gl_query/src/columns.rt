@@ -15,7 +15,9 @@ use std::alloc::Global;
 /// What a query may read: the streams of a schema, or the variable of the body around.
 #[derive(Clone, Copy)]
 pub enum Sources<'a> {
+    /// All streams of a schema, whose rows have times.
     Schema(&'a [Stream]),
+    /// The variable of a body: its name and its columns. Its rows have no times.
     Variable(&'a [u8], &'a [Column]),
 }
 

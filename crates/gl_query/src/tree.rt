@@ -44,25 +44,36 @@ pub enum Expr {
     Minus(Num),
     /// A text literal.
     Letters {
+        /// The bytes between the quotes, at most eight.
         text: TextBytes,
+        /// The byte of the text where the opening quote stands.
         at: u64,
     },
     /// The other bit.
     Not {
+        /// The bit that is inverted.
         arg: Box<Expr>,
+        /// The byte of the text where NOT stands.
         at: u64,
     },
     /// The value as another kind.
     Cast {
+        /// The value that is cast.
         arg: Box<Expr>,
+        /// The kind that it is cast to.
         kind: Kind,
+        /// The byte of the text where CAST stands.
         at: u64,
     },
     /// Two operands under an operator.
     Binary {
+        /// The operator.
         op: Op,
+        /// The operand on the left.
         left: Box<Expr>,
+        /// The operand on the right.
         right: Box<Expr>,
+        /// The byte of the text where the operator stands.
         at: u64,
     },
 }
@@ -87,14 +98,18 @@ pub enum Agg {
 /// An item of a select: an expression under a name.
 #[derive(Drop, Debug)]
 pub struct Item {
+    /// The expression.
     pub expr: Expr,
+    /// The name of its column.
     pub name: Name,
 }
 
 /// An aggregate under a name.
 #[derive(Drop, Debug)]
 pub struct AggItem {
+    /// The aggregate.
     pub agg: Agg,
+    /// The name of its column.
     pub name: Name,
 }
 
@@ -123,63 +138,100 @@ pub enum Query {
     Read(Name),
     /// The rows that the filter keeps, each mapped to the items.
     Rows {
+        /// The items of a row, or all columns.
         pick: Pick,
+        /// The condition of the rows that are kept; all are kept without one.
         filter: Option<Expr>,
+        /// What the rows are of.
         source: Box<Query>,
     },
     /// One row of aggregates over all rows.
     Total {
+        /// The aggregates, one for each column.
         aggs: AggItems,
+        /// What the rows are of.
         source: Box<Query>,
     },
     /// The body over each window of the source.
     Each {
+        /// The name by which the body reads its rows.
         var: Name,
+        /// The query whose rows are parted.
         source: Box<Query>,
+        /// How many rows of the source a window has at most.
         size: Num,
+        /// How many rows of the source lie between the beginnings of two windows.
         advance: Num,
+        /// What is made of the rows that the variable stands for.
         body: Box<Query>,
+        /// The place of EACH, or of SIZE where a select has the window.
         at: u64,
     },
     /// The body over each window of time of the source, a stream.
     EachTime {
+        /// The name by which the body reads its rows.
         var: Name,
+        /// The query whose rows are parted.
         source: Box<Query>,
+        /// How many ticks a window lasts.
         size: Num,
+        /// How many ticks lie between the beginnings of two windows.
         advance: Num,
+        /// What is made of the rows that the variable stands for.
         body: Box<Query>,
+        /// The place of EACH, or of SIZE where a select has the window.
         at: u64,
     },
     /// The body over each group of the source by a column, the key first in each row.
     PerGroup {
+        /// The name by which the body reads its rows.
         var: Name,
+        /// The query whose rows are parted.
         source: Box<Query>,
+        /// The column of the source by which rows are grouped.
         key: Name,
+        /// How many groups are kept: the first ones that come.
         groups: Num,
+        /// What is made of the rows that the variable stands for.
         body: Box<Query>,
+        /// The place of EACH, or of BY where a select has the groups.
         at: u64,
     },
     /// The body over each window of each group of the source by a column, the key first in each row.
     Partition {
+        /// The name by which the body reads its rows.
         var: Name,
+        /// The query whose rows are parted.
         source: Box<Query>,
+        /// The column of the source by which rows are grouped.
         key: Name,
+        /// How many groups are kept: the first ones that come.
         groups: Num,
+        /// How many rows of its group a window has at most.
         size: Num,
+        /// How many rows of a group lie between the beginnings of two windows.
         advance: Num,
+        /// What is made of the rows that the variable stands for.
         body: Box<Query>,
+        /// The place of EACH.
         at: u64,
     },
     /// The rows of both sides, in any order that keeps each side's.
     Union {
+        /// The query on the left.
         left: Box<Query>,
+        /// The query on the right.
         right: Box<Query>,
+        /// The place of UNION.
         at: u64,
     },
     /// The rows of both sides side by side.
     Concat {
+        /// The query on the left.
         left: Box<Query>,
+        /// The query on the right.
         right: Box<Query>,
+        /// The place of CONCAT.
         at: u64,
     },
 }
@@ -187,6 +239,8 @@ pub enum Query {
 /// A query and the name of its result.
 #[derive(Drop, Debug)]
 pub struct Statement {
+    /// The query.
     pub query: Query,
+    /// The name behind INTO, under which the result is shown.
     pub name: Name,
 }

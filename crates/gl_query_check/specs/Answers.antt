@@ -4,11 +4,11 @@ use Rattle.gl_schema.specs.declared.schema.Column.{Column}
 use Rattle.gl_query.specs.declared.fault.QueryFault.{QueryFault}
 use Rattle.gl_query.specs.declared.fault.QueryFault.TheVariants as fault
 
--- this fault, or want of memory
+-- the fault is this one, if there is one, or want of memory
 abbrev pub IsOr : Option QueryFault → QueryFault → Type 0
 IsOr first e = (first ≡ Some e) ⊎ (e ≡ fault.Memory)
 
--- these columns where there is no fault, and else the first one, unless memory ran out
+-- an answer is these columns where there is no fault, and else the first fault, unless memory ran out
 abbrev pub Answers : Option QueryFault → List Column → Result (List Column) QueryFault → Type 0
 Answers first columns (Ok c) = (first ≡ None) × (c ≡ columns)
 Answers first columns (Err e) = IsOr first e

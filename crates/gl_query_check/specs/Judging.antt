@@ -15,11 +15,12 @@ use Rattle.gl_query_check.specs.declared.expressions.Judged.{Judged}
 use Rattle.gl_query_check.specs.declared.expressions.Judged.TheVariants.{Loose, Fixed}
 use Rattle.gl_query_check.specs.declared.expressions.Placed.{Placed}
 
--- it has this kind of itself, and this first fault, if any, in each place
+-- an expression has this kind of itself, and this first fault, if any, in each place
 pub record IsFixed (columns : List Column) (e : ExprTree) (kind : Kind) (fault : Option QueryFault) : Type 0 where
   pub kind' : own_kind columns (expr_alike e) ≡ Some kind
   pub fault' : (place : Kind) → expr_fault columns place e ≡ fault
 
+-- what code knows of an expression is so: it has no kind of its own, or this kind and this fault
 abbrev pub Judges : List Column → ExprTree → Judged → Type 0
 Judges columns e Loose = own_kind columns (expr_alike e) ≡ None
 Judges columns e (Fixed kind fault) = IsFixed columns e kind fault

@@ -4,6 +4,7 @@ use Rattle.gl_query.specs.Columns as columns
 use Rattle.gl_query_check.specs.declared.queries.Pace.{Pace}
 use Rattle.gl_query_check.specs.declared.queries.Pace.TheVariants.{Once, Step}
 
+-- the pace that the code's value stands for
 abbrev pub pace : Pace → columns.Pace
 pace Once = columns.Once
 pace (Step source) = columns.Step source.now

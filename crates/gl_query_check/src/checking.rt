@@ -21,7 +21,9 @@ use std::alloc::Global;
 /// A statement that is accepted over a schema, and the schema.
 #[derive(Drop, Debug)]
 pub struct Checked {
+    /// The schema.
     pub schema: Schema,
+    /// A statement that is accepted over the schema.
     pub statement: Statement,
 }
 

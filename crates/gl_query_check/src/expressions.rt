@@ -26,7 +26,9 @@ pub enum Judged {
     Loose,
     /// Its kind and its first fault are these in any place.
     Fixed {
+        /// The kind that the expression has of itself.
         kind: Kind,
+        /// Its first fault, where it has one.
         fault: Option<QueryFault>,
     },
 }
@@ -34,7 +36,9 @@ pub enum Judged {
 /// The kind and the first fault of an expression in its place.
 #[derive(Drop)]
 pub struct Placed {
+    /// The kind that the expression has in its place.
     pub kind: Kind,
+    /// Its first fault there, where it has one.
     pub fault: Option<QueryFault>,
 }
 

@@ -13,12 +13,12 @@ abbrev pub fault_of_schema : SchemaFault → CompileFault
 fault_of_schema schema.Memory = compile.Memory
 fault_of_schema f = compile.Schema f
 
--- that of a query's text
+-- a fault of a query's text as one of compiling
 abbrev pub fault_of_query : QueryFault → CompileFault
 fault_of_query query.Memory = compile.Memory
 fault_of_query f = compile.Query f
 
--- and that of a statement's plan
+-- a fault of a statement's plan as one of compiling
 abbrev pub fault_of_plan : PlanFault → CompileFault
 fault_of_plan (plan.Limit l) = compile.Limit l
 fault_of_plan plan.Memory = compile.Memory

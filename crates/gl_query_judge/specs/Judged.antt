@@ -34,7 +34,7 @@ pub record IsQueryFault (schema : Schema) (text : List ℕ) (f : QueryFault) : T
   pub real : f ≢ fault.Memory
   pub found : HasNoStatement text f ⊎ BreaksRule schema text f
 
--- such a fault, or want of memory
+-- the text of a query has this fault, or memory ran out
 abbrev pub IsFaultOrMemory : Schema → List ℕ → QueryFault → Type 0
 IsFaultOrMemory schema text f = IsQueryFault schema text f ⊎ (f ≡ fault.Memory)
 
@@ -43,6 +43,7 @@ pub record HasOneFault (schema : Schema) (text : List ℕ) (f : QueryFault) : Ty
   pub only : (other : QueryFault) → IsQueryFault schema text other → other ≡ f
   pub refused : (statement : Statement) → IsAcceptedText schema text statement → ⊥
 
+-- a text of a query that is wrong has one first fault
 abbrev pub TextsHaveOneFault : Type 0
 TextsHaveOneFault =
     (schema : Schema) (text : List ℕ) (f : QueryFault) → IsSchema schema → IsQueryFault schema text f
@@ -54,6 +55,7 @@ pub record HasResultColumns (schema : Schema) (statement : Statement) : Type 0 w
   pub result : AreResultColumns (columns_of schema.streams (query_shape statement.query))
   pub kinds : AreKinds (columns_of schema.streams (query_shape statement.query))
 
+-- the statement of an accepted text has columns that a result may have
 abbrev pub AcceptedTextsHaveColumns : Type 0
 AcceptedTextsHaveColumns =
     (schema : Schema) (text : List ℕ) (statement : Statement) → IsSchema schema → IsAcceptedText schema text statement

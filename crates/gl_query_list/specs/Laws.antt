@@ -12,6 +12,7 @@ use Rattle.gl_query_list.specs.Lists.{HasStatements, IsListFault, most_statement
 abbrev pub Verdict : Type 0
 Verdict = Result (List StatementTree) QueryFault
 
+-- a verdict on a text of several queries is right: its statements, or its first fault
 abbrev pub IsVerdict : Schema → List ℕ → Verdict → Type 0
 IsVerdict schema text (Ok ss) = HasStatements schema text ss
 IsVerdict schema text (Err f) = IsListFault schema text f
@@ -33,6 +34,7 @@ pub record AreListed (ss : List StatementTree) : Type 0 where
   pub distinct : IsDistinct bytes_eq (names_of ss)
   pub regular : AllByRecursion (λ (s : StatementTree). IsRegular (statement_alike s)) ss
 
+-- the statements of every accepted text keep the rules of a list
 abbrev pub StatementsAreListed : Type 0
 StatementsAreListed =
     (schema : Schema) (text : List ℕ) (ss : List StatementTree) → HasStatements schema text ss → AreListed ss

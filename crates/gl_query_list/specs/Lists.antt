@@ -67,11 +67,11 @@ pub record HaveFirstFault (schema : Schema) (ps : List Piece) (f : QueryFault) :
 abbrev pub HasStatements : Schema → List ℕ → List StatementTree → Type 0
 HasStatements schema text ss = AreStatements schema [] (pieces_of text) ss
 
--- or this is what is wrong with it
+-- this is the first thing that is wrong with a text of several queries
 abbrev pub IsListFault : Schema → List ℕ → QueryFault → Type 0
 IsListFault schema text f = HaveFirstFault schema (pieces_of text) f
 
--- such a fault, or want of memory
+-- a text of several queries has this fault, or memory ran out
 abbrev pub IsFaultOrMemory : Schema → List ℕ → QueryFault → Type 0
 IsFaultOrMemory schema text f = IsListFault schema text f ⊎ (f ≡ fault.Memory)
 
@@ -79,7 +79,7 @@ IsFaultOrMemory schema text f = IsListFault schema text f ⊎ (f ≡ fault.Memor
 abbrev pub tree_of : Checked → StatementTree
 tree_of c = statement_tree c.statement
 
--- it was checked over this schema
+-- a statement was checked over this schema
 pub record IsCheckedOver (schema : Schema) (c : Checked) : Type 0 where
   pub over : c.schema ≡ schema
   pub checked : IsChecked c.schema c.statement

@@ -11,14 +11,16 @@ pub record Piece : Type 0 where
   pub tokens : List Lexeme
   pub end : ℕ
 
+-- some tokens, and the place behind them
 abbrev pub piece : List Lexeme → ℕ → Piece
 piece tokens end = record { tokens = tokens; end = end }
 
+-- a token that ends a query in a text of several
 abbrev pub is_semicolon : Token → Bool
 is_semicolon (token.Plain Semicolon) = true
 is_semicolon t = false
 
--- these pieces, where there are tokens for them
+-- these pieces, where there are tokens for them; none otherwise
 abbrev pub where_some : List Lexeme → List Piece → List Piece
 where_some [] ps = []
 where_some (l ∷ ls) ps = ps

@@ -13,11 +13,12 @@ use Rattle.gl_query_list.specs.Lists.{AreStatements, HaveFirstFault, IsCheckedOv
 abbrev pub names_before : List Checked → List (List ℕ)
 names_before cs = names_of (map tree_of cs)
 
--- its name may stand behind these, or this is wrong with it
+-- the name of a statement may stand behind these, or this is wrong with it
 abbrev pub IsNamed : List (List ℕ) → Checked → Result Checked QueryFault → Type 0
 IsNamed names c (Ok d) = (d ≡ c) × (name_fault names c.statement.name ≡ None)
 IsNamed names c (Err f) = name_fault names c.statement.name ≡ Some f
 
+-- a piece has this fault, or memory ran out
 abbrev pub IsPieceFaultOrMemory : Schema → List (List ℕ) → Piece → QueryFault → Type 0
 IsPieceFaultOrMemory schema names p f = IsPieceFault schema names p f ⊎ (f ≡ fault.Memory)
 
@@ -37,6 +38,7 @@ pub record IsWrong (schema : Schema) (names : List (List ℕ)) (ps : List Piece)
   pub parts : ps ≡ first ∷ behind
   pub fault : IsPieceFault schema names first f
 
+-- some piece has this fault, or memory ran out
 abbrev pub IsWrongOrMemory : Schema → List (List ℕ) → List Piece → QueryFault → Type 0
 IsWrongOrMemory schema names ps f = IsWrong schema names ps f ⊎ (f ≡ fault.Memory)
 
@@ -52,5 +54,6 @@ pub record IsDone (schema : Schema) (ps : List Piece) (cs : List Checked) : Type
   pub are : AreStatements schema [] ps (map tree_of cs)
   pub over : AllByRecursion (IsCheckedOver schema) cs
 
+-- this is the first fault of all pieces, or memory ran out
 abbrev pub HaveFirstFaultOrMemory : Schema → List Piece → QueryFault → Type 0
 HaveFirstFaultOrMemory schema ps f = HaveFirstFault schema ps f ⊎ (f ≡ fault.Memory)

@@ -10,7 +10,9 @@ use std::alloc::Global;
 /// The tokens of a piece, and the place in the text where they end.
 #[derive(Drop)]
 pub struct Piece {
+    /// The tokens in their order, each with its place in the whole text.
     pub tokens: Vec<Lexeme>,
+    /// The byte of the whole text at which the piece ends.
     pub end: u64,
 }
 

@@ -5,10 +5,12 @@ use Rattle.gl_query_tokens.specs.declared.token.Token.{Token}
 use Rattle.gl_query_tokens.specs.declared.token.Token.TheVariants as token
 use Rattle.gl_query_reader.specs.Written.{Query, Stream, InBrackets, Select, Windows, Groups, Join'}
 
+-- an opening bracket, unless none is needed
 abbrev pub opening : Bool → List Token
 opening true = []
 opening false = token.Open 0 ∷ []
 
+-- a closing bracket, unless none is needed
 abbrev pub closing : Bool → List Token
 closing true = []
 closing false = token.Plain plain.Close ∷ []

@@ -19,6 +19,7 @@ use Rattle.gl_query_printer.specs.Brackets.{is_stream, is_term}
 abbrev pub name_of : List ℕ → Name
 name_of text = record { text = text; at = 0 }
 
+-- a number without a place of its own
 abbrev pub num_of : ℕ → Num
 num_of value = record { value = value; at = 0 }
 
@@ -39,6 +40,7 @@ expr_of (shape.Binary o l r) =
     Binary o 0 (fitted (nat_le (level (expr_of l)) (left_looseness o)) (expr_of l))
     (fitted (nat_lt (level (expr_of r)) (looseness o)) (expr_of r))
 
+-- an aggregate as the canonical text writes it, with every place left at 0
 abbrev pub agg_of : AggShape → Agg
 agg_of shape.Count = Count 0 0
 agg_of (shape.Sum e) = Fold' Sum 0 0 (expr_of e)
@@ -56,13 +58,16 @@ is_bare e name = false
 abbrev pub item_of : ItemShape → Item
 item_of i = if is_bare i.expr i.name then Bare (name_of i.name) else Named (expr_of i.expr) (name_of i.name)
 
+-- a named aggregate as the canonical text writes it
 abbrev pub agg_item_of : AggItemShape → Item
 agg_item_of i = Total (agg_of i.agg) (name_of i.name)
 
+-- what is picked, as the canonical text writes it: a star or the items
 abbrev pub pick_of : PickShape → Pick
 pick_of shape.All = All 0
 pick_of (shape.Items items) = Items (map item_of items)
 
+-- a query stands bare where it may, and in brackets elsewhere
 abbrev pub bracketed_unless : Bool → Query → Query
 bracketed_unless true q = q
 bracketed_unless false q = InBrackets 0 q
@@ -75,16 +80,20 @@ source_of q = bracketed_unless (is_stream q) q
 abbrev pub term_of : Query → Query
 term_of q = bracketed_unless (is_term q) q
 
+-- a window as the canonical text writes it: its size, its advance, and what they are measured in
 abbrev pub window_of : Measure → ℕ → ℕ → Window
 window_of measure size advance =
     record { at = 0; size = num_of size; advance = num_of advance; measure = measure }
 
+-- a window of each key as the canonical text writes it: its size and its advance in tuples
 abbrev pub row_window_of : ℕ → ℕ → RowWindow
 row_window_of size advance = record { at = 0; size = num_of size; advance = num_of advance }
 
+-- a grouping as the canonical text writes it: its key, and how many groups
 abbrev pub grouping_of : List ℕ → ℕ → Grouping
 grouping_of key groups = record { at = 0; key = name_of key; groups = num_of groups }
 
+-- a query as the canonical text writes it, with brackets only around sources and terms that need them
 abbrev pub query_of : QueryShape → Query
 query_of (shape.Read name) = Stream (name_of name)
 query_of (shape.Rows pick filter source) =

@@ -23,6 +23,7 @@ pub record HasAlike (text : List ℕ) (s : StatementShape) : Type 0 where
 abbrev pub IsPrintable : StatementShape → Type 0
 IsPrintable s = (text : List ℕ) × HasAlike text s
 
+-- no front of a text passes a limit of the reader
 abbrev pub PassesNoLimit : List ℕ → Type 0
 PassesNoLimit text = keeps_limits none_counted (bare_tokens (tokens_of text)) ≡ true
 

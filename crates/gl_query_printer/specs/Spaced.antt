@@ -34,6 +34,7 @@ fold_text fold.Min = codes "min"
 fold_text fold.Max = codes "max"
 fold_text fold.Avg = codes "avg"
 
+-- the word that joins two queries
 unfoldable pub join_text : Join → List ℕ
 join_text join.Union = codes "UNION"
 join_text join.Concat = codes "CONCAT"
@@ -57,6 +58,7 @@ plain_text plain.RightSquare = codes "]"
 plain_text plain.Comma = codes ","
 plain_text plain.Semicolon = codes ";"
 
+-- a number is written in decimal
 abbrev pub number_text : ℕ → List ℕ
 number_text n = decimal n
 
@@ -121,10 +123,12 @@ is_closing (token.Plain plain.RightSquare) = true
 is_closing (token.Plain plain.Comma) = true
 is_closing t = false
 
+-- a token that opens a round bracket
 unfoldable pub is_opening : Token → Bool
 is_opening (token.Open at) = true
 is_opening t = false
 
+-- a token that is a number
 abbrev pub is_number : Token → Bool
 is_number (token.Number n) = true
 is_number t = false
@@ -138,6 +142,7 @@ needs_space Operand t = not (is_closing t)
 needs_space Sign t = not (is_number t)
 needs_space Other t = not (is_closing t)
 
+-- one space between two tokens, or nothing
 abbrev pub gap : Bool → List ℕ
 gap true = codes " "
 gap false = []

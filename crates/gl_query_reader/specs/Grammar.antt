@@ -83,6 +83,7 @@ pub record HaveItemsFault (tokens : List Lexeme) (at : ℕ) : Type 0 where
 abbrev pub Verdict : Type 0
 Verdict = Result StatementTree QueryFault
 
+-- what a verdict on a list of tokens claims: a statement, or a fault of the grammar, of the depth or of its items
 abbrev pub HaveVerdict : List Lexeme → ℕ → Verdict → Type 0
 HaveVerdict tokens end (Ok s) = HaveStatement tokens s
 HaveVerdict tokens end (Err (fault.Syntax at)) = HaveSyntaxFault tokens end at
@@ -100,21 +101,27 @@ HaveFault tokens end e = ⊥
 
 -- ---- a text has what its tokens have, which end at its length
 
+-- a text reads as this statement
 abbrev pub HasStatement : List ℕ → StatementTree → Type 0
 HasStatement text s = HaveStatement (tokens_of text) s
 
+-- a text breaks the grammar at this place
 abbrev pub IsSyntaxFault : List ℕ → ℕ → Type 0
 IsSyntaxFault text at = HaveSyntaxFault (tokens_of text) (length text) at
 
+-- a text passes a limit on nesting or on length at this place
 abbrev pub IsDepthFault : List ℕ → ℕ → Type 0
 IsDepthFault text at = HaveDepthFault (tokens_of text) at
 
+-- items that do not go together in one select begin at this place of a text
 abbrev pub IsItemsFault : List ℕ → ℕ → Type 0
 IsItemsFault text at = HaveItemsFault (tokens_of text) at
 
+-- a verdict is right for a text
 abbrev pub IsVerdict : List ℕ → Verdict → Type 0
 IsVerdict text v = HaveVerdict (tokens_of text) (length text) v
 
+-- a text's first fault is this one; want of memory may come with any text
 abbrev pub IsFault : List ℕ → QueryFault → Type 0
 IsFault text f = HaveFault (tokens_of text) (length text) f
 
@@ -139,5 +146,6 @@ pub record IsRegular (s : StatementShape) : Type 0 where
   pub small : QueryIsSmall s.query
   pub names : StatementHasNames s
 
+-- every statement that some text reads as is regular
 abbrev pub StatementsAreRegular : Type 0
 StatementsAreRegular = (text : List ℕ) (s : StatementTree) → HasStatement text s → IsRegular (statement_alike s)

@@ -11,12 +11,15 @@ use Rattle.gl_query_reader.specs.declared.limits.Counts.{Counts}
 abbrev pub none_counted : Counts
 none_counted = record { brackets = 0; operators = 0; joins = 0; operand = false }
 
+-- how deep brackets may stand in brackets
 abbrev pub MOST_BRACKETS : ℕ
 MOST_BRACKETS = 32
 
+-- how many operators one expression may have
 abbrev pub MOST_OPERATORS : ℕ
 MOST_OPERATORS = 256
 
+-- how many joins of queries one statement may have
 abbrev pub MOST_JOINS : ℕ
 MOST_JOINS = 64
 
@@ -28,6 +31,7 @@ begins_after plain.Comma = true
 begins_after plain.LeftSquare = true
 begins_after p = false
 
+-- behind such a token an operand begins, so that a minus is the sign of a number
 abbrev pub begins_operand : Token → Bool
 begins_operand (token.Open at) = true
 begins_operand (token.Operator o at) = true

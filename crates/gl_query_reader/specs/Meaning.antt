@@ -22,12 +22,14 @@ expr_meaning (written.Cast at open' e word kind) = Cast (expr_meaning e) kind at
 expr_meaning (written.Not at e) = Not (expr_meaning e) at
 expr_meaning (written.Binary o at l r) = Binary o (expr_meaning l) (expr_meaning r) at
 
+-- the aggregate that a keyword of a fold makes of its argument
 abbrev pub fold_meaning : Fold → ExprTree → AggTree
 fold_meaning fold.Sum e = Sum e
 fold_meaning fold.Min e = Min e
 fold_meaning fold.Max e = Max e
 fold_meaning fold.Avg e = Avg e
 
+-- the aggregate that a written one means
 abbrev pub agg_meaning : written.Agg → AggTree
 agg_meaning (written.Count at open') = Count at
 agg_meaning (written.Fold' f at open' e) = fold_meaning f (expr_meaning e)
@@ -47,6 +49,7 @@ agg_items (written.Bare name ∷ is) = agg_items is
 agg_items (written.Named e name ∷ is) = agg_items is
 agg_items (written.Total a name ∷ is) = record { agg = agg_meaning a; name = name } ∷ agg_items is
 
+-- an item is an aggregate
 abbrev pub is_total : written.Item → Bool
 is_total (written.Bare name) = false
 is_total (written.Named e name) = false
@@ -61,18 +64,22 @@ abbrev pub filtered : Option ExprTree → QueryTree → QueryTree
 filtered None source = source
 filtered (Some e) source = Rows All (Some e) source
 
+-- a select of aggregates gives one row for its whole source, a select of other items one for each row
 abbrev pub by_items : Bool → List written.Item → Option ExprTree → QueryTree → QueryTree
 by_items true items filter source = Total (agg_items items) (filtered filter source)
 by_items false items filter source = Rows (Items (plain_items items)) filter source
 
+-- the first item is an aggregate
 abbrev pub begins_total : List written.Item → Bool
 begins_total [] = false
 begins_total (i ∷ is) = is_total i
 
+-- what a select means over a source, by the star or by the sort of its first item
 abbrev pub by_pick : written.Pick → Option ExprTree → QueryTree → QueryTree
 by_pick (written.All at) filter source = Rows All filter source
 by_pick (written.Items items) filter source = by_items (begins_total items) items filter source
 
+-- the written items of a select; the star has none
 abbrev pub items_in : written.Pick → List written.Item
 items_in (written.All at) = []
 items_in (written.Items items) = items
@@ -89,6 +96,7 @@ select_meaning p None filter g source = grouped p filter g source
 select_meaning p (Some w) filter g source =
     Each w.measure (it w.at) source w.size w.advance (grouped p filter g (Read (it w.at))) w.at
 
+-- two queries are joined one behind the other by UNION, or side by side by CONCAT
 abbrev pub join_meaning : Join → QueryTree → QueryTree → ℕ → QueryTree
 join_meaning join.Union l r at = Union l r at
 join_meaning join.Concat l r at = Concat l r at
@@ -98,6 +106,7 @@ abbrev pub each_group : Name → QueryTree → Grouping → Option RowWindow →
 each_group var source g None body at = PerGroup var source g.key g.groups body at
 each_group var source g (Some w) body at = Partition var source g.key g.groups w.size w.advance body at
 
+-- the query that a written one means; brackets leave no trace
 abbrev pub query_meaning : written.Query → QueryTree
 query_meaning (written.Stream name) = Read name
 query_meaning (written.InBrackets at q) = query_meaning q
@@ -109,5 +118,6 @@ query_meaning (written.Groups at var source grouping window open' body) =
     each_group var (query_meaning source) grouping window (query_meaning body) at
 query_meaning (written.Join' j at l r) = join_meaning j (query_meaning l) (query_meaning r) at
 
+-- the statement that a written one means: its query under its name
 abbrev pub statement_meaning : written.Statement → StatementTree
 statement_meaning s = record { query = query_meaning s.query; name = s.name }

@@ -16,16 +16,19 @@ first_at (Cast at open' e word kind) = at
 first_at (Not at e) = at
 first_at (Binary o at l r) = first_at l
 
+-- the place of an aggregate's keyword
 abbrev pub agg_at : Agg → ℕ
 agg_at (Count at open') = at
 agg_at (Fold' fold at open' e) = at
 agg_at (Wsum at open' e ns) = at
 
+-- the place at which an item begins
 abbrev pub item_at : Item → ℕ
 item_at (Bare name) = name.at
 item_at (Named e name) = first_at e
 item_at (Total agg name) = agg_at agg
 
+-- two truth values agree
 abbrev pub same : Bool → Bool → Bool
 same true b = b
 same false b = not b
@@ -35,6 +38,7 @@ abbrev pub first_other : Bool → List Item → Option ℕ
 first_other sort [] = None
 first_other sort (i ∷ is) = if same sort (is_total i) then first_other sort is else Some (item_at i)
 
+-- an item is the key of the groups, named alone
 abbrev pub is_key : Name → Item → Bool
 is_key key (Bare name) = bytes_eq name.text key.text
 is_key key (Named e name) = false

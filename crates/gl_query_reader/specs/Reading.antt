@@ -19,6 +19,7 @@ use Rattle.gl_query_reader.specs.Meaning.{statement_meaning}
 use Rattle.gl_query.specs.Trees.{StatementTree, statement_tree}
 use Rattle.gl_query_reader.specs.Mixed.{mixed_in}
 
+-- a statement that is there, or else a fault of the grammar at this place
 abbrev pub or_syntax : Option Statement → ℕ → Result Statement ReadFault
 or_syntax None at = Err (Syntax at)
 or_syntax (Some s) at = Ok s
@@ -39,6 +40,7 @@ Fails Memory read = Unit {0}
 Fails (Syntax at) read = read ≡ Err (Syntax at)
 Fails (TooDeep at) read = read ≡ Err (TooDeep at)
 
+-- what code answers is what reading the text gives; want of memory may come with any text
 abbrev pub Gives : Result WrittenStatement ReadFault → Result Statement ReadFault → Type 0
 Gives (Ok s) read = read ≡ Ok (statement_of s)
 Gives (Err e) read = Fails e read

@@ -15,28 +15,34 @@ expr_depth (Cast at open' e word kind) = expr_depth e + 1
 expr_depth (Not at e) = expr_depth e
 expr_depth (Binary o at l r) = max (expr_depth l) (expr_depth r)
 
+-- how many brackets are open at once in an aggregate, its own among them
 abbrev pub agg_depth : Agg → ℕ
 agg_depth (Count at open') = 1
 agg_depth (Fold' fold at open' e) = expr_depth e + 1
 agg_depth (Wsum at open' e weights) = expr_depth e + 1
 
+-- how many brackets are open at once in an item
 abbrev pub item_depth : Item → ℕ
 item_depth (Bare name) = 0
 item_depth (Named e name) = expr_depth e
 item_depth (Total agg name) = agg_depth agg
 
+-- how many brackets are open at once in any of the items
 abbrev pub items_depth : List Item → ℕ
 items_depth [] = 0
 items_depth (i ∷ is) = max (item_depth i) (items_depth is)
 
+-- how many brackets are open at once in what is picked
 abbrev pub pick_depth : Pick → ℕ
 pick_depth (All at) = 0
 pick_depth (Items items) = items_depth items
 
+-- how many brackets are open at once in a filter
 abbrev pub filter_depth : Option Expr → ℕ
 filter_depth None = 0
 filter_depth (Some e) = expr_depth e
 
+-- how many brackets are open at once in a query, those of bodies among them
 abbrev pub depth_of : Query → ℕ
 depth_of (Stream name) = 0
 depth_of (InBrackets at q) = depth_of q + 1
@@ -66,6 +72,7 @@ operators_of (Cast at open' e word kind) = operators_of e + 1
 operators_of (Not at e) = operators_of e + 1
 operators_of (Binary o at l r) = operators_of l + operators_of r + 1
 
+-- an expression has no more operators than are allowed
 abbrev pub IsShort : Expr → Type 0
 IsShort e = operators_of e ≤ MOST_OPERATORS
 
@@ -75,19 +82,23 @@ AggIsShort (Count at open') = Unit {0}
 AggIsShort (Fold' fold at open' e) = IsShort e
 AggIsShort (Wsum at open' e weights) = IsShort e
 
+-- the expression of an item is short
 abbrev pub ItemIsShort : Item → Type 0
 ItemIsShort (Bare name) = Unit {0}
 ItemIsShort (Named e name) = IsShort e
 ItemIsShort (Total agg name) = AggIsShort agg
 
+-- the expressions of all items that are picked are short
 abbrev pub PickIsShort : Pick → Type 0
 PickIsShort (All at) = Unit {0}
 PickIsShort (Items items) = AllByRecursion ItemIsShort items
 
+-- the expression of a filter is short, where there is a filter
 abbrev pub FilterIsShort : Option Expr → Type 0
 FilterIsShort None = Unit {0}
 FilterIsShort (Some e) = IsShort e
 
+-- every whole expression in a query is short
 abbrev pub AreShort : Query → Type 0
 AreShort (Stream name) = Unit {0}
 AreShort (InBrackets at q) = AreShort q
@@ -96,6 +107,7 @@ AreShort (Windows at var source window open' body) = AreShort source × AreShort
 AreShort (Groups at var source grouping window open' body) = AreShort source × AreShort body
 AreShort (Join' join at l r) = AreShort l × AreShort r
 
+-- a statement keeps all limits: brackets, joins, and the operators of each expression
 pub record IsWithinLimits (w : Statement) : Type 0 where
   pub brackets : depth_of w.query ≤ MOST_BRACKETS
   pub joins : joins_of w.query ≤ MOST_JOINS

@@ -107,9 +107,11 @@ pub record State : Type 0 where
   pub control : Control
   pub frames : List Frame
 
+-- reading begins where a query is wanted, with nothing open
 abbrev pub start : State
 start = record { control = WantTerm; frames = [] }
 
+-- reading goes on with this wanted or read, and these frames open
 abbrev pub goes : Control → List Frame → Option State
 goes control fs = Some (record { control = control; frames = fs })
 
@@ -125,14 +127,17 @@ measure_in (token.Plain plain.Tuples) = Some Tuples
 measure_in (token.Plain plain.Time) = Some Time
 measure_in t = None
 
+-- what a window may be measured in: tuples or time, but tuples alone where it stands in groups
 abbrev pub measure_for : WindowHead → Token → Option Measure
 measure_for (SelectWindow pick) t = measure_in t
 measure_for (EachWindow at var) t = measure_in t
 measure_for (GroupsWindow at var grouping) t = if is_plain plain.Tuples t then Some Tuples else None
 
+-- a window of this size, advance and measure
 abbrev pub measured : ℕ → Num → Num → Measure → Window
 measured at size advance measure = record { at = at; size = size; advance = advance; measure = measure }
 
+-- a window of a group, which is always measured in tuples
 abbrev pub row_window : Window → RowWindow
 row_window w = record { at = w.at; size = w.size; advance = w.advance }
 

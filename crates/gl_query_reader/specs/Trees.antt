@@ -58,36 +58,45 @@ expr_of (expr.Cast' at open' p e word kind) = Cast at open' (expr_of e) word kin
 expr_of (expr.Not' at p e) = Not at (expr_of e)
 expr_of (expr.Binary' o at p l q r) = Binary o at (expr_of l) (expr_of r)
 
+-- the aggregate that the reader's tree of it stands for
 abbrev pub agg_of : WrittenAgg → Agg
 agg_of (agg.Count at open') = Count at open'
 agg_of (agg.Fold fold at open' e) = Fold' fold at open' (expr_of e)
 agg_of (agg.Wsum at open' e ns) = Wsum at open' (expr_of e) ns
 
+-- the item that the reader's tree of it stands for
 abbrev pub item_of : WrittenItem → Item
 item_of (item.Bare name) = Bare name
 item_of (item.Named e name) = Named (expr_of e) name
 item_of (item.Total a name) = Total (agg_of a) name
 
+-- the items that the reader's trees stand for, in their order
 abbrev pub items_of : List WrittenItem → List Item
 items_of items = map item_of items
 
+-- what is picked, from the reader's tree of it
 abbrev pub pick_of : WrittenPick → Pick
 pick_of (pick.All at) = All at
 pick_of (pick.Items items) = Items (items_of items)
 
+-- the filter that the reader's tree of it stands for, where there is one
 abbrev pub filter_of : Option expr.WrittenExpr → Option Expr
 filter_of o = option_map expr_of o
 
+-- the select over this source that the reader's tree stands for
 abbrev pub select_of : WrittenSelect → Query → Query
 select_of s source = Select (pick_of s.pick) source s.window (filter_of s.filter) s.grouping
 
+-- the EACH over windows or groups that its parts stand for
 abbrev pub over_of : Over → ℕ → Name → ℕ → Query → Query → Query
 over_of (over.Windows w) at var open' source body = Windows at var source w open' body
 over_of (over.Groups g w) at var open' source body = Groups at var source g w open' body
 
+-- the EACH over this source and with this body that the reader's tree stands for
 unfoldable pub each_of : WrittenEach → Query → Query → Query
 each_of e source body = over_of e.over e.at e.var e.open source body
 
+-- the query that the reader's tree of it stands for
 abbrev pub query_of : query.WrittenQuery → Query
 query_of (query.Stream name) = Stream name
 query_of (query.Brackets' at p q) = InBrackets at (query_of q)
@@ -100,37 +109,46 @@ abbrev pub over_tree : Over → ℕ → Name → QueryTree → QueryTree → Que
 over_tree (over.Windows w) at var source body = Each w.measure var source w.size w.advance body at
 over_tree (over.Groups g w) at var source body = each_group var source g w body at
 
+-- the meaning of an EACH, from the meanings of its source and its body
 unfoldable pub each_tree : WrittenEach → QueryTree → QueryTree → QueryTree
 each_tree e source body = over_tree e.over e.at e.var source body
 
+-- the statement that the reader's tree of it stands for
 abbrev pub statement_of : WrittenStatement → Statement
 statement_of s = record { query = query_of s.query; name = s.name; closed = s.closed }
 
+-- what reads a source, from the reader's value
 abbrev pub head_of : Head → states.Head
 head_of (head.Select pick) = states.SelectHead (pick_of pick)
 head_of (head.Each at var) = states.EachHead at var
 
+-- what stands before a window, from the reader's value
 abbrev pub window_head_of : WindowBy → states.WindowHead
 window_head_of (window_by.Select pick) = states.SelectWindow (pick_of pick)
 window_head_of (window_by.Each at var) = states.EachWindow at var
 window_head_of (window_by.Groups at var grouping) = states.GroupsWindow at var grouping
 
+-- what stands before the bracket of a body over windows or groups
 abbrev pub over_head_of : Over → ℕ → Name → Query → states.BodyHead
 over_head_of (over.Windows w) at var source = states.WindowsHead at var source w
 over_head_of (over.Groups g w) at var source = states.GroupsHead' at var source g w
 
+-- what stands before the bracket of a body, from the reader's value
 abbrev pub body_head_of : BodyHead → states.BodyHead
 body_head_of h = over_head_of h.over h.at h.var (query_of h.source)
 
+-- what stands before BY, from the reader's value
 abbrev pub groups_head_of : GroupsHead → states.GroupsHead
 groups_head_of (groups_head.Select from filter) =
     states.SelectGroups (pick_of from.pick) (query_of from.source) from.window (filter_of filter)
 groups_head_of (groups_head.Each at var source) = states.EachGroups at var (query_of source)
 
+-- what waits for its name, from the reader's value
 abbrev pub unnamed_of : Unnamed → states.Unnamed
 unnamed_of (unnamed.Expr e) = states.UnnamedExpr (expr_of e)
 unnamed_of (unnamed.Agg a) = states.UnnamedAgg (agg_of a)
 
+-- what is open, from the reader's frame
 abbrev pub frame_of : Frame → states.Frame
 frame_of (frame.LeftOf l o at) = states.LeftOf (expr_of l) o at
 frame_of (frame.NotOf at) = states.NotOf at
@@ -149,6 +167,7 @@ frame_of (frame.InBody head open') = states.InBody (body_head_of head) open'
 abbrev pub frames_of : List Frame → List states.Frame
 frames_of stack = map frame_of (reverse stack)
 
+-- what was read last inside an expression, from the reader's value
 abbrev pub expr_control_of : ExprControl → states.Control
 expr_control_of expr_control.WantOperand = states.WantOperand
 expr_control_of (expr_control.WantMinus at) = states.WantMinus at
@@ -157,6 +176,7 @@ expr_control_of (expr_control.WantCastOpen at) = states.WantCastOpen at
 expr_control_of (expr_control.WantKind h) = states.WantKind h.at h.open (expr_of h.inner)
 expr_control_of (expr_control.WantCastClose h word kind) = states.WantCastClose h.at h.open (expr_of h.inner) word kind
 
+-- what was read last between the items of a select, from the reader's value
 abbrev pub item_control_of : ItemControl → states.Control
 item_control_of (item_control.WantItem items) = states.WantItem (items_of items)
 item_control_of (item_control.WantAs items a) = states.WantAs (items_of items) (agg_of a)
@@ -164,6 +184,7 @@ item_control_of (item_control.WantItemName items u) = states.WantItemName (items
 item_control_of (item_control.HaveItem items) = states.HaveItem (items_of items)
 item_control_of (item_control.WantFrom at) = states.WantFrom at
 
+-- what was read last inside an aggregate, from the reader's value
 abbrev pub agg_control_of : AggControl → states.Control
 agg_control_of (agg_control.WantCountOpen items at) = states.WantCountOpen (items_of items) at
 agg_control_of (agg_control.WantCountClose items at open') = states.WantCountClose (items_of items) at open'
@@ -174,12 +195,14 @@ agg_control_of (agg_control.WantWeight h ns) = states.WantWeight (items_of h.ite
 agg_control_of (agg_control.HaveWeight h ns) = states.HaveWeight (items_of h.items) h.at h.open (expr_of h.arg) ns
 agg_control_of (agg_control.WantWsumClose h ns) = states.WantWsumClose (items_of h.items) h.at h.open (expr_of h.arg) ns
 
+-- what was read last before or behind a source, from the reader's value
 abbrev pub source_control_of : SourceControl → states.Control
 source_control_of (source_control.WantSource head) = states.WantSource (head_of head)
 source_control_of (source_control.HaveSource from) =
     states.HaveSource (pick_of from.pick) (query_of from.source) from.window
 source_control_of (source_control.HaveEachSource at var source) = states.HaveEachSource at var (query_of source)
 
+-- what was read last inside a window, from the reader's value
 abbrev pub window_control_of : WindowControl → states.Control
 window_control_of (window_control.WantSize h) = states.WantSize (window_head_of h.head) (query_of h.source)
 window_control_of (window_control.WantSizeNumber h at) = states.WantSizeNumber (window_head_of h.head) (query_of h.source) at
@@ -192,6 +215,7 @@ window_control_of (window_control.WantMeasure h at size advance) =
 window_control_of (window_control.WantWindowClose h window) =
     states.WantWindowClose (window_head_of h.head) (query_of h.source) window
 
+-- what was read last inside a grouping, from the reader's value
 abbrev pub groups_control_of : GroupsControl → states.Control
 groups_control_of (groups_control.WantBy from filter) =
     states.WantBy (pick_of from.pick) (query_of from.source) from.window (filter_of filter)
@@ -199,6 +223,7 @@ groups_control_of (groups_control.WantKey head at) = states.WantKey (groups_head
 groups_control_of (groups_control.WantGroups head at key) = states.WantGroups (groups_head_of head) at key
 groups_control_of (groups_control.WantGroupsNumber head at key) = states.WantGroupsNumber (groups_head_of head) at key
 
+-- what was read last between queries, from the reader's value
 abbrev pub query_control_of : QueryControl → states.Control
 query_control_of query_control.WantTerm = states.WantTerm
 query_control_of (query_control.WantVar at) = states.WantVar at
@@ -209,6 +234,7 @@ query_control_of (query_control.WantName q) = states.WantName (query_of q)
 query_control_of (query_control.HaveName q name) = states.HaveName (query_of q) name
 query_control_of (query_control.WantEnd q name) = states.WantEnd (query_of q) name
 
+-- what was read last and what may follow, from the reader's value
 abbrev pub control_of : Control → states.Control
 control_of (control.Expr c) = expr_control_of c
 control_of (control.Item c) = item_control_of c
@@ -218,6 +244,7 @@ control_of (control.Window c) = window_control_of c
 control_of (control.Groups c) = groups_control_of c
 control_of (control.Query c) = query_control_of c
 
+-- the state of reading with this read last and these frames open
 abbrev pub state_of : Control → List states.Frame → states.State
 state_of c fs = record { control = control_of c; frames = fs }
 

@@ -57,6 +57,7 @@ pub data Query : Type 0 where
       (body : Query) → Query
   Join' : (join : Join) (at : ℕ) (l r : Query) → Query
 
+-- a written statement: a query, the name of its result, and whether a semicolon ends it
 pub record Statement : Type 0 where
   pub query : Query
   pub name : Name
@@ -103,6 +104,7 @@ level (Cast at open' e word kind) = 0
 level (Not at e) = 4
 level (Binary o at l r) = looseness o
 
+-- an expression is written by the grammar: operands bind tightly enough for their operator, and a CAST names a kind
 abbrev pub IsExpr : Expr → Type 0
 IsExpr (Column name) = Unit {0}
 IsExpr (Number n) = Unit {0}
@@ -120,11 +122,13 @@ IsAgg (Fold' fold at open' e) = IsExpr e
 IsAgg (Wsum at open' e []) = ⊥
 IsAgg (Wsum at open' e (n ∷ ns)) = IsExpr e
 
+-- an item is written by the grammar where its expression or aggregate is
 abbrev pub IsItem : Item → Type 0
 IsItem (Bare name) = Unit {0}
 IsItem (Named e name) = IsExpr e
 IsItem (Total agg name) = IsAgg agg
 
+-- every item is written by the grammar
 abbrev pub AreItems : List Item → Type 0
 AreItems [] = Unit {0}
 AreItems (i ∷ is) = IsItem i × AreItems is
@@ -135,12 +139,14 @@ IsPick (All at) = Unit {0}
 IsPick (Items []) = ⊥
 IsPick (Items (i ∷ is)) = IsItem i × AreItems is
 
+-- a filter is written by the grammar, or there is none
 abbrev pub IsFilter : Option Expr → Type 0
 IsFilter None = Unit {0}
 IsFilter (Some e) = IsExpr e
 
 -- a source is a stream or stands in brackets, and so does a term of UNION and CONCAT, or it is a select or an EACH
 abbrev mutual
+  -- what may stand as a whole query: anything but a stream's bare name, with its parts by the grammar
   pub IsQuery : Query → Type 0
   IsQuery (Stream name) = ⊥
   IsQuery (InBrackets at q) = IsQuery q
@@ -149,6 +155,7 @@ abbrev mutual
   IsQuery (Groups at var source grouping window open' body) = IsSource source × IsQuery body
   IsQuery (Join' join at l r) = IsQuery l × IsTerm r
 
+  -- what may stand behind FROM or IN: a stream, or a query in brackets
   pub IsSource : Query → Type 0
   IsSource (Stream name) = Unit {0}
   IsSource (InBrackets at q) = IsQuery q
@@ -157,6 +164,7 @@ abbrev mutual
   IsSource (Groups at var source grouping window open' body) = ⊥
   IsSource (Join' join at l r) = ⊥
 
+  -- what may stand on the right of a join: a query in brackets, a select, or an EACH
   pub IsTerm : Query → Type 0
   IsTerm (Stream name) = ⊥
   IsTerm (InBrackets at q) = IsQuery q
@@ -186,6 +194,7 @@ spell_numbers [] = []
 spell_numbers (n ∷ []) = token.Number n ∷ []
 spell_numbers (n ∷ m ∷ ns) = token.Number n ∷ token.Plain plain.Comma ∷ spell_numbers (m ∷ ns)
 
+-- the tokens of an aggregate: its keyword, and in brackets its argument and its weights
 abbrev pub spell_agg : Agg → List Token
 spell_agg (Count at open') = token.Count at ∷ token.Open open' ∷ token.Plain plain.Close ∷ []
 spell_agg (Fold' fold at open' e) = token.Fold fold at ∷ token.Open open' ∷ (spell e ++ token.Plain plain.Close ∷ [])
@@ -193,6 +202,7 @@ spell_agg (Wsum at open' e ns) =
     token.Wsum at ∷ token.Open open' ∷ (spell e ++ token.Plain plain.Comma ∷ token.Plain plain.LeftSquare
     ∷ (spell_numbers ns ++ token.Plain plain.RightSquare ∷ token.Plain plain.Close ∷ []))
 
+-- the tokens of an item: a column alone, or an expression or aggregate with AS and a name
 abbrev pub spell_item : Item → List Token
 spell_item (Bare name) = token.Name name ∷ []
 spell_item (Named e name) = spell e ++ token.Plain plain.As ∷ token.Name name ∷ []
@@ -204,10 +214,12 @@ spell_items [] = []
 spell_items (i ∷ []) = spell_item i
 spell_items (i ∷ j ∷ is) = spell_item i ++ token.Plain plain.Comma ∷ spell_items (j ∷ is)
 
+-- the tokens of what is picked: a star, or the items with commas between
 abbrev pub spell_pick : Pick → List Token
 spell_pick (All at) = token.Operator op.Mul at ∷ []
 spell_pick (Items items) = spell_items items
 
+-- the word that says what a window is measured in
 abbrev pub measure_word : Measure → Plain
 measure_word Tuples = plain.Tuples
 measure_word Time = plain.Time
@@ -218,16 +230,18 @@ spell_window w =
     token.Plain plain.LeftSquare ∷ token.Size w.at ∷ token.Number w.size ∷ token.Plain plain.Advance
     ∷ token.Number w.advance ∷ token.Plain (measure_word w.measure) ∷ token.Plain plain.RightSquare ∷ []
 
--- that of groups counts rows alone
+-- the tokens of a window of groups, which counts rows alone; none where there is no window
 abbrev pub spell_row_window : Option RowWindow → List Token
 spell_row_window None = []
 spell_row_window (Some w) =
     spell_window (record { at = w.at; size = w.size; advance = w.advance; measure = Tuples })
 
+-- the tokens of a window, or none
 abbrev pub spell_if_window : Option Window → List Token
 spell_if_window None = []
 spell_if_window (Some w) = spell_window w
 
+-- WHERE and the tokens of its condition, or none
 abbrev pub spell_filter : Option Expr → List Token
 spell_filter None = []
 spell_filter (Some e) = token.Plain plain.Where ∷ spell e
@@ -236,10 +250,12 @@ spell_filter (Some e) = token.Plain plain.Where ∷ spell e
 abbrev pub spell_grouping : Grouping → List Token
 spell_grouping g = token.By g.at ∷ token.Name g.key ∷ token.Plain plain.Groups ∷ token.Number g.groups ∷ []
 
+-- GROUP and the tokens of what is grouped by, or none
 abbrev pub spell_if_grouping : Option Grouping → List Token
 spell_if_grouping None = []
 spell_if_grouping (Some g) = token.Plain plain.Group ∷ spell_grouping g
 
+-- the tokens of a query as it is written, its brackets included
 abbrev pub spell_query : Query → List Token
 spell_query (Stream name) = token.Name name ∷ []
 spell_query (InBrackets at q) = token.Open at ∷ (spell_query q ++ token.Plain plain.Close ∷ [])
@@ -256,9 +272,11 @@ spell_query (Groups at var source grouping window open' body) =
     ∷ (spell_query body ++ token.Plain plain.Close ∷ []))))
 spell_query (Join' join at l r) = spell_query l ++ token.Join join at ∷ spell_query r
 
+-- a closing semicolon, or nothing
 abbrev pub spell_end : Bool → List Token
 spell_end false = []
 spell_end true = token.Plain plain.Semicolon ∷ []
 
+-- the tokens of a whole statement: the query, INTO, the name, and a semicolon where it has one
 abbrev pub spell_statement : Statement → List Token
 spell_statement s = spell_query s.query ++ token.Plain plain.Into ∷ token.Name s.name ∷ spell_end s.closed

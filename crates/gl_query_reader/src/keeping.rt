@@ -9,7 +9,9 @@ use std::alloc::AllocError;
 /// What was made, and what its caller keeps beside it.
 #[derive(Drop)]
 pub struct Beside<T, U> {
+    /// What the caller keeps.
     pub kept: T,
+    /// What was made.
     pub made: U,
 }
 
@@ -28,7 +30,9 @@ pub fn keep_beside<T: Drop, U: Drop>(
 /// What two calls made.
 #[derive(Drop)]
 pub struct Both<T, U> {
+    /// What the first call made.
     pub first: T,
+    /// What the second call made.
     pub second: U,
 }
 

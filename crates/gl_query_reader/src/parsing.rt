@@ -24,8 +24,11 @@ use std::alloc::{AllocError, Global};
 /// Why tokens are no statement, with the place of the token that shows it.
 #[derive(Clone, Copy)]
 pub enum ReadFault {
+    /// The token cannot stand there, or more is wanted at the end of the text.
     Syntax(u64),
+    /// With this token the text passes a limit on brackets, operators or joins.
     TooDeep(u64),
+    /// Memory ran out.
     Memory,
 }
 

@@ -11,37 +11,60 @@ pub type WrittenItems = Listed<WrittenItem>;
 /// An expression as it is written.
 #[derive(Drop)]
 pub enum WrittenExpr {
+    /// The name of a column.
     Column(Name),
+    /// A number without a sign.
     Number(Num),
     /// A number behind a minus sign, with the place of the sign.
     Minus {
+        /// The place of the sign.
         at: u64,
+        /// The number behind it.
         number: Num,
     },
+    /// A text literal.
     Letters {
+        /// The bytes between the quotes.
         text: TextBytes,
+        /// The place of the opening quote.
         at: u64,
     },
+    /// An expression in brackets.
     Brackets {
+        /// The place of the opening bracket.
         at: u64,
+        /// What stands in the brackets.
         inner: Box<WrittenExpr>,
     },
     /// CAST, its bracket, and the word that names the kind.
     Cast {
+        /// The place of CAST.
         at: u64,
+        /// The place of the opening bracket.
         open: u64,
+        /// The expression that is cast.
         inner: Box<WrittenExpr>,
+        /// The word behind AS.
         word: Name,
+        /// The kind that the word names.
         kind: Kind,
     },
+    /// NOT before an expression.
     Not {
+        /// The place of NOT.
         at: u64,
+        /// The expression behind it.
         inner: Box<WrittenExpr>,
     },
+    /// Two expressions with an operator between them.
     Binary {
+        /// The operator.
         op: Op,
+        /// The place of the operator.
         at: u64,
+        /// The expression before it.
         left: Box<WrittenExpr>,
+        /// The expression behind it.
         right: Box<WrittenExpr>,
     },
 }
@@ -49,20 +72,33 @@ pub enum WrittenExpr {
 /// An aggregate as it is written: its keyword and its bracket, and what stands in it.
 #[derive(Drop)]
 pub enum WrittenAgg {
+    /// COUNT, which has nothing in its bracket.
     Count {
+        /// The place of the keyword.
         at: u64,
+        /// The place of the opening bracket.
         open: u64,
     },
+    /// SUM, MIN, MAX or AVG of an argument.
     Fold {
+        /// Which of the four it is.
         fold: Fold,
+        /// The place of the keyword.
         at: u64,
+        /// The place of the opening bracket.
         open: u64,
+        /// The argument.
         arg: WrittenExpr,
     },
+    /// WSUM of an argument with weights.
     Wsum {
+        /// The place of the keyword.
         at: u64,
+        /// The place of the opening bracket.
         open: u64,
+        /// The argument.
         arg: WrittenExpr,
+        /// The weights in their order.
         weights: Nums,
     },
 }
@@ -83,46 +119,62 @@ pub enum WrittenItem {
 pub enum WrittenPick {
     /// `*`
     All { at: u64 },
+    /// A list of items.
     Items(WrittenItems),
 }
 
 /// A window: the place of SIZE, its two numbers, and what they count.
 #[derive(Clone, Copy)]
 pub struct Window {
+    /// The place of SIZE.
     pub at: u64,
+    /// The number behind SIZE.
     pub size: Num,
+    /// The number behind ADVANCE.
     pub advance: Num,
+    /// What both numbers count: tuples or ticks.
     pub measure: Measure,
 }
 
 /// A window that counts rows: the place of SIZE, and its two numbers.
 #[derive(Clone, Copy)]
 pub struct RowWindow {
+    /// The place of SIZE.
     pub at: u64,
+    /// The number behind SIZE.
     pub size: Num,
+    /// The number behind ADVANCE.
     pub advance: Num,
 }
 
 /// The place of BY, the name behind it, and the number of groups.
 #[derive(Drop)]
 pub struct Grouping {
+    /// The place of BY.
     pub at: u64,
+    /// The name behind BY.
     pub key: Name,
+    /// The number behind GROUPS.
     pub groups: Num,
 }
 
 /// A select without its source.
 #[derive(Drop)]
 pub struct WrittenSelect {
+    /// What is picked: `*` or items.
     pub pick: WrittenPick,
+    /// The window behind the source, where there is one.
     pub window: Option<Window>,
+    /// The condition behind WHERE, where there is one.
     pub filter: Option<WrittenExpr>,
+    /// What stands behind GROUP, where there is something.
     pub grouping: Option<Grouping>,
 }
 
 /// What an EACH goes over.
 #[derive(Drop)]
 pub enum Over {
+    /// Windows of tuples or of time.
     Windows(Window),
     /// Groups, or the windows of each group.
     Groups(Grouping, Option<RowWindow>),
@@ -131,9 +183,13 @@ pub enum Over {
 /// An EACH without its source and its body; the body's bracket is at `open`.
 #[derive(Drop)]
 pub struct WrittenEach {
+    /// The place of EACH.
     pub at: u64,
+    /// The variable.
     pub var: Name,
+    /// The windows or groups that it goes over.
     pub over: Over,
+    /// The place of the body's opening bracket.
     pub open: u64,
 }
 
@@ -142,23 +198,38 @@ pub struct WrittenEach {
 pub enum WrittenQuery {
     /// A name, as a source alone.
     Stream(Name),
+    /// A query in brackets.
     Brackets {
+        /// The place of the opening bracket.
         at: u64,
+        /// What stands in the brackets.
         inner: Box<WrittenQuery>,
     },
+    /// A select over a source.
     Select {
+        /// What it picks, and its window, filter and groups.
         select: WrittenSelect,
+        /// What stands behind FROM.
         source: Box<WrittenQuery>,
     },
+    /// An EACH over a source with a body.
     Each {
+        /// The variable and what it goes over.
         each: WrittenEach,
+        /// What stands behind IN.
         source: Box<WrittenQuery>,
+        /// What stands in the body's brackets.
         body: Box<WrittenQuery>,
     },
+    /// Two queries with UNION or CONCAT between them.
     Join {
+        /// Which of the two it is.
         join: Join,
+        /// The place of the keyword.
         at: u64,
+        /// The query before it.
         left: Box<WrittenQuery>,
+        /// The query behind it.
         right: Box<WrittenQuery>,
     },
 }
@@ -166,7 +237,10 @@ pub enum WrittenQuery {
 /// A statement as it is written, and whether it has its final `;`.
 #[derive(Drop)]
 pub struct WrittenStatement {
+    /// The query.
     pub query: WrittenQuery,
+    /// The name behind INTO.
     pub name: Name,
+    /// Whether a `;` ends the statement.
     pub closed: bool,
 }

@@ -13,10 +13,15 @@ use std::alloc::{AllocError, Global};
 /// how many ticks come in all.
 #[derive(Drop)]
 pub struct Given {
+    /// The text of the schema.
     pub schema: String,
+    /// The rows of the first stream.
     pub trades: String,
+    /// The rows of the second stream.
     pub other: String,
+    /// The times of the first stream's rows, in ticks.
     pub times: String,
+    /// How many ticks come in all, in decimal.
     pub ticks: String,
 }
 

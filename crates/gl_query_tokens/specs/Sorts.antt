@@ -33,23 +33,27 @@ abbrev pub is_plain : Plain → Token → Bool
 is_plain plain (token.Plain other) = plain_eq other plain
 is_plain plain t = false
 
--- the name, the number, and the place of the bracket or the keyword that a token is
+-- the name that a token is, if it is one
 abbrev pub name_in : Token → Option Name
 name_in (token.Name name) = Some name
 name_in t = None
 
+-- the number that a token is, if it is one
 abbrev pub number_in : Token → Option Num
 number_in (token.Number number) = Some number
 number_in t = None
 
+-- the place of an opening bracket, if the token is one
 abbrev pub open_in : Token → Option ℕ
 open_in (token.Open at) = Some at
 open_in t = None
 
+-- the place of SIZE, if the token is this keyword
 abbrev pub size_in : Token → Option ℕ
 size_in (token.Size at) = Some at
 size_in t = None
 
+-- the place of BY, if the token is this keyword
 abbrev pub by_in : Token → Option ℕ
 by_in (token.By at) = Some at
 by_in t = None

@@ -24,6 +24,7 @@ is_blank b = (b == 32) || (b == 9) || (b == 13) || (b == 10)
 abbrev pub is_half : ℕ → Bool
 is_half b = (b == 60) || (b == 62) || (b == 45)
 
+-- each byte has one class; what begins no word, text, space or longer sign stands alone
 unfoldable pub class_of : ℕ → Class
 class_of b =
     if is_word_byte b then Letter else if is_blank b then Blank else if b == 39 then Quote else if is_half b then Half
@@ -63,6 +64,7 @@ pub data Mode : Type 0 where
   AfterHalf : (from b : ℕ) → Mode
   InComment : Mode
 
+-- a token and the place where it begins
 abbrev pub lexeme : Token → ℕ → Lexeme
 lexeme token at = record { token = token; at = at }
 
@@ -71,6 +73,7 @@ pub record Move : Type 0 where
   pub mode : Mode
   pub tokens : List Lexeme
 
+-- a move to a mode that completes these tokens
 abbrev pub to : Mode → List Lexeme → Move
 to mode tokens = record { mode = mode; tokens = tokens }
 
@@ -86,6 +89,7 @@ begin Alone at b = to Between (lexeme (sign_token b at) at ∷ [])
 abbrev pub behind : Lexeme → Move → Move
 behind l m = to m.mode (l ∷ m.tokens)
 
+-- letters and digits go on a word; any other byte completes it and is read anew
 abbrev pub in_word : Class → ℕ → List ℕ → ℕ → ℕ → Move
 in_word Letter from w at b = to (InWord from (w ++ b ∷ [])) []
 in_word Blank from w at b = behind (lexeme (word_token w from) from) (begin Blank at b)
@@ -98,6 +102,7 @@ abbrev pub in_text : ℕ → List ℕ → ℕ → Move
 in_text from w b = if b == 39 then to Between (lexeme (text_token w from) from ∷ []) else
     if nat_le 32 b && nat_le b 126 then to (InText from (w ++ b ∷ [])) [] else to Between (lexeme token.Stray from ∷ [])
 
+-- behind the first byte of a sign: an operator of two bytes, a comment, or two things that are read apart
 abbrev pub after_half : Follow → ℕ → ℕ → ℕ → ℕ → Move
 after_half (Pair op) from a at b = to Between (lexeme (token.Operator op from) from ∷ [])
 after_half Comment from a at b = to InComment []
@@ -123,6 +128,7 @@ last_of InComment = []
 abbrev pub then_scan : Move → Move → Move
 then_scan x y = to y.mode (x.tokens ++ y.tokens)
 
+-- what bytes give from a mode on, and the mode behind them
 abbrev pub scan : Mode → ℕ → List ℕ → Move
 scan m at [] = to m []
 scan m at (b ∷ bs) = then_scan (move m at b) (scan (move m at b).mode (at + 1) bs)

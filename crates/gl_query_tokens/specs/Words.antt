@@ -54,6 +54,7 @@ operator_of w at = if is_keyword w (codes "and") then Some (token.Operator And a
     if is_keyword w (codes "avg") then Some (token.Fold Avg at) else
     if is_keyword w (codes "wsum") then Some (token.Wsum at) else None
 
+-- a word that names a clause, a window's part or an operator is that keyword
 abbrev pub keyword_of : List ℕ → ℕ → Option Token
 keyword_of w at = or_else (clause_of w at) (or_else (window_of w at) (operator_of w at))
 
@@ -66,6 +67,7 @@ with_digit (Some n) b = if is_digit b && nat_lt (10 * n + (b - 48)) (2 ^ 128) th
 unfoldable pub number_of : List ℕ → Option ℕ
 number_of w = fold with_digit (Some 0) w
 
+-- a word of digits is a number where its value is in range, and else belongs to no statement
 abbrev pub number_token : Option ℕ → ℕ → Token
 number_token None at = token.Stray
 number_token (Some n) at = token.Number (record { value = n; at = at })

@@ -39,6 +39,7 @@ pub enum Follow {
 /// What the bytes so far leave open, by its place.
 #[derive(Clone, Copy, Debug, PartialEq, Eq)]
 pub enum Standing {
+    /// Nothing is open.
     Between,
     /// A word that begins at a place.
     InWord(usize),
@@ -46,6 +47,7 @@ pub enum Standing {
     InText(usize, usize),
     /// The first byte of a sign or a comment: its place and the byte.
     AfterHalf(usize, u8),
+    /// A comment, up to the end of its line.
     InComment,
 }
 

@@ -11,11 +11,13 @@ use Rattle.gl_queue.specs.Joiners.{cost_of_joiner}
 use Rattle.gl_queue.specs.Spacers.{cost_of_spacer}
 use Rattle.gl_queue.specs.Unions.{cost_of_union}
 
+-- a union costs no more than a plan counts for it, over columns of at most 64 bits
 abbrev pub UnionsAreCounted : Type 0
 UnionsAreCounted =
     (shapes : ℕ → Shape) (figures : ℕ → Figures) (left right : ℕ) (columns : List ℕ) → AreNarrow columns
     → IsCountedAt shapes figures (Union left right) columns (cost_of_union (figures left) (figures right) columns)
 
+-- a joiner costs no more than a plan counts for it, over columns of at most 64 bits
 abbrev pub JoinersAreCounted : Type 0
 JoinersAreCounted =
     (shapes : ℕ → Shape) (figures : ℕ → Figures) (left right : ℕ) (columns : List ℕ) → AreNarrow columns

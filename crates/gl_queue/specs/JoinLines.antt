@@ -21,6 +21,7 @@ pub record IsKept (old new : Net) (valid : Bit) (column kept : Bus) : Type 0 whe
       → run.at (suc (suc t)) kept.node ≡ (if line_at run valid (suc t) then run.at (suc t) column.node
       else run.at (suc t) kept.node)
 
+-- registers that take a row where a line is 1, and keep it otherwise
 pub record AreKept (old new : Net) (valid : Bit) (columns kept : List Bus) : Type 0 where
   pub keeps : Keeps old new
   pub cost : Costs old new (record {
@@ -44,6 +45,7 @@ pub record AreWaitingBoth (run : Run) (left_end right_end now : Bit) : Type 0 wh
   pub left_next : (t : ℕ) → left (suc t) ≡ line_at run left_end t || (left t && not (left t && right t))
   pub right_next : (t : ℕ) → right (suc t) ≡ line_at run right_end t || (right t && not (left t && right t))
 
+-- a bit that tells that both ends have come, made of two flags
 pub record AreWaitingOf (old new : Net) (left_end right_end now : Bit) : Type 0 where
   pub keeps : Keeps old new
   pub cost : Costs old new (record { nodes = 7; registers = 2; memories = 0 })
@@ -63,6 +65,7 @@ abbrev pub JoinsSides : Bool → Carried → Carried → Carried → Type 0
 JoinsSides true a b o = IsBeside a b o × Follows 0 a o
 JoinsSides false a b o = IsJoiner a b o
 
+-- two sides side by side, in step or joined at the end
 pub record AreSides (old new : Net) (in_step : Bool) (a b o : Wire) : Type 0 where
   pub keeps : Keeps old new
   pub cost : CostsAtMost old new (cost_of_joining (widths a.columns) (widths b.columns))

@@ -47,7 +47,7 @@ pub record IsJoinerIn (run : Run) (p q : Figures) (a b o : Emitted) : Type 0 whe
   pub joins : JoinsSides (is_fixed p && is_fixed q) first second (carried run o.wire)
   pub told : SameLines (lines_of run o.faults) (both_lines (lines_of run a.faults) (lines_of run b.faults))
 
--- it serves the rows side by side
+-- a joiner serves the rows of both sides side by side, with its figures and within its cost
 pub record IsJoinerOf (old new : Net) (p q : Figures) (a b o : Emitted) : Type 0 where
   pub behind : IsBehind2 old new (joins_when p q (is_fixed p && is_fixed q))
       (joined_pace p q (is_fixed p && is_fixed q))

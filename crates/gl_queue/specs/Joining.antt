@@ -27,7 +27,7 @@ pub record IsJoiner (a b o : Carried) : Type 0 where
   pub out : (c : ℕ) → o.tuple (suc c) ≡ (if wait_a c && wait_b c then Some (row_a c ++ row_b c) else None)
   pub ends : (c : ℕ) → o.ends (suc c) ≡ wait_a c && wait_b c
 
--- it serves the rows side by side
+-- a joiner serves the rows of both sides side by side
 abbrev pub JoinerServes : Type 0
 JoinerServes =
     (p q : Figures) (a b o : Carried) → IsSound p → IsSound q → p.a ≡ q.a → IsJoiner a b o

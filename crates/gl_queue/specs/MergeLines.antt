@@ -33,6 +33,7 @@ pub record AreWaiting (run : Run) (left_end right_end left_some right_some end :
   pub left_next : (t : ℕ) → left (suc t) ≡ line_at run left_end t || (left t && not (line_at run end t))
   pub right_next : (t : ℕ) → right (suc t) ≡ line_at run right_end t || (right t && not (line_at run end t))
 
+-- the end of a union, made of two flags: both ends have come, and both queues are empty
 pub record IsEndOf (old new : Net) (left_end right_end left_some right_some end : Bit) : Type 0 where
   pub keeps : Keeps old new
   pub cost : Costs old new (record { nodes = 9; registers = 2; memories = 0 })

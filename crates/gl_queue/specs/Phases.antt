@@ -35,6 +35,7 @@ pub record Bounds : Type 0 where
   pub most_a : Bool → ℕ
   pub most_b : Bool → ℕ
 
+-- how many rows a beat may bring on both sides together
 abbrev pub most_of : Bounds → Bool → ℕ
 most_of k e = k.most_a e + k.most_b e
 
@@ -47,6 +48,7 @@ pub record Roomy (k : Bounds) (beats : Beats) : Type 0 where
   pub ends : (t u : ℕ) (d : Bool) → beats t ≡ Some true → beats u ≡ Some d → t < u
       → t + k.late true + most_of k true + 1 ≤ u + k.first
 
+-- neither side's end is waiting
 pub record Quiet (h : Held) (c : ℕ) : Type 0 where
   pub a : h.wait_a c ≡ false
   pub b : h.wait_b c ≡ false

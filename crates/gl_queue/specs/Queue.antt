@@ -1,11 +1,12 @@
 -- A queue: what it holds, and what it shows while none of its places was passed.
 use Rattle.std.specs.Prelude.{◌≡◌, ℕ, zero, suc, ◌<◌, List, [], ◌∷◌, ◌++◌, length, Option, Some, None, Bool, false, if◌then◌else◌, is_some, not, ◌&&◌, nat_eq, option_to_list}
 
--- the first entry, and those behind it
+-- the oldest entry, if there is one
 abbrev pub oldest : {A : Type 0} → List A → Option A
 oldest [] = None
 oldest (x ∷ xs) = Some x
 
+-- all entries but the oldest
 abbrev pub behind : {A : Type 0} → List A → List A
 behind [] = []
 behind (x ∷ xs) = xs

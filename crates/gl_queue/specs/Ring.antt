@@ -7,6 +7,7 @@ use Rattle.gl_queue.specs.Queue.{IsQueue}
 abbrev pub wrap : ℕ → ℕ → ℕ
 wrap size x = if nat_lt x size then x else x - size
 
+-- a queue in a memory: where its head and tail stand, which word is shown, and when a push finds no place
 pub record IsRing {A : Type 0} (size depth : ℕ) (push : ℕ → Option A) (go : ℕ → Bool) (shown : ℕ → Option A)
     (passed : ℕ → Bool) : Type 0 where
   pub some : ℕ → Bool

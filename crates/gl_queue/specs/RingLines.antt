@@ -63,7 +63,7 @@ pub record IsRingOf (run : Run) (bits depth : ℕ) (push hold some passed : Bit)
       (pops run some hold (suc t))
   pub held : AreHeld run push tail head columns outs
 
--- it is a queue of the rows on the columns
+-- a ring in a netlist is a queue of the rows on its columns
 abbrev pub RingLinesAreQueues : Type 0
 RingLinesAreQueues =
     (run : Run) (bits depth : ℕ) (push hold some passed : Bit) (head tail : Bus) (columns outs : List Bus) → 1 ≤ bits

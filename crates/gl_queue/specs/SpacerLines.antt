@@ -55,6 +55,7 @@ pub record IsPacing (run : Run) (depth g : ℕ) (push : Bit) (columns : List Bus
   pub queue : IsQueue depth (tuple_at run push columns) (λ c. nat_eq (timer c) 0)
       (tuple_at run p.queue.some p.queue.columns) (line_at run p.queue.passed)
 
+-- the queue of a spacer and its timer, as nodes of a netlist: what they keep, cost and carry
 pub record IsPacedOf (old new : Net) (depth g : ℕ) (push : Bit) (columns : List Bus) (p : Paced) : Type 0 where
   pub keeps : Keeps old new
   pub cost : Costs old new (cost_of_pacing depth (widths columns))

@@ -29,7 +29,7 @@ pub record IsSpacerIn (run : Run) (g : ℕ) (f : Figures) (a b : Emitted) : Type
   pub spacing : IsSpacer g (f.ne + 1) passed (carried run a.wire) (carried run b.wire)
   pub told : SameLines (lines_of run b.faults) (both_lines (lines_of run a.faults) (only_passed passed))
 
--- it serves the same rows, and over beats that are spaced what it carries is apart
+-- a spacer serves the rows that come, and over beats that are spaced they leave apart
 pub record IsSpacerOf (old new : Net) (g : ℕ) (f : Figures) (a b : Emitted) : Type 0 where
   pub behind : IsBehindLines old new f (spacer_figures g f) (never Same)
       (widths a.wire.columns) (cost_of_spacer f (widths a.wire.columns)) a b

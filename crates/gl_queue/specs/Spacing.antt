@@ -17,6 +17,7 @@ pub record Entry : Type 0 where
   pub row : Option Row
   pub end : Bool
 
+-- what a wire carries in a cycle, as an entry of the queue
 abbrev pub entry_at : Carried → ℕ → Entry
 entry_at s c = record { row = s.tuple c; end = s.ends c }
 
@@ -24,10 +25,12 @@ entry_at s c = record { row = s.tuple c; end = s.ends c }
 abbrev pub arrives : Carried → ℕ → Option Entry
 arrives s c = if carries s c then Some (entry_at s c) else None
 
+-- the tuple of an entry, if it has one
 abbrev pub row_in : Option Entry → Option Row
 row_in None = None
 row_in (Some e) = e.row
 
+-- the entry has the end
 abbrev pub end_in : Option Entry → Bool
 end_in None = false
 end_in (Some e) = e.end
@@ -52,6 +55,7 @@ SpacerServes =
 abbrev pub IsSpaced : ℕ → Figures → Carried → Carried → Type 0
 IsSpaced g f a o = (beats : Beats) → Spaced (spacer_figures g f) beats → Fits f beats a → CarriesApart g o
 
+-- what leaves a spacer is at least its gap apart, over beats that are spaced for it
 abbrev pub SpacerSpaces : Type 0
 SpacerSpaces =
     (g : ℕ) (f : Figures) (passed : ℕ → Bool) (a o : Carried) → 1 ≤ g → IsSound f → IsSpacer g (f.ne + 1) passed a o

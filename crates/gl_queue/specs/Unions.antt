@@ -36,7 +36,7 @@ pub record IsUnionIn (run : Run) (p q : Figures) (a b o : Emitted) : Type 0 wher
   pub told : SameLines (lines_of run o.faults)
       (both_lines (both_lines (lines_of run a.faults) (lines_of run b.faults)) (only_passed passed))
 
--- it serves the interleavings, whatever comes; the left row goes first, and the end leaves alone
+-- a union serves the interleavings of both sides; the left row goes first, and the end leaves alone
 pub record IsUnionOf (old new : Net) (p q : Figures) (a b o : Emitted) : Type 0 where
   pub behind : IsBehind2 old new always any_pace p q (union_figures p q) (never2 IsInterleaving)
       (widths a.wire.columns) (cost_of_union p q (widths a.wire.columns)) a b o

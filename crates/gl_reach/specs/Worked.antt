@@ -8,6 +8,7 @@ use Rattle.gl_algebra.specs.declared.node.Operand.TheVariants.{Column}
 use Rattle.gl_algebra.specs.Weights.{weight_of}
 use Rattle.gl_reach.specs.Reach.{reached, weight_of_reached}
 
+-- a plan in which windows, a sum and both sides of a union read one projection
 abbrev pub shared : List PlanNode
 shared =
     Stream 0 (Unsigned 32 ∷ Unsigned 8 ∷ []) ∷ Project 0 (Column 0 ∷ []) ∷ Body (Unsigned 32 ∷ [])
@@ -23,6 +24,7 @@ of_groups_and_times =
 abbrev pub reached_of : List PlanNode → List ℕ → List ℕ → List Bool
 reached_of nodes numbers roots = map (reached nodes roots) numbers
 
+-- what the roots of the worked plans reach, and what it weighs, found by hand
 pub record WorkedReach : Type 0 where
   pub both : reached_of shared (0 ∷ 1 ∷ 2 ∷ 3 ∷ 4 ∷ 5 ∷ 6 ∷ []) (4 ∷ 5 ∷ [])
       ≡ true ∷ true ∷ false ∷ false ∷ true ∷ true ∷ false ∷ []

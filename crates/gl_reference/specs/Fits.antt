@@ -28,6 +28,7 @@ pub record IsRow (columns : List Column) (row : Row) : Type 0 where
   pub kinds : AreKinds columns
   pub fits : IsRowOf columns row
 
+-- columns of allowed kinds, and rows whose words fit them
 pub record AreRows (columns : List Column) (rows : List Row) : Type 0 where
   pub kinds : AreKinds columns
   pub fit : AllByRecursion (IsRowOf columns) rows
@@ -42,6 +43,7 @@ pub record HasWord (columns : List Column) (place : Kind) (e : ExprShape) (row :
 abbrev pub HasKindAlone : List Column → ExprShape → Type 0
 HasKindAlone columns e = HasKind columns (kind_alone e) e
 
+-- every aggregate of a list is accepted over these columns
 abbrev pub AreAggs : List Column → List AggItemShape → Type 0
 AreAggs columns aggs = AllByRecursion (λ (i : AggItemShape). IsAgg columns i.agg) aggs
 

@@ -15,5 +15,6 @@ AreOverSlices body var columns slices = AreJoined (λ rows. IsResultIn body (onl
 abbrev pub IsOverGroup : QueryShape → List ℕ → List Column → Group → Results
 IsOverGroup body var columns g = IsChanged (IsResultIn body (only var columns g.rows)) (map (λ row. g.key ∷ row))
 
+-- the results of a body over each group, joined in order
 abbrev pub AreOverGroups : QueryShape → List ℕ → List Column → List Group → Results
 AreOverGroups body var columns groups = AreJoined (IsOverGroup body var columns) groups

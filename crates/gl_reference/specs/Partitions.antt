@@ -14,11 +14,11 @@ shown g = record { key = g.key; rows = g.rows }
 abbrev pub table_parts : ℕ → ℕ → ℕ → ℕ → List (List ℕ) → List Group
 table_parts n column size advance xs = map shown (parts n (λ r. slice_index r column) size advance xs)
 
--- those that rows complete
+-- the windows of keys that rows complete, in the order in which they are full
 abbrev pub table_fulls : ℕ → ℕ → ℕ → ℕ → List (List ℕ) → List Group
 table_fulls n column size advance xs = map shown (fulls n (λ r. slice_index r column) size advance [] xs)
 
--- those that the end cuts short
+-- the windows of keys that the end cuts short
 abbrev pub table_shorts : ℕ → ℕ → ℕ → ℕ → List (List ℕ) → List Group
 table_shorts n column size advance xs = map shown (shorts n (λ r. slice_index r column) size advance xs)
 

@@ -16,6 +16,7 @@ abbrev pub times_on : Option Clock → List ℕ
 times_on None = []
 times_on (Some clock) = clock.times.now
 
+-- how many ticks a clock has counted; 0 where there is no clock
 abbrev pub ticks_on : Option Clock → ℕ
 ticks_on None = 0
 ticks_on (Some clock) = clock.ticks
@@ -29,6 +30,7 @@ source_of s = record {
   ticks = ticks_on s.clock;
 }
 
+-- what a query may read, from the sources that the code is given
 abbrev pub env_view : List Given → Env
 env_view sources = map source_of sources
 

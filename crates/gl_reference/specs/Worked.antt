@@ -15,24 +15,31 @@ trade =
     record { name = codes "symbol"; kind = Text 4 } ∷ record { name = codes "price"; kind = Unsigned 32 }
     ∷ record { name = codes "volume"; kind = Unsigned 32 } ∷ []
 
+-- two streams of trades with the same columns
 abbrev pub streams : List Stream
 streams = record { name = codes "trades"; columns = trade } ∷ record { name = codes "other"; columns = trade } ∷ []
 
+-- a scope of both streams, whose rows have times
 abbrev pub scope : Scope
 scope = record { sources = streams; timed = true }
 
+-- the column of the symbol
 abbrev pub symbol : ExprShape
 symbol = shape.Column (codes "symbol")
 
+-- the column of the price
 abbrev pub price : ExprShape
 price = shape.Column (codes "price")
 
+-- the column of the volume
 abbrev pub volume : ExprShape
 volume = shape.Column (codes "volume")
 
+-- the stream of trades as a query
 abbrev pub trades : QueryShape
 trades = Read (codes "trades")
 
+-- the variable of a body as a query
 abbrev pub it : QueryShape
 it = Read (codes "it")
 

@@ -26,11 +26,13 @@ ComputesAreCounted =
     (shapes : ℕ → Shape) (figures : ℕ → Figures) (child : ℕ) (ops : List ColOp) (columns : List ℕ) → AreNarrow columns
     → IsCountedAt shapes figures (Compute child ops) columns (with_slot (cost_of_rows columns (length ops)))
 
+-- a filter costs no more than a plan counts for it, over columns of at most 64 bits
 abbrev pub SelectsAreCounted : Type 0
 SelectsAreCounted =
     (shapes : ℕ → Shape) (figures : ℕ → Figures) (child column : ℕ) (columns : List ℕ) → AreNarrow columns
     → IsCountedAt shapes figures (Select child column) columns (with_slot (cost_of_rows columns 0))
 
+-- items cost no more than a plan counts for them
 abbrev pub ProjectsAreCounted : Type 0
 ProjectsAreCounted =
     (shapes : ℕ → Shape) (figures : ℕ → Figures) (child : ℕ) (items : List Operand) (columns : List ℕ)

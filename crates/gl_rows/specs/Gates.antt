@@ -5,6 +5,7 @@ use Rattle.gl_net.specs.declared.node.BinaryOp.{BinaryOp}
 use Rattle.gl_net.specs.declared.node.BinaryOp.TheVariants as Gate
 use Rattle.gl_net.specs.Net.{binary_of}
 
+-- the gate that an operator uses; greater than is less than with its operands turned
 abbrev pub gate_of : Op → BinaryOp
 gate_of Op.Add = Gate.Add
 gate_of Op.Sub = Gate.Sub
@@ -18,6 +19,7 @@ gate_of Op.Ge = Gate.Le
 gate_of Op.And = Gate.And
 gate_of Op.Or = Gate.Or
 
+-- the operator's gate takes the right operand first
 abbrev pub is_turned : Op → Bool
 is_turned Op.Add = false
 is_turned Op.Sub = false

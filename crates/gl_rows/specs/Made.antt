@@ -44,6 +44,7 @@ IsOperand old new columns kinds operand b =
     Carries old new 1 (width_of (kind_of_operand kinds operand))
     (λ run t. value_of_operand (row_at run t columns) operand) b
 
+-- a bus for each operand, with the operand's kind and its value of the row, for one node at most
 abbrev pub AreOperands : Net → Net → List Bus → List Kind → List Operand → List Bus → Type 0
 AreOperands old new columns kinds operands bs =
     AreMade old new 1 columns (kind_of_operand kinds) value_of_operand operands bs
@@ -53,6 +54,7 @@ abbrev pub IsOperation : Net → Net → List Bus → List Kind → ColOp → Bu
 IsOperation old new columns kinds op b =
     Carries old new 6 (width_of (kind_of_op kinds op)) (λ run t. value_of_op kinds (row_at run t columns) op) b
 
+-- a bus for each operation, with its kind and its value of the row, for six nodes at most
 abbrev pub AreOperations : Net → Net → List Bus → List Kind → List ColOp → List Bus → Type 0
 AreOperations old new columns kinds ops bs = AreMade old new 6 columns (kind_of_op kinds) (value_of_op kinds) ops bs
 
@@ -72,7 +74,7 @@ IsGated old new op left right b =
     Carries old new 1 (binary_width (gate_of op) left.width)
     (λ run t. gated op left.width (run.at t left.node) (run.at t right.node)) b
 
--- the same, with the highest bit of both turned
+-- a bus carries what an operator's gate makes of two others whose highest bits are turned
 abbrev pub IsGatedTurned : Net → Net → Op → Bus → Bus → Bus → Type 0
 IsGatedTurned old new op left right b =
     Carries old new 4 (binary_width (gate_of op) left.width)

@@ -23,7 +23,9 @@ use std::alloc::Global;
 /// Each row with one more column for each operation, over columns of these kinds.
 #[derive(Clone, Copy)]
 pub struct ComputeRow<'a> {
+    /// The kinds of the columns that come in.
     pub kinds: &'a [Kind],
+    /// The operations, one for each new column.
     pub ops: &'a [ColOp],
 }
 

@@ -20,7 +20,9 @@ use std::alloc::Global;
 /// Of each row these values, over columns of these kinds.
 #[derive(Clone, Copy)]
 pub struct ProjectRow<'a> {
+    /// The kinds of the columns that come in.
     pub kinds: &'a [Kind],
+    /// The columns and literals that make a row.
     pub items: &'a [Operand],
 }
 

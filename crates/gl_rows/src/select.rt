@@ -17,6 +17,7 @@ use std::alloc::Global;
 /// The rows whose column at this place, of one bit, is 1.
 #[derive(Clone, Copy, PartialEq, Eq, Debug)]
 pub struct SelectRow {
+    /// The place of the column that is tested, counted from 0.
     pub column: usize,
 }
 

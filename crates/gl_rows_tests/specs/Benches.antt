@@ -12,6 +12,7 @@ use Rattle.gl_wire.specs.Wire.{IsWire, widths}
 abbrev pub input_at : List ℕ → ℕ → Port
 input_at name node = record { direction = In; name = name; node = node }
 
+-- the netlist of a test stands ready: its three ports are there, and nothing waits for a drive
 pub record IsReady (net : Net) : Type 0 where
   pub reset : ℕ
   pub left : ℕ

@@ -10,8 +10,11 @@ use std::alloc::{AllocError, Global};
 /// What comes in one cycle: a row or not, its two columns, and the end or not.
 #[derive(Clone, Copy)]
 pub struct Beat {
+    /// Whether a row comes.
     pub valid: bool,
+    /// Whether the end comes.
     pub end: bool,
+    /// The two columns of the row.
     pub row: [u128; 2],
 }
 

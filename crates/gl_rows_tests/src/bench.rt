@@ -16,8 +16,11 @@ use std::alloc::Global;
 /// A netlist that is being made, and the ports of two streams.
 #[derive(Drop)]
 pub struct Bench {
+    /// The netlist.
     pub net: NetBuilder,
+    /// The port of the first stream, of 67 bits.
     pub left: Bus,
+    /// The port of the second stream, of 67 bits.
     pub right: Bus,
 }
 
@@ -77,8 +80,11 @@ pub fn finished(net: NetBuilder) -> Result<Netlist, Memory>
 /// A stream whose tuples come so many cycles behind their beats, in so many cycles more, and so many with the end at most.
 #[derive(Clone, Copy)]
 pub struct Side {
+    /// How many cycles after its beat the first tuple may come.
     pub first: u16,
+    /// How many cycles later the last tuple may come.
     pub more: u16,
+    /// How many tuples come with the end at most.
     pub most: u16,
 }
 
@@ -158,9 +164,13 @@ fn letter_on(trace: &Trace, valid: Bit, eos: Bit, columns: &[Bus]) -> u8 {
 /// What a block shows: its lines and columns, and the line that tells of a queue that is passed.
 #[derive(Clone, Copy)]
 pub struct Shown<'a> {
+    /// The line that is 1 where a tuple comes.
     pub valid: Bit,
+    /// The line that is 1 where the end comes.
     pub eos: Bit,
+    /// The columns of a tuple.
     pub columns: &'a [Bus],
+    /// The line that is 1 where a queue was passed, if there is one.
     pub passed: Option<Bit>,
 }
 

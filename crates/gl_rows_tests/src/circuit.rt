@@ -20,7 +20,9 @@ use std::alloc::Global;
 /// A netlist, and the wire that is looked at.
 #[derive(Drop)]
 pub struct Circuit {
+    /// The netlist, finished.
     pub netlist: Netlist,
+    /// The wire that is looked at.
     pub wire: Wire,
 }
 

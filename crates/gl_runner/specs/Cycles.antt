@@ -39,7 +39,7 @@ pub record CanDrive (m : Module) (schema : Schema) (beats : List Beat) : Type 0 
   pub takes : TakesSchema m schema
   pub beats' : AreBeats schema beats
 
--- and where the lines of one result are written: the ports are those of the schema and of the result
+-- a module can be driven where the lines of one result are written: its ports are those of the schema and the result
 pub record CanFollow (m : Module) (schema : Schema) (kinds : List Kind) (beats : List Beat) : Type 0 where
   pub valid : IsValid m
   pub inputs : HasInputPorts m
@@ -65,7 +65,7 @@ HasOnPorts m s port t =
     (k : ℕ) (d : Declaration) → slice_get (take m.ports m.declarations) k ≡ Some d → IsReadable d
     → (slice_index s.shown k ≡ value_at port t d.name) × (slice_index s.shown k < 2 ^ d.width)
 
--- and what the module has no port for is there in no run
+-- a name that no port of the module has shows nothing in a cycle of a run
 abbrev pub HasNoOther : Module → PortValues → ℕ → Type 0
 HasNoOther m port t = (name : List ℕ) → number_of (ports_of m) name ≡ None → port t name ≡ None
 
@@ -86,10 +86,11 @@ pub record Driven : Type 0 where
   pub extra : ℕ
   pub cycle : ℕ
 
+-- the module that is driven
 abbrev pub design_of : Driven → Module
 design_of d = module_of d.sim.design
 
--- it can be driven, each input is set to what its port carries, and the beats from one place on are due
+-- a simulation can be driven, each input is set to what its port carries, and the beats from one place on are due
 pub record IsSetUp (sim : Simulation) (schema : Schema) (beats : List Beat) (extra : ℕ) (pins : List Pin)
     (values : List ℕ) (cycle next : ℕ) : Type 0 where
   pub can : CanDrive (module_of sim.design) schema beats
@@ -98,7 +99,7 @@ pub record IsSetUp (sim : Simulation) (schema : Schema) (beats : List Beat) (ext
   pub due : AreDue beats next cycle
   pub short : extra ≤ 2 ^ 32
 
--- it is before its next cycle of this run: cycle t + 1 of a run is cycle t of the file
+-- the simulation is before its next cycle of this run: cycle t + 1 of a run is cycle t of the file
 abbrev pub IsBefore : Driven → (ℕ → Nets) → (ℕ → Memories) → Type 0
 IsBefore d value word = IsFollowed d.sim d.schema d.beats value word (d.cycle + 1)
 
@@ -118,7 +119,7 @@ pub record IsAhead (d e : Driven) : Type 0 where
   pub same : e ≡ record d { sim = e.sim; cycle = d.cycle + 1 }
   pub design' : e.sim.design ≡ d.sim.design
 
--- and that cycle was made
+-- the next cycle of each run was made
 abbrev pub Advances : Driven → Driven → Type 0
 Advances d e =
     (value : ℕ → Nets) (word : ℕ → Memories) → IsBefore d value word

@@ -24,13 +24,15 @@ abbrev pub numbers_from : ℕ → List Declaration → List ℕ
 numbers_from n [] = []
 numbers_from n (d ∷ ds) = if bytes_eq d.name clk then numbers_from (n + 1) ds else n ∷ numbers_from (n + 1) ds
 
+-- the numbers of a module's ports, the clock left out
 abbrev pub numbers_of : Module → List ℕ
 numbers_of m = numbers_from 0 (take m.ports m.declarations)
 
+-- the widths of a module's ports, the clock left out
 abbrev pub widths_in : Module → List ℕ
 widths_in m = map (λ p. p.width) (ports_of m)
 
--- its ports are declared, of 1 to 128 bits each, and no more than a dump has identifiers
+-- a module's ports are declared, of 1 to 128 bits each, and no more than a dump has identifiers
 pub record CanDump (face : Here) : Type 0 where
   pub inside : face.ports ≤ length face.declarations
   pub sizes : AllByRecursion HasSize (module_of face).declarations
@@ -40,7 +42,7 @@ pub record CanDump (face : Here) : Type 0 where
 abbrev pub end_in : Module → Option ℕ
 end_in m = number_of (profile.ports_of m) out_eos
 
--- it has a place for each port of the module but the clock, and knows where the end is shown
+-- the watcher has a place for each port of the module but the clock, and knows where the end is shown
 pub record IsRoomFor (face : Here) (w : DumpLines) : Type 0 where
   pub face' : w.face.now ≡ face
   pub can : CanDump face
@@ -49,10 +51,12 @@ pub record IsRoomFor (face : Here) (w : DumpLines) : Type 0 where
   pub before' : widths_of w.before ≡ widths_in (module_of face)
   pub end' : w.end ≡ end_in (module_of face)
 
+-- the watcher has room for the module's ports and waits for the first cycle
 pub record IsInFront (face : Here) (w : DumpLines) : Type 0 where
   pub room : IsRoomFor face w
   pub next' : w.next ≡ 0
 
+-- the watcher holds no port of the module yet
 pub record IsEmptyFor (face : Here) (w : DumpLines) : Type 0 where
   pub can : CanDump face
   pub ports' : w.ports.items ≡ []
@@ -70,7 +74,7 @@ pub record Adds (number width : ℕ) (old new : DumpLines) : Type 0 where
   pub now' : widths_of new.now ≡ widths_of old.now ++ width ∷ []
   pub before' : widths_of new.before ≡ widths_of old.before ++ width ∷ []
 
--- it is made for a module
+-- the watcher is made for this module
 pub record Serves (w : DumpLines) (m : Module) : Type 0 where
   pub room : IsRoomFor w.face.now w
   pub face' : module_of w.face.now ≡ m

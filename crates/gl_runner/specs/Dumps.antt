@@ -22,12 +22,13 @@ pub record IsDumpOf (m : Module) (beats : List Beat) (port : PortValues) (bytes 
   pub is : IsEnd beats (result_names m) port ended
   pub all : bytes ≡ dump_text m.name (ports_of m) (rows_to (ports_of m) port ended)
 
--- they were written, or a front of them
+-- a dump of the run was written
 pub record DumpsWhole (m : Module) (beats : List Beat) (port : PortValues) (old new : Option (List ℕ)) : Type 0 where
   pub bytes : List ℕ
   pub are : IsDumpOf m beats port bytes
   pub taken : Appends old new bytes
 
+-- the first bytes of a dump of the run were written, perhaps none and perhaps all
 pub record DumpsFront (m : Module) (beats : List Beat) (port : PortValues) (old new : Option (List ℕ)) : Type 0 where
   pub bytes : List ℕ
   pub are : IsDumpOf m beats port bytes
@@ -39,7 +40,7 @@ OfTimelyPorts latency m schema beats start P =
     (value : ℕ → Nets) (word : ℕ → Memories) → IsRunOver m schema beats start value word
     → EndsWithin latency beats (result_names m) (port_of m value) → P m (port_of m value)
 
--- and in each run of the module of a text
+-- a fact of a module and its ports, in each run of the module of a text from this start over these beats
 abbrev pub OfEachPorts : List ℕ → Schema → List Beat → Start → (Module → PortValues → Type 0) → Type 0
 OfEachPorts text schema beats start P =
     (m : Module) (value : ℕ → Nets) (word : ℕ → Memories) → HasModule text m

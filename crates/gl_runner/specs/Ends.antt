@@ -2,17 +2,18 @@
 use Rattle.std.specs.Prelude.{◌≡◌, ◌⊎◌, ℕ, ◌+◌, ◌<◌, ◌≤◌, Bool, List, IsFalse, IsTrue}
 use Rattle.gl_schema.specs.Beats.{Beat, last_cycle}
 
+-- the first cycle in which the end holds, looked for from the cycle of the last beat on
 pub record IsFirstEnd (beats : List Beat) (ends : ℕ → Bool) (n : ℕ) : Type 0 where
   pub soonest : last_cycle beats ≤ n
   pub holds : IsTrue (ends n)
   pub first : (k : ℕ) → last_cycle beats ≤ k → k < n → IsFalse (ends k)
 
--- it comes in time: at most so many cycles after the last beat's
+-- the end comes in time: at most this many cycles after the last beat's
 pub record EndsBy (beats : List Beat) (ends : ℕ → Bool) (extra n : ℕ) : Type 0 where
   pub is : IsFirstEnd beats ends n
   pub in_time : n ≤ last_cycle beats + extra
 
--- it comes in none of these cycles, of which this is the last
+-- the end comes in none of the cycles that are waited, of which this is the last
 pub record NeverEnds (beats : List Beat) (ends : ℕ → Bool) (extra n : ℕ) : Type 0 where
   pub last : n ≡ last_cycle beats + extra
   pub none : (k : ℕ) → last_cycle beats ≤ k → k ≤ last_cycle beats + extra → IsFalse (ends k)

@@ -37,7 +37,7 @@ pub record AreShownBy (m : Module) (f : Face) (shows : Shows) : Type 0 where
   pub group' : shows.group ≡ number_of (ports_of m) (within f.name fault_group)
   pub columns' : shows.columns.items ≡ map (column_at m f.name) f.columns
 
--- it is in front of the first cycle of a module
+-- the watcher of a named result stands before the first cycle of its module
 pub record IsNew (m : Module) (f : Face) (r : NamedResult) : Type 0 where
   pub kinds' : r.kinds.items ≡ kinds_of f.columns
   pub shows' : AreShownBy m f r.shows
@@ -45,7 +45,7 @@ pub record IsNew (m : Module) (f : Face) (r : NamedResult) : Type 0 where
   pub told' : r.told ≡ false
   pub ended' : r.ended ≡ false
 
--- it is made for a module
+-- the watcher of a named result is made for this module
 pub record ServesFace (m : Module) (f : Face) (r : NamedResult) : Type 0 where
   pub kinds' : r.kinds.items ≡ kinds_of f.columns
   pub probe : IsProbe m (names_of f) r.kinds.items r.shows r.row

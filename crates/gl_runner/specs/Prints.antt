@@ -45,13 +45,14 @@ pub record AreLinesOf (kinds : List Kind) (beats : List Beat) (outs : List (List
   pub is : IsEnd beats outs port ended
   pub all : bytes ≡ lines kinds (seen port outs ended)
 
--- they were written, or a front of them
+-- the run's lines were written
 pub record Writes (kinds : List Kind) (beats : List Beat) (outs : List (List ℕ)) (port : PortValues)
     (old new : Option (List ℕ)) : Type 0 where
   pub bytes : List ℕ
   pub are : AreLinesOf kinds beats outs port bytes
   pub taken : Appends old new bytes
 
+-- the first bytes of the run's lines were written, perhaps none and perhaps all
 pub record WritesFront (kinds : List Kind) (beats : List Beat) (outs : List (List ℕ)) (port : PortValues)
     (old new : Option (List ℕ)) : Type 0 where
   pub bytes : List ℕ

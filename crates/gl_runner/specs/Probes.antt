@@ -68,7 +68,7 @@ pub record IsSampled (have : List ℕ) (shows : Shows) (sample : Sample) : Type 
   pub end' : sample.end ≡ is_one have shows.end
   pub group' : sample.group ≡ is_one have shows.group
 
--- and is what the ports of a result show in cycle t of a run
+-- a sample is what the ports of a result show in cycle t of a run
 pub record IsSeen (port : PortValues) (outs : List (List ℕ)) (t : ℕ) (sample : Sample) (row : List ℕ) : Type 0 where
   pub valid' : sample.valid ≡ is_high port t out_valid
   pub end' : sample.end ≡ is_high port t out_eos

@@ -43,6 +43,7 @@ told_by f port n = has_group (seen_below (seen_as f.name port) (outs_of f) n)
 abbrev pub line_as : List ℕ → ℕ → List ℕ → List ℕ
 line_as name cycle told = decimal cycle ++ 44 ∷ (name ++ told)
 
+-- the line of a result's row under the result's name, if a row is shown
 abbrev pub row_as : List ℕ → List Kind → ℕ → Option (List ℕ) → List ℕ
 row_as name kinds cycle None = []
 row_as name kinds cycle (Some row) = line_as name cycle (values_text kinds row ++ 10 ∷ [])
@@ -53,36 +54,40 @@ lines_as name kinds told s =
     (if s.group && not told then line_as name s.cycle (codes ",overflow\n") else [])
     ++ (row_as name kinds s.cycle s.row ++ (if s.end then line_as name s.cycle (codes ",end\n") else []))
 
--- of all results in a cycle, and in the cycles up to one
+-- the lines of one result in a cycle
 abbrev pub lines_in : PortValues → ℕ → Face → List ℕ
 lines_in port n f = lines_as f.name (kinds_of f.columns) (told_by f port n) (shown_by f port n)
 
+-- the lines of all results in one cycle, in their order
 abbrev pub all_lines : List Face → PortValues → ℕ → List ℕ
 all_lines faces port n = flat_map (lines_in port n) faces
 
+-- the lines of all results from the first cycle through this one
 abbrev pub lines_through : List Face → PortValues → ℕ → List ℕ
 lines_through faces port zero = all_lines faces port 0
 lines_through faces port (suc n) = lines_through faces port n ++ all_lines faces port (suc n)
 
 -- ---- the end
 
--- it was seen in one of the cycles before this one, from the last beat's on
+-- the end was seen in one of the cycles before this one, from the last beat's on
 abbrev pub ended_before : ℕ → (ℕ → Bool) → ℕ → Bool
 ended_before last ends zero = false
 ended_before last ends (suc n) = ended_before last ends n || (nat_le last n && ends n)
 
--- that of each result was seen, in this cycle or in an earlier one
+-- the end of each result was seen, in this cycle or in an earlier one
 abbrev pub all_ended : List Face → ℕ → PortValues → ℕ → Bool
 all_ended faces last port n = list_all (λ f. ended_before last (λ k. (shown_by f port k).end) (suc n)) faces
 
 -- ---- what was written
 
+-- the lines of all results were written, through the cycle by which each result has ended
 pub record WritesAll (faces : List Face) (beats : List Beat) (port : PortValues) (old new : Option (List ℕ)) : Type 0
   where
     pub ended : ℕ
     pub is : IsFirstEnd beats (all_ended faces (last_cycle beats) port) ended
     pub taken : Appends old new (lines_through faces port ended)
 
+-- the first bytes of all results' lines were written, perhaps none and perhaps all
 pub record WritesAllFront (faces : List Face) (beats : List Beat) (port : PortValues) (old new : Option (List ℕ))
     : Type 0 where
   pub ended : ℕ

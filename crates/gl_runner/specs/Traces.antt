@@ -26,35 +26,39 @@ abbrev pub HasNoEnd : List Beat → List (List ℕ) → PortValues → ℕ → T
 HasNoEnd beats outs port extra =
     (k : ℕ) → last_cycle beats ≤ k → k ≤ last_cycle beats + extra → IsFalse (shown port outs k).end
 
--- the last cycle that is run: the first from the last beat's on in which the end is seen, if it comes in time; else the
--- last that is waited for
+-- the trace ends in the first cycle from the last beat's on in which the end is seen, while it is waited for
 pub record EndsIn (beats : List Beat) (outs : List (List ℕ)) (port : PortValues) (extra n : ℕ) : Type 0 where
   pub is : IsEnd beats outs port n
   pub in_time : n ≤ last_cycle beats + extra
 
+-- no end is seen in the cycles that are waited, and this is the last of them
 pub record RunsOut (beats : List Beat) (outs : List (List ℕ)) (port : PortValues) (extra n : ℕ) : Type 0 where
   pub last : n ≡ last_cycle beats + extra
   pub none : HasNoEnd beats outs port extra
 
+-- the cycle after which a trace stops: the end is seen in it, or waiting is over
 abbrev pub IsLastRun : List Beat → List (List ℕ) → PortValues → ℕ → ℕ → Type 0
 IsLastRun beats outs port extra n = EndsIn beats outs port extra n ⊎ RunsOut beats outs port extra n
 
--- the lines up to a cycle were written, or, up to the last cycle that is run, a front of them
+-- the lines of a trace up to a cycle were written
 abbrev pub WritesTo : List Kind → List (List ℕ) → PortValues → ℕ → Option (List ℕ) → Option (List ℕ) → Type 0
 WritesTo kinds outs port n old new = Appends old new (lines kinds (seen port outs n))
 
+-- the first bytes of a trace were written, up to where it would stop
 pub record TracesFront (kinds : List Kind) (beats : List Beat) (extra : ℕ) (outs : List (List ℕ)) (port : PortValues)
     (old new : Option (List ℕ)) : Type 0 where
   pub last : ℕ
   pub is : IsLastRun beats outs port extra last
   pub taken : AppendsFront old new (lines kinds (seen port outs last))
 
+-- the lines of a trace were written through the cycle in which its end is seen
 pub record TracesToEnd (kinds : List Kind) (beats : List Beat) (extra : ℕ) (outs : List (List ℕ)) (port : PortValues)
     (old new : Option (List ℕ)) : Type 0 where
   pub last : ℕ
   pub ends : EndsIn beats outs port extra last
   pub taken : WritesTo kinds outs port last old new
 
+-- the lines of a trace were written through the last cycle that is waited, and no end was seen
 pub record TracesOut (kinds : List Kind) (beats : List Beat) (extra cycle : ℕ) (outs : List (List ℕ))
     (port : PortValues) (old new : Option (List ℕ)) : Type 0 where
   pub out : RunsOut beats outs port extra cycle

@@ -25,6 +25,7 @@ use Rattle.gl_testbench.specs.declared.pins.Shows.{Shows}
 use Rattle.gl_runner.specs.declared.watching.Made.{Made}
 use Rattle.gl_runner.specs.declared.following.ResultLines.{ResultLines}
 
+-- the module that the simulator runs
 abbrev pub module_in : Made → Module
 module_in made = module_of made.sim.now.design
 
@@ -59,14 +60,16 @@ pub record AreFirst (kinds : List Kind) (shows : Shows) (w : ResultLines) : Type
   pub told' : w.told ≡ false
   pub ended' : w.ended ≡ false
 
--- of a dump: the row of the ports in the cycle, behind that of the cycle before
+-- what a dump tells of a cycle: the word on each port
 abbrev pub row_in : List Port → PortValues → ℕ → List Word
 row_in ports port n = map (λ p. record { bits = value_at port (suc n) p.name; width = p.width }) ports
 
+-- the row of the ports in the cycle before; none in front of the first
 abbrev pub row_before : List Port → PortValues → ℕ → Option (List Word)
 row_before ports port zero = None
 row_before ports port (suc n) = Some (row_in ports port n)
 
+-- what a dump tells of a cycle: the ports that differ from the cycle before
 abbrev pub dump_of_cycle : Module → PortValues → ℕ → List ℕ
 dump_of_cycle m port n =
     written.cycle n (row_before (written.ports_of m) port n) (row_in (written.ports_of m) port n)
@@ -92,17 +95,20 @@ OfDrivenPorts d P =
 abbrev pub StandsFirst : (Module → PortValues → ℕ → Type 0) → Driven → Type 0
 StandsFirst stands d = OfDrivenPorts d (λ m port. stands m port 0)
 
+-- the bytes of all cycles up to this one were written, and the watcher stands behind it
 pub record WatchesTo (bytes : Module → PortValues → ℕ → List ℕ) (stands : Module → PortValues → ℕ → Type 0)
     (m : Module) (port : PortValues) (n : ℕ) (old new : Option (List ℕ)) : Type 0 where
   pub taken : Appends old new (bytes_to bytes m port n)
   pub behind : stands m port (suc n)
 
+-- the first bytes of the cycles that are run were written, perhaps none and perhaps all
 pub record WatchesFront (bytes : Module → PortValues → ℕ → List ℕ) (ends : Module → PortValues → ℕ → Bool)
     (beats : List Beat) (extra : ℕ) (m : Module) (port : PortValues) (old new : Option (List ℕ)) : Type 0 where
   pub last : ℕ
   pub is : IsLastCycle beats (ends m port) extra last
   pub taken : AppendsFront old new (bytes_to bytes m port last)
 
+-- the bytes of all cycles were written up to the one in which the end is seen
 pub record WatchesToEnd (bytes : Module → PortValues → ℕ → List ℕ) (ends : Module → PortValues → ℕ → Bool)
     (stands : Module → PortValues → ℕ → Type 0) (beats : List Beat) (extra : ℕ) (m : Module) (port : PortValues)
     (old new : Option (List ℕ)) : Type 0 where
@@ -110,6 +116,7 @@ pub record WatchesToEnd (bytes : Module → PortValues → ℕ → List ℕ) (en
   pub is : EndsBy beats (ends m port) extra last
   pub watched : WatchesTo bytes stands m port last old new
 
+-- the bytes of all cycles that are waited were written, and no end was seen
 pub record WatchesOut (bytes : Module → PortValues → ℕ → List ℕ) (ends : Module → PortValues → ℕ → Bool)
     (stands : Module → PortValues → ℕ → Type 0) (beats : List Beat) (extra n : ℕ) (m : Module) (port : PortValues)
     (old new : Option (List ℕ)) : Type 0 where

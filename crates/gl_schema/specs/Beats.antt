@@ -57,6 +57,7 @@ times_from before k [] = []
 times_from before k (b ∷ bs) =
     cons_option (option_map (λ row. before + bit b.tick) (row_in k b)) (times_from (before + bit b.tick) k bs)
 
+-- the time of each row of a stream: the ticks up to its beat, that of the beat included
 abbrev pub times_of : ℕ → List Beat → List ℕ
 times_of k beats = times_from 0 k beats
 
@@ -97,13 +98,14 @@ KeepsGap gap (b ∷ c ∷ bs) = (b.cycle + gap ≤ c.cycle) × KeepsGap gap (c �
 abbrev pub beat_at : List Beat → ℕ → Option Beat
 beat_at beats n = find (λ b. b.cycle == n) beats
 
--- what comes in a cycle: the rows of its beat, one entry for each stream or none at all, whether the end does, and
--- whether a tick does
+-- the rows of a cycle's beat, one entry for each stream, or none at all
 abbrev pub rows_at : List Beat → ℕ → List (Option (List ℕ))
 rows_at beats n = option_map_or (λ b. b.rows) (beat_at beats n) []
 
+-- the end comes in this cycle
 abbrev pub ends_at : List Beat → ℕ → Bool
 ends_at beats n = option_map_or (λ b. b.end) (beat_at beats n) false
 
+-- a tick comes in this cycle
 abbrev pub ticks_at : List Beat → ℕ → Bool
 ticks_at beats n = option_map_or (λ b. b.tick) (beat_at beats n) false

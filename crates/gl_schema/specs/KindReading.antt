@@ -19,6 +19,7 @@ small_number (a ∷ b ∷ c ∷ cs) = 0
 abbrev pub sized : (ℕ → Kind) → ℕ → ℕ → ℕ → Option Kind
 sized kind least most n = if nat_le least n && nat_le n most then Some (kind n) else None
 
+-- a kind that begins with `text`, and a size from 1 to 8
 abbrev pub text_read : List ℕ → Option Kind
 text_read [] = None
 text_read (a ∷ []) = None
@@ -27,10 +28,12 @@ text_read (a ∷ b ∷ c ∷ []) = None
 text_read (a ∷ b ∷ c ∷ d ∷ digits) =
     if (a == 116) && (b == 101) && (c == 120) && (d == 116) then sized Text 1 8 (small_number digits) else None
 
+-- a kind that begins with `s`, and a size from 2 to 64; anything else may still be a text
 abbrev pub signed_read : List ℕ → Option Kind
 signed_read [] = None
 signed_read (a ∷ digits) = if a == 115 then sized Signed 2 64 (small_number digits) else text_read (a ∷ digits)
 
+-- a kind that begins with `u`, and a size from 1 to 64; anything else may still be signed or a text
 abbrev pub kind_read : List ℕ → Option Kind
 kind_read [] = None
 kind_read (a ∷ digits) = if a == 117 then sized Unsigned 1 64 (small_number digits) else signed_read (a ∷ digits)

@@ -57,5 +57,6 @@ is_name bytes =
     (has_loose_underscore bytes)
     && not (is_taken bytes)
 
+-- these bytes are a name
 abbrev pub IsName : List ℕ → Type 0
 IsName bytes = IsTrue (is_name bytes)

@@ -8,37 +8,43 @@ use Rattle.gl_schema.specs.declared.schema.Stream.{Stream}
 use Rattle.gl_schema.specs.declared.schema.Schema.{Schema}
 use Rattle.gl_schema.specs.Beats.{Beat, rows_at, ends_at, ticks_at}
 
--- the names of the ports: reset, the end of the input, and a tick
+-- the input port of the reset
 unfoldable pub rst : List ℕ
 rst = codes "rst"
 
+-- the input port on which the end comes
 unfoldable pub eos : List ℕ
 eos = codes "eos"
 
+-- the input port on which a tick comes
 unfoldable pub tick : List ℕ
 tick = codes "tick"
 
--- of a stream: whether a tuple comes, and its columns
+-- the input port that says whether a tuple of a stream comes
 unfoldable pub in_valid : List ℕ → List ℕ
 in_valid stream = codes "in__" ++ stream ++ codes "__valid"
 
+-- the input port of a column of a stream
 unfoldable pub in_column : List ℕ → List ℕ → List ℕ
 in_column stream column = codes "in__" ++ stream ++ codes "__" ++ column
 
--- of the result: whether a row leaves, its columns, and the end
+-- the output port that says whether a row of the result leaves
 unfoldable pub out_valid : List ℕ
 out_valid = codes "out__valid"
 
+-- the output port of a column of the result
 unfoldable pub out_column : List ℕ → List ℕ
 out_column column = codes "out__" ++ column
 
+-- the output port that shows the end of the result
 unfoldable pub out_eos : List ℕ
 out_eos = codes "out__eos"
 
--- that a further group came, and that a queue overflowed
+-- the output port that shows that a further group came
 unfoldable pub fault_group : List ℕ
 fault_group = codes "fault__group"
 
+-- the output port that shows that a queue overflowed
 unfoldable pub fault_queue : List ℕ
 fault_queue = codes "fault__queue"
 
@@ -47,6 +53,7 @@ pub record Pin : Type 0 where
   pub name : List ℕ
   pub value : ℕ
 
+-- a port by its name, with the value that it takes
 abbrev pub pin : List ℕ → ℕ → Pin
 pin name value = record { name = name; value = value }
 
@@ -74,7 +81,7 @@ pins schema beats (suc n) =
     (bit (ticks_at beats n))
     ∷ [])
 
--- their names
+-- the names of ports with values, in their order
 abbrev pub pin_names : List Pin → List (List ℕ)
 pin_names ps = map (λ p. p.name) ps
 

@@ -21,20 +21,24 @@ pub record ProfilePort : Type 0 where
   pub name : List ℕ
   pub width : ℕ
 
+-- an input port of this name and width
 abbrev pub input : List ℕ → ℕ → ProfilePort
 input name width = record { direction = In; name = name; width = width }
 
+-- an output port of this name and width
 abbrev pub output : List ℕ → ℕ → ProfilePort
 output name width = record { direction = Out; name = name; width = width }
 
--- the inputs of a stream: whether a tuple comes, and its columns
+-- the input ports of a stream's columns
 abbrev pub column_inputs : List ℕ → List Column → List ProfilePort
 column_inputs stream [] = []
 column_inputs stream (c ∷ cs) = input (in_column stream c.name) (width_of c.kind) ∷ column_inputs stream cs
 
+-- the input ports of a stream: whether a tuple comes, and its columns
 abbrev pub stream_inputs : Stream → List ProfilePort
 stream_inputs s = input (in_valid s.name) 1 ∷ column_inputs s.name s.columns
 
+-- the input ports of all streams, in the order of the schema
 abbrev pub streams_inputs : List Stream → List ProfilePort
 streams_inputs [] = []
 streams_inputs (s ∷ ss) = stream_inputs s ++ streams_inputs ss
@@ -61,7 +65,7 @@ output_ports columns =
 abbrev pub profile : Bool → Schema → List Column → List ProfilePort
 profile ticks schema columns = input_ports ticks schema ++ output_ports columns
 
--- their names
+-- the names of the profile's ports, in their order
 abbrev pub port_names : List ProfilePort → List (List ℕ)
 port_names ports = map (λ p. p.name) ports
 

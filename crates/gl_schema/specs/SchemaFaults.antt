@@ -122,6 +122,7 @@ Fails (BadKind at) read = read ≡ Err (BadKind at)
 Fails (Twice at) read = read ≡ Err (Twice at)
 Fails (TooMany at) read = read ≡ Err (TooMany at)
 
+-- what code answers is what the text gives; want of memory may come with any text
 abbrev pub Gives : {A : Type 0} → Result A SchemaFault → Result A SchemaFault → Type 0
 Gives (Ok x) read = read ≡ Ok x
 Gives (Err e) read = Fails e read

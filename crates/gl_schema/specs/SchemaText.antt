@@ -23,9 +23,11 @@ pub record Token : Type 0 where
   pub at : ℕ
   pub mark : Mark
 
+-- a word that begins at this place
 abbrev pub word : ℕ → List ℕ → Token
 word at bytes = record { at = at; mark = Word bytes }
 
+-- a sign of one byte at this place
 abbrev pub sign : ℕ → ℕ → Token
 sign at byte = record { at = at; mark = Sign byte }
 
@@ -37,6 +39,7 @@ is_word_byte b = is_lower b || is_digit b || (b == 95) || (nat_le 65 b && nat_le
 abbrev pub is_blank : ℕ → Bool
 is_blank b = (b == 32) || (b == 9) || (b == 13) || (b == 10)
 
+-- what a byte can do: go on a word, part tokens, begin a comment, or stand as a sign
 unfoldable pub class_of : ℕ → Class
 class_of b = if is_word_byte b then Letter else if is_blank b then Blank else if b == 45 then Dash else Other
 
@@ -52,6 +55,7 @@ pub record Move : Type 0 where
   pub tokens : List Token
   pub left : Open
 
+-- a move that completes these tokens and leaves this open
 abbrev pub to : List Token → Open → Move
 to tokens left = record { tokens = tokens; left = left }
 
@@ -91,6 +95,7 @@ abbrev pub tokens_from : Open → ℕ → List ℕ → List Token
 tokens_from left at [] = last_tokens left
 tokens_from left at (b ∷ bs) = let m = move left (class_of b) at b in m.tokens ++ tokens_from m.left (at + 1) bs
 
+-- the tokens of a whole text with their places; comments and white space are none
 unfoldable pub tokens_of : List ℕ → List Token
 tokens_of text = tokens_from Between 0 text
 
@@ -120,6 +125,7 @@ spell_columns (c ∷ d ∷ cs) = spell_column c ++ (Sign 44 ∷ spell_columns (d
 abbrev pub spell_stream : Stream → List Mark
 spell_stream s = Word (codes "stream") ∷ Word s.name ∷ Sign 40 ∷ (spell_columns s.columns ++ Sign 41 ∷ Sign 59 ∷ [])
 
+-- the marks that spell a schema, stream by stream
 abbrev pub spell : Schema → List Mark
 spell schema = flat_map spell_stream schema.streams
 

@@ -10,17 +10,19 @@ use Rattle.gl_schema.specs.declared.schema.Schema.{Schema}
 use Rattle.gl_schema.specs.Names.{IsName}
 use Rattle.gl_schema.specs.Written.{is_written}
 
--- the names of columns and of streams, in order
+-- the names of columns in their order
 abbrev pub column_names : List Column → List (List ℕ)
 column_names columns = map (λ c. c.name) columns
 
+-- the names of streams in their order
 abbrev pub stream_names : List Stream → List (List ℕ)
 stream_names streams = map (λ s. s.name) streams
 
--- a column, or a stream, has this name
+-- some column has this name
 unfoldable pub has_column : List Column → List ℕ → Bool
 has_column columns name = list_any (λ c. bytes_eq name c.name) columns
 
+-- some stream has this name
 unfoldable pub has_stream : List Stream → List ℕ → Bool
 has_stream streams name = list_any (λ s. bytes_eq name s.name) streams
 
@@ -63,6 +65,6 @@ number_of bytes = fold (λ n b. 256 * n + b) 0 bytes
 abbrev pub padded : ℕ → List ℕ → List ℕ
 padded n text = text ++ replicate (n - length text) 0
 
--- its word
+-- the word of a text: its bytes as one number, the first one highest
 unfoldable pub text_word : ℕ → List ℕ → ℕ
 text_word n text = number_of (padded n text)

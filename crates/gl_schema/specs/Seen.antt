@@ -61,6 +61,7 @@ unpadded (b ∷ bs) = before b (unpadded bs)
 abbrev pub doubled_byte : ℕ → List ℕ
 doubled_byte b = if b == 34 then 34 ∷ 34 ∷ [] else b ∷ []
 
+-- a text in which each double quote is written twice
 abbrev pub doubled : List ℕ → List ℕ
 doubled bytes = flat_map doubled_byte bytes
 
@@ -87,10 +88,11 @@ values_text (k ∷ ks) (v ∷ vs) = 44 ∷ (printed k v ++ values_text ks vs)
 unfoldable pub line_of : ℕ → List Kind → List ℕ → List ℕ
 line_of cycle kinds row = decimal cycle ++ values_text kinds row ++ 10 ∷ []
 
--- the line that says that a further group came, and that of the end
+-- the line that says that a further group came
 unfoldable pub overflow_line : ℕ → List ℕ
 overflow_line cycle = decimal cycle ++ codes ",overflow" ++ 10 ∷ []
 
+-- the line that tells the end: its cycle, and `end`
 unfoldable pub end_line : ℕ → List ℕ
 end_line cycle = decimal cycle ++ codes ",end" ++ 10 ∷ []
 

@@ -25,6 +25,7 @@ signed_numbers = record { front = codes "s"; unit = 1; least = 2; most = 64; mak
 abbrev pub texts : Written
 texts = record { front = codes "text"; unit = 8; least = 1; most = 8; make = Text }
 
+-- the three fronts of kinds: numbers, signed numbers, and texts
 abbrev pub table : List Written
 table = numbers ∷ signed_numbers ∷ texts ∷ []
 
@@ -36,5 +37,6 @@ kinds_in row = map row.make (range_with_len row.least (row.most + 1 - row.least)
 unfoldable pub kinds : List Kind
 kinds = flat_map kinds_in table
 
+-- some text names this kind
 unfoldable pub is_written : Kind → Bool
 is_written kind = list_any (same_kind kind) kinds

@@ -13,18 +13,26 @@ use std::alloc::Global;
 /// sign.
 #[derive(Clone, Copy, PartialEq, Eq, Debug)]
 pub enum Class {
+    /// A byte of a word.
     Letter,
+    /// White space.
     Blank,
+    /// A dash, of which two begin a comment.
     Dash,
+    /// A sign of its own.
     Other,
 }
 
 /// What the bytes so far leave open: nothing, a word or one dash by where it begins, or a comment.
 #[derive(Clone, Copy, PartialEq, Eq, Debug)]
 pub enum Standing {
+    /// Nothing.
     Between,
+    /// A word that begins at this place.
     InWord(usize),
+    /// One dash at this place.
     AfterDash(usize),
+    /// A comment, up to the end of its line.
     InComment,
 }
 

@@ -28,13 +28,15 @@ pub record IsCheckedOver (schema : Schema) (checked : Checked) : Type 0 where
   pub same : checked.schema ≡ schema
   pub is : IsChecked checked.schema checked.statement
 
+-- the statements of a list of checked ones, in their order
 abbrev pub statements_of : List Checked → List Statement
 statements_of all = map (λ (checked : Checked). checked.statement) all
 
--- their plan behind a plan's nodes
+-- the joint plan of checked statements behind a plan's nodes
 abbrev pub plans_over : List PlanNode → Schema → List Checked → Several
 plans_over nodes schema all = plans_of nodes schema (statements_of all)
 
+-- a joint plan with these nodes, and a root for each statement
 abbrev pub several_at : List PlanNode → List ℕ → Several
 several_at nodes roots = record { nodes = nodes; roots = roots }
 
@@ -92,6 +94,7 @@ pub record HaveOneLimit (all : Several) (limit : Limit) : Type 0 where
   pub only : (other : Limit) → PassLimit all other → other ≡ limit
   pub over : AreWithinLimits all → ⊥
 
+-- a joint plan that passes limits has one that is answered, and no other
 abbrev pub SeveralPassOneLimit : Type 0
 SeveralPassOneLimit = (all : Several) (limit : Limit) → PassLimit all limit → HaveOneLimit all limit
 

@@ -11,15 +11,17 @@ use Rattle.gl_query.specs.Shapes as shape
 use Rattle.gl_elaborate.specs.Plans.{Several, plans_of}
 use Rattle.gl_several_plan.specs.Together.{gap_together, latency_alone, weight_together}
 
--- a symbol, a price and a volume
+-- a column of this name and kind
 abbrev pub column : List ℕ → Kind → NamedColumn
 column name kind = record { name = name; kind = kind }
 
+-- the columns of a trade: its symbol, its price and its volume
 abbrev pub trade_columns : List NamedColumn
 trade_columns =
     column (codes "symbol") (Text 4) ∷ column (codes "price") (Unsigned 32)
     ∷ column (codes "volume") (Unsigned 32) ∷ []
 
+-- a schema with the one stream of trades
 abbrev pub trade_schema : Schema
 trade_schema = record { streams = record { name = codes "trades"; columns = trade_columns } ∷ [] }
 
@@ -56,9 +58,11 @@ abbrev pub OfBoth : QueryShape → QueryShape → (Several → Type 0) → Type 
 OfBoth one other holds = (s t : Statement) → query_shape s.query ≡ one → query_shape t.query ≡ other
     → holds (plans_of [] trade_schema (s ∷ t ∷ []))
 
+-- the latency of each root of a joint plan
 abbrev pub latencies_in : Several → List ℕ
 latencies_in all = map (latency_alone all.nodes) all.roots
 
+-- nodes, roots, latencies, gap and weight of worked joint plans, by hand
 pub record WorkedSeveral : Type 0 where
   -- the stream, its comparison, what is kept, its columns, the count and the sum
   pub shared : OfBoth counts_of_one sums_of_one (λ all. length all.nodes ≡ 6)

@@ -11,8 +11,11 @@ use gl_verilog::{Bank, Expr, Statement, evaluate};
 /// A word of a memory that takes a value at the edge.
 #[derive(Clone, Copy, Debug)]
 pub struct Update {
+    /// The number of the memory's declaration.
     pub memory: usize,
+    /// The address of the word.
     pub address: usize,
+    /// What the word takes.
     pub value: u128,
 }
 

@@ -26,7 +26,7 @@ pub record AreShows (m : Module) (shows : Shows) : Type 0 where
   pub group' : shows.group ≡ number_of (ports_of m) fault_group
   pub columns' : shows.columns.items ≡ columns_from 0 (ports_of m)
 
--- and what each input port but the clock carries
+-- what each input port but the clock carries, and which ports show a result
 pub record IsBench (m : Module) (schema : Schema) (pins : List Pin) (shows : Shows) : Type 0 where
   pub pins' : pins ≡ map (pin_at schema m.declarations) (inputs_of m)
   pub shows' : AreShows m shows

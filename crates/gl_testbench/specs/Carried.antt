@@ -39,6 +39,7 @@ pin_named schema name =
 abbrev pub name_at : List Declaration → ℕ → List ℕ
 name_at ds n = option_map_or (λ d. d.name) (slice_get ds n) []
 
+-- what a beat puts on the port of this number, by the port's name
 abbrev pub pin_at : Schema → List Declaration → ℕ → Pin
 pin_at schema ds n = pin_named schema (name_at ds n)
 

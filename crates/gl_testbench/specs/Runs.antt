@@ -25,7 +25,7 @@ HasRunsOver m schema =
     (beats : List Beat) (start : Nets) (words : Memories) → AreBeats schema beats → Fit m.declarations start words
     → RunsOver m schema beats start words
 
--- and from any start, all of 0 or drawn
+-- over all beats of the schema there are runs from any start, all of 0 or drawn
 abbrev pub HasStartedRuns : Module → Schema → Type 0
 HasStartedRuns m schema =
     (beats : List Beat) (start : Start) → AreBeats schema beats

@@ -36,9 +36,13 @@ pub enum Pin {
 /// The numbers of the ports that show a result.
 #[derive(Drop, Debug)]
 pub struct Shows {
+    /// The port that is 1 in cycles with a row, if the module has it.
     pub valid: Option<usize>,
+    /// The port that is 1 in the cycle of the end, if the module has it.
     pub end: Option<usize>,
+    /// The port that is 1 where a further group came, if the module has it.
     pub group: Option<usize>,
+    /// The ports of the result's columns, in order.
     pub columns: Vec<usize>,
 }
 

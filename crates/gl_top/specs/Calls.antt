@@ -27,7 +27,7 @@ call_over seen_out seen_notes words shelf out out' notes notes' text status = re
   status = status;
 }
 
--- and by what is seen of the shelf
+-- a call by its words, and by what is seen of the shelf, the output and the notes before and after it
 abbrev pub call_of : {S K N : Type 0} → (S → ShelfState) → (K → SinkState) → (N → SinkState) → List (List ℕ)
     → S → S → K → K → N → N → List ℕ → Status → Call
 call_of seen seen_out seen_notes words shelf shelf' out out' notes notes' text status =

@@ -52,13 +52,14 @@ use Rattle.gl_top_notes.specs.Refusals.{Puts, Notes, status_of, note_of, no_end_
 
 -- ---- what was written
 
--- the lines of the run of this text over these beats from this start were written, or a front of them
+-- of every run of the text over the beats from this start, all its lines were written
 abbrev pub WritesLines : Schema → Statement → List Beat → Start → List ℕ → Puts → Type 0
 WritesLines schema statement beats start text out =
     OfEachRun text schema (plain_beats beats) start
     (λ outs port. Writes (kinds_of (result_columns schema statement)) (plain_beats beats) outs port
     out.old.taken out.new.taken)
 
+-- of every run of the text over the beats from this start, the first bytes of its lines were written
 abbrev pub WritesLinesFront : Schema → Statement → List Beat → Start → List ℕ → Puts → Type 0
 WritesLinesFront schema statement beats start text out =
     OfEachRun text schema (plain_beats beats) start
@@ -89,7 +90,7 @@ pub record IsEmitted (told : List ℕ → Told) (words : List (List ℕ)) (schem
   pub passes : TuplesPass told words schema statement beats
   pub meets : Meets schema statement (latency_of schema statement) (gap_of schema statement) text
 
--- or it meets all of several statements
+-- the tuples pass over several statements, and the text meets all of these together
 pub record AreEmitted (told : List ℕ → Told) (words : List (List ℕ)) (schema : Schema) (statements : List Statement)
     (beats : List Beat) (text : List ℕ) : Type 0 where
   pub passes : TuplesPassAll told words schema statements beats
@@ -297,6 +298,7 @@ SaysBy status.Verilog call = (fault : VerilogFault) × IsBadVerilog call.shelf.o
 SaysBy status.NoEnd call = IsEndless call
 SaysBy status.Dump call = (fault : VcdFault) × IsBadDump call.shelf.old.told call.words fault
 
+-- what a call's status says of its words, its texts and what it wrote is true
 abbrev pub Says : Call → Type 0
 Says call = SaysBy call.status call
 
@@ -332,7 +334,7 @@ pub data Yields (own : Status) (call : Call) : Type 0 where
 abbrev pub TellsForm : Call → Type 0
 TellsForm call = (IsForm call.words → ⊥) → Yields status.Usage call
 
--- and what the words and the texts are refused for is told
+-- where the shelf tells all texts and they are refused so, the status is this refusal's or one that it yields to
 abbrev pub TellsFaults : Call → Type 0
 TellsFaults call =
     (r : Refusal) → IsTelling call.shelf.old.told call.words → IsRefused call.shelf.old.told call.words r

@@ -51,6 +51,7 @@ abbrev pub LeavesQuery : {T : Type 0} → List (List ℕ) → Schema → ShelfSt
 LeavesQuery words schema old new (Ok x) = IsCalm old new
 LeavesQuery words schema old new (Err r) = IsUnexplained words schema old new r
 
+-- the texts were all there, or the refusal tells why there is no plan
 abbrev pub LeavesPlan : {T : Type 0} → List (List ℕ) → ShelfState → ShelfState → Result T Refusal → Type 0
 LeavesPlan words old new (Ok x) = IsCalm old new
 LeavesPlan words old new (Err r) = HasNoPlan words old new r

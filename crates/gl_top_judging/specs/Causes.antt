@@ -53,12 +53,12 @@ pub record IsMissing (told : List ℕ → Told) (words : List (List ℕ)) (part 
   pub next : IsNext told words part
   pub lacking : IsLacking (told (name_of words part))
 
--- it is too long
+-- the text of a part is the first that does not pass: it is longer than 67,108,864 bytes
 pub record IsTooLong (told : List ℕ → Told) (words : List (List ℕ)) (part : Part) : Type 0 where
   pub next : IsNext told words part
   pub long : IfTold (told (name_of words part)) (λ text. 67108864 < length text)
 
--- it has no schema, and this is the first fault
+-- the text of the schema has no schema, and this is its first fault
 pub record IsBadSchema (told : List ℕ → Told) (words : List (List ℕ)) (fault : faults.SchemaFault) : Type 0 where
   pub named : IsNamed words part.Schema
   pub text : HasText told words part.Schema (λ text. schema_of text ≡ Err fault)
@@ -86,17 +86,18 @@ IsModuleFault schema text verilog.Memory = ⊥
 IsModuleFault schema text (verilog.BadPort at) = IsPortFault text schema at
 IsModuleFault schema text fault = IsFaultIn text fault
 
+-- a module's text has this fault, or memory ran out
 abbrev pub IsModuleFaultOrMemory : Schema → List ℕ → VerilogFault → Type 0
 IsModuleFaultOrMemory schema text fault = IsModuleFault schema text fault ⊎ (fault ≡ verilog.Memory)
 
--- this is the first fault of the Verilog text
+-- the schema passes, and this is the first fault of the Verilog text over it
 pub record IsBadVerilog (told : List ℕ → Told) (words : List (List ℕ)) (fault : VerilogFault) : Type 0 where
   pub sims : IsCommand words Sim
   pub schema : Schema
   pub before : SchemaPasses told words schema
   pub text : HasText told words part.Module (λ text. IsModuleFault schema text fault)
 
--- it is no tuple file of the schema, or, to run, its beats do not keep the gap, and this is the first fault
+-- the tuple file is none of the schema, or its beats do not keep the gap of a run, and this is its first fault
 pub data AreBadTuples (told : List ℕ → Told) (words : List (List ℕ)) (fault : TupleFault) : Type 0 where
   ToRun : (runs : IsOfRun words) (schema : Schema) (statement : Statement)
       (before : QueryPasses told words schema statement)
@@ -111,7 +112,7 @@ pub data AreBadTuples (told : List ℕ → Told) (words : List (List ℕ)) (faul
       (text : HasText told words part.Tuples (λ text. beats_of schema (records_of text) ≡ Err fault))
       → AreBadTuples told words fault
 
--- it is no value change dump, and this is the first fault
+-- the text is no value change dump, and this is its first fault
 pub record IsBadDump (told : List ℕ → Told) (words : List (List ℕ)) (fault : VcdFault) : Type 0 where
   pub named : IsNamed words part.Dump
   pub text : HasText told words part.Dump (λ text. dump_of text ≡ Err fault)
@@ -135,6 +136,7 @@ pub record Change : Type 0 where
   pub old : ShelfState
   pub new : ShelfState
 
+-- the state of a shelf before and after
 abbrev pub change : ShelfState → ShelfState → Change
 change old new = record { old = old; new = new }
 

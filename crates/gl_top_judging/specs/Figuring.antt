@@ -9,6 +9,7 @@ use Rattle.gl_compiler_text.specs.Compiles.{HasCost}
 use Rattle.gl_compiler_text.specs.Built.{IsNoFarther, copies_of, gap_of, latency_of}
 use Rattle.gl_many.specs.Meets.{own_latency, shared_gap}
 
+-- one figure on a line: its name and its number
 unfoldable pub figure_line : List ℕ → ℕ → List ℕ
 figure_line name number = name ++ decimal number ++ codes "\n"
 
@@ -21,7 +22,7 @@ figure_lines p cost =
     ++ figure_line (codes "registers ") cost.registers
     ++ figure_line (codes "memories ") cost.memories
 
--- they are those of the statement and of the text that was emitted for it
+-- the bytes are the figures of the statement, with the cost of the text that was emitted for it
 pub record IsFigured (schema : Schema) (statement : Statement) (bytes text : List ℕ) : Type 0 where
   pub printed : Printed
   pub cost : Cost

@@ -93,7 +93,7 @@ pub record ModulePasses (told : List ℕ → Told) (words : List (List ℕ)) (sc
   pub fits : fit_of m schema ≡ Ok ports
   pub text : HasText told words part.Module (λ text. HasModule text m)
 
--- and the tuple file is that of these beats, of which no gap is asked
+-- the module's text passes, and the tuple file is that of these beats, of which no gap is asked
 pub record FilePasses (told : List ℕ → Told) (words : List (List ℕ)) (schema : Schema) (m : Module) (beats : List Beat)
     : Type 0 where
   pub before : ModulePasses told words schema m

@@ -19,7 +19,7 @@ abbrev pub part_read : Reading → Part
 part_read One = part.Query
 part_read Several = part.Queries
 
--- it has no statement, or one that is not accepted over the schema, and this is the first fault
+-- a text of one query or of several is refused over the schema, and this is its first fault
 abbrev pub IsFaultBy : Reading → Schema → List ℕ → QueryFault → Type 0
 IsFaultBy One schema text fault = IsQueryFault schema text fault
 IsFaultBy Several schema text fault = IsFaultOfAll schema text fault

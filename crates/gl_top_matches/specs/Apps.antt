@@ -6,21 +6,27 @@ use Rattle.gl_top_words.specs.declared.command.Command.{Command}
 use Rattle.gl_top_words.specs.declared.command.Command.TheVariants.{Compile, Figures, Explain, Run, Sim, Load, Vcd, Undump, Many, ManyFigures, ManyRun}
 use Rattle.gl_top_words.specs.Said.{IsSaid}
 
+-- a name that must stand in the words
 abbrev pub name_rule : Text → Rule
 name_rule id = record (new_rule id) { required = true }
 
+-- an option with a value, which must or need not stand in the words
 abbrev pub option_rule : Text → Bool → Rule
 option_rule long required = record (new_rule (codes "value")) { long = Some long; required = required }
 
+-- a command with one name behind it
 abbrev pub one_name : App
 one_name = with_rule (new_app (codes "glacier")) (name_rule (codes "first"))
 
+-- a command with two names behind it
 abbrev pub two_names : App
 two_names = with_rule one_name (name_rule (codes "second"))
 
+-- a command with three names behind it
 abbrev pub three_names : App
 three_names = with_rule two_names (name_rule (codes "third"))
 
+-- what clap is told of each command: its names, and the option of those that have one
 abbrev pub app_for : Command → App
 app_for Compile = two_names
 app_for Figures = two_names

@@ -25,18 +25,22 @@ abbrev pub schema_refusal : SchemaFault → Refusal
 schema_refusal schema.Memory = Memory
 schema_refusal fault = Schema fault
 
+-- a fault of a query as a refusal; want of memory is the refusal for that
 abbrev pub query_refusal : QueryFault → Refusal
 query_refusal query.Memory = Memory
 query_refusal fault = Query fault
 
+-- a fault of a module as a refusal; want of memory is the refusal for that
 abbrev pub verilog_refusal : VerilogFault → Refusal
 verilog_refusal verilog.Memory = Memory
 verilog_refusal fault = Verilog fault
 
+-- a fault of a tuple file as a refusal; want of memory is the refusal for that
 abbrev pub tuples_refusal : TupleFault → Refusal
 tuples_refusal tuples.Memory = Memory
 tuples_refusal fault = Tuples fault
 
+-- a fault of a dump as a refusal
 abbrev pub dump_refusal : VcdFault → Refusal
 dump_refusal fault = Dump fault
 
@@ -63,6 +67,7 @@ schema_kind (schema.Twice at) = codes "Twice"
 schema_kind (schema.TooMany at) = codes "TooMany"
 schema_kind schema.Memory = codes "Memory"
 
+-- where in the schema's text a fault is; want of memory has no place and gives 0
 abbrev pub schema_place : SchemaFault → ℕ
 schema_place (schema.Syntax at) = at
 schema_place (schema.BadName at) = at
@@ -71,6 +76,7 @@ schema_place (schema.Twice at) = at
 schema_place (schema.TooMany at) = at
 schema_place schema.Memory = 0
 
+-- the word by which a fault of a query is told
 unfoldable pub query_kind : QueryFault → List ℕ
 query_kind (query.Syntax at) = codes "Syntax"
 query_kind (query.UnknownStream at) = codes "UnknownStream"
@@ -88,6 +94,7 @@ query_kind (query.TooDeep at) = codes "TooDeep"
 query_kind (query.NoTime at) = codes "NoTime"
 query_kind query.Memory = codes "Memory"
 
+-- where in the query's text a fault is; want of memory gives 0
 abbrev pub query_place : QueryFault → ℕ
 query_place (query.Syntax at) = at
 query_place (query.UnknownStream at) = at
@@ -105,6 +112,7 @@ query_place (query.TooDeep at) = at
 query_place (query.NoTime at) = at
 query_place query.Memory = 0
 
+-- the word by which a fault of a module is told
 unfoldable pub verilog_kind : VerilogFault → List ℕ
 verilog_kind (verilog.Syntax at) = codes "Syntax"
 verilog_kind (verilog.Undeclared at) = codes "Undeclared"
@@ -121,6 +129,7 @@ verilog_kind (verilog.BadTarget at) = codes "BadTarget"
 verilog_kind (verilog.TooDeep at) = codes "TooDeep"
 verilog_kind verilog.Memory = codes "Memory"
 
+-- where in the module's text a fault is; want of memory gives 0
 abbrev pub verilog_place : VerilogFault → ℕ
 verilog_place (verilog.Syntax at) = at
 verilog_place (verilog.Undeclared at) = at
@@ -137,6 +146,7 @@ verilog_place (verilog.BadTarget at) = at
 verilog_place (verilog.TooDeep at) = at
 verilog_place verilog.Memory = 0
 
+-- the word by which a fault of a tuple file is told
 unfoldable pub tuples_kind : TupleFault → List ℕ
 tuples_kind (tuples.NotUtf8 number) = codes "NotUtf8"
 tuples_kind (tuples.BadCycle number) = codes "BadCycle"
@@ -151,6 +161,7 @@ tuples_kind (tuples.AfterEnd number) = codes "AfterEnd"
 tuples_kind (tuples.TooClose number) = codes "TooClose"
 tuples_kind tuples.Memory = codes "Memory"
 
+-- which record of a tuple file is at fault, counted from 1; want of memory gives 0
 abbrev pub tuples_record : TupleFault → ℕ
 tuples_record (tuples.NotUtf8 number) = number
 tuples_record (tuples.BadCycle number) = number
@@ -165,6 +176,7 @@ tuples_record (tuples.AfterEnd number) = number
 tuples_record (tuples.TooClose number) = number
 tuples_record tuples.Memory = 0
 
+-- the word by which a fault of a dump is told
 unfoldable pub dump_kind : VcdFault → List ℕ
 dump_kind (dump.Syntax at) = codes "Syntax"
 dump_kind (dump.UnknownSignal at) = codes "UnknownSignal"
@@ -175,6 +187,7 @@ dump_kind (dump.Twice at) = codes "Twice"
 dump_kind (dump.NoPort at) = codes "NoPort"
 dump_kind (dump.TooLate at) = codes "TooLate"
 
+-- where in the dump's text a fault is
 abbrev pub dump_place : VcdFault → ℕ
 dump_place (dump.Syntax at) = at
 dump_place (dump.UnknownSignal at) = at
@@ -203,6 +216,7 @@ usage_line =
 unfoldable pub memory_line : List ℕ
 memory_line = codes "out of memory\n"
 
+-- what is noted where the output could not be written
 unfoldable pub write_line : List ℕ
 write_line = codes "write fault\n"
 
@@ -219,7 +233,7 @@ limit_line (limit.Nodes weight) = line (codes "limit: Nodes ") (decimal weight)
 abbrev pub verilog_line : VerilogFault → List ℕ
 verilog_line fault = kind_line (codes "verilog: ") (verilog_kind fault) (codes " at ") (verilog_place fault)
 
--- and of a value change dump
+-- the line that tells a fault of a value change dump
 abbrev pub dump_line : VcdFault → List ℕ
 dump_line fault = kind_line (codes "dump: ") (dump_kind fault) (codes " at ") (dump_place fault)
 
@@ -243,6 +257,7 @@ pub record Puts : Type 0 where
   pub old : SinkState
   pub new : SinkState
 
+-- the state of a sink before and after
 abbrev pub puts : SinkState → SinkState → Puts
 puts old new = record { old = old; new = new }
 

@@ -3,6 +3,7 @@ use Rattle.std.specs.Prelude.{ℕ, Result, Ok, Err}
 use Rattle.gl_top_notes.specs.declared.status.Status.{Status}
 use Rattle.gl_top_notes.specs.declared.status.Status.TheVariants.{Done, Usage, Missing, ReadFault, WriteFault, Schema, Query, Tuples, Verilog, Limit, Memory, NoEnd, Dump}
 
+-- the number with which the program exits for each status
 abbrev pub code_of : Status → ℕ
 code_of Done = 0
 code_of Usage = 1

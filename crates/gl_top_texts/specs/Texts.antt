@@ -53,6 +53,7 @@ HasNoSchema words old new (refusal.Schema fault) =
     HasText old.told words part.Schema (λ text. schema_of text ≡ Err fault) × IsCalm old new
 HasNoSchema words old new r = IsUnfetched words part.Schema old new r
 
+-- the texts that were fetched were all there, or the refusal tells why there is no schema
 abbrev pub LeavesSchema : {T : Type 0} → List (List ℕ) → ShelfState → ShelfState → Result T Refusal → Type 0
 LeavesSchema words old new (Ok x) = IsCalm old new
 LeavesSchema words old new (Err r) = HasNoSchema words old new r

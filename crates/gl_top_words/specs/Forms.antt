@@ -12,6 +12,7 @@ use Rattle.gl_top_words.specs.declared.command.Part.TheVariants.{Schema, Query, 
 
 -- ---- words behind the command
 
+-- the first word of a command line, which names the command; empty where there is none
 abbrev pub first_word : List (List ℕ) → List ℕ
 first_word [] = []
 first_word (w ∷ ws) = w
@@ -51,14 +52,17 @@ values_in option false (w ∷ ws) =
     else if is_dashed w then None ∷ values_in option false ws
     else values_in option false ws
 
+-- the names behind the command, options and their values left out
 unfoldable pub names_of : List (List ℕ) → List (List ℕ)
 names_of words = names_in (option_word words) false (drop 1 words)
 
+-- the values that the option is given, in order; None for a dashed word that is no option and for a missing value
 unfoldable pub values_of : List (List ℕ) → List (Option (List ℕ))
 values_of words = values_in (option_word words) false (drop 1 words)
 
 -- ---- the start of registers and memories
 
+-- registers and memories start from 0, or from what another number draws
 abbrev pub start_from : ℕ → Start
 start_from zero = Zero
 start_from (suc n) = Drawn (suc n)
@@ -86,7 +90,7 @@ abbrev pub extra_at : Option ℕ → Option ℕ
 extra_at None = None
 extra_at (Some n) = if nat_le n 1000000 then Some n else None
 
--- as many as the digits of the one value spell
+-- as many cycles as the digits of the one value spell
 abbrev pub extra_in : List (Option (List ℕ)) → Option ℕ
 extra_in [] = None
 extra_in (None ∷ vs) = None
@@ -104,16 +108,18 @@ abbrev pub load_at : Option ℕ → Option ℕ
 load_at None = None
 load_at (Some n) = if nat_le 1 n && nat_le n 1000000 then Some n else None
 
--- as many as the digits of the first name spell
+-- as many tuples as the digits of the first name spell
 abbrev pub load_in : List (List ℕ) → Option ℕ
 load_in [] = None
 load_in (name ∷ names) = load_at (number_of name)
 
+-- how many tuples a load has, where its name is a number in range
 unfoldable pub load_of : List (List ℕ) → Option ℕ
 load_of words = load_in (names_of words)
 
 -- ---- commands
 
+-- the word of a command
 abbrev pub word_of : Command → List ℕ
 word_of Compile = codes "compile"
 word_of Figures = codes "figures"
@@ -150,11 +156,12 @@ takes_values Sim values = is_some (extra_in values)
 takes_values c [] = true
 takes_values c (v ∷ vs) = false
 
--- and the names: of a load, a number; else any
+-- a load's name is a number in range; the names of any other command may be any
 abbrev pub takes_names : Command → List (List ℕ) → Bool
 takes_names Load names = is_some (load_in names)
 takes_names c names = true
 
+-- the words have the form of a command: its word, its number of names, and an option that it takes
 unfoldable pub is_command : List (List ℕ) → Command → Bool
 is_command words c =
     bytes_eq (first_word words) (word_of c) && (length (names_of words) == many_names c) && takes_names c
@@ -176,6 +183,7 @@ command_of words =
     else if is_command words ManyRun then Some ManyRun
     else None
 
+-- the words are those of this command
 abbrev pub IsCommand : List (List ℕ) → Command → Type 0
 IsCommand words c = command_of words ≡ Some c
 
@@ -194,7 +202,7 @@ pub record IsLoadOf (words : List (List ℕ)) (n : ℕ) : Type 0 where
 
 -- ---- the texts
 
--- those that a command names, in their order; a load names none
+-- the texts that a command names, in their order; a load names none
 abbrev pub parts_of : Command → List Part
 parts_of Compile = Schema ∷ Query ∷ []
 parts_of Figures = Schema ∷ Query ∷ []
@@ -208,6 +216,7 @@ parts_of Many = Schema ∷ Queries ∷ []
 parts_of ManyFigures = Schema ∷ Queries ∷ []
 parts_of ManyRun = Schema ∷ Queries ∷ Tuples ∷ []
 
+-- at which place among the names a command names this text
 abbrev pub place_of : Part → ℕ
 place_of Schema = 0
 place_of Query = 1

@@ -6,33 +6,43 @@ use Rattle.gl_top_words.specs.declared.command.Command.{Command}
 use Rattle.gl_top_words.specs.declared.command.Command.TheVariants.{Compile, Figures, Explain, Run, Sim, Load, Vcd, Undump, Many, ManyFigures, ManyRun}
 use Rattle.gl_top_words.specs.Forms.{command_of, extra_of, load_of, names_of, start_of}
 
+-- the name of a schema's text
 abbrev pub s : List ℕ
 s = codes "S"
 
+-- the name of a query's text
 abbrev pub q : List ℕ
 q = codes "Q"
 
+-- the name of a tuple file
 abbrev pub t : List ℕ
 t = codes "T"
 
+-- the name of a module's text
 abbrev pub v : List ℕ
 v = codes "V"
 
+-- the words that load, with these behind the command
 abbrev pub load : List (List ℕ) → List (List ℕ)
 load words = codes "load" ∷ words
 
+-- the words that run a query, with these behind the command
 abbrev pub run : List (List ℕ) → List (List ℕ)
 run words = codes "run" ∷ words
 
+-- the words that dump a run, with these behind the command
 abbrev pub vcd : List (List ℕ) → List (List ℕ)
 vcd words = codes "vcd" ∷ words
 
+-- the words that read a dump, with these behind the command
 abbrev pub undump : List (List ℕ) → List (List ℕ)
 undump words = codes "undump" ∷ words
 
+-- the words that run several queries, with these behind the command
 abbrev pub many_run : List (List ℕ) → List (List ℕ)
 many_run words = codes "manyrun" ∷ words
 
+-- the words that simulate a module, with these behind the command
 abbrev pub sim : List (List ℕ) → List (List ℕ)
 sim words = codes "sim" ∷ words
 
@@ -44,7 +54,7 @@ Names words c names = (command_of words ≡ Some c) × (names_of words ≡ names
 abbrev pub RunsFrom : List (List ℕ) → Start → Type 0
 RunsFrom words start = Names words Run (s ∷ q ∷ t ∷ []) × (start_of words ≡ start)
 
--- and these the texts S, Q and T of several queries
+-- these words run the texts S, Q and T of several queries from this start
 abbrev pub RunsManyFrom : List (List ℕ) → Start → Type 0
 RunsManyFrom words start = Names words ManyRun (s ∷ q ∷ t ∷ []) × (start_of words ≡ start)
 
@@ -60,6 +70,7 @@ Loads words n = (command_of words ≡ Some Load) × (load_of words ≡ Some n)
 abbrev pub IsFormless : List (List ℕ) → Type 0
 IsFormless words = command_of words ≡ None
 
+-- what worked command lines mean, and which have no form
 pub record WorkedForms : Type 0 where
   pub compile : Names (codes "compile" ∷ s ∷ q ∷ []) Compile (s ∷ q ∷ [])
   pub figures : Names (codes "figures" ∷ s ∷ q ∷ []) Figures (s ∷ q ∷ [])

@@ -10,6 +10,7 @@ use Rattle.gl_wire.specs.Counted.{IsCountedAt}
 use Rattle.gl_totals.specs.Costs.{cost_of_aggs}
 use Rattle.gl_totals.specs.Totals.{total_widths}
 
+-- aggregates cost no more than a plan counts for them
 abbrev pub AggregatesAreCounted : Type 0
 AggregatesAreCounted =
     (shapes : ℕ → Shape) (figures : ℕ → Figures) (child : ℕ) (aggs : List PlanAgg)

@@ -6,6 +6,7 @@ use Rattle.gl_net.specs.Net.{Net, Run, IsRun, IsBus, IsBit, Keeps}
 use Rattle.gl_divide.specs.Divider.{IsLineBehind}
 use Rattle.gl_wire.specs.Costs.{Costs}
 
+-- a bus that carries what another carried some cycles before, and what its registers cost
 pub record IsBusBehind (old new : Net) (cycles : ℕ) (source out : Bus) : Type 0 where
   pub keeps : Keeps old new
   pub cost : Costs old new (record { nodes = cycles; registers = source.width * cycles; memories = 0 })
@@ -13,6 +14,7 @@ pub record IsBusBehind (old new : Net) (cycles : ℕ) (source out : Bus) : Type 
   pub same_width : out.width ≡ source.width
   pub value : (run : Run) → IsRun new run → (t : ℕ) → run.at (suc t + cycles) out.node ≡ run.at (suc t) source.node
 
+-- a line that shows what another showed some cycles before, and what its registers cost
 pub record IsBitBehind (old new : Net) (cycles : ℕ) (source out : Bit) : Type 0 where
   pub keeps : Keeps old new
   pub cost : Costs old new (record { nodes = cycles; registers = cycles; memories = 0 })

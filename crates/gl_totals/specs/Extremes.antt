@@ -42,6 +42,7 @@ pub record HoldsBest (run : Run) (valid : Bit) (best : Best) (now : Bus) : Type 
       ≡ (if line_at run valid (suc t) then next_of (Keep best) run best.value.width (suc t) (word (suc t))
       else if line_at run best.some (suc t) then word (suc t) else 0)
 
+-- a bus that carries the extreme with the cycle's row, held in a register of its width
 pub record IsHeldBest (old new : Net) (valid : Bit) (best : Best) (now : Bus) : Type 0 where
   pub keeps : Keeps old new
   pub cost : CostsAtMost old new (record { nodes = 14; registers = best.value.width; memories = 0 })

@@ -83,6 +83,7 @@ pub record IsFolded (run : Run) (width first : ℕ) (step : Step) (rows : Rows) 
       ≡ (if line_at run rows.valid (suc t) then next_of step run width (suc t) (run.at (suc t) before.node)
       else run.at (suc t) before.node)
 
+-- a fold over the rows of streams: its state before and with each row, as buses, and what it costs
 pub record IsFold (old new : Net) (width first : ℕ) (step : Step) (rows : Rows) (f : Fold) : Type 0 where
   pub keeps : Keeps old new
   pub cost : CostsAtMost old new (cost_of_fold rows.keep (nodes_of step) width)

@@ -35,6 +35,7 @@ pub record IsPast (run : Run) (valid first : Bit) (slot next now out : Bus) : Ty
       then run.at (suc t) now.node
       else word (suc t) (run.at (suc t) next.node))
 
+-- a bus that carries the word of the next slot, past what is written to the memory in that cycle
 pub record IsPassing (old new : Net) (valid first : Bit) (slot next now out : Bus) : Type 0 where
   pub keeps : Keeps old new
   pub cost : Costs old new (record { nodes = 6; registers = 0; memories = 2 ^ slot.width * now.width })

@@ -63,6 +63,7 @@ pub record IsValueOf (old new : Net) (s : Stream) (operand : Operand) (x : Bus) 
   pub values : (run : Run) → IsRun new run → IsLed run s.rows.valid s.rows.keep → (t : ℕ)
       → values_at run s.rows x (suc t) ≡ map (λ row. value_of_operand row operand) (rows_at run s (suc t))
 
+-- the aggregate that takes this extreme of an operand
 abbrev pub agg_of_extreme : Extreme → Operand → PlanAgg
 agg_of_extreme Least operand = Min operand
 agg_of_extreme Greatest operand = Max operand
@@ -77,10 +78,11 @@ pub record IsAggOf (old new : Net) (stages cycles : ℕ) (s : Stream) (agg : Pla
       → (t : ℕ) → IsFresh (lane_by run s.rows) (suc t)
       → run.at (suc t + cycles) out.node ≡ total_of s.source.kinds.now (rows_at run s (suc t)) agg
 
--- the row of all aggregates of some rows, and the widths of its columns
+-- the row of all aggregates over some rows
 abbrev pub total_row : List Kind → List PlanAgg → List Row → Row
 total_row kinds aggs rows = map (total_of kinds rows) aggs
 
+-- the widths of aggregates over columns of these kinds
 abbrev pub total_widths : List Kind → List PlanAgg → List ℕ
 total_widths kinds aggs = map width_of (map (kind_of_agg kinds) aggs)
 

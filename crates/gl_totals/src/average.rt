@@ -23,7 +23,9 @@ use gl_wire::same;
 /// A top and a bottom.
 #[derive(Clone, Copy)]
 pub struct Fraction {
+    /// What is divided.
     pub top: Bus,
+    /// What it is divided by.
     pub bottom: Bus,
 }
 

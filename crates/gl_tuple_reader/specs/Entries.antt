@@ -33,6 +33,7 @@ Fails (TickTwice n) read = read ≡ Err (TickTwice n)
 Fails (AfterEnd n) read = read ≡ Err (AfterEnd n)
 Fails (TooClose n) read = read ≡ Err (TooClose n)
 
+-- what code answers is what the fields say; want of memory may come with any record
 abbrev pub Gives : {A : Type 0} → Result A TupleFault → Result A TupleFault → Type 0
 Gives (Ok x) read = read ≡ Ok x
 Gives (Err e) read = Fails e read
@@ -41,6 +42,7 @@ Gives (Err e) read = Fails e read
 unfoldable pub are_utf8 : List (List ℕ) → Bool
 are_utf8 fields = list_all is_utf8 fields
 
+-- a record of which some field is not UTF-8 breaks the first rule
 unfoldable pub text_checked : ℕ → List (List ℕ) → Result (Unit {0}) TupleFault
 text_checked number fields = if are_utf8 fields then Ok tt else Err (NotUtf8 number)
 
@@ -49,10 +51,12 @@ abbrev pub cycle_below : ℕ → Option ℕ → Result ℕ TupleFault
 cycle_below number None = Err (BadCycle number)
 cycle_below number (Some cycle) = if nat_lt 10000000 cycle then Err (CycleTooLarge number) else Ok cycle
 
+-- what a function makes of a value that is there; nothing where it is not
 abbrev pub option_bind : {A B : Type 0} → Option A → (A → Option B) → Option B
 option_bind None f = None
 option_bind (Some x) f = f x
 
+-- the cycle that a record's first field spells, or the rule that it breaks
 unfoldable pub cycle_of : ℕ → List (List ℕ) → Result ℕ TupleFault
 cycle_of number fields = cycle_below number (option_bind (slice_get fields 0) number_of)
 
@@ -83,6 +87,7 @@ columns_at [] k = []
 columns_at (s ∷ ss) zero = s.columns
 columns_at (s ∷ ss) (suc k) = columns_at ss k
 
+-- a row of the stream that was looked up; an unknown stream breaks a rule
 abbrev pub tuple_of : ℕ → Schema → List (List ℕ) → Option ℕ → Result Entry TupleFault
 tuple_of number schema fields None = Err (UnknownStream number)
 tuple_of number schema fields (Some k) = row_of number (columns_at schema.streams k) fields >>= λ row. Ok (Tuple k row)
@@ -99,5 +104,6 @@ entry_named number schema fields (Some name) =
     else if bytes_eq name (codes "tick") then alone number fields Tick
     else tuple_of number schema fields (stream_named schema name)
 
+-- what the second field names and the others hold, or the first rule that they break
 unfoldable pub entry_of : ℕ → Schema → List (List ℕ) → Result Entry TupleFault
 entry_of number schema fields = entry_named number schema fields (slice_get fields 1)

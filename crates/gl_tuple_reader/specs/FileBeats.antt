@@ -27,6 +27,7 @@ abbrev pub names : Schema → ℕ → List ℕ → Bool
 names schema k name =
     not (bytes_eq name (codes "end")) && (not (bytes_eq name (codes "tick")) && is_number k (stream_named schema name))
 
+-- the row of a record that names this stream, if it does
 abbrev pub row_named : Schema → ℕ → List (List ℕ) → Option (List ℕ) → Option (List Word)
 row_named schema k fields None = None
 row_named schema k fields (Some name) =
@@ -115,16 +116,19 @@ abbrev pub number_of_records : ℕ → List (List (List ℕ)) → Option ℕ
 number_of_records cycle [] = if 0 == cycle then Some 0 else None
 number_of_records cycle (r ∷ rs) = number_from 1 cycle (r ∷ rs)
 
--- the beat of a cycle: its number, its row of stream k, and whether it has a tick
+-- the number of the beat of a cycle, if there is one
 abbrev pub number_at : List Beat → ℕ → Option ℕ
 number_at beats cycle = option_map (λ b. b.number) (find (λ b. b.cycle == cycle) beats)
 
+-- the row of a stream among those of a beat, if there is one
 abbrev pub row_among : List (Option (List Word)) → ℕ → Option (List Word)
 row_among rows k = unwrap_or (slice_get rows k) None
 
+-- the row of a stream in a cycle, if one comes
 abbrev pub row_at : List Beat → ℕ → ℕ → Option (List Word)
 row_at beats cycle k = option_bind (find (λ b. b.cycle == cycle) beats) (λ b. row_among b.rows k)
 
+-- a tick comes in a cycle
 abbrev pub tick_at : List Beat → ℕ → Bool
 tick_at beats cycle = option_map_or (λ b. b.tick) (find (λ b. b.cycle == cycle) beats) false
 

@@ -49,15 +49,17 @@ beat_with number beat (Tuple k row) =
     if has_row beat.rows k then Err (StreamTwice number)
     else Ok (record beat { rows = slice_set beat.rows k (Some row) })
 
--- the beats that are whole in front of a cycle, and the beat of the cycle
+-- the beats that are whole before a cycle
 abbrev pub whole_before : ℕ → List Beat → Option Beat → List Beat
 whole_before cycle whole None = whole
 whole_before cycle whole (Some beat) = if beat.cycle == cycle then whole else whole ++ beat ∷ []
 
+-- beats that are whole before a cycle; the current one is among them where it has another cycle
 abbrev pub grown_before : ℕ → Grown → Option Beat → Grown
 grown_before cycle whole current =
     record { columns = whole.columns; beats = whole_before cycle whole.beats current }
 
+-- the beat to which a record of a cycle belongs: the current one, or a new empty one
 abbrev pub beat_of : ℕ → ℕ → ℕ → Option Beat → Beat
 beat_of streams cycle number None = empty_beat streams cycle number
 beat_of streams cycle number (Some beat) = if beat.cycle == cycle then beat else empty_beat streams cycle number

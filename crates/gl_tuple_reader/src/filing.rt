@@ -18,8 +18,11 @@ use std::alloc::Global;
 /// The beats of the records so far: those that are whole, and that of the last record.
 #[derive(Drop, Debug)]
 pub struct Filing {
+    /// The beats of cycles before the last record's.
     pub whole: GrowingBeats,
+    /// The beat of the last record's cycle; none before the first record.
     pub current: Option<Beat>,
+    /// How many records were read.
     pub records: u64,
 }
 

@@ -56,7 +56,7 @@ pub record RowAdded (columns : List ℕ) (row : Option (List Word)) (old new : L
   pub size : row_size comes columns ≡ length numbers
   pub back : (more : List ℕ) → row_in comes columns (numbers ++ more) ≡ row
 
--- and the rows of a beat
+-- the rows of a beat were added, and are read back from where they stand
 pub record RowsAdded (shape : List (List ℕ)) (rows : List (Option (List Word))) (old new : List ℕ) (present : ℕ)
     : Type 0 where
   pub numbers : List ℕ

@@ -12,6 +12,7 @@ use Rattle.gl_tuples.specs.declared.fault.TupleFault.TheVariants.{TooClose}
 abbrev pub plain_beat : Beat → plain.Beat
 plain_beat b = record { cycle = b.cycle; rows = map (λ r. option_map bits_of r) b.rows; tick = b.tick; end = b.end }
 
+-- beats that code holds, as plain data
 abbrev pub plain_beats : List Beat → List plain.Beat
 plain_beats beats = map plain_beat beats
 

@@ -7,10 +7,11 @@ use Rattle.gl_schema.specs.declared.schema.Schema.{Schema}
 use Rattle.gl_schema.specs.declared.schema.Stream.{Stream}
 use Rattle.gl_tuples.specs.declared.beats.Beat.{Beat}
 
--- the bits of the columns of a stream, and of each stream of a schema
+-- the bits of each column of a stream
 abbrev pub columns_of : Stream → List ℕ
 columns_of s = map (λ c. width_of c.kind) s.columns
 
+-- the bits of each column of each stream of a schema
 abbrev pub shape_of : Schema → List (List ℕ)
 shape_of schema = map columns_of schema.streams
 
@@ -38,5 +39,6 @@ Fit (s ∷ ss) (r ∷ rs) = IfSome r (λ words. widths_of words ≡ s) × Fit ss
 abbrev pub IsNarrow : ℕ → Type 0
 IsNarrow width = width ≤ 64
 
+-- every column has few enough bits for a word
 abbrev pub AreNarrow : List (List ℕ) → Type 0
 AreNarrow shape = AllByRecursion (AllByRecursion IsNarrow) shape

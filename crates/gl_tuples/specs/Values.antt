@@ -13,10 +13,11 @@ use Rattle.gl_schema.specs.Schemas.{text_word}
 unfoldable pub is_utf8 : List ℕ → Bool
 is_utf8 field = utf8_valid_len field == length field
 
--- one or more decimal digits
+-- each byte is a decimal digit
 unfoldable pub are_digits : List ℕ → Bool
 are_digits field = list_all is_digit field
 
+-- a field of at least one byte, each a decimal digit
 unfoldable pub is_number : List ℕ → Bool
 is_number field = not (length field == 0) && are_digits field
 
@@ -32,6 +33,7 @@ number_of field = if is_number field then Some (number_in field) else None
 abbrev pub is_printable : ℕ → Bool
 is_printable b = nat_le 32 b && nat_le b 126
 
+-- a field whose bytes can all be printed
 unfoldable pub is_plain : List ℕ → Bool
 is_plain field = list_all is_printable field
 

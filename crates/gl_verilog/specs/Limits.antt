@@ -74,5 +74,6 @@ KeepsLimits (MemoryOf range name last) = Unit {0}
 KeepsLimits (Assign target value) = (depth_of value ≤ 64) × IsShort value
 KeepsLimits (Always clock body) = (depth_in body ≤ 64) × (ifs_in body ≤ 1024) × AreShort body
 
+-- every item of a module keeps the limits of depth and length
 abbrev pub IsWithinLimits : WrittenModule → Type 0
 IsWithinLimits m = AllByRecursion KeepsLimits m.items

@@ -21,6 +21,7 @@ pub record Declaration : Type 0 where
   pub is_vector : Bool
   pub kind : Kind
 
+-- the operators between two words: arithmetic modulo the width, bitwise operators, and comparisons of unsigned numbers
 pub data BinaryOp : Type 0 where
   Add : BinaryOp
   Sub : BinaryOp
@@ -59,6 +60,7 @@ pub record Assignment : Type 0 where
   pub target : ℕ
   pub value : Expr
 
+-- a module: the first declarations are its ports, assignments drive wires, and blocks run at the clock's edge
 pub record Module : Type 0 where
   pub name : List ℕ
   pub ports : ℕ
@@ -71,10 +73,11 @@ abbrev pub number_of : List Declaration → List ℕ → Option ℕ
 number_of [] name = None
 number_of (d ∷ ds) name = if bytes_eq d.name name then Some 0 else option_map (λ n. n + 1) (number_of ds name)
 
--- what each net holds, and each word of each memory
+-- what each net holds, by the net's number
 abbrev pub Nets : Type 0
 Nets = ℕ → ℕ
 
+-- what memories hold: a word for each memory's number and each address
 abbrev pub Memories : Type 0
 Memories = ℕ → ℕ → ℕ
 
@@ -130,11 +133,12 @@ written v m (Write memory address value) k at =
 written v m (Both first second) k at = later_or (written v m second k at) (written v m first k at)
 written v m (If test yes' no') k at = taken (value_of v m test) (written v m yes' k at) (written v m no' k at)
 
--- the same for all blocks; no two blocks of a valid module assign one register
+-- what all blocks assign to a register at an edge, if any does; no two blocks of a valid module assign one
 abbrev pub assigned_by : Nets → Memories → List Statement → ℕ → Option ℕ
 assigned_by v m [] r = None
 assigned_by v m (b ∷ bs) r = later_or (assigned_by v m bs r) (assigned v m b r)
 
+-- the word that blocks write to an address of a memory at an edge, if any; the last write wins
 abbrev pub written_by : Nets → Memories → List Statement → ℕ → ℕ → Option ℕ
 written_by v m [] k at = None
 written_by v m (b ∷ bs) k at = later_or (written_by v m bs k at) (written v m b k at)

@@ -16,18 +16,22 @@ number_read ds name = if bytes_eq name (codes "clk") then None else number_of ds
 
 -- ---- expressions
 
+-- a result of two parts is there only where both parts are
 abbrev pub both : {A B C : Type 0} → (A → B → C) → Option A → Option B → Option C
 both f None y = None
 both f (Some x) y = option_map (f x) y
 
+-- a result of three parts is there only where all three are
 abbrev pub three : {A B C D : Type 0} → (A → B → C → D) → Option A → Option B → Option C → Option D
 three f None y z = None
 three f (Some x) y z = both (f x) y z
 
+-- bitwise negation keeps its operand's width, and logical negation inverts one bit
 abbrev pub prefixed : List Declaration → PrefixOp → Expr → Expr
 prefixed ds BitNot x = Invert (width_of ds x) x
 prefixed ds LogicalNot x = Invert 1 x
 
+-- an operator takes the width of its left operand; the logical ones are AND and OR of one bit
 abbrev pub infixed : List Declaration → InfixOp → Expr → Expr → Expr
 infixed ds Times x y = Binary Mul (width_of ds x) x y
 infixed ds Added x y = Binary Add (width_of ds x) x y
@@ -44,9 +48,11 @@ infixed ds BitOr x y = Binary Or (width_of ds x) x y
 infixed ds LogicalAnd x y = Binary And 1 x y
 infixed ds LogicalOr x y = Binary Or 1 x y
 
+-- two parts in braces make one word, with the second in the low bits
 abbrev pub joined : List Declaration → Expr → Expr → Expr
 joined ds x y = Join (width_of ds y) x y
 
+-- the number that decimal digits write
 abbrev pub decimal_number : List ℕ → ℕ
 decimal_number digits = number_in 10 digits
 
@@ -69,6 +75,7 @@ resolve_expr ds (Conditional test yes' no') =
 
 -- ---- statements
 
+-- the statement that is meant where these declarations stand; none where it names what is not declared
 abbrev pub resolve_statement : List Declaration → WrittenStatement → Option Statement
 resolve_statement ds (Update target value) = both Put (number_of ds target) (resolve_expr ds value)
 resolve_statement ds (UpdateWord target address value) =
@@ -83,10 +90,12 @@ resolve_statement ds Ended = Some Nothing
 
 -- ---- declarations
 
+-- a name is declared one bit wide without a range, and as a vector from its high bit down to 0 with one
 abbrev pub declare : Kind → Range → List ℕ → Declaration
 declare kind None name = record { name = name; width = 1; is_vector = false; kind = kind }
 declare kind (Some high) name = record { name = name; width = decimal_number high + 1; is_vector = true; kind = kind }
 
+-- a port is an input, an output that an assignment drives, or an output register
 abbrev pub port_kind : Direction → Kind
 port_kind In = Input
 port_kind InWire = Input
@@ -94,6 +103,7 @@ port_kind Out = OutputWire
 port_kind OutWire = OutputWire
 port_kind OutReg = OutputRegister
 
+-- a port is declared by its direction, its range and its name
 abbrev pub declare_port : WrittenPort → Declaration
 declare_port p = declare (port_kind p.direction) p.range p.name
 
@@ -114,9 +124,11 @@ pub record Resolved : Type 0 where
   pub assignments : List Assignment
   pub blocks : List Statement
 
+-- what is resolved of a module, with one more assignment in front
 abbrev pub with_assignment : ℕ → Expr → Resolved → Resolved
 with_assignment target value r = record r { assignments = record { target = target; value = value } ∷ r.assignments }
 
+-- what is resolved of a module, with the body of one more clocked block in front
 abbrev pub with_block : ℕ → Statement → Resolved → Resolved
 with_block clock s r = record r { blocks = s ∷ r.blocks }
 
@@ -125,10 +137,12 @@ abbrev pub declared_in : List Declaration → List ℕ → Option Declaration
 declared_in [] name = None
 declared_in (d ∷ ds) name = if bytes_eq d.name name then Some d else declared_in ds name
 
+-- the kind of a declaration is that of a memory
 abbrev pub is_memory_kind : Kind → Bool
 is_memory_kind (Memory bits) = true
 is_memory_kind _ = false
 
+-- what is declared is a memory
 abbrev pub is_memory : Declaration → Bool
 is_memory d = is_memory_kind d.kind
 
@@ -141,6 +155,7 @@ abbrev pub clocked : List Declaration → List ℕ → Option ℕ
 clocked ds clock =
     if bytes_eq clock (codes "clk") then (if is_so is_memory ds clock then None else number_of ds clock) else None
 
+-- the declarations, assignments and blocks of a list of items; a name is known from its declaration on
 abbrev pub resolve_items : List Declaration → List WrittenItem → Option Resolved
 resolve_items ds [] = Some (record { declarations = ds; assignments = []; blocks = [] })
 resolve_items ds (Wires range names ∷ is) = resolve_items (ds ++ map (declare Wire range) names) is
@@ -153,6 +168,7 @@ resolve_items ds (Assign target value ∷ is) =
 resolve_items ds (Always clock body ∷ is) =
     three with_block (clocked ds clock) (resolve_statement ds body) (resolve_items ds is)
 
+-- the module of a written one: its name and ports, with what its items resolve to
 abbrev pub module_from : WrittenModule → Resolved → Module
 module_from w r =
     record {

@@ -34,6 +34,7 @@ pub record IsRun (m : Module) (value : ℕ → Nets) (word : ℕ → Memories) :
 abbrev pub port_of : Module → (ℕ → Nets) → ℕ → List ℕ → Option ℕ
 port_of m value t name = option_map (value t) (number_of (take m.ports m.declarations) name)
 
+-- a declaration is an input port
 abbrev pub is_input : Kind → Bool
 is_input Input = true
 is_input _ = false

@@ -22,6 +22,7 @@ inputs_from n [] = []
 inputs_from n (d ∷ ds) =
     if (is_input d.kind && not (is_clock d)) then n ∷ inputs_from (n + 1) ds else inputs_from (n + 1) ds
 
+-- the numbers of a module's input ports, the clock left out
 abbrev pub inputs_of : Module → List ℕ
 inputs_of m = inputs_from 0 m.declarations
 

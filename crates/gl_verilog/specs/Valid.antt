@@ -53,6 +53,7 @@ writes_in (Write memory address value) k = if nat_eq memory k then 1 else 0
 writes_in (Both first second) k = writes_in first k + writes_in second k
 writes_in (If test yes' no') k = writes_in yes' k + writes_in no' k
 
+-- how many times all blocks assign a register or write a memory
 abbrev pub writes_of : List Statement → ℕ → ℕ
 writes_of [] k = 0
 writes_of (b ∷ bs) k = writes_in b k + writes_of bs k
@@ -99,6 +100,7 @@ HasNoLoop assignments = HasNoCycle (depends assignments)
 
 -- ---- all of it
 
+-- a valid module: distinct names, sizes within bounds, matching widths, each net driven as its kind wants, and no loop
 pub record IsValid (m : Module) : Type 0 where
   pub names : AreDistinct m.declarations
   pub sizes : AllByRecursion HasSize m.declarations

@@ -11,6 +11,7 @@ use Rattle.gl_verilog.specs.declared.module.Statement.{Statement, Nothing, Put, 
 use Rattle.gl_verilog.specs.declared.module.Assignment.{Assignment}
 use Rattle.gl_verilog.specs.declared.module.Module.{Module}
 
+-- the kind of a declaration, as the spec names it
 abbrev pub kind_of : Kind → spec.Kind
 kind_of kind_is.Input = spec.Input
 kind_of kind_is.OutputWire = spec.OutputWire
@@ -19,6 +20,7 @@ kind_of kind_is.Wire = spec.Wire
 kind_of kind_is.Register = spec.Register
 kind_of (kind_is.Memory address_bits) = spec.Memory address_bits
 
+-- the operator between two words, as the spec names it
 abbrev pub op_of : BinaryOp → spec.BinaryOp
 op_of op_is.Add = spec.Add
 op_of op_is.Sub = spec.Sub
@@ -33,6 +35,7 @@ op_of op_is.Le = spec.Le
 op_of op_is.Gt = spec.Gt
 op_of op_is.Ge = spec.Ge
 
+-- the expression that a boxed one stands for
 abbrev pub expr_of : Expr → spec.Expr
 expr_of (Net n) = spec.Net n
 expr_of (Literal value width) = spec.Literal value width
@@ -45,6 +48,7 @@ expr_of (Read' memory p address) = spec.Read memory (expr_of address)
 
 -- a list of statements is a chain of pairs that ends in nothing
 abbrev mutual
+  -- the statement that a boxed one stands for
   pub statement_of : Statement → spec.Statement
   statement_of Nothing = spec.Nothing
   statement_of (Put register value) = spec.Put register (expr_of value)
@@ -52,16 +56,20 @@ abbrev mutual
   statement_of (Block' shape row) = chain_of row
   statement_of (If' test p yes' q no') = spec.If (expr_of test) (statement_of yes') (statement_of no')
 
+  -- the statements of a row in their order, as pairs that end in nothing
   pub chain_of : {m : _} → Row_of-Statement m → spec.Statement
   chain_of end_of-Statement = spec.Nothing
   chain_of (more_of-Statement s rest) = spec.Both (statement_of s) (chain_of rest)
 
+-- the declaration that the program's value stands for
 abbrev pub declaration_of : Declaration → spec.Declaration
 declaration_of d = record { name = d.name; width = d.width; is_vector = d.is_vector; kind = kind_of d.kind }
 
+-- the assignment that the program's value stands for
 abbrev pub assignment_of : Assignment → spec.Assignment
 assignment_of a = record { target = a.target; value = expr_of a.value }
 
+-- the module that the program's value stands for, part by part
 abbrev pub module_of : Module → spec.Module
 module_of m = record {
   name = m.name;

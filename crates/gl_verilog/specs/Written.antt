@@ -59,6 +59,7 @@ looseness BitOr = 8
 looseness LogicalAnd = 9
 looseness LogicalOr = 10
 
+-- how loosely an expression binds, from 0 for what stands alone to 12 for a list of parts
 abbrev pub level : WrittenExpr → ℕ
 level (Named name) = 0
 level (Constant size radix digits) = 0
@@ -92,10 +93,12 @@ IsGrouped (Conditional test yes' no') =
 abbrev pub IsExpr : WrittenExpr → Type 0
 IsExpr e = (level e ≤ 11) × IsGrouped e
 
+-- the sign of a prefix operator
 abbrev pub prefix_token : PrefixOp → Token
 prefix_token BitNot = Mark Tilde
 prefix_token LogicalNot = Mark Exclamation
 
+-- the sign that an operator between two operands is written with
 abbrev pub infix_token : InfixOp → Token
 infix_token Times = Mark Star
 infix_token Added = Mark Plus
@@ -112,6 +115,7 @@ infix_token BitOr = Mark Bar
 infix_token LogicalAnd = Mark AmpersandAmpersand
 infix_token LogicalOr = Mark BarBar
 
+-- the tokens of an expression, with the brackets that it is written with and no others
 abbrev pub spell_expr : WrittenExpr → List Token
 spell_expr (Named name) = Name name ∷ []
 spell_expr (Constant size radix digits) = Sized size radix digits ∷ []
@@ -177,9 +181,11 @@ IsStatementAt InBlock (IfThen test yes') = ⊥
 IsStatementAt InBlock (IfElse test yes' no') = ⊥
 IsStatementAt InBlock (Block statements) = ⊥
 
+-- a statement written by the grammar that stands for itself and not for a list
 abbrev pub IsStatement : WrittenStatement → Type 0
 IsStatement s = IsStatementAt Single s
 
+-- the tokens of a statement: targets, `<=`, conditions, branches, and `begin` and `end` around lists
 abbrev pub spell_statement : WrittenStatement → List Token
 spell_statement (Update target value) = Name target ∷ Mark LessEquals ∷ (spell_expr value ++ Mark Semicolon ∷ [])
 spell_statement (UpdateWord target address value) =
@@ -208,11 +214,13 @@ pub data Direction : Type 0 where
 abbrev pub Range : Type 0
 Range = Option (List ℕ)
 
+-- a port of the header: its direction, its range if it is a vector, and its name
 pub record WrittenPort : Type 0 where
   pub direction : Direction
   pub range : Range
   pub name : List ℕ
 
+-- an item of a module: wires, registers, a memory up to its last address, an assignment, or a clocked block
 pub data WrittenItem : Type 0 where
   Wires : (range : Range) (names : List (List ℕ)) → WrittenItem
   Registers : (range : Range) (names : List (List ℕ)) → WrittenItem
@@ -220,11 +228,13 @@ pub data WrittenItem : Type 0 where
   Assign : (target : List ℕ) (value : WrittenExpr) → WrittenItem
   Always : (clock : List ℕ) (body : WrittenStatement) → WrittenItem
 
+-- a module as it is written: its name, its ports in order, and its items in order
 pub record WrittenModule : Type 0 where
   pub name : List ℕ
   pub ports : List WrittenPort
   pub items : List WrittenItem
 
+-- the words of a port's direction, `wire` or `reg` included where they are written
 abbrev pub spell_direction : Direction → List Token
 spell_direction In = Reserved InputWord ∷ []
 spell_direction InWire = Reserved InputWord ∷ Reserved WireWord ∷ []
@@ -232,13 +242,16 @@ spell_direction Out = Reserved OutputWord ∷ []
 spell_direction OutWire = Reserved OutputWord ∷ Reserved WireWord ∷ []
 spell_direction OutReg = Reserved OutputWord ∷ Reserved RegWord ∷ []
 
+-- the digit 0, which ends every range
 abbrev pub zero_digit : List ℕ
 zero_digit = codes "0"
 
+-- a range in brackets from its high bit to 0, or nothing for a single bit
 abbrev pub spell_range : Range → List Token
 spell_range None = []
 spell_range (Some high) = Mark OpenBracket ∷ Number high ∷ Mark Colon ∷ Number zero_digit ∷ Mark CloseBracket ∷ []
 
+-- the tokens of a port: direction, range and name
 abbrev pub spell_port : WrittenPort → List Token
 spell_port p = spell_direction p.direction ++ (spell_range p.range ++ Name p.name ∷ [])
 
@@ -247,19 +260,22 @@ abbrev pub spell_more_ports : List WrittenPort → List Token
 spell_more_ports [] = []
 spell_more_ports (p ∷ ps) = Mark Comma ∷ (spell_port p ++ spell_more_ports ps)
 
+-- the tokens of a header's ports, with commas between
 abbrev pub spell_ports : List WrittenPort → List Token
 spell_ports [] = []
 spell_ports (p ∷ ps) = spell_port p ++ spell_more_ports ps
 
--- names in the same way
+-- the tokens of further names, each behind a comma
 abbrev pub spell_more_names : List (List ℕ) → List Token
 spell_more_names [] = []
 spell_more_names (n ∷ ns) = Mark Comma ∷ Name n ∷ spell_more_names ns
 
+-- the tokens of the names of one declaration, with commas between
 abbrev pub spell_names : List (List ℕ) → List Token
 spell_names [] = []
 spell_names (n ∷ ns) = Name n ∷ spell_more_names ns
 
+-- the tokens of an item, from its keyword to its semicolon or the end of its body
 abbrev pub spell_item : WrittenItem → List Token
 spell_item (Wires range names) = Reserved WireWord ∷ (spell_range range ++ (spell_names names ++ Mark Semicolon ∷ []))
 spell_item (Registers range names) =
@@ -273,10 +289,12 @@ spell_item (Always clock body) =
     Reserved AlwaysWord ∷ Mark At ∷ Mark OpenParen ∷ Reserved PosedgeWord ∷ Name clock ∷ Mark CloseParen
     ∷ spell_statement body
 
+-- the tokens of all items, one behind the other
 abbrev pub spell_items : List WrittenItem → List Token
 spell_items [] = []
 spell_items (i ∷ is) = spell_item i ++ spell_items is
 
+-- the tokens of a whole module, from `module` to `endmodule`
 abbrev pub spell : WrittenModule → List Token
 spell m =
     Reserved ModuleWord ∷ Name m.name ∷ Mark OpenParen

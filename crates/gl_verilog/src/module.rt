@@ -68,43 +68,62 @@ pub enum Expr {
     Net(usize),
     /// A number of this width.
     Literal {
+        /// The number, which fits into the width.
         value: u128,
+        /// How many bits the literal has.
         width: u8,
     },
     /// Every bit inverted: `~`, and `!` on one bit.
     Invert {
+        /// How many bits the operand has.
         width: u8,
+        /// The operand.
         arg: Box<Expr>,
     },
     /// Two operands of one width under an operator.
     Binary {
+        /// The operator.
         op: BinaryOp,
+        /// How many bits each operand has.
         width: u8,
+        /// The left operand.
         left: Box<Expr>,
+        /// The right operand.
         right: Box<Expr>,
     },
     /// `test ? yes : no`.
     Choose {
+        /// The test, of one bit.
         test: Box<Expr>,
+        /// The value where the test is 1.
         yes: Box<Expr>,
+        /// The value where the test is 0.
         no: Box<Expr>,
     },
     /// `{high, low}`; `low_width` is the width of the lower part. Of three parts the last two are
     /// the lower one: `{x, y, z}` is `{x, {y, z}}`.
     Join {
+        /// How many bits the lower part has.
         low_width: u8,
+        /// The part in the high bits.
         high: Box<Expr>,
+        /// The part in the low bits.
         low: Box<Expr>,
     },
     /// The bits from `low` to `high` of a net or register; one bit where they are the same.
     Select {
+        /// The number of the highest bit, counted from 0.
         high: u8,
+        /// The number of the lowest bit.
         low: u8,
+        /// The net or register, by the number of its declaration.
         net: usize,
     },
     /// The word of a memory at an address.
     Read {
+        /// The memory, by the number of its declaration.
         memory: usize,
+        /// The address, as wide as the memory's addresses.
         address: Box<Expr>,
     },
 }
@@ -116,21 +135,29 @@ pub enum Statement {
     Nothing,
     /// A register takes a value.
     Put {
+        /// The register, by the number of its declaration.
         register: usize,
+        /// What it takes at the edge.
         value: Expr,
     },
     /// The word of a memory at an address takes a value.
     Write {
+        /// The memory, by the number of its declaration.
         memory: usize,
+        /// The address of the word, as wide as the memory's addresses.
         address: Expr,
+        /// What the word takes at the edge.
         value: Expr,
     },
     /// `begin .. end`: these, in order. The list may be long, so it is no chain of pairs.
     Block(Vec<Statement>),
     /// One of two, by a test of one bit.
     If {
+        /// The test, of one bit.
         test: Expr,
+        /// What is done where the test is 1.
         yes: Box<Statement>,
+        /// What is done where the test is 0.
         no: Box<Statement>,
     },
 }

@@ -12,9 +12,11 @@ use Rattle.gl_verilog.specs.Widths.{is_clock, width_after}
 use Rattle.std.specs.List.{AllByRecursion}
 use Rattle.std.specs.Option.{is_some}
 
+-- what is declared is the clock
 abbrev pub clock_test : Declaration → Bool
 clock_test d = is_clock d
 
+-- the kind of a declaration is that of a memory
 abbrev pub is_memory : Kind → Bool
 is_memory (Memory bits) = true
 is_memory _ = false
@@ -38,6 +40,7 @@ part_width high low d =
     only (not (is_memory d.kind) && not (is_clock d) && d.is_vector && nat_lt high d.width && nat_le low high)
     (high + 1 - low)
 
+-- a memory whose addresses have this many bits
 abbrev pub has_address : Kind → ℕ → Bool
 has_address (Memory bits) address = nat_eq bits address
 has_address _ address = false
@@ -46,18 +49,23 @@ has_address _ address = false
 abbrev pub word_width : ℕ → Declaration → Option ℕ
 word_width address d = only (has_address d.kind address) d.width
 
+-- the width of an inversion, where its operand has the width that it names
 abbrev pub invert_width : ℕ → ℕ → Option ℕ
 invert_width width w = only (nat_eq w width) width
 
+-- the width of a choice, where its test is one bit and both sides are equally wide
 abbrev pub choose_width : ℕ → ℕ → ℕ → Option ℕ
 choose_width test a b = only (nat_eq test 1 && nat_eq b a) a
 
+-- the width of two parts together, where the low one is as wide as named and both have at most 128 bits
 abbrev pub join_width : ℕ → ℕ → ℕ → Option ℕ
 join_width low_width high low = only (nat_eq low low_width && nat_le (high + low_width) 128) (high + low_width)
 
+-- the width of a literal, where it is allowed and the value fits into it
 abbrev pub literal_width : ℕ → ℕ → Option ℕ
 literal_width value width = only (is_width width && nat_lt value (2 ^ width)) width
 
+-- the width of an operator's result, where both operands have the width that it names
 abbrev pub both_width : BinaryOp → ℕ → ℕ → ℕ → Option ℕ
 both_width op width x y = only (nat_eq x width && nat_eq y width) (width_after op width)
 
@@ -77,11 +85,13 @@ kept ds (Select high low n) = option_and_then (part_width high low) (slice_get d
 kept ds (Read memory address) =
     option_and_then (λ w. option_and_then (word_width w) (slice_get ds memory)) (kept ds address)
 
+-- a wire or an output that is no register, which an assignment drives
 abbrev pub is_driven : Kind → Bool
 is_driven OutputWire = true
 is_driven Wire = true
 is_driven _ = false
 
+-- a register or an output register
 abbrev pub is_register : Kind → Bool
 is_register OutputRegister = true
 is_register Register = true
@@ -91,6 +101,7 @@ is_register _ = false
 abbrev pub takes : (Kind → Bool) → ℕ → Declaration → Option ℕ
 takes may w d = only (may d.kind && nat_eq w d.width) w
 
+-- the width of a value, where its target may take it and is as wide
 abbrev pub only_taken : Bool → ℕ → Declaration → Option ℕ
 only_taken may w d = only (may && nat_eq w d.width) w
 
@@ -140,6 +151,7 @@ abbrev pub blocks_kept : List Declaration → List Statement → Bool
 blocks_kept ds [] = true
 blocks_kept ds (b ∷ bs) = statement_kept ds b && blocks_kept ds bs
 
+-- a memory has 1 to 32 address bits; other kinds have none to keep
 abbrev pub memory_fits : Kind → Bool
 memory_fits (Memory bits) = nat_le 1 bits && nat_le bits 32
 memory_fits _ = true
@@ -200,6 +212,7 @@ module_with ds as' bs = record { name = []; ports = 0; declarations = ds; assign
 abbrev pub scope_of : List code.Declaration → List Declaration
 scope_of ds = map declaration_of ds
 
+-- the statements that boxed ones stand for
 abbrev pub statements_of : List codes.Statement → List Statement
 statements_of bs = map statement_of bs
 
@@ -207,5 +220,6 @@ statements_of bs = map statement_of bs
 abbrev pub CanRun : List code.Declaration → List coded.Assignment → List codes.Statement → Type 0
 CanRun ds as' bs = IsRunnable (module_with (map declaration_of ds) (map assignment_of as') (map statement_of bs))
 
+-- declarations, assignments and blocks that make a valid module
 abbrev pub AreValid : List code.Declaration → List coded.Assignment → List codes.Statement → Type 0
 AreValid ds as' bs = IsValid (module_with (map declaration_of ds) (map assignment_of as') (map statement_of bs))

@@ -13,15 +13,19 @@ pub record Scope : Type 0 where
   pub declarations : List Declaration
   pub tokens : List ℕ
 
+-- these declarations, with the tokens of their names
 abbrev pub scope : List Declaration → List ℕ → Scope
 scope declarations tokens = record { declarations = declarations; tokens = tokens }
 
+-- nothing is declared yet
 abbrev pub empty_scope : Scope
 empty_scope = scope [] []
 
+-- a scope with one declaration behind the others
 abbrev pub with_declaration : Scope → ℕ → Declaration → Scope
 with_declaration s k d = scope (s.declarations ++ d ∷ []) (s.tokens ++ k ∷ [])
 
+-- no declaration of the scope has this name
 abbrev pub is_new : Scope → List ℕ → Bool
 is_new s name = not (is_among name (map (λ d. d.name) s.declarations))
 
@@ -46,11 +50,12 @@ declared_all kind range s k [] = Ok s
 declared_all kind range s k (n ∷ ns) =
     then' (declared s k (declare kind range n)) (λ s'. declared_all kind range s' (k + 2) ns)
 
--- the tokens of a range, and of a direction
+-- how many tokens a range has
 abbrev pub range_size : Range → ℕ
 range_size None = 0
 range_size (Some high) = 5
 
+-- how many tokens a direction has
 abbrev pub direction_size : Direction → ℕ
 direction_size In = 1
 direction_size InWire = 2
@@ -67,9 +72,11 @@ pub record Ported : Type 0 where
   pub scope : Scope
   pub end : ℕ
 
+-- what the ports declare, and the number of the token behind them
 abbrev pub ported : Scope → ℕ → Ported
 ported s end = record { scope = s; end = end }
 
+-- the ports are declared one after another, each name new and at most 128 bits wide
 abbrev pub declared_ports : Scope → ℕ → List WrittenPort → Result Ported Broken
 declared_ports s k [] = Ok (ported s k)
 declared_ports s k (p ∷ ps) =
@@ -87,9 +94,11 @@ pub record Elaborated : Type 0 where
   pub drivers : Drivers
   pub end : ℕ
 
+-- what is elaborated before the first item: the ports alone
 abbrev pub begun : Scope → ℕ → Elaborated
 begun s end = record { scope = s; assignments = []; targets = []; blocks = []; drivers = no_drivers; end = end }
 
+-- what is elaborated, with more declared
 abbrev pub with_scope : Elaborated → Scope → ℕ → Elaborated
 with_scope e s end = record e { scope = s; end = end }
 
@@ -97,6 +106,7 @@ with_scope e s end = record e { scope = s; end = end }
 abbrev pub assigned : Drivers → List ℕ → Drivers
 assigned v n = record v { done = with_name v.done n; all = with_name v.all n }
 
+-- one assignment more, by which its target has a driver
 abbrev pub with_assignment : Elaborated → ℕ → List ℕ → ℕ → Typed → Elaborated
 with_assignment e k name n t = record e {
   assignments = e.assignments ++ record { target = n; value = t.expr } ∷ [];
@@ -105,16 +115,19 @@ with_assignment e k name n t = record e {
   end = t.end + 1;
 }
 
--- a block begins, and ends: what it drives has a driver
+-- where a block begins, none of its names is driven before a statement
 abbrev pub block_begins : Drivers → Drivers
 block_begins v = record v { before = [] }
 
+-- behind a block, what it drives counts as driven by an earlier item
 abbrev pub block_ends : Drivers → Drivers
 block_ends v = record v { done = fold with_name v.done v.before }
 
+-- one block more, with what it drives
 abbrev pub with_block : Elaborated → Stated → Elaborated
 with_block e s = record e { blocks = e.blocks ++ s.statement ∷ []; drivers = block_ends s.drivers; end = s.end }
 
+-- a list of wires or registers is declared name by name
 abbrev pub elaborated_names : Kind → Range → Elaborated → List (List ℕ) → Result Elaborated Broken
 elaborated_names kind range e names =
     then' (declared_all kind range e.scope (e.end + 1 + range_size range) names)
@@ -127,6 +140,7 @@ declared_memory s k range name last =
     (then' (or_breaks BadMemory k (address_bits_of (decimal_number last + 1)))
     (λ j. Ok (with_declaration s k (declare (Memory j) range name)))))
 
+-- a memory is declared, and its length gives its address bits
 abbrev pub elaborated_memory : Elaborated → Range → List ℕ → List ℕ → Result Elaborated Broken
 elaborated_memory e range name last =
     then' (declared_memory e.scope (e.end + 1 + range_size range) range name last)
@@ -149,6 +163,7 @@ tested_clock ds k clock =
 abbrev pub put_block : Elaborated → ℕ → WrittenStatement → Result Elaborated Broken
 put_block e k body = then' (judged_in e.scope.declarations (block_begins e.drivers) k body) (λ s. Ok (with_block e s))
 
+-- the value is judged, then its target: declared, a wire, not driven yet, and as wide as the value
 abbrev pub elaborated_assignment : Elaborated → List ℕ → WrittenExpr → Result Elaborated Broken
 elaborated_assignment e target value =
     then' (judged_expr e.scope.declarations (e.end + 3) value) (λ t.
@@ -157,12 +172,14 @@ elaborated_assignment e target value =
     (asks WidthsDiffer (e.end + 1) (nat_eq d.width t.width)
     (Ok (with_assignment e (e.end + 1) target d.number t))))))
 
+-- the clock is judged, then the statements of the block from left to right
 abbrev pub elaborated_block : Elaborated → List ℕ → WrittenStatement → Result Elaborated Broken
 elaborated_block e clock body =
     then' (named e.scope.declarations (e.end + 4) clock) (λ d. asks ClockRead (e.end + 4) (is_clock_name clock)
     (asks BadMemory (e.end + 4) (not (is_memory_kind d.kind))
     (then' (judged_in e.scope.declarations (block_begins e.drivers) (e.end + 6) body) (λ s. Ok (with_block e s)))))
 
+-- an item is judged and resolved, by its form
 abbrev pub elaborated_item : Elaborated → WrittenItem → Result Elaborated Broken
 elaborated_item e (Wires range names) = elaborated_names Wire range e names
 elaborated_item e (Registers range names) = elaborated_names Register range e names
@@ -170,19 +187,23 @@ elaborated_item e (MemoryOf range name last) = elaborated_memory e range name la
 elaborated_item e (Assign target value) = elaborated_assignment e target value
 elaborated_item e (Always clock body) = elaborated_block e clock body
 
+-- the items are judged and resolved one after another, up to the first that breaks a rule
 abbrev pub elaborated_items : Elaborated → List WrittenItem → Result Elaborated Broken
 elaborated_items e [] = Ok e
 elaborated_items e (i ∷ is) = then' (elaborated_item e i) (λ e'. elaborated_items e' is)
 
 -- ---- drivers
 
+-- a declaration is an input port
 abbrev pub is_input : Kind → Bool
 is_input Input = true
 is_input _ = false
 
+-- an input needs no driver; any other name has one among these
 abbrev pub driven_kind : List (List ℕ) → List ℕ → Kind → Bool
 driven_kind done name kind = if is_input kind then true else is_among name done
 
+-- what is declared is an input or has a driver among these names
 abbrev pub has_driver : List (List ℕ) → Declaration → Bool
 has_driver done d = driven_kind done d.name d.kind
 

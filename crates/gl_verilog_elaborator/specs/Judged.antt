@@ -14,9 +14,11 @@ pub record Broken : Type 0 where
   pub rule : Rule
   pub token : ℕ
 
+-- a rule is broken at this token
 abbrev pub breaks : {A : Type 0} → Rule → ℕ → Result A Broken
 breaks rule token = Err (record { rule = rule; token = token })
 
+-- goes on with a result where no rule is broken
 abbrev pub then' : {A B : Type 0} → Result A Broken → (A → Result B Broken) → Result B Broken
 then' (Ok x) next = next x
 then' (Err b) next = Err b
@@ -35,23 +37,28 @@ pub record Known : Type 0 where
   pub is_vector : Bool
   pub kind : Kind
 
+-- what a declaration of this number says but its name
 abbrev pub known_as : ℕ → Declaration → Known
 known_as n d = record { number = n; width = d.width; is_vector = d.is_vector; kind = d.kind }
 
+-- what the declaration of this number says, if there is one
 abbrev pub known_at : List Declaration → ℕ → Option Known
 known_at ds n = option_map (known_as n) (slice_get ds n)
 
+-- what is declared under a name, if anything is
 abbrev pub known : List Declaration → List ℕ → Option Known
 known ds name = option_and_then (known_at ds) (number_of ds name)
 
+-- what is there, or else a rule that is broken at this token
 abbrev pub or_breaks : {A : Type 0} → Rule → ℕ → Option A → Result A Broken
 or_breaks rule token None = breaks rule token
 or_breaks rule token (Some x) = Ok x
 
--- a name at a target or a clock, and in an expression
+-- a name at a target or at a clock is declared
 abbrev pub named : List Declaration → ℕ → List ℕ → Result Known Broken
 named ds k name = or_breaks Undeclared k (known ds name)
 
+-- a name that an expression reads is declared and is not the clock
 abbrev pub read : List Declaration → ℕ → List ℕ → Result Known Broken
 read ds k name = then' (named ds k name) (λ d. asks ClockRead k (not (is_clock_name name)) (Ok d))
 
@@ -63,6 +70,7 @@ pub record Typed : Type 0 where
   pub width : ℕ
   pub end : ℕ
 
+-- an expression of this width that ends before this token
 abbrev pub typed : Expr → ℕ → ℕ → Typed
 typed expr width end = record { expr = expr; width = width; end = end }
 
@@ -70,31 +78,36 @@ typed expr width end = record { expr = expr; width = width; end = end }
 abbrev pub closed : Typed → Typed
 closed t = typed t.expr t.width (t.end + 1)
 
+-- a name in an expression is a net that may be read, and no memory
 abbrev pub judged_net : List Declaration → ℕ → List ℕ → Result Typed Broken
 judged_net ds k name =
     then' (read ds k name) (λ d. asks BadMemory k (not (is_memory_kind d.kind))
     (Ok (typed (Net d.number) d.width (k + 1))))
 
+-- a literal has at least one bit, its value fits, and it has at most 128 bits
 abbrev pub judged_literal : ℕ → List ℕ → ℕ → List ℕ → Result Typed Broken
 judged_literal k size radix digits =
     asks WidthsDiffer k (nat_le 1 (decimal_number size) && nat_lt (number_in radix digits) (2 ^ decimal_number size))
     (asks TooWide k (nat_le (decimal_number size) 128)
     (Ok (typed (Literal (number_in radix digits) (decimal_number size)) (decimal_number size) (k + 1))))
 
+-- bits of a declared vector that is no memory, within its width
 abbrev pub judged_select : List Declaration → ℕ → List ℕ → ℕ → ℕ → ℕ → Result Typed Broken
 judged_select ds k name high low end =
     then' (read ds k name) (λ d. asks BadMemory k (not (is_memory_kind d.kind))
     (asks WidthsDiffer k (d.is_vector && (nat_le low high && nat_lt high d.width))
     (Ok (typed (Select high low d.number) (high + 1 - low) end))))
 
--- a memory that is indexed, and its word
+-- a name that is read as a memory is one
 abbrev pub judged_memory : List Declaration → ℕ → List ℕ → Result Known Broken
 judged_memory ds k name = then' (read ds k name) (λ d. asks BadMemory k (is_memory_kind d.kind) (Ok d))
 
+-- a word of a memory, where the address is as wide as its addresses
 abbrev pub judged_word : ℕ → Known → Typed → Result Typed Broken
 judged_word k d a =
     asks BadMemory k (nat_eq (address_kind d.kind) a.width) (Ok (typed (Read d.number a.expr) d.width (a.end + 1)))
 
+-- parts in braces have at most 128 bits together
 abbrev pub judged_braces : ℕ → Typed → Result Typed Broken
 judged_braces k t = asks TooWide k (nat_le t.width 128) (Ok (closed t))
 
@@ -102,6 +115,7 @@ judged_braces k t = asks TooWide k (nat_le t.width 128) (Ok (closed t))
 abbrev pub joined : Typed → Typed → Typed
 joined a b = typed (Join b.width a.expr b.expr) (a.width + b.width) b.end
 
+-- a prefix operator takes an operand of this width and keeps the width
 abbrev pub judged_prefix : ℕ → PrefixOp → Typed → Result Typed Broken
 judged_prefix k op a = asks WidthsDiffer k (takes_prefix op a.width) (Ok (typed (Invert a.width a.expr) a.width a.end))
 
@@ -122,14 +136,17 @@ op_meant BitOr = Or
 op_meant LogicalAnd = And
 op_meant LogicalOr = Or
 
+-- comparisons give one bit, all other operators the width of their operands
 abbrev pub infix_width : InfixOp → ℕ → ℕ
 infix_width op w = if gives_bit op then 1 else w
 
+-- both operands are equally wide, and of one bit where the operator is logical
 abbrev pub judged_infix : InfixOp → Typed → Typed → Result Typed Broken
 judged_infix op a b =
     asks WidthsDiffer a.end (nat_eq a.width b.width && (not (takes_bits op) || nat_eq a.width 1))
     (Ok (typed (Binary (op_meant op) a.width a.expr b.expr) (infix_width op a.width) b.end))
 
+-- the test is one bit, and both sides are equally wide
 abbrev pub judged_choice : Typed → Typed → Typed → Result Typed Broken
 judged_choice t a b =
     asks WidthsDiffer t.end (nat_eq t.width 1 && nat_eq a.width b.width)
@@ -180,6 +197,7 @@ pub record Drivers : Type 0 where
   pub beside : List (List ℕ)
   pub before : List (List ℕ)
 
+-- nothing is driven yet
 abbrev pub no_drivers : Drivers
 no_drivers = record { done = []; all = []; beside = []; before = [] }
 
@@ -187,6 +205,7 @@ no_drivers = record { done = []; all = []; beside = []; before = [] }
 abbrev pub with_name : List (List ℕ) → List ℕ → List (List ℕ)
 with_name names n = if is_among n names then names else names ++ n ∷ []
 
+-- one name more has a driver in this block
 abbrev pub driven : Drivers → List ℕ → Drivers
 driven v n = record v { all = with_name v.all n; before = v.before ++ n ∷ [] }
 
@@ -204,6 +223,7 @@ pub record Stated : Type 0 where
   pub end : ℕ
   pub drivers : Drivers
 
+-- a statement that ends before this token, and what is driven behind it
 abbrev pub stated : Statement → ℕ → Drivers → Stated
 stated statement end drivers = record { statement = statement; end = end; drivers = drivers }
 
@@ -215,17 +235,19 @@ put_target ds v k target width =
     (asks TwiceDriven k (not (is_among target v.done) && not (is_among target v.beside))
     (asks WidthsDiffer k (nat_eq d.width width) (Ok d.number)))))
 
--- the same of a memory, for an address of this width
+-- a memory may be written here at an address of this width, with words of this width
 abbrev pub write_target : List Declaration → Drivers → ℕ → List ℕ → ℕ → ℕ → Result ℕ Broken
 write_target ds v k target address width =
     then' (named ds k target) (λ d. asks BadTarget k (is_clocked_kind d.kind)
     (asks BadMemory k (is_memory_kind d.kind && nat_eq (address_kind d.kind) address)
     (asks TwiceDriven k (not (is_among target v.all)) (asks WidthsDiffer k (nat_eq d.width width) (Ok d.number)))))
 
+-- a value is assigned to a register, where it may be
 abbrev pub judged_put : List Declaration → Drivers → ℕ → List ℕ → Typed → Result Stated Broken
 judged_put ds v k target t =
     then' (put_target ds v k target t.width) (λ n. Ok (stated (Put n t.expr) (t.end + 1) (driven v target)))
 
+-- a value is written to a word of a memory, where it may be
 abbrev pub judged_write : List Declaration → Drivers → ℕ → List ℕ → Typed → Typed → Result Stated Broken
 judged_write ds v k target a t =
     then' (write_target ds v k target a.width t.width)

@@ -18,6 +18,7 @@ use Rattle.gl_verilog_elaborator.specs.declared.drivers.Drivers.{Drivers}
 use Rattle.gl_verilog_elaborator.specs.declared.statements.Stated.{Stated}
 use Rattle.gl_verilog_elaborator.specs.declared.items.Elaborated.{Elaborated}
 
+-- the rule that the code's value names
 abbrev pub rule_of : Rule → demands.Rule
 rule_of rule_is.Undeclared = demands.Undeclared
 rule_of rule_is.TwiceDeclared = demands.TwiceDeclared
@@ -30,6 +31,7 @@ rule_of rule_is.ClockRead = demands.ClockRead
 rule_of rule_is.TooWide = demands.TooWide
 rule_of rule_is.BadTarget = demands.BadTarget
 
+-- the code stopped at a broken rule, and not for want of memory
 abbrev pub is_broken : Stop → Bool
 is_broken stop_is.Memory = false
 is_broken (stop_is.Broken rule token) = true
@@ -46,31 +48,39 @@ Gives view said result =
 
 -- ---- what is declared
 
+-- the declaration that an entry of the code's table stands for
 abbrev pub declared_as : (Bor (List ℕ)) × Declared → spec.Declaration
 declared_as e = record { name = e.0.now; width = e.1.width; is_vector = e.1.is_vector; kind = meant.kind_of e.1.kind }
 
+-- the declarations of the code's scope, in the order of their numbers
 abbrev pub declarations_of : Scope → List spec.Declaration
 declarations_of s = map declared_as s.names.entries
 
+-- the tokens at which the names of the code's scope are declared
 abbrev pub tokens_of : Scope → List ℕ
 tokens_of s = map (λ e. e.1.token) s.names.entries
 
+-- the scope that the code's value stands for
 abbrev pub scope_of : Scope → made.Scope
 scope_of s = made.scope (declarations_of s) (tokens_of s)
 
+-- what is known of a name, from the code's value
 abbrev pub known_of : Known → judged.Known
 known_of k = record { number = k.number; width = k.width; is_vector = k.is_vector; kind = meant.kind_of k.kind }
 
 -- ---- what is judged
 
+-- the judged expression that the code's value stands for
 abbrev pub typed_of : Typed → judged.Typed
 typed_of t = judged.typed (meant.expr_of t.expr) t.width t.end
 
 -- ---- what has a driver
 
+-- the names that borrowed ones stand for
 abbrev pub names_in : List (Bor (List ℕ)) → List (List ℕ)
 names_in names = map (λ n. n.now) names
 
+-- the driven names that the code's sets and list stand for
 abbrev pub drivers_of : Drivers → judged.Drivers
 drivers_of d =
     record {
@@ -80,11 +90,13 @@ drivers_of d =
       before = names_in d.before.items;
     }
 
+-- the judged statement that the code's value stands for
 abbrev pub stated_of : Drivers → Stated → judged.Stated
 stated_of d s = judged.stated (meant.statement_of s.statement) s.end (drivers_of d)
 
 -- ---- items
 
+-- what is elaborated, from the code's value
 abbrev pub elaborated_of : Elaborated → made.Elaborated
 elaborated_of e = record {
   scope = scope_of e.scope;

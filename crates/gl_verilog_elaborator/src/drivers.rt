@@ -16,9 +16,13 @@ use indexmap::IndexSet;
 /// lists that are open; and those of this block, in the order of the text.
 #[derive(Drop)]
 pub struct Drivers<'a> {
+    /// The names that earlier items drive.
     pub done: IndexSet<&'a [u8]>,
+    /// The names that earlier items or this block drive.
     pub all: IndexSet<&'a [u8]>,
+    /// The names that earlier statements of the open lists assign or write.
     pub beside: IndexSet<&'a [u8]>,
+    /// The names that this block has assigned or written, in the order of the text.
     pub before: Vec<&'a [u8]>,
 }
 

@@ -19,8 +19,11 @@ use std::alloc::Global;
 /// What an expression means, its width, and the number of the token behind it.
 #[derive(Drop)]
 pub struct Typed {
+    /// What the expression means.
     pub expr: Expr,
+    /// How many bits it has.
     pub width: u8,
+    /// The number of the token behind it, counted from 0.
     pub end: usize,
 }
 

@@ -22,11 +22,17 @@ use std::alloc::Global;
 /// what has a driver, and the number of the next token.
 #[derive(Drop)]
 pub struct Elaborated<'a> {
+    /// The declarations, by their names.
     pub scope: Scope<'a>,
+    /// The assignments, in the order of the text.
     pub assignments: Vec<Assignment>,
+    /// For each assignment the number of its target's token.
     pub targets: Vec<usize>,
+    /// The bodies of the clocked blocks, in the order of the text.
     pub blocks: Vec<Statement>,
+    /// The names that have a driver.
     pub drivers: Drivers<'a>,
+    /// The number of the next token, counted from 0.
     pub end: usize,
 }
 

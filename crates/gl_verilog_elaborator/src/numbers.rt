@@ -41,7 +41,9 @@ pub(crate) fn big_number(radix: u8, digits: &[u8]) -> Option<u128>
 /// The low bits of a limb times a radix, and what is carried on.
 #[derive(Clone, Copy)]
 pub struct Grown {
+    /// The low 32 bits.
     pub low: u32,
+    /// What the next limb takes over.
     pub carry: u8,
 }
 
@@ -212,7 +214,9 @@ pub(crate) fn narrow(digits: &[u8]) -> Option<u8>
 /// Two places in a word, the higher one first.
 #[derive(Clone, Copy)]
 pub struct Part {
+    /// The number of the higher bit.
     pub high: u8,
+    /// The number of the lower bit.
     pub low: u8,
 }
 

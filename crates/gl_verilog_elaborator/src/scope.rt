@@ -28,6 +28,7 @@ pub struct Declared {
 /// What is declared so far, in the order of the text.
 #[derive(Drop)]
 pub struct Scope<'a> {
+    /// What each name declares; a name's place is the number of its declaration.
     pub names: IndexMap<&'a [u8], Declared>,
 }
 

@@ -21,7 +21,9 @@ use std::alloc::Global;
 /// What a statement means, and the number of the token behind it.
 #[derive(Drop)]
 pub struct Stated {
+    /// What the statement means.
     pub statement: Statement,
+    /// The number of the token behind it, counted from 0.
     pub end: usize,
 }
 

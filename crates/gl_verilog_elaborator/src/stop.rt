@@ -6,15 +6,25 @@ use std::alloc::{AllocError, AllocFailed};
 /// A rule that a module can break.
 #[derive(Clone, Copy)]
 pub enum Rule {
+    /// A name is used before it is declared.
     Undeclared,
+    /// A name is declared a second time.
     TwiceDeclared,
+    /// A name has a second driver.
     TwiceDriven,
+    /// A name that is no input has no driver.
     NeverDriven,
+    /// Widths do not go together, a literal does not fit, or bits are selected that are not there.
     WidthsDiffer,
+    /// A net depends on itself through assignments.
     Loop,
+    /// A memory is used as a net, a net as a memory, or a length or an address does not fit.
     BadMemory,
+    /// The clock is read in an expression, or a block has another clock.
     ClockRead,
+    /// Something has more than 128 bits.
     TooWide,
+    /// An assignment drives what is no wire, or a block assigns what is no register or memory.
     BadTarget,
 }
 

@@ -22,6 +22,7 @@ abbrev pub Stops : List Token → List Token → Type 0
 Stops read [] = (w : WrittenModule) → IsWritten w → spell w ≡ read → ⊥
 Stops read (t ∷ left) = CanBegin (read ++ t ∷ []) → ⊥
 
+-- tokens that begin a module within the limits, and the place at which no module goes on as the text does
 pub record IsSyntaxFault (text : List ℕ) (at : ℕ) : Type 0 where
   pub read : List Token
   pub left : List Token
@@ -31,6 +32,7 @@ pub record IsSyntaxFault (text : List ℕ) (at : ℕ) : Type 0 where
   pub stops : Stops read left
   pub place : IsPlaceOf text (length read) at
 
+-- the first token with which a limit is passed, in a text that begins a module up to it
 pub record IsDepthFault (text : List ℕ) (at : ℕ) : Type 0 where
   pub read : List Token
   pub deep : Token
@@ -45,6 +47,7 @@ pub record IsDepthFault (text : List ℕ) (at : ℕ) : Type 0 where
 abbrev pub IsBroken : WrittenModule → Rule → ℕ → Type 0
 IsBroken w rule token = IsFirst w rule token ⊎ ((rule ≡ Loop) × IsFirstLoop w token)
 
+-- a text that is written by the grammar within the limits, and the first rule that it breaks
 pub record IsJudgedFault (text : List ℕ) (rule : Rule) (at : ℕ) : Type 0 where
   pub written : WrittenModule
   pub spelled : tokens_of text ≡ spell written
@@ -61,6 +64,7 @@ pub data Verdict : Type 0 where
   IsTooDeep : (at : ℕ) → Verdict
   Breaks : (rule : Rule) (at : ℕ) → Verdict
 
+-- a verdict on a text is right: its module, a syntax fault, too great a depth, or a broken rule, with the place
 abbrev pub IsVerdict : List ℕ → Verdict → Type 0
 IsVerdict text (IsModule m) = HasModule text m
 IsVerdict text (IsSyntax at) = IsSyntaxFault text at

@@ -22,6 +22,7 @@ abbrev pub misfit_place : Source → Misfit → ℕ
 misfit_place s (Port n) = unwrap_or (slice_get s.ports_at n) s.name_at
 misfit_place s Lacks = s.name_at
 
+-- a misfit is told as a bad port at its place in the text
 abbrev pub misfit_at : Source → Result Ports Misfit → Result Ports VerilogFault
 misfit_at s (Ok ports) = Ok ports
 misfit_at s (Err misfit) = Err (BadPort (misfit_place s misfit))

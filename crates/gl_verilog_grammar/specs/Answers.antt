@@ -71,12 +71,15 @@ pub record Stand : Type 0 where
   pub place : Place
   pub counts : Counts
 
+-- where the reader stands: what was read, the place for counting, and the counts
 abbrev pub stand : Reading → Counter → Stand
 stand r c = record { state = view r; place = place_of c.place; counts = counts_of c }
 
+-- what reading gives from where the reader stands, over these tokens
 abbrev pub read_on : ℕ → Stand → List Token → Result WrittenModule Fault
 read_on at s tokens = read_from at s.state s.place s.counts tokens
 
+-- what reading gives over all tokens of a text
 abbrev pub read_all : List Token → Result WrittenModule Fault
 read_all tokens = read_from 0 start Header none_counted tokens
 
@@ -91,9 +94,11 @@ IsGiven (fault.Syntax at) place k run = (at ≡ place) × (run ≡ Err (Syntax k
 IsGiven (fault.TooDeep at) place k run = (at ≡ place) × (run ≡ Err (TooDeep k))
 IsGiven _ place k run = ⊥
 
+-- whatever follows, reading stops at this token with this fault
 abbrev pub StopsAt : VerilogFault → ℕ → Token → Stand → Type 0
 StopsAt e place t s = (at : ℕ) (ts : List Token) → IsGiven e place at (read_on at s (t ∷ ts))
 
+-- what code answers for tokens is what reading gives; want of memory may come with any
 abbrev pub IsRead : Result code.WrittenModule VerilogFault → List Lexeme → ℕ → Result WrittenModule Fault → Type 0
 IsRead (Ok w) lexemes end' run = run ≡ Ok (module_of w)
 IsRead (Err e) lexemes end' run = (k : ℕ) × IsGiven e (place_in lexemes end' k) k run

@@ -11,6 +11,7 @@ use Rattle.gl_verilog_grammar.specs.declared.counting.Weight.{Weight}
 use Rattle.gl_verilog_grammar.specs.declared.counting.Weight.TheVariants as weight_is
 use Rattle.gl_verilog_grammar.specs.declared.counting.Counter.{Counter}
 
+-- the place for counting that the code's value stands for
 abbrev pub place_of : Place → marks.State
 place_of place_is.Header = marks.Header
 place_of place_is.Ground = marks.Ground
@@ -22,6 +23,7 @@ place_of (place_is.Index open') = marks.Index open'
 place_of (place_is.Test open') = marks.Test open'
 place_of place_is.Value = marks.Value
 
+-- what a token does in an expression, from the code's value
 abbrev pub turn_of : Turn → marks.Turn
 turn_of turn_is.Opening = marks.Opening
 turn_of turn_is.Closing = marks.Closing
@@ -29,6 +31,7 @@ turn_of turn_is.Operating = marks.Operating
 turn_of turn_is.Ending = marks.Ending
 turn_of turn_is.Going = marks.Going
 
+-- what a token counts for, from the code's value
 abbrev pub weight_of : Weight → counts.Role
 weight_of weight_is.Opens = counts.Opens
 weight_of weight_is.Closes = counts.Closes
@@ -45,9 +48,11 @@ depth_of (marks.Index open') = open'
 depth_of (marks.Test open') = open'
 depth_of place = 0
 
+-- how many brackets are open inside the one that the place is in
 abbrev pub depth_at : Place → ℕ
 depth_at place = depth_of (place_of place)
 
+-- the counts that the code's counter stands for
 abbrev pub counts_of : Counter → counts.Counts
 counts_of c = record { brackets = c.brackets; operators = c.operators; ifs = c.ifs }
 

@@ -12,14 +12,17 @@ pub data Fault : Type 0 where
   Syntax : (at : ℕ) → Fault
   TooDeep : (at : ℕ) → Fault
 
+-- what is there, or else this fault
 abbrev pub or_fault : {A : Type 0} → Option A → Fault → Result A Fault
 or_fault None f = Err f
 or_fault (Some x) f = Ok x
 
+-- a limit that is passed is a fault at this place
 abbrev pub if_past : {A : Type 0} → Bool → ℕ → Result A Fault → Result A Fault
 if_past true at r = Err (TooDeep at)
 if_past false at r = r
 
+-- goes on where a token could stand there; where not, the grammar is broken at this place
 abbrev pub then_read : {A B : Type 0} → ℕ → Option A → (A → Result B Fault) → Result B Fault
 then_read at None f = Err (Syntax at)
 then_read at (Some x) f = f x

@@ -21,6 +21,7 @@ use Rattle.gl_verilog_grammar.specs.declared.stage.Role.TheVariants as role_name
 use Rattle.gl_verilog_grammar.specs.declared.reading.Reading.{Reading}
 use Rattle.gl_verilog_syntax.specs.View.{prefix_of, infix_of, expr_of, statement_of, name_of, names_of, range_of, direction_of, port_of, item_of}
 
+-- what a sign does behind an operand, from the code's value
 abbrev pub role_is : Role → machine.Role
 role_is (role_name.IsInfix op) = machine.IsInfix (infix_of op)
 role_is role_name.IsQuestion = machine.IsQuestion
@@ -33,6 +34,7 @@ role_is role_name.IsSemicolon = machine.IsSemicolon
 role_is role_name.IsIndex = machine.IsIndex
 role_is role_name.IsOther = machine.IsOther
 
+-- what is open, from the code's frame
 unfoldable pub frame_of : Frame → machine.Frame
 frame_of frame_is.InParens = machine.InParens
 frame_of (frame_is.InBraces at parts) = machine.InBraces (map expr_of parts.items)
@@ -51,11 +53,13 @@ frame_of (frame_is.ElseOf at test yes') = machine.ElseOf (expr_of test.value) (s
 frame_of (frame_is.InBegin done) = machine.InBegin (map statement_of done.items)
 frame_of (frame_is.BodyOf clock) = machine.BodyOf (name_of clock)
 
+-- what a finished statement does, from the code's value
 unfoldable pub stated_of : Stated → machine.Stated
 stated_of (stated_is.InList done) = machine.InList (map statement_of done.items)
 stated_of (stated_is.AsBody clock body) = machine.AsBody (written.Always (name_of clock) (statement_of body.value))
 stated_of stated_is.Nowhere = machine.Nowhere
 
+-- what a closed frame made, from the code's value
 unfoldable pub closed_of : Closed → machine.Closed
 closed_of (closed_is.AnOperand operand) = machine.AnOperand (expr_of operand.value)
 closed_of (closed_is.ATest at test) = machine.ATest (expr_of test.value)
@@ -69,17 +73,21 @@ closed_of (closed_is.AnotherPart at test yes') =
 closed_of (closed_is.FurtherParts at parts) = machine.Further (machine.InBraces (map expr_of parts.items))
 closed_of closed_is.Unclosed = machine.Unclosed
 
+-- the open frames from the code's stack, the innermost first
 abbrev pub frames_of : List Frame → List machine.Frame
 frames_of frames = map frame_of (reverse frames)
 
+-- what a list of names declares, from the code's value
 abbrev pub sort_of : Sort → machine.Sort
 sort_of sort_is.WireSort = machine.WireSort
 sort_of sort_is.RegisterSort = machine.RegisterSort
 
+-- what a range and a name belong to, from the code's value
 abbrev pub owner_of : Owner → machine.Owner
 owner_of (owner_is.OfPort direction) = machine.OfPort (direction_of direction)
 owner_of (owner_is.OfItem sort) = machine.OfItem (sort_of sort)
 
+-- what is wanted or was read last, for stages that hold no tree
 unfoldable pub plain_of : Plain → machine.Stage
 plain_of plain_is.WantModule = machine.WantModule
 plain_of plain_is.WantTitle = machine.WantTitle
@@ -117,6 +125,7 @@ plain_of (plain_is.WantLow name high) = machine.WantLow (name_of name) (name_of 
 plain_of (plain_is.AtPart name high low) = machine.AtPart (name_of name) (name_of high) (name_of low)
 plain_of plain_is.Complete = machine.Complete
 
+-- what is wanted or was read last, from the code's value
 unfoldable pub stage_of : Stage → machine.Stage
 stage_of (stage_is.Plain plain) = plain_of plain
 stage_of (stage_is.AfterName sort range names) =
@@ -126,6 +135,7 @@ stage_of (stage_is.WantArrow target address) = machine.WantArrow (name_of target
 stage_of (stage_is.HaveStatement statement) = machine.HaveStatement (statement_of statement.value)
 stage_of (stage_is.HaveOperand operand) = machine.HaveOperand (expr_of operand.value)
 
+-- the state of reading, from the code's value
 unfoldable pub view : Reading → machine.State
 view r = record {
   name = name_of r.name;

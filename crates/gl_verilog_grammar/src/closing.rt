@@ -17,25 +17,42 @@ use std::mem;
 /// other part of a conditional, further parts.
 #[derive(Drop)]
 pub enum Closed<'a> {
+    /// An operand is complete: brackets or braces, or a word of a memory.
     AnOperand(Box<WrittenExpr<'a>>),
+    /// The condition of an `if` is complete; the number is the place of `if`.
     ATest(usize, Box<WrittenExpr<'a>>),
+    /// The address of a word that takes a value is complete, behind its memory's name.
     AnAddress(Word<'a>, Box<WrittenExpr<'a>>),
+    /// An assignment is complete: its target and its value.
     AnAssignment(Word<'a>, Box<WrittenExpr<'a>>),
+    /// An update of a register is complete: its target and its value.
     AnUpdate(Word<'a>, Box<WrittenExpr<'a>>),
+    /// An update of a memory's word is complete.
     AWordUpdate {
+        /// The name of the memory.
         target: Word<'a>,
+        /// The address of the word.
         address: Box<WrittenExpr<'a>>,
+        /// What the word takes.
         value: Box<WrittenExpr<'a>>,
     },
+    /// Behind the colon of a conditional its last part comes.
     AnotherPart {
+        /// The place of `?`.
         at: usize,
+        /// The test.
         test: Box<WrittenExpr<'a>>,
+        /// The value where the test is 1.
         yes: Box<WrittenExpr<'a>>,
     },
+    /// Behind a comma in braces a further part comes.
     FurtherParts {
+        /// The place of the opening brace.
         at: usize,
+        /// The parts that are complete.
         parts: Vec<WrittenExpr<'a>>,
     },
+    /// The sign closes nothing that is open.
     Unclosed,
 }
 

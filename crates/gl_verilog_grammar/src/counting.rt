@@ -41,10 +41,15 @@ pub enum Place {
 /// What a token does in an expression.
 #[derive(Clone, Copy)]
 pub enum Turn {
+    /// It opens a bracket.
     Opening,
+    /// It closes a bracket.
     Closing,
+    /// It is an operator, or `?`.
     Operating,
+    /// It is a `;`.
     Ending,
+    /// It only goes on.
     Going,
 }
 

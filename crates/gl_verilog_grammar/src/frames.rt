@@ -16,48 +16,83 @@ use std::mem;
 /// statements.
 #[derive(Drop)]
 pub enum Frame<'a> {
+    /// Brackets around an expression.
     InParens,
+    /// Braces around parts.
     InBraces {
+        /// The place of the opening brace.
         at: usize,
+        /// The parts that are complete.
         parts: Vec<WrittenExpr<'a>>,
     },
+    /// The brackets behind the name of a memory that is read.
     InIndex(Word<'a>),
+    /// A prefix operator that waits for its operand.
     PrefixOf {
+        /// The operator.
         op: PrefixOp,
+        /// The place of the operator.
         at: usize,
     },
+    /// An operator that waits for its right operand.
     InfixOf {
+        /// The operator.
         op: InfixOp,
+        /// The place of the operator.
         at: usize,
+        /// Its left operand.
         left: Box<WrittenExpr<'a>>,
     },
+    /// A conditional that waits for its first value.
     TestOf {
+        /// The place of `?`.
         at: usize,
+        /// The test.
         test: Box<WrittenExpr<'a>>,
     },
+    /// A conditional that waits for its second value.
     ColonOf {
+        /// The place of `?`.
         at: usize,
+        /// The test.
         test: Box<WrittenExpr<'a>>,
+        /// The first value.
         yes: Box<WrittenExpr<'a>>,
     },
+    /// An assignment of this target that waits for its value.
     AssignTo(Word<'a>),
+    /// An update of this register that waits for its value.
     UpdateTo(Word<'a>),
+    /// The brackets behind the name of a memory that is written.
     AddressFor(Word<'a>),
+    /// An update of a memory's word that waits for its value.
     UpdateWordTo {
+        /// The name of the memory.
         target: Word<'a>,
+        /// The address of the word.
         address: Box<WrittenExpr<'a>>,
     },
+    /// The brackets behind an `if`, which stands at this place.
     IfTest(usize),
+    /// An `if` that waits for its first branch.
     ThenOf {
+        /// The place of `if`.
         at: usize,
+        /// The condition.
         test: Box<WrittenExpr<'a>>,
     },
+    /// An `if` that waits for its second branch.
     ElseOf {
+        /// The place of `if`.
         at: usize,
+        /// The condition.
         test: Box<WrittenExpr<'a>>,
+        /// The first branch.
         yes: Box<WrittenStatement<'a>>,
     },
+    /// A list between `begin` and `end`, with the statements that are complete.
     InBegin(Vec<WrittenStatement<'a>>),
+    /// A block that is clocked by this name and waits for its body.
     BodyOf(Word<'a>),
 }
 
@@ -277,8 +312,11 @@ pub(crate) fn take_else<'a>(
 /// What a whole statement goes to: the list of its block, or the item that it is the body of.
 #[derive(Drop)]
 pub enum Stated<'a> {
+    /// It lengthens the list of its block, which now has these statements.
     InList(Vec<WrittenStatement<'a>>),
+    /// It is the body of the block that is clocked by this name.
     AsBody(Word<'a>, Box<WrittenStatement<'a>>),
+    /// Nothing that is open takes a statement.
     Nowhere,
 }
 

@@ -12,79 +12,133 @@ use gl_verilog_syntax::{
 /// What a list of names declares.
 #[derive(Clone, Copy)]
 pub enum Sort {
+    /// Wires.
     WireSort,
+    /// Registers.
     RegisterSort,
 }
 
 /// What a range and a name belong to.
 #[derive(Clone, Copy)]
 pub enum Owner {
+    /// A port of this direction.
     OfPort(Direction),
+    /// An item that declares names of this sort.
     OfItem(Sort),
 }
 
 /// What was read last, or is wanted next, where words alone are held.
 #[derive(Clone, Copy)]
 pub enum Plain<'a> {
+    /// `module`
     WantModule,
+    /// The name of the module.
     WantTitle,
+    /// `(` before the ports.
     WantPorts,
+    /// `input` or `output`.
     WantPort,
+    /// Behind the word that begins a declaration: another word, a range, or a name.
     Declaring(Owner),
+    /// The highest bit of a range.
     WantHigh(Owner),
+    /// `:` behind the highest bit.
     WantColon(Owner, Word<'a>),
+    /// `0` behind the colon.
     WantZero(Owner, Word<'a>),
+    /// `]` behind the range.
     WantClose(Owner, Word<'a>),
+    /// The name behind the range, if there was one.
     WantName(Owner, Option<Word<'a>>),
+    /// `,` or `)` behind a port.
     AfterPort,
+    /// `;` behind the ports.
     AfterPorts,
+    /// `0` behind a memory's bracket; the range and the name were read.
     WantFirst(Option<Word<'a>>, Word<'a>),
+    /// `:` behind that `0`.
     WantMemoryColon(Option<Word<'a>>, Word<'a>),
+    /// The last address of a memory.
     WantLast(Option<Word<'a>>, Word<'a>),
+    /// `]` behind a memory's last address.
     WantMemoryClose(Option<Word<'a>>, Word<'a>, Word<'a>),
+    /// `;` behind a memory.
     WantMemoryEnd(Option<Word<'a>>, Word<'a>, Word<'a>),
+    /// The word that begins an item, or `endmodule`.
     WantItem,
+    /// The target behind `assign`.
     WantAssigned,
+    /// `=` behind this target.
     WantEquals(Word<'a>),
+    /// `@` behind `always`.
     WantAt,
+    /// `(` behind `@`.
     WantEdge,
+    /// `posedge`
     WantPosedge,
+    /// The name of the clock.
     WantClock,
+    /// `)` behind this clock.
     WantEdgeEnd(Word<'a>),
+    /// A statement.
     WantStatement,
+    /// `<=` or `[` behind this target.
     AfterTarget(Word<'a>),
+    /// `(` behind an `if`, which stands at this place.
     WantTest(usize),
+    /// An operand.
     WantOperand,
+    /// A number or an address behind this name and `[`.
     AtIndex(Word<'a>),
+    /// `:` or `]` behind this name, `[` and a number.
     AtPlace(Word<'a>, Word<'a>),
+    /// The lowest bit behind this name, the highest bit and `:`.
     WantLow(Word<'a>, Word<'a>),
+    /// `]` behind this name, its highest and its lowest bit.
     AtPart(Word<'a>, Word<'a>, Word<'a>),
+    /// Nothing more: `endmodule` was read.
     Complete,
 }
 
 /// What was read last, or is wanted next.
 #[derive(Drop)]
 pub enum Stage<'a> {
+    /// What is wanted where words alone are held.
     Plain(Plain<'a>),
+    /// `,` or `;` behind a list of names, or `[` behind the single name of a memory.
     AfterName(Sort, Option<Word<'a>>, Vec<Word<'a>>),
+    /// Another name behind a comma.
     WantMore(Sort, Option<Word<'a>>, Vec<Word<'a>>),
+    /// `<=` behind a memory's name and the address in brackets.
     WantArrow(Word<'a>, Box<WrittenExpr<'a>>),
+    /// What may stand behind this statement.
     HaveStatement(Box<WrittenStatement<'a>>),
+    /// What may stand behind this operand.
     HaveOperand(Box<WrittenExpr<'a>>),
 }
 
 /// What a sign does behind an operand.
 #[derive(Clone, Copy)]
 pub enum Role {
+    /// It is this operator between two operands.
     IsInfix(InfixOp),
+    /// It ends the test of a conditional.
     IsQuestion,
+    /// It ends the first value of a conditional.
     IsColon,
+    /// It ends a part in braces.
     IsComma,
+    /// It closes braces.
     IsBrace,
+    /// It closes `(`.
     IsParen,
+    /// It closes `[`.
     IsBracket,
+    /// It ends an assignment or an update.
     IsSemicolon,
+    /// It opens an index.
     IsIndex,
+    /// It cannot stand there.
     IsOther,
 }
 

@@ -17,6 +17,7 @@ nets_in (Join low_width high low) = nets_in high ++ nets_in low
 nets_in (Select high low n) = n ∷ []
 nets_in (Read memory address) = nets_in address
 
+-- a net is among those that were found
 abbrev pub is_found : List ℕ → ℕ → Bool
 is_found found n = list_any (nat_eq n) found
 
@@ -24,6 +25,7 @@ is_found found n = list_any (nat_eq n) found
 abbrev pub with_net : List ℕ → ℕ → List ℕ
 with_net found n = if is_found found n then found else found ++ n ∷ []
 
+-- the nets that were found, with those that an expression names
 abbrev pub with_nets : List ℕ → Expr → List ℕ
 with_nets found value = fold with_net found (nets_in value)
 
@@ -101,6 +103,7 @@ pub record IsFirstLooped (assignments : List Assignment) (i : ℕ) : Type 0 wher
   pub free : AllByRecursion (λ a. IsLooped assignments a.target → ⊥) front
   pub loops : IsLooped assignments looped.target
 
+-- no assignment's target depends on itself
 abbrev pub IsFree : List Assignment → Type 0
 IsFree assignments = AllByRecursion (λ a. IsLooped assignments a.target → ⊥) assignments
 

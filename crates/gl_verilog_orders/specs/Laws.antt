@@ -15,7 +15,7 @@ pub record Rests (m : Module) (s : State) : Type 0 where
 abbrev pub ComesToRest : Module → Type 0
 ComesToRest m = (s t : State) → Schedule m s t → Rests m t
 
--- and none goes on for ever
+-- no schedule of events goes on for ever
 abbrev pub Ends : Module → Type 0
 Ends m = (s : ℕ → State) → ((n : ℕ) → Step m (s n) (s (suc n))) → ⊥
 
@@ -79,5 +79,6 @@ pub record IsSeen (m : Module) (value : ℕ → Nets) (word : ℕ → Memories) 
   pub same : (t : ℕ) → SameNets m.declarations (value t) (value' t)
       × SameState m.declarations (value t) (word t) (value' t) (word' t)
 
+-- every two-phase run of a module is seen in some order of its events
 abbrev pub RunsAreSeen : Module → Type 0
 RunsAreSeen m = (value : ℕ → Nets) (word : ℕ → Memories) → IsRun m value word → IsSeen m value word

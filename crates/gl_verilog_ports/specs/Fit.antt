@@ -20,6 +20,7 @@ is_among ports name width =
     unwrap_or (option_map (λ (p : ProfilePort). nat_eq p.width width)
     (find (λ (p : ProfilePort). bytes_eq p.name name) ports)) false
 
+-- an input that the schema has, with the same width, or the clock
 abbrev pub is_asked : Schema → Declaration → Bool
 is_asked schema d = is_among (inputs schema) d.name d.width
 
@@ -28,6 +29,7 @@ abbrev pub is_line_name : List ℕ → Bool
 is_line_name name =
     bytes_eq name out_valid || (bytes_eq name out_eos || (bytes_eq name fault_group || bytes_eq name fault_queue))
 
+-- an output of one bit
 abbrev pub is_line : Declaration → Bool
 is_line d = is_output d.kind && nat_eq d.width 1
 
@@ -49,12 +51,13 @@ first_bad schema n columns [] = None
 first_bad schema n columns (d ∷ ds) =
     if is_bad schema columns d then Some n else first_bad schema (n + 1) (with_port columns d) ds
 
--- the number of the input of a name, and of the output
+-- the place of the input of a name among the ports
 abbrev pub input_at : List Declaration → List ℕ → Option ℕ
 input_at [] name = None
 input_at (d ∷ ds) name =
     if is_input d.kind && bytes_eq d.name name then Some 0 else option_map (λ n. n + 1) (input_at ds name)
 
+-- the place of the output of a name among the ports
 abbrev pub output_at : List Declaration → List ℕ → Option ℕ
 output_at [] name = None
 output_at (d ∷ ds) name =
@@ -77,6 +80,7 @@ with_needed (Some c) (Some v) None reset input_end ticks group queue = Err Lacks
 with_needed (Some c) None e reset input_end ticks group queue = Err Lacks
 with_needed None v e reset input_end ticks group queue = Err Lacks
 
+-- the ports of a schema and a result as places, or that one that must be there is lacking
 abbrev pub found_in : List Declaration → Result Ports Misfit
 found_in ports =
     with_needed (input_at ports clk) (output_at ports out_valid) (output_at ports out_eos)
@@ -87,5 +91,6 @@ abbrev pub unless_bad : Option ℕ → Result Ports Misfit → Result Ports Misf
 unless_bad (Some n) found = Err (Port n)
 unless_bad None found = found
 
+-- where the ports of a module are, or the first that does not fit the schema
 abbrev pub fit_of : Module → Schema → Result Ports Misfit
 fit_of m schema = unless_bad (first_bad schema 0 0 (ports_of m)) (found_in (ports_of m))

@@ -13,9 +13,11 @@ use Rattle.gl_verilog.specs.Widths.{is_clock}
 abbrev pub input_width : Schema → List ℕ → Option ℕ
 input_width schema name = option_map (λ p. p.width) (find (λ p. bytes_eq p.name name) (input_ports true schema))
 
+-- the declarations of a module's ports, in their order
 abbrev pub ports_of : Module → List Declaration
 ports_of m = take m.ports m.declarations
 
+-- a declaration is an output, driven by an assignment or a register
 abbrev pub is_output : Kind → Bool
 is_output OutputWire = true
 is_output OutputRegister = true
@@ -31,9 +33,11 @@ shows_column d =
 abbrev pub result_ports : Module → List Declaration
 result_ports m = filter shows_column (ports_of m)
 
+-- the names of the ports that show the columns of a result
 abbrev pub result_names : Module → List (List ℕ)
 result_names m = map (λ (d : Declaration). d.name) (result_ports m)
 
+-- the widths of the ports that show the columns of a result
 abbrev pub result_widths : Module → List ℕ
 result_widths m = map (λ (d : Declaration). d.width) (result_ports m)
 
@@ -90,6 +94,7 @@ abbrev pub declared_kind : Direction → Kind
 declared_kind In = Input
 declared_kind Out = OutputWire
 
+-- the declaration that a port of the profile has in a module
 abbrev pub declared : ProfilePort → Declaration
 declared p = record { name = p.name; width = p.width; is_vector = not (p.width == 1); kind = declared_kind p.direction }
 

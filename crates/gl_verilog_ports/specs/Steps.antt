@@ -15,12 +15,13 @@ behind [] name = Some name
 behind (x ∷ front) [] = None
 behind (x ∷ front) (y ∷ name) = if x == y then behind front name else None
 
--- the name of a stream's valid line, and of a column
+-- a name is `in__`, a stream, and `__valid`
 abbrev pub is_valid_name : List ℕ → List ℕ → Bool
 is_valid_name stream name =
     option_map_or (λ rest. option_map_or (λ last. bytes_eq (codes "__valid") last) (behind stream rest) false)
     (behind (codes "in__") name) false
 
+-- a name is `in__`, a stream, `__` and a column
 abbrev pub is_column_name : List ℕ → List ℕ → List ℕ → Bool
 is_column_name stream column name =
     option_map_or (λ rest. option_map_or (λ more. option_map_or (λ last. bytes_eq column last)
@@ -33,10 +34,12 @@ among_columns stream (c ∷ cs) name width =
     if is_column_name stream c.name name then Some (nat_eq (width_of c.kind) width)
     else among_columns stream cs name width
 
+-- whether a name of a stream's port has this width; nothing where the stream has no such port
 abbrev pub among_stream : Stream → List ℕ → ℕ → Option Bool
 among_stream s name width =
     if is_valid_name s.name name then Some (nat_eq 1 width) else among_columns s.name s.columns name width
 
+-- whether a name of some stream's port has this width; nothing where no stream has such a port
 abbrev pub among_streams : List Stream → List ℕ → ℕ → Option Bool
 among_streams [] name width = None
 among_streams (s ∷ ss) name width = option_or (among_stream s name width) (among_streams ss name width)
@@ -46,6 +49,7 @@ abbrev pub is_end_or_tick : List ℕ → ℕ → Bool
 is_end_or_tick name width =
     if bytes_eq eos name then nat_eq 1 width else if bytes_eq tick name then nat_eq 1 width else false
 
+-- a name and a width are those of the clock, the reset, a stream's port, the end or the tick
 abbrev pub is_asked : Schema → List ℕ → ℕ → Bool
 is_asked schema name width =
     if bytes_eq clk name then nat_eq 1 width else if bytes_eq rst name then nat_eq 1 width

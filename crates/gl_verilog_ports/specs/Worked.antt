@@ -9,16 +9,20 @@ use Rattle.gl_verilog_ports.specs.declared.fitting.Misfit.{Misfit}
 use Rattle.gl_verilog_ports.specs.declared.fitting.Misfit.TheVariants.{Port, Lacks}
 use Rattle.gl_verilog_ports.specs.Fit.{input_at, fit_of}
 
+-- a schema of one stream `s` with one column `v` of eight bits
 abbrev pub schema : Schema
 schema =
     record { streams = record { name = codes "s"; columns = record { name = codes "v"; kind = Unsigned 8 } ∷ [] } ∷ [] }
 
+-- a declared port of this kind, name and width
 abbrev pub port : Kind → List ℕ → ℕ → Declaration
 port kind name width = record { name = name; width = width; is_vector = true; kind = kind }
 
+-- an input of this name and width
 abbrev pub input : List ℕ → ℕ → Declaration
 input name width = port Input name width
 
+-- an output of this name and width
 abbrev pub output : List ℕ → ℕ → Declaration
 output name width = port OutputWire name width
 
@@ -26,6 +30,7 @@ output name width = port OutputWire name width
 abbrev pub over : List Declaration → Module
 over ports = record { name = codes "t"; ports = length ports; declarations = ports; assignments = []; blocks = [] }
 
+-- which ports are found in a header over the schema, or the first that does not fit
 abbrev pub fit : List Declaration → Result Ports Misfit
 fit ports = fit_of (over ports) schema
 
@@ -38,6 +43,7 @@ abbrev pub letters : ℕ → List ℕ
 letters zero = []
 letters (suc n) = 99 ∷ letters n
 
+-- this many output columns, each with a name of its own
 abbrev pub columns : ℕ → List Declaration
 columns zero = []
 columns (suc n) = output (codes "out__" ++ letters (suc n)) 1 ∷ columns n
@@ -60,6 +66,7 @@ whole =
     (codes "out__valid") 1
     ∷ output (codes "fault__group") 1 ∷ output (codes "debug") 100 ∷ []
 
+-- what is found in worked headers, and which port is told as the first misfit
 pub record WorkedPorts : Type 0 where
   pub all : fit whole ≡ Ok (record {
     clock = 1;

@@ -25,6 +25,7 @@ use Rattle.gl_verilog_syntax.specs.declared.written.WrittenModule.{WrittenModule
 
 -- ---- tokens
 
+-- the reserved word that the code's value names
 abbrev pub keyword_of : Keyword → tokens.Keyword
 keyword_of keyword_is.Module = tokens.ModuleWord
 keyword_of keyword_is.EndModule = tokens.EndModuleWord
@@ -40,6 +41,7 @@ keyword_of keyword_is.End = tokens.EndWord
 keyword_of keyword_is.If = tokens.IfWord
 keyword_of keyword_is.Else = tokens.ElseWord
 
+-- the sign that the code's value names
 abbrev pub sign_of : Sign → tokens.Sign
 sign_of sign_is.OpenParen = tokens.OpenParen
 sign_of sign_is.CloseParen = tokens.CloseParen
@@ -70,6 +72,7 @@ sign_of sign_is.ExclamationEquals = tokens.ExclamationEquals
 sign_of sign_is.AmpersandAmpersand = tokens.AmpersandAmpersand
 sign_of sign_is.BarBar = tokens.BarBar
 
+-- the token that the code's value stands for
 abbrev pub token_of : Token → tokens.Token
 token_of (token_is.Reserved word) = tokens.Reserved (keyword_of word)
 token_of (token_is.Name word) = tokens.Name word.bytes.now
@@ -78,15 +81,18 @@ token_of (token_is.Sized size radix digits) = tokens.Sized size.bytes.now radix 
 token_of (token_is.Mark sign) = tokens.Mark (sign_of sign)
 token_of token_is.Never = tokens.Never
 
+-- the tokens of the code's list, without their places
 abbrev pub tokens_in : List Lexeme → List tokens.Token
 tokens_in lexemes = map (λ l. token_of l.token) lexemes
 
 -- ---- written modules
 
+-- the prefix operator that the code's value names
 abbrev pub prefix_of : PrefixOp → written.PrefixOp
 prefix_of prefix_is.BitNot = written.BitNot
 prefix_of prefix_is.LogicalNot = written.LogicalNot
 
+-- the operator between two operands that the code's value names
 abbrev pub infix_of : InfixOp → written.InfixOp
 infix_of infix_is.Times = written.Times
 infix_of infix_is.Added = written.Added
@@ -110,6 +116,7 @@ parts_list (p ∷ []) = p
 parts_list (p ∷ q ∷ ps) = written.Parts p (parts_list (q ∷ ps))
 
 unfoldable mutual
+  -- the written expression that a boxed one stands for
   pub expr_of : WrittenExpr → written.WrittenExpr
   expr_of (Named name) = written.Named name.bytes.now
   expr_of (Constant size radix digits) = written.Constant size.bytes.now radix digits.bytes.now
@@ -122,11 +129,13 @@ unfoldable mutual
   expr_of (Infix' op at p left q right) = written.Infix (infix_of op) (expr_of left) (expr_of right)
   expr_of (Conditional' at p test q yes' r no') = written.Conditional (expr_of test) (expr_of yes') (expr_of no')
 
+  -- the written expressions of a row, in their order
   pub exprs_of : {m : _} → Row_of-WrittenExpr m → List written.WrittenExpr
   exprs_of end_of-WrittenExpr = []
   exprs_of (more_of-WrittenExpr e rest) = expr_of e ∷ exprs_of rest
 
 unfoldable mutual
+  -- the written statement that a boxed one stands for
   pub statement_of : WrittenStatement → written.WrittenStatement
   statement_of (Update target value) = written.Update target.bytes.now (expr_of value)
   statement_of (UpdateWord target address value) = written.UpdateWord target.bytes.now (expr_of address) (expr_of value)
@@ -134,19 +143,24 @@ unfoldable mutual
   statement_of (IfElse' at test p yes' q no') = written.IfElse (expr_of test) (statement_of yes') (statement_of no')
   statement_of (Block' shape row) = written.Block (written.listed (statements_of row))
 
+  -- the written statements of a row, in their order
   pub statements_of : {m : _} → Row_of-WrittenStatement m → List written.WrittenStatement
   statements_of end_of-WrittenStatement = []
   statements_of (more_of-WrittenStatement s rest) = statement_of s ∷ statements_of rest
 
+-- the bytes of a word
 abbrev pub name_of : Word → List ℕ
 name_of word = word.bytes.now
 
+-- the bytes of each word
 abbrev pub names_of : List Word → List (List ℕ)
 names_of words = map name_of words
 
+-- the digits of a range's high bit, where there is a range
 abbrev pub range_of : Option Word → written.Range
 range_of range = option_map name_of range
 
+-- the direction that the code's value names
 abbrev pub direction_of : Direction → written.Direction
 direction_of direction_is.In = written.In
 direction_of direction_is.InWire = written.InWire
@@ -154,9 +168,11 @@ direction_of direction_is.Out = written.Out
 direction_of direction_is.OutWire = written.OutWire
 direction_of direction_is.OutReg = written.OutReg
 
+-- the written port that the code's value stands for
 unfoldable pub port_of : WrittenPort → written.WrittenPort
 port_of p = record { direction = direction_of p.direction; range = range_of p.range; name = name_of p.name }
 
+-- the written item that the code's value stands for
 unfoldable pub item_of : WrittenItem → written.WrittenItem
 item_of (item_is.Wires range names) = written.Wires (range_of range) (names_of names.items)
 item_of (item_is.Registers range names) = written.Registers (range_of range) (names_of names.items)
@@ -164,5 +180,6 @@ item_of (item_is.MemoryOf range name last) = written.MemoryOf (range_of range) (
 item_of (item_is.Assign target value) = written.Assign (name_of target) (expr_of value)
 item_of (item_is.Always clock body) = written.Always (name_of clock) (statement_of body)
 
+-- the written module that the code's value stands for
 abbrev pub module_of : WrittenModule → written.WrittenModule
 module_of m = record { name = name_of m.name; ports = map port_of m.ports.items; items = map item_of m.items.items }

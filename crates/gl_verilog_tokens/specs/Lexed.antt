@@ -9,6 +9,7 @@ use Rattle.gl_verilog_tokens.specs.declared.classes.Follow.{Follow}
 use Rattle.gl_verilog_tokens.specs.declared.classes.Follow.TheVariants as follow_name
 use Rattle.gl_verilog_syntax.specs.View.{token_of}
 
+-- the class of a byte, from the code's value
 abbrev pub class_is : Class → tokens.Class
 class_is class_name.Letter = tokens.Letter
 class_is class_name.Digit = tokens.Digit
@@ -18,6 +19,7 @@ class_is class_name.LineEnd = tokens.LineEnd
 class_is class_name.Opens = tokens.Opens
 class_is class_name.Alone = tokens.Alone
 
+-- what two bytes make, from the code's value
 abbrev pub follow_is : Follow → tokens.Follow
 follow_is (follow_name.Pair token) = tokens.IsPair (token_of token)
 follow_is follow_name.Line = tokens.IsLine

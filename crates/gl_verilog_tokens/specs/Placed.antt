@@ -5,6 +5,7 @@ use Rattle.gl_verilog_syntax.specs.declared.token.Lexeme.{Lexeme}
 use Rattle.gl_verilog_tokens.specs.declared.lexing.Standing.{Standing}
 use Rattle.gl_verilog_tokens.specs.declared.lexing.Standing.TheVariants as standing_is
 
+-- the places of tokens in their order
 abbrev pub places_in : List Lexeme → List ℕ
 places_in lexemes = map (λ l. l.at) lexemes
 

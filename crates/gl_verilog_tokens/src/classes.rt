@@ -11,21 +11,32 @@ use gl_verilog_syntax::{Keyword, Sign, Token, digit_of};
 /// What a byte is between tokens.
 #[derive(Clone, Copy)]
 pub enum Class {
+    /// A letter or `_`, which may begin a name.
     Letter,
+    /// A decimal digit.
     Digit,
+    /// The quote between the size and the base of a literal.
     Quote,
+    /// A space, a tab or a carriage return.
     Blank,
+    /// A line feed.
     LineEnd,
+    /// A byte that may begin a sign of two bytes or a comment.
     Opens,
+    /// A sign of one byte, or a byte of no token.
     Alone,
 }
 
 /// What two bytes make: a token, a comment, or nothing new.
 #[derive(Clone, Copy)]
 pub enum Follow<'a> {
+    /// A sign of two bytes, as this token.
     Pair(Token<'a>),
+    /// A comment up to the end of the line.
     Line,
+    /// A comment up to `*/`.
     Block,
+    /// Nothing: the second byte begins something of its own.
     New,
 }
 

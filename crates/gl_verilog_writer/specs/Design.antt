@@ -37,9 +37,11 @@ port_name ports place = option_map_or (λ p. p.name) (slice_get ports place) []
 
 -- ---- nodes
 
+-- the width of what a node carries, or of a memory's words
 abbrev pub node_width : Node → ℕ
 node_width x = bits_of (Some (shape_of x))
 
+-- the operator in Verilog for an operator of a netlist
 abbrev pub infix_of : BinaryOp → InfixOp
 infix_of Add = Added
 infix_of Sub = Subtracted
@@ -52,12 +54,15 @@ infix_of Ne = NotEqual
 infix_of Lt = Below
 infix_of Le = AtMost
 
+-- the net of a node as an expression
 abbrev pub named : ℕ → ℕ → WrittenExpr
 named family node = Named (net_name family node)
 
+-- a literal in decimal, with its size in front
 abbrev pub literal : ℕ → ℕ → WrittenExpr
 literal value width = written.Constant (decimal width) 10 (decimal value)
 
+-- the range of a vector of this width
 abbrev pub vector : ℕ → Range
 vector width = Some (decimal (width - 1))
 
@@ -98,6 +103,7 @@ does family n x = None
 
 -- ---- the module
 
+-- a list with one more in front, where there is one
 abbrev pub with_option : {A : Type 0} → Option A → List A → List A
 with_option None ys = ys
 with_option (Some y) ys = y ∷ ys
@@ -107,12 +113,15 @@ abbrev pub numbered : {A B : Type 0} → (ℕ → A → Option B) → ℕ → Li
 numbered f n [] = []
 numbered f n (x ∷ xs) = with_option (f n x) (numbered f (n + 1) xs)
 
+-- every node declares a net or a memory
 abbrev pub declaring : ℕ → ℕ → Node → Option WrittenItem
 declaring family n x = Some (declares family n x)
 
+-- the assignment that drives a node's net, for nodes that one drives
 abbrev pub assigning : ℕ → List Port → ℕ → Node → Option WrittenItem
 assigning family ports n x = option_map (Assign (net_name family n)) (takes family ports x)
 
+-- an output port is assigned the net of its node; an input port shows nothing
 abbrev pub shows : ℕ → Direction → List ℕ → ℕ → Option WrittenItem
 shows family In name node = None
 shows family Out name node = Some (Assign name (named family node))
@@ -121,9 +130,11 @@ shows family Out name node = Some (Assign name (named family node))
 abbrev pub showing : ℕ → ℕ → Port → Option WrittenItem
 showing family place p = shows family p.direction p.name p.node
 
+-- the clocked block of a node, for registers and memories that something drives
 abbrev pub clocking : ℕ → ℕ → Node → Option WrittenItem
 clocking family n x = option_map (Always (codes "clk")) (does family n x)
 
+-- every port is declared as a wire
 abbrev pub leads : Direction → written.Direction
 leads In = written.InWire
 leads Out = written.OutWire
@@ -132,10 +143,12 @@ leads Out = written.OutWire
 abbrev pub range_of : ℕ → Range
 range_of width = if width == 1 then None else vector width
 
+-- a port of a netlist as it is written, with its node's width
 abbrev pub written_port : List Node → Port → WrittenPort
 written_port nodes p =
     record { direction = leads p.direction; range = range_of (bits_of (shape_in nodes p.node)); name = p.name }
 
+-- the clock's port, one bit that leads in
 abbrev pub clock_port : WrittenPort
 clock_port = record { direction = written.InWire; range = None; name = codes "clk" }
 
@@ -145,6 +158,7 @@ items_of family nodes ports =
     numbered (declaring family) 0 nodes ++ numbered (assigning family ports) 0 nodes ++ numbered (showing family)
     0 ports ++ numbered (clocking family) 0 nodes
 
+-- the written module of a netlist: the clock and its ports, then its items
 abbrev pub written_of : Net → WrittenModule
 written_of net = record {
   name = unwrap_or net.name [];

@@ -12,6 +12,7 @@ use Rattle.gl_verilog.specs.Cost.{register_bits, memory_bits}
 use Rattle.gl_verilog.specs.Run.{IsRun, port_of, input_values}
 use Rattle.gl_verilog.specs.Text.{HasModule}
 
+-- a port that leads in is an input, and one that leads out an output that an assignment drives
 abbrev pub kind_of : Direction → Kind
 kind_of In = Input
 kind_of Out = OutputWire

@@ -2,6 +2,7 @@
 use Rattle.std.specs.Prelude.{ℕ, List, [], ◌∷◌, ◌++◌, codes, Some, None}
 use Rattle.gl_verilog.specs.Written.{PrefixOp, BitNot, LogicalNot, InfixOp, Times, Added, Subtracted, Below, AtMost, Above, AtLeast, Equal, NotEqual, BitAnd, BitXor, BitOr, LogicalAnd, LogicalOr, WrittenExpr, Named, Constant, BitOf, PartOf, WordOf, Braces, Parts, Parens, Prefix, Infix, Conditional, WrittenStatement, Update, UpdateWord, IfThen, IfElse, Block, Listed, Ended, Direction, In, InWire, Out, OutWire, OutReg, Range, WrittenPort, WrittenItem, Wires, Registers, MemoryOf, Assign, Always, WrittenModule}
 
+-- how a prefix operator is printed
 abbrev pub prefix_text : PrefixOp → List ℕ
 prefix_text BitNot = codes "~"
 prefix_text LogicalNot = codes "!"
@@ -49,6 +50,7 @@ statement_text (Block statements) = codes "begin " ++ statement_text statements 
 statement_text (Listed first rest) = statement_text first ++ statement_text rest
 statement_text Ended = []
 
+-- how a range is printed, with a space behind it; nothing for a single bit
 abbrev pub range_text : Range → List ℕ
 range_text None = []
 range_text (Some high) = codes "[" ++ high ++ codes ":0] "
@@ -58,10 +60,12 @@ abbrev pub names_behind : List ℕ → List (List ℕ) → List ℕ
 names_behind name [] = name
 names_behind name (n ∷ ns) = name ++ codes ", " ++ names_behind n ns
 
+-- how a list of names is printed, with commas between
 abbrev pub names_text : List (List ℕ) → List ℕ
 names_text [] = []
 names_text (n ∷ ns) = names_behind n ns
 
+-- what a clocked block begins with, up to the name of its clock
 unfoldable pub always_text : List ℕ
 always_text = codes "always @(posedge "
 
@@ -73,10 +77,12 @@ item_text (MemoryOf range name last) = codes "reg " ++ range_text range ++ name 
 item_text (Assign target value) = codes "assign " ++ target ++ codes " = " ++ expr_text value ++ codes ";\n"
 item_text (Always clock body) = always_text ++ clock ++ codes ") " ++ statement_text body
 
+-- how items are printed, one behind the other
 abbrev pub items_text : List WrittenItem → List ℕ
 items_text [] = []
 items_text (i ∷ is) = item_text i ++ items_text is
 
+-- how a port begins: on a line of its own, with its direction
 unfoldable pub direction_text : Direction → List ℕ
 direction_text In = codes "\n    input "
 direction_text InWire = codes "\n    input wire "
@@ -88,14 +94,17 @@ direction_text OutReg = codes "\n    output reg "
 abbrev pub port_text : WrittenPort → List ℕ
 port_text p = direction_text p.direction ++ range_text p.range ++ p.name
 
+-- how further ports are printed, each behind a comma
 abbrev pub more_ports_text : List WrittenPort → List ℕ
 more_ports_text [] = []
 more_ports_text (p ∷ ps) = codes "," ++ port_text p ++ more_ports_text ps
 
+-- how all ports are printed, with commas between
 abbrev pub ports_text : List WrittenPort → List ℕ
 ports_text [] = []
 ports_text (p ∷ ps) = port_text p ++ more_ports_text ps
 
+-- how a module begins: its name, its ports, and the end of the header
 unfoldable pub head_text : WrittenModule → List ℕ
 head_text m = codes "module " ++ m.name ++ codes "(" ++ ports_text m.ports ++ codes "\n);\n"
 

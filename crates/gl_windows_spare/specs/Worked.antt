@@ -22,6 +22,7 @@ one_stream =
     (None ∷ Some 1 ∷ Some 2 ∷ Some 3 ∷ Some 4 ∷ Some 5 ∷ Some 6 ∷ Some 7 ∷ Some 8 ∷ [])
     (8 ∷ [])
 
+-- the visits of the copies to a worked stream with late ends, by hand, and that every wire has one with late ends
 pub record WorkedSpare : Type 0 where
   -- windows of 4 rows over two copies whose turns are 3 cycles apart, tuples in each cycle and ends 2 cycles late: the
   -- first window is full with tuple 4 while its copy is at work for 3 cycles more; the other copy takes tuples 5 to 7

@@ -3,6 +3,7 @@ use Rattle.std.specs.Prelude.{◌≡◌, ℕ, ◌+◌, ◌*◌, ◌≤◌, List,
 use Rattle.std.specs.List.{sum}
 use Rattle.gl_net.specs.Net.{Net, size_of, register_bits_of, memory_bits_of}
 
+-- nodes, and the bits of registers and of memories
 pub record Cost : Type 0 where
   pub nodes : ℕ
   pub registers : ℕ

@@ -8,6 +8,7 @@ use Rattle.gl_algebra.specs.Shapes.{Shape}
 use Rattle.gl_algebra.specs.Weights.{own_weight}
 use Rattle.gl_wire.specs.Costs.{Cost}
 
+-- no column has more than 64 bits
 abbrev pub AreNarrow : List ℕ → Type 0
 AreNarrow columns = All (λ w. w ≤ 64) columns
 

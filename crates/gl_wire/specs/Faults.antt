@@ -25,6 +25,7 @@ abbrev pub IsLine : Net → Option Bit → Type 0
 IsLine net None = Unit {0}
 IsLine net (Some bit) = IsBit net bit
 
+-- the lines of faults that a circuit has are in its netlist
 pub record AreLines (net : Net) (faults : Faults) : Type 0 where
   pub passed : IsLine net faults.passed
   pub further : IsLine net faults.further

@@ -29,10 +29,10 @@ pub record Follows (m : ℕ) (a b : Carried) : Type 0 where
   pub tuples : (c : ℕ) → is_some (b.tuple (c + m)) ≡ is_some (a.tuple c)
   pub ends : (c : ℕ) → b.ends (c + m) ≡ a.ends c
 
--- what a joiner may ask of its sides: that their tuples come in the same cycles
+-- the tuples of both sides of a joiner come in the same cycles
 abbrev pub SameCycles : Condition
 SameCycles beats a b = (c : ℕ) → is_some (a.tuple c) ≡ is_some (b.tuple c)
 
--- or that each has a tuple with each end, and no other
+-- each side of a joiner has a tuple with each end, and no other
 abbrev pub BothWithEnds : Condition
 BothWithEnds beats a b = WithEnds a × WithEnds b

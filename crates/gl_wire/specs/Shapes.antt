@@ -4,7 +4,7 @@ use Rattle.gl_bits.specs.Results.{Row}
 use Rattle.gl_wire.specs.Wire.{Carried, stream}
 use Rattle.gl_wire.specs.Serves.{Meaning}
 
--- the same, m cycles later, and nothing before
+-- one wire carries what another carried m cycles before, and nothing earlier
 pub record IsDelayed (m : ℕ) (a b : Carried) : Type 0 where
   pub before : (c : ℕ) → c < m → b.tuple c ≡ None
   pub no_end : (c : ℕ) → c < m → b.ends c ≡ false
@@ -31,7 +31,7 @@ AtEnds m total a b = IsDelayed m (totalled total a) b
 abbrev pub Mapped : (Row → Option Row) → Meaning
 Mapped step xs ys = ys ≡ filter_map step xs
 
--- the same rows
+-- the rows that leave are those that come in
 abbrev pub Same : Meaning
 Same xs ys = ys ≡ xs
 

@@ -10,7 +10,7 @@ use Rattle.gl_wire.specs.Serves.{Fits, Meaning, Meaning2, Served, Served2}
 abbrev pub Relation : Type 1
 Relation = List Row → List Row → Bool → Type 0
 
--- the same for two inputs
+-- which rows and which spill are right for the rows of two inputs
 abbrev pub Relation2 : Type 1
 Relation2 = List Row → List Row → List Row → Bool → Type 0
 
@@ -35,7 +35,7 @@ no_lines = record { passed = λ c. false; further = λ c. false }
 abbrev pub both_lines : Lines → Lines → Lines
 both_lines p q = record { passed = λ c. p.passed c || q.passed c; further = λ c. p.further c || q.further c }
 
--- the same lines
+-- two circuits tell of faults in the same cycles
 pub record SameLines (p q : Lines) : Type 0 where
   pub passed : (c : ℕ) → p.passed c ≡ q.passed c
   pub further : (c : ℕ) → p.further c ≡ q.further c

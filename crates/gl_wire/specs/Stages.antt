@@ -17,7 +17,7 @@ pub record IsLaterBus (old new : Net) (source later : Bus) : Type 0 where
   pub same_width : later.width ≡ source.width
   pub value : (run : Run) → IsRun new run → (t : ℕ) → run.at (suc (suc t)) later.node ≡ run.at (suc t) source.node
 
--- the same for a line, which reset clears: it is one cycle behind from the reset cycle on
+-- a line that shows what another showed one cycle before, and what its register costs
 pub record IsLaterLine (old new : Net) (source later : Bit) : Type 0 where
   pub keeps : Keeps old new
   pub cost : Costs old new (record { nodes = 1; registers = 1; memories = 0 })

@@ -5,25 +5,28 @@ use Rattle.gl_bits.specs.Words.{bit}
 use Rattle.gl_wire.specs.Beats.{Beats}
 use Rattle.gl_wire.specs.Wire.{Carried}
 
--- the ticks since the end before this cycle, without and with its own; a tick comes before the tuple of its cycle
+-- the ticks since the end before this cycle, its own left out; a tick comes before the tuple of its cycle
 abbrev pub ticks_before : (ℕ → Bool) → Carried → ℕ → ℕ
 ticks_before tick a zero = 0
 ticks_before tick a (suc c) =
     if a.ends c then 0 else (if tick c then suc (ticks_before tick a c) else ticks_before tick a c)
 
+-- the ticks since the end before, the cycle's own among them
 abbrev pub ticks_at : (ℕ → Bool) → Carried → ℕ → ℕ
 ticks_at tick a c = if tick c then suc (ticks_before tick a c) else ticks_before tick a c
 
--- the times of the tuples since that end, without and with this cycle's
+-- the time of a tuple, where one comes
 abbrev pub times_of : Option Row → ℕ → List ℕ
 times_of None time = []
 times_of (Some r) time = time ∷ []
 
+-- the times of the tuples since the end before, the cycle's own left out
 abbrev pub times_before : (ℕ → Bool) → Carried → ℕ → List ℕ
 times_before tick a zero = []
 times_before tick a (suc c) =
     if a.ends c then [] else times_before tick a c ++ times_of (a.tuple c) (ticks_at tick a c)
 
+-- the times of the tuples since the end before, the cycle's own among them
 abbrev pub times_at : (ℕ → Bool) → Carried → ℕ → List ℕ
 times_at tick a c = times_before tick a c ++ times_of (a.tuple c) (ticks_at tick a c)
 

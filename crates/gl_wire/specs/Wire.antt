@@ -52,7 +52,7 @@ abbrev pub pending : Carried → ℕ → List Row
 pending s zero = []
 pending s (suc c) = if s.ends c then [] else pending s c ++ option_to_list (s.tuple c)
 
--- and this cycle's own: the stream, where this cycle has the end
+-- the rows since the end before this cycle, with the cycle's own: the stream, where this cycle has the end
 abbrev pub stream : Carried → ℕ → List Row
 stream s c = pending s c ++ option_to_list (s.tuple c)
 

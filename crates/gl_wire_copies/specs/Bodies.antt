@@ -4,8 +4,10 @@ use Rattle.gl_algebra.specs.declared.node.PlanNode.{PlanNode}
 use Rattle.gl_algebra.specs.Results.{Inputs, IsPlanResult}
 use Rattle.gl_bits.specs.Results.{Row, Results}
 
+-- inputs that bring a body its rows and nothing else
 abbrev pub alone : List Row → Inputs
 alone rows = record { streams = λ number. []; times = λ number. []; ticks = 0; body = rows }
 
+-- the results of a body over rows that are given to it alone
 abbrev pub OfBody : List PlanNode → ℕ → List Row → Results
 OfBody nodes body rows = IsPlanResult nodes body (alone rows)

@@ -37,7 +37,7 @@ pub record IsRegister {A : Type 0} (initial : A) (ends : ℕ → Bool) (before n
 abbrev pub Stays : {A : Type 0} → (ℕ → Bool) → (ℕ → A) → (ℕ → A) → Type 0
 Stays valid before now = (c : ℕ) → valid (suc c) ≡ false → now (suc c) ≡ before (suc c)
 
--- it takes a step with each row
+-- the state takes a step with each row, and stays where none comes
 abbrev pub Steps : {A B : Type 0} → (A → B → A) → Lane → (ℕ → B) → (ℕ → A) → (ℕ → A) → Type 0
 Steps step l row before now =
     (c : ℕ) → now (suc c) ≡ (if l.valid (suc c) then step (before (suc c)) (row (suc c)) else before (suc c))

@@ -20,7 +20,7 @@ rows_before l row k (suc c) =
     if nat_eq (l.slot c) k then (if l.ends c then [] else rows_before l row k c ++ row_in l row c)
     else rows_before l row k c
 
--- and with this cycle's own: the stream of the slot whose cycle it is
+-- the rows of a slot's stream so far, with the cycle's own, for the slot whose cycle it is
 abbrev pub rows_now : {B : Type 0} → Lane → (ℕ → B) → ℕ → List B
 rows_now l row c = rows_before l row (l.slot c) c ++ row_in l row c
 
@@ -64,7 +64,7 @@ first_of ends (suc (suc c)) = ends (suc c)
 abbrev pub single : (ℕ → Bool) → (ℕ → Bool) → Lane
 single valid ends = record { valid = valid; ends = ends; slot = λ c. 0; first = first_of ends }
 
--- it tells where they begin, and each cycle of it is fresh
+-- a lane tells where streams begin, and each cycle of it is fresh
 pub record IsSingle (l : Lane) : Type 0 where
   pub begins : Begins l
   pub fresh : (c : ℕ) → IsFresh l (suc c)

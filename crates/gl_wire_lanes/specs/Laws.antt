@@ -29,7 +29,7 @@ AheadIsKept A =
     (initial : A) (l : Lane) (before now : ℕ → A)
     → IsKeptAhead initial l before now → IsKept initial l before now
 
--- and so does a register for streams one after another, which stays where no row comes
+-- a register keeps a state for streams one after another, where it stays while no row comes
 abbrev pub RegisterIsKept : Type 0 → Type 0
 RegisterIsKept A =
     (initial : A) (valid ends : ℕ → Bool) (before now : ℕ → A)
@@ -54,7 +54,7 @@ SharesAreStreams =
     → rows_now (lane_of run w slot first) (rows_of run w) c
     ≡ stream (share (slot_of run slot) (slot_of run slot c) (carried run w)) c
 
--- and of streams one after another they are those of the wire
+-- in a lane of streams one after another, the rows of a stream are those of the wire
 abbrev pub SinglesAreStreams : Type 0
 SinglesAreStreams =
     (run : Run) (w : Wire) (c : ℕ)

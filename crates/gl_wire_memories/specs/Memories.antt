@@ -12,6 +12,7 @@ pub record IsHeld (run : Run) (write : Bit) (place at value out : Bus) : Type 0 
   pub writes : (t k : ℕ) → word (suc t) k
       ≡ stored_of (run.at t write.node) (run.at t place.node) (run.at t value.node) k (word t k)
 
+-- a memory that is written at a place and read at an address, as nodes of a netlist with their cost
 pub record IsStored (old new : Net) (bits : ℕ) (write : Bit) (place at value out : Bus) : Type 0 where
   pub keeps : Keeps old new
   pub cost : Costs old new (record { nodes = 2; registers = 0; memories = 2 ^ bits * value.width })

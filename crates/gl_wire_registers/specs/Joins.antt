@@ -23,10 +23,11 @@ cost_of_back copies own = record {
   memories = 0;
 }
 
--- the wires of copies, and what they give
+-- the wires of copies, in their order
 abbrev pub wires_of : List Emitted → List Wire
 wires_of copies = map (λ e. e.wire) copies
 
+-- what each copy's wire carries in a run, by the copy's number
 abbrev pub gives_of : Run → List Emitted → ℕ → Carried
 gives_of run copies = carried_of run (wires_of copies)
 
@@ -35,6 +36,7 @@ abbrev pub told_by : Run → Option Emitted → Lines
 told_by run None = no_lines
 told_by run (Some e) = lines_of run e.faults
 
+-- the lines of faults of each copy in a run, by the copy's number
 abbrev pub told_of : Run → List Emitted → ℕ → Lines
 told_of run copies k = told_by run (slice_get copies k)
 

@@ -22,6 +22,7 @@ carried_of run [] k = record { tuple = λ t. None; ends = λ t. false }
 carried_of run (w ∷ ws) zero = carried run w
 carried_of run (w ∷ ws) (suc k) = carried_of run ws k
 
+-- what a gate makes of two lines: both, either, or the first without the second
 abbrev pub line_op : LineOp → Bool → Bool → Bool
 line_op Both x y = x && y
 line_op Either x y = x || y
@@ -37,9 +38,11 @@ abbrev pub gates_of : ℕ → ℕ
 gates_of zero = 1
 gates_of (suc n) = n
 
+-- a bus of one bit as a line
 abbrev pub to_bit : Bus → Bit
 to_bit b = record { node = b.node }
 
+-- a line as a bus of one bit
 abbrev pub to_bus : Bit → Bus
 to_bus b = record { node = b.node; width = 1 }
 
@@ -66,6 +69,7 @@ pub record AddsLines (old new : Net) (n price : ℕ) (bs : List Bit) (f : Run �
 unfoldable pub pairs : LineOp → List Bit → List Bit → Run → ℕ → ℕ → Bool
 pairs op xs ys run k t = line_op op (line_of run xs k t) (line_of run ys k t)
 
+-- each of several lines with one other line, through a gate
 unfoldable pub with_line : LineOp → List Bit → Bit → Run → ℕ → ℕ → Bool
 with_line op xs y run k t = line_op op (line_of run xs k t) (line_at run y t)
 

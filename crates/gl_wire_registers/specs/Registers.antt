@@ -28,7 +28,7 @@ pub record OpensOne (old new : Net) (w : Word) (b : Bus) : Type 0 where
   pub start : (run : Run) → IsRun new run → run.at 1 b.node ≡ w.bits
   pub cost : Costs old new (with_registers 1 w.width)
 
--- these registers are not driven, and no two are one
+-- nothing drives these registers yet, and no two of them are one
 pub record AreOpen (net : Net) (bs : List Bus) : Type 0 where
   pub undriven : (k : ℕ) (b : Bus) → slice_get bs k ≡ Some b → open_at net b.node ≡ Some (Value b.width)
   pub apart : (j k : ℕ) (b d : Bus) → slice_get bs j ≡ Some b → slice_get bs k ≡ Some d → b.node ≡ d.node → j ≡ k
@@ -48,13 +48,13 @@ pub record Opens (old new : Net) (resets : List Word) (bs : List Bus) : Type 0 w
       → (run : Run) → IsRun new run → run.at 1 b.node ≡ w.bits
   pub cost : Costs old new (with_registers (length resets) (sum (word_widths resets)))
 
--- these can drive the registers
+-- these buses can drive the registers: one each, as wide as its register
 pub record MayDrive (net : Net) (bs nexts : List Bus) : Type 0 where
   pub count : length nexts ≡ length bs
   pub each : (k : ℕ) (b : Bus) → slice_get nexts k ≡ Some b → IsBus net b
   pub widths : (k : ℕ) (b d : Bus) → slice_get bs k ≡ Some b → slice_get nexts k ≡ Some d → d.width ≡ b.width
 
--- and now they do
+-- each register is driven by its bus from now on, and all else stays
 pub record DrivesAll (old new : Net) (bs nexts : List Bus) : Type 0 where
   pub grows : Grows old new
   pub ports : new.ports ≡ old.ports

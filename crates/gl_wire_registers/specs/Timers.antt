@@ -12,13 +12,16 @@ pub record Timer : Type 0 where
   pub on : Bool
   pub left_over : ℕ
 
+-- a timer that is on fires when no cycle is left
 abbrev pub fires : Timer → Bool
 fires t = t.on && nat_eq t.left_over 0
 
+-- an end starts the timer anew; otherwise it counts down, and goes off once it has fired
 abbrev pub ticked : ℕ → Bool → Timer → Timer
 ticked n true t = record { on = true; left_over = n }
 ticked n false t = record { on = t.on && not (nat_eq t.left_over 0); left_over = t.left_over - 1 }
 
+-- the timer before each cycle, off at first
 abbrev pub timer_at : ℕ → (ℕ → Bool) → ℕ → Timer
 timer_at n ends zero = record { on = false; left_over = 0 }
 timer_at n ends (suc c) = ticked n (ends c) (timer_at n ends c)
@@ -44,7 +47,7 @@ pub record IsClose (apart delay : ℕ) (ends close : ℕ → Bool) : Type 0 wher
   pub before : (c : ℕ) → c < delay → close c ≡ false
   pub later : ((u d : ℕ) → ends u ≡ true → ends d ≡ true → u < d → u + apart < d) → (c : ℕ) → close (c + delay) ≡ ends c
 
--- such a line behind that of the ends
+-- a line that follows the ends on another after a fixed delay, where they are far enough apart, and what it costs
 pub record IsCloseLine (old new : Net) (cycles more : ℕ) (source out : Bit) : Type 0 where
   pub keeps : Keeps old new
   pub cost : Costs old new (with_registers (20 + more) (bits_below (cycles + 1) + 1 + more))
