@@ -1,5 +1,6 @@
 """What the scripts on hostile use share: commands over small texts that go through every part of the program."""
-import os, subprocess
+import os
+import subprocess
 
 SCHEMA = 'stream trades (symbol text4, price u32, volume u32); stream quotes (symbol text4, bid u32, ask u32);\n'
 TUPLES = ''.join(f'{at},trades,UBSN,{7 + at},{10 * at}\n' for at in range(5)) + '5,quotes,UBSN,1,2\n5,tick\n8,end\n'
@@ -35,15 +36,30 @@ SMALL = {'S': 'stream s (v u8);\n', 'V': MODULE, 'T': '0,s,5\n2,s,255\n', 'D': D
 # Each query with its tuples.
 QUERIES = {
     'columns': ('SELECT symbol, price FROM trades INTO r', TUPLES),
-    'expressions': ("SELECT price * 2 + volume AS x, CAST(price AS u8) AS y FROM trades WHERE symbol = 'UBSN' AND NOT price < 8 INTO r", TUPLES),
-    'totals': ('SELECT count() AS n, sum(price) AS s, min(price) AS a, max(price) AS b, wsum(price, [1, 2, 3]) AS w FROM trades INTO r', TUPLES),
+    'expressions': (
+        'SELECT price * 2 + volume AS x, CAST(price AS u8) AS y '
+        "FROM trades WHERE symbol = 'UBSN' AND NOT price < 8 INTO r",
+        TUPLES,
+    ),
+    'totals': (
+        'SELECT count() AS n, sum(price) AS s, min(price) AS a, max(price) AS b, wsum(price, [1, 2, 3]) AS w '
+        'FROM trades INTO r',
+        TUPLES,
+    ),
     'average': ('SELECT avg(price) AS a FROM trades INTO r', TUPLES),
     'windows': ("SELECT count() AS n FROM trades [SIZE 4 ADVANCE 2 TUPLES] WHERE symbol = 'UBSN' INTO r", TUPLES),
     'groups': ('SELECT symbol, count() AS n, sum(price) AS s FROM trades GROUP BY symbol GROUPS 4 INTO r', TUPLES),
     'overflow': ('SELECT price, count() AS n FROM trades GROUP BY price GROUPS 2 INTO r', APART),
-    'copies of a group': ('EACH g IN trades BY symbol GROUPS 2 (SELECT max(n) AS m FROM (SELECT count() AS n FROM g [SIZE 2 ADVANCE 1 TUPLES])) INTO r', APART),
-    'spare copies': ('EACH w IN trades [SIZE 4 ADVANCE 4 TUPLES] (SELECT max(m) AS top FROM (SELECT sum(price) AS m FROM w [SIZE 2 ADVANCE 1 TUPLES])) INTO r',
-                     TUPLES),
+    'copies of a group': (
+        'EACH g IN trades BY symbol GROUPS 2 '
+        '(SELECT max(n) AS m FROM (SELECT count() AS n FROM g [SIZE 2 ADVANCE 1 TUPLES])) INTO r',
+        APART,
+    ),
+    'spare copies': (
+        'EACH w IN trades [SIZE 4 ADVANCE 4 TUPLES] '
+        '(SELECT max(m) AS top FROM (SELECT sum(price) AS m FROM w [SIZE 2 ADVANCE 1 TUPLES])) INTO r',
+        TUPLES,
+    ),
     'union': ('SELECT price FROM trades UNION SELECT bid AS price FROM quotes INTO r', APART),
     'concat': ('SELECT sum(price) AS p FROM trades CONCAT SELECT count() AS n FROM quotes INTO r', TUPLES),
 }
@@ -63,7 +79,11 @@ def cases():
     for word in ('compile', 'figures', 'explain'):
         for name in ('windows', 'groups', 'spare copies', 'union'):
             yield f'{word}, {name}', [word, 'S', 'Q'], {'S': SCHEMA, 'Q': QUERIES[name][0] + '\n'}
-    yield 'run --start, groups', ['run', 'S', 'Q', 'T', '--start', '7'], {'S': SCHEMA, 'Q': QUERIES['groups'][0], 'T': TUPLES}
+    yield 'run --start, groups', ['run', 'S', 'Q', 'T', '--start', '7'], {
+        'S': SCHEMA,
+        'Q': QUERIES['groups'][0],
+        'T': TUPLES,
+    }
     yield 'sim', ['sim', 'S', 'V', 'T', '--extra', '3'], SMALL
     yield 'load', ['load', '9'], {}
     for name in ('windows', 'groups'):

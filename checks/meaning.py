@@ -1,24 +1,28 @@
-"""The query language once more, from docs/LANGUAGE.md alone: what a query means, and its text. It shares nothing with the crates.
+"""The query language once more, from docs/LANGUAGE.md alone: what a query means, and its text. It shares nothing with
+the crates.
 
 A query is a dict. Its 'sort' is
     read            the rows of 'name'
     UNION, CONCAT   of 'left' and 'right'
-    select          'items' [(name, expression)], None for *; or 'totals' [(name, aggregate, expression, weights)]; over 'source', with
-                    'window' (size, advance, 'TUPLES' or 'TIME'), 'filter' and 'group' (key, groups), each None where it is missing
+    select          'items' [(name, expression)], None for *; or 'totals' [(name, aggregate, expression, weights)];
+                    over 'source', with 'window' (size, advance, 'TUPLES' or 'TIME'), 'filter' and 'group'
+                    (key, groups), each None where it is missing
     each            'body' over 'source' by its 'window' or its 'group', or by both, the windows of each key, as 'var'
 and each has its 'columns' [(name, kind)]. An expression is (sort, kind, part, ..): ('column', kind, name, name),
 ('literal', kind, word, text), ('NOT', kind, e), ('CAST', kind, e), and (operator, kind, e, e).
 
-The right outcomes of a query are {spill: tree}, where a tree stands for a set of lists of rows: ('rows', row, ..) is one list,
-('merge', a, b) every interleaving, ('chain', a, b) what comes of a and then of b, ('either', a, b, ..) what comes of one of them.
-Lists are gone through only where an order that UNION leaves open comes to matter, and then at most MOST.
+The right outcomes of a query are {spill: tree}, where a tree stands for a set of lists of rows: ('rows', row, ..) is
+one list, ('merge', a, b) every interleaving, ('chain', a, b) what comes of a and then of b, ('either', a, b, ..) what
+comes of one of them. Lists are gone through only where an order that UNION leaves open comes to matter, and then at
+most MOST.
 """
-import collections, functools
+import collections
+import functools
 
 from common import width_of
 
-MOST = 400          # lists of rows that are looked at where an order is open
-WORK = 20000        # rows of slices and groups that are looked at
+MOST = 400  # lists of rows that are looked at where an order is open
+WORK = 20000  # rows of slices and groups that are looked at
 LEVELS = {'OR': 0, 'AND': 1, 'NOT': 2, '+': 4, '-': 4, '*': 5} | dict.fromkeys(['=', '<>', '<', '<=', '>', '>='], 3)
 SPENT = [0]
 NONE = ('rows',)
@@ -29,6 +33,7 @@ class TooMany(Exception):
 
 
 # ---- kinds and words
+
 
 def number_of(word, kind):
     """The number that a word stands for; a text's is its word."""
@@ -41,6 +46,7 @@ def shown(word, kind):
 
 
 # ---- trees of outcomes
+
 
 def merge(a, b):
     return b if a == NONE else a if b == NONE else ('merge', a, b)
@@ -68,7 +74,9 @@ def beside(a, b):
 
 def is_done(tree):
     """Whether the empty list is among those of a tree."""
-    return len(tree) == 1 if tree[0] == 'rows' else (any if tree[0] == 'either' else all)(is_done(it) for it in tree[1:])
+    return (
+        len(tree) == 1 if tree[0] == 'rows' else (any if tree[0] == 'either' else all)(is_done(it) for it in tree[1:])
+    )
 
 
 @functools.lru_cache(100000)
@@ -121,7 +129,7 @@ def has(tree, rows):
 
 def one_of(tree):
     """One of the lists."""
-    return tree[1:] if tree[0] == 'rows' else sum(map(one_of, tree[1:2 if tree[0] == 'either' else 3]), ())
+    return tree[1:] if tree[0] == 'rows' else sum(map(one_of, tree[1 : 2 if tree[0] == 'either' else 3]), ())
 
 
 def some(tree):
@@ -146,6 +154,7 @@ def changed(tree, change):
 
 # ---- the meaning
 
+
 def value_of(expression, row):
     sort, kind, *parts = expression
     if sort == 'column':
@@ -157,32 +166,45 @@ def value_of(expression, row):
         return 1 - x
     if sort == 'CAST':
         had, wants = width_of(parts[0][1]), width_of(kind)
-        return x << wants >> had if kind[0] == 't' else number_of(x, parts[0][1]) % 2 ** wants
+        return x << wants >> had if kind[0] == 't' else number_of(x, parts[0][1]) % 2**wants
     y, of = value_of(parts[1], row), parts[0][1]
     bound, m, n = 2 ** width_of(of), number_of(x, of), number_of(y, of)
-    return int({'+': (x + y) % bound, '-': (x - y) % bound, '*': x * y % bound, '=': x == y, '<>': x != y, '<': m < n, '<=': m <= n,
-                '>': m > n, '>=': m >= n, 'AND': x & y, 'OR': x | y}[sort])
+    return int(
+        {
+            '+': (x + y) % bound,
+            '-': (x - y) % bound,
+            '*': x * y % bound,
+            '=': x == y,
+            '<>': x != y,
+            '<': m < n,
+            '<=': m <= n,
+            '>': m > n,
+            '>=': m >= n,
+            'AND': x & y,
+            'OR': x | y,
+        }[sort]
+    )
 
 
 def average_of(numbers, kind):
     """The word of the average: the sum wraps in 32 bits more than the kind has, and is divided toward zero."""
     width = width_of(kind) + 32
-    total = sum(numbers) % 2 ** width
+    total = sum(numbers) % 2**width
     if kind[0] == 's' and total >> width - 1:
-        return -((2 ** width - total) // len(numbers)) % 2 ** width_of(kind)
+        return -((2**width - total) // len(numbers)) % 2 ** width_of(kind)
     return total // len(numbers) % 2 ** width_of(kind)
 
 
 def total_of(item, rows):
     name, sort, expression, weights = item
     if sort == 'count':
-        return len(rows) % 2 ** 32
+        return len(rows) % 2**32
     values, kind, width = [value_of(expression, row) for row in rows], expression[1], width_of(expression[1])
     if sort in ('min', 'max'):
         return (min if sort == 'min' else max)(values, key=lambda word: number_of(word, kind), default=0)
     if sort == 'avg':
         return average_of([number_of(word, kind) for word in values], kind) if values else 0
-    return sum(values) % 2 ** width if sort == 'sum' else sum(n * v for n, v in zip(weights, values)) % 2 ** width
+    return sum(values) % 2**width if sort == 'sum' else sum(n * v for n, v in zip(weights, values)) % 2**width
 
 
 def both(left, right, join):
@@ -211,11 +233,15 @@ def of_parts(found, cut, body, spills=lambda rows: False):
 def windowed(query, found, clock, body):
     size, advance, measure = query['window']
     if measure == 'TUPLES':
-        return of_parts(found, lambda rows: [rows[at:at + size] for at in range(0, len(rows), advance)], body)
+        return of_parts(found, lambda rows: [rows[at : at + size] for at in range(0, len(rows), advance)], body)
     times, ticks = clock[0][query['source']['name']], clock[1]
 
     def cut(rows):
-        return [tuple(row for row, time in zip(rows, times, strict=True) if at <= time < at + size) for at in range(0, ticks + 1, advance)]
+        return [
+            tuple(row for row, time in zip(rows, times, strict=True) if at <= time < at + size)
+            for at in range(0, ticks + 1, advance)
+        ]
+
     return of_parts(found, cut, body)
 
 
@@ -225,8 +251,13 @@ def grouped(found, at, most, body):
 
     def keyed(part):
         return {spill: changed(tree, lambda row: (part[0],) + row) for spill, tree in body(part[1]).items()}
-    return of_parts(found, lambda rows: [(key, tuple(row for row in rows if row[at] == key)) for key in keys(rows)[:most]], keyed,
-                    lambda rows: len(keys(rows)) > most)
+
+    return of_parts(
+        found,
+        lambda rows: [(key, tuple(row for row in rows if row[at] == key)) for key in keys(rows)[:most]],
+        keyed,
+        lambda rows: len(keys(rows)) > most,
+    )
 
 
 def parted(query, found, at, body):
@@ -240,10 +271,16 @@ def parted(query, found, at, body):
                 mine.append(row)
                 if len(mine) >= size and (len(mine) - size) % advance == 0:
                     full.append((row[at], tuple(mine[-size:])))
-        return full + [(key, tuple(mine[j:])) for key, mine in own.items() for j in range(0, len(mine), advance) if j + size > len(mine)]
+        return full + [
+            (key, tuple(mine[j:]))
+            for key, mine in own.items()
+            for j in range(0, len(mine), advance)
+            if j + size > len(mine)
+        ]
 
     def keyed(part):
         return {spill: changed(tree, lambda row: (part[0],) + row) for spill, tree in body(part[1]).items()}
+
     return of_parts(found, cut, keyed, lambda rows: len({row[at] for row in rows}) > most)
 
 
@@ -253,17 +290,36 @@ def selected(query, columns, found):
 
     def named(row):
         return dict(zip(names, row))
+
     if query['filter']:
-        found = {spill: changed(tree, lambda row: row if value_of(query['filter'], named(row)) else None) for spill, tree in found.items()}
+        found = {
+            spill: changed(tree, lambda row: row if value_of(query['filter'], named(row)) else None)
+            for spill, tree in found.items()
+        }
     if query['group']:
         key, most = query['group']
-        return grouped(found, names.index(key), most, lambda rows: selected(query | {'filter': None, 'group': None}, columns, {False: ('rows', *rows)}))
+        return grouped(
+            found,
+            names.index(key),
+            most,
+            lambda rows: selected(query | {'filter': None, 'group': None}, columns, {False: ('rows', *rows)}),
+        )
     if query['totals']:
         open_ = lists if any(item[1] == 'wsum' for item in query['totals']) else some
-        return {spill: either([('rows', tuple(total_of(item, [named(row) for row in rows]) for item in query['totals'])) for rows in open_(tree)])
-                for spill, tree in found.items()}
+        return {
+            spill: either(
+                [
+                    ('rows', tuple(total_of(item, [named(row) for row in rows]) for item in query['totals']))
+                    for rows in open_(tree)
+                ]
+            )
+            for spill, tree in found.items()
+        }
     if query['items']:
-        return {spill: changed(tree, lambda row: tuple(value_of(e, named(row)) for _, e in query['items'])) for spill, tree in found.items()}
+        return {
+            spill: changed(tree, lambda row: tuple(value_of(e, named(row)) for _, e in query['items']))
+            for spill, tree in found.items()
+        }
     return found
 
 
@@ -285,11 +341,15 @@ def results(query, sources, clock=None):
         return both(left, right, merge if sort == 'UNION' else beside)
     columns, found = query['source']['columns'], results(query['source'], sources, clock)
     if sort == 'select':
-        return windowed(query, found, clock, lambda rows: selected(query, columns, {False: ('rows', *rows)})) if query['window'] else \
-            selected(query, columns, found)
+        return (
+            windowed(query, found, clock, lambda rows: selected(query, columns, {False: ('rows', *rows)}))
+            if query['window']
+            else selected(query, columns, found)
+        )
 
     def body(rows):
         return results(query['body'], {query['var']: rows})
+
     if not query['group']:
         return windowed(query, found, clock, body)
     at = [name for name, _ in columns].index(query['group'][0])
@@ -297,6 +357,7 @@ def results(query, sources, clock=None):
 
 
 # ---- the text
+
 
 def expression_text(expression, level=0):
     sort, kind, *parts = expression
@@ -335,13 +396,17 @@ def query_text(query):
     sort = query['sort']
     if sort in ('UNION', 'CONCAT'):
         right = query['right']
-        return f"{query_text(query['left'])} {sort} " + (source_text(right) if right['sort'] in ('UNION', 'CONCAT') else query_text(right))
+        return f"{query_text(query['left'])} {sort} " + (
+            source_text(right) if right['sort'] in ('UNION', 'CONCAT') else query_text(right)
+        )
     source, group = source_text(query['source']), query['group']
     if sort == 'each':
         parts = (f' BY {group[0]} GROUPS {group[1]}' if group else '') + window_text(query['window'])
         return f"EACH {query['var']} IN {source}{parts} ({query_text(query['body'])})"
     items = [total_text(it) for it in query['totals'] or []] or [item_text(it) for it in query['items'] or []] or ['*']
-    text = 'SELECT ' + ', '.join(([group[0]] if group else []) + items) + f' FROM {source}' + window_text(query['window'])
+    text = (
+        'SELECT ' + ', '.join(([group[0]] if group else []) + items) + f' FROM {source}' + window_text(query['window'])
+    )
     text += f" WHERE {expression_text(query['filter'])}" if query['filter'] else ''
     return text + (f' GROUP BY {group[0]} GROUPS {group[1]}' if group else '')
 
@@ -353,7 +418,18 @@ def forms_of(query):
         return {sort} | forms_of(query['left']) | forms_of(query['right'])
     if sort == 'read':
         return set()
-    out = {name for name, found in (('WHERE', query['filter']), ('aggregates', query['totals']), ('windows', query['window']), ('windows of time', query['window'] and query['window'][2] == 'TIME'), ('groups', query['group']), ('windows of each key', sort == 'each' and query['window'] and query['group'])) if found}
+    out = {
+        name
+        for name, found in (
+            ('WHERE', query['filter']),
+            ('aggregates', query['totals']),
+            ('windows', query['window']),
+            ('windows of time', query['window'] and query['window'][2] == 'TIME'),
+            ('groups', query['group']),
+            ('windows of each key', sort == 'each' and query['window'] and query['group']),
+        )
+        if found
+    }
     out |= {'nested'} if query['source']['sort'] != 'read' or sort == 'each' else set()
     out |= {'plain'} if sort == 'select' and not query['totals'] else set()
     return out | forms_of(query['source']) | (forms_of(query['body']) if query['body'] else set())

@@ -1,0 +1,361 @@
+"""What the random cases of checks/random-queries are drawn from: schemas, queries of every form, and tuples."""
+from common import width_of, word_of
+from meaning import number_of, shown
+
+CYCLES = 40000  # about how far a tuple file goes
+KEYWORDS = '''select from where group by groups each in size advance tuples time union concat into as and or not cast
+count sum min max avg wsum end tick valid eos'''.split()
+NAMES = '''a b c d x1 y_2 price volume symbol cost wire reg module begin endmodule always assign clk rst out input
+posedge if else q it w g stream n0_1 u8 text1 overflow a0123456789b0123456789c012345678 initial memory integer
+case'''.split()
+UNSIGNED = 'u1 u1 u2 u3 u7 u8 u8 u16 u31 u32 u32 u33 u63 u64 u64'.split()
+SIGNED = 's2 s2 s3 s7 s8 s8 s16 s31 s32 s32 s33 s63 s64 s64'.split()
+TEXTS = 'text1 text2 text3 text4 text4 text7 text8'.split()
+LETTERS = ['', 'A', 'B', 'end', 'a b', ' ', ',', '"', 'x,"y"', '~~~~~~~~', 'UBSN', 'UBSNX', '0', '#', "it's"]
+
+
+def is_loose(expression):
+    return (
+        expression[0] == 'literal'
+        or expression[0] in ('+', '-', '*')
+        and is_loose(expression[2])
+        and is_loose(expression[3])
+    )
+
+
+def weight_of(query):
+    """About how large a circuit is, a body for each of its copies."""
+    if query['sort'] == 'read':
+        return 0
+    if query['sort'] in ('UNION', 'CONCAT'):
+        return weight_of(query['left']) + weight_of(query['right'])
+    size, advance, measure = query['window'] or (1, 1, 'TUPLES')
+    copies = (-(-size // advance) if measure == 'TUPLES' else size // advance + 1) * (query['group'] or (0, 1))[1]
+    inside = (
+        weight_of(query['body'])
+        if query['body']
+        else 1 + sum(10 if sort == 'avg' else 1 for _, sort, _, _ in query['totals'] or [])
+    )
+    return weight_of(query['source']) + copies * inside
+
+
+def is_slow(query):
+    """Whether a query tells rows of windows or of groups, so that it may be at work when the next tuple comes."""
+    parts = [query[it] for it in ('left', 'right', 'source', 'body') if query.get(it)]
+    return bool(query.get('window') or query.get('group')) or any(map(is_slow, parts))
+
+
+def may_have_spare(query):
+    """Whether a query is a window whose body may be at work when the next tuple comes."""
+    return (
+        bool(query.get('window'))
+        and query['window'][2] == 'TUPLES'
+        and not (query['sort'] == 'each' and query['group'])
+        and bool(query['group'] or query['body'] and is_slow(query['body']))
+    )
+
+
+class Maker:
+    """Draws schemas, queries and tuples. What it draws is accepted, unless its plan passes a limit."""
+
+    def __init__(self, draw, groups, signed, ticks, times, keyed):
+        self.draw, self.groups, self.signed, self.ticks, self.times, self.keyed, self.words = (
+            draw,
+            groups,
+            signed,
+            ticks or times,
+            times,
+            keyed,
+            {},
+        )
+        self.schema = {
+            name: [(column, self.kind()) for column in self.names(draw.randint(1, 4))]
+            for name in self.names(draw.choice([1, 1, 2, 2, 3]))
+        }
+
+    def often(self, chance):
+        return self.draw.random() < chance
+
+    def kind(self):
+        return self.number_kind() if self.often(0.7) else self.draw.choice(TEXTS)
+
+    def number_kind(self):
+        return self.draw.choice(SIGNED if self.signed and self.often(0.5) else UNSIGNED)
+
+    def names(self, number, taken=()):
+        return self.draw.sample([name for name in NAMES if name not in KEYWORDS and name not in taken], number)
+
+    def word(self, kind):
+        """A word of a kind, out of few."""
+        if kind not in self.words:
+            top = 2 ** width_of(kind) - 1
+            some_ = [0, 1, 2, 3, top, top - 1, self.draw.randint(0, top)]
+            if kind[0] == 's':
+                some_ = list(dict.fromkeys([0, 1, 2, top, top - 1, top // 2, top // 2 + 1, self.draw.randint(0, top)]))
+            if kind[0] == 't':
+                some_ = [word_of(it[: int(kind[4:])], kind) for it in LETTERS]
+            self.words[kind] = self.draw.sample(
+                [it for it in some_ if 0 <= it <= top], min(len(some_) - 2, 4) if top > 1 else 2
+            )
+        return self.draw.choice(self.words[kind])
+
+    def literal(self, kind):
+        word = self.word(kind)
+        text = shown(word, kind)
+        if kind[0] == 's':
+            sign = '-' if text[0] == '-' or word == 0 and self.often(0.2) else ''
+            return ('literal', kind, word, sign + '00' * self.often(0.05) + text.lstrip('-'))
+        if kind[0] == 't':
+            return (
+                self.literal(kind)
+                if "'" in text and self.often(0.9)
+                else ('literal', kind, word_of(text.replace("'", ''), kind), "'" + text.replace("'", '') + "'")
+            )
+        return ('literal', kind, word, '00' * self.often(0.05) + text)
+
+    def expression(self, columns, kind, depth, loose=True):
+        """An expression of a kind; where `loose` is false, one that does not take its kind from its place."""
+        same = [name for name, its in columns if its == kind]
+        ways = ['column'] * 3 * bool(same) + ['literal'] * loose
+        if depth > 0:
+            ways += (
+                ['CAST']
+                + ['+', '-', '*'] * (kind[0] != 't' and (kind != 'u1' or self.often(0.2)))
+                + (['compare'] * 5 + ['AND', 'OR', 'NOT']) * (kind == 'u1')
+            )
+        way = self.draw.choice(ways or ['CAST'])
+        if way == 'column':
+            return (way, kind, *[self.draw.choice(same)] * 2)
+        if way == 'literal':
+            return self.literal(kind)
+        if way == 'CAST':
+            had = [its for _, its in columns if (its[0] == 't') == (kind[0] == 't')]
+            if kind[0] != 't' and self.signed and self.often(0.1):
+                return (way, kind, self.negative())
+            return (
+                way,
+                kind,
+                self.alone(
+                    columns,
+                    self.draw.choice(had) if had and self.often(0.9) else 'text8' if kind[0] == 't' else 'u64',
+                    depth - 1,
+                ),
+            )
+        if way == 'NOT':
+            return (way, kind, self.expression(columns, kind, depth - 1))
+        of = kind
+        if way == 'compare':
+            way, of = self.draw.choice(['=', '=', '<>', '<', '<=', '>', '>=']), self.draw.choice(
+                [its for _, its in columns] + ['u64', 'text8'][: self.often(0.1) * 2]
+            )
+            loose = of in ('u64', 'text8')
+        left = self.expression(columns, of, depth - 1)
+        return (
+            way,
+            kind,
+            left,
+            self.expression(columns, of, depth - 1, loose or way in ('AND', 'OR') or not is_loose(left)),
+        )
+
+    def negative(self):
+        """A literal that takes no kind from its place, and has a sign: an s64."""
+        number = self.draw.choice([0, 1, 5, 2**31, 2**63])
+        return ('literal', 's64', -number % 2**64, f'-{number}')
+
+    def alone(self, columns, kind, depth):
+        """An expression whose place gives it no kind."""
+        return self.expression(columns, kind, depth, kind in ('u64', 'text8'))
+
+    def items(self, columns, kinds=None, taken=()):
+        """Plain items, of given kinds or of any."""
+        if kinds is None:
+            kinds = [
+                self.draw.choice(columns)[1] if self.often(0.8) else self.kind() for _ in range(self.draw.randint(1, 4))
+            ]
+        out = []
+        for name, kind in zip(self.names(len(kinds), taken), kinds):
+            it = self.alone(columns, kind, self.draw.randint(0, 3))
+            own = it[2] if it[0] == 'column' else name
+            out.append((own if own not in taken and own not in [n for n, _ in out] and self.often(0.7) else name, it))
+        return out if len({name for name, _ in out}) == len(out) else self.items(columns, kinds, taken)
+
+    def totals(self, columns, taken=()):
+        out = []
+        for name in self.names(self.draw.randint(1, 3), taken):
+            sort, kind = self.draw.choice(['count', 'sum', 'min', 'max', 'avg', 'wsum']), self.draw.choice(columns)[1]
+            if kind[0] == 't' and sort in ('sum', 'avg', 'wsum'):
+                kind = self.number_kind()
+            argument = None if sort == 'count' else self.alone(columns, kind, self.draw.choice([0, 0, 1, 2]))
+            out.append(
+                (
+                    name,
+                    sort,
+                    argument,
+                    [
+                        abs(number_of(self.word(kind), kind)) % 2 ** (width_of(kind) - (kind[0] == 's'))
+                        for _ in range(self.draw.randint(1, 5))
+                    ]
+                    if sort == 'wsum'
+                    else None,
+                )
+            )
+        return out
+
+    def read(self, scope):
+        name = self.draw.choice(list(scope))
+        return {'sort': 'read', 'name': name, 'columns': scope[name], 'closing': False}
+
+    def select(self, source, items=None, totals=None, filter_=0.4, window=None, group=None):
+        columns = (
+            [(name, 'u32' if sort == 'count' else e[1]) for name, sort, e, _ in totals or []]
+            or [(name, e[1]) for name, e in items or []]
+            or source['columns']
+        )
+        if group:
+            columns = [(name, kind) for name, kind in source['columns'] if name == group[0]] + columns
+        condition = self.expression(source['columns'], 'u1', self.draw.randint(1, 3)) if self.often(filter_) else None
+        return {
+            'sort': 'select',
+            'source': source,
+            'items': items,
+            'totals': totals,
+            'filter': condition,
+            'window': window,
+            'group': group,
+            'body': None,
+            'columns': columns,
+            'closing': bool(source['closing'] and window[2] == 'TUPLES' if window else totals or source['closing']),
+        }
+
+    def window(self, measure='TUPLES'):
+        far = self.often(0.05)
+        size = self.draw.randint(1, 40 if far else 6)
+        return size, self.draw.randint(max(1, -(-size // 8)), 60 if far else 6), measure
+
+    def source(self, scope, depth, closing=False):
+        return (
+            self.read(scope)
+            if not closing and (depth < 1 or self.often(0.5))
+            else self.query(scope, depth - 1, closing)
+        )
+
+    def query(self, scope, depth, closing=False):
+        """A query, as deep as is said; closing where that is asked."""
+        ways = (
+            ['plain', 'total', 'total']
+            + ['window', 'window', 'each', 'each', 'UNION', 'CONCAT'] * (depth > 0)
+            + ['group', 'by'] * (2 * self.groups)
+            + ['keyed'] * (4 * self.keyed)
+        )
+        way = self.draw.choice(ways if depth >= 0 else ['total'])
+        if way in ('UNION', 'CONCAT'):
+            return self.union(scope, depth, closing) if way == 'UNION' else self.concat(scope, depth, closing)
+        timed = self.times and way in ('window', 'each') and scope is self.schema and not closing and self.often(0.5)
+        source = (
+            self.read(scope) if timed else self.source(scope, depth, closing and way not in ('total', 'group', 'by'))
+        )
+        columns, measure = source['columns'], 'TIME' if timed else 'TUPLES'
+        if way == 'plain':
+            return self.select(source, None if self.often(0.2) else self.items(columns))
+        if way == 'total':
+            return self.select(source, totals=self.totals(columns))
+        if way == 'window':
+            return self.select(source, totals=self.totals(columns), window=self.window(measure))
+        key, kind = self.draw.choice(columns)
+        group = key, self.draw.choice([1, 2, 2, 3, 4, 7])
+        if way == 'group':
+            if self.often(0.3) and source['closing'] >= closing:
+                return self.select(source, totals=self.totals(columns, [key]), window=self.window(), group=group)
+            return self.select(source, totals=self.totals(columns, [key]), group=group)
+        var = self.names(1)[0] if self.often(0.7) else self.draw.choice(list(self.schema))
+        body = self.query({var: columns}, depth - 1, True)
+        if way != 'each' and key in [name for name, _ in body['columns']]:
+            body = self.renamed(body, [key])
+        out = {
+            'sort': 'each',
+            'var': var,
+            'source': source,
+            'body': body,
+            'filter': None,
+            'totals': None,
+            'window': None,
+            'group': None,
+        }
+        more = (
+            {'window': self.window(measure), 'columns': body['columns'], 'closing': source['closing'] and not timed}
+            if way == 'each'
+            else {
+                'group': group,
+                'columns': [(key, kind)] + body['columns'],
+                'closing': way == 'by' or source['closing'],
+            }
+        )
+        return out | more | ({'window': self.window()} if way == 'keyed' else {})
+
+    def renamed(self, query, taken):
+        """The same rows under other names, at most eight columns."""
+        columns = query['columns'][:8]
+        return self.select(
+            query,
+            [(new, ('column', kind, old, old)) for new, (old, kind) in zip(self.names(len(columns), taken), columns)],
+            filter_=0,
+        )
+
+    def union(self, scope, depth, closing):
+        left = self.query(scope, depth - 1, closing)
+        source = self.source(scope, depth - 1, closing)
+        right = self.select(source, self.items(source['columns'], [kind for _, kind in left['columns']]))
+        left, right = (right, left) if self.often(0.3) else (left, right)
+        return {
+            'sort': 'UNION',
+            'left': left,
+            'right': right,
+            'columns': left['columns'],
+            'closing': left['closing'] and right['closing'],
+        }
+
+    def paced(self, scope, depth, base):
+        """A query with a row at the end where `base` is None, else with one for each row of it."""
+        if depth > 0 and self.often(0.3):
+            return self.concat(scope, depth - 1, base is None, base)
+        source = self.paced(scope, depth - 1, base) if depth > 0 and self.often(0.3) else base
+        if source is None:
+            source = self.source(scope, depth - 1)
+            return self.select(source, totals=self.totals(source['columns']))
+        return self.select(source, None if self.often(0.1) else self.items(source['columns']), filter_=0)
+
+    def concat(self, scope, depth, closing, base=None):
+        if base is None and not closing and self.often(0.4):
+            base = self.read(scope)
+        left, right = self.paced(scope, depth - 1, base), self.paced(scope, depth - 1, base)
+        if set(dict(left['columns'])) & set(dict(right['columns'])) or len(left['columns'] + right['columns']) > 16:
+            left = self.renamed(left, [])
+            right = self.renamed(right, dict(left['columns']))
+        return {
+            'sort': 'CONCAT',
+            'left': left,
+            'right': right,
+            'columns': left['columns'] + right['columns'],
+            'closing': left['closing'] and right['closing'],
+        }
+
+    def tuples(self, gap, most):
+        """Beats, a list of (cycle, [(stream, words)]), where a tick is a stream without words, and the cycle of the
+        end, None where no record says it."""
+        beats, at, near = [], self.draw.randint(0, 3), self.often(0.6)
+        for _ in range(self.draw.choice([0, 1, 2, 3, 5, 8, 12, 20, 30])):
+            streams = [name for name in self.schema if self.often(0.6)] or [self.draw.choice(list(self.schema))]
+            most -= len(streams)
+            if most < 0 or at > min(CYCLES, 10**7 - 1):
+                break
+            rows = [
+                (name, tuple(self.word(kind) for _, kind in self.schema[name]))
+                for name in self.draw.sample(streams, len(streams))
+            ]
+            if self.ticks and self.often(0.5):
+                rows = rows if self.often(0.6) else []
+                rows.insert(self.draw.randint(0, len(rows)), ('tick', ()))
+            beats.append((at, rows))
+            at += gap + (0 if near or self.often(0.5) else self.draw.randint(0, 2 * gap))
+        ends = [None, beats[-1][0] if beats else 0, at]
+        return beats, self.draw.choice(ends if at <= 10**7 else ends[:2])
