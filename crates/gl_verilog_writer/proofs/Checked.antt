@@ -1,6 +1,6 @@
 -- The module of a netlist keeps widths: every assignment and every block.
-use Rattle.std.proofs.Common.{◌≡◌, ℕ, suc, ◌+◌, ◌<◌, ◌≤◌, true, List, ◌++◌, length, Option, Some, None, IfSome, IsSomeAnd, IsTrue, refl, sym, ap, subst, ◌∙◌, arith, inl, inr}
-use Rattle.std.specs.Prelude.{slice_get, option_map}
+use Rattle.std.proofs.Common.{◌≡◌, ℕ, suc, ◌+◌, ◌<◌, ◌≤◌, ◌==◌, Bool, true, false, List, ◌++◌, length, Option, Some, None, IfSome, IsSomeAnd, IsTrue, refl, sym, ap, subst, ◌∙◌, arith, inl, inr, eqb-true}
+use Rattle.std.specs.Prelude.{slice_get, option_map, if◌then◌else◌}
 use Rattle.std.specs.List.{AllByRecursion}
 use Rattle.gl_bits.proofs.AllLists.{all_by_place, all_append}
 use Rattle.gl_bits.proofs.Options.{some_same}
@@ -18,26 +18,56 @@ use Rattle.gl_net.specs.Finished.{HasReset, has_reset_value, needs_reset}
 use Rattle.gl_verilog.specs.Module as verilog
 use Rattle.gl_verilog.specs.Module.{Declaration, Expr}
 use Rattle.gl_verilog.specs.Run.{IsRegister}
-use Rattle.gl_verilog.specs.Widths.{IsNet, IsDriven, IsMemory, IsReadable, HasSize, width_at, width_after, width_of, KeepsWidths, KeepsWidth, KeepsWidthsIn}
+use Rattle.gl_verilog.specs.Widths.{IsNet, IsDriven, IsMemory, IsReadable, HasSize, width_at, width_of, KeepsWidths, KeepsWidth, KeepsWidthsIn}
 use Rattle.gl_verilog_writer.specs.Meaning.{kind_of}
 use Rattle.gl_verilog_writer.specs.Design.{node_width, numbered}
-use Rattle.gl_verilog_writer.proofs.Model.{Named, at_node, net_of, op_of, kind_for, assigned_to, assignment_for, shown_by, output_for, block_for, declarations_in, line_in}
+use Rattle.gl_verilog_writer.proofs.Model.{Named, at_node, net_of, binary_meaning, kind_for, assigned_to, assignment_for, shown_by, output_for, block_for, declarations_in, line_in}
 use Rattle.gl_verilog_writer.proofs.Lists.{numbered-all, get-from_zero}
 use Rattle.gl_verilog_writer.proofs.Named.{node_there, port_there, port_found, port_no_clock, net_no_clock, sorted}
 use Rattle.gl_verilog_writer.proofs.Fitted.{width-fits, port_end, bus, bit, shown, stored, carried-width, carried-keeps, node-width}
 use Rattle.gl_verilog_writer.proofs.Resolved.{port-width, line-found, some-any}
 
-width-op : (o : BinaryOp) (w : ℕ) → width_after (op_of o) w ≡ binary_width o w
-width-op Add w = refl
-width-op Sub w = refl
-width-op Mul w = refl
-width-op And w = refl
-width-op Xor w = refl
-width-op Or w = refl
-width-op Eq w = refl
-width-op Ne w = refl
-width-op Lt w = refl
-width-op Le w = refl
+-- two values under an operation have the width that the netlist's node has
+width-op : (ds : List Declaration) (o : BinaryOp) (w : ℕ) (x y : Expr) → width_of ds (binary_meaning o w x y) ≡ binary_width o w
+width-op ds Add w x y = refl
+width-op ds Sub w x y = refl
+width-op ds Mul w x y = refl
+width-op ds And w x y = refl
+width-op ds Xor w x y = refl
+width-op ds Or w x y = refl
+width-op ds Eq w x y = refl
+width-op ds Ne w x y = refl
+width-op ds Lt w x y = by (w == 1)
+  where
+    by : (t : Bool) → width_of ds (if t then verilog.Binary verilog.And 1 (verilog.Invert 1 x) y else verilog.Binary verilog.Lt w x y) ≡ 1
+    by true = refl
+    by false = refl
+width-op ds Le w x y = by (w == 1)
+  where
+    by : (t : Bool) → width_of ds (if t then verilog.Binary verilog.Or 1 (verilog.Invert 1 x) y else verilog.Binary verilog.Le w x y) ≡ 1
+    by true = refl
+    by false = refl
+
+-- their operands have one width
+keeps-op : (ds : List Declaration) (o : BinaryOp) (w : ℕ) (x y : Expr) → width_of ds x ≡ w → width_of ds y ≡ w → KeepsWidths ds x → KeepsWidths ds y → KeepsWidths ds (binary_meaning o w x y)
+keeps-op ds Add w x y a b k l = (a, b, k, l)
+keeps-op ds Sub w x y a b k l = (a, b, k, l)
+keeps-op ds Mul w x y a b k l = (a, b, k, l)
+keeps-op ds And w x y a b k l = (a, b, k, l)
+keeps-op ds Xor w x y a b k l = (a, b, k, l)
+keeps-op ds Or w x y a b k l = (a, b, k, l)
+keeps-op ds Eq w x y a b k l = (a, b, k, l)
+keeps-op ds Ne w x y a b k l = (a, b, k, l)
+keeps-op ds Lt w x y a b k l = by (w == 1) refl
+  where
+    by : (t : Bool) → (w == 1) ≡ t → KeepsWidths ds (if t then verilog.Binary verilog.And 1 (verilog.Invert 1 x) y else verilog.Binary verilog.Lt w x y)
+    by true f = let s = eqb-true w 1 f in (refl, b ∙ s, (a ∙ s, k), l)
+    by false f = (a, b, k, l)
+keeps-op ds Le w x y a b k l = by (w == 1) refl
+  where
+    by : (t : Bool) → (w == 1) ≡ t → KeepsWidths ds (if t then verilog.Binary verilog.Or 1 (verilog.Invert 1 x) y else verilog.Binary verilog.Le w x y)
+    by true f = let s = eqb-true w 1 f in (refl, b ∙ s, (a ∙ s, k), l)
+    by false f = (a, b, k, l)
 
 port-kind : (d : Direction) → IsNet (kind_of d)
 port-kind In = tt
@@ -76,8 +106,8 @@ module _ (net : Net) (family : ℕ) (c : Named net family) where
   value-keeps n (Binary o x y) e h =
       let i = bus net family c x h.0.bus in
       let j = bus net family c y h.1.bus in
-      keeps-at n _ e (verilog.Binary (op_of o) x.width (net_of p x.node) (net_of p y.node)) tt (width-op o x.width)
-      (carried-width net family c x.node x.width i, carried-width net family c y.node y.width j ∙ sym h.2, carried-keeps net family c x.node x.width i, carried-keeps net family c y.node y.width j)
+      keeps-at n _ e (binary_meaning o x.width (net_of p x.node) (net_of p y.node)) tt (width-op ds o x.width (net_of p x.node) (net_of p y.node))
+      (keeps-op ds o x.width (net_of p x.node) (net_of p y.node) (carried-width net family c x.node x.width i) (carried-width net family c y.node y.width j ∙ sym h.2) (carried-keeps net family c x.node x.width i) (carried-keeps net family c y.node y.width j))
   value-keeps n (Choose test x y) e h =
       let t = bit net family c test h.0.bit in
       let i = bus net family c x h.1.bus in

@@ -1,11 +1,13 @@
 -- Each net of a netlist's module has one driver, and none depends on itself.
 use Rattle.std.proofs.Common.{◌≡◌, ℕ, zero, suc, ◌+◌, ◌<◌, ◌≤◌, Bool, true, false, ◌&&◌, ◌||◌, List, [], ◌∷◌, ◌++◌, length, Option, Some, None, IfSome, is_some, refl, sym, ap, subst, ◌∙◌, arith, inl, inr, eq-eqb, eqb-true, ne_eqb, zero-add}
-use Rattle.std.specs.Prelude.{slice_get, option_map, option_and_then, nat_eq, if◌then◌else◌}
+use Rattle.std.specs.Prelude.{slice_get, option_map, option_and_then, nat_eq, ◌==◌, if◌then◌else◌}
 use Rattle.std.specs.List.{AllByRecursion}
 use Rattle.std.proofs.lemmas.Option.{slice_get_within, slice_get_past}
 use Rattle.gl_bits.proofs.AllLists.{all_append}
 use Rattle.gl_bits.proofs.Bools.{or_cases, and_parts}
 use Rattle.gl_bits.proofs.Options.{not_some}
+use Rattle.gl_net.specs.declared.node.BinaryOp.{BinaryOp}
+use Rattle.gl_net.specs.declared.node.BinaryOp.TheVariants.{Add, Sub, Mul, And, Xor, Or, Eq, Ne, Lt, Le}
 use Rattle.gl_net.specs.declared.node.Node.{Node}
 use Rattle.gl_net.specs.declared.node.Node.TheVariants.{Input, Constant, Not, Binary, Choose, Join, Cut, Register, Memory, MemoryRead}
 use Rattle.gl_net.specs.declared.node.Bus.{Bus}
@@ -15,17 +17,39 @@ use Rattle.gl_net.specs.declared.node.Direction.{Direction}
 use Rattle.gl_net.specs.declared.node.Direction.TheVariants.{In, Out}
 use Rattle.gl_net.specs.Net.{Net, Value, Words, open_in, open_shape}
 use Rattle.gl_net.specs.WellFormed.{NodeFits, EndFits, end_at}
+use Rattle.gl_verilog.specs.Module as verilog
 use Rattle.gl_verilog.specs.Module.{Declaration, Expr, Statement, Assignment}
 use Rattle.gl_verilog.specs.Order.{IsOrdered}
 use Rattle.gl_verilog.specs.Valid.{drivers_of, assigns, AssignsOnce, blocks_of, writes_in, writes_of, HasDriver, mentions, depends, IsChain, HasNoLoop, IsValid}
 use Rattle.gl_verilog_writer.specs.Meaning.{kind_of}
 use Rattle.gl_verilog_writer.specs.Design.{numbered}
-use Rattle.gl_verilog_writer.proofs.Model.{Named, at_node, kind_for, expression_of, assigned_to, assignment_for, shown_by, output_for, block_for, declarations_in, line_in, module_in}
+use Rattle.gl_verilog_writer.proofs.Model.{Named, at_node, binary_meaning, kind_for, expression_of, assigned_to, assignment_for, shown_by, output_for, block_for, declarations_in, line_in, module_in}
 use Rattle.gl_verilog_writer.proofs.Ordered.{Descends, Above, if_some, in-order, rises-append, rises-numbered}
 use Rattle.gl_verilog_writer.proofs.Lists.{numbered-all, total, count, total-append, total-none, total-one, get-from_zero}
 use Rattle.gl_verilog_writer.proofs.Named.{sorted, distinct, apart}
 use Rattle.gl_verilog_writer.proofs.Fitted.{port_end, shown}
 use Rattle.gl_verilog_writer.proofs.Checked.{sizes-fit, assignments-keep, blocks-keep}
+
+-- an operation mentions its two operands
+binary-mentions : (o : BinaryOp) (w a b m : ℕ) → mentions (binary_meaning o w (verilog.Net a) (verilog.Net b)) m ≡ (nat_eq a m || nat_eq b m)
+binary-mentions Add w a b m = refl
+binary-mentions Sub w a b m = refl
+binary-mentions Mul w a b m = refl
+binary-mentions And w a b m = refl
+binary-mentions Xor w a b m = refl
+binary-mentions Or w a b m = refl
+binary-mentions Eq w a b m = refl
+binary-mentions Ne w a b m = refl
+binary-mentions Lt w a b m = by (w == 1)
+  where
+    by : (t : Bool) → mentions (if t then verilog.Binary verilog.And 1 (verilog.Invert 1 (verilog.Net a)) (verilog.Net b) else verilog.Binary verilog.Lt w (verilog.Net a) (verilog.Net b)) m ≡ (nat_eq a m || nat_eq b m)
+    by true = refl
+    by false = refl
+binary-mentions Le w a b m = by (w == 1)
+  where
+    by : (t : Bool) → mentions (if t then verilog.Binary verilog.Or 1 (verilog.Invert 1 (verilog.Net a)) (verilog.Net b) else verilog.Binary verilog.Le w (verilog.Net a) (verilog.Net b)) m ≡ (nat_eq a m || nat_eq b m)
+    by true = refl
+    by false = refl
 
 -- ---- counts as sums
 
@@ -270,7 +294,8 @@ module _ (net : Net) (family : ℕ) (c : Named net family) where
       let z : ranks m < ranks (at_node p n) = omega (arith, a, d) in z
   value-descends n (Constant word) e h = λ m t. absurd (cc)
   value-descends n (Not x) e h = λ m t. reads x.node n m h.before t
-  value-descends n (Binary o x y) e h = λ m t. elim (or_cases (nat_eq (at_node p x.node) m) (nat_eq (at_node p y.node) m) t) [ inl f ↦ reads x.node n m h.0.before f | inr f ↦ reads y.node n m h.1.before f ]
+  value-descends n (Binary o x y) e h = λ m t.
+      elim (or_cases (nat_eq (at_node p x.node) m) (nat_eq (at_node p y.node) m) (sym (binary-mentions o x.width (at_node p x.node) (at_node p y.node) m) ∙ t)) [ inl f ↦ reads x.node n m h.0.before f | inr f ↦ reads y.node n m h.1.before f ]
   value-descends n (Choose test x y) e h = λ m t. elim (or_cases (nat_eq (at_node p test.node) m) (nat_eq (at_node p x.node) m || nat_eq (at_node p y.node) m) t) [
     | inl f ↦ reads test.node n m h.0.before f
     | inr f ↦ elim (or_cases (nat_eq (at_node p x.node) m) (nat_eq (at_node p y.node) m) f) [ inl g ↦ reads x.node n m h.1.before g | inr g ↦ reads y.node n m h.2.before g ]

@@ -1,5 +1,5 @@
 -- The module that a netlist's text means: declaration 0 is the clock, then come the ports, then the nodes.
-use Rattle.std.proofs.Common.{◌≡◌, ℕ, suc, ◌+◌, ◌<◌, ◌^◌, true, false, List, [], ◌∷◌, ◌++◌, length, Option, Some, None, map}
+use Rattle.std.proofs.Common.{◌≡◌, ℕ, suc, ◌+◌, ◌<◌, ◌^◌, ◌==◌, if◌then◌else◌, true, false, List, [], ◌∷◌, ◌++◌, length, Option, Some, None, map}
 use Rattle.std.specs.Prelude.{codes, option_map, unwrap_or}
 use Rattle.gl_net.specs.declared.node.BinaryOp.{BinaryOp}
 use Rattle.gl_net.specs.declared.node.BinaryOp.TheVariants as op
@@ -42,6 +42,14 @@ op_of op.Ne = verilog.Ne
 op_of op.Lt = verilog.Lt
 op_of op.Le = verilog.Le
 
+-- what two values mean under an operation, of this width
+abbrev pub binary_meaning : BinaryOp → ℕ → Expr → Expr → Expr
+binary_meaning op.Lt w x y =
+    if w == 1 then verilog.Binary verilog.And 1 (Invert 1 x) y else verilog.Binary verilog.Lt w x y
+binary_meaning op.Le w x y =
+    if w == 1 then verilog.Binary verilog.Or 1 (Invert 1 x) y else verilog.Binary verilog.Le w x y
+binary_meaning o w x y = verilog.Binary (op_of o) w x y
+
 abbrev pub kind_for : Node → Kind
 kind_for (node.Register w reset next) = verilog.Register
 kind_for (node.Memory bits w drive) = verilog.Memory bits
@@ -55,7 +63,7 @@ abbrev pub expression_of : ℕ → Node → Option Expr
 expression_of p (node.Input place w) = Some (verilog.Net (suc place))
 expression_of p (node.Constant word) = Some (Literal word.bits word.width)
 expression_of p (node.Not x) = Some (Invert x.width (net_of p x.node))
-expression_of p (node.Binary o x y) = Some (verilog.Binary (op_of o) x.width (net_of p x.node) (net_of p y.node))
+expression_of p (node.Binary o x y) = Some (binary_meaning o x.width (net_of p x.node) (net_of p y.node))
 expression_of p (node.Choose test x y) = Some (verilog.Choose (net_of p test.node) (net_of p x.node) (net_of p y.node))
 expression_of p (node.Join x y) = Some (verilog.Join y.width (net_of p x.node) (net_of p y.node))
 expression_of p (node.Cut x high low) = Some (Select high low (at_node p x.node))

@@ -22,16 +22,16 @@ use Rattle.gl_net.specs.WellFormed.{NodeFits, EndFits, end_at}
 use Rattle.gl_net.specs.Finished.{has_reset_value, needs_reset}
 use Rattle.gl_verilog.specs.Tokens.{number_in}
 use Rattle.gl_verilog.specs.Written as written
-use Rattle.gl_verilog.specs.Written.{BitNot, WrittenExpr, WrittenStatement, WrittenItem, Wires, Assign, Always, WrittenModule}
+use Rattle.gl_verilog.specs.Written.{BitNot, BitAnd, BitOr, Below, AtMost, Prefix, Infix, WrittenExpr, WrittenStatement, WrittenItem, Wires, Assign, Always, WrittenModule}
 use Rattle.gl_verilog.specs.Module as verilog
 use Rattle.gl_verilog.specs.Module.{Declaration, Expr, Statement, Assignment, number_of}
 use Rattle.gl_verilog.specs.Widths.{width_of}
-use Rattle.gl_verilog.specs.Resolve.{number_read, both, three, prefixed, infixed, decimal_number, resolve_expr, resolve_statement, declare, port_kind, declare_port, address_bits_to, address_bits_of, Resolved, clocked, resolve_items, module_from, resolve}
+use Rattle.gl_verilog.specs.Resolve.{number_read, both, three, prefixed, decimal_number, resolve_expr, resolve_statement, declare, port_kind, declare_port, address_bits_to, address_bits_of, Resolved, clocked, resolve_items, module_from, resolve}
 use Rattle.gl_verilog_writer.specs.Meaning.{declaration_of, clock, kind_of}
 use Rattle.gl_verilog_writer.specs.Pieces.{net_name}
-use Rattle.gl_verilog_writer.specs.Design.{port_name, infix_of, named, literal, vector, last_word, declares, takes, does, with_option, numbered, declaring, assigning, shows, showing, clocking, leads, written_port, clock_port, items_of}
+use Rattle.gl_verilog_writer.specs.Design.{port_name, binary_expr, named, literal, vector, last_word, declares, takes, does, with_option, numbered, declaring, assigning, shows, showing, clocking, leads, written_port, clock_port, items_of}
 use Rattle.gl_verilog_writer.proofs.Digits.{number_in-decimal}
-use Rattle.gl_verilog_writer.proofs.Model.{Named, at_node, net_of, op_of, declaration_for, expression_of, assigned_to, assignment_for, shown_by, output_for, block_for, counted, declarations_in, line_in, module_in}
+use Rattle.gl_verilog_writer.proofs.Model.{Named, at_node, net_of, binary_meaning, declaration_for, expression_of, assigned_to, assignment_for, shown_by, output_for, block_for, counted, declarations_in, line_in, module_in}
 use Rattle.gl_verilog_writer.proofs.Lists.{with-append, get-from_zero}
 use Rattle.gl_verilog_writer.proofs.Named.{node_found, port_found, port_no_clock}
 use Rattle.gl_verilog_writer.proofs.Fitted.{width-fits, port_end, IsCarried, bus, bit, shown, stored, node-read, carried-width, word-small}
@@ -134,17 +134,26 @@ all-blocks ds f g n (x ∷ xs) h is r e =
     ∙ m (numbered f (n + 1) xs ++ is) (record r { blocks = numbered g (n + 1) xs ++ r.blocks }) rest
     ∙ ap (λ (bs : List Statement). Some (record r { blocks = bs })) (sym (with-append (g n x) (numbered g (n + 1) xs) r.blocks))
 
-infix-means : (ds : List Declaration) (o : BinaryOp) (x y : Expr) (w : ℕ) → width_of ds x ≡ w → infixed ds (infix_of o) x y ≡ verilog.Binary (op_of o) w x y
-infix-means ds Add x y w e = ap (λ (k : ℕ). verilog.Binary verilog.Add k x y) e
-infix-means ds Sub x y w e = ap (λ (k : ℕ). verilog.Binary verilog.Sub k x y) e
-infix-means ds Mul x y w e = ap (λ (k : ℕ). verilog.Binary verilog.Mul k x y) e
-infix-means ds And x y w e = ap (λ (k : ℕ). verilog.Binary verilog.And k x y) e
-infix-means ds Xor x y w e = ap (λ (k : ℕ). verilog.Binary verilog.Xor k x y) e
-infix-means ds Or x y w e = ap (λ (k : ℕ). verilog.Binary verilog.Or k x y) e
-infix-means ds Eq x y w e = ap (λ (k : ℕ). verilog.Binary verilog.Eq k x y) e
-infix-means ds Ne x y w e = ap (λ (k : ℕ). verilog.Binary verilog.Ne k x y) e
-infix-means ds Lt x y w e = ap (λ (k : ℕ). verilog.Binary verilog.Lt k x y) e
-infix-means ds Le x y w e = ap (λ (k : ℕ). verilog.Binary verilog.Le k x y) e
+-- what is written of two values under an operation means that operation
+binary-means : (ds : List Declaration) (o : BinaryOp) (a b : WrittenExpr) (x y : Expr) (w : ℕ) → resolve_expr ds a ≡ Some x → resolve_expr ds b ≡ Some y → width_of ds x ≡ w → resolve_expr ds (binary_expr o w a b) ≡ Some (binary_meaning o w x y)
+binary-means ds Add a b x y w p q e = rw (p, q) (ap (λ (k : ℕ). Some (verilog.Binary verilog.Add k x y)) e)
+binary-means ds Sub a b x y w p q e = rw (p, q) (ap (λ (k : ℕ). Some (verilog.Binary verilog.Sub k x y)) e)
+binary-means ds Mul a b x y w p q e = rw (p, q) (ap (λ (k : ℕ). Some (verilog.Binary verilog.Mul k x y)) e)
+binary-means ds And a b x y w p q e = rw (p, q) (ap (λ (k : ℕ). Some (verilog.Binary verilog.And k x y)) e)
+binary-means ds Xor a b x y w p q e = rw (p, q) (ap (λ (k : ℕ). Some (verilog.Binary verilog.Xor k x y)) e)
+binary-means ds Or a b x y w p q e = rw (p, q) (ap (λ (k : ℕ). Some (verilog.Binary verilog.Or k x y)) e)
+binary-means ds Eq a b x y w p q e = rw (p, q) (ap (λ (k : ℕ). Some (verilog.Binary verilog.Eq k x y)) e)
+binary-means ds Ne a b x y w p q e = rw (p, q) (ap (λ (k : ℕ). Some (verilog.Binary verilog.Ne k x y)) e)
+binary-means ds Lt a b x y w p q e = by (w == 1) refl
+  where
+    by : (t : Bool) → (w == 1) ≡ t → resolve_expr ds (if t then Infix BitAnd (Prefix BitNot a) b else Infix Below a b) ≡ Some (if t then verilog.Binary verilog.And 1 (verilog.Invert 1 x) y else verilog.Binary verilog.Lt w x y)
+    by true f = let s : width_of ds x ≡ 1 = e ∙ eqb-true w 1 f in rw (p, q) (ap (λ (k : ℕ). Some (verilog.Binary verilog.And k (verilog.Invert k x) y)) s)
+    by false f = rw (p, q) (ap (λ (k : ℕ). Some (verilog.Binary verilog.Lt k x y)) e)
+binary-means ds Le a b x y w p q e = by (w == 1) refl
+  where
+    by : (t : Bool) → (w == 1) ≡ t → resolve_expr ds (if t then Infix BitOr (Prefix BitNot a) b else Infix AtMost a b) ≡ Some (if t then verilog.Binary verilog.Or 1 (verilog.Invert 1 x) y else verilog.Binary verilog.Le w x y)
+    by true f = let s : width_of ds x ≡ 1 = e ∙ eqb-true w 1 f in rw (p, q) (ap (λ (k : ℕ). Some (verilog.Binary verilog.Or k (verilog.Invert k x) y)) s)
+    by false f = rw (p, q) (ap (λ (k : ℕ). Some (verilog.Binary verilog.Le k x y)) e)
 
 literal-means : (ds : List Declaration) (v w : ℕ) → IsWidth w → v < 2 ^ w → resolve_expr ds (literal v w) ≡ Some (verilog.Literal v w)
 literal-means ds v w i h =
@@ -185,9 +194,7 @@ module _ (net : Net) (family : ℕ) (c : Named net family) where
   value-means n (Binary o x y) h =
       let i = bus net family c x h.0.bus in
       let j = bus net family c y h.1.bus in
-      let a = net-means x.node x.width i in
-      let b = net-means y.node y.width j in
-      rw (a, b) (ap Some (infix-means ds o (net_of p x.node) (net_of p y.node) x.width (carried-width net family c x.node x.width i)))
+      binary-means ds o (named family x.node) (named family y.node) (net_of p x.node) (net_of p y.node) x.width (net-means x.node x.width i) (net-means y.node y.width j) (carried-width net family c x.node x.width i)
   value-means n (Choose test x y) h =
       let t = net-means test.node 1 (bit net family c test h.0.bit) in
       let a = net-means x.node x.width (bus net family c x h.1.bus) in

@@ -1,11 +1,12 @@
 -- Each run of a netlist's module is one of the netlist.
-use Rattle.std.proofs.Common.{◌≡◌, ℕ, zero, suc, ◌+◌, ◌<◌, ◌^◌, Bool, true, false, ◌&&◌, List, [], ◌∷◌, ◌++◌, length, take, map, Option, Some, None, refl, sym, ap, ◌∙◌, arith, add-one, eq-eqb, ne_eqb, take_at}
-use Rattle.std.specs.Prelude.{slice_get, codes, option_map, option_and_then, unwrap_or, nat_eq, if◌then◌else◌, find, bytes_eq}
+use Rattle.std.proofs.Common.{◌≡◌, ℕ, zero, suc, ◌+◌, ◌<◌, ◌^◌, Bool, true, false, ◌&&◌, List, [], ◌∷◌, ◌++◌, length, take, map, Option, Some, None, refl, sym, ap, ◌∙◌, arith, add-one, eq-eqb, eqb-true, ne_eqb, subst, take_at}
+use Rattle.std.specs.Prelude.{slice_get, codes, option_map, option_and_then, unwrap_or, nat_eq, ◌==◌, bit_and, bit_or, if◌then◌else◌, find, bytes_eq}
 use Rattle.std.proofs.lemmas.List.{length-map}
 use Rattle.std.specs.Option.{option_map_or}
 use Rattle.gl_bits.proofs.AllLists.{all_front, all_back}
 use Rattle.gl_bits.proofs.Options.{some_same, not_some}
 use Rattle.gl_bits.proofs.Bools.{bytes_other, not_both}
+use Rattle.gl_bits.specs.Words.{not_of, lt_of, le_of}
 use Rattle.gl_net.specs.declared.node.BinaryOp.{BinaryOp}
 use Rattle.gl_net.specs.declared.node.BinaryOp.TheVariants.{Add, Sub, Mul, And, Xor, Or, Eq, Ne, Lt, Le}
 use Rattle.gl_net.specs.declared.node.Node.{Node}
@@ -24,9 +25,10 @@ use Rattle.gl_verilog.specs.Run.{IsRegister, IsSettled, IsRun, port_of, is_input
 use Rattle.gl_verilog.proofs.Edges.{later_or-none}
 use Rattle.gl_verilog_writer.specs.Meaning.{declaration_of, clock, kind_of, IsRunOf}
 use Rattle.gl_verilog_writer.specs.Design.{with_option, numbered}
-use Rattle.gl_verilog_writer.proofs.Model.{Named, at_node, net_of, op_of, kind_for, declaration_for, expression_of, assigned_to, assignment_for, shown_by, output_for, block_for, counted, declarations_in, line_in, module_in}
+use Rattle.gl_verilog_writer.proofs.Model.{Named, at_node, net_of, binary_meaning, kind_for, declaration_for, expression_of, assigned_to, assignment_for, shown_by, output_for, block_for, counted, declarations_in, line_in, module_in}
 use Rattle.gl_verilog_writer.proofs.Lists.{numbered-each}
 use Rattle.gl_verilog_writer.proofs.Named.{node_there, port_there, port_found}
+use Rattle.gl_verilog_writer.proofs.Fitted.{IsCarried, bus}
 
 -- ---- the later of what blocks give
 
@@ -117,17 +119,48 @@ stored true true x z = refl
 stored true false x z = refl
 stored false d x z = refl
 
-binary-same : (o : BinaryOp) (w x y : ℕ) → verilog.binary_of (op_of o) w x y ≡ circuit.binary_of o w x y
-binary-same Add w x y = refl
-binary-same Sub w x y = refl
-binary-same Mul w x y = refl
-binary-same And w x y = refl
-binary-same Xor w x y = refl
-binary-same Or w x y = refl
-binary-same Eq w x y = refl
-binary-same Ne w x y = refl
-binary-same Lt w x y = refl
-binary-same Le w x y = refl
+-- a gate of single bits is the comparison
+gate-below : (x y : ℕ) → x < 2 → y < 2 → bit_and (not_of 1 x) y ≡ lt_of x y
+unfolding not_of lt_of
+gate-below zero zero h k = refl
+gate-below zero (suc zero) h k = refl
+gate-below (suc zero) zero h k = refl
+gate-below (suc zero) (suc zero) h k = refl
+gate-below (suc (suc x)) y h k = absurd (omega (arith, h))
+gate-below zero (suc (suc y)) h k = absurd (omega (arith, k))
+gate-below (suc zero) (suc (suc y)) h k = absurd (omega (arith, k))
+
+gate-most : (x y : ℕ) → x < 2 → y < 2 → bit_or (not_of 1 x) y ≡ le_of x y
+unfolding not_of le_of
+gate-most zero zero h k = refl
+gate-most zero (suc zero) h k = refl
+gate-most (suc zero) zero h k = refl
+gate-most (suc zero) (suc zero) h k = refl
+gate-most (suc (suc x)) y h k = absurd (omega (arith, h))
+gate-most zero (suc (suc y)) h k = absurd (omega (arith, k))
+gate-most (suc zero) (suc (suc y)) h k = absurd (omega (arith, k))
+
+-- what two nets mean under an operation is what the netlist's node says of them
+binary-same : (v : Nets) (w' : Memories) (o : BinaryOp) (w m n : ℕ) → v m < 2 ^ w → v n < 2 ^ w
+    → verilog.value_of v w' (binary_meaning o w (verilog.Net m) (verilog.Net n)) ≡ circuit.binary_of o w (v m) (v n)
+binary-same v w' Add w m n h k = refl
+binary-same v w' Sub w m n h k = refl
+binary-same v w' Mul w m n h k = refl
+binary-same v w' And w m n h k = refl
+binary-same v w' Xor w m n h k = refl
+binary-same v w' Or w m n h k = refl
+binary-same v w' Eq w m n h k = refl
+binary-same v w' Ne w m n h k = refl
+binary-same v w' Lt w m n h k = by (w == 1) refl
+  where
+    by : (b : Bool) → (w == 1) ≡ b → verilog.value_of v w' (if b then verilog.Binary verilog.And 1 (verilog.Invert 1 (verilog.Net m)) (verilog.Net n) else verilog.Binary verilog.Lt w (verilog.Net m) (verilog.Net n)) ≡ lt_of (v m) (v n)
+    by true e = let s : w ≡ 1 = eqb-true w 1 e in gate-below (v m) (v n) (subst (λ (z : ℕ). v m < 2 ^ z) s h) (subst (λ (z : ℕ). v n < 2 ^ z) s k)
+    by false e = refl
+binary-same v w' Le w m n h k = by (w == 1) refl
+  where
+    by : (b : Bool) → (w == 1) ≡ b → verilog.value_of v w' (if b then verilog.Binary verilog.Or 1 (verilog.Invert 1 (verilog.Net m)) (verilog.Net n) else verilog.Binary verilog.Le w (verilog.Net m) (verilog.Net n)) ≡ le_of (v m) (v n)
+    by true e = let s : w ≡ 1 = eqb-true w 1 e in gate-most (v m) (v n) (subst (λ (z : ℕ). v m < 2 ^ z) s h) (subst (λ (z : ℕ). v n < 2 ^ z) s k)
+    by false e = refl
 
 -- ---- ports by name
 
@@ -222,6 +255,11 @@ module _ (net : Net) (family : ℕ) (c : Named net family) (value : ℕ → Nets
       ∙ ap (λ (i : ℕ). given (λ b. written (value t) (word t) b m k) (block_for p line i x)) (let q : 0 + n ≡ n = omega arith in q) in
       ap (λ (s : ℕ). word s m k) (sym (add-one t)) ∙ r.memories t m k ∙ ap (λ (o : Option ℕ). unwrap_or o (word t m k)) a
 
+  -- what a net carries is below 2 ^ width
+  carried-small : (t n w : ℕ) → IsCarried net family n w → value t (at_node p n) < 2 ^ w
+  unfolding module_in
+  carried-small t n w h = subst (λ (k : ℕ). value t (at_node p n) < 2 ^ k) h.width (r.fits t (at_node p n) (declaration_for family n h.node) (node_there net family c n h.node h.there)).0
+
   itself : (n : ℕ) → nat_eq (at_node p n) (at_node p n) ≡ true
   itself n = eq-eqb (at_node p n) (at_node p n) refl
 
@@ -230,7 +268,10 @@ module _ (net : Net) (family : ℕ) (c : Named net family) (value : ℕ → Nets
   holds n (Input place w) e = tt
   holds n (Constant word') e = λ t. value-at t n _ _ e refl
   holds n (Not x) e = λ t. value-at t n _ _ e refl
-  holds n (Binary o x y) e = λ t. value-at t n _ _ e refl ∙ binary-same o x.width (value t (at_node p x.node)) (value t (at_node p y.node))
+  holds n (Binary o x y) e = λ t.
+      let h = c.netlist.formed.nodes n (Binary o x y) e in
+      let k : value t (at_node p y.node) < 2 ^ x.width = subst (λ (w : ℕ). value t (at_node p y.node) < 2 ^ w) (sym h.2) (carried-small t y.node y.width (bus net family c y h.1.bus)) in
+      value-at t n _ _ e refl ∙ binary-same (value t) (word t) o x.width (at_node p x.node) (at_node p y.node) (carried-small t x.node x.width (bus net family c x h.0.bus)) k
   holds n (Choose test x y) e = λ t. value-at t n _ _ e refl
   holds n (Join x y) e = λ t. value-at t n _ _ e refl
   holds n (Cut x high low) e = λ t. value-at t n _ _ e refl

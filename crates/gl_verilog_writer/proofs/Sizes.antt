@@ -20,10 +20,10 @@ use Rattle.gl_net.specs.Net.{Net, shape_in, IsBus, IsBit, IsStore}
 use Rattle.gl_net.specs.PortValues.{bits_of}
 use Rattle.gl_net.specs.WellFormed.{NodeFits, EndFits, end_at}
 use Rattle.gl_net.specs.Finished.{IsNetlist}
-use Rattle.gl_verilog.specs.Written.{WrittenItem, WrittenPort}
+use Rattle.gl_verilog.specs.Written.{WrittenItem, WrittenPort, WrittenExpr, BitNot, BitAnd, BitOr, Below, AtMost, Prefix, Infix}
 use Rattle.gl_verilog_writer.specs.Pieces.{family_text, net_name}
-use Rattle.gl_verilog_writer.specs.Printed.{infix_text, range_text, direction_text, port_text, more_ports_text, always_text, item_text, items_text, head_text}
-use Rattle.gl_verilog_writer.specs.Design.{node_width, infix_of, port_name, last_word, vector, leads, shows, declares, with_option, numbered, declaring, assigning, showing, clocking, written_port, clock_port, items_of, family_of, module_text}
+use Rattle.gl_verilog_writer.specs.Printed.{expr_text, infix_text, range_text, direction_text, port_text, more_ports_text, always_text, item_text, items_text, head_text}
+use Rattle.gl_verilog_writer.specs.Design.{node_width, named, infix_of, binary_expr, port_name, last_word, vector, leads, shows, declares, with_option, numbered, declaring, assigning, showing, clocking, written_port, clock_port, items_of, family_of, module_text}
 use Rattle.gl_verilog_writer.specs.Size.{port_bytes, most_bytes}
 use Rattle.gl_verilog_writer.proofs.Model.{Named}
 use Rattle.gl_verilog_writer.proofs.Loops.{item-first, items-parts}
@@ -95,6 +95,31 @@ literal-within n w m h = both (both (small-digits w (omega (arith, m))) (word (c
 
 pair-within : (k : ℕ) (a s b : List ℕ) → Within 22 a → Within k s → Within 22 b → Within (22 + k + 22) (a ++ s ++ b)
 pair-within k a s b p q r = both (both p q) r
+
+-- a gate of single bits has a sign in front, and one between two blanks
+gate-within : (a s b : List ℕ) → Within 22 a → Within 3 s → Within 22 b → Within 48 ((codes "~" ++ a) ++ s ++ b)
+gate-within a s b p q r = both (both (both (word (codes "~")) p) q) r
+
+-- two values under an operation
+binary-within : (o : BinaryOp) (w : ℕ) (a b : WrittenExpr) → Within 22 (expr_text a) → Within 22 (expr_text b) → Within 48 (expr_text (binary_expr o w a b))
+binary-within Add w a b p q = pair-within 4 _ _ _ p (infix-within Add) q
+binary-within Sub w a b p q = pair-within 4 _ _ _ p (infix-within Sub) q
+binary-within Mul w a b p q = pair-within 4 _ _ _ p (infix-within Mul) q
+binary-within And w a b p q = pair-within 4 _ _ _ p (infix-within And) q
+binary-within Xor w a b p q = pair-within 4 _ _ _ p (infix-within Xor) q
+binary-within Or w a b p q = pair-within 4 _ _ _ p (infix-within Or) q
+binary-within Eq w a b p q = pair-within 4 _ _ _ p (infix-within Eq) q
+binary-within Ne w a b p q = pair-within 4 _ _ _ p (infix-within Ne) q
+binary-within Lt w a b p q = by (w == 1)
+  where
+    by : (t : Bool) → Within 48 (expr_text (if t then Infix BitAnd (Prefix BitNot a) b else Infix Below a b))
+    by true = gate-within _ _ _ p (word (codes " & ")) q
+    by false = pair-within 4 _ _ _ p (infix-within Lt) q
+binary-within Le w a b p q = by (w == 1)
+  where
+    by : (t : Bool) → Within 48 (expr_text (if t then Infix BitOr (Prefix BitNot a) b else Infix AtMost a b))
+    by true = gate-within _ _ _ p (word (codes " | ")) q
+    by false = pair-within 4 _ _ _ p (infix-within Le) q
 
 choose-within : (t a b : List ℕ) → Within 22 t → Within 22 a → Within 22 b → Within 72 (t ++ codes " ? " ++ a ++ codes " : " ++ b)
 choose-within t a b p q r = both (both (both (both p (word (codes " ? "))) q) (word (codes " : "))) r
@@ -172,7 +197,7 @@ module _ (net : Net) (family : ℕ) (c : Named net family) (few_nodes : length n
   node-within n (Not x) e h =
       three (declared-within n _ e h) (assigned-within 23 _ _ (named-within n _ e) (both (word (codes "~")) (bus-within x h.bus))) none (omega arith)
   node-within n (Binary o x y) e h =
-      three (declared-within n _ e h) (assigned-within 48 _ _ (named-within n _ e) (pair-within 4 _ _ _ (bus-within x h.0.bus) (infix-within o) (bus-within y h.1.bus))) none (omega arith)
+      three (declared-within n _ e h) (assigned-within 48 _ _ (named-within n _ e) (binary-within o x.width (named family x.node) (named family y.node) (bus-within x h.0.bus) (bus-within y h.1.bus))) none (omega arith)
   node-within n (Choose test x y) e h =
       three (declared-within n _ e h) (assigned-within 72 _ _ (named-within n _ e) (choose-within _ _ _ (bit-within test h.0.bit) (bus-within x h.1.bus) (bus-within y h.2.bus))) none (omega arith)
   node-within n (Join x y) e h =

@@ -18,11 +18,11 @@ use Rattle.gl_net.specs.WellFormed.{NodeFits, EndFits, end_at}
 use Rattle.gl_net.specs.Finished.{IsName}
 use Rattle.gl_verilog.specs.Tokens.{tokens_of}
 use Rattle.gl_verilog.specs.Written as written
-use Rattle.gl_verilog.specs.Written.{WrittenExpr, Infix, WrittenStatement, Update, WrittenItem, Assign, Always, WrittenModule, IsExpr, IsStatement, IsItem, IsWritten, spell}
+use Rattle.gl_verilog.specs.Written.{WrittenExpr, BitNot, BitAnd, BitOr, Below, AtMost, Prefix, Infix, WrittenStatement, Update, WrittenItem, Assign, Always, WrittenModule, IsExpr, IsStatement, IsItem, IsWritten, spell}
 use Rattle.gl_verilog.specs.Limits.{IsShort, depth_of, depth_in, ifs_in, AreShort, KeepsLimits, IsWithinLimits}
 use Rattle.gl_verilog_writer.specs.Pieces.{net_name}
 use Rattle.gl_verilog_writer.specs.Printed.{text_of}
-use Rattle.gl_verilog_writer.specs.Design.{port_name, infix_of, named, literal, vector, last_word, declares, takes, does, numbered, declaring, assigning, shows, showing, clocking, range_of, written_port, clock_port, items_of}
+use Rattle.gl_verilog_writer.specs.Design.{port_name, binary_expr, named, literal, vector, last_word, declares, takes, does, numbered, declaring, assigning, shows, showing, clocking, range_of, written_port, clock_port, items_of}
 use Rattle.gl_verilog_writer.proofs.Digits.{IsPlain, IsSize, name-plain, clock-plain, reset-plain, size-decimal, numeral-decimal}
 use Rattle.gl_verilog_writer.proofs.Texts.{IsPrintable, CanPrint, IsRange, IsPrinted, IsPrintedPort, IsPrintedModule, module-spelled}
 use Rattle.gl_verilog_writer.proofs.Model.{Named}
@@ -70,17 +70,26 @@ literal-flat v w i h = let m = i.most in record {
   short = omega arith;
 }
 
-infix-flat : (o : BinaryOp) (a b : List ℕ) → IsPlain a → IsPlain b → IsFlat (Infix (infix_of o) (written.Named a) (written.Named b))
-infix-flat Add a b p q = record { prints = (p, q); grammar = (omega arith, (omega arith, omega arith, tt, tt)); depth = omega arith; short = omega arith }
-infix-flat Sub a b p q = record { prints = (p, q); grammar = (omega arith, (omega arith, omega arith, tt, tt)); depth = omega arith; short = omega arith }
-infix-flat Mul a b p q = record { prints = (p, q); grammar = (omega arith, (omega arith, omega arith, tt, tt)); depth = omega arith; short = omega arith }
-infix-flat And a b p q = record { prints = (p, q); grammar = (omega arith, (omega arith, omega arith, tt, tt)); depth = omega arith; short = omega arith }
-infix-flat Xor a b p q = record { prints = (p, q); grammar = (omega arith, (omega arith, omega arith, tt, tt)); depth = omega arith; short = omega arith }
-infix-flat Or a b p q = record { prints = (p, q); grammar = (omega arith, (omega arith, omega arith, tt, tt)); depth = omega arith; short = omega arith }
-infix-flat Eq a b p q = record { prints = (p, q); grammar = (omega arith, (omega arith, omega arith, tt, tt)); depth = omega arith; short = omega arith }
-infix-flat Ne a b p q = record { prints = (p, q); grammar = (omega arith, (omega arith, omega arith, tt, tt)); depth = omega arith; short = omega arith }
-infix-flat Lt a b p q = record { prints = (p, q); grammar = (omega arith, (omega arith, omega arith, tt, tt)); depth = omega arith; short = omega arith }
-infix-flat Le a b p q = record { prints = (p, q); grammar = (omega arith, (omega arith, omega arith, tt, tt)); depth = omega arith; short = omega arith }
+-- two names under an operation
+binary-flat : (o : BinaryOp) (w : ℕ) (a b : List ℕ) → IsPlain a → IsPlain b → IsFlat (binary_expr o w (written.Named a) (written.Named b))
+binary-flat Add w a b p q = record { prints = (p, q); grammar = (omega arith, (omega arith, omega arith, tt, tt)); depth = omega arith; short = omega arith }
+binary-flat Sub w a b p q = record { prints = (p, q); grammar = (omega arith, (omega arith, omega arith, tt, tt)); depth = omega arith; short = omega arith }
+binary-flat Mul w a b p q = record { prints = (p, q); grammar = (omega arith, (omega arith, omega arith, tt, tt)); depth = omega arith; short = omega arith }
+binary-flat And w a b p q = record { prints = (p, q); grammar = (omega arith, (omega arith, omega arith, tt, tt)); depth = omega arith; short = omega arith }
+binary-flat Xor w a b p q = record { prints = (p, q); grammar = (omega arith, (omega arith, omega arith, tt, tt)); depth = omega arith; short = omega arith }
+binary-flat Or w a b p q = record { prints = (p, q); grammar = (omega arith, (omega arith, omega arith, tt, tt)); depth = omega arith; short = omega arith }
+binary-flat Eq w a b p q = record { prints = (p, q); grammar = (omega arith, (omega arith, omega arith, tt, tt)); depth = omega arith; short = omega arith }
+binary-flat Ne w a b p q = record { prints = (p, q); grammar = (omega arith, (omega arith, omega arith, tt, tt)); depth = omega arith; short = omega arith }
+binary-flat Lt w a b p q = by (w == 1)
+  where
+    by : (t : Bool) → IsFlat (if t then Infix BitAnd (Prefix BitNot (written.Named a)) (written.Named b) else Infix Below (written.Named a) (written.Named b))
+    by true = record { prints = (p, q); grammar = (omega arith, (omega arith, omega arith, (omega arith, tt), tt)); depth = omega arith; short = omega arith }
+    by false = record { prints = (p, q); grammar = (omega arith, (omega arith, omega arith, tt, tt)); depth = omega arith; short = omega arith }
+binary-flat Le w a b p q = by (w == 1)
+  where
+    by : (t : Bool) → IsFlat (if t then Infix BitOr (Prefix BitNot (written.Named a)) (written.Named b) else Infix AtMost (written.Named a) (written.Named b))
+    by true = record { prints = (p, q); grammar = (omega arith, (omega arith, omega arith, (omega arith, tt), tt)); depth = omega arith; short = omega arith }
+    by false = record { prints = (p, q); grammar = (omega arith, (omega arith, omega arith, tt, tt)); depth = omega arith; short = omega arith }
 
 module _ (net : Net) (family : ℕ) (c : Named net family) where
   plain-port : (place : ℕ) (q : Port) → slice_get net.ports place ≡ Some q → IsPlain q.name
@@ -98,7 +107,7 @@ module _ (net : Net) (family : ℕ) (c : Named net family) where
   value-flat n (Binary o x y) h =
       let i = bus net family c x h.0.bus in
       let j = bus net family c y h.1.bus in
-      infix-flat o (net_name family x.node) (net_name family y.node) (node-plain net family c x.node i.node i.there) (node-plain net family c y.node j.node j.there)
+      binary-flat o x.width (net_name family x.node) (net_name family y.node) (node-plain net family c x.node i.node i.there) (node-plain net family c y.node j.node j.there)
   value-flat n (Choose test x y) h =
       let t = bit net family c test h.0.bit in
       let i = bus net family c x h.1.bus in

@@ -54,6 +54,13 @@ infix_of Ne = NotEqual
 infix_of Lt = Below
 infix_of Le = AtMost
 
+-- what is written for two values under an operation. Of single bits, *below* and *at most* are gates: a comparison is
+-- unknown wherever an operand is, a gate is not where the other operand decides it (IEEE 1364-2005, clause 5.1)
+abbrev pub binary_expr : BinaryOp → ℕ → WrittenExpr → WrittenExpr → WrittenExpr
+binary_expr Lt w x y = if w == 1 then Infix BitAnd (Prefix BitNot x) y else Infix Below x y
+binary_expr Le w x y = if w == 1 then Infix BitOr (Prefix BitNot x) y else Infix AtMost x y
+binary_expr op w x y = Infix (infix_of op) x y
+
 -- the net of a node as an expression
 abbrev pub named : ℕ → ℕ → WrittenExpr
 named family node = Named (net_name family node)
@@ -81,7 +88,7 @@ abbrev pub takes : ℕ → List Port → Node → Option WrittenExpr
 takes family ports (Input place w) = Some (Named (port_name ports place))
 takes family ports (Constant word) = Some (literal word.bits word.width)
 takes family ports (Not x) = Some (Prefix BitNot (named family x.node))
-takes family ports (Binary op x y) = Some (Infix (infix_of op) (named family x.node) (named family y.node))
+takes family ports (Binary op x y) = Some (binary_expr op x.width (named family x.node) (named family y.node))
 takes family ports (Choose test x y) =
     Some (Conditional (named family test.node) (named family x.node) (named family y.node))
 takes family ports (Join x y) = Some (Braces (Parts (named family x.node) (named family y.node)))

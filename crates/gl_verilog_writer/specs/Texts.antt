@@ -1,13 +1,15 @@
 -- The texts of a module's parts, each under the name by which the clauses of what writes it cite it.
 use Rattle.std.specs.Prelude.{◌≡◌, ℕ, List, [], ◌∷◌, ◌++◌, map, codes, decimal}
 use Rattle.std.specs.Option.{option_map_or}
+use Rattle.gl_net.specs.declared.node.BinaryOp.{BinaryOp}
+use Rattle.gl_net.specs.declared.node.Bus.{Bus}
 use Rattle.gl_net.specs.declared.node.Node.{Node}
 use Rattle.gl_net.specs.declared.node.Port.{Port}
 use Rattle.gl_net.specs.declared.node.MemoryDrive.{MemoryDrive}
 use Rattle.gl_verilog.specs.Written.{WrittenItem, Update, UpdateWord, IfThen}
 use Rattle.gl_verilog_writer.specs.Pieces.{net_name}
 use Rattle.gl_verilog_writer.specs.Printed.{range_text, port_text, more_ports_text, head_text, expr_text, statement_text, item_text, items_text}
-use Rattle.gl_verilog_writer.specs.Design.{vector, named, literal, declares, takes, declaring, assigning, shows, showing, clocking, clock_port, written_port, items_of, numbered}
+use Rattle.gl_verilog_writer.specs.Design.{vector, binary_expr, named, literal, declares, takes, declaring, assigning, shows, showing, clocking, clock_port, written_port, items_of, numbered}
 
 -- ---- of one node
 
@@ -18,6 +20,10 @@ net_text word family number width = word ++ range_text (vector width) ++ net_nam
 -- two nets with a sign between them
 abbrev pub pair_text : ℕ → ℕ → List ℕ → ℕ → List ℕ
 pair_text family left sign right = net_name family left ++ sign ++ net_name family right
+
+-- two values under an operation
+abbrev pub binary_text : ℕ → BinaryOp → Bus → Bus → List ℕ
+binary_text family op x y = expr_text (binary_expr op x.width (named family x.node) (named family y.node))
 
 -- the text of some bits of a node's net
 abbrev pub cut_text : ℕ → ℕ → ℕ → ℕ → List ℕ

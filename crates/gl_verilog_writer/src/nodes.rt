@@ -4,11 +4,11 @@ ghost use Rattle.std.specs.Prelude.{◌≡◌, ◌++◌, ◌+◌, ◌-◌, OnOk,
 ghost use Rattle.gl_verilog_writer.specs.Pieces.{net_name};
 ghost use Rattle.gl_verilog_writer.specs.Printed.{infix_text, always_text};
 ghost use Rattle.gl_verilog_writer.specs.Design.{node_width, port_name, infix_of, last_word};
-ghost use Rattle.gl_verilog_writer.specs.Texts.{net_text, pair_text, cut_text, declared_text, value_text, set_text, update_text, reset_text, write_text, block_text};
+ghost use Rattle.gl_verilog_writer.specs.Texts.{net_text, pair_text, binary_text, cut_text, declared_text, value_text, set_text, update_text, reset_text, write_text, block_text};
 
 use crate::pieces::{put, put_literal, put_net, put_number, put_range};
 use gl_bits::Memory;
-use gl_net::{BinaryOp, MemoryDrive, Node, Port};
+use gl_net::{BinaryOp, Bus, MemoryDrive, Node, Port};
 
 // The width of two words side by side.
 fn width_of_both(high: u8, low: u8) -> u16
@@ -158,6 +158,29 @@ fn put_port_name(out: &mut Vec<u8>, ports: &[Port], place: usize) -> Result<(), 
     }
 }
 
+// Two values under an operation.
+fn put_binary(
+    out: &mut Vec<u8>,
+    family: usize,
+    op: BinaryOp,
+    left: Bus,
+    right: Bus,
+) -> Result<(), Memory>
+    ensures { OnOk result (out.new.items ≡ out.old.items ++ binary_text family op left right) }
+{
+    match op {
+        BinaryOp::Lt if left.width == 1 => {
+            put(out, b"~")?;
+            put_pair(out, family, left.node, b" & ", right.node)
+        }
+        BinaryOp::Le if left.width == 1 => {
+            put(out, b"~")?;
+            put_pair(out, family, left.node, b" | ", right.node)
+        }
+        _ => put_pair(out, family, left.node, sign_of(op), right.node),
+    }
+}
+
 // The right side of a node's assignment.
 fn put_value(out: &mut Vec<u8>, family: usize, ports: &[Port], node: &Node) -> Result<(), Memory>
     ensures { OnOk result (out.new.items ≡ out.old.items ++ value_text family ports.now node.now) }
@@ -169,9 +192,7 @@ fn put_value(out: &mut Vec<u8>, family: usize, ports: &[Port], node: &Node) -> R
             put(out, b"~")?;
             put_net(out, family, arg.node)
         }
-        Node::Binary(op, left, right) => {
-            put_pair(out, family, left.node, sign_of(op), right.node)
-        }
+        Node::Binary(op, left, right) => put_binary(out, family, op, left, right),
         Node::Choose(test, yes, no) => {
             put_net(out, family, test.node)?;
             put(out, b" ? ")?;
