@@ -2,7 +2,7 @@
 use Rattle.std.proofs.Common.{◌≡◌, ℕ, true, false, List, [], ◌∷◌, ◌++◌, refl, ap, ◌∙◌}
 use Rattle.std.specs.Prelude.{map}
 use Rattle.std.proofs.lemmas.List.{reverse-append}
-use Rattle.gl_query_reader.specs.declared.state.Frame.{Frame}
+use Rattle.gl_query_reader.specs.declared.frames.Frame.{Frame}
 use Rattle.gl_query_reader.specs.Written.{Expr, Query}
 use Rattle.gl_query_reader.specs.States as states
 use Rattle.gl_query_reader.specs.Machine.{Reduced, reduced, binds, applied, last_binds, apply_last, is_join, joined, join_with, last_joins}

@@ -4,8 +4,8 @@ use Rattle.std.specs.Prelude.{◌≡◌, List, ◌∷◌, Option, Some, None, Re
 use Rattle.gl_query_tokens.specs.declared.token.Plain.TheVariants as plain
 use Rattle.gl_query_tokens.specs.declared.token.Token.{Token}
 use Rattle.gl_query_tokens.specs.Sorts.{is_plain, open_in}
-use Rattle.gl_query_reader.specs.declared.state.BodyHead.{BodyHead as Head}
-use Rattle.gl_query_reader.specs.declared.state.WindowHead.{WindowHead}
+use Rattle.gl_query_reader.specs.declared.frames.BodyHead.{BodyHead as Head}
+use Rattle.gl_query_reader.specs.declared.frames.WindowHead.{WindowHead}
 use Rattle.gl_query_reader.specs.States.{BodyHead, WindowsHead, GroupsHead', GroupsWindow, Frame, State, goes, InBody, WantTerm, WantSize}
 use Rattle.gl_query_reader.specs.Trees.{body_head_of, query_of, window_head_of}
 

@@ -27,12 +27,10 @@ room_in (LeftOf l o at) = looseness o
 room_in (NotOf at) = 4
 room_in f = 7
 
--- what is looser than all that may stand inside the innermost open frame
 abbrev pub room : List Frame → ℕ
 room [] = 7
 room (f ∷ fs) = room_in f
 
--- frames that are still open, and the expression that was made of the others
 abbrev pub Reduced : Type 0
 Reduced = List Frame × Expr
 
@@ -48,12 +46,10 @@ applied (LeftOf l o at) e = Binary o at l e
 applied (NotOf at) e = Not at e
 applied f e = e
 
--- the innermost frame is an operator that binds at least as tight
 abbrev pub last_binds : ℕ → List Frame → Bool
 last_binds p [] = false
 last_binds p (f ∷ fs) = binds p f
 
--- the innermost operator takes the expression as its right operand
 abbrev pub apply_last : List Frame → Expr → Reduced
 apply_last [] e = ([], e)
 apply_last (f ∷ fs) e = (fs, applied f e)
@@ -63,7 +59,6 @@ unfoldable pub reduced : ℕ → List Frame → Expr → Reduced
 reduced p [] e = ([], e)
 reduced p (f ∷ fs) e = if binds p f then reduced p fs (applied f e) else (f ∷ fs, e)
 
--- an operator takes what was read as its left operand, unless comparisons would stand in a row
 abbrev pub with_operator : Op → ℕ → Reduced → Option State
 with_operator o at r = if nat_lt (looseness o) (room r.0) then goes WantOperand (LeftOf r.1 o at ∷ r.0) else None
 
@@ -71,7 +66,6 @@ with_operator o at r = if nat_lt (looseness o) (room r.0) then goes WantOperand 
 abbrev pub with_not : ℕ → List Frame → Option State
 with_not at fs = if nat_lt 4 (room fs) then goes WantOperand (NotOf at ∷ fs) else None
 
--- the operator that may also be a number's sign
 abbrev pub is_minus : Op → Bool
 is_minus op.Sub = true
 is_minus o = false
@@ -80,11 +74,9 @@ is_minus o = false
 abbrev pub begin_minus : Op → ℕ → List Frame → Option State
 begin_minus o at fs = if is_minus o then goes (WantMinus at) fs else None
 
--- behind a number's minus sign stands a number
 abbrev pub want_minus : List Frame → ℕ → Token → Option State
 want_minus fs at t = option_and_then (λ n. goes (HaveExpr (Minus at n)) fs) (number_in t)
 
--- an operand is a column, a literal, a bracket, a CAST, a NOT, or a number behind its minus sign
 abbrev pub want_operand : List Frame → Token → Option State
 want_operand fs (token.Name name) = goes (HaveExpr (Column name)) fs
 want_operand fs (token.Number n) = goes (HaveExpr (Number n)) fs
@@ -95,20 +87,16 @@ want_operand fs (token.Cast at) = goes (WantCastOpen at) fs
 want_operand fs (token.Not at) = with_not at fs
 want_operand fs t = None
 
--- behind CAST an opening bracket leads to the expression that is cast
 abbrev pub want_cast_open : List Frame → ℕ → Token → Option State
 want_cast_open fs at t = option_and_then (λ n. goes WantOperand (InCast at n ∷ fs)) (open_in t)
 
--- the word behind AS must name a kind
 abbrev pub with_kind : List Frame → ℕ → ℕ → Expr → Name → Option State
 with_kind fs at open' e word =
     option_and_then (λ kind. goes (WantCastClose at open' e word kind) fs) (kind_named word.text)
 
--- behind the AS of a CAST stands a word that names a kind
 abbrev pub want_kind : List Frame → ℕ → ℕ → Expr → Token → Option State
 want_kind fs at open' e t = option_and_then (λ word. with_kind fs at open' e word) (name_in t)
 
--- a closing bracket ends a CAST
 abbrev pub want_cast_close : List Frame → ℕ → ℕ → Expr → Name → Kind → Token → Option State
 want_cast_close fs at open' e word kind t = expected plain.Close (HaveExpr (Cast at open' e word kind)) fs t
 
@@ -118,27 +106,22 @@ want_cast_close fs at open' e word kind t = expected plain.Close (HaveExpr (Cast
 abbrev pub Joined : Type 0
 Joined = List Frame × Query
 
--- a frame that waits for the right side of a join
 abbrev pub is_join : Frame → Bool
 is_join (JoinOf l join at) = true
 is_join f = false
 
--- the innermost frame waits for the right side of a join
 abbrev pub last_joins : List Frame → Bool
 last_joins [] = false
 last_joins (f ∷ fs) = is_join f
 
--- a query as the right side of the join that waits for it
 abbrev pub join_with : Frame → Query → Query
 join_with (JoinOf l join at) q = Join' join at l q
 join_with f q = q
 
--- a query together with the join before it, where one waits
 abbrev pub joined : List Frame → Query → Joined
 joined [] q = ([], q)
 joined (f ∷ fs) q = if is_join f then (fs, join_with f q) else (f ∷ fs, q)
 
--- a query as the body of its EACH
 abbrev pub body_of : BodyHead → ℕ → Query → Query
 body_of (WindowsHead at var source window) open' q = Windows at var source window open' q
 body_of (GroupsHead' at var source grouping window) open' q = Groups at var source grouping window open' q
@@ -148,19 +131,16 @@ abbrev pub after_source : Head → Query → Control
 after_source (SelectHead pick) source = HaveSource pick source None
 after_source (EachHead at var) source = HaveEachSource at var source
 
--- a closing bracket ends a query in brackets, a source or a body
 abbrev pub close_query : List Frame → Query → Option State
 close_query (InQuery at ∷ fs) q = goes (HaveTerm (InBrackets at q)) fs
 close_query (InSource head at ∷ fs) q = goes (after_source head (InBrackets at q)) fs
 close_query (InBody head open' ∷ fs) q = goes (HaveTerm (body_of head open' q)) fs
 close_query fs q = None
 
--- INTO stands behind a query that nothing is open around
 abbrev pub end_query : List Frame → Query → Option State
 end_query [] q = goes (WantName q) []
 end_query (f ∷ fs) q = None
 
--- behind a whole query stands a closing bracket or INTO
 abbrev pub after_whole : List Frame → Query → Plain → Option State
 after_whole fs q plain.Close = close_query fs q
 after_whole fs q plain.Into = end_query fs q
@@ -178,12 +158,10 @@ have_term fs q t = let r = joined fs q in after_query r.0 r.1 t
 
 -- ---- items
 
--- no item was read yet
 abbrev pub none_yet : List Item → Bool
 none_yet [] = true
 none_yet (i ∷ is) = false
 
--- the operator that may also stand for all columns
 abbrev pub is_star : Op → Bool
 is_star op.Mul = true
 is_star o = false
@@ -200,7 +178,6 @@ begins_agg (token.Fold fold at) = true
 begins_agg (token.Wsum at) = true
 begins_agg t = false
 
--- an aggregate begins with its keyword, or a star stands for all columns
 abbrev pub want_agg : List Item → List Frame → Token → Option State
 want_agg items fs (token.Operator o at) = want_all o items at fs
 want_agg items fs (token.Count at) = goes (WantCountOpen items at) fs
@@ -208,38 +185,30 @@ want_agg items fs (token.Fold fold at) = goes (WantFoldOpen items fold at) fs
 want_agg items fs (token.Wsum at) = goes (WantWsumOpen items at) fs
 want_agg items fs t = None
 
--- where an item is wanted, a star, an aggregate or an expression begins
 abbrev pub want_item : List Item → List Frame → Token → Option State
 want_item items fs t = if begins_agg t then want_agg items fs t else want_operand (InItem items ∷ fs) t
 
--- behind the keyword of a count stands an opening bracket
 abbrev pub want_count_open : List Frame → List Item → ℕ → Token → Option State
 want_count_open fs items at t = option_and_then (λ n. goes (WantCountClose items at n) fs) (open_in t)
 
--- behind the keyword of a fold an opening bracket leads to its argument
 abbrev pub want_fold_open : List Frame → List Item → Fold → ℕ → Token → Option State
 want_fold_open fs items fold at t = option_and_then (λ n. goes WantOperand (InFold items fold at n ∷ fs)) (open_in t)
 
--- behind WSUM an opening bracket leads to its argument
 abbrev pub want_wsum_open : List Frame → List Item → ℕ → Token → Option State
 want_wsum_open fs items at t = option_and_then (λ n. goes WantOperand (InWsum items at n ∷ fs)) (open_in t)
 
--- a weight is a number
 abbrev pub want_weight : List Frame → List Item → ℕ → ℕ → Expr → List Num → Token → Option State
 want_weight fs items at open' e ns t =
     option_and_then (λ n. goes (HaveWeight items at open' e (ns ++ n ∷ [])) fs) (number_in t)
 
--- behind a weight, a comma leads to the next one, and a square bracket ends the list
 abbrev pub have_weight : List Frame → List Item → ℕ → ℕ → Expr → List Num → Token → Option State
 have_weight fs items at open' e ns t = if is_plain plain.Comma t then goes (WantWeight items at open' e ns) fs else
     if is_plain plain.RightSquare t then goes (WantWsumClose items at open' e ns) fs else None
 
--- an expression or an aggregate becomes an item under its name
 abbrev pub under_name : Unnamed → Name → Item
 under_name (UnnamedExpr e) name = Named e name
 under_name (UnnamedAgg agg) name = Total agg name
 
--- behind the AS of an item stands the item's name
 abbrev pub want_item_name : List Frame → List Item → Unnamed → Token → Option State
 want_item_name fs items u t = option_and_then (λ name. goes (HaveItem (items ++ under_name u name ∷ [])) fs) (name_in t)
 
@@ -255,30 +224,24 @@ abbrev pub bare : Expr → Option Name
 bare (Column name) = Some name
 bare e = None
 
--- behind an expression in a select stands AS, or its item ends, where it is a column alone
 abbrev pub after_item : List Frame → List Item → Expr → Token → Option State
 after_item fs items e t = if is_plain plain.As t then goes (WantItemName items (UnnamedExpr e)) fs else
     option_and_then (λ name. have_item fs (items ++ Bare name ∷ []) t) (bare e)
 
--- behind a filter come the groups, or the select ends
 abbrev pub after_filter : List Frame → Pick → Query → Option Window → Expr → Token → Option State
 after_filter fs pick source window e t =
     if is_plain plain.Group t then goes (WantBy pick source window (Some e)) fs else
     have_term fs (Select pick source window (Some e) None) t
 
--- a bracket around an expression is closed
 abbrev pub after_brackets : List Frame → ℕ → Expr → Token → Option State
 after_brackets fs at e t = expected plain.Close (HaveExpr (Brackets at e)) fs t
 
--- behind the expression of a CAST stands AS
 abbrev pub after_cast : List Frame → ℕ → ℕ → Expr → Token → Option State
 after_cast fs at open' e t = expected plain.As (WantKind at open' e) fs t
 
--- a bracket behind the argument of a fold is closed
 abbrev pub after_fold : List Frame → List Item → Fold → ℕ → ℕ → Expr → Token → Option State
 after_fold fs items fold at open' e t = expected plain.Close (WantAs items (Fold' fold at open' e)) fs t
 
--- behind the argument of WSUM a comma leads to the weights
 abbrev pub after_wsum : List Frame → List Item → ℕ → ℕ → Expr → Token → Option State
 after_wsum fs items at open' e t = expected plain.Comma (WantWeightsOpen items at open' e) fs t
 
@@ -293,12 +256,10 @@ after_expr (InWsum items at open' ∷ fs) e t = after_wsum fs items at open' e t
 after_expr (InFilter pick source window ∷ fs) e t = after_filter fs pick source window e t
 after_expr (f ∷ fs) e t = None
 
--- a token that is an operator
 abbrev pub is_operator : Token → Bool
 is_operator (token.Operator o at) = true
 is_operator t = false
 
--- an operator behind an expression takes it, with all before it that binds at least as tight
 abbrev pub have_operator : List Frame → Expr → Token → Option State
 have_operator fs e (token.Operator o at) = with_operator o at (reduced (left_looseness o) fs e)
 have_operator fs e t = None
@@ -309,7 +270,6 @@ have_expr fs e t = if is_operator t then have_operator fs e t else (let r = redu
 
 -- ---- sources, windows and groups
 
--- a source is a stream's name, or a query in brackets
 abbrev pub want_source : List Frame → Head → Token → Option State
 want_source fs head (token.Name name) = goes (after_source head (Stream name)) fs
 want_source fs head (token.Open at) = goes WantTerm (InSource head at ∷ fs)
@@ -320,82 +280,66 @@ abbrev pub begin_window : List Frame → Pick → Query → Option Window → Op
 begin_window fs pick source None = goes (WantSize (SelectWindow pick) source) fs
 begin_window fs pick source (Some w) = None
 
--- what cannot go on a select ends it
 abbrev pub end_source : List Frame → Pick → Query → Option Window → Token → Option State
 end_source fs pick source window t = have_term fs (Select pick source window None None) t
 
--- behind the source of a select come a window, a filter or groups, or the select ends
 abbrev pub have_source : List Frame → Pick → Query → Option Window → Token → Option State
 have_source fs pick source window t = if is_plain plain.LeftSquare t then begin_window fs pick source window else
     if is_plain plain.Where t then goes WantOperand (InFilter pick source window ∷ fs) else
     if is_plain plain.Group t then goes (WantBy pick source window None) fs else end_source fs pick source window t
 
--- behind the source of an EACH stands a window or BY
 abbrev pub have_each_source : List Frame → ℕ → Name → Query → Token → Option State
 have_each_source fs at var source t =
     if is_plain plain.LeftSquare t then goes (WantSize (EachWindow at var) source) fs else
     option_and_then (λ n. goes (WantKey (EachGroups at var source) n) fs) (by_in t)
 
--- a window begins with SIZE
 abbrev pub want_size : List Frame → WindowHead → Query → Token → Option State
 want_size fs head source t = option_and_then (λ n. goes (WantSizeNumber head source n) fs) (size_in t)
 
--- behind SIZE stands a number
 abbrev pub want_size_number : List Frame → WindowHead → Query → ℕ → Token → Option State
 want_size_number fs head source at t = option_and_then (λ n. goes (WantAdvance head source at n) fs) (number_in t)
 
--- behind ADVANCE stands a number
 abbrev pub want_advance_number : List Frame → WindowHead → Query → ℕ → Num → Token → Option State
 want_advance_number fs head source at size t =
     option_and_then (λ n. goes (WantMeasure head source at size n) fs) (number_in t)
 
--- behind the numbers of a window stands what it is measured in
 abbrev pub want_measure : List Frame → WindowHead → Query → ℕ → Num → Num → Token → Option State
 want_measure fs head source at size advance t =
     option_and_then (λ m. goes (WantWindowClose head source (measured at size advance m)) fs) (measure_for head t)
 
--- behind GROUP stands BY
 abbrev pub want_by : List Frame → Pick → Query → Option Window → Option Expr → Token → Option State
 want_by fs pick source window filter t =
     option_and_then (λ n. goes (WantKey (SelectGroups pick source window filter) n) fs) (by_in t)
 
--- behind BY stands the key of the groups
 abbrev pub want_key : List Frame → GroupsHead → ℕ → Token → Option State
 want_key fs head at t = option_and_then (λ key. goes (WantGroups head at key) fs) (name_in t)
 
--- groups end a select; behind those of an EACH comes its body
 abbrev pub after_groups : GroupsHead → Grouping → Control
 after_groups (SelectGroups pick source window filter) g = HaveTerm (Select pick source window filter (Some g))
 after_groups (EachGroups at var source) g = WantBody (GroupsHead' at var source g None)
 
--- behind GROUPS stands a number
 abbrev pub want_groups_number : List Frame → GroupsHead → ℕ → Name → Token → Option State
 want_groups_number fs head at key t =
     option_and_then (λ n. goes (after_groups head (record { at = at; key = key; groups = n })) fs) (number_in t)
 
 -- ---- terms and the statement
 
--- SELECT leads to the first item
 abbrev pub begin_select : List Frame → Plain → Option State
 begin_select fs plain.Select = goes (WantItem []) fs
 begin_select fs p = None
 
--- where a query is wanted, a SELECT, an EACH or an opening bracket begins it
 abbrev pub want_term : List Frame → Token → Option State
 want_term fs (token.Plain p) = begin_select fs p
 want_term fs (token.Each at) = goes (WantVar at) fs
 want_term fs (token.Open at) = goes WantTerm (InQuery at ∷ fs)
 want_term fs t = None
 
--- behind EACH stands the name of its variable
 abbrev pub want_var : List Frame → ℕ → Token → Option State
 want_var fs at t = option_and_then (λ name. goes (WantIn at name) fs) (name_in t)
 
--- behind INTO stands the name of the result
 abbrev pub want_name : List Frame → Query → Token → Option State
 want_name fs q t = option_and_then (λ name. goes (HaveName q name) fs) (name_in t)
 
--- what may follow each thing that was read last, and where it leads
 abbrev pub step_at : Control → List Frame → Token → Option State
 step_at WantTerm fs t = want_term fs t
 step_at (WantVar at) fs t = want_var fs at t
@@ -442,7 +386,6 @@ step_at (WantEnd q name) fs t = None
 unfoldable pub step : State → Token → Option State
 step s t = step_at s.control s.frames t
 
--- a statement may end behind its name, or behind the semicolon after it
 abbrev pub finish_at : Control → Option Statement
 finish_at (HaveName q name) = Some (record { query = q; name = name; closed = false })
 finish_at (WantEnd q name) = Some (record { query = q; name = name; closed = true })

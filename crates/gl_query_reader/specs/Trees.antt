@@ -18,17 +18,17 @@ use Rattle.gl_query_reader.specs.declared.written.WrittenSelect.{WrittenSelect}
 use Rattle.gl_query_reader.specs.declared.written.WrittenQuery as query
 use Rattle.gl_query_reader.specs.declared.written.WrittenStatement.{WrittenStatement}
 use Rattle.gl_query_reader.specs.Written.{Expr, Column, Number, Minus, Letters, Brackets, Cast, Not, Binary, Agg, Count, Fold', Wsum, Item, Bare, Named, Total, Pick, All, Items, Query, Stream, InBrackets, Select, Windows, Groups, Join', Statement}
-use Rattle.gl_query_reader.specs.declared.state.Head.{Head}
-use Rattle.gl_query_reader.specs.declared.state.WindowBy.{WindowBy}
-use Rattle.gl_query_reader.specs.declared.state.WindowBy.TheVariants as window_by
-use Rattle.gl_query_reader.specs.declared.state.Head.TheVariants as head
-use Rattle.gl_query_reader.specs.declared.state.BodyHead.{BodyHead}
-use Rattle.gl_query_reader.specs.declared.state.GroupsHead.{GroupsHead}
-use Rattle.gl_query_reader.specs.declared.state.GroupsHead.TheVariants as groups_head
-use Rattle.gl_query_reader.specs.declared.state.Unnamed.{Unnamed}
-use Rattle.gl_query_reader.specs.declared.state.Unnamed.TheVariants as unnamed
-use Rattle.gl_query_reader.specs.declared.state.Frame.{Frame}
-use Rattle.gl_query_reader.specs.declared.state.Frame.TheVariants as frame
+use Rattle.gl_query_reader.specs.declared.frames.Head.{Head}
+use Rattle.gl_query_reader.specs.declared.frames.WindowBy.{WindowBy}
+use Rattle.gl_query_reader.specs.declared.frames.WindowBy.TheVariants as window_by
+use Rattle.gl_query_reader.specs.declared.frames.Head.TheVariants as head
+use Rattle.gl_query_reader.specs.declared.frames.BodyHead.{BodyHead}
+use Rattle.gl_query_reader.specs.declared.frames.GroupsHead.{GroupsHead}
+use Rattle.gl_query_reader.specs.declared.frames.GroupsHead.TheVariants as groups_head
+use Rattle.gl_query_reader.specs.declared.frames.Unnamed.{Unnamed}
+use Rattle.gl_query_reader.specs.declared.frames.Unnamed.TheVariants as unnamed
+use Rattle.gl_query_reader.specs.declared.frames.Frame.{Frame}
+use Rattle.gl_query_reader.specs.declared.frames.Frame.TheVariants as frame
 use Rattle.gl_query_reader.specs.declared.state.Control.{Control}
 use Rattle.gl_query_reader.specs.declared.state.Control.TheVariants as control
 use Rattle.gl_query_reader.specs.declared.state.ExprControl.{ExprControl}

@@ -6,9 +6,10 @@ ghost use Rattle.gl_query_reader.specs.States as states;
 ghost use Rattle.gl_query_reader.specs.Machine as machine;
 ghost use Rattle.gl_query_reader.specs.Trees.{expr_of, items_of, agg_control_of, frames_of, control_of, leads};
 
+use crate::frames::{Frame, WsumHead};
 use crate::keeping::{Beside, keep_beside};
 use crate::parts::{expect, operand_in, refuse};
-use crate::state::{AggControl, Control, Frame, ItemControl, WsumHead};
+use crate::state::{AggControl, Control, ItemControl};
 use crate::written::{WrittenAgg, WrittenItems};
 use gl_query::{Num, Nums};
 use gl_query_tokens::sorts::{is_plain, number_in, open_in};

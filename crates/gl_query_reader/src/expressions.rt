@@ -7,9 +7,10 @@ ghost use Rattle.gl_query_reader.specs.Machine as machine;
 ghost use Rattle.gl_query_reader.specs.Trees.{expr_of, expr_control_of, frames_of, leads};
 
 use crate::following::after_expr;
+use crate::frames::{CastHead, Frame};
 use crate::operators::{left_looseness, looseness, reduced, room};
 use crate::parts::{cloned, cloned_text, keep_named, operand_in, refuse};
-use crate::state::{CastHead, Control, ExprControl, Frame};
+use crate::state::{Control, ExprControl};
 use crate::written::WrittenExpr;
 use gl_bits::Kind;
 use gl_bits::boxes::{OneBox, one_box};

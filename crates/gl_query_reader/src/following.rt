@@ -5,12 +5,10 @@ ghost use Rattle.gl_query_reader.specs.States as states;
 ghost use Rattle.gl_query_reader.specs.Machine as machine;
 ghost use Rattle.gl_query_reader.specs.Trees.{expr_of, items_of, pick_of, query_of, frame_of, frames_of, leads};
 
+use crate::frames::{CastHead, Frame, SelectFrom, Unnamed, WsumHead};
 use crate::items::{have_item, with_item};
 use crate::parts::{expect, refuse};
-use crate::state::{
-    AggControl, CastHead, Control, ExprControl, Frame, GroupsControl, ItemControl, SelectFrom,
-    Unnamed, WsumHead,
-};
+use crate::state::{AggControl, Control, ExprControl, GroupsControl, ItemControl};
 use crate::terms::end_select;
 use crate::written::{WrittenAgg, WrittenExpr, WrittenItem, WrittenItems};
 use gl_bits::boxes::{OneBox, one_box};

@@ -5,9 +5,10 @@ ghost use Rattle.gl_query_reader.specs.States as states;
 ghost use Rattle.gl_query_reader.specs.Machine as machine;
 ghost use Rattle.gl_query_reader.specs.Trees.{pick_of, query_of, filter_of, groups_head_of, groups_control_of, leads};
 
+use crate::frames::{BodyHead, GroupsHead, SelectFrom};
 use crate::keeping::Beside;
 use crate::parts::{expect, keep_named, refuse};
-use crate::state::{BodyHead, Control, GroupsControl, GroupsHead, QueryControl, SelectFrom};
+use crate::state::{Control, GroupsControl, QueryControl};
 use crate::terms::selected;
 use crate::written::{Grouping, Over, WrittenExpr};
 use gl_query::Name;

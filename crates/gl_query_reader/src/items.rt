@@ -6,9 +6,10 @@ ghost use Rattle.gl_query_reader.specs.Machine as machine;
 ghost use Rattle.gl_query_reader.specs.Trees.{item_of, items_of, unnamed_of, item_control_of, frames_of, leads};
 
 use crate::expressions::want_operand;
+use crate::frames::{Frame, Head, Unnamed};
 use crate::keeping::{Beside, listed, put};
 use crate::parts::{expect, keep_named, refuse};
-use crate::state::{AggControl, Control, Frame, Head, ItemControl, SourceControl, Unnamed};
+use crate::state::{AggControl, Control, ItemControl, SourceControl};
 use crate::written::{WrittenItem, WrittenItems, WrittenPick};
 use gl_query::{Name, Op};
 use gl_query_tokens::sorts::is_plain;

@@ -5,6 +5,7 @@
 mod aggregates;
 mod expressions;
 mod following;
+mod frames;
 mod groups;
 mod item_meaning;
 mod items;

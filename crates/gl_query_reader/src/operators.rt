@@ -5,7 +5,7 @@ ghost use Rattle.gl_query_reader.specs.Written.{Binary, Not, looseness, left_loo
 ghost use Rattle.gl_query_reader.specs.Machine as machine;
 ghost use Rattle.gl_query_reader.specs.Trees.{expr_of, frame_of, frames_of};
 
-use crate::state::Frame;
+use crate::frames::Frame;
 use crate::written::WrittenExpr;
 use gl_bits::boxes::{OneBox, TwoBoxes, one_box, two_boxes};
 use gl_query::Op;

@@ -10,12 +10,13 @@ ghost use Rattle.gl_query_reader.specs.declared.parsing.ReadFault.TheVariants.{M
 
 use crate::aggregates::step_agg;
 use crate::expressions::step_expr;
+use crate::frames::Frame;
 use crate::groups::step_groups;
 use crate::items::step_item;
 use crate::limits::Counts;
 use crate::queries::step_query;
 use crate::sources::step_source;
-use crate::state::{Control, Frame, QueryControl};
+use crate::state::{Control, QueryControl};
 use crate::windows::step_window;
 use crate::written::WrittenStatement;
 use gl_query_tokens::{Lexeme, Token};

@@ -6,8 +6,9 @@ ghost use Rattle.gl_query_reader.specs.States as states;
 ghost use Rattle.gl_query_reader.specs.States.{expected};
 ghost use Rattle.gl_query_reader.specs.Trees.{frame_of, frames_of, control_of, leads};
 
+use crate::frames::Frame;
 use crate::keeping::{Beside, keep_beside, put};
-use crate::state::{Control, ExprControl, Frame, QueryControl};
+use crate::state::{Control, ExprControl, QueryControl};
 use gl_query::{Name, TextBytes};
 use gl_query_tokens::sorts::is_plain;
 use gl_query_tokens::{Plain, Token};

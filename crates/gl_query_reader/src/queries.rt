@@ -6,12 +6,10 @@ ghost use Rattle.gl_query_reader.specs.Machine as machine;
 ghost use Rattle.gl_query_reader.specs.Begun.{BeginsWindow, open_body, want_body};
 ghost use Rattle.gl_query_reader.specs.Trees.{query_of, body_head_of, query_control_of, frames_of, leads};
 
+use crate::frames::{BodyHead, Frame, Head, WindowBy, WindowHead};
 use crate::keeping::Beside;
 use crate::parts::{expect, keep_named, refuse, term_in};
-use crate::state::{
-    BodyHead, Control, Frame, Head, ItemControl, QueryControl, SourceControl, WindowBy,
-    WindowControl, WindowHead,
-};
+use crate::state::{Control, ItemControl, QueryControl, SourceControl, WindowControl};
 use crate::terms::have_term;
 use crate::written::{Over, WrittenItems, WrittenQuery};
 use gl_query_tokens::sorts::{is_plain, open_in};

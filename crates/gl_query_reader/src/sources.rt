@@ -6,12 +6,10 @@ ghost use Rattle.gl_query_reader.specs.States as states;
 ghost use Rattle.gl_query_reader.specs.Machine as machine;
 ghost use Rattle.gl_query_reader.specs.Trees.{pick_of, query_of, head_of, source_control_of, frames_of, leads};
 
+use crate::frames::{Frame, GroupsHead, Head, SelectFrom, WindowBy, WindowHead};
 use crate::keeping::{Beside, keep_beside};
 use crate::parts::{cloned, operand_in, refuse, term_in};
-use crate::state::{
-    Control, Frame, GroupsControl, GroupsHead, Head, SelectFrom, SourceControl, WindowBy,
-    WindowControl, WindowHead,
-};
+use crate::state::{Control, GroupsControl, SourceControl, WindowControl};
 use crate::terms::{after_source, end_select};
 use crate::written::WrittenQuery;
 use gl_query::Name;

@@ -6,9 +6,10 @@ ghost use Rattle.gl_query_reader.specs.States as states;
 ghost use Rattle.gl_query_reader.specs.Machine as machine;
 ghost use Rattle.gl_query_reader.specs.Trees.{pick_of, query_of, filter_of, head_of, body_head_of, frame_of, frames_of, control_of, leads};
 
+use crate::frames::{BodyHead, Frame, Head, SelectFrom};
 use crate::keeping::{Beside, keep_beside};
 use crate::parts::{refuse, term_in};
-use crate::state::{BodyHead, Control, Frame, Head, QueryControl, SelectFrom, SourceControl};
+use crate::state::{Control, QueryControl, SourceControl};
 use crate::written::{Grouping, WrittenEach, WrittenExpr, WrittenQuery, WrittenSelect};
 use gl_bits::boxes::{OneBox, TwoBoxes, one_box, two_boxes};
 use gl_query_tokens::{Join, Plain, Token};

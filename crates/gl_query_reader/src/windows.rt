@@ -5,10 +5,9 @@ ghost use Rattle.gl_query_reader.specs.States as states;
 ghost use Rattle.gl_query_reader.specs.Machine as machine;
 ghost use Rattle.gl_query_reader.specs.Trees.{query_of, window_head_of, window_control_of, control_of, leads};
 
+use crate::frames::{BodyHead, SelectFrom, WindowBy, WindowHead};
 use crate::parts::{expect, refuse};
-use crate::state::{
-    BodyHead, Control, QueryControl, SelectFrom, SourceControl, WindowBy, WindowControl, WindowHead,
-};
+use crate::state::{Control, QueryControl, SourceControl, WindowControl};
 use crate::written::{Over, RowWindow, Window};
 use gl_query::{Measure, Num};
 use gl_query_tokens::sorts::{is_plain, number_in, size_in};

@@ -78,7 +78,7 @@ pub data Stage : Type 0 where
 
 -- ---- tests of tokens
 
--- each sign has its own number
+-- the number of a sign, and of a reserved word, in the order of their declarations
 abbrev pub sign_number : Sign → ℕ
 sign_number OpenParen = 0
 sign_number CloseParen = 1
@@ -109,7 +109,6 @@ sign_number ExclamationEquals = 25
 sign_number AmpersandAmpersand = 26
 sign_number BarBar = 27
 
--- each reserved word has its own number
 abbrev pub word_number : Keyword → ℕ
 word_number ModuleWord = 0
 word_number EndModuleWord = 1
@@ -125,22 +124,18 @@ word_number EndWord = 10
 word_number IfWord = 11
 word_number ElseWord = 12
 
--- a token is this sign
 abbrev pub is_mark : Sign → Token → Bool
 is_mark sign (Mark found) = nat_eq (sign_number found) (sign_number sign)
 is_mark sign t = false
 
--- a token is this reserved word
 abbrev pub is_word : Keyword → Token → Bool
 is_word word (Reserved found) = nat_eq (word_number found) (word_number word)
 is_word word t = false
 
--- the name that a token is, if it is one
 abbrev pub name_in : Token → Option (List ℕ)
 name_in (Name n) = Some n
 name_in t = None
 
--- the decimal digits that a token is, if it is a plain number
 abbrev pub digits_in : Token → Option (List ℕ)
 digits_in (Number digits) = Some digits
 digits_in t = None
@@ -169,7 +164,6 @@ with_word (OfPort Out) WireWord = Some (OfPort OutWire)
 with_word (OfPort Out) RegWord = Some (OfPort OutReg)
 with_word owner word = None
 
--- the word that begins an item, or `endmodule`, and where it leads
 abbrev pub item_stage : Token → Option Stage
 item_stage t =
     either (expect (is_word WireWord t) (Declaring (OfItem WireSort)))
@@ -209,16 +203,13 @@ next_stage WantClock t = option_map WantEdgeEnd (name_in t)
 next_stage (WantLow n high) t = option_map (AtPart n high) (digits_in t)
 next_stage stage t = None
 
--- a list of names of this sort as an item
 abbrev pub item_of : Sort → Range → List (List ℕ) → WrittenItem
 item_of WireSort range names = Wires range names
 item_of RegisterSort range names = Registers range names
 
--- what was read, and the frames that are open around it
 abbrev pub Open : Type 0 → Type 0
 Open A = List Frame × A
 
--- a frame that is a branch of an `if`
 abbrev pub is_if : Frame → Bool
 is_if (ThenOf test) = true
 is_if (ElseOf test yes') = true
@@ -230,7 +221,6 @@ if_of (ThenOf test) st = IfThen test st
 if_of (ElseOf test yes') st = IfElse test yes' st
 if_of f st = st
 
--- `else` goes to the nearest branch without one; branches that have one are ended first
 abbrev pub else_at : Frame → List Frame → WrittenStatement → Option (List Frame) → Option (List Frame)
 else_at (ThenOf test) fs st more = Some (ElseOf test st ∷ fs)
 else_at (ElseOf test yes') fs st more = more
@@ -241,12 +231,10 @@ abbrev pub top_is_if : List Frame → Bool
 top_is_if [] = false
 top_is_if (f ∷ fs) = is_if f
 
--- a frame that is the second branch of an `if`
 abbrev pub is_else : Frame → Bool
 is_else (ElseOf test yes') = true
 is_else f = false
 
--- the innermost frame is the second branch of an `if`
 abbrev pub top_is_else : List Frame → Bool
 top_is_else [] = false
 top_is_else (f ∷ fs) = is_else f
@@ -287,7 +275,6 @@ pub data Stated : Type 0 where
   AsBody : (item : WrittenItem) → Stated
   Nowhere : Stated
 
--- what a finished statement does to its frame: it lengthens a list or becomes a block's body
 abbrev pub stated : Frame → WrittenStatement → Stated
 stated (InBegin done) st = InList (done ++ st ∷ [])
 stated (BodyOf clock) st = AsBody (Always clock st)
@@ -300,14 +287,12 @@ binds p (InfixOf op l) = nat_le (looseness op) p
 binds p (ColonOf c x) = nat_le 11 p
 binds p f = false
 
--- an operator with its operands, the last of which was just read
 abbrev pub applied : Frame → WrittenExpr → WrittenExpr
 applied (PrefixOf op) e = Prefix op e
 applied (InfixOf op l) e = Infix op l e
 applied (ColonOf c x) e = Conditional c x e
 applied f e = e
 
--- the innermost frame is an operator that binds at least as tight
 abbrev pub top_binds : ℕ → List Frame → Bool
 top_binds p [] = false
 top_binds p (f ∷ fs) = binds p f
@@ -340,7 +325,6 @@ pub data Role : Type 0 where
   IsIndex : Role
   IsOther : Role
 
--- what a sign does behind an operand
 abbrev pub role_of : Sign → Role
 role_of Star = IsInfix Times
 role_of Plus = IsInfix Added
@@ -384,7 +368,6 @@ is_bare (TestOf test) = false
 is_bare (UpdateWordTo target address) = false
 is_bare f = true
 
--- what a sign makes of the frame that it closes; any other sign leaves it unclosed
 abbrev pub closed : Role → Frame → WrittenExpr → Closed
 closed IsColon (TestOf test) e = Further (ColonOf test e)
 closed IsComma (InBraces parts) e = Further (InBraces (parts ++ e ∷ []))

@@ -7,8 +7,8 @@ use Rattle.std.proofs.lemmas.Bool.{cases_eq, cases_order}
 use Rattle.gl_verilog.specs.Tokens.{Token, Between, to, scan, last_of}
 use Rattle.gl_verilog_syntax.specs.declared.token.Lexeme.{Lexeme}
 use Rattle.gl_verilog_syntax.specs.View.{tokens_in}
-use Rattle.gl_verilog_tokens.specs.declared.lexing.Standing.{Standing}
-use Rattle.gl_verilog_tokens.specs.declared.lexing.Standing.TheVariants as standing_is
+use Rattle.gl_verilog_tokens.specs.declared.standing.Standing.{Standing}
+use Rattle.gl_verilog_tokens.specs.declared.standing.Standing.TheVariants as standing_is
 use Rattle.gl_verilog_tokens.specs.Lexed.{mode_of}
 use Rattle.gl_verilog_tokens.specs.Placed.{ArePlaces, IsFront, IsNext, count, AreSoFar, places_in, opened}
 use Rattle.gl_verilog_tokens.proofs.LexSteps.{front_tokens}

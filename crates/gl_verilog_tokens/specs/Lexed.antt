@@ -1,8 +1,8 @@
 -- What the lexer's values stand for: where it stands in a text, and what was read.
 use Rattle.std.specs.Prelude.{◌≡◌, ℕ, ◌-◌, ◌≤◌, List, [], ◌∷◌, take, drop}
 use Rattle.gl_verilog.specs.Tokens as tokens
-use Rattle.gl_verilog_tokens.specs.declared.lexing.Standing.{Standing}
-use Rattle.gl_verilog_tokens.specs.declared.lexing.Standing.TheVariants as standing_is
+use Rattle.gl_verilog_tokens.specs.declared.standing.Standing.{Standing}
+use Rattle.gl_verilog_tokens.specs.declared.standing.Standing.TheVariants as standing_is
 use Rattle.gl_verilog_tokens.specs.declared.classes.Class.{Class}
 use Rattle.gl_verilog_tokens.specs.declared.classes.Class.TheVariants as class_name
 use Rattle.gl_verilog_tokens.specs.declared.classes.Follow.{Follow}

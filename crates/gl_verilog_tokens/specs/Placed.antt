@@ -2,8 +2,8 @@
 use Rattle.std.specs.Prelude.{◌≡◌, ℕ, ◌<◌, ◌≤◌, List, [], ◌∷◌, ◌++◌, map, take, length, Some, slice_get}
 use Rattle.gl_verilog.specs.Tokens.{tokens_of, IsPlaceOf}
 use Rattle.gl_verilog_syntax.specs.declared.token.Lexeme.{Lexeme}
-use Rattle.gl_verilog_tokens.specs.declared.lexing.Standing.{Standing}
-use Rattle.gl_verilog_tokens.specs.declared.lexing.Standing.TheVariants as standing_is
+use Rattle.gl_verilog_tokens.specs.declared.standing.Standing.{Standing}
+use Rattle.gl_verilog_tokens.specs.declared.standing.Standing.TheVariants as standing_is
 
 -- the places of tokens in their order
 abbrev pub places_in : List Lexeme → List ℕ

@@ -10,61 +10,9 @@ use crate::classes::{
     Class, Follow, class_of, follow_of, goes_on, is_digit_of, radix_of, sign_token,
 };
 use crate::pieces::{number_token, put, put_quoted, sized_token, word_at, word_token};
+use crate::standing::Standing;
 use gl_verilog_syntax::{Lexeme, Token, Word};
 use std::alloc::{AllocError, Global};
-
-/// Where the reader stands. A place in it is that of a token's first byte.
-#[derive(Clone, Copy)]
-pub enum Standing<'a> {
-    /// Between tokens.
-    Between,
-    /// In a name or a reserved word.
-    InWord(usize),
-    /// In a number.
-    InNumber(usize),
-    /// Behind a number's quote.
-    AtQuote {
-        /// The digits of the literal's size.
-        size: Word<'a>,
-        /// The place of the quote.
-        quote: usize,
-    },
-    /// Behind a number's quote and a base letter, which stands at `from`.
-    AtBase {
-        /// The digits of the literal's size.
-        size: Word<'a>,
-        /// The place of the quote.
-        quote: usize,
-        /// The base letter.
-        base: u8,
-        /// The radix of that letter: 2, 10 or 16.
-        radix: u8,
-        /// The place of the base letter.
-        from: usize,
-    },
-    /// In the digits of a literal, which begin at `from`.
-    InDigits {
-        /// The digits of the literal's size.
-        size: Word<'a>,
-        /// The radix: 2, 10 or 16.
-        radix: u8,
-        /// The place of the first digit.
-        from: usize,
-    },
-    /// Behind a byte that may begin a sign of two bytes, or a comment.
-    Half {
-        /// The byte.
-        first: u8,
-        /// The place of the byte.
-        from: usize,
-    },
-    /// In a comment of one line.
-    InLine,
-    /// In a comment that ends with `*/`.
-    InBlock(usize),
-    /// In such a comment, behind a star.
-    AtStar(usize),
-}
 
 // A byte between tokens.
 #[tactic(auto, using(crate::proofs::LexSteps::steps, crate::proofs::Places::fronts))]

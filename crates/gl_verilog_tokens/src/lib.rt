@@ -5,5 +5,6 @@
 pub mod classes;
 pub mod lexing;
 pub mod pieces;
+pub mod standing;
 
 pub use lexing::lexemes;
