@@ -1,6 +1,6 @@
 -- The root of a plan, which nothing stands above but the output. Windows there may have spare copies of their body; what
 -- is printed of a plan, and what bounds its hardware, is said with them.
-use Rattle.std.specs.Prelude.{◌≡◌, ℕ, ◌+◌, ◌-◌, ◌*◌, ◌<◌, ◌≤◌, List, length, Option, Some, None, slice_get, nat_le, if◌then◌else◌}
+use Rattle.std.specs.Prelude.{◌≡◌, ℕ, ◌+◌, ◌-◌, ◌*◌, ◌<◌, ◌≤◌, Bool, false, List, length, Option, Some, None, slice_get, nat_le, if◌then◌else◌}
 use Rattle.gl_bits.specs.Limits.{most_weight}
 use Rattle.gl_algebra.specs.declared.figures.Figures.{Figures}
 use Rattle.gl_algebra.specs.declared.figures.Spare.{Spare}
@@ -41,13 +41,18 @@ weight_with_further nodes root node further =
     + further * part_of_copy (shape_of nodes) (weight_of nodes) (lines_of (shape_of nodes root)) node
     + output_part nodes root
 
+-- the plan is light enough where this node is its root and has these spare copies
+abbrev pub is_light : List PlanNode → ℕ → PlanNode → Spare → Bool
+is_light nodes root node it = nat_le (weight_with_further nodes root node (further_copies (Some it) node)) most_weight
+
+-- the same of the node at the root
+unfoldable pub is_light_at : List PlanNode → ℕ → Spare → Bool
+is_light_at nodes root it = value_at_node (λ node. is_light nodes root node it) false (slice_get nodes root)
+
 -- spare copies, where the plan is light enough with them
 abbrev pub where_light : List PlanNode → ℕ → PlanNode → Option Spare → Option Spare
 where_light nodes root node None = None
-where_light nodes root node (Some it) =
-    if nat_le (weight_with_further nodes root node (further_copies (Some it) node)) most_weight
-    then Some it
-    else None
+where_light nodes root node (Some it) = if is_light nodes root node it then Some it else None
 
 -- the spare copies of a root: windows that have some, where the plan is light enough with them
 unfoldable pub spare_at : List PlanNode → ℕ → Option Spare

@@ -2,7 +2,7 @@
 
 ghost use Rattle.std.specs.Prelude.{◌≡◌, ◌<◌, ◌≤◌, ◌^◌};
 ghost use Rattle.gl_bits.specs.Limits.{most_rows};
-ghost use Rattle.gl_algebra.specs.FigureTable.{aggregate_figures, beside_figures, delay_of_agg, delay_of_aggs, delayed, group_figures, input_figures, partition_figures, settled, spaced, union_figures, wait_of, window_figures};
+ghost use Rattle.gl_algebra.specs.FigureTable.{aggregate_figures, beside_figures, delay_of_agg, delay_of_aggs, delayed, group_figures, input_figures, partition_figures, settled, union_figures, wait_of, window_figures};
 ghost use Rattle.gl_algebra.specs.Views.{copies_of_partition, copies_of_time, copies_of_window};
 ghost use Rattle.gl_algebra.specs.Small.{small_of};
 
@@ -98,13 +98,6 @@ pub fn beside_figures(left: &Figures, right: &Figures) -> Option<Figures>
     let first = delayed(wait_of(left, right) as u128, widened(left));
     let second = delayed(wait_of(right, left) as u128, widened(right));
     narrowed(joined(first, second))
-}
-
-/// A source, behind a spacer of this gap where one stands.
-pub fn spaced_figures(gap: u32, source: &Figures) -> Option<Figures>
-    ensures { result ≡ small_of (spaced gap source.now) }
-{
-    narrowed(spaced(gap as u128, widened(source)))
 }
 
 /// The windows that can be open at once.

@@ -1,6 +1,6 @@
 -- Slices: the slice at a place, what is in one, and how they go on.
 use Rattle.std.proofs.Common.{◌≡◌, ℕ, zero, suc, ◌+◌, ◌*◌, ◌/◌, ◌%◌, ◌<◌, ◌≤◌, List, [], ◌∷◌, cond, length, length-drop, take, drop, refl, sym, ap, ◌∙◌, arith, add-zero, zero-add, drop-drop, take_all, append_assoc, append-nil, ◌++◌, min, ◌≢◌, inl, inr}
-use Rattle.std.specs.Prelude.{Option, Some, None, slice_get}
+use Rattle.std.specs.Prelude.{Bool, true, false, Option, Some, None, filter, map, nat_lt, slice_get}
 use Rattle.std.specs.List.{filter_map, cons_option, range_with_len}
 use Rattle.std.proofs.lemmas.Bool.Decides.{leb_tells}
 use Rattle.std.proofs.lemmas.List.{drop_all}
@@ -54,11 +54,28 @@ slice_at-stops size advance xs j none =
       | inr t ↦ slice_at-none size advance xs (j + 1) (omega arith)
     ]
 
+-- the parts from the numbers that begin within the list are what `slice_at` gives of all
+slices-at : {A : Type 0} (size advance : ℕ) (xs : List A) (js : List ℕ)
+    → map (λ j. part size (j * advance) xs) (filter (λ j. nat_lt (j * advance) (length xs)) js) ≡ filter_map (slice_at size advance xs) js
+slices-at size advance xs [] = refl
+slices-at {A = A} size advance xs (j ∷ js) = split (nat_lt (j * advance) (length xs)) (slices-at size advance xs js)
+  where
+    here : List A
+    here = part size (j * advance) xs
+
+    split : (b : Bool)
+        → map (λ i. part size (i * advance) xs) (filter (λ i. nat_lt (i * advance) (length xs)) js) ≡ filter_map (slice_at size advance xs) js
+        → map (λ i. part size (i * advance) xs) (cond b (j ∷ filter (λ i. nat_lt (i * advance) (length xs)) js) (filter (λ i. nat_lt (i * advance) (length xs)) js))
+        ≡ cons_option (cond b (Some here) None) (filter_map (slice_at size advance xs) js)
+    split true h = ap (λ l. here ∷ l) h
+    split false h = h
+
 pub get-slices : {A : Type 0} (size advance : ℕ) (xs : List A) (j : ℕ) → 1 ≤ advance → slice_get (slices size advance xs) j ≡ slice_at size advance xs j
 unfolding slices
 get-slices size advance xs j some =
     let far : length xs ≤ length xs * advance = le-mul_of_pos_right {m = advance} (length xs) some in
-    get-filter_map (slice_at size advance xs) (slice_at-stops size advance xs) 0 (length xs) j (ap (slice_at size advance xs) (zero-add (length xs)) ∙ slice_at-none size advance xs (length xs) far) ∙ ap (slice_at size advance xs) (zero-add j)
+    ap (λ l. slice_get l j) (slices-at size advance xs (range_with_len 0 (length xs)))
+    ∙ get-filter_map (slice_at size advance xs) (slice_at-stops size advance xs) 0 (length xs) j (ap (slice_at size advance xs) (zero-add (length xs)) ∙ slice_at-none size advance xs (length xs) far) ∙ ap (slice_at size advance xs) (zero-add j)
 
 pub slices-nil : {A : Type 0} (size advance : ℕ) → slices {A = A} size advance [] ≡ []
 unfolding slices

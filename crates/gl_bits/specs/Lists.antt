@@ -1,7 +1,7 @@
 -- Windows, groups and interleavings of lists, generic in their elements.
 -- After the operators of Mueller, Teubner and Alonso, Streams on Wires, PVLDB 2(1), 2009.
 use Rattle.std.specs.Prelude.{ℕ, ◌*◌, Bool, not, List, [], ◌∷◌, Option, Some, None, length, take, drop, map, filter, nat_eq, nat_lt, if◌then◌else◌}
-use Rattle.std.specs.List.{filter_map, list_any, range_with_len}
+use Rattle.std.specs.List.{list_any, range_with_len}
 
 -- the part of a list from a place on, of at most `size` elements
 abbrev pub part : {A : Type 0} → ℕ → ℕ → List A → List A
@@ -11,9 +11,10 @@ part size from xs = take size (drop from xs)
 abbrev pub slice_at : {A : Type 0} → ℕ → ℕ → List A → ℕ → Option (List A)
 slice_at size advance xs j = if nat_lt (j * advance) (length xs) then Some (part size (j * advance) xs) else None
 
--- all slices, in order: there are at most as many as elements
+-- all slices, in order: one for each number whose multiple of the advance is a place of the list
 unfoldable pub slices : {A : Type 0} → ℕ → ℕ → List A → List (List A)
-slices size advance xs = filter_map (slice_at size advance xs) (range_with_len 0 (length xs))
+slices size advance xs =
+    map (λ j. part size (j * advance) xs) (filter (λ j. nat_lt (j * advance) (length xs)) (range_with_len 0 (length xs)))
 
 -- each number once, in order of first appearance
 abbrev pub distinct : List ℕ → List ℕ

@@ -32,7 +32,7 @@ tick_is : (ticks : Bool) → map port_like (tick_input ticks) ≡ profile.tick_i
 tick_is true = refl
 tick_is false = refl
 
-inputs_are : (ticks : Bool) (schema : Schema) → map port_like (input_ports ticks schema) ≡ profile.input_ports ticks schema
+pub inputs_are : (ticks : Bool) (schema : Schema) → map port_like (input_ports ticks schema) ≡ profile.input_ports ticks schema
 inputs_are ticks schema =
     ap (λ (x : List ProfilePort). profile.input rst 1 ∷ x)
     (map-append port_like (streams_inputs schema.streams) (input eos 1 ∷ tick_input ticks)

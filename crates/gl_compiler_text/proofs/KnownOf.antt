@@ -10,15 +10,13 @@ use Rattle.gl_schema.specs.Schemas.{column_names, kinds_of}
 use Rattle.gl_query.specs.declared.tree.Statement.{Statement}
 use Rattle.gl_query.specs.Accepted.{AreResultColumns}
 use Rattle.gl_query.specs.Checked.{IsChecked}
-use Rattle.gl_query.specs.Laws.{AreKinds}
+use Rattle.gl_query.specs.Laws.{AcceptedHaveRealColumns, AreKinds}
 use Rattle.gl_query.specs.Names.{StatementHasNames}
 use Rattle.gl_query.specs.Shapes.{query_shape, statement_shape}
-use Rattle.gl_query.proofs.Real.{real_columns}
 use Rattle.gl_algebra.specs.Shapes.{Shape, shape_of}
 use Rattle.gl_algebra.specs.Shapes as shapes
-use Rattle.gl_elaborate.specs.Laws.{IsRightPlan}
+use Rattle.gl_elaborate.specs.Laws.{IsRightPlan, PlansAreRight}
 use Rattle.gl_elaborate.specs.Plans.{plan_of}
-use Rattle.gl_elaborate.proofs.StatementLemmas.{plans-right}
 use Rattle.gl_wiring.specs.StreamWires.{AreStreamLeaves}
 use Rattle.gl_compiler_text.specs.Meets.{result_columns}
 use Rattle.gl_compiler_text.proofs.PlanLeaves.{leaves_are_streams}
@@ -38,10 +36,10 @@ pub record Known (schema : Schema) (statement : Statement) : Type 0 where
   pub leaves : AreStreamLeaves schema.streams (shape_of (plan_of schema statement).nodes (plan_of schema statement).root).leaves
   pub many : length (column_names (result_columns schema statement)) ≡ length (shapes.kinds_of (plan_of schema statement).nodes (plan_of schema statement).root)
 
-pub known : (schema : Schema) (statement : Statement) → IsChecked schema statement → StatementHasNames (statement_shape statement) → Known schema statement
-known schema statement is names =
-    let right = plans-right schema statement is in
-    let columns = real_columns schema (query_shape statement.query) is.of_schema is.accepted in
+pub known : PlansAreRight → AcceptedHaveRealColumns → (schema : Schema) (statement : Statement) → IsChecked schema statement → StatementHasNames (statement_shape statement) → Known schema statement
+known plans real schema statement is names =
+    let right = plans schema statement is in
+    let columns = real schema (query_shape statement.query) is.of_schema is.accepted in
     record {
       right = right;
       into = names.1;

@@ -21,8 +21,9 @@ use Rattle.gl_net.specs.PortValues.{port_shapes}
 use Rattle.gl_verilog.specs.Run.{port_of}
 use Rattle.gl_verilog_ports.specs.Profile.{HasProfile, declared}
 use Rattle.gl_verilog_ports.proofs.Profiled.{names_shown}
+use Rattle.gl_elaborate.specs.Laws.{PlansTellTime}
 use Rattle.gl_elaborate.specs.Plans.{plan_of}
-use Rattle.gl_elaborate.proofs.TimeLemmas.{plans-time}
+use Rattle.gl_elaborate.specs.Whole.{RootsAreRight}
 use Rattle.gl_wiring.specs.Output.{plan_ports}
 use Rattle.gl_wiring.specs.Wired.{KeepsGroup, OverBeats, plan_means}
 use Rattle.gl_emission.specs.declared.emitting.Emitted.{Emitted}
@@ -40,9 +41,8 @@ use Rattle.gl_compiler_text.specs.Compiles.{HasCost}
 use Rattle.gl_compiler_text.proofs.Faces.{takes_beats}
 use Rattle.gl_compiler_text.proofs.KnownOf.{Known}
 use Rattle.gl_compiler_text.proofs.PlanResults.{plan_result}
-use Rattle.gl_compiler_text.proofs.Planning.{figures_are}
 
-module _ (schema : Schema) (statement : Statement) (net : Net) (made : Emitted) (k : Known schema statement) (is : IsChecked schema statement) (t : IsEmitted net made)
+module _ (time : PlansTellTime) (schema : Schema) (statement : Statement) (net : Net) (made : Emitted) (k : Known schema statement) (is : IsChecked schema statement) (t : IsEmitted net made)
     (ports : port_shapes net ≡ plan_ports (reads_time (plan_of schema statement).nodes) schema (kinds_of_node (plan_of schema statement).nodes (plan_of schema statement).root) (column_names (result_columns schema statement))) where
   abbrev columns : List Column
   columns = result_columns schema statement
@@ -68,7 +68,7 @@ module _ (schema : Schema) (statement : Statement) (net : Net) (made : Emitted) 
 
   takes : TakesBeats ticks schema (output_ports columns) net
   takes = takes_beats ticks net schema columns (ports
-      ∙ ap (λ (b : Bool). plan_ports b schema (kinds_of_node (plan_of schema statement).nodes (plan_of schema statement).root) (column_names columns)) (plans-time schema statement)
+      ∙ ap (λ (b : Bool). plan_ports b schema (kinds_of_node (plan_of schema statement).nodes (plan_of schema statement).root) (column_names columns)) (time schema statement)
       ∙ ap (λ (x : Shape). plan_ports ticks schema x.kinds (column_names columns)) k.right.shape)
 
   text : IsEmission net schema made.text.items
@@ -94,10 +94,10 @@ module _ (schema : Schema) (statement : Statement) (net : Net) (made : Emitted) 
       (λ run all trace are gaps stimulus. let h = keeps run all trace are gaps stimulus in record { lasts = h.lasts; stays = h.stays })
 
   -- a text of the plan's netlist meets the statement
-  pub text_meets : net.name ≡ Some (codes "q__" ++ statement.name.text) → OverBeats schema gap (λ all port. IsRight means latency all outs port) net → OverBeats schema gap (λ all port. KeepsGroup outs port) net
+  pub text_meets : RootsAreRight → net.name ≡ Some (codes "q__" ++ statement.name.text) → OverBeats schema gap (λ all port. IsRight means latency all outs port) net → OverBeats schema gap (λ all port. KeepsGroup outs port) net
       → Meets schema statement (latency_of schema statement) (gap_of schema statement) made.text.items
-  text_meets called right keeps =
-      subst (λ (f : Figures). Meets schema statement (f.le + 1) f.gt made.text.items) (figures_are schema statement is)
+  text_meets tops called right keeps =
+      subst (λ (f : Figures). Meets schema statement (f.le + 1) f.gt made.text.items) (tops schema statement is).figures
       (record {
         accepted = is.accepted;
         design = text.design;

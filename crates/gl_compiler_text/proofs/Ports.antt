@@ -7,7 +7,7 @@ use Rattle.gl_schema.specs.Schemas.{IsSchema, column_names, kinds_of}
 use Rattle.gl_schema.specs.Ports.{out_column}
 use Rattle.gl_query.specs.declared.tree.Statement.{Statement}
 use Rattle.gl_query.specs.Shapes.{query_shape}
-use Rattle.gl_query.proofs.Real.{real_columns}
+use Rattle.gl_query.specs.Laws.{AcceptedHaveRealColumns}
 use Rattle.gl_verilog_ports.specs.Fit.{fit_of}
 use Rattle.gl_verilog_ports.specs.Profile.{result_names, result_widths}
 use Rattle.gl_verilog_ports.proofs.Fits.{finds_ok}
@@ -16,9 +16,9 @@ use Rattle.gl_compiler_text.specs.Meets.{Meets, result_columns}
 use Rattle.gl_compiler_text.proofs.KnownOf.{all_kinds}
 
 module _ (schema : Schema) (statement : Statement) (latency gap : ℕ) (text : List ℕ) where
-  pub ports_fit : IsSchema schema → (m : Meets schema statement latency gap text) → IsOk (fit_of m.design schema)
-  ports_fit fine m =
-      let real = real_columns schema (query_shape statement.query) fine m.accepted in
+  pub ports_fit : AcceptedHaveRealColumns → IsSchema schema → (m : Meets schema statement latency gap text) → IsOk (fit_of m.design schema)
+  ports_fit columns fine m =
+      let real = columns schema (query_shape statement.query) fine m.accepted in
       finds_ok text m.design schema m.has
       (fits _ m.design schema (result_columns schema statement) m.has.valid.names m.face text m.has real.result.most (all_kinds (result_columns schema statement) real.kinds))
 

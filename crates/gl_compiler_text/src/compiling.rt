@@ -1,7 +1,7 @@
 //! Compiling a statement.
 
 ghost use Rattle.std.specs.Prelude.{◌≡◌, IfOk, MatchResult};
-ghost use Rattle.gl_schema.specs.Schemas.{column_names, kinds_of};
+ghost use Rattle.gl_schema.specs.Schemas.{kinds_of};
 ghost use Rattle.gl_query.specs.Checked.{IsChecked};
 ghost use Rattle.gl_query.specs.Names.{StatementHasNames};
 ghost use Rattle.gl_query.specs.Shapes.{statement_shape};
@@ -11,18 +11,21 @@ ghost use Rattle.gl_compiler_text.specs.Meets.{Meets, result_columns};
 ghost use Rattle.gl_compiler_text.specs.Built.{latency_of, gap_of};
 ghost use Rattle.gl_compiler_text.specs.Compiles.{HasCost, IsCompiled};
 
-use crate::naming::{kinds, names, result_columns};
+use crate::laws::gaps_are_no_farther;
+use crate::naming::{result_columns, result_names};
 use gl_algebra::{Figures, Plan, PlanId};
 use gl_bits::{Kind, Listed, Memory};
+use gl_elaborate::laws::{plans_are_right, plans_tell_time, roots_are_right};
 use gl_elaborate_plan::{PlanFault, Planned, plan_statement};
 use gl_emission::{Emitted, emit};
 use gl_figures::Printed;
 use gl_net::Cost;
 use gl_query::Statement;
-use gl_query::columns::copy_of_name;
+use gl_query::columns::kinds_of;
+use gl_query::laws::accepted_have_real_columns;
 use gl_query_check::Checked;
 use gl_schema::{Column, Schema};
-use gl_wiring::{ResultNames, wire_plan};
+use gl_wiring::wire_plan;
 use std::alloc::Global;
 
 /// A compiled query: the text of its module, its figures and its cost, and what it was made of.
@@ -104,17 +107,6 @@ impl Compiled {
     }
 }
 
-// The names of a statement's result, whose columns these are.
-fn names_of(alloc: Global, statement: &Statement, columns: &[Column]) -> Result<ResultNames, Memory>
-    ensures into { IfOk result (λ names. names.into ≡ statement.now.name.text) }
-    ensures columns { IfOk result (λ names. names.columns ≡ column_names columns.now) }
-{
-    Ok(ResultNames {
-        into: copy_of_name(alloc, statement.name.text.as_slice())?,
-        columns: names(alloc, columns)?,
-    })
-}
-
 // The text of the module of a plan.
 fn text_of(
     alloc: Global,
@@ -132,7 +124,11 @@ fn text_of(
     ensures cost { IfOk result (λ made. HasCost checked.now.schema checked.now.statement
         made.text.items made.cost) }
 {
-    let names = names_of(alloc, &checked.statement, columns)?;
+    accepted_have_real_columns();
+    plans_are_right();
+    plans_tell_time();
+    roots_are_right();
+    let names = result_names(alloc, &checked.statement, columns)?;
     let net = wire_plan(
         alloc,
         &checked.schema,
@@ -164,7 +160,7 @@ fn built(
 {
     let columns = result_columns(alloc, &checked.schema, &checked.statement)?;
     let text = text_of(alloc, checked, planned, columns.as_slice())?;
-    let kinds = kinds(alloc, columns.as_slice())?;
+    let kinds = kinds_of(alloc, columns.as_slice())?;
     Ok((text, kinds))
 }
 
@@ -175,6 +171,9 @@ pub fn compile_checked(alloc: Global, checked: Checked) -> Result<Compiled, Plan
     ensures { let at = plan_of checked.schema checked.statement in
         MatchResult result (IsCompiled checked.schema checked.statement) (PassesOr at) }
 {
+    plans_are_right();
+    roots_are_right();
+    gaps_are_no_farther();
     let planned = plan_statement(alloc, &checked)?;
     let (made, kinds) = built(alloc, &checked, &planned)?;
     let Checked { schema, statement } = checked;

@@ -2,8 +2,15 @@
 
 ghost use Rattle.gl_compiler_text.specs.Built.{GapsAreNoFarther};
 
+use gl_elaborate::laws::{plans_are_right, roots_are_right};
+use gl_figures::laws::roots_come_closer;
+
 /// Beats of a statement may come as close as the figures of its query say, form by form, and closer
-/// where the root of its plan has spare copies.
+/// where it has spare copies.
 pub fn gaps_are_no_farther()
     ensures { GapsAreNoFarther }
-{}
+{
+    plans_are_right();
+    roots_are_right();
+    roots_come_closer();
+}

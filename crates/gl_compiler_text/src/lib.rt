@@ -7,7 +7,7 @@
 
 pub mod compiling;
 pub mod laws;
-mod naming;
+pub mod naming;
 
 pub use compiling::{Compiled, compile_checked};
 pub use laws::gaps_are_no_farther;

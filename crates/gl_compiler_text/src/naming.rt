@@ -1,17 +1,18 @@
-//! The columns of a result: their names, and their kinds.
+//! The columns of a result, and the names under which they stand on a module.
 
 ghost use Rattle.std.specs.Prelude.{◌≡◌, IfOk};
-ghost use Rattle.gl_schema.specs.Schemas.{column_names, kinds_of};
+ghost use Rattle.gl_schema.specs.Schemas.{column_names};
 ghost use Rattle.gl_compiler_text.specs.Meets.{result_columns};
 
-use gl_bits::{Kind, Listed, Memory};
+use gl_bits::Memory;
 use gl_query::Statement;
-use gl_query::columns::{Sources, columns_of, copy_of_name};
-use gl_schema::{Column, Columns, NameText, Schema};
+use gl_query::columns::{Sources, columns_of, copy_of_name, names_of};
+use gl_schema::{Column, Columns, Schema};
+use gl_wiring::ResultNames;
 use std::alloc::Global;
 
 /// The columns of a statement's result.
-pub(crate) fn result_columns(
+pub fn result_columns(
     alloc: Global,
     schema: &Schema,
     statement: &Statement,
@@ -22,24 +23,17 @@ pub(crate) fn result_columns(
     columns_of(alloc, sources, &statement.query)
 }
 
-/// Their names, in order.
-pub(crate) fn names(alloc: Global, columns: &[Column]) -> Result<Listed<NameText>, Memory>
-    ensures { IfOk result (λ v. v ≡ column_names columns.now) }
+/// The names of a statement's result, whose columns these are.
+pub fn result_names(
+    alloc: Global,
+    statement: &Statement,
+    columns: &[Column],
+) -> Result<ResultNames, Memory>
+    ensures into { IfOk result (λ names. names.into ≡ statement.now.name.text) }
+    ensures columns { IfOk result (λ names. names.columns ≡ column_names columns.now) }
 {
-    let mut out = Listed::new(alloc);
-    for column in columns {
-        out.push(copy_of_name(alloc, column.name.as_slice())?)?;
-    }
-    Ok(out)
-}
-
-/// Their kinds, in order.
-pub(crate) fn kinds(alloc: Global, columns: &[Column]) -> Result<Listed<Kind>, Memory>
-    ensures { IfOk result (λ v. v ≡ kinds_of columns.now) }
-{
-    let mut out = Listed::new(alloc);
-    for column in columns {
-        out.push(column.kind)?;
-    }
-    Ok(out)
+    Ok(ResultNames {
+        into: copy_of_name(alloc, statement.name.text.as_slice())?,
+        columns: names_of(alloc, columns)?,
+    })
 }

@@ -8,6 +8,7 @@ pub mod TwoLemmas
 pub mod QueryLemmas
 pub mod FigureLemmas
 pub mod StatementLemmas
+pub mod WholeLemmas
 pub mod SeveralLemmas
 pub mod TimeLemmas
 pub mod StepLemmas

@@ -2,6 +2,7 @@ pub mod Plans
 pub mod Fitting
 pub mod Right
 pub mod Figures
+pub mod Whole
 pub mod Laws
 pub mod Sources
 pub mod Terms

@@ -1,6 +1,7 @@
 //! Laws of elaboration. The contract of each function is the law; it does nothing.
 
 ghost use Rattle.gl_elaborate.specs.Laws.{PlansAreRight, PlansTellTime, SeveralAreRight};
+ghost use Rattle.gl_elaborate.specs.Whole.{RootsAreRight};
 
 /// The plan of a checked statement is a plan whose nodes fit where they are added; its root has the query's
 /// columns, closing, pace, leaves and figures; and each of the root's results, with its spill, is one of the
@@ -18,4 +19,10 @@ pub fn several_are_right()
 /// The plan of a statement has a window of time exactly where the statement has one.
 pub fn plans_tell_time()
     ensures { PlansTellTime }
+{}
+
+/// The root of a statement's plan has the spare copies and the figures that the statement has by the form of
+/// its query.
+pub fn roots_are_right()
+    ensures { RootsAreRight }
 {}

@@ -7,9 +7,10 @@ ghost use Rattle.gl_query.specs.Sources.{scope_of};
 ghost use Rattle.gl_elaborate.specs.Plans.{stream_node, stream_number};
 ghost use Rattle.gl_elaborate.specs.Sources.{read_of};
 
-use gl_algebra::{Kinds, PlanNode};
-use gl_bits::{Listed, Memory};
+use gl_algebra::PlanNode;
+use gl_bits::Memory;
 use gl_query::Sources;
+use gl_query::columns::kinds_of;
 use gl_schema::{Column, Stream};
 use std::alloc::Global;
 
@@ -27,17 +28,6 @@ fn stream_number(streams: &[Stream], name: &[u8]) -> usize
     1 + stream_number(others, name)
 }
 
-// The kinds of columns.
-fn kinds(alloc: Global, columns: &[Column]) -> Result<Kinds, Memory>
-    ensures { IfOk result (λ v. v ≡ kinds_of columns.now) }
-{
-    let mut out = Listed::new(alloc);
-    for column in columns {
-        out.push(column.kind)?;
-    }
-    Ok(out)
-}
-
 // The node of a stream.
 fn stream_node(
     alloc: Global,
@@ -49,7 +39,7 @@ fn stream_node(
     requires columns { columns.now ≡ source_columns streams.now name.now }
     ensures { IfOk result (λ n. n ≡ stream_node streams.now name.now) }
 {
-    let kinds = kinds(alloc, columns)?;
+    let kinds = kinds_of(alloc, columns)?;
     Ok(PlanNode::Stream(stream_number(streams, name) as u8, kinds))
 }
 
@@ -66,6 +56,6 @@ pub fn source_node(
 {
     match sources {
         Sources::Schema(streams) => stream_node(alloc, streams, name, columns),
-        Sources::Variable(_, own) => Ok(PlanNode::Body(kinds(alloc, own)?)),
+        Sources::Variable(_, own) => Ok(PlanNode::Body(kinds_of(alloc, own)?)),
     }
 }

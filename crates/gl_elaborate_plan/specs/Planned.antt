@@ -10,8 +10,7 @@ use Rattle.gl_algebra.specs.Small.{AreFigures}
 use Rattle.gl_algebra.specs.Roots.{spare_at, weight_with_output}
 use Rattle.gl_figures.specs.declared.Limit.{Limit}
 use Rattle.gl_figures.specs.declared.Limit.TheVariants.{Latency, Nodes}
-use Rattle.gl_figures.specs.Answered.{AreSmallBefore, IsPrinted}
-use Rattle.gl_figures.specs.Known.{capped}
+use Rattle.gl_figures.specs.Answered.{capped, AreSmallBefore, IsPrinted}
 use Rattle.gl_elaborate.specs.Plans.{plan_of}
 use Rattle.gl_elaborate_plan.specs.declared.planning.PlanFault.{PlanFault}
 use Rattle.gl_elaborate_plan.specs.declared.planning.PlanFault.TheVariants as fault

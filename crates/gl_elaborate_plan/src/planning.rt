@@ -8,13 +8,12 @@ ghost use Rattle.gl_algebra.specs.Small.{AreFigures};
 ghost use Rattle.gl_figures.specs.Answered.{IsPrinted};
 ghost use Rattle.gl_elaborate.specs.Plans.{plan_of};
 ghost use Rattle.gl_elaborate_plan.specs.declared.planning.PlanFault.TheVariants as fault;
-ghost use Rattle.gl_elaborate_plan.specs.Planned.{AreAllSmall, IsPlanned, IsWithinLimits, PassesOr};
+ghost use Rattle.gl_elaborate_plan.specs.Planned.{AreAllSmall, IsPlanned, IsWithinLimits, PassesLimit, PassesOr};
 
-use gl_algebra::table::input_figures;
 use gl_algebra::{Figures, Plan, PlanId, Spare};
 use gl_bits::Memory as NoMemory;
 use gl_elaborate::elaborate;
-use gl_figures::{Limit, Printed, figures, root_spare, weigh};
+use gl_figures::{Limit, Printed, figures, places, root_spare, weigh, zeros};
 use gl_query_check::Checked;
 use std::alloc::Global;
 use thiserror::Error;
@@ -53,54 +52,37 @@ pub struct Planned {
     pub spare: Option<Spare>,
 }
 
-// A place for the figures of each node.
-fn places(alloc: Global, many: usize) -> Result<Vec<Figures>, NoMemory>
-    ensures { IfOk result (λ v. length v.items ≡ many) }
-{
-    Ok(vec![in alloc; input_figures(); many]?)
-}
-
-// A place for the weight of each node.
-fn zeros(alloc: Global, many: usize) -> Result<Vec<u64>, NoMemory>
-    ensures { IfOk result (λ v. length v.items ≡ many) }
-{
-    Ok(vec![in alloc; 0u64; many]?)
-}
-
-// The figures of each node of a plan with this root.
-fn figured(alloc: Global, plan: &Plan, root: PlanId) -> Result<Vec<Figures>, PlanFault>
-    ensures figures { IfOk result (λ v. AreFigures plan.now v.items) }
+// Writes the figures of each node of a plan with this root into the node's place, or gives the limit that it passes.
+fn figure(plan: &Plan, root: PlanId, into: &mut [Figures]) -> Result<(), Limit>
+    requires { length into.old ≡ length plan.now }
+    ensures figures { OnOk result (AreFigures plan.now into.new) }
     ensures small { OnOk result (AreAllSmall plan.now) }
-    ensures fault { IfErr result (PassesOr (placed_at plan.now root)) }
+    ensures limit { IfErr result (PassesLimit (placed_at plan.now root)) }
 {
     // Clauses alone speak of it.
     let _ = root;
-    let mut own = places(alloc, plan.len())?;
-    match figures(plan, &mut own) {
-        Ok(()) => Ok(own),
-        Err(limit) => Err(PlanFault::Limit(limit)),
-    }
+    figures(plan, into)
 }
 
-// What is printed of a plan and the spare copies of its root, where it is within the limits.
-fn weighed(
-    alloc: Global,
+// What is printed of a plan and the spare copies of its root, or the limit on weight that it passes.
+fn weigh_root(
     plan: &Plan,
     root: PlanId,
     own: &[Figures],
-) -> Result<(Printed, Option<Spare>), PlanFault>
+    weights: &mut [u64],
+) -> Result<(Printed, Option<Spare>), Limit>
     requires figures { AreFigures plan.now own.now }
     requires root { root < length plan.now }
     requires small { AreAllSmall plan.now }
+    requires weights { length weights.old ≡ length plan.now }
     ensures printed { IfOk result (λ found. IsPrinted plan.now root found.0) }
     ensures spare { IfOk result (λ found. found.1 ≡ spare_at plan.now root) }
     ensures within { OnOk result (IsWithinLimits (placed_at plan.now root)) }
-    ensures fault { IfErr result (PassesOr (placed_at plan.now root)) }
+    ensures limit { IfErr result (PassesLimit (placed_at plan.now root)) }
 {
-    let mut weights = zeros(alloc, plan.len())?;
-    match weigh(plan, root, own, &mut weights) {
-        Ok(printed) => Ok((printed, root_spare(plan, root, own, &weights))),
-        Err(limit) => Err(PlanFault::Limit(limit)),
+    match weigh(plan, root, own, weights) {
+        Ok(printed) => Ok((printed, root_spare(plan, root, own, weights))),
+        Err(limit) => Err(limit),
     }
 }
 
@@ -113,8 +95,15 @@ pub fn plan_statement(alloc: Global, checked: &Checked) -> Result<Planned, PlanF
         MatchResult result (IsPlanned checked.now.schema checked.now.statement) (PassesOr at) }
 {
     let (plan, root) = elaborate(alloc, checked)?;
-    let figures = figured(alloc, &plan, root)?;
-    let (printed, spare) = weighed(alloc, &plan, root, &figures)?;
+    let mut figures = places(alloc, plan.len())?;
+    if let Err(limit) = figure(&plan, root, &mut figures) {
+        return Err(PlanFault::Limit(limit));
+    }
+    let mut weights = zeros(alloc, plan.len())?;
+    let (printed, spare) = match weigh_root(&plan, root, &figures, &mut weights) {
+        Ok(found) => found,
+        Err(limit) => return Err(PlanFault::Limit(limit)),
+    };
     Ok(Planned {
         plan,
         root,

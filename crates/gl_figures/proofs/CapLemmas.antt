@@ -14,7 +14,8 @@ use Rattle.gl_algebra.specs.Weights.{sum_over_children, own_weight, weight_from,
 use Rattle.gl_algebra.proofs.FigureLemmas.{one_copy, some_copies, one_in_time}
 use Rattle.gl_algebra.proofs.PlanLemmas.{by_nodes}
 use Rattle.gl_algebra.proofs.TableLemmas.{nodes_follow_tables}
-use Rattle.gl_figures.specs.Known.{capped, capped_at}
+use Rattle.gl_figures.specs.Answered.{capped}
+use Rattle.gl_figures.specs.Known.{capped_at}
 
 -- two numbers are one, or both pass the cap
 abbrev Alike : ℕ → ℕ → Type 0

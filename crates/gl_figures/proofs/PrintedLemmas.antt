@@ -16,8 +16,8 @@ use Rattle.gl_algebra.specs.Spares.{spare_over}
 use Rattle.gl_algebra.specs.Views.{copies_of_window, of_body}
 use Rattle.gl_algebra.specs.Weights.{copies_of, lines_of, weight_of}
 use Rattle.std.proofs.lemmas.Option.{slice_get_within}
-use Rattle.gl_figures.specs.Answered.{IsPrinted}
-use Rattle.gl_figures.specs.Known.{capped, copies_in_body, copies_inside, weight_alone}
+use Rattle.gl_figures.specs.Answered.{capped, IsPrinted}
+use Rattle.gl_figures.specs.Known.{copies_in_body, copies_inside, weight_alone}
 use Rattle.gl_figures.proofs.CapLemmas.{copies_light, further-capped}
 use Rattle.gl_figures.proofs.RootLemmas.{IsSpareRoot, body_within, figures_there, further_there, none_further, spare_there}
 use Rattle.gl_figures.proofs.SpareLemmas.{spare_is}

@@ -18,9 +18,9 @@ use Rattle.gl_algebra.specs.Shapes.{shape_of}
 use Rattle.gl_algebra.specs.Weights.{lines_of, weight_of}
 use Rattle.gl_algebra.proofs.FigureLemmas.{figures_are_sound}
 use Rattle.gl_algebra.proofs.TableLemmas.{nodes_follow_tables}
-use Rattle.gl_figures.specs.Answered.{IsHeavy}
+use Rattle.gl_figures.specs.Answered.{capped, IsHeavy}
 use Rattle.gl_figures.specs.declared.Limit.TheVariants.{Nodes}
-use Rattle.gl_figures.specs.Known.{capped, weight_alone}
+use Rattle.gl_figures.specs.Known.{weight_alone}
 use Rattle.gl_figures.proofs.CapLemmas.{further-capped}
 use Rattle.gl_figures.proofs.SpareLemmas.{spare_is}
 

@@ -9,7 +9,8 @@ use Rattle.gl_algebra.specs.Fits.{IsPlan}
 use Rattle.gl_algebra.specs.Shapes.{shape_of}
 use Rattle.gl_algebra.specs.Weights.{copies_from, copies_of, weight_of, lines_of}
 use Rattle.gl_algebra.proofs.TableLemmas.{nodes_follow_tables}
-use Rattle.gl_figures.specs.Known.{capped, capped_at, weight_by, HasValues}
+use Rattle.gl_figures.specs.Answered.{capped}
+use Rattle.gl_figures.specs.Known.{capped_at, weight_by, HasValues}
 use Rattle.gl_figures.proofs.CapLemmas.{copies-capped, weight-capped}
 use Rattle.gl_figures.proofs.PlaceLemmas.{get-written, get-other}
 

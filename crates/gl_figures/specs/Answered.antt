@@ -1,5 +1,5 @@
 -- What the calls on figures and weights answer.
-use Rattle.std.specs.Prelude.{ℕ, ◌≡◌, ◌<◌, ◌≤◌, List, length, Some, slice_get}
+use Rattle.std.specs.Prelude.{ℕ, ◌≡◌, ◌<◌, ◌≤◌, ◌^◌, min, List, length, Some, slice_get}
 use Rattle.gl_bits.specs.Limits.{most_weight}
 use Rattle.gl_algebra.specs.declared.figures.Figures.{Figures}
 use Rattle.gl_algebra.specs.declared.node.PlanNode.{PlanNode}
@@ -9,7 +9,10 @@ use Rattle.gl_algebra.specs.Roots.{copies_with_spare, gap_of, latency_of, weight
 use Rattle.gl_figures.specs.declared.Limit.{Limit}
 use Rattle.gl_figures.specs.declared.Limit.TheVariants.{Latency, Nodes}
 use Rattle.gl_figures.specs.declared.Printed.{Printed}
-use Rattle.gl_figures.specs.Known.{capped}
+
+-- a weight or a number of copies as it is told: 2^62 where it is more
+abbrev pub capped : ℕ → ℕ
+capped n = min n (2 ^ 62)
 
 -- the figures of each node before one are below 2^32
 abbrev pub AreSmallBefore : List PlanNode → ℕ → Type 0

@@ -1,6 +1,6 @@
 -- What places hold of the nodes of a plan while it is gone through: what is known of the nodes before one.
 -- A middle layer, proved equal to `Answered`: no promise rests on it.
-use Rattle.std.specs.Prelude.{ℕ, ◌≡◌, ◌<◌, ◌≤◌, ◌+◌, ◌^◌, min, List, length, Option, Some, slice_get}
+use Rattle.std.specs.Prelude.{ℕ, ◌≡◌, ◌<◌, ◌≤◌, ◌+◌, List, length, Option, Some, slice_get}
 use Rattle.gl_algebra.specs.declared.figures.Figures.{Figures}
 use Rattle.gl_algebra.specs.declared.node.PlanNode.{PlanNode}
 use Rattle.gl_algebra.specs.FigureTable.{figures_from, figures_of}
@@ -10,6 +10,7 @@ use Rattle.gl_algebra.specs.Roots.{output_part}
 use Rattle.gl_algebra.specs.Nodewise.{value_at_node}
 use Rattle.gl_algebra.specs.Weights.{copies_of, weight_of, own_weight, sum_over_children}
 use Rattle.gl_algebra.specs.declared.node.PlanNode.TheVariants.{Window}
+use Rattle.gl_figures.specs.Answered.{capped}
 
 -- the figures of the nodes before one
 pub record HasFigures (nodes : List PlanNode) (figures : List Figures) (number : ℕ) : Type 0 where
@@ -19,10 +20,6 @@ pub record HasFigures (nodes : List PlanNode) (figures : List Figures) (number :
 -- the figures that a node has over a plan, below 2^32
 abbrev pub small_over : List PlanNode → PlanNode → Option Figures
 small_over nodes node = small_of (figures_from (shape_of nodes) (figures_of nodes) node)
-
--- a number, or 2^62 where it is more
-abbrev pub capped : ℕ → ℕ
-capped n = min n (2 ^ 62)
 
 -- the value of a node, or 2^62 where it is more
 abbrev pub capped_at : (ℕ → ℕ) → ℕ → ℕ

@@ -1,4 +1,4 @@
-pub mod Known
 pub mod Answered
+pub mod Known
 pub mod Worked
 pub mod WorkedSpares

@@ -5,13 +5,14 @@ ghost use Rattle.std.specs.List.{AllByRecursion};
 ghost use Rattle.gl_algebra.specs.Fits.{Fits};
 ghost use Rattle.gl_algebra.specs.Nodewise.{named_by};
 ghost use Rattle.gl_algebra.specs.Weights.{copies_from, copies_of};
-ghost use Rattle.gl_figures.specs.Known.{capped, capped_at, HasValues};
+ghost use Rattle.gl_figures.specs.Answered.{capped};
+ghost use Rattle.gl_figures.specs.Known.{capped_at, HasValues};
 
 use gl_algebra::table::{copies_of_partition, copies_of_time, copies_of_window};
 use gl_algebra::{Plan, PlanId, PlanNode};
 
-// A number, or 2^62 where it is more.
-pub(crate) fn cap(number: u128) -> u64
+/// A number, or 2^62 where it is more.
+pub fn cap(number: u128) -> u64
     ensures { result ≡ capped number }
 {
     number.min(0x4000_0000_0000_0000) as u64

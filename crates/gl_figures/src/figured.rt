@@ -1,6 +1,6 @@
 //! The figures of each node of a plan.
 
-ghost use Rattle.std.specs.Prelude.{◌≡◌, ◌<◌, length, Some, IfErr, OnOk};
+ghost use Rattle.std.specs.Prelude.{◌≡◌, ◌<◌, length, Some, IfErr, IfOk, OnOk};
 ghost use Rattle.std.specs.List.{AllByRecursion};
 ghost use Rattle.gl_algebra.specs.FigureTable.{figures_of};
 ghost use Rattle.gl_algebra.specs.Fits.{Fits};
@@ -16,6 +16,15 @@ use gl_algebra::table::{
     union_figures, window_figures,
 };
 use gl_algebra::{Figures, Plan, PlanId, PlanNode};
+use gl_bits::Memory;
+use std::alloc::Global;
+
+/// A place for the figures of each of so many nodes.
+pub fn places(alloc: Global, many: usize) -> Result<Vec<Figures>, Memory>
+    ensures { IfOk result (λ v. length v.items ≡ many) }
+{
+    Ok(vec![in alloc; input_figures(); many]?)
+}
 
 /// Writes the figures of each node into the node's place. A figure of 2^32 or more is refused, at the first node that has one.
 pub fn figures(plan: &Plan, into: &mut [Figures]) -> Result<(), Limit>

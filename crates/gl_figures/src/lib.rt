@@ -3,7 +3,7 @@
 //! The tables themselves, and what keeps them, stand in gl_algebra. What builds circuits stands above.
 #![tactic(auto)]
 
-mod copied;
+pub mod copied;
 pub mod figured;
 pub mod laws;
 pub mod roots;
@@ -11,11 +11,12 @@ pub mod spares;
 pub mod weighed;
 mod weights;
 
-pub use figured::figures;
+pub use copied::cap;
+pub use figured::{figures, places};
 pub use gl_algebra::Spare;
-pub use roots::root_spare;
+pub use roots::{figures_at, root_spare};
 use thiserror::Error;
-pub use weighed::weigh;
+pub use weighed::{weigh, zeros};
 
 /// What is printed of a query's circuit.
 #[derive(Clone, Copy, PartialEq, Eq, Debug)]

@@ -5,8 +5,8 @@ ghost use Rattle.gl_algebra.specs.FigureTable.{figures_of};
 ghost use Rattle.gl_algebra.specs.Roots.{spare_at};
 ghost use Rattle.gl_algebra.specs.Small.{AreFigures};
 ghost use Rattle.gl_algebra.specs.Weights.{copies_of, weight_of};
-ghost use Rattle.gl_figures.specs.Answered.{AreWeights, IsPrinted};
-ghost use Rattle.gl_figures.specs.Known.{capped, copies_inside, weight_alone, HasValues};
+ghost use Rattle.gl_figures.specs.Answered.{capped, AreWeights, IsPrinted};
+ghost use Rattle.gl_figures.specs.Known.{copies_inside, weight_alone, HasValues};
 ghost use Rattle.gl_bits.specs.Limits.{most_weight};
 
 use crate::Printed;
@@ -17,8 +17,8 @@ use gl_algebra::table::copies_of_window;
 use gl_algebra::{Figures, Plan, PlanId, PlanNode, Spare};
 use gl_bits::limits::MOST_WEIGHT;
 
-// The figures of a node.
-fn figures_at(plan: &Plan, figures: &[Figures], id: PlanId) -> Figures
+/// The figures of a node, of those of all.
+pub fn figures_at(plan: &Plan, figures: &[Figures], id: PlanId) -> Figures
     requires within { id < length plan.now }
     requires figures { AreFigures plan.now figures.now }
     ensures { result ≡ figures_of plan.now id }

@@ -3,15 +3,24 @@
 ghost use Rattle.std.specs.Prelude.{◌≡◌, ◌<◌, length, IfErr, IfOk};
 ghost use Rattle.gl_algebra.specs.Small.{AreFigures};
 ghost use Rattle.gl_algebra.specs.Weights.{weight_of};
-ghost use Rattle.gl_figures.specs.Answered.{AreWeights, IsHeavy, IsPrinted};
-ghost use Rattle.gl_figures.specs.Known.{capped, weight_alone, HasValues};
+ghost use Rattle.gl_figures.specs.Answered.{capped, AreWeights, IsHeavy, IsPrinted};
+ghost use Rattle.gl_figures.specs.Known.{weight_alone, HasValues};
 
 use crate::copied::{cap, count_copies};
 use crate::roots::{copies_inside, printed_alone, printed_with, root_spare};
 use crate::weights::{lines_of, weight_over};
 use crate::{Limit, Printed};
 use gl_algebra::{Figures, Plan, PlanId};
+use gl_bits::Memory;
 use gl_bits::limits::MOST_WEIGHT;
+use std::alloc::Global;
+
+/// A place for the weight of each of so many nodes.
+pub fn zeros(alloc: Global, many: usize) -> Result<Vec<u64>, Memory>
+    ensures { IfOk result (λ v. length v.items ≡ many) }
+{
+    Ok(vec![in alloc; 0u64; many]?)
+}
 
 /// What is printed of a plan with this root, unless its weight with the output's part passes 262,144. The figures are those of
 /// each node. Each node's place then has the node's weight, or 2^62 where it is more.

@@ -8,7 +8,8 @@ ghost use Rattle.gl_algebra.specs.Fits.{Fits};
 ghost use Rattle.gl_algebra.specs.Nodewise.{named_by};
 ghost use Rattle.gl_algebra.specs.Shapes.{shape_of};
 ghost use Rattle.gl_algebra.specs.Weights.{lines_of, pad_of, sum_over_children, weight_of, weight_of_agg, weight_of_copies, weight_of_spacer};
-ghost use Rattle.gl_figures.specs.Known.{capped, capped_at, own_weight_by, weight_by, HasFigures, HasValues};
+ghost use Rattle.gl_figures.specs.Answered.{capped};
+ghost use Rattle.gl_figures.specs.Known.{capped_at, own_weight_by, weight_by, HasFigures, HasValues};
 
 use crate::copied::{cap, times};
 use crate::figured::figures_at;

@@ -1,5 +1,5 @@
 -- The plan of the load's query is within the limits, and the query takes a tuple in each cycle.
-use Rattle.std.proofs.Common.{◌<◌, ◌≡◌, ◌≢◌, ℕ, zero, suc, Bool, true, false, List, [], length, Option, None, refl, sym, ap, ◌∙◌, subst, arith}
+use Rattle.std.proofs.Common.{◌<◌, ◌≡◌, ◌≢◌, ℕ, zero, suc, Bool, true, false, List, [], length, refl, sym, subst, arith}
 use Rattle.std.specs.Prelude.{◌==◌, ◌&&◌, is_some}
 use Rattle.std.proofs.Math.Dec.{leb}
 use Rattle.std.proofs.lemmas.Bool.{eqb-true, eqb-false, leb-true}
@@ -14,14 +14,11 @@ use Rattle.gl_algebra.specs.Shapes.{shape_of}
 use Rattle.gl_algebra.specs.Small.{are_small, small_of}
 use Rattle.gl_algebra.proofs.SmallLemmas.{small-is}
 use Rattle.gl_algebra.specs.Weights.{weight_of}
-use Rattle.gl_algebra.specs.Roots.{of_further, root_figures, spare_at, weight_with_output}
-use Rattle.gl_algebra.specs.declared.figures.Spare.{Spare}
-use Rattle.gl_compiler_text.specs.Built.{figures_unless}
+use Rattle.gl_algebra.specs.Roots.{of_further, spare_at, weight_with_output}
 use Rattle.gl_compiler_text.proofs.Planning.{gap_at}
 use Rattle.gl_figures.specs.Answered.{AreSmallBefore}
 use Rattle.gl_bits.specs.Limits.{most_weight}
 use Rattle.gl_elaborate.specs.Levels.{level_of}
-use Rattle.gl_elaborate.specs.Figures.{query_figures}
 use Rattle.gl_elaborate.specs.Plans.{placed, stream_node}
 use Rattle.gl_elaborate_plan.specs.Planned.{IsWithinLimits}
 use Rattle.gl_load.specs.Query.{load_schema}
@@ -54,17 +51,6 @@ plan_light = refl
 pub plan_within : IsWithinLimits load_plan
 plan_within = record { small = small_before load_plan.nodes (length load_plan.nodes) plan_small; light = leb-true _ _ plan_light }
 
--- its root has no spare copies, since its windows take a tuple in each cycle without any
-no_spare : spare_at load_plan.nodes load_plan.root ≡ None
-unfolding added level_of nodewise value_to_depth figures_of shape_of spare_at
-no_spare = refl
-
--- it takes a tuple in each cycle
-query_gap : (query_figures load_schema.streams (query_alike load_tree.query)).gt ≡ 1
-query_gap = refl
-
+-- it takes a tuple in each cycle, and has no spare copies, since its windows do so without any
 pub load_gap : gap_at load_schema (query_alike load_tree.query) ≡ 1
-load_gap =
-    ap (λ (o : Option Spare).
-    (figures_unless o (query_figures load_schema.streams (query_alike load_tree.query)) (root_figures load_plan.nodes load_plan.root)).gt) no_spare
-    ∙ query_gap
+load_gap = refl

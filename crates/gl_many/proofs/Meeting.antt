@@ -1,5 +1,5 @@
 -- The text of several roots' netlist meets all of their statements.
-use Rattle.std.proofs.Common.{◌≡◌, ℕ, ◌+◌, List, [], ◌∷◌, map, Global, ap, subst, ◌∙◌, codes}
+use Rattle.std.proofs.Common.{◌≡◌, ℕ, ◌+◌, ◌≤◌, List, [], ◌∷◌, map, Global, sym, ap, subst, ◌∙◌, codes}
 use Rattle.std.specs.List.{AllByRecursion, flat_map}
 use Rattle.gl_bits.proofs.AllLists.{map_map}
 use Rattle.gl_bits.proofs.Options.{some_same}
@@ -14,10 +14,11 @@ use Rattle.gl_query.specs.Results.{IsResult}
 use Rattle.gl_algebra.specs.declared.figures.Figures.{Figures}
 use Rattle.gl_algebra.specs.declared.node.PlanNode.{PlanNode}
 use Rattle.gl_algebra.specs.FigureTable.{figures_of}
-use Rattle.gl_net.specs.Net.{Net}
+use Rattle.gl_net.specs.Net.{Net, memory_bits_of, register_bits_of}
 use Rattle.gl_verilog.specs.Run.{port_of}
 use Rattle.gl_verilog_ports.specs.Profile.{declared}
-use Rattle.gl_wiring.specs.Many.{AreWired, IsRightFor, many_ports}
+use Rattle.gl_elaborate.specs.Plans.{Several, plans_of}
+use Rattle.gl_wiring.specs.Many.{AreWired, IsRightFor, ids_of, many_ports}
 use Rattle.gl_wiring.specs.Wired.{plan_means}
 use Rattle.gl_emission.specs.declared.emitting.Emitted.{Emitted}
 use Rattle.gl_emission.specs.Driven.{OverRuns}
@@ -31,13 +32,13 @@ use Rattle.gl_emission.proofs.Pins.{outs_other}
 use Rattle.gl_emission.proofs.Showing.{NoClock, right_past, right_wider}
 use Rattle.gl_emission.proofs.Views.{past_within, view_steady}
 use Rattle.gl_several_plan.specs.declared.planning.PlannedSeveral.{PlannedSeveral}
-use Rattle.gl_several_plan.specs.Together.{ArePlanned}
+use Rattle.gl_several_plan.specs.Together.{ArePlanned, several_at}
 use Rattle.gl_compiler_text.specs.Meets.{result_columns}
-use Rattle.gl_many.specs.Meets.{IsRightAmong, MeetTogether, outputs_among, outs_of, own_latency, shared_gap, take_ticks}
+use Rattle.gl_many.specs.Meets.{IsRightAmong, MeetTogether, most_memory_of_all, most_registers_of_all, outputs_among, outs_of, own_latency, shared_gap, take_ticks}
 use Rattle.gl_many.specs.Roots.{CanStand, root_of, roots_of}
 use Rattle.gl_many.proofs.Ports.{takes_beats}
 use Rattle.gl_many.proofs.Results.{root_result}
-use Rattle.gl_many.proofs.Standing.{AllStand, StandsAt, all_accepted, figures_own, reads_ticks, they_stand, widest_own}
+use Rattle.gl_many.proofs.Standing.{AllStand, Laws, StandsAt, all_accepted, figures_own, ids_are, reads_ticks, they_stand, widest_own}
 
 -- ---- one of them
 
@@ -92,25 +93,41 @@ module _ (schema : Schema) (nodes : List PlanNode) (gap : ℕ) (net : Net) (text
   all_right (s ∷ ss) [] all wired = absurd all
   all_right (s ∷ ss) (id ∷ ids) all wired = (one_right s id all.0 wired.0, all_right ss ids all.1 wired.1)
 
-module _ (schema : Schema) (ss : List Statement) (p : PlannedSeveral) (can : CanStand schema ss) (is : ArePlanned schema ss p) where
+-- the netlist has no more bits than the joint plan counts
+module _ (schema : Schema) (ss : List Statement) (p : PlannedSeveral) (is : ArePlanned schema ss p) (net : Net) (wired : AreWired schema p.plan (roots_of schema ss p.roots.items) net)
+    (ids : ids_of (roots_of schema ss p.roots.items) ≡ p.roots.items) where
+  few_registers : register_bits_of net ≤ most_registers_of_all (plans_of [] schema ss)
+  few_registers =
+      subst (λ (all : Several). register_bits_of net ≤ most_registers_of_all all) is.at
+      (subst (λ (is : List ℕ). register_bits_of net ≤ most_registers_of_all (several_at p.plan is)) ids wired.registers)
+
+  few_memories : memory_bits_of net ≤ most_memory_of_all (plans_of [] schema ss)
+  few_memories =
+      subst (λ (all : Several). memory_bits_of net ≤ most_memory_of_all all) is.at
+      (subst (λ (is : List ℕ). memory_bits_of net ≤ most_memory_of_all (several_at p.plan is)) ids wired.memories)
+
+module _ (laws : Laws) (schema : Schema) (ss : List Statement) (p : PlannedSeveral) (can : CanStand schema ss) (is : ArePlanned schema ss p) where
   -- a text of the netlist of the statements' roots meets them
   pub text_meets : (heap : Global) (net : Net) (made : Emitted) → AreWired schema p.plan (roots_of schema ss p.roots.items) net → IsEmitted net made
       → MeetTogether schema ss (shared_gap schema ss) made.text.items
   text_meets heap net made wired t =
       let ids = p.roots.items in
-      let all = they_stand schema ss p can is in
+      let all = they_stand laws schema ss p can is in
       let ticks = take_ticks ss in
       let outputs : List ProfilePort = flat_map (outputs_among schema) ss in
-      let ports = wired.ports ∙ ap (λ b. many_ports b schema p.plan (roots_of schema ss ids)) (reads_ticks schema ss p can is heap) in
+      let ports = wired.ports ∙ ap (λ b. many_ports b schema p.plan (roots_of schema ss ids)) (reads_ticks laws schema ss p can is heap) in
       let takes : TakesBeats ticks schema outputs net = takes_beats p.plan schema ss ids net all ports in
       let text : IsEmission net schema made.text.items = t.text ticks schema outputs can.of_schema takes in
       let gap = widest_own p.plan schema ss ids all in
+      let own = ids_are p.plan schema ss ids all in
       record {
         accepted = all_accepted p.plan schema ss ids all;
         design = text.design;
         has = text.has;
         name = some_same text.design.name (codes "q__many") (text.name' ∙ wired.name);
         face = text.face ∙ ap (λ (ps : List ProfilePort). map declared (input clk 1 ∷ ps)) takes.ports;
+        few_registers = subst (λ (n : ℕ). n ≤ most_registers_of_all (plans_of [] schema ss)) (sym text.registers) (few_registers schema ss p is net wired own);
+        few_memories = subst (λ (n : ℕ). n ≤ most_memory_of_all (plans_of [] schema ss)) (sym text.memories) (few_memories schema ss p is net wired own);
         runs = text.runs;
         each = all_right schema p.plan (shared_gap schema ss) net made.text.items text ss ids all
             (subst (λ (g : ℕ). AllByRecursion (IsRightFor schema p.plan g net) (roots_of schema ss ids)) gap wired.each);

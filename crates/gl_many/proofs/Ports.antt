@@ -1,15 +1,14 @@
 -- The ports of several roots' netlist are those of the schema and of each statement.
-use Rattle.std.proofs.Common.{◌≡◌, ℕ, Bool, true, false, List, [], ◌∷◌, ◌++◌, map, refl, sym, ap, ◌∙◌}
+use Rattle.std.proofs.Common.{◌≡◌, ℕ, List, [], ◌∷◌, ◌++◌, map, refl, sym, ap, ◌∙◌}
 use Rattle.std.specs.List.{AllByRecursion, flat_map}
 use Rattle.std.proofs.lemmas.List.{map-append}
 use Rattle.gl_bits.proofs.AllLists.{all_append, all_mapped}
 use Rattle.gl_bits.specs.Kinds.{width_of}
 use Rattle.gl_bits.specs.declared.kind.Kind.{Kind}
 use Rattle.gl_schema.specs.declared.schema.Column.{Column}
-use Rattle.gl_schema.specs.declared.schema.Stream.{Stream}
 use Rattle.gl_schema.specs.declared.schema.Schema.{Schema}
 use Rattle.gl_schema.specs.Schemas.{column_names, kinds_of}
-use Rattle.gl_schema.specs.Ports.{rst, eos, in_valid, in_column, out_valid, out_column, out_eos, fault_group, fault_queue}
+use Rattle.gl_schema.specs.Ports.{out_valid, out_column, out_eos, fault_group, fault_queue}
 use Rattle.gl_schema.specs.Profile as profile
 use Rattle.gl_schema.specs.Profile.{Out, ProfilePort}
 use Rattle.gl_query.specs.declared.tree.Statement.{Statement}
@@ -18,40 +17,17 @@ use Rattle.gl_net.specs.Net.{Net}
 use Rattle.gl_net.specs.PortValues.{PortShape, port_shapes}
 use Rattle.gl_verilog_ports.proofs.Profiled.{outputs_out}
 use Rattle.gl_wiring.specs.Leaves.{widths_of}
-use Rattle.gl_wiring.specs.EmittedPorts.{input, output, column_inputs, stream_inputs, streams_inputs}
+use Rattle.gl_wiring.specs.EmittedPorts.{output}
 use Rattle.gl_wiring.specs.Many.{many_ports, root_outputs}
 use Rattle.gl_wiring.specs.Naming.{beside_others}
-use Rattle.gl_wiring.specs.Output.{column_outputs, input_ports, result_outputs, tick_input}
+use Rattle.gl_wiring.specs.Output.{column_outputs, input_ports, result_outputs}
 use Rattle.gl_emission.specs.Emission.{TakesBeats, port_like}
 use Rattle.gl_emission.specs.Views.{within}
 use Rattle.gl_compiler_text.specs.Meets.{result_columns}
+use Rattle.gl_compiler_text.proofs.Faces.{inputs_are}
 use Rattle.gl_many.specs.Meets.{outputs_among, port_among, take_ticks}
 use Rattle.gl_many.specs.Roots.{root_of, roots_of}
 use Rattle.gl_many.proofs.Standing.{AllStand, StandsAt, kinds_own}
-
--- ---- inputs
-
-columns_in : (s : List ℕ) (cs : List Column) → map port_like (column_inputs s cs) ≡ profile.column_inputs s cs
-columns_in s [] = refl
-columns_in s (c ∷ cs) = ap (λ (x : List ProfilePort). profile.input (in_column s c.name) (width_of c.kind) ∷ x) (columns_in s cs)
-
-streams_in : (ss : List Stream) → map port_like (streams_inputs ss) ≡ profile.streams_inputs ss
-streams_in [] = refl
-streams_in (s ∷ ss) =
-    map-append port_like (stream_inputs s) (streams_inputs ss)
-    ∙ ap (λ (x : List ProfilePort). profile.input (in_valid s.name) 1 ∷ (x ++ map port_like (streams_inputs ss))) (columns_in s.name s.columns)
-    ∙ ap (λ (x : List ProfilePort). profile.stream_inputs s ++ x) (streams_in ss)
-
-tick_is : (ticks : Bool) → map port_like (tick_input ticks) ≡ profile.tick_input ticks
-tick_is true = refl
-tick_is false = refl
-
-inputs_are : (ticks : Bool) (schema : Schema) → map port_like (input_ports ticks schema) ≡ profile.input_ports ticks schema
-inputs_are ticks schema =
-    ap (λ (x : List ProfilePort). profile.input rst 1 ∷ x)
-    (map-append port_like (streams_inputs schema.streams) (input eos 1 ∷ tick_input ticks)
-    ∙ ap (λ (x : List ProfilePort). x ++ profile.input eos 1 ∷ map port_like (tick_input ticks)) (streams_in schema.streams)
-    ∙ ap (λ (x : List ProfilePort). profile.streams_inputs schema.streams ++ profile.input eos 1 ∷ x) (tick_is ticks))
 
 -- ---- outputs of one statement
 

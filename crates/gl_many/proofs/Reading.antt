@@ -10,12 +10,12 @@ use Rattle.gl_query.specs.Alike.{statement_alike}
 use Rattle.gl_query.specs.Checked.{IsChecked}
 use Rattle.gl_query.specs.Names.{StatementHasNames}
 use Rattle.gl_query.specs.Trees.{StatementTree, statement_tree}
-use Rattle.gl_query.proofs.Alike.{statement_same}
+use Rattle.gl_query.specs.Laws.{TreesAreAlike}
 use Rattle.gl_query_check.specs.declared.checking.Checked.{Checked}
 use Rattle.gl_query_reader.specs.Grammar.{IsRegular}
 use Rattle.gl_query_list.specs.Lists.{HasStatements, tree_of}
 use Rattle.gl_query_list.specs.Lists as list
-use Rattle.gl_query_list.proofs.Listing.{listed}
+use Rattle.gl_query_list.specs.Laws.{StatementsAreListed}
 use Rattle.gl_several_plan.specs.Together.{IsCheckedOver, statements_of}
 use Rattle.gl_many.specs.Queries.{trees_of}
 use Rattle.gl_many.specs.Roots.{CanStand, IsNamed, names_of}
@@ -34,20 +34,20 @@ module _ (schema : Schema) (all : List Checked) (over : AllByRecursion (list.IsC
     pub has_trees : HasStatements schema text (trees_of (statements_of all))
     has_trees = subst (HasStatements schema text) (sym (map_map statement_tree (λ (c : Checked). c.statement) all)) has
 
-    all_named : AllByRecursion IsNamed (statements_of all)
-    all_named =
+    all_named : TreesAreAlike → StatementsAreListed → AllByRecursion IsNamed (statements_of all)
+    all_named alike listed =
         let regular = (listed schema text (map tree_of all) has).regular in
         all_mapped IsNamed (λ (c : Checked). c.statement) all
-        (all_weaker (λ (c : Checked). IsRegular (statement_alike (tree_of c))) (λ (c : Checked). IsNamed c.statement) (λ c h. subst StatementHasNames (statement_same c.statement) h.names) all
+        (all_weaker (λ (c : Checked). IsRegular (statement_alike (tree_of c))) (λ (c : Checked). IsNamed c.statement) (λ c h. subst StatementHasNames (alike c.statement) h.names) all
         (all_of_mapped (λ (t : StatementTree). IsRegular (statement_alike t)) tree_of all regular))
 
     own_names : list.names_of (map tree_of all) ≡ names_of (statements_of all)
     own_names = map_map (λ (t : StatementTree). t.name.text) tree_of all ∙ sym (map_map (λ (s : Statement). s.name.text) (λ (c : Checked). c.statement) all)
 
-    pub can_stand : CanStand schema (statements_of all)
-    can_stand = record {
+    pub can_stand : TreesAreAlike → StatementsAreListed → CanStand schema (statements_of all)
+    can_stand alike listed = record {
       of_schema = fine;
       checked = all_checked;
-      named = all_named;
+      named = all_named alike listed;
       distinct = subst (λ (names : List (List ℕ)). IsDistinct bytes_eq names) own_names (listed schema text (map tree_of all) has).distinct;
     }

@@ -7,6 +7,7 @@ use Rattle.gl_schema.specs.Schemas.{kinds_of}
 use Rattle.gl_query.specs.declared.tree.Statement.{Statement}
 use Rattle.gl_query.specs.Accepted.{IsAccepted}
 use Rattle.gl_query.specs.Checked.{IsChecked}
+use Rattle.gl_query.specs.Laws.{AcceptedHaveRealColumns}
 use Rattle.gl_algebra.specs.declared.figures.Figures.{Figures}
 use Rattle.gl_algebra.specs.declared.node.PlanNode.{PlanNode}
 use Rattle.gl_algebra.specs.FigureTable.{figures_of}
@@ -14,17 +15,16 @@ use Rattle.gl_algebra.specs.Shapes.{Shape}
 use Rattle.gl_algebra.specs.Shapes as shapes
 use Rattle.gl_algebra.specs.Small.{AreFigures}
 use Rattle.gl_algebra.specs.Views.{reads_time}
-use Rattle.gl_elaborate.specs.Laws.{IsRightAt}
+use Rattle.gl_elaborate.specs.Laws.{IsRightAt, PlansAreRight, PlansTellTime, SeveralAreRight}
 use Rattle.gl_elaborate.specs.Plans.{Several}
-use Rattle.gl_elaborate.proofs.SeveralLemmas.{several-right}
 use Rattle.gl_elaborate_plan.specs.Planned.{AreAllSmall}
 use Rattle.gl_several_plan.specs.declared.planning.PlannedSeveral.{PlannedSeveral}
-use Rattle.gl_several_plan.specs.Together.{ArePlanned, gap_together, latency_alone, own_figures}
+use Rattle.gl_several_plan.specs.Together.{ArePlanned, gap_together, latency_alone}
 use Rattle.gl_wiring.specs.Many.{CanWireAll, CanWireRoot, ids_of, intos, result_names, widest_gap}
 use Rattle.gl_wiring.specs.StreamWires.{AreStreamLeaves}
 use Rattle.gl_compiler_text.specs.Meets.{result_columns}
 use Rattle.gl_compiler_text.proofs.KnownOf.{Known, known}
-use Rattle.gl_many.specs.Meets.{own_latency, shared_gap, take_ticks}
+use Rattle.gl_many.specs.Meets.{own_figures, own_latency, shared_gap, take_ticks}
 use Rattle.gl_many.specs.Roots.{CanStand, IsNamed, names_of, root_of, roots_of}
 use Rattle.gl_many.proofs.Times.{several-time}
 
@@ -37,7 +37,7 @@ pub record StandsAt (nodes : List PlanNode) (schema : Schema) (statement : State
 module _ (nodes : List PlanNode) (schema : Schema) (statement : Statement) (id : ℕ) (at : StandsAt nodes schema statement id) where
   -- its figures and its shape are its own
   pub figures_own : figures_of nodes id ≡ own_figures schema statement
-  figures_own = at.right.figures ∙ sym at.known'.right.figures
+  figures_own = at.right.figures
 
   pub kinds_own : shapes.kinds_of nodes id ≡ kinds_of (result_columns schema statement)
   kinds_own = ap (λ (x : Shape). x.kinds) at.right.shape
@@ -63,7 +63,7 @@ AllStand nodes schema ss ids = AllZip (StandsAt nodes schema) ss ids
 -- ---- where all stand
 
 module _ (nodes : List PlanNode) (schema : Schema) where
-  ids_are : (ss : List Statement) (ids : List ℕ) → AllStand nodes schema ss ids → ids_of (roots_of schema ss ids) ≡ ids
+  pub ids_are : (ss : List Statement) (ids : List ℕ) → AllStand nodes schema ss ids → ids_of (roots_of schema ss ids) ≡ ids
   ids_are [] [] all = refl
   ids_are [] (id ∷ ids) all = absurd all
   ids_are (s ∷ ss) [] all = absurd all
@@ -120,26 +120,35 @@ module _ (nodes : List PlanNode) (schema : Schema) where
 
 -- ---- statements that can stand do, in their joint plan
 
-all_stand : (nodes : List PlanNode) (schema : Schema) (ss : List Statement) (ids : List ℕ) → AllByRecursion (IsChecked schema) ss → AllByRecursion IsNamed ss
+-- the laws of what stands below, by which they do
+pub record Laws : Type 0 where
+  pub columns : AcceptedHaveRealColumns
+  pub plans : PlansAreRight
+  pub several : SeveralAreRight
+  pub time : PlansTellTime
+
+all_stand : Laws → (nodes : List PlanNode) (schema : Schema) (ss : List Statement) (ids : List ℕ) → AllByRecursion (IsChecked schema) ss → AllByRecursion IsNamed ss
     → AllZip (IsRightAt nodes schema) ss ids → AllStand nodes schema ss ids
-all_stand nodes schema [] [] checked named right = tt
-all_stand nodes schema [] (id ∷ ids) checked named right = absurd right
-all_stand nodes schema (s ∷ ss) [] checked named right = absurd right
-all_stand nodes schema (s ∷ ss) (id ∷ ids) checked named right =
-    (record { is = checked.0; known' = known schema s checked.0 named.0; right = right.0 }, all_stand nodes schema ss ids checked.1 named.1 right.1)
+all_stand laws nodes schema [] [] checked named right = tt
+all_stand laws nodes schema [] (id ∷ ids) checked named right = absurd right
+all_stand laws nodes schema (s ∷ ss) [] checked named right = absurd right
+all_stand laws nodes schema (s ∷ ss) (id ∷ ids) checked named right = (
+  record { is = checked.0; known' = known laws.plans laws.columns schema s checked.0 named.0; right = right.0 },
+  all_stand laws nodes schema ss ids checked.1 named.1 right.1,
+)
 
 all_short : (nodes : List PlanNode) (ids : List ℕ) → AreAllSmall nodes → AllByRecursion (λ id. id < length nodes) ids
     → AllByRecursion (λ latency. latency ≤ 2 ^ 32) (map (latency_alone nodes) ids)
 all_short nodes [] small within = tt
 all_short nodes (id ∷ ids) small within = let soon = (small id within.0).le in (omega (arith, soon), all_short nodes ids small within.1)
 
-module _ (schema : Schema) (ss : List Statement) (p : PlannedSeveral) (can : CanStand schema ss) (is : ArePlanned schema ss p) where
+module _ (laws : Laws) (schema : Schema) (ss : List Statement) (p : PlannedSeveral) (can : CanStand schema ss) (is : ArePlanned schema ss p) where
   pub they_stand : AllStand p.plan schema ss p.roots.items
   they_stand = subst (λ (all : Several). AllStand all.nodes schema ss all.roots) (sym is.at)
-      (all_stand _ schema ss _ can.checked can.named (several-right schema ss can.checked).each)
+      (all_stand laws _ schema ss _ can.checked can.named (laws.several schema ss can.checked).each)
 
   pub reads_ticks : Global → reads_time p.plan ≡ take_ticks ss
-  reads_ticks heap = ap (λ (all : Several). reads_time all.nodes) is.at ∙ several-time heap schema ss
+  reads_ticks heap = ap (λ (all : Several). reads_time all.nodes) is.at ∙ several-time laws.time heap schema ss
 
   pub latencies_are : p.latencies.items ≡ map (own_latency schema) ss
   latencies_are = is.latencies' ∙ latencies_own p.plan schema ss p.roots.items they_stand

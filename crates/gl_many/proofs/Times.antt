@@ -14,8 +14,8 @@ use Rattle.gl_algebra.specs.declared.node.PlanNode.TheVariants as node
 use Rattle.gl_algebra.specs.Added.{Placed, added}
 use Rattle.gl_algebra.specs.Views.{is_time, reads_time}
 use Rattle.gl_algebra.proofs.PlanLemmas.{node_inserted}
+use Rattle.gl_elaborate.specs.Laws.{PlansTellTime}
 use Rattle.gl_elaborate.specs.Plans.{placed, plan_behind, plans_of, stream_node}
-use Rattle.gl_elaborate.proofs.TimeLemmas.{plans-time}
 use Rattle.gl_compiler_text.specs.Meets.{takes_ticks}
 use Rattle.gl_many.specs.Meets.{take_ticks}
 use denote.RawPtr.{null_ptr}
@@ -57,6 +57,6 @@ united_plan heap (t ∷ ss) s nodes schema =
     union_quiet right.nodes left.root right.root ∙ united_plan heap ss t left.nodes schema
 
 -- the nodes of several statements read the time exactly where one of them does
-pub several-time : (heap : Global) (schema : Schema) (ss : List Statement) → reads_time (plans_of [] schema ss).nodes ≡ take_ticks ss
-several-time heap schema [] = refl
-several-time heap schema (s ∷ ss) = sym (united_plan heap ss s [] schema) ∙ plans-time schema (as_statement (united heap s ss)) ∙ united_time heap ss s
+pub several-time : PlansTellTime → (heap : Global) (schema : Schema) (ss : List Statement) → reads_time (plans_of [] schema ss).nodes ≡ take_ticks ss
+several-time time heap schema [] = refl
+several-time time heap schema (s ∷ ss) = sym (united_plan heap ss s [] schema) ∙ time schema (as_statement (united heap s ss)) ∙ united_time heap ss s

@@ -1,8 +1,8 @@
 -- What the text of several statements is: one module with the ports of the schema and of each result, every run of
 -- which, in any order of events, over any beats that keep the gap and from any start, is right for each statement as if
 -- it stood alone, within its own latency and with its own overflow line.
-use Rattle.std.specs.Prelude.{◌≡◌, ℕ, ◌+◌, ◌∷◌, ◌++◌, max, List, [], map, Bool, codes}
-use Rattle.std.specs.List.{AllByRecursion, flat_map, list_any}
+use Rattle.std.specs.Prelude.{◌≡◌, ℕ, ◌+◌, ◌*◌, ◌≤◌, ◌∷◌, ◌++◌, max, List, [], map, Bool, codes}
+use Rattle.std.specs.List.{AllByRecursion, flat_map, list_any, sum_by}
 use Rattle.gl_schema.specs.declared.schema.Column.{Column}
 use Rattle.gl_schema.specs.declared.schema.Schema.{Schema}
 use Rattle.gl_schema.specs.Ports.{out_column}
@@ -11,7 +11,13 @@ use Rattle.gl_schema.specs.Right.{IsRight}
 use Rattle.gl_query.specs.declared.tree.Statement.{Statement}
 use Rattle.gl_query.specs.Accepted.{IsAccepted}
 use Rattle.gl_query.specs.Results.{IsResult}
-use Rattle.gl_several_plan.specs.Together.{own_figures}
+use Rattle.gl_query.specs.Shapes.{query_shape}
+use Rattle.gl_algebra.specs.declared.figures.Figures.{Figures}
+use Rattle.gl_algebra.specs.Roots.{output_part}
+use Rattle.gl_reach.specs.Reach.{keys_of_reached, lean_of_reached, store_of_reached}
+use Rattle.gl_elaborate.specs.Figures.{query_figures}
+use Rattle.gl_elaborate.specs.Plans.{Several, plans_of}
+use Rattle.gl_verilog.specs.Cost.{memory_bits, register_bits}
 use Rattle.gl_verilog.specs.Module.{Module}
 use Rattle.gl_verilog.specs.Text.{HasModule}
 use Rattle.gl_verilog_ports.specs.Profile.{declared, ports_of}
@@ -22,6 +28,10 @@ use Rattle.gl_emission.specs.Views.{seen_as, within}
 use Rattle.gl_compiler_text.specs.Meets.{result_columns, takes_ticks}
 
 -- ---- figures
+
+-- the figures of a statement among others: those of its query, form by form, since no root has spare copies here
+abbrev pub own_figures : Schema → Statement → Figures
+own_figures schema statement = query_figures schema.streams (query_shape statement.query)
 
 -- the cycles from the last beat to the end of a statement's result, whatever stands beside it
 abbrev pub own_latency : Schema → Statement → ℕ
@@ -36,6 +46,18 @@ longest schema (s ∷ ss) = max (own_latency schema s) (longest schema ss)
 abbrev pub shared_gap : Schema → List Statement → ℕ
 shared_gap schema [] = 0
 shared_gap schema (s ∷ ss) = max (own_figures schema s).gt (shared_gap schema ss)
+
+-- ---- bits
+
+-- the most register bits, and the most memory bits, of the circuit of a joint plan: what it counts once for each node
+-- that some root reaches, and for each output
+abbrev pub most_registers_of_all : Several → ℕ
+most_registers_of_all all =
+    64 * (lean_of_reached all.nodes all.roots + sum_by (output_part all.nodes) all.roots)
+    + keys_of_reached all.nodes all.roots
+
+abbrev pub most_memory_of_all : Several → ℕ
+most_memory_of_all all = store_of_reached all.nodes all.roots
 
 -- ---- ports
 
@@ -73,12 +95,15 @@ pub record IsRightAmong (schema : Schema) (gap : ℕ) (design : Module) (stateme
       TellsGroup (IsResult schema statement) beats (outs_of schema statement) (seen_as statement.name.text port))
 
 -- the text has one module, whose ports are in order the clock, the inputs of the schema and the outputs of each
--- statement; there is a run of it from any start over any beats of the schema, and it is right for each statement
+-- statement, and which declares no more bits than their joint plan counts; there is a run of it from any start over any
+-- beats of the schema, and it is right for each statement
 pub record MeetTogether (schema : Schema) (statements : List Statement) (gap : ℕ) (text : List ℕ) : Type 0 where
   pub accepted : AllByRecursion (IsAccepted schema) statements
   pub design : Module
   pub has : HasModule text design
   pub name : design.name ≡ codes "q__many"
   pub face : ports_of design ≡ map declared (input clk 1 ∷ profile_of_all schema statements)
+  pub few_registers : register_bits design ≤ most_registers_of_all (plans_of [] schema statements)
+  pub few_memories : memory_bits design ≤ most_memory_of_all (plans_of [] schema statements)
   pub runs : HasRunsOver design schema
   pub each : AllByRecursion (IsRightAmong schema gap design) statements

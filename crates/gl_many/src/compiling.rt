@@ -14,10 +14,13 @@ ghost use Rattle.gl_many.specs.Roots.{CanStand};
 
 use crate::rooting::roots_of;
 use gl_bits::Memory;
+use gl_elaborate::laws::{plans_are_right, plans_tell_time, several_are_right};
 use gl_elaborate_plan::PlanFault;
 use gl_emission::emit;
+use gl_query::laws::{accepted_have_real_columns, trees_are_alike};
 use gl_query_check::Checked;
 use gl_query_compiler::CompileFault;
+use gl_query_list::laws::statements_are_listed;
 use gl_query_list::{Statements, read_statements};
 use gl_schema::Schema;
 use gl_several_plan::{PlannedSeveral, plan_several};
@@ -75,6 +78,10 @@ fn text_of(
     ensures { let asked = statements_of statements.now in IfOk result (λ text.
         MeetTogether schema.now asked (shared_gap schema.now asked) text.items) }
 {
+    accepted_have_real_columns();
+    plans_are_right();
+    plans_tell_time();
+    several_are_right();
     let roots = roots_of(alloc, schema, statements, &planned.roots)?;
     let net = wire_roots(alloc, schema, &planned.plan, &planned.figures, &roots)?;
     let made = emit(alloc, &net)?;
@@ -114,6 +121,12 @@ pub fn compile_many(alloc: Global, schema: Schema, queries: &[u8]) -> Result<Man
         → AreQueries schema queries.now statements → ⊥)) }
     ensures told { TellsCausesOfAll schema queries.now result }
 {
+    accepted_have_real_columns();
+    plans_are_right();
+    plans_tell_time();
+    several_are_right();
+    statements_are_listed();
+    trees_are_alike();
     let statements = read_statements(alloc, &schema, queries)?;
     let (planned, text) = built(alloc, &schema, statements.as_slice())?;
     Ok(Many {

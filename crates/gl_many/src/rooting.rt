@@ -1,29 +1,17 @@
 //! The roots of statements in their joint plan, under the names of their results.
 
 ghost use Rattle.std.specs.Prelude.{◌≡◌, ◌++◌, IfOk, OnOk};
-ghost use Rattle.gl_schema.specs.Schemas.{column_names};
 ghost use Rattle.gl_several_plan.specs.Together.{statements_of};
 ghost use Rattle.gl_many.specs.Roots.{root_of, roots_of};
 
 use gl_algebra::PlanId;
-use gl_bits::{Listed, Memory};
+use gl_bits::Memory;
+use gl_compiler_text::naming::{result_columns, result_names};
 use gl_query::Statement;
-use gl_query::columns::{Sources, columns_of, copy_of_name};
 use gl_query_check::Checked;
-use gl_schema::{Column, NameText, Schema};
-use gl_wiring::{ResultNames, Root};
+use gl_schema::Schema;
+use gl_wiring::Root;
 use std::alloc::Global;
-
-// The names of columns, in order.
-fn names(alloc: Global, columns: &[Column]) -> Result<Listed<NameText>, Memory>
-    ensures { IfOk result (λ v. v ≡ column_names columns.now) }
-{
-    let mut out = Listed::new(alloc);
-    for column in columns {
-        out.push(copy_of_name(alloc, column.name.as_slice())?)?;
-    }
-    Ok(out)
-}
 
 // The root of a statement at a node.
 fn root_of(
@@ -34,12 +22,8 @@ fn root_of(
 ) -> Result<Root, Memory>
     ensures { IfOk result (λ root. root ≡ root_of schema.now statement.now id) }
 {
-    let sources = Sources::Schema(schema.streams.as_slice());
-    let columns = columns_of(alloc, sources, &statement.query)?;
-    let names = ResultNames {
-        into: copy_of_name(alloc, statement.name.text.as_slice())?,
-        columns: names(alloc, columns.as_slice())?,
-    };
+    let columns = result_columns(alloc, schema, statement)?;
+    let names = result_names(alloc, statement, columns.as_slice())?;
     Ok(Root { id, names })
 }
 

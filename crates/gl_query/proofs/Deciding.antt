@@ -23,7 +23,7 @@ use Rattle.gl_query.specs.Trees.{ExprTree, AggTree}
 use Rattle.gl_query.specs.Alike.{expr_alike, agg_alike}
 use Rattle.gl_query.specs.Values.{CanApply, HasKind, IsLettersOf, IsNegativeOf, IsNumberOf, is_loose, kind_alone, kind_of, letters_fit, operand_place}
 use Rattle.gl_query.specs.Accepted.{IsAgg, IsFilter, IsSummed}
-use Rattle.gl_query.specs.Faults.{or_else, unless, same_kinds, is_bit, is_within, number_fault, negative_fault, letters_fault, operator_fault, of_operands, expr_fault, whole_fault, whole_kind, filter_fault, named_fault, summed_fault, too_many, weights_fault, agg_fault}
+use Rattle.gl_query.specs.Faults.{first_of, or_else, rules_under_name, unless, same_kinds, is_bit, is_within, number_fault, negative_fault, letters_fault, operator_fault, of_operands, expr_fault, whole_fault, whole_kind, filter_fault, named_fault, summed_fault, too_many, weights_fault, agg_fault}
 
 -- no fault comes exactly where this holds
 pub record Decides (fault : Option QueryFault) (P : Type 0) : Type 0 where
@@ -206,27 +206,22 @@ named_decides {A} name own Own d earlier (i ∷ items) most distinct =
     let among = list_any (λ j. bytes_eq (text i) (text j)) earlier in
     let more = earlier ++ i ∷ [] in
     let long : length more ≡ length earlier + 1 = length-append earlier (i ∷ []) in
-    change _
-    (both (unless (nat_lt (length earlier) 32) _) _ (rule (nat_lt (length earlier) 32) _ (length earlier < 32) (ltb-true (length earlier) 32) (lt-ltb (length earlier) 32))
+    let here = both (unless (nat_lt (length earlier) 32) _) _ (rule (nat_lt (length earlier) 32) _ (length earlier < 32) (ltb-true (length earlier) 32) (lt-ltb (length earlier) 32))
     (λ room. both (own i) _ (d i)
-    (λ o. both (unless (not among) _) _ (rule (not among) _ (among ≡ false) (not_true among) (not_false among))
-    (λ fresh. named_decides name own Own d more items (let z = long in omega (arith, z, room)) (more_named text earlier i distinct fresh)))))
+    (λ o. both (unless (not among) _) None (rule (not among) _ (among ≡ false) (not_true among) (not_false among)) (λ fresh. always (Unit {0}) tt))) in
+    change _
+    (both (first_of (rules_under_name name own earlier i)) _ here
+    (λ h. named_decides name own Own d more items (let z = long in let room = h.0 in omega (arith, z, room)) (more_named text earlier i distinct h.1.1.0)))
     (λ h. record {
-      each = (h.1.0, h.1.1.1.each);
-      most = subst (λ (l : List A). length l ≤ 32) (append_assoc earlier (i ∷ []) items) h.1.1.1.most;
-      distinct = subst (λ (l : List A). IsDistinct bytes_eq (map text l)) (append_assoc earlier (i ∷ []) items) h.1.1.1.distinct;
+      each = (h.0.1.0, h.1.each);
+      most = subst (λ (l : List A). length l ≤ 32) (append_assoc earlier (i ∷ []) items) h.1.most;
+      distinct = subst (λ (l : List A). IsDistinct bytes_eq (map text l)) (append_assoc earlier (i ∷ []) items) h.1.distinct;
     })
     (λ n. (
-      (let z = length-append earlier (i ∷ items) in let m = n.most in omega (arith, z, m)),
-      (
-        n.each.0,
-        (
-          new_named text earlier i items n.distinct,
-          record {
-            each = n.each.1;
-            most = subst (λ (l : List A). length l ≤ 32) (sym (append_assoc earlier (i ∷ []) items)) n.most;
-            distinct = subst (λ (l : List A). IsDistinct bytes_eq (map text l)) (sym (append_assoc earlier (i ∷ []) items)) n.distinct;
-          },
-        ),
-      ),
+      ((let z = length-append earlier (i ∷ items) in let m = n.most in omega (arith, z, m)), (n.each.0, (new_named text earlier i items n.distinct, tt))),
+      record {
+        each = n.each.1;
+        most = subst (λ (l : List A). length l ≤ 32) (sym (append_assoc earlier (i ∷ []) items)) n.most;
+        distinct = subst (λ (l : List A). IsDistinct bytes_eq (map text l)) (sym (append_assoc earlier (i ∷ []) items)) n.distinct;
+      },
     ))

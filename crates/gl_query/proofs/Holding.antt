@@ -1,8 +1,8 @@
 -- A property of rows that each step from the sources to the result of a query keeps holds of the rows of the result.
 use Rattle.std.proofs.Common.{◌≡◌, ℕ, zero, suc, ◌-◌, ◌+◌, ◌*◌, ◌%◌, ◌/◌, Bool, false, List, [], ◌∷◌, ◌++◌, length, refl, sym, subst, map, filter, take, drop, nat_lt, nat_eq}
 use Rattle.std.specs.Prelude.{◌&&◌, nat_le, IsTrue, bytes_eq, flat_map, not, slice_index}
-use Rattle.std.specs.List.{AllByRecursion, filter_map, range_with_len}
-use Rattle.gl_bits.specs.Lists.{Group, IsInterleaving, nothing, from_first, from_second, distinct, groups, keys_of, rows_with, slice_at, slices}
+use Rattle.std.specs.List.{AllByRecursion, range_with_len}
+use Rattle.gl_bits.specs.Lists.{Group, IsInterleaving, nothing, from_first, from_second, distinct, groups, keys_of, part, rows_with, slices}
 use Rattle.gl_bits.specs.Partitions.{completed, completed_by, fulls, has_key, keyed, parts, short_slices}
 use Rattle.gl_bits.specs.Results.{Row, Results, AreJoined, IsOfGroup, beside}
 use Rattle.gl_bits.specs.Times.{tfirsts, tpart}
@@ -49,7 +49,7 @@ all_drop P (suc n) [] h = tt
 all_drop P (suc n) (x ∷ xs) h = all_drop P n xs h.1
 
 pub all_slices_at : (P : Row → Type 0) (size advance : ℕ) (rows : List Row) (places : List ℕ) → AllByRecursion P rows
-    → AllByRecursion (AllByRecursion P) (filter_map (slice_at size advance rows) places)
+    → AllByRecursion (AllByRecursion P) (map (λ j. part size (j * advance) rows) (filter (λ j. nat_lt (j * advance) (length rows)) places))
 all_slices_at P size advance rows [] h = tt
 all_slices_at P size advance rows (j ∷ places) h =
     by_cases (nat_lt (j * advance) (length rows))

@@ -32,6 +32,11 @@ abbrev pub or_else : Option QueryFault → Option QueryFault → Option QueryFau
 or_else None b = b
 or_else (Some f) b = Some f
 
+-- the first fault of a list of rules
+abbrev pub first_of : List (Option QueryFault) → Option QueryFault
+first_of [] = None
+first_of (f ∷ fs) = or_else f (first_of fs)
+
 -- a fault where a rule is broken
 abbrev pub unless : Bool → QueryFault → Option QueryFault
 unless true f = None
@@ -141,16 +146,21 @@ filter_fault columns (Some e) =
     or_else (expr_fault columns (Unsigned 1) e)
     (unless (is_bit (kind_of columns (Unsigned 1) (expr_alike e))) (NotCondition (first_place e)))
 
--- ---- what is under a name: of each the 33rd's place, its own fault, and its name where an earlier one has it
+-- ---- what is under a name
 
--- the first fault in a list of named items: each may be one too many, broken itself, or named as an earlier one
+-- the rules for one, in order: it is no 33rd, it breaks no rule of its own, and no earlier one has its name
+abbrev pub rules_under_name : {A : Type 0} → (A → Name) → (A → Option QueryFault) → List A → A → List (Option QueryFault)
+rules_under_name name own earlier i =
+    unless (nat_lt (length earlier) most_columns) (OutOfRange (name i).at)
+    ∷ own i
+    ∷ unless (not (list_any (λ j. bytes_eq (name i).text (name j).text) earlier)) (TwiceNamed (name i).at)
+    ∷ []
+
+-- the first rule that one of them breaks, from the first one on
 abbrev pub named_fault : {A : Type 0} → (A → Name) → (A → Option QueryFault) → List A → List A → Option QueryFault
 named_fault name own earlier [] = None
 named_fault name own earlier (i ∷ items) =
-    or_else (unless (nat_lt (length earlier) most_columns) (OutOfRange (name i).at))
-    (or_else (own i)
-    (or_else (unless (not (list_any (λ j. bytes_eq (name i).text (name j).text) earlier)) (TwiceNamed (name i).at))
-    (named_fault name own (earlier ++ i ∷ []) items)))
+    or_else (first_of (rules_under_name name own earlier i)) (named_fault name own (earlier ++ i ∷ []) items)
 
 -- the first fault of the items of a select, behind those that were already looked at
 abbrev pub items_fault : List NamedColumn → List ItemTree → List ItemTree → Option QueryFault

@@ -1,6 +1,7 @@
 //! What a query may read, and the columns of queries.
 
 ghost use Rattle.std.specs.Prelude.{◌≡◌, ◌∷◌, ◌++◌, IfOk, map};
+ghost use Rattle.gl_schema.specs.Schemas.{column_names, kinds_of};
 ghost use Rattle.gl_query.specs.Shapes.{agg_item_shape, agg_shape, item_shape, pick_shape, query_shape};
 ghost use Rattle.gl_query.specs.Values.{column_kind};
 ghost use Rattle.gl_query.specs.Columns.{agg_column, agg_kind, columns_of, item_column, picked_columns, source_columns, variable};
@@ -39,6 +40,28 @@ pub fn copy_of_columns(alloc: Global, columns: &[Column]) -> Result<Columns, Mem
             name,
             kind: column.kind,
         })?;
+    }
+    Ok(out)
+}
+
+/// The names of columns, in order.
+pub fn names_of(alloc: Global, columns: &[Column]) -> Result<Listed<NameText>, Memory>
+    ensures { IfOk result (λ v. v ≡ column_names columns.now) }
+{
+    let mut out = Listed::new(alloc);
+    for column in columns {
+        out.push(copy_of_name(alloc, column.name.as_slice())?)?;
+    }
+    Ok(out)
+}
+
+/// The kinds of columns, in order.
+pub fn kinds_of(alloc: Global, columns: &[Column]) -> Result<Listed<Kind>, Memory>
+    ensures { IfOk result (λ v. v ≡ kinds_of columns.now) }
+{
+    let mut out = Listed::new(alloc);
+    for column in columns {
+        out.push(column.kind)?;
     }
     Ok(out)
 }

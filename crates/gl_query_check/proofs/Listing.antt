@@ -1,5 +1,5 @@
 -- One more of what is under a name.
-use Rattle.std.proofs.Common.{◌≡◌, ℕ, zero, suc, ◌+◌, ◌<◌, true, List, [], ◌∷◌, ◌++◌, length, map, take, drop, Option, refl, ap, ◌∙◌, arith}
+use Rattle.std.proofs.Common.{◌≡◌, ℕ, zero, suc, ◌+◌, ◌<◌, true, List, [], ◌∷◌, ◌++◌, length, map, take, drop, Option, Some, None, refl, ap, ◌∙◌, arith}
 use Rattle.std.specs.Prelude.{bytes_eq, not, nat_lt}
 use Rattle.std.specs.List.{list_any}
 use Rattle.std.proofs.lemmas.Bool.{lt-ltb}
@@ -30,6 +30,12 @@ take_long zero xs x rest e = refl
 take_long (suc n) [] x rest e = absurd (cc)
 take_long (suc n) (y ∷ xs) x rest e = ap suc (take_long n xs x rest e)
 
+-- two rules and what comes behind them, as a list of them before it
+two_rules : (a b later : Option QueryFault) → or_else a (or_else b later) ≡ or_else (or_else a (or_else b None)) later
+two_rules None None later = refl
+two_rules None (Some g) later = refl
+two_rules (Some f) b later = refl
+
 -- what is at a number, below the 33rd
 pub named_step : {A B : Type 0} (f : A → B) (name : B → Name) (own : B → Option QueryFault) (xs : List A) (n : ℕ) (x : A) (rest : List A)
     → drop n xs ≡ x ∷ rest → n < 32 →
@@ -43,4 +49,4 @@ named_step f name own xs n x rest e lt =
     let taken : map f (take (n + 1) xs) ≡ map f (take n xs) ++ f x ∷ [] =
     ap (λ k. map f (take k xs)) (one_more n) ∙ ap (map f) (take_suc n xs x rest e) ∙ map-append f (take n xs) (x ∷ []) in
     let dropped : map f (drop (n + 1) xs) ≡ map f rest = ap (λ k. map f (drop k xs)) (one_more n) ∙ ap (map f) (drop_suc n xs x rest e) in
-    rw (e, taken, dropped, room) refl
+    rw (e, taken, dropped, room) (two_rules (own (f x)) _ _)

@@ -6,7 +6,7 @@ use Rattle.gl_query.specs.declared.fault.QueryFault.{QueryFault}
 use Rattle.gl_query.specs.Alike.{statement_alike}
 use Rattle.gl_query.specs.Trees.{StatementTree}
 use Rattle.gl_query_reader.specs.Grammar.{IsRegular}
-use Rattle.gl_query_list.specs.Lists.{HasStatements, IsListFault, most_statements, names_of}
+use Rattle.gl_query_list.specs.Lists.{HasStatements, IsListFault, names_of}
 
 -- what a text of several queries comes to: its statements, or what is wrong with it and where
 abbrev pub Verdict : Type 0

@@ -1,6 +1,7 @@
 -- Which statements a text of several queries has over a schema, and what is wrong with a text that has none.
 use Rattle.std.specs.Prelude.{◌≡◌, ◌⊎◌, ℕ, not, List, [], ◌∷◌, ◌++◌, length, map, Option, Some, None, Err, bytes_eq, nat_lt}
 use Rattle.std.specs.List.{list_any}
+use Rattle.gl_bits.specs.Limits.{most_statements}
 use Rattle.gl_schema.specs.declared.schema.Schema.{Schema}
 use Rattle.gl_query.specs.declared.fault.QueryFault.{QueryFault}
 use Rattle.gl_query.specs.declared.fault.QueryFault.TheVariants as fault
@@ -11,10 +12,6 @@ use Rattle.gl_query.specs.Trees.{StatementTree, statement_tree}
 use Rattle.gl_query_check.specs.declared.checking.Checked.{Checked}
 use Rattle.gl_query_reader.specs.Grammar.{HaveStatement, HaveVerdict}
 use Rattle.gl_query_list.specs.Pieces.{Piece, pieces_of}
-
--- a text has at most so many statements
-abbrev pub most_statements : ℕ
-most_statements = 8
 
 -- the names that statements have behind INTO
 abbrev pub names_of : List StatementTree → List (List ℕ)

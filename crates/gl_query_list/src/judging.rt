@@ -8,14 +8,12 @@ ghost use Rattle.gl_query_list.specs.Pieces as pieces;
 ghost use Rattle.gl_query_list.specs.Reading.{IsNamed, IsPieceFaultOrMemory, names_before};
 
 use crate::pieces::Piece;
+use gl_bits::limits::MOST_STATEMENTS;
 use gl_query::{Name, QueryFault};
 use gl_query_check::{Checked, check};
 use gl_query_reader::read_lexemes;
 use gl_schema::Schema;
 use std::alloc::Global;
-
-/// How many statements a text may have.
-pub const MOST_STATEMENTS: usize = 8;
 
 // Whether a statement has this name.
 fn is_taken(name: &[u8], before: &[Checked]) -> bool

@@ -13,33 +13,9 @@ use crate::tokens::{
 };
 use gl_bits::{Kind, Memory};
 use gl_query::{Expr, Op, TextBytes};
+use gl_query_reader::{left_looseness, looseness};
 use gl_query_tokens::{Plain, Token};
 use std::alloc::Global;
-
-// How loosely an operator binds.
-fn looseness(op: Op) -> u8
-    ensures { result ≡ written.looseness op }
-{
-    match op {
-        Op::Mul => 1,
-        Op::Add | Op::Sub => 2,
-        Op::Eq | Op::Ne | Op::Lt | Op::Le | Op::Gt | Op::Ge => 3,
-        Op::And => 5,
-        Op::Or => 6,
-    }
-}
-
-// How loose its left side may be without brackets.
-fn left_looseness(op: Op) -> u8
-    ensures { result ≡ written.left_looseness op }
-{
-    match op {
-        Op::Mul => 1,
-        Op::Add | Op::Sub | Op::Eq | Op::Ne | Op::Lt | Op::Le | Op::Gt | Op::Ge => 2,
-        Op::And => 5,
-        Op::Or => 6,
-    }
-}
 
 // How loose an expression is.
 fn level(expr: &Expr) -> u8

@@ -1,5 +1,6 @@
 -- How many brackets, operators and joins of queries a text may have.
 use Rattle.std.specs.Prelude.{ℕ, ◌+◌, ◌-◌, ◌≤◌, Bool, true, false, ◌||◌, List, [], ◌∷◌, nat_lt, if◌then◌else◌}
+use Rattle.gl_bits.specs.Limits.{most_brackets, most_joins, most_operators}
 use Rattle.gl_query_tokens.specs.declared.token.Plain.{Plain}
 use Rattle.gl_query_tokens.specs.declared.token.Plain.TheVariants as plain
 use Rattle.gl_query_tokens.specs.declared.token.Token.{Token}
@@ -10,18 +11,6 @@ use Rattle.gl_query_reader.specs.declared.limits.Counts.{Counts}
 -- whether an operand may begin here
 abbrev pub none_counted : Counts
 none_counted = record { brackets = 0; operators = 0; joins = 0; operand = false }
-
--- how deep brackets may stand in brackets
-abbrev pub MOST_BRACKETS : ℕ
-MOST_BRACKETS = 32
-
--- how many operators one expression may have
-abbrev pub MOST_OPERATORS : ℕ
-MOST_OPERATORS = 256
-
--- how many joins of queries one statement may have
-abbrev pub MOST_JOINS : ℕ
-MOST_JOINS = 64
 
 -- whether an operand may begin behind a token
 abbrev pub begins_after : Plain → Bool
@@ -69,13 +58,13 @@ after n t = record (with_token n t) { operand = begins_operand t }
 
 -- a count is past its limit
 abbrev pub is_past : Counts → Bool
-is_past n = nat_lt MOST_BRACKETS n.brackets || nat_lt MOST_OPERATORS n.operators || nat_lt MOST_JOINS n.joins
+is_past n = nat_lt most_brackets n.brackets || nat_lt most_operators n.operators || nat_lt most_joins n.joins
 
 -- no count is past its limit
 pub record IsSmall (n : Counts) : Type 0 where
-  pub brackets : n.brackets ≤ MOST_BRACKETS
-  pub operators : n.operators ≤ MOST_OPERATORS
-  pub joins : n.joins ≤ MOST_JOINS
+  pub brackets : n.brackets ≤ most_brackets
+  pub operators : n.operators ≤ most_operators
+  pub joins : n.joins ≤ most_joins
 
 -- the counts behind tokens
 abbrev pub counted : Counts → List Token → Counts

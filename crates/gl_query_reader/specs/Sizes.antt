@@ -1,7 +1,8 @@
 -- How deep and how long a written statement may be.
 use Rattle.std.specs.Prelude.{◌≡◌, ℕ, ◌+◌, ◌≤◌, max, true, ◌↔◌, List, [], ◌∷◌, Option, Some, None}
 use Rattle.std.specs.List.{AllByRecursion}
-use Rattle.gl_query_reader.specs.Limits.{none_counted, keeps_limits, MOST_BRACKETS, MOST_OPERATORS, MOST_JOINS}
+use Rattle.gl_bits.specs.Limits.{most_brackets, most_joins, most_operators}
+use Rattle.gl_query_reader.specs.Limits.{none_counted, keeps_limits}
 use Rattle.gl_query_reader.specs.Written.{Expr, Column, Number, Minus, Letters, Brackets, Cast, Not, Binary, Agg, Count, Fold', Wsum, Item, Bare, Named, Total, Pick, All, Items, Query, Stream, InBrackets, Select, Windows, Groups, Join', Statement, spell_statement}
 
 -- how many round brackets are open at once
@@ -74,7 +75,7 @@ operators_of (Binary o at l r) = operators_of l + operators_of r + 1
 
 -- an expression has no more operators than are allowed
 abbrev pub IsShort : Expr → Type 0
-IsShort e = operators_of e ≤ MOST_OPERATORS
+IsShort e = operators_of e ≤ most_operators
 
 -- each whole expression is short
 abbrev pub AggIsShort : Agg → Type 0
@@ -109,8 +110,8 @@ AreShort (Join' join at l r) = AreShort l × AreShort r
 
 -- a statement keeps all limits: brackets, joins, and the operators of each expression
 pub record IsWithinLimits (w : Statement) : Type 0 where
-  pub brackets : depth_of w.query ≤ MOST_BRACKETS
-  pub joins : joins_of w.query ≤ MOST_JOINS
+  pub brackets : depth_of w.query ≤ most_brackets
+  pub joins : joins_of w.query ≤ most_joins
   pub short : AreShort w.query
 
 -- a statement is within the limits exactly where the counts of its tokens keep them

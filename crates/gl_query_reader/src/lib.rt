@@ -26,4 +26,5 @@ pub mod text;
 mod windows;
 mod written;
 
+pub use operators::{left_looseness, looseness};
 pub use text::{read_lexemes, read_query};

@@ -3,6 +3,7 @@
 ghost use Rattle.std.specs.Prelude.{◌≡◌};
 ghost use Rattle.gl_query_reader.specs.Limits as limits;
 
+use gl_bits::limits::{MOST_BRACKETS, MOST_JOINS, MOST_OPERATORS};
 use gl_query_tokens::{Plain, Token};
 
 /// What was counted so far.
@@ -17,15 +18,6 @@ pub struct Counts {
     /// Whether an operand may begin here.
     pub operand: bool,
 }
-
-/// Round brackets that may be open at once.
-pub const MOST_BRACKETS: u32 = 32;
-
-/// Operators, NOT and CAST that a whole expression may have.
-pub const MOST_OPERATORS: u32 = 256;
-
-/// UNION and CONCAT that a text may have.
-pub const MOST_JOINS: u32 = 64;
 
 // Whether an operand may begin behind a token.
 fn begins_operand(token: &Token) -> bool

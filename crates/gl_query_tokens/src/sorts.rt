@@ -4,7 +4,7 @@ ghost use Rattle.std.specs.Prelude.{◌≡◌};
 ghost use Rattle.gl_query_tokens.specs.Sorts as sorts;
 
 use crate::token::{Plain, Token};
-use gl_query::{Name, Num};
+use gl_query::Num;
 
 /// Whether the token is this keyword or sign.
 pub fn is_plain(token: &Token, plain: Plain) -> bool
@@ -13,16 +13,6 @@ pub fn is_plain(token: &Token, plain: Plain) -> bool
     match token {
         Token::Plain(other) => *other == plain,
         _ => false,
-    }
-}
-
-/// The name that the token is.
-pub fn into_name(token: Token) -> Option<Name>
-    ensures { result ≡ sorts.name_in token }
-{
-    match token {
-        Token::Name(name) => Some(name),
-        _ => None,
     }
 }
 

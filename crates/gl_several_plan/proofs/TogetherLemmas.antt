@@ -1,5 +1,5 @@
--- Joint plans: one limit, roots within, each statement's own figures.
-use Rattle.std.proofs.Common.{◌≡◌, ℕ, ◌<◌, ◌≤◌, List, [], ◌∷◌, map, length, refl, sym, ap, subst, ◌∙◌, arith}
+-- Joint plans: one limit, and roots within.
+use Rattle.std.proofs.Common.{◌≡◌, ℕ, ◌<◌, List, [], ◌∷◌, length, sym, ap, subst, ◌∙◌, arith}
 use Rattle.std.specs.List.{AllByRecursion, AllZip}
 use Rattle.gl_schema.specs.declared.schema.Schema.{Schema}
 use Rattle.gl_query.specs.declared.tree.Statement.{Statement}
@@ -7,15 +7,13 @@ use Rattle.gl_query.specs.Checked.{IsChecked}
 use Rattle.gl_query_check.specs.declared.checking.Checked.{Checked}
 use Rattle.gl_algebra.specs.declared.node.PlanNode.{PlanNode}
 use Rattle.gl_algebra.specs.Added.{placed_at}
-use Rattle.gl_algebra.specs.FigureTable.{figures_of}
 use Rattle.gl_elaborate.specs.Laws.{IsRightAt}
 use Rattle.gl_elaborate.specs.Plans.{Several}
 use Rattle.gl_elaborate.proofs.SeveralLemmas.{several-right}
-use Rattle.gl_elaborate.proofs.StatementLemmas.{plans-right}
 use Rattle.gl_elaborate_plan.proofs.LimitLemmas.{one_limit}
 use Rattle.gl_figures.specs.declared.Limit.{Limit}
 use Rattle.gl_figures.specs.declared.Limit.TheVariants.{Latency, Nodes}
-use Rattle.gl_several_plan.specs.Together.{AreWithinLimits, FiguresAreTheirOwn, GapSuitsEach, IsCheckedOver, PassLimit, SeveralPassOneLimit, gap_together, own_figures, plans_over, statements_of}
+use Rattle.gl_several_plan.specs.Together.{AreWithinLimits, IsCheckedOver, PassLimit, SeveralPassOneLimit, plans_over, statements_of}
 
 -- ---- one limit
 
@@ -54,28 +52,3 @@ pub roots-within : (schema : Schema) (all : List Checked) → AllByRecursion (Is
 roots-within schema all over nodes roots p q =
     let right = several-right schema (statements_of all) (each-checked schema all over) in
     rw (p, q) (roots-in _ schema (statements_of all) _ right.each)
-
--- ---- figures
-
-own-each : (nodes : List PlanNode) (schema : Schema) (statements : List Statement) (roots : List ℕ)
-    → AllByRecursion (IsChecked schema) statements → AllZip (IsRightAt nodes schema) statements roots
-    → map (figures_of nodes) roots ≡ map (own_figures schema) statements
-own-each nodes schema [] [] checked each = refl
-own-each nodes schema (s ∷ statements) (root ∷ roots) checked each =
-    let own = each.0.figures ∙ sym (plans-right schema s checked.0).figures in
-    rw (own, own-each nodes schema statements roots checked.1 each.1) refl
-own-each nodes schema [] (root ∷ roots) checked each = absurd each
-own-each nodes schema (s ∷ statements) [] checked each = absurd each
-
-pub figures-own : FiguresAreTheirOwn
-figures-own schema statements checked = own-each _ schema statements _ checked (several-right schema statements checked).each
-
--- ---- the gap
-
-all-suit : (nodes : List PlanNode) (roots : List ℕ) (gap : ℕ) → gap_together nodes roots ≤ gap
-    → AllByRecursion (λ root. (figures_of nodes root).gt ≤ gap) roots
-all-suit nodes [] gap enough = tt
-all-suit nodes (root ∷ roots) gap enough = (omega (arith, enough), all-suit nodes roots gap (omega (arith, enough)))
-
-pub gap-suits-each : GapSuitsEach
-gap-suits-each nodes roots = all-suit nodes roots (gap_together nodes roots) (omega arith)

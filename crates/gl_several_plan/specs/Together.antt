@@ -6,7 +6,6 @@ use Rattle.gl_schema.specs.declared.schema.Schema.{Schema}
 use Rattle.gl_query.specs.declared.tree.Statement.{Statement}
 use Rattle.gl_query.specs.Checked.{IsChecked}
 use Rattle.gl_query_check.specs.declared.checking.Checked.{Checked}
-use Rattle.gl_algebra.specs.declared.figures.Figures.{Figures}
 use Rattle.gl_algebra.specs.declared.node.PlanNode.{PlanNode}
 use Rattle.gl_algebra.specs.FigureTable.{figures_of}
 use Rattle.gl_algebra.specs.Small.{AreFigures}
@@ -14,8 +13,8 @@ use Rattle.gl_algebra.specs.Roots.{output_part}
 use Rattle.gl_algebra.specs.Weights.{weight_of}
 use Rattle.gl_figures.specs.declared.Limit.{Limit}
 use Rattle.gl_figures.specs.declared.Limit.TheVariants.{Latency, Nodes}
-use Rattle.gl_figures.specs.Known.{capped}
-use Rattle.gl_elaborate.specs.Plans.{Several, plan_of, plans_of}
+use Rattle.gl_figures.specs.Answered.{capped}
+use Rattle.gl_elaborate.specs.Plans.{Several, plans_of}
 use Rattle.gl_elaborate_plan.specs.declared.planning.PlanFault.{PlanFault}
 use Rattle.gl_elaborate_plan.specs.declared.planning.PlanFault.TheVariants as fault
 use Rattle.gl_elaborate_plan.specs.Planned.{AreAllSmall, IsLateAt}
@@ -97,18 +96,3 @@ pub record HaveOneLimit (all : Several) (limit : Limit) : Type 0 where
 -- a joint plan that passes limits has one that is answered, and no other
 abbrev pub SeveralPassOneLimit : Type 0
 SeveralPassOneLimit = (all : Several) (limit : Limit) → PassLimit all limit → HaveOneLimit all limit
-
--- the figures of a statement in the plan of it alone
-abbrev pub own_figures : Schema → Statement → Figures
-own_figures schema statement = let at = plan_of schema statement in figures_of at.nodes at.root
-
--- each statement has its own figures in the joint plan, whatever stands beside it
-abbrev pub FiguresAreTheirOwn : Type 0
-FiguresAreTheirOwn = (schema : Schema) (statements : List Statement) → AllByRecursion (IsChecked schema) statements
-    → let all = plans_of [] schema statements in
-    map (figures_of all.nodes) all.roots ≡ map (own_figures schema) statements
-
--- beats that keep the gap keep that of each root
-abbrev pub GapSuitsEach : Type 0
-GapSuitsEach = (nodes : List PlanNode) (roots : List ℕ)
-    → AllByRecursion (λ root. (figures_of nodes root).gt ≤ gap_together nodes roots) roots

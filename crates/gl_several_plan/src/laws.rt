@@ -1,21 +1,11 @@
 //! Laws of joint plans, and worked ones. The contract of each function is the law; it does nothing.
 
-ghost use Rattle.gl_several_plan.specs.Together.{FiguresAreTheirOwn, GapSuitsEach, SeveralPassOneLimit};
+ghost use Rattle.gl_several_plan.specs.Together.{SeveralPassOneLimit};
 ghost use Rattle.gl_several_plan.specs.Worked.{WorkedSeveral};
 
 /// A joint plan that passes a limit passes no other, and is not within the limits.
 pub fn several_pass_one_limit()
     ensures { SeveralPassOneLimit }
-{}
-
-/// Each of several statements has the figures in their joint plan that it has alone.
-pub fn figures_are_their_own()
-    ensures { FiguresAreTheirOwn }
-{}
-
-/// Beats that keep the gap of several statements keep that of each.
-pub fn gap_suits_each()
-    ensures { GapSuitsEach }
 {}
 
 /// Joint plans of two statements that were worked out by hand.

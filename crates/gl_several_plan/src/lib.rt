@@ -8,7 +8,7 @@
 pub mod laws;
 pub mod planning;
 mod printed;
-mod weighed;
+mod weights;
 
-pub use laws::{figures_are_their_own, gap_suits_each, several_pass_one_limit, worked_several};
+pub use laws::{several_pass_one_limit, worked_several};
 pub use planning::{PlannedSeveral, plan_several};

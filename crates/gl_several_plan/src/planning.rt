@@ -6,16 +6,15 @@ ghost use Rattle.gl_algebra.specs.Fits.{IsPlan};
 ghost use Rattle.gl_algebra.specs.Small.{AreFigures};
 ghost use Rattle.gl_elaborate.specs.Plans.{plans_of};
 ghost use Rattle.gl_elaborate_plan.specs.Planned.{AreAllSmall};
-ghost use Rattle.gl_several_plan.specs.Together.{plans_over, several_at, statements_of, ArePlanned, IsCheckedOver, PassOr};
+ghost use Rattle.gl_several_plan.specs.Together.{plans_over, several_at, statements_of, ArePlanned, IsCheckedOver, PassLimit, PassOr};
 
 use crate::printed::{gap_together, latencies_of};
-use crate::weighed::weighed;
-use gl_algebra::table::input_figures;
+use crate::weights::{weight_limit, weights_of};
 use gl_algebra::{Figures, Plan, PlanId};
 use gl_bits::Memory as NoMemory;
 use gl_elaborate::elaborating::elaborate_into;
 use gl_elaborate_plan::PlanFault;
-use gl_figures::figures;
+use gl_figures::{Limit, figures, places};
 use gl_query_check::Checked;
 use gl_schema::Schema;
 use std::alloc::Global;
@@ -76,26 +75,16 @@ fn elaborated(
     Ok((plan, roots))
 }
 
-// A place for the figures of each node.
-fn places(alloc: Global, many: usize) -> Result<Vec<Figures>, NoMemory>
-    ensures { IfOk result (λ v. length v.items ≡ many) }
-{
-    Ok(vec![in alloc; input_figures(); many]?)
-}
-
-// The figures of each node of a plan with these roots.
-fn figured(alloc: Global, plan: &Plan, roots: &[PlanId]) -> Result<Vec<Figures>, PlanFault>
-    ensures figures { IfOk result (λ v. AreFigures plan.now v.items) }
+// Writes the figures of each node of a plan with these roots into the node's place, or gives the limit that it passes.
+fn figure(plan: &Plan, roots: &[PlanId], into: &mut [Figures]) -> Result<(), Limit>
+    requires { length into.old ≡ length plan.now }
+    ensures figures { OnOk result (AreFigures plan.now into.new) }
     ensures small { OnOk result (AreAllSmall plan.now) }
-    ensures fault { IfErr result (PassOr (several_at plan.now roots.now)) }
+    ensures limit { IfErr result (PassLimit (several_at plan.now roots.now)) }
 {
     // Clauses alone speak of it.
     let _ = roots;
-    let mut own = places(alloc, plan.len())?;
-    match figures(plan, &mut own) {
-        Ok(()) => Ok(own),
-        Err(limit) => Err(PlanFault::Limit(limit)),
-    }
+    figures(plan, into)
 }
 
 /// The joint plan of statements that were checked over one schema, each behind those before it, with its
@@ -112,8 +101,14 @@ pub fn plan_several(
         MatchResult result (ArePlanned schema.now asked) (PassOr (plans_of [] schema.now asked)) }
 {
     let (plan, roots) = elaborated(alloc, schema, statements)?;
-    let figures = figured(alloc, &plan, &roots)?;
-    weighed(alloc, &plan, &roots, &figures)?;
+    let mut figures = places(alloc, plan.len())?;
+    if let Err(limit) = figure(&plan, &roots, &mut figures) {
+        return Err(PlanFault::Limit(limit));
+    }
+    let weights = weights_of(alloc, &plan, &figures)?;
+    if let Some(limit) = weight_limit(&plan, &roots, &weights) {
+        return Err(PlanFault::Limit(limit));
+    }
     let latencies = latencies_of(alloc, &plan, &roots, &figures)?;
     let gap = gap_together(&plan, &roots, &figures);
     Ok(PlannedSeveral {

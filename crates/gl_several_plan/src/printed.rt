@@ -2,24 +2,13 @@
 
 ghost use Rattle.std.specs.Prelude.{◌≡◌, ◌<◌, ◌++◌, length, map, IfOk, OnOk};
 ghost use Rattle.std.specs.List.{AllByRecursion};
-ghost use Rattle.gl_algebra.specs.FigureTable.{figures_of};
 ghost use Rattle.gl_algebra.specs.Small.{AreFigures};
 ghost use Rattle.gl_several_plan.specs.Together.{gap_together, latency_alone};
 
 use gl_algebra::{Figures, Plan, PlanId};
 use gl_bits::Memory as NoMemory;
+use gl_figures::figures_at;
 use std::alloc::Global;
-
-// The figures of a node.
-fn figures_at(plan: &Plan, figures: &[Figures], id: PlanId) -> Figures
-    requires within { id < length plan.now }
-    requires figures { AreFigures plan.now figures.now }
-    ensures { result ≡ figures_of plan.now id }
-{
-    // Clauses alone speak of it.
-    let _ = plan;
-    figures[id.number()]
-}
 
 // Adds the latency of each root.
 fn push_latencies(

@@ -24,7 +24,7 @@ pub wire_plan-requires : goal.wire_plan-requires
 wire_plan-requires c =
     let schema = c.args.checked.now.schema in
     let statement = c.args.checked.now.statement in
-    let k = known schema statement c.requires.checked c.requires.names in
+    let k = known c.plans_are_right.ensures c.accepted_have_real_columns.ensures schema statement c.requires.checked c.requires.names in
     let is = c.requires.planned in
     let columns = c.in_ok-names.ensures.columns ∙ ap column_names c.requires.columns in
     record {
@@ -45,7 +45,7 @@ pub returns-clause-meets : goal.returns-clause-meets
 returns-clause-meets c =
     let schema = c.args.checked.now.schema in
     let statement = c.args.checked.now.statement in
-    let k = known schema statement c.requires.checked c.requires.names in
+    let k = known c.plans_are_right.ensures c.accepted_have_real_columns.ensures schema statement c.requires.checked c.requires.names in
     let is = c.requires.planned in
     let net = c.in_ok-net.net in
     let w = c.in_ok-net.ensures in
@@ -57,18 +57,18 @@ returns-clause-meets c =
     let ports' = subst (λ (x : Placed). port_shapes net ≡ plan_ports (reads_time x.nodes) schema (shapes.kinds_of x.nodes x.root) (column_names (result_columns schema statement))) is.at ports in
     let right' = subst (λ (x : Placed). OverBeats schema (roots.gap_of x.nodes x.root) (λ all port. IsRight (plan_means x.nodes x.root) (roots.latency_of x.nodes x.root) all (map out_column (column_names (result_columns schema statement))) port) net) is.at right in
     let group' = subst (λ (x : Placed). OverBeats schema (roots.gap_of x.nodes x.root) (λ all port. KeepsGroup (map out_column (column_names (result_columns schema statement))) port) net) is.at group in
-    text_meets schema statement net c.in_ok-made.made k c.requires.checked c.in_ok-made.ensures ports' called right' group'
+    text_meets c.plans_tell_time.ensures schema statement net c.in_ok-made.made k c.requires.checked c.in_ok-made.ensures ports' c.roots_are_right.ensures called right' group'
 
 pub returns-clause-cost : goal.returns-clause-cost
 returns-clause-cost c =
     let schema = c.args.checked.now.schema in
     let statement = c.args.checked.now.statement in
-    let k = known schema statement c.requires.checked c.requires.names in
+    let k = known c.plans_are_right.ensures c.accepted_have_real_columns.ensures schema statement c.requires.checked c.requires.names in
     let is = c.requires.planned in
     let net = c.in_ok-net.net in
     let w = c.in_ok-net.ensures in
     let columns = c.in_ok-names.ensures.columns ∙ ap column_names c.requires.columns in
     let ports = subst (λ (ns : List (List ℕ)). port_shapes net ≡ plan_ports (reads_time c.args.planned.now.plan) schema (shapes.kinds_of c.args.planned.now.plan c.args.planned.now.root) ns) columns w.ports in
     let ports' = subst (λ (x : Placed). port_shapes net ≡ plan_ports (reads_time x.nodes) schema (shapes.kinds_of x.nodes x.root) (column_names (result_columns schema statement))) is.at ports in
-    text_costs schema statement net c.in_ok-made.made k c.requires.checked c.in_ok-made.ensures ports'
+    text_costs c.plans_tell_time.ensures schema statement net c.in_ok-made.made k c.requires.checked c.in_ok-made.ensures ports'
     (subst (λ (x : Placed). register_bits_of net ≤ most_registers x.nodes x.root) is.at w.registers) (subst (λ (x : Placed). memory_bits_of net ≤ most_memory x.nodes x.root) is.at w.memories)

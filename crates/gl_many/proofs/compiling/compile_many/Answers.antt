@@ -33,7 +33,7 @@ returns-in_err-statements-clause-told c =
 pub built-requires-clause-can : goal.built-requires-clause-can
 built-requires-clause-can c =
     let found = c.in_ok-statements.ensures in
-    rw c.as_slice.ensures (can_stand c.args.schema c.in_ok-statements.statements found.checked c.args.queries.now c.requires found.statements)
+    rw c.as_slice.ensures (can_stand c.args.schema c.in_ok-statements.statements found.checked c.args.queries.now c.requires found.statements c.trees_are_alike.ensures c.statements_are_listed.ensures)
 
 pub built-requires-clause-checked : goal.built-requires-clause-checked
 built-requires-clause-checked c = rw c.as_slice.ensures (all_over c.args.schema c.in_ok-statements.statements c.in_ok-statements.ensures.checked)
@@ -81,8 +81,14 @@ returns-clause-compiled c =
     let is = subst (λ (all : List Checked). ArePlanned schema (statements_of all) planned) c.as_slice.ensures c.in_ok-planned.ensures.planned in
     let meets = subst (λ (all : List Checked). MeetTogether schema (statements_of all) (shared_gap schema (statements_of all)) text.items) c.as_slice.ensures
     c.in_ok-planned.ensures.meets in
+    let laws = record {
+      columns = c.accepted_have_real_columns.ensures;
+      plans = c.plans_are_right.ensures;
+      several = c.several_are_right.ensures;
+      time = c.plans_tell_time.ensures;
+    } in
     are_compiled schema c.args.queries.now (record { text = text; schema = schema; statements = c.in_ok-statements.statements; planned = planned }) c.requires refl
-    found.statements found.checked is meets
+    found.statements found.checked is laws c.trees_are_alike.ensures c.statements_are_listed.ensures meets
 
 pub returns-clause-told : goal.returns-clause-told
 returns-clause-told c =
