@@ -15,6 +15,7 @@ LETTERS = ['', 'A', 'B', 'end', 'a b', ' ', ',', '"', 'x,"y"', '~~~~~~~~', 'UBSN
 
 
 def is_loose(expression):
+    """Whether an expression has no kind but that of its place."""
     return (
         expression[0] == 'literal'
         or expression[0] in ('+', '-', '*')
@@ -74,15 +75,19 @@ class Maker:
         }
 
     def often(self, chance):
+        """True with this chance."""
         return self.draw.random() < chance
 
     def kind(self):
+        """A kind of a column."""
         return self.number_kind() if self.often(0.7) else self.draw.choice(TEXTS)
 
     def number_kind(self):
+        """A kind of numbers."""
         return self.draw.choice(SIGNED if self.signed and self.often(0.5) else UNSIGNED)
 
     def names(self, number, taken=()):
+        """So many names that are apart from those that are taken."""
         return self.draw.sample([name for name in NAMES if name not in KEYWORDS and name not in taken], number)
 
     def word(self, kind):
@@ -100,6 +105,7 @@ class Maker:
         return self.draw.choice(self.words[kind])
 
     def literal(self, kind):
+        """A literal of a kind."""
         word = self.word(kind)
         text = shown(word, kind)
         if kind[0] == 's':
@@ -180,6 +186,7 @@ class Maker:
         return out if len({name for name, _ in out}) == len(out) else self.items(columns, kinds, taken)
 
     def totals(self, columns, taken=()):
+        """Aggregates, one to three."""
         out = []
         for name in self.names(self.draw.randint(1, 3), taken):
             sort, kind = self.draw.choice(['count', 'sum', 'min', 'max', 'avg', 'wsum']), self.draw.choice(columns)[1]
@@ -202,10 +209,12 @@ class Maker:
         return out
 
     def read(self, scope):
+        """A stream, or what a body sees."""
         name = self.draw.choice(list(scope))
         return {'sort': 'read', 'name': name, 'columns': scope[name], 'closing': False}
 
     def select(self, source, items=None, totals=None, filter_=0.4, window=None, group=None):
+        """A select over a source, with what is asked for and a condition or none."""
         columns = (
             [(name, 'u32' if sort == 'count' else e[1]) for name, sort, e, _ in totals or []]
             or [(name, e[1]) for name, e in items or []]
@@ -228,11 +237,13 @@ class Maker:
         }
 
     def window(self, measure='TUPLES'):
+        """The sizes of a window."""
         far = self.often(0.05)
         size = self.draw.randint(1, 40 if far else 6)
         return size, self.draw.randint(max(1, -(-size // 8)), 60 if far else 6), measure
 
     def source(self, scope, depth, closing=False):
+        """What stands behind FROM or IN: a name, or a query in brackets."""
         return (
             self.read(scope)
             if not closing and (depth < 1 or self.often(0.5))
@@ -302,6 +313,7 @@ class Maker:
         )
 
     def union(self, scope, depth, closing):
+        """A union whose right side has the kinds of the left one."""
         left = self.query(scope, depth - 1, closing)
         source = self.source(scope, depth - 1, closing)
         right = self.select(source, self.items(source['columns'], [kind for _, kind in left['columns']]))
@@ -325,6 +337,7 @@ class Maker:
         return self.select(source, None if self.often(0.1) else self.items(source['columns']), filter_=0)
 
     def concat(self, scope, depth, closing, base=None):
+        """Two queries of one pace, side by side."""
         if base is None and not closing and self.often(0.4):
             base = self.read(scope)
         left, right = self.paced(scope, depth - 1, base), self.paced(scope, depth - 1, base)

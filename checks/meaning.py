@@ -49,21 +49,25 @@ def shown(word, kind):
 
 
 def merge(a, b):
+    """Every interleaving of two trees."""
     return b if a == NONE else a if b == NONE else ('merge', a, b)
 
 
 def chain(a, b):
+    """What comes of one tree, and then of another."""
     if a == NONE or b == NONE:
         return b if a == NONE else a
     return a + b[1:] if a[0] == b[0] == 'rows' else ('chain', a, b)
 
 
 def either(trees):
+    """What comes of one of several trees."""
     trees = list(dict.fromkeys(trees))
     return trees[0] if len(trees) == 1 else ('either', *trees)
 
 
 def beside(a, b):
+    """The rows of two trees side by side, where both have as many."""
     pairs = [(left, right) for left in lists(a) for right in lists(b)]
     if len(pairs) > MOST:
         raise TooMany
@@ -156,6 +160,7 @@ def changed(tree, change):
 
 
 def value_of(expression, row):
+    """The word of an expression over a row."""
     sort, kind, *parts = expression
     if sort == 'column':
         return row[parts[0]]
@@ -196,6 +201,7 @@ def average_of(numbers, kind):
 
 
 def total_of(item, rows):
+    """The word of an aggregate over rows."""
     name, sort, expression, weights = item
     if sort == 'count':
         return len(rows) % 2**32
@@ -208,6 +214,7 @@ def total_of(item, rows):
 
 
 def both(left, right, join):
+    """Two results joined; a spill of either is one of both."""
     out = collections.defaultdict(list)
     for spill, a in left.items():
         for other, b in right.items():
@@ -216,6 +223,7 @@ def both(left, right, join):
 
 
 def of_parts(found, cut, body, spills=lambda rows: False):
+    """The results of a body over each part of the rows, one behind the other."""
     out = collections.defaultdict(list)
     for before, tree in found.items():
         for rows in lists(tree):
@@ -231,12 +239,14 @@ def of_parts(found, cut, body, spills=lambda rows: False):
 
 
 def windowed(query, found, clock, body):
+    """The results of a body over each window."""
     size, advance, measure = query['window']
     if measure == 'TUPLES':
         return of_parts(found, lambda rows: [rows[at : at + size] for at in range(0, len(rows), advance)], body)
     times, ticks = clock[0][query['source']['name']], clock[1]
 
     def cut(rows):
+        """The parts of the rows."""
         return [
             tuple(row for row, time in zip(rows, times, strict=True) if at <= time < at + size)
             for at in range(0, ticks + 1, advance)
@@ -246,10 +256,14 @@ def windowed(query, found, clock, body):
 
 
 def grouped(found, at, most, body):
+    """The results of a body over the rows of each key, with the key in front; a further key spills."""
+
     def keys(rows):
+        """The keys in the order in which they come."""
         return list(dict.fromkeys(row[at] for row in rows))
 
     def keyed(part):
+        """The rows of a part, with its key in front."""
         return {spill: changed(tree, lambda row: (part[0],) + row) for spill, tree in body(part[1]).items()}
 
     return of_parts(
@@ -261,9 +275,11 @@ def grouped(found, at, most, body):
 
 
 def parted(query, found, at, body):
+    """The results of a body over the windows of each key, in the order in which they are full."""
     (size, advance, _), (_, most) = query['window'], query['group']
 
     def cut(rows):
+        """The parts of the rows."""
         own, full = {}, []
         for row in rows:
             if row[at] in own or len(own) < most:
@@ -279,6 +295,7 @@ def parted(query, found, at, body):
         ]
 
     def keyed(part):
+        """The rows of a part, with its key in front."""
         return {spill: changed(tree, lambda row: (part[0],) + row) for spill, tree in body(part[1]).items()}
 
     return of_parts(found, cut, keyed, lambda rows: len({row[at] for row in rows}) > most)
@@ -289,6 +306,7 @@ def selected(query, columns, found):
     names = [name for name, _ in columns]
 
     def named(row):
+        """A row by the names of its columns."""
         return dict(zip(names, row))
 
     if query['filter']:
@@ -333,6 +351,7 @@ def outcomes_of(query, sources, clock):
 
 
 def results(query, sources, clock=None):
+    """What a query results in, by whether a row of a further key was left out."""
     sort = query['sort']
     if sort == 'read':
         return {False: ('rows', *sources[query['name']])}
@@ -348,6 +367,7 @@ def results(query, sources, clock=None):
         )
 
     def body(rows):
+        """The results of the body over these rows."""
         return results(query['body'], {query['var']: rows})
 
     if not query['group']:
@@ -360,6 +380,7 @@ def results(query, sources, clock=None):
 
 
 def expression_text(expression, level=0):
+    """The text of an expression, in brackets where its place asks for them."""
     sort, kind, *parts = expression
     if sort in ('column', 'literal'):
         return parts[-1]
@@ -374,25 +395,30 @@ def expression_text(expression, level=0):
 
 
 def item_text(item):
+    """The text of an item."""
     name, expression = item
     return name if expression[2:] == (name, name) else f'{expression_text(expression)} AS {name}'
 
 
 def total_text(item):
+    """The text of an aggregate with its name."""
     name, sort, expression, weights = item
     inside = expression_text(expression) if expression else ''
     return f'{sort}({inside}, {weights}) AS {name}' if sort == 'wsum' else f'{sort}({inside}) AS {name}'
 
 
 def source_text(query):
+    """The text of what stands behind FROM or IN."""
     return query['name'] if query['sort'] == 'read' else f'({query_text(query)})'
 
 
 def window_text(window):
+    """The text of a window, or nothing."""
     return f' [SIZE {window[0]} ADVANCE {window[1]} {window[2]}]' if window else ''
 
 
 def query_text(query):
+    """The text of a query."""
     sort = query['sort']
     if sort in ('UNION', 'CONCAT'):
         right = query['right']

@@ -1,7 +1,8 @@
-"""What the scripts share: the program, schemas and words, a testbench around a module, processor seconds, and tables."""
+"""What the scripts share: the program, schemas and words, a testbench around a module, seconds, and tables."""
 import os
 import re
 import resource
+import shutil
 import subprocess
 import sys
 import time
@@ -27,6 +28,13 @@ def program_of(asked):
     if not os.access(path, os.X_OK):
         sys.exit(f'no program at {path}: ./glacier builds it, proved, or name one by --program')
     return path
+
+
+def needs(*tools):
+    """Ends where a tool is not there that a script calls."""
+    for tool in tools:
+        if not shutil.which(tool):
+            sys.exit(f'needs {tool}, which is not there: it is one of Debian\'s packages, rt is the toolchain\'s')
 
 
 def ended(words, **more):
@@ -74,6 +82,7 @@ def compiled(program, files, room, command='compile'):
 
 
 def width_of(kind):
+    """The bits of a kind."""
     return 8 * int(kind[4:]) if kind.startswith('text') else int(kind[1:])
 
 
@@ -199,10 +208,12 @@ def tree(operators, first):
 
 
 def chain(column, times, number):
+    """So many additions of one number to a column, one behind the other."""
     return column + f' + {number}' * times
 
 
 def select(items, source='s'):
+    """A select of expressions, each with a name."""
     return 'SELECT ' + ', '.join(f'{item} AS x{at}' for at, item in enumerate(items)) + f' FROM {source}'
 
 
@@ -243,19 +254,21 @@ def said_by(*words):
     return ran.stdout.split('\n')[0]
 
 
-def measured_with(program):
-    """The line above a table: commit, date, machine and program."""
+def measured_with(program=None):
+    """The line above a table: commit, date, machine, and the program where one is measured."""
     commit = said_by('git', 'rev-parse', '--short=8', 'HEAD') or 'unknown'
     changed = ' with changes' if said_by('git', 'status', '--porcelain', '--untracked-files=no') else ''
     with open('/proc/cpuinfo', encoding='utf8') as file:
         model = re.search(r'model name\s*:\s*(.*)', file.read())
-    name = {PROGRAM: '`./glacier`, proved', None: 'none'}.get(program, 'one named by `--program`')
+    name = (
+        f'; program: {"`./glacier`, proved" if program == PROGRAM else "one named by `--program`"}' if program else ''
+    )
     machine = f'{os.cpu_count()} processors{f" {model[1].strip()}" if model else ""}'
-    return f'Commit {commit}{changed}; date {time.strftime("%Y-%m-%d")}; machine: {machine}; program: {name}.\n\n'
+    return f'Commit {commit}{changed}; date {time.strftime("%Y-%m-%d")}; machine: {machine}{name}.\n\n'
 
 
 class Table:
-    """A table that is printed row by row as it is measured, and put on its page at the end where --write asks for that."""
+    """A table that is printed row by row, and put on its page at the end where --write asks for it."""
 
     def __init__(self, *heads):
         self.lines = []

@@ -23,6 +23,7 @@ SECONDS = 600  # for one run of it
 
 
 def written(path, text):
+    """Adds a text to a file."""
     os.makedirs(os.path.dirname(path), exist_ok=True)
     with open(path, 'a', newline='') as file:
         file.write(text)
@@ -78,6 +79,7 @@ def answers(cases):
 
 
 def difference(right_ones, made, answer):
+    """What is told of a case whose answer is no right outcome, or nothing."""
     number, case, beats, texts = made
     tree = answer and right_ones(case, beats).get(answer[1])
     if tree and has(tree, answer[0]):
