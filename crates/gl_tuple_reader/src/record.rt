@@ -31,7 +31,7 @@ fn field(fields: &ByteRecord, at: usize) -> Option<&[u8]>
 /// Each field is UTF-8.
 #[tactic(auto, unfolding(crate::specs::Entries::text_checked))]
 pub fn check_text(fields: &ByteRecord, number: u64) -> Result<(), TupleFault>
-    ensures { Gives result (spec.text_checked number (fields_of fields.now)) }
+    ensures { result ≡ spec.text_checked number (fields_of fields.now) }
 {
     if is_text(fields) {
         Ok(())
@@ -66,7 +66,7 @@ fn field_is_text(fields: &ByteRecord, at: usize) -> bool
 /// The cycle of a record, which its first field spells.
 #[tactic(auto, using(crate::proofs::Fields::cycle_steps), unfolding(crate::specs::Entries::cycle_of))]
 pub fn cycle_of(fields: &ByteRecord, number: u64) -> Result<u32, TupleFault>
-    ensures { Gives result (spec.cycle_of number (fields_of fields.now)) }
+    ensures { result ≡ spec.cycle_of number (fields_of fields.now) }
 {
     let Some(first) = field(fields, 0) else {
         return Err(TupleFault::BadCycle { number });
@@ -106,7 +106,7 @@ pub fn entry_of(
 
 /// An entry behind which nothing may stand.
 fn alone(fields: &ByteRecord, entry: Entry, number: u64) -> Result<Entry, TupleFault>
-    ensures entry { Gives result (spec.alone number (fields_of fields.now) entry) }
+    ensures entry { result ≡ spec.alone number (fields_of fields.now) entry }
     ensures same { IfOk result (λ e. e ≡ entry) }
 {
     if fields.len() == 2 {
