@@ -1,4 +1,5 @@
-//! The limits of schemas, statements and plans: how many of each there may be at most.
+//! The limits of schemas, statements, plans, tuple files and dumps: how many of each there may be
+//! at most.
 
 /// Streams of a schema.
 pub const MOST_STREAMS: usize = 8;
@@ -26,3 +27,21 @@ pub const MOST_WEIGHTS: usize = 64;
 
 /// The weight of a plan with its output.
 pub const MOST_WEIGHT: u64 = 262_144;
+
+/// Statements of one text.
+pub const MOST_STATEMENTS: usize = 8;
+
+/// Round brackets of a statement that are open at once.
+pub const MOST_BRACKETS: u32 = 32;
+
+/// Operators, NOT and CAST of one whole expression.
+pub const MOST_OPERATORS: u32 = 256;
+
+/// UNION and CONCAT of one statement.
+pub const MOST_JOINS: u32 = 64;
+
+/// The greatest cycle that a record of a tuple file may have.
+pub const LATEST_CYCLE: u128 = 10_000_000;
+
+/// The greatest time that a dump may have.
+pub const LATEST_TIME: u128 = 67_108_864;

@@ -11,14 +11,12 @@ ghost use Rattle.csv.specs.Records.{fields_of};
 
 use crate::entry::Entry;
 use csv::ByteRecord;
+use gl_bits::limits::LATEST_CYCLE;
 use gl_bits::{Row, Word};
 use gl_schema::{Column, Schema};
 use gl_tuples::TupleFault;
 use gl_tuples::value::{is_utf8, number_of, word_of};
 use std::alloc::Global;
-
-/// The last cycle that a file may have.
-const LAST_CYCLE: u128 = 10_000_000;
 
 /// The field at a place.
 #[tactic(auto, using(crate::proofs::Fields::field_at_is))]
@@ -74,7 +72,7 @@ pub fn cycle_of(fields: &ByteRecord, number: u64) -> Result<u32, TupleFault>
     let Some(cycle) = number_of(first) else {
         return Err(TupleFault::BadCycle { number });
     };
-    if cycle > LAST_CYCLE {
+    if cycle > LATEST_CYCLE {
         return Err(TupleFault::CycleTooLarge { number });
     }
     Ok(cycle as u32)
