@@ -9,7 +9,8 @@ ghost use Rattle.gl_outside.specs.Held.{told_of, given, held_state};
 
 use crate::counter::one_more;
 use crate::shelf::Fetch;
-use crate::words::{Memory, Words};
+use crate::words::Words;
+use gl_bits::Memory;
 use std::alloc::Global;
 use std::marker::Model;
 
@@ -32,13 +33,10 @@ impl NamedText {
     fn new(alloc: Global, name: &str, bytes: &[u8]) -> Result<NamedText, Memory>
         ensures { OnOk result (result ≡ Ok (name.now, bytes.now)) }
     {
-        let Ok(name) = String::from_str(alloc, name) else {
-            return Err(Memory);
-        };
-        match Vec::from_slice(alloc, bytes) {
-            Ok(bytes) => Ok(NamedText { name, bytes }),
-            Err(_) => Err(Memory),
-        }
+        Ok(NamedText {
+            name: String::from_str(alloc, name)?,
+            bytes: Vec::from_slice(alloc, bytes)?,
+        })
     }
 }
 
@@ -83,10 +81,8 @@ impl HeldTexts {
         ensures err { OnErr result (self.new ≡ self.old) }
     {
         let text = NamedText::new(*self.texts.allocator(), name, bytes)?;
-        match self.texts.push(text) {
-            Ok(()) => Ok(()),
-            Err(_) => Err(Memory),
-        }
+        self.texts.push(text)?;
+        Ok(())
     }
 
     /// Notes that this name was refused.

@@ -17,11 +17,12 @@ pub mod words;
 pub mod writing;
 
 pub use file_shelf::FileShelf;
+pub use gl_bits::Memory;
 pub use memory_shelf::{MemoryShelf, NeverFailsShelf};
 pub use memory_sink::{MemorySink, NeverFailsSink};
 pub use reading::{ReadFault, read_all};
 pub use shelf::{Fetch, Shelf, TEXT_LIMIT};
 pub use sink::{Put, Sink};
 pub use stream_sink::StreamSink;
-pub use words::{Memory, Words};
+pub use words::Words;
 pub use writing::{WriteFault, write_all_of};

@@ -9,7 +9,8 @@ ghost use Rattle.gl_outside.specs.Held.{told_of, given, held_state, shelf_state}
 use crate::counter::one_more;
 use crate::held::HeldTexts;
 use crate::shelf::{Fetch, Shelf, TEXT_LIMIT};
-use crate::words::{Memory, Words};
+use crate::words::Words;
+use gl_bits::Memory;
 use std::alloc::Global;
 use std::marker::Model;
 
@@ -62,10 +63,8 @@ impl MemoryShelf {
             OnOk result (self.new ≡ record self.old { failing = failing }) }
         ensures err { OnErr result (self.new ≡ self.old) }
     {
-        match self.failing.push(call) {
-            Ok(()) => Ok(()),
-            Err(_) => Err(Memory),
-        }
+        self.failing.push(call)?;
+        Ok(())
     }
 }
 

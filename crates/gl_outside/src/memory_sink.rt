@@ -7,7 +7,7 @@ ghost use Rattle.gl_outside.specs.Held.{sink_state};
 
 use crate::counter::one_more;
 use crate::sink::{Put, Sink};
-use crate::words::Memory;
+use gl_bits::Memory;
 use std::alloc::Global;
 use std::marker::Model;
 
@@ -47,16 +47,13 @@ impl MemorySink {
     pub fn new(alloc: Global, room: usize) -> Result<MemorySink, Memory>
         ensures { IfOk result (λ s. s ≡ spec.new_sink room) }
     {
-        match Vec::with_capacity(alloc, room) {
-            Ok(bytes) => Ok(MemorySink {
-                bytes,
-                room,
-                failing: Vec::new(alloc),
-                calls: 0,
-                faults: 0,
-            }),
-            Err(_) => Err(Memory),
-        }
+        Ok(MemorySink {
+            bytes: Vec::with_capacity(alloc, room)?,
+            room,
+            failing: Vec::new(alloc),
+            calls: 0,
+            faults: 0,
+        })
     }
 
     /// Lets the put of this number fail.
@@ -65,10 +62,8 @@ impl MemorySink {
             OnOk result (self.new ≡ record self.old { failing = failing }) }
         ensures err { OnErr result (self.new ≡ self.old) }
     {
-        match self.failing.push(call) {
-            Ok(()) => Ok(()),
-            Err(_) => Err(Memory),
-        }
+        self.failing.push(call)?;
+        Ok(())
     }
 
     /// The bytes taken so far.

@@ -6,7 +6,7 @@ ghost use Rattle.gl_outside.specs.States.{Stays, ReadLeaves};
 ghost use Rattle.gl_outside.specs.Reads.{IsAdd, Refuses};
 
 use crate::shelf::{Fetch, Shelf, TEXT_LIMIT};
-use std::alloc::Global;
+use std::alloc::{AllocError, Global};
 use thiserror::Error;
 
 /// Why a text was not read.
@@ -24,6 +24,17 @@ pub enum ReadFault {
     /// Want of memory.
     #[error("out of memory")]
     Memory,
+}
+
+impl From<AllocError> for ReadFault {
+    ghost use Rattle.std.specs.Prelude.{◌≡◌};
+    ghost use Rattle.gl_outside.specs.declared.reading.ReadFault.TheVariants as fault;
+
+    ghost from_gives = { λ _ e. e ≡ fault.Memory };
+
+    fn from(_e: AllocError) -> ReadFault {
+        ReadFault::Memory
+    }
 }
 
 // The most bytes of one fetch.
@@ -55,10 +66,7 @@ fn new_piece(alloc: Global) -> Result<Vec<u8>, ReadFault>
     ensures piece { IfOk result (λ v. vec_len v ≡ PIECE) }
     ensures memory { IfErr result (λ fault. fault ≡ ReadFault.Memory) }
 {
-    match vec![in alloc; 0u8; PIECE] {
-        Ok(piece) => Ok(piece),
-        Err(_) => Err(ReadFault::Memory),
-    }
+    Ok(vec![in alloc; 0u8; PIECE]?)
 }
 
 // Adds a piece to the text, unless the text then passes the limit.
@@ -73,10 +81,8 @@ fn add(text: &mut Vec<u8>, piece: &[u8]) -> Result<(), ReadFault>
     if piece.len() as u64 > left {
         return Err(ReadFault::TooLong);
     }
-    match text.extend_from_slice(piece) {
-        Ok(()) => Ok(()),
-        Err(_) => Err(ReadFault::Memory),
-    }
+    text.extend_from_slice(piece)?;
+    Ok(())
 }
 
 // Reads the whole text behind what is an empty list, piece by piece.

@@ -3,12 +3,9 @@
 ghost use Rattle.std.specs.Prelude.{◌≡◌, ◌++◌, ◌∷◌, [], length, map, slice_get, string_bytes};
 ghost use Rattle.std.specs.Prelude.{option_map, OnOk, OnErr, Some, Contains};
 
+use gl_bits::Memory;
 use std::alloc::Global;
 use std::marker::Model;
-
-/// Want of memory.
-#[derive(Clone, Copy, PartialEq, Eq, Debug)]
-pub struct Memory;
 
 /// A list of texts, as the words of a command line.
 #[derive(Drop, Debug)]
@@ -64,13 +61,9 @@ impl Words {
         ensures err { OnErr result (self.new ≡ self.old) }
     {
         let alloc = *self.words.allocator();
-        let Ok(word) = String::from_str(alloc, word) else {
-            return Err(Memory);
-        };
-        match self.words.push(word) {
-            Ok(()) => Ok(()),
-            Err(_) => Err(Memory),
-        }
+        let word = String::from_str(alloc, word)?;
+        self.words.push(word)?;
+        Ok(())
     }
 
     // A place at which the word stands, if it is in the list.

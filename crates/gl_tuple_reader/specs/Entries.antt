@@ -2,6 +2,7 @@
 -- this order.
 use Rattle.std.specs.Prelude.{◌≡◌, ℕ, zero, suc, ◌+◌, Bool, not, List, [], ◌∷◌, length, drop, Option, Some, None, Result, Ok, Err, codes, bytes_eq, nat_lt, ◌==◌, slice_get, position, option_map, if◌then◌else◌}
 use Rattle.std.specs.List.{list_all}
+use Rattle.gl_bits.specs.Limits.{latest_cycle}
 use Rattle.gl_bits.specs.Words.{Word}
 use Rattle.gl_schema.specs.declared.schema.Column.{Column}
 use Rattle.gl_schema.specs.declared.schema.Stream.{Stream}
@@ -46,10 +47,10 @@ are_utf8 fields = list_all is_utf8 fields
 unfoldable pub text_checked : ℕ → List (List ℕ) → Result (Unit {0}) TupleFault
 text_checked number fields = if are_utf8 fields then Ok tt else Err (NotUtf8 number)
 
--- the cycle of a record, which its first field spells: at most 10,000,000
+-- the cycle of a record, which its first field spells: at most `latest_cycle`
 abbrev pub cycle_below : ℕ → Option ℕ → Result ℕ TupleFault
 cycle_below number None = Err (BadCycle number)
-cycle_below number (Some cycle) = if nat_lt 10000000 cycle then Err (CycleTooLarge number) else Ok cycle
+cycle_below number (Some cycle) = if nat_lt latest_cycle cycle then Err (CycleTooLarge number) else Ok cycle
 
 -- what a function makes of a value that is there; nothing where it is not
 abbrev pub option_bind : {A B : Type 0} → Option A → (A → Option B) → Option B

@@ -1,4 +1,5 @@
--- The beats of a tuple file, told of its records.
+-- The beats of a tuple file, told of its records without an order of work.
+-- Proved equal to `Filing` (`one_reading`), on which what the program promises rests.
 use Rattle.std.specs.Prelude.{◌≡◌, ℕ, ◌+◌, ◌≤◌, Bool, true, false, not, ◌&&◌, List, [], ◌∷◌, ◌++◌, length, drop, Option, Some, None, IfSome, IsTrue, IsFalse, option_map, unwrap_or, find, slice_get, codes, bytes_eq, ◌==◌, if◌then◌else◌}
 use Rattle.std.specs.List.{AllByRecursion, list_any}
 use Rattle.std.specs.Option.{option_map_or}

@@ -1,4 +1,5 @@
--- Records, one after another, made into beats.
+-- Records, one after another, made into beats, or the first rule that one of them breaks.
+-- What the program promises of a tuple file rests on this text.
 use Rattle.std.specs.Prelude.{◌≡◌, ℕ, ◌+◌, ◌<◌, Bool, true, false, List, [], ◌∷◌, ◌++◌, length, Option, Some, None, Result, Ok, Err, nat_lt, ◌==◌, slice_get, slice_set, replicate, is_some, IfSome, unwrap_or, if◌then◌else◌}
 use Rattle.gl_bits.specs.Words.{Word}
 use Rattle.gl_schema.specs.declared.schema.Schema.{Schema}

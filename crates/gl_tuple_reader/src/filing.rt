@@ -119,7 +119,7 @@ fn last_beat(alloc: Global, streams: usize, current: Option<Beat>) -> Result<Bea
 
 /// No end came before.
 fn check_open(current: &Option<Beat>, number: u64) -> Result<(), TupleFault>
-    ensures { Gives result (spec.open_checked number current.now) }
+    ensures { result ≡ spec.open_checked number current.now }
 {
     match current {
         Some(beat) if beat.end => Err(TupleFault::AfterEnd { number }),
@@ -129,7 +129,7 @@ fn check_open(current: &Option<Beat>, number: u64) -> Result<(), TupleFault>
 
 /// The cycle is not below the one before.
 fn check_cycle(current: &Option<Beat>, cycle: u32, number: u64) -> Result<(), TupleFault>
-    ensures { Gives result (spec.cycle_checked number cycle current.now) }
+    ensures { result ≡ spec.cycle_checked number cycle current.now }
 {
     match current {
         Some(beat) if cycle < beat.cycle => Err(TupleFault::CycleFalls { number }),
@@ -192,7 +192,7 @@ fn no_rows(alloc: Global, streams: usize) -> Result<StreamRows, TupleFault>
 /// A beat with what the record of this number brings.
 fn beat_with(beat: Beat, entry: Entry, number: u64) -> Result<Beat, TupleFault>
     requires { spec.IsEntry (length beat.rows) entry }
-    ensures { Gives result (spec.beat_with number beat entry) }
+    ensures { result ≡ spec.beat_with number beat entry }
 {
     let mut beat = beat;
     match entry {

@@ -11,14 +11,12 @@ ghost use Rattle.csv.specs.Records.{fields_of};
 
 use crate::entry::Entry;
 use csv::ByteRecord;
+use gl_bits::limits::LATEST_CYCLE;
 use gl_bits::{Row, Word};
 use gl_schema::{Column, Schema};
 use gl_tuples::TupleFault;
 use gl_tuples::value::{is_utf8, number_of, word_of};
 use std::alloc::Global;
-
-/// The last cycle that a file may have.
-const LAST_CYCLE: u128 = 10_000_000;
 
 /// The field at a place.
 #[tactic(auto, using(crate::proofs::Fields::field_at_is))]
@@ -31,7 +29,7 @@ fn field(fields: &ByteRecord, at: usize) -> Option<&[u8]>
 /// Each field is UTF-8.
 #[tactic(auto, unfolding(crate::specs::Entries::text_checked))]
 pub fn check_text(fields: &ByteRecord, number: u64) -> Result<(), TupleFault>
-    ensures { Gives result (spec.text_checked number (fields_of fields.now)) }
+    ensures { result ≡ spec.text_checked number (fields_of fields.now) }
 {
     if is_text(fields) {
         Ok(())
@@ -66,7 +64,7 @@ fn field_is_text(fields: &ByteRecord, at: usize) -> bool
 /// The cycle of a record, which its first field spells.
 #[tactic(auto, using(crate::proofs::Fields::cycle_steps), unfolding(crate::specs::Entries::cycle_of))]
 pub fn cycle_of(fields: &ByteRecord, number: u64) -> Result<u32, TupleFault>
-    ensures { Gives result (spec.cycle_of number (fields_of fields.now)) }
+    ensures { result ≡ spec.cycle_of number (fields_of fields.now) }
 {
     let Some(first) = field(fields, 0) else {
         return Err(TupleFault::BadCycle { number });
@@ -74,7 +72,7 @@ pub fn cycle_of(fields: &ByteRecord, number: u64) -> Result<u32, TupleFault>
     let Some(cycle) = number_of(first) else {
         return Err(TupleFault::BadCycle { number });
     };
-    if cycle > LAST_CYCLE {
+    if cycle > LATEST_CYCLE {
         return Err(TupleFault::CycleTooLarge { number });
     }
     Ok(cycle as u32)
@@ -106,7 +104,7 @@ pub fn entry_of(
 
 /// An entry behind which nothing may stand.
 fn alone(fields: &ByteRecord, entry: Entry, number: u64) -> Result<Entry, TupleFault>
-    ensures entry { Gives result (spec.alone number (fields_of fields.now) entry) }
+    ensures entry { result ≡ spec.alone number (fields_of fields.now) entry }
     ensures same { IfOk result (λ e. e ≡ entry) }
 {
     if fields.len() == 2 {

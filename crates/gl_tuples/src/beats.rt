@@ -1,6 +1,6 @@
 //! Beats: the cycles in which tuples come, ticks of the clock, and the end.
 
-ghost use Rattle.std.specs.Prelude.{◌≡◌, ◌+◌, ◌↔◌, ℕ, List, length, map, nat_lt, option_map, slice_get, IfOk, IsOk, OnOk};
+ghost use Rattle.std.specs.Prelude.{◌≡◌, ◌+◌, ◌^◌, ◌≤◌, ◌↔◌, ℕ, List, length, map, nat_lt, option_map, slice_get, IfOk, IsOk, OnOk, MatchResult};
 ghost use Rattle.gl_bits.specs.Kinds.{width_of};
 ghost use Rattle.gl_schema.specs.Beats.{KeepsGap, row_in};
 ghost use Rattle.gl_schema.specs.Schemas.{IsSchema};
@@ -249,9 +249,9 @@ fn widths_of(alloc: Global, columns: &[Column]) -> Result<Columns, Memory>
     Ok(widths)
 }
 
-// A number as the lists have it.
+// A number as the lists have it: they have room for 2^32.
 fn short_of(number: u64) -> Result<u32, Memory>
-    ensures { IfOk result (λ short. short ≡ number) }
+    ensures { MatchResult result (λ short. short ≡ number) (λ _. 2 ^ 32 ≤ number) }
 {
     match u32::try_from(number) {
         Ok(short) => Ok(short),

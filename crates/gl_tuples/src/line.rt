@@ -6,7 +6,7 @@ ghost use Rattle.std.specs.List.{AllByRecursion};
 ghost use Rattle.std.specs.Int.{bytes_high_first};
 ghost use Rattle.gl_bits.specs.Kinds.{IsKind, is_below, number_of, width_of};
 ghost use Rattle.gl_bits.specs.Words.{bits_of, widths_of};
-ghost use Rattle.gl_schema.specs.Seen.{line_of, printed, quoted, doubled};
+ghost use Rattle.gl_schema.specs.Seen.{line_of, printed, quoted, doubled, values_text};
 ghost use Rattle.gl_schema.specs.Seen as seen;
 
 use gl_bits::{Family, Kind, Row, Word};
@@ -16,7 +16,7 @@ use itoa::Buffer;
 /// value behind a comma, and a line feed. A number stands in decimal, behind a minus sign where it
 /// is below 0. A text stands without its padding, and in double quotes where it has a comma or a
 /// double quote. Takes no memory.
-#[tactic(auto, using(crate::proofs::Lines::line_steps), unfolding(gl_schema::specs::Seen::line_of))]
+#[tactic(auto, unfolding(gl_schema::specs::Seen::line_of))]
 pub fn line_into(cycle: u64, row: &Row, kinds: &[Kind], into: &mut [u8; 1024]) -> usize
     requires many { length kinds.now ≤ 32 }
     requires kinds { AllByRecursion IsKind kinds.now }
@@ -24,7 +24,23 @@ pub fn line_into(cycle: u64, row: &Row, kinds: &[Kind], into: &mut [u8; 1024]) -
     ensures short { result ≤ 700 }
     ensures written { take result into.new ≡ line_of cycle kinds.now (bits_of row.now) }
 {
-    let mut end = put_number(into, 0, cycle);
+    let end = put_number(into, 0, cycle);
+    values_into(row, kinds, into, end)
+}
+
+/// Writes the values of a row at a place of a buffer, each behind a comma, and a line feed, as
+/// `line_into` does, and answers the place behind them, at most 680 further on.
+#[tactic(auto, using(crate::proofs::Lines::line_steps))]
+pub fn values_into(row: &Row, kinds: &[Kind], into: &mut [u8; 1024], at: usize) -> usize
+    requires room { at ≤ 200 }
+    requires many { length kinds.now ≤ 32 }
+    requires kinds { AllByRecursion IsKind kinds.now }
+    requires widths { widths_of row.now ≡ map width_of kinds.now }
+    ensures short { result ≤ at + 680 }
+    ensures written { take result into.new
+        ≡ take at into.old ++ values_text kinds.now (bits_of row.now) ++ 10 ∷ [] }
+{
+    let mut end = at;
     for (column, kind) in kinds.iter().enumerate() {
         if let Some(word) = row.get(column) {
             end = put_column(into, end, *kind, word);
@@ -46,8 +62,8 @@ fn put_column(into: &mut [u8; 1024], at: usize, kind: Kind, word: Word) -> usize
     put_value(into, end, kind, word)
 }
 
-/// Writes bytes at a place, and answers the place behind them.
-fn put(into: &mut [u8; 1024], at: usize, bytes: &[u8]) -> usize
+/// Writes bytes at a place of a line, and answers the place behind them.
+pub fn put(into: &mut [u8; 1024], at: usize, bytes: &[u8]) -> usize
     requires { at + length bytes.now ≤ 1024 }
     ensures end { result ≡ at + length bytes.now }
     ensures written { take result into.new ≡ take at into.old ++ bytes.now }

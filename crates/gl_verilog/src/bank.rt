@@ -25,10 +25,9 @@ impl Bank {
     pub fn new(alloc: Global, len: usize) -> Result<Bank, Memory>
         ensures { IfOk result (λ b. b ≡ replicate len 0) }
     {
-        match vec![in alloc; 0u128; len] {
-            Ok(words) => Ok(Bank { words }),
-            Err(_) => Err(Memory),
-        }
+        Ok(Bank {
+            words: vec![in alloc; 0u128; len]?,
+        })
     }
 
     /// The number of words.

@@ -153,10 +153,7 @@ pub(crate) fn no_marks(alloc: Global, nets: usize) -> Result<Vec<bool>, Memory>
     ensures fresh { IfOk result (λ v. AreMarks [] v.items) }
     ensures size { IfOk result (λ v. length v.items ≡ nets) }
 {
-    match vec![in alloc; false; nets] {
-        Ok(marks) => Ok(marks),
-        Err(_) => Err(Memory),
-    }
+    Ok(vec![in alloc; false; nets]?)
 }
 
 /// The order of assignments that each drive another net. These nets are marked at first, and wait.

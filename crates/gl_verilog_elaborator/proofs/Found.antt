@@ -11,14 +11,14 @@ use Rattle.gl_verilog.specs.Written.{Range}
 use Rattle.gl_verilog.specs.Resolve.{decimal_number, declare, declare_port, port_kind}
 use Rattle.gl_verilog.specs.View.{declaration_of, kind_of}
 use Rattle.gl_verilog.specs.declared.module.Declaration as code
-use Rattle.gl_verilog_faults.specs.Demands.{Rule, NeverDriven, TwiceDeclared, TooWide, is_among}
+use Rattle.gl_verilog_faults.specs.Demands.{Rule, NeverDriven, TwiceDeclared, TooWide, is_among, name_token}
 use Rattle.gl_verilog_syntax.specs.declared.token.Word.{Word}
 use Rattle.gl_verilog_syntax.specs.declared.written.WrittenPort.{WrittenPort}
 use Rattle.gl_verilog_syntax.specs.View.{name_of, range_of, direction_of, port_of}
 use Rattle.gl_verilog_syntax.proofs.Views.{port-is}
 use Rattle.gl_verilog_elaborator.specs.declared.scope.Declared.{Declared}
 use Rattle.gl_verilog_elaborator.specs.Judged.{Broken, asks, known, known_as, known_at, with_name}
-use Rattle.gl_verilog_elaborator.specs.Elaborated.{Scope, scope, with_declaration, is_new, declared, new_width, direction_size, range_size, port_token, Elaborated, driven_kind, all_driven}
+use Rattle.gl_verilog_elaborator.specs.Elaborated.{Scope, scope, with_declaration, is_new, declared, new_width, port_token, Elaborated, driven_kind, all_driven}
 use Rattle.gl_verilog_elaborator.specs.View.{declared_as, names_in}
 use Rattle.gl_verilog_elaborator.proofs.OfDeclarations.{turned}
 
@@ -185,5 +185,5 @@ new_added s t k kind range name w v h e f =
 pub port_declared : (p : WrittenPort) → declare_port (port_of p) ≡ declare (port_kind (direction_of p.direction)) (range_of p.range) (name_of p.name)
 port_declared p = ap declare_port (port-is p)
 
-pub port_named : (k n : ℕ) (p : WrittenPort) (m : ℕ) → m ≡ direction_size (direction_of p.direction) + range_size (range_of p.range) → n ≡ k + m → n ≡ port_token k (port_of p)
-port_named k n p m e f = (let a : n ≡ k + direction_size (direction_of p.direction) + range_size (range_of p.range) = omega (arith, e, f) in a) ∙ ap (port_token k) (sym (port-is p))
+pub port_named : (k n : ℕ) (p : WrittenPort) (m : ℕ) → m ≡ name_token (port_of p) → n ≡ k + m → n ≡ port_token k (port_of p)
+port_named k n p m e f = omega (arith, e, f)

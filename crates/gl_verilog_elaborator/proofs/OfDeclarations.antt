@@ -6,13 +6,13 @@ use Rattle.std.specs.Str.{bytes_eq}
 use Rattle.std.proofs.lemmas.List.{append-nil}
 use Rattle.gl_bits.proofs.Bools.{bytes_same, bytes_own, else_false}
 use Rattle.gl_verilog.specs.Tokens.{Name}
-use Rattle.gl_verilog.specs.Written.{Direction, In, InWire, Out, OutWire, OutReg, Range, WrittenPort, spell_direction, spell_range, spell_port, spell_more_ports}
+use Rattle.gl_verilog.specs.Written.{Range, WrittenPort, spell_direction, spell_range, spell_port, spell_more_ports}
 use Rattle.gl_verilog.specs.Module.{Declaration, Kind, Memory}
 use Rattle.gl_verilog.specs.Resolve.{decimal_number, declare, declare_port, address_bits_of, declared_in}
 use Rattle.gl_verilog_faults.specs.Demands.{ask, TwiceDeclared, TooWide, BadMemory, is_declared, is_among, of_declaration, of_names, of_ports, name_token, memory_declared, has_bits}
 use Rattle.gl_verilog_faults.proofs.Declarations.{named_so}
 use Rattle.gl_verilog_elaborator.specs.Judged.{Broken, then', asks, or_breaks}
-use Rattle.gl_verilog_elaborator.specs.Elaborated.{Scope, with_declaration, is_new, declared, declared_all, range_size, direction_size, port_token, Ported, declared_ports, declared_memory}
+use Rattle.gl_verilog_elaborator.specs.Elaborated.{Scope, with_declaration, is_new, declared, declared_all, port_token, Ported, declared_ports, declared_memory}
 use Rattle.gl_verilog_elaborator.proofs.Demanded.{Is, is_then, is_ask, is_ask_as, is_weaker}
 
 -- ---- names
@@ -36,20 +36,6 @@ declared_among [] name = refl
 declared_among (d ∷ ds) name = declared_by (bytes_eq d.name name) (declared_in ds name) d (is_among name (map (λ x. x.name) ds)) (declared_among ds name) ∙ ap (λ (b : Bool). b || is_among name (map (λ x. x.name) ds)) (turned d.name name)
 
 -- ---- sizes
-
-pub range_tokens : (range : Range) → range_size range ≡ length (spell_range range)
-range_tokens None = refl
-range_tokens (Some high) = refl
-
-direction_tokens : (d : Direction) → direction_size d ≡ length (spell_direction d)
-direction_tokens In = refl
-direction_tokens InWire = refl
-direction_tokens Out = refl
-direction_tokens OutWire = refl
-direction_tokens OutReg = refl
-
-port_tokens : (k : ℕ) (p : WrittenPort) → port_token k p ≡ k + name_token p
-port_tokens k p = (let a : direction_size p.direction ≡ length (spell_direction p.direction) = direction_tokens p.direction in let b : range_size p.range ≡ length (spell_range p.range) = range_tokens p.range in omega arith)
 
 pub port_size : (p : WrittenPort) → length (spell_port p) ≡ name_token p + 1
 port_size p = omega (arith, length-append (spell_direction p.direction) (spell_range p.range ++ Name p.name ∷ []), length-append (spell_range p.range) (Name p.name ∷ []))
@@ -125,8 +111,8 @@ pub ports_is : (ps : List WrittenPort) (s : Scope) (k : ℕ) → Is (of_ports s.
 ports_is [] s k = (tt, record { adds = record { declarations = sym (append-nil s.declarations); tokens = sym (append-nil s.tokens) }; end' = omega arith })
 ports_is (p ∷ ps) s k =
     is_then (of_declaration s.declarations (k + name_token p) (declare_port p)) (of_ports (s.declarations ++ declare_port p ∷ []) (k + length (spell_port p) + 1) ps) (λ r. r ≡ with_declaration s (k + name_token p) (declare_port p)) Q _ _
-    (subst (λ (n : ℕ). Is (of_declaration s.declarations (k + name_token p) (declare_port p)) (λ r. r ≡ with_declaration s (k + name_token p) (declare_port p)) (declared s n (declare_port p))) (sym (port_tokens k p)) (declared_is s (k + name_token p) (declare_port p))) (λ r e.
-    let next : port_token k p + 2 ≡ k + length (spell_port p) + 1 = (let a : port_token k p ≡ k + name_token p = port_tokens k p in let b : length (spell_port p) ≡ name_token p + 1 = port_size p in omega arith) in
+    (declared_is s (k + name_token p) (declare_port p)) (λ r e.
+    let next : port_token k p + 2 ≡ k + length (spell_port p) + 1 = (let b : length (spell_port p) ≡ name_token p + 1 = port_size p in omega arith) in
     subst (λ (x : Scope). Is (of_ports (s.declarations ++ declare_port p ∷ []) (k + length (spell_port p) + 1) ps) Q (declared_ports x (port_token k p + 2) ps)) (sym e)
     (subst (λ (n : ℕ). Is (of_ports (s.declarations ++ declare_port p ∷ []) (k + length (spell_port p) + 1) ps) Q (declared_ports (with_declaration s (k + name_token p) (declare_port p)) n ps)) (sym next)
     (is_weaker (of_ports (s.declarations ++ declare_port p ∷ []) (k + length (spell_port p) + 1) ps) (AddsPorts (with_declaration s (k + name_token p) (declare_port p)) (k + length (spell_port p) + 1) ps) Q (declared_ports (with_declaration s (k + name_token p) (declare_port p)) (k + length (spell_port p) + 1) ps) (λ x a. record {

@@ -14,13 +14,13 @@ use Rattle.gl_verilog_faults.specs.Demands.{Demand, ask, Undeclared, TwiceDriven
 use Rattle.gl_verilog_faults.proofs.Names.{so_by}
 use Rattle.gl_verilog_faults.proofs.Items.{added}
 use Rattle.gl_verilog_elaborator.specs.Judged.{Broken, then', asks, Known, named, Typed, judged_expr, Drivers, judged_in}
-use Rattle.gl_verilog_elaborator.specs.Elaborated.{Scope, declared_all, range_size, Elaborated, with_scope, assigned, with_assignment, block_begins, block_ends, with_block, elaborated_names, declared_memory, elaborated_memory, elaborated_assignment, elaborated_block, elaborated_item, elaborated_items}
+use Rattle.gl_verilog_elaborator.specs.Elaborated.{Scope, declared_all, Elaborated, with_scope, assigned, with_assignment, block_begins, block_ends, with_block, elaborated_names, declared_memory, elaborated_memory, elaborated_assignment, elaborated_block, elaborated_item, elaborated_items}
 use Rattle.gl_verilog_elaborator.proofs.Demanded.{Is, is_then, is_ask, is_ask_as, is_as, is_weaker, is_mapped}
 use Rattle.gl_verilog_elaborator.proofs.OfExpressions.{IsKnown, named_is, kind_so, width_known, number_known, Means, judged_is}
 use Rattle.gl_verilog_faults.proofs.Drivers.{among_join}
 use Rattle.gl_verilog_elaborator.proofs.Sets.{among_with, among_all, among_push}
 use Rattle.gl_verilog_elaborator.proofs.OfStatements.{Same, Leaves, Says, statement_is}
-use Rattle.gl_verilog_elaborator.proofs.OfDeclarations.{range_tokens, names_tokens, Adds, all_declared_is, AddsMemory, memory_is}
+use Rattle.gl_verilog_elaborator.proofs.OfDeclarations.{names_tokens, Adds, all_declared_is, AddsMemory, memory_is}
 
 -- between two items the sets tell the names that have a driver, and nothing stands beside
 pub record Between (v : Drivers) (done : List (List ℕ)) : Type 0 where
@@ -72,9 +72,9 @@ names_size : (n : List ℕ) (ns : List (List ℕ)) → length (spell_names (n �
 names_size n [] = omega arith
 names_size n (m ∷ ns) = (let e : length (spell_names (m ∷ ns)) + 1 ≡ 2 * length (m ∷ ns) = names_size m ns in omega arith)
 
-names_end : (k : ℕ) (range : Range) (names : List (List ℕ)) (w : Token) → IsNonempty names → k + 1 + range_size range + 2 * length names ≡ k + length (w ∷ (spell_range range ++ (spell_names names ++ Mark Semicolon ∷ [])))
+names_end : (k : ℕ) (range : Range) (names : List (List ℕ)) (w : Token) → IsNonempty names → k + 1 + length (spell_range range) + 2 * length names ≡ k + length (w ∷ (spell_range range ++ (spell_names names ++ Mark Semicolon ∷ [])))
 names_end k range [] w h = absurd h
-names_end k range (n ∷ ns) w h = (let a : range_size range ≡ length (spell_range range) = range_tokens range in let b : length (spell_names (n ∷ ns)) + 1 ≡ 2 * length (n ∷ ns) = names_size n ns in
+names_end k range (n ∷ ns) w h = (let b : length (spell_names (n ∷ ns)) + 1 ≡ 2 * length (n ∷ ns) = names_size n ns in
     omega (arith, length-append (spell_range range) (spell_names (n ∷ ns) ++ Mark Semicolon ∷ []), length-append (spell_names (n ∷ ns)) (Mark Semicolon ∷ [])))
 
 adds_more : (s r x : Scope) (ds es : List Declaration) (ts us : List ℕ) → Adds s ds ts r → Adds r es us x → Adds s (ds ++ es) (ts ++ us) x
@@ -134,11 +134,10 @@ kept v done b = subst (Between v) (sym (append-nil done)) b
 
 -- ---- wires and registers
 
-names_is : (kind : Kind) (range : Range) (names : List (List ℕ)) (i : WrittenItem) (e : Elaborated) (done : List (List ℕ)) → Between e.drivers done → (e.end + 1 + range_size range + 2 * length names ≡ e.end + length (spell_item i)) → (targets_of (i ∷ []) ≡ []) → ((is : List WrittenItem) → resolve_items e.scope.declarations (i ∷ is) ≡ resolve_items (e.scope.declarations ++ map (declare kind range) names) is)
+names_is : (kind : Kind) (range : Range) (names : List (List ℕ)) (i : WrittenItem) (e : Elaborated) (done : List (List ℕ)) → Between e.drivers done → (e.end + 1 + length (spell_range range) + 2 * length names ≡ e.end + length (spell_item i)) → (targets_of (i ∷ []) ≡ []) → ((is : List WrittenItem) → resolve_items e.scope.declarations (i ∷ is) ≡ resolve_items (e.scope.declarations ++ map (declare kind range) names) is)
     → Is (of_names kind range e.scope.declarations (e.end + 1 + length (spell_range range)) names) (AddsItem e done i (map (declare kind range) names) (names_tokens (e.end + 1 + length (spell_range range)) names) []) (elaborated_names kind range e names)
 names_is kind range names i e done b size none means =
-    subst (λ (k : ℕ). Is (of_names kind range e.scope.declarations (e.end + 1 + length (spell_range range)) names) Q (then' (declared_all kind range e.scope (e.end + 1 + k) names) (λ s. Ok (with_scope e s (e.end + 1 + range_size range + 2 * length names))))) (sym (range_tokens range))
-    (is_mapped (of_names kind range e.scope.declarations (e.end + 1 + length (spell_range range)) names) (Adds e.scope (map (declare kind range) names) (names_tokens (e.end + 1 + length (spell_range range)) names)) Q (declared_all kind range e.scope (e.end + 1 + length (spell_range range)) names) (λ s. with_scope e s (e.end + 1 + range_size range + 2 * length names)) (all_declared_is kind range names e.scope (e.end + 1 + length (spell_range range))) (λ s a. record {
+    is_mapped (of_names kind range e.scope.declarations (e.end + 1 + length (spell_range range)) names) (Adds e.scope (map (declare kind range) names) (names_tokens (e.end + 1 + length (spell_range range)) names)) Q (declared_all kind range e.scope (e.end + 1 + length (spell_range range)) names) (λ s. with_scope e s (e.end + 1 + length (spell_range range) + 2 * length names)) (all_declared_is kind range names e.scope (e.end + 1 + length (spell_range range))) (λ s a. record {
       assignments = [];
       blocks = [];
       scope' = a;
@@ -148,7 +147,7 @@ names_is kind range names i e done b size none means =
       targets = sym (append-nil e.targets);
       end' = size;
       drivers = subst (λ (l : List (List ℕ)). Between e.drivers (done ++ l)) (sym none) (kept e.drivers done b);
-    }))
+    })
   where
     Q : Elaborated → Type 0
     Q = AddsItem e done i (map (declare kind range) names) (names_tokens (e.end + 1 + length (spell_range range)) names) []
@@ -173,8 +172,7 @@ memory_item : (range : Range) (name last : List ℕ) (e : Elaborated) (done : Li
     → Is (of_declaration e.scope.declarations (e.end + 1 + length (spell_range range)) (memory_declared range name last) ++ ask BadMemory (e.end + 1 + length (spell_range range)) (has_bits (address_bits_of (decimal_number last + 1))) ∷ [])
     (AddsItem e done (MemoryOf range name last) (memory_declared range name last ∷ []) ((e.end + 1 + length (spell_range range)) ∷ []) []) (elaborated_memory e range name last)
 memory_item range name last e done b =
-    subst (λ (k : ℕ). Is own Q (then' (declared_memory e.scope (e.end + 1 + k) range name last) (λ s. Ok (with_scope e s (e.end + 1 + range_size range + 7))))) (sym (range_tokens range))
-    (is_mapped own (AddsMemory e.scope (e.end + 1 + length (spell_range range)) range name last) Q (declared_memory e.scope (e.end + 1 + length (spell_range range)) range name last) (λ s. with_scope e s (e.end + 1 + range_size range + 7)) (memory_is e.scope (e.end + 1 + length (spell_range range)) range name last) (λ s a.
+    is_mapped own (AddsMemory e.scope (e.end + 1 + length (spell_range range)) range name last) Q (declared_memory e.scope (e.end + 1 + length (spell_range range)) range name last) (λ s. with_scope e s (e.end + 1 + length (spell_range range) + 7)) (memory_is e.scope (e.end + 1 + length (spell_range range)) range name last) (λ s a.
     let same : declare (Memory a.bits) range name ≡ memory_declared range name last = ap (λ (o : Option ℕ). declare (Memory (option_map_or (λ j. j) o 0)) range name) (sym a.there) in
     record {
       assignments = [];
@@ -187,9 +185,9 @@ memory_item range name last e done b =
       assigned' = sym (append-nil e.assignments);
       blocked = sym (append-nil e.blocks);
       targets = sym (append-nil e.targets);
-      end' = (let r : range_size range ≡ length (spell_range range) = range_tokens range in omega (arith, length-append (spell_range range) (Name name ∷ Mark OpenBracket ∷ Number zero_digit ∷ Mark Colon ∷ Number last ∷ Mark CloseBracket ∷ Mark Semicolon ∷ [])));
+      end' = omega (arith, length-append (spell_range range) (Name name ∷ Mark OpenBracket ∷ Number zero_digit ∷ Mark Colon ∷ Number last ∷ Mark CloseBracket ∷ Mark Semicolon ∷ []));
       drivers = kept e.drivers done b;
-    }))
+    })
   where
     own : List Demand
     own = of_declaration e.scope.declarations (e.end + 1 + length (spell_range range)) (memory_declared range name last) ++ ask BadMemory (e.end + 1 + length (spell_range range)) (has_bits (address_bits_of (decimal_number last + 1))) ∷ []

@@ -1,9 +1,9 @@
 -- How the ports and the items of a module are judged and resolved from left to right, and then its drivers.
 use Rattle.std.specs.Prelude.{if◌then◌else◌, ℕ, ◌+◌, ◌*◌, Bool, true, false, not, List, [], ◌∷◌, ◌++◌, map, fold, length, Some, None, Result, Ok, nat_eq, nat_le}
 use Rattle.gl_verilog.specs.Module.{Module, Declaration, Kind, Input, Wire, Register, Memory, Statement, Assignment}
-use Rattle.gl_verilog.specs.Written.{Direction, In, InWire, Out, OutWire, OutReg, Range, WrittenPort, WrittenItem, Wires, Registers, MemoryOf, Assign, Always, WrittenExpr, WrittenStatement, WrittenModule}
+use Rattle.gl_verilog.specs.Written.{Range, WrittenPort, WrittenItem, Wires, Registers, MemoryOf, Assign, Always, WrittenExpr, WrittenStatement, WrittenModule, spell_range}
 use Rattle.gl_verilog.specs.Resolve.{decimal_number, declare, declare_port, address_bits_of, is_memory_kind}
-use Rattle.gl_verilog_faults.specs.Demands.{TwiceDeclared, TwiceDriven, NeverDriven, WidthsDiffer, BadMemory, ClockRead, TooWide, BadTarget, is_wire_kind, is_clock_name, is_among}
+use Rattle.gl_verilog_faults.specs.Demands.{TwiceDeclared, TwiceDriven, NeverDriven, WidthsDiffer, BadMemory, ClockRead, TooWide, BadTarget, is_wire_kind, is_clock_name, is_among, name_token}
 use Rattle.gl_verilog_elaborator.specs.Judged.{Broken, then', asks, or_breaks, named, Typed, judged_expr, Drivers, no_drivers, with_name, Stated, judged_in}
 
 -- ---- declarations
@@ -50,22 +50,9 @@ declared_all kind range s k [] = Ok s
 declared_all kind range s k (n ∷ ns) =
     then' (declared s k (declare kind range n)) (λ s'. declared_all kind range s' (k + 2) ns)
 
--- how many tokens a range has
-abbrev pub range_size : Range → ℕ
-range_size None = 0
-range_size (Some high) = 5
-
--- how many tokens a direction has
-abbrev pub direction_size : Direction → ℕ
-direction_size In = 1
-direction_size InWire = 2
-direction_size Out = 1
-direction_size OutWire = 2
-direction_size OutReg = 2
-
 -- the token of a port's name, where the port begins at k
 abbrev pub port_token : ℕ → WrittenPort → ℕ
-port_token k p = k + direction_size p.direction + range_size p.range
+port_token k p = k + name_token p
 
 -- ports with a comma between each two, and the token behind what parts them or ends them
 pub record Ported : Type 0 where
@@ -130,8 +117,8 @@ with_block e s = record e { blocks = e.blocks ++ s.statement ∷ []; drivers = b
 -- a list of wires or registers is declared name by name
 abbrev pub elaborated_names : Kind → Range → Elaborated → List (List ℕ) → Result Elaborated Broken
 elaborated_names kind range e names =
-    then' (declared_all kind range e.scope (e.end + 1 + range_size range) names)
-    (λ s. Ok (with_scope e s (e.end + 1 + range_size range + 2 * length names)))
+    then' (declared_all kind range e.scope (e.end + 1 + length (spell_range range)) names)
+    (λ s. Ok (with_scope e s (e.end + 1 + length (spell_range range) + 2 * length names)))
 
 -- a memory at a token, where it has 2^j words
 abbrev pub declared_memory : Scope → ℕ → Range → List ℕ → List ℕ → Result Scope Broken
@@ -143,8 +130,8 @@ declared_memory s k range name last =
 -- a memory is declared, and its length gives its address bits
 abbrev pub elaborated_memory : Elaborated → Range → List ℕ → List ℕ → Result Elaborated Broken
 elaborated_memory e range name last =
-    then' (declared_memory e.scope (e.end + 1 + range_size range) range name last)
-    (λ s. Ok (with_scope e s (e.end + 1 + range_size range + 7)))
+    then' (declared_memory e.scope (e.end + 1 + length (spell_range range)) range name last)
+    (λ s. Ok (with_scope e s (e.end + 1 + length (spell_range range) + 7)))
 
 -- the number of an assignment's target, at a token, for a value of this width
 abbrev pub assignment_target : List Declaration → Drivers → ℕ → List ℕ → ℕ → Result ℕ Broken

@@ -10,7 +10,7 @@ ghost use Rattle.gl_verilog_syntax.specs.View.{name_of, names_of, range_of, port
 use crate::scope::{Declared, Scope, add, further, is_new};
 use crate::stop::{Rule, Stop};
 use gl_verilog::Kind;
-use gl_verilog_syntax::{Direction, Word, WrittenPort, small_number};
+use gl_verilog_syntax::{Direction, Word, WrittenPort, small_number, tokens_before};
 
 // The bits of a range, or the one bit without a range, where they are at most 128.
 fn width_in(range: Option<Word>) -> Option<u8>
@@ -100,29 +100,6 @@ fn port_kind(direction: Direction) -> Kind
         Direction::In | Direction::InWire => Kind::Input,
         Direction::Out | Direction::OutWire => Kind::OutputWire,
         Direction::OutReg => Kind::OutputRegister,
-    }
-}
-
-// How many tokens a port has before its name.
-fn tokens_before(port: &WrittenPort) -> usize
-    ensures { result ≡ made.direction_size (direction_of port.now.direction)
-        + made.range_size (range_of port.now.range) }
-{
-    let words = match port.direction {
-        Direction::In | Direction::Out => 1,
-        Direction::InWire | Direction::OutWire | Direction::OutReg => 2,
-    };
-    words + tokens_of_range(port.range)
-}
-
-/// How many tokens a range has.
-pub(crate) fn tokens_of_range(range: Option<Word>) -> usize
-    ensures result { result ≡ made.range_size (range_of range.entry) }
-    ensures few { result ≤ 5 }
-{
-    match range {
-        Some(_) => 5,
-        None => 0,
     }
 }
 

@@ -38,10 +38,8 @@ fn put<'a>(names: &mut IndexSet<&'a [u8]>, name: &'a [u8]) -> Result<(), Stop>
     ensures { MatchResult result (λ _. names_in names.new.keys
         ≡ with_name (names_in names.old.keys) name.now) (λ e. is_broken e ≡ false) }
 {
-    match names.insert(name) {
-        Ok(_) => Ok(()),
-        Err(_) => Err(Stop::Memory),
-    }
+    names.insert(name)?;
+    Ok(())
 }
 
 // A set with the names of a list from a place on.

@@ -8,14 +8,14 @@ ghost use Rattle.gl_verilog_elaborator.specs.View.{Gives, declarations_of, drive
 ghost use Rattle.gl_verilog_syntax.specs.View.{name_of, names_of, range_of, expr_of, statement_of, item_of};
 
 use crate::blocks::statement_made;
-use crate::declarations::{declare_all, declare_memory, tokens_of_range};
+use crate::declarations::{declare_all, declare_memory};
 use crate::drivers::{Drivers, assign, begin_block, end_block, has};
 use crate::expressions::{Typed, is_memory};
 use crate::scope::{Scope, further, named};
 use crate::stop::{Rule, Stop};
 use crate::trees::expr_typed;
 use gl_verilog::{Assignment, Kind, Statement};
-use gl_verilog_syntax::{Word, WrittenExpr, WrittenItem, WrittenStatement};
+use gl_verilog_syntax::{Word, WrittenExpr, WrittenItem, WrittenStatement, tokens_of_range};
 use std::alloc::Global;
 
 /// What was elaborated so far: declarations, assignments with the tokens of their targets, blocks,

@@ -192,10 +192,7 @@ pub(crate) fn literal_fits(
     if size < 1 {
         return Ok(false);
     }
-    match number_fits(alloc, size, radix, digits) {
-        Ok(fits) => Ok(fits),
-        Err(_) => Err(Stop::Memory),
-    }
+    Ok(number_fits(alloc, size, radix, digits)?)
 }
 
 /// A number of bits, where it is at most 128.

@@ -1,6 +1,6 @@
 //! What is declared so far, by name.
 
-ghost use Rattle.std.specs.Prelude.{◌≡◌, ◌+◌, map, option_map, MatchResult, OnOk, IfErr, false};
+ghost use Rattle.std.specs.Prelude.{◌≡◌, ◌+◌, ◌^◌, ◌≤◌, map, option_map, MatchResult, OnOk, IfErr, false};
 ghost use Rattle.gl_verilog_faults.specs.Demands.{is_among};
 ghost use Rattle.gl_verilog_elaborator.specs.Judged as judged;
 ghost use Rattle.gl_verilog_elaborator.specs.Elaborated as made;
@@ -45,9 +45,10 @@ pub struct Known {
     pub kind: Kind,
 }
 
-/// The number of a token further on.
+/// The number of a token further on, where it can be counted.
 pub(crate) fn further(token: usize, more: usize) -> Result<usize, Stop>
-    ensures { MatchResult result (λ n. n ≡ token + more) (λ e. is_broken e ≡ false) }
+    ensures { MatchResult result (λ n. n ≡ token + more)
+        (λ e. (is_broken e ≡ false) × (2 ^ 64 ≤ token + more)) }
 {
     match token.checked_add(more) {
         Some(n) => Ok(n),
@@ -113,8 +114,6 @@ pub(crate) fn add<'a>(scope: &mut Scope<'a>, name: Word<'a>, declared: Declared)
         declared.token (declared_as (name.entry.bytes, declared))) }
     ensures stopped { IfErr result (λ e. is_broken e ≡ false) }
 {
-    match scope.names.insert(name.bytes, declared) {
-        Ok(_) => Ok(()),
-        Err(_) => Err(Stop::Memory),
-    }
+    scope.names.insert(name.bytes, declared)?;
+    Ok(())
 }

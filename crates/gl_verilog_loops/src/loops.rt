@@ -16,10 +16,8 @@ use std::alloc::Global;
 fn put_net(found: &mut IndexSet<usize>, net: usize) -> Result<(), Memory>
     ensures { OnOk result (found.new.keys ≡ with_net found.old.keys net) }
 {
-    match found.insert(net) {
-        Ok(_) => Ok(()),
-        Err(_) => Err(Memory),
-    }
+    found.insert(net)?;
+    Ok(())
 }
 
 // The nets that stand in an expression.

@@ -176,13 +176,6 @@ fn found_in(ports: &[Declaration]) -> Result<Ports, Misfit>
     })
 }
 
-/// The number of the input port of a name; None where the module has no such input. Takes no memory.
-pub fn input_named(design: &Module, name: &[u8]) -> Option<usize>
-    ensures { result ≡ spec.input_at (profile.ports_of (module_of design.now)) name.now }
-{
-    input_at(ports_of(design), name)
-}
-
 /// The ports of a module, where they are those of a schema and of a result; else the first that no module may have, in their order, or,
 /// where none is so, that one is lacking. Takes no memory.
 pub fn find_ports(design: &Module, schema: &Schema) -> Result<Ports, Misfit>

@@ -8,5 +8,5 @@ pub mod fitting;
 pub mod laws;
 pub mod names;
 
-pub use fitting::{Misfit, Ports, find_ports, input_named, ports_of, shows_column};
+pub use fitting::{Misfit, Ports, find_ports, ports_of, shows_column};
 pub use names::{is_in_column, is_in_valid};

@@ -15,6 +15,7 @@ ghost use Rattle.gl_verilog_syntax.specs.View.{module_of, tokens_in};
 
 pub mod source;
 
+use gl_bits::Memory;
 use gl_verilog::Module;
 use gl_verilog_elaborator::{Rule, Stop, elaborate};
 use gl_verilog_grammar::read_tokens;
@@ -88,4 +89,16 @@ pub fn read_module(alloc: Global, text: &[u8]) -> Result<Module, VerilogFault>
 {
     let source = read_source(alloc, text)?;
     Ok(source.design)
+}
+
+/// The module of a text that has one.
+pub fn read_known_module(alloc: Global, text: &[u8]) -> Result<Module, Memory>
+    requires { (m : spec.Module) × HasModule text.now m }
+    ensures { IfOk result (λ m. HasModule text.now (meant.module_of m)) }
+{
+    match read_module(alloc, text) {
+        Ok(module) => Ok(module),
+        // Nothing but want of memory stands in the way.
+        Err(_) => Err(Memory),
+    }
 }

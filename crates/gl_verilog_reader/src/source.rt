@@ -1,17 +1,16 @@
 //! A module that was read, with the places that show its ports.
 
-ghost use Rattle.std.specs.Prelude.{◌≡◌, ◌<◌, ◌≤◌, ◌+◌, length, map, IfOk};
+ghost use Rattle.std.specs.Prelude.{◌≡◌, ◌<◌, ◌+◌, length, map, IfOk};
 ghost use Rattle.std.specs.List.{AllZip};
 ghost use Rattle.gl_verilog.specs.Text.{IsSpelling};
-ghost use Rattle.gl_verilog.specs.Written.{spell_direction, spell_ports, spell_range};
-ghost use Rattle.gl_verilog_faults.specs.Demands.{name_token};
+ghost use Rattle.gl_verilog.specs.Written.{spell_ports};
 ghost use Rattle.gl_verilog_reader.specs.Sources.{IsAt, IsLocated, port_tokens};
 ghost use Rattle.gl_verilog_tokens.specs.Placed.{places_in};
-ghost use Rattle.gl_verilog_syntax.specs.View.{direction_of, module_of, port_of, range_of, tokens_in};
+ghost use Rattle.gl_verilog_syntax.specs.View.{module_of, port_of, tokens_in};
 
 use gl_bits::Listed;
 use gl_verilog::Module;
-use gl_verilog_syntax::{Direction, Lexeme, Word, WrittenModule, WrittenPort};
+use gl_verilog_syntax::{Lexeme, WrittenModule, WrittenPort, tokens_before};
 use std::alloc::{AllocError, Global};
 
 /// A module that was read, and where in its text its name and its ports stand: the bytes, from 0.
@@ -31,36 +30,6 @@ pub(crate) fn place_of(lexemes: &[Lexeme], token: usize) -> u64
     ensures { IsAt (places_in lexemes.now) token result }
 {
     lexemes[token].at as u64
-}
-
-// How many tokens a direction has.
-fn tokens_of_direction(direction: Direction) -> usize
-    ensures value { result ≡ length (spell_direction (direction_of direction)) }
-    ensures few { result ≤ 2 }
-{
-    match direction {
-        Direction::In | Direction::Out => 1,
-        Direction::InWire | Direction::OutWire | Direction::OutReg => 2,
-    }
-}
-
-// How many tokens a range has.
-fn tokens_of_range(range: Option<Word>) -> usize
-    ensures value { result ≡ length (spell_range (range_of range.entry)) }
-    ensures few { result ≤ 5 }
-{
-    match range {
-        Some(_) => 5,
-        None => 0,
-    }
-}
-
-// How many tokens a port has before its name.
-#[tactic(auto, unfolding(gl_verilog_syntax::specs::View::port_of))]
-fn tokens_before(port: &WrittenPort) -> usize
-    ensures { result ≡ name_token (port_of port.now) }
-{
-    tokens_of_direction(port.direction) + tokens_of_range(port.range)
 }
 
 // The places of the names of ports, which begin behind the module's name and a bracket.

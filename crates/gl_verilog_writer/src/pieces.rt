@@ -12,10 +12,8 @@ use itoa::Buffer;
 pub(crate) fn put(out: &mut Vec<u8>, piece: &[u8]) -> Result<(), Memory>
     ensures { OnOk result (out.new.items ≡ out.old.items ++ piece.now) }
 {
-    match out.extend_from_slice(piece) {
-        Ok(()) => Ok(()),
-        Err(_) => Err(Memory),
-    }
+    out.extend_from_slice(piece)?;
+    Ok(())
 }
 
 /// Appends a number in decimal.

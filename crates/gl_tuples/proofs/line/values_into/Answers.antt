@@ -1,8 +1,8 @@
 use Rattle.std.proofs.Common.{sym, ◌∙◌, arith}
 use Rattle.gl_bits.specs.declared.kind.Kind.TheVariants.{Unsigned}
 use Rattle.gl_tuples.proofs.Lines.{width_at, row_long, none_at, line_grows}
-use Rattle.gl_tuples.proofs.line.line_into.Goals as goal
-use Rattle.gl_tuples.proofs.line.line_into.Goals.{in-Some, in_default}
+use Rattle.gl_tuples.proofs.line.values_into.Goals as goal
+use Rattle.gl_tuples.proofs.line.values_into.Goals.{in-Some, in_default}
 
 pub put_column-end-requires-clause-width : goal.put_column-end-requires-clause-width
 put_column-end-requires-clause-width c = width_at c.args.row.now c.args.kinds.now c.loop-column.column c.in-Some.word (Unsigned 0) c.requires.widths (sym c.get.ensures ∙ c.in-Some.is) (omega arith)
