@@ -12,21 +12,21 @@ use Rattle.gl_query.specs.Shapes.{query_shape}
 use Rattle.gl_query.specs.Sizes.{QueryIsSmall}
 use Rattle.gl_query.specs.Trees.{statement_tree}
 use Rattle.gl_query.proofs.Alike.{query_same}
-use Rattle.gl_query.proofs.FirstFaults.{exact}
+use Rattle.gl_query.specs.Laws.{FirstFaultsAreExact}
 use Rattle.gl_query_check.specs.Answers.{IsOr}
 
-pub checked : (schema : Schema) (statement : Statement) → IsSchema schema → QueryIsSmall (query_shape statement.query)
+pub checked : FirstFaultsAreExact → (schema : Schema) (statement : Statement) → IsSchema schema → QueryIsSmall (query_shape statement.query)
     → first_fault schema (statement_tree statement) ≡ None → IsChecked schema statement
-checked schema s h small none = record {
+checked exact schema s h small none = record {
   of_schema = h;
   accepted = subst (IsAcceptedOver (schema_scope schema)) (query_same s.query) ((exact schema (statement_tree s) h).0 none);
   small = small;
 }
 
 -- one that is accepted has none
-pub accepted_none : (schema : Schema) (s : Statement) → IsSchema schema → IsAccepted schema s → first_fault schema (statement_tree s) ≡ None
-accepted_none schema s h is = (exact schema (statement_tree s) h).1 (subst (IsAcceptedOver (schema_scope schema)) (sym (query_same s.query)) is)
+pub accepted_none : FirstFaultsAreExact → (schema : Schema) (s : Statement) → IsSchema schema → IsAccepted schema s → first_fault schema (statement_tree s) ≡ None
+accepted_none exact schema s h is = (exact schema (statement_tree s) h).1 (subst (IsAcceptedOver (schema_scope schema)) (sym (query_same s.query)) is)
 
-pub only_memory : (schema : Schema) (s : Statement) (e : QueryFault) → IsSchema schema → IsOr (first_fault schema (statement_tree s)) e → IsAccepted schema s → e ≡ Memory
-only_memory schema s e h (inr memory) is = memory
-only_memory schema s e h (inl first) is = absurd (let f : ◌≡◌ {A = Option QueryFault} None (Some e) = sym (accepted_none schema s h is) ∙ first in cc)
+pub only_memory : FirstFaultsAreExact → (schema : Schema) (s : Statement) (e : QueryFault) → IsSchema schema → IsOr (first_fault schema (statement_tree s)) e → IsAccepted schema s → e ≡ Memory
+only_memory exact schema s e h (inr memory) is = memory
+only_memory exact schema s e h (inl first) is = absurd (let f : ◌≡◌ {A = Option QueryFault} None (Some e) = sym (accepted_none exact schema s h is) ∙ first in cc)

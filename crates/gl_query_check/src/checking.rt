@@ -14,6 +14,7 @@ ghost use Rattle.gl_query_check.specs.Answers.{IsOr};
 use crate::queries::columns_checked;
 use gl_bits::{Listed, Memory};
 use gl_query::columns::{copy_of_columns, copy_of_name};
+use gl_query::laws::first_faults_are_exact;
 use gl_query::{QueryFault, Sources, Statement};
 use gl_schema::{Schema, Stream, Streams};
 use std::alloc::Global;
@@ -51,6 +52,7 @@ pub fn check(alloc: Global, schema: &Schema, statement: Statement) -> Result<Che
     ensures fault { IfErr result (λ e. IsOr (first_fault schema.now (statement_tree statement)) e) }
     ensures only { IsAccepted schema.now statement → IfErr result (λ e. e ≡ fault.Memory) }
 {
+    first_faults_are_exact();
     let sources = Sources::Schema(schema.streams.as_slice());
     match columns_checked(alloc, sources, &statement.query) {
         Ok(columns) => {

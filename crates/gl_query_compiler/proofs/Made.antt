@@ -8,7 +8,7 @@ use Rattle.gl_schema.specs.declared.schema.Schema.{Schema}
 use Rattle.gl_schema.specs.Schemas.{IsSchema, kinds_of}
 use Rattle.gl_query.specs.declared.tree.Statement.{Statement}
 use Rattle.gl_query.specs.Shapes.{query_shape}
-use Rattle.gl_query.proofs.Real.{real_columns}
+use Rattle.gl_query.specs.Laws.{AcceptedHaveRealColumns}
 use Rattle.gl_query_judge.specs.Judged.{IsAcceptedText}
 use Rattle.gl_compiler_text.specs.declared.compiling.Compiled.{Compiled}
 use Rattle.gl_algebra.specs.Added.{placed_at}
@@ -39,11 +39,11 @@ pub record IsMade (schema : Schema) (text : List ℕ) (c : Compiled) : Type 0 wh
   pub meets : Meets schema c.statement c.printed.latency c.printed.gap c.text.items
   pub told : TellsCauses schema text (Ok c)
 
-over : (schema : Schema) (text : List ℕ) (statement : Statement) (c : Compiled) → IsSchema schema → IsAcceptedText schema text statement → IsCompiled schema statement c → IsMade schema text c
-over schema text statement c fine a m =
+over : AcceptedHaveRealColumns → (schema : Schema) (text : List ℕ) (statement : Statement) (c : Compiled) → IsSchema schema → IsAcceptedText schema text statement → IsCompiled schema statement c → IsMade schema text c
+over columns schema text statement c fine a m =
     let back = sym m.statement' in
     let query : IsQuery schema text c.statement = subst (IsQuery schema text) back (record { has = a.has; built = m.built }) in
-    let real = real_columns schema (query_shape statement.query) fine a.accepted in
+    let real = columns schema (query_shape statement.query) fine a.accepted in
     record {
       schema' = m.schema';
       built = query;
@@ -62,5 +62,5 @@ over schema text statement c fine a m =
       told = tells_none schema text c fine query;
     }
 
-pub made : (schema own : Schema) (text : List ℕ) (statement : Statement) (c : Compiled) → IsSchema schema → own ≡ schema → IsAcceptedText schema text statement → IsCompiled own statement c → IsMade schema text c
-made schema own text statement c fine e a m = over schema text statement c fine a (subst (λ (s : Schema). IsCompiled s statement c) e m)
+pub made : AcceptedHaveRealColumns → (schema own : Schema) (text : List ℕ) (statement : Statement) (c : Compiled) → IsSchema schema → own ≡ schema → IsAcceptedText schema text statement → IsCompiled own statement c → IsMade schema text c
+made columns schema own text statement c fine e a m = over columns schema text statement c fine a (subst (λ (s : Schema). IsCompiled s statement c) e m)

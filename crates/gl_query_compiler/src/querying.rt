@@ -16,7 +16,9 @@ ghost use Rattle.gl_query_compiler.specs.Texts.{IsCompiledText, IsTextRefused, T
 
 use crate::fault::CompileFault;
 use gl_compiler_text::{Compiled, compile_checked};
+use gl_query::laws::{accepted_have_real_columns, trees_are_alike};
 use gl_query_judge::judge_query;
+use gl_query_reader::laws::statements_are_regular;
 use gl_schema::{Schema, read_schema};
 use std::alloc::Global;
 
@@ -47,6 +49,9 @@ pub fn compile_query(alloc: Global, schema: Schema, query: &[u8]) -> Result<Comp
         → IsQuery schema query.now statement → ⊥)) }
     ensures told { TellsCauses schema query.now result }
 {
+    accepted_have_real_columns();
+    statements_are_regular();
+    trees_are_alike();
     let checked = judge_query(alloc, &schema, query)?;
     Ok(compile_checked(alloc, checked)?)
 }

@@ -8,7 +8,7 @@ use Rattle.gl_query.specs.Shapes.{QueryShape, query_shape}
 use Rattle.gl_query.specs.Sizes.{HasItems}
 use Rattle.gl_query.specs.Trees.{ExprTree, QueryTree, StatementTree, Read, statement_tree}
 use Rattle.gl_query.proofs.Alike.{query_same}
-use Rattle.gl_query.proofs.Real.{real_columns}
+use Rattle.gl_query.specs.Laws.{AcceptedHaveRealColumns}
 use Rattle.gl_query_tokens.specs.declared.token.Join.{Join}
 use Rattle.gl_query_tokens.specs.declared.token.Join.TheVariants as join
 use Rattle.gl_query_reader.specs.declared.written.Grouping.{Grouping}
@@ -133,7 +133,7 @@ statement_has text s h =
     let read : HasItems (query_alike (statement_tree s).query) = subst (λ (m : StatementTree). HasItems (query_alike m.query)) (sym h.means) meant in
     subst (λ (q : QueryShape). HasItems q) (query_same s.query) read
 
-pub have_columns : AcceptedTextsHaveColumns
-have_columns schema text s fine is =
-    let real = real_columns schema (query_shape s.query) fine is.accepted in
+pub have_columns : AcceptedHaveRealColumns → AcceptedTextsHaveColumns
+have_columns columns schema text s fine is =
+    let real = columns schema (query_shape s.query) fine is.accepted in
     record { some' = real.some' (statement_has text s is.has); result = real.result; kinds = real.kinds }

@@ -2,6 +2,8 @@
 
 ghost use Rattle.gl_query_judge.specs.Judged.{AcceptedTextsHaveColumns, TextsHaveOneFault};
 
+use gl_query::laws::accepted_have_real_columns;
+
 /// Over a schema the text of a query has at most one fault, at one place; and where it has one, it has
 /// no statement that is accepted.
 pub fn texts_have_one_fault()
@@ -12,4 +14,6 @@ pub fn texts_have_one_fault()
 /// kinds that are kinds.
 pub fn accepted_texts_have_columns()
     ensures { AcceptedTextsHaveColumns }
-{}
+{
+    accepted_have_real_columns();
+}

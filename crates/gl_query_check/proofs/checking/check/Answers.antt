@@ -13,10 +13,10 @@ returns-in-Ok-copy_of_streams-clause-checked c =
     let none = subst (λ (streams : List Stream). query_fault (record { sources = streams; timed = true }) (query_tree statement.query) ≡ None) c.as_slice.ensures c.in-Ok.ensures.0 in
     let same : c.in-Ok-copy_of_streams.streams ≡ c.args.schema.now.streams = c.in-Ok-copy_of_streams.ensures ∙ c.as_slice-in-Ok.ensures in
     subst (λ (streams : List Stream). IsChecked (record { streams = streams }) statement) (sym same)
-    (checked c.args.schema.now statement c.requires.of_schema c.requires.small none)
+    (checked c.first_faults_are_exact.ensures c.args.schema.now statement c.requires.of_schema c.requires.small none)
 
 pub returns-in-Err-clause-only : goal.returns-in-Err-clause-only
 returns-in-Err-clause-only c =
     let statement = c.args.statement in
     let first = subst (λ (streams : List Stream). IsOr (query_fault (record { sources = streams; timed = true }) (query_tree statement.query)) c.in-Err.fault) c.as_slice.ensures c.in-Err.ensures in
-    only_memory c.args.schema.now statement c.in-Err.fault c.requires.of_schema first
+    only_memory c.first_faults_are_exact.ensures c.args.schema.now statement c.in-Err.fault c.requires.of_schema first
