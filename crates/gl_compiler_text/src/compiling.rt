@@ -22,7 +22,7 @@ use gl_query::Statement;
 use gl_query::columns::copy_of_name;
 use gl_query_check::Checked;
 use gl_schema::{Column, Schema};
-use gl_wiring::{ResultNames, wire_plan};
+use gl_wiring::{ResultNames, Root, wire_plan};
 use std::alloc::Global;
 
 /// A compiled query: the text of its module, its figures and its cost, and what it was made of.
@@ -133,14 +133,17 @@ fn text_of(
         made.text.items made.cost) }
 {
     let names = names_of(alloc, &checked.statement, columns)?;
+    let root = Root {
+        id: planned.root,
+        names,
+    };
     let net = wire_plan(
         alloc,
         &checked.schema,
         &planned.plan,
-        planned.root,
         &planned.figures,
+        &root,
         planned.spare,
-        &names,
     )?;
     let made = emit(alloc, &net)?;
     Ok(made)

@@ -21,16 +21,16 @@ put_root-requires-clause-can c =
     let n1 = c.put_leaves.new.net in
     let n2 = c.put_tick.new.net in
     let ss = c.args.schema.now.streams in
-    let of = (shape_of c.args.plan.now c.args.root).leaves in
+    let of = (shape_of c.args.bare.plan.now c.args.root.now.id).leaves in
     let wires : AreStreamWires n1 ss c.deref.result.now = subst (AreStreamWires n1 ss) (sym c.deref.ensures.value) c.in_ok-leaves.ensures.wires in
-    let line : IsTickLine n2 (reads_time c.args.plan.now) c.in_ok-tick.tick =
+    let line : IsTickLine n2 (reads_time c.args.bare.plan.now) c.in_ok-tick.tick =
     subst (λ (b : Bool). IsTickLine n2 b c.in_ok-tick.tick) c.reads_time.ensures c.in_ok-tick.ensures.line in
     record {
       within = can.within;
       figured = can.figured;
       leaved = leaves_have n2 ss c.deref.result.now of (wires_stay n1 n2 ss c.deref.result.now c.in_ok-tick.ensures.extends wires) can.leaves;
-      ticked = line_there n2 (reads_time c.args.plan.now) c.in_ok-tick.tick line;
-      timed = lines_have n2 (reads_time c.args.plan.now) c.in_ok-tick.tick line of;
+      ticked = line_there n2 (reads_time c.args.bare.plan.now) c.in_ok-tick.tick line;
+      timed = lines_have n2 (reads_time c.args.bare.plan.now) c.in_ok-tick.tick line of;
     }
 
 pub returns-clause-extends : goal.returns-clause-extends
@@ -52,12 +52,12 @@ returns-clause-plan c =
     let n3 = c.put_root.new.net in
     let n4 = c.put_result.new.net in
     let can = c.requires.can in
-    let plan = c.len.ensures.plan in
-    let nodes = c.args.plan.now in
-    let root = c.args.root in
+    let plan = c.args.bare.planned in
+    let nodes = c.args.bare.plan.now in
+    let root = c.args.root.now.id in
     let schema = c.args.schema.now in
     let ss = schema.streams in
-    let names = c.args.names.now.columns in
+    let names = c.args.root.now.names.columns in
     let ls = c.deref.result.now in
     let tick = c.in_ok-tick.tick in
     let ticks = reads_time nodes in
