@@ -18,7 +18,6 @@ use gl_bits::Memory;
 use gl_groups::{Fronted, Grouping};
 use gl_net::NetBuilder;
 use gl_wire::Emitted;
-use std::alloc::Global;
 
 /// A group of a plan: its number, those of its source and its body, the key's column, and how many groups there are.
 #[derive(Clone, Copy)]

@@ -18,7 +18,6 @@ use gl_bits::Memory;
 use gl_net::NetBuilder;
 use gl_partitions::{Fronted, Partitioning};
 use gl_wire::Emitted;
-use std::alloc::Global;
 
 /// Windows of each group of a plan: their number, those of the source and the body, the key's column, how many groups there are, and the
 /// rows of a window.

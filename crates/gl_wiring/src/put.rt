@@ -21,7 +21,7 @@ use crate::time_windows::TimeWindowOf;
 use crate::windows::{Copies, WindowOf};
 use gl_algebra::{PlanId, PlanNode};
 use gl_bits::Memory;
-use gl_net::{Bit, NetBuilder};
+use gl_net::NetBuilder;
 use gl_wire::{Emitted, Wire};
 use std::slice::from_ref;
 

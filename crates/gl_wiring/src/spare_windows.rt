@@ -18,7 +18,6 @@ use gl_bits::Memory;
 use gl_net::NetBuilder;
 use gl_windows_spare::{Fronted, SpareRotation};
 use gl_wire::Emitted;
-use std::alloc::Global;
 
 /// Windows at the root of a plan, with spare copies of their body.
 #[derive(Clone, Copy)]

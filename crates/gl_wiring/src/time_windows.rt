@@ -18,7 +18,6 @@ use gl_bits::Memory;
 use gl_net::{Bit, NetBuilder};
 use gl_windows::{Fronted, TimeRotation};
 use gl_wire::Emitted;
-use std::alloc::Global;
 
 /// A window of time of a plan: its number, those of its source, a stream, and of its body, and its ticks.
 #[derive(Clone, Copy)]

@@ -7,12 +7,12 @@ use Rattle.gl_wiring.proofs.CanLemmas.{first_within, second_within}
 use Rattle.gl_wiring.proofs.PairLemmas.{union_put}
 use Rattle.gl_wiring.proofs.arms.union_node.Goals as goal
 
-pub figures_at-requires-clause-within : goal.figures_at-requires-clause-within
-figures_at-requires-clause-within c =
+pub figures_at-requires : goal.figures_at-requires
+figures_at-requires c =
     first_within c.args.site.plan.now c.args.node.id (Union c.args.node.left c.args.node.right) c.args.site.planned c.requires.node c.args.node.left (c.args.node.right ∷ []) refl
 
-pub figures_at-requires-2-clause-within : goal.figures_at-requires-2-clause-within
-figures_at-requires-2-clause-within c =
+pub figures_at-requires-2 : goal.figures_at-requires-2
+figures_at-requires-2 c =
     second_within c.args.site.plan.now c.args.node.id (Union c.args.node.left c.args.node.right) c.args.site.planned c.requires.node c.args.node.left c.args.node.right refl
 
 pub emit-requires-clause-sound_left : goal.emit-requires-clause-sound_left

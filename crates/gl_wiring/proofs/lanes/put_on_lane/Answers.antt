@@ -39,17 +39,17 @@ pub put_table-requires-clause-first : goal.put_table-requires-clause-first
 put_table-requires-clause-first c =
     rw c.place-place.ensures (c.in_ok-laned.ensures c.args.site.tick c.args.site.leaves.now (taken_gives (c.requires.children _ c.requires.node).0 c.in_ok-below.ensures)).lane.first
 
-pub gathered-requires-clause-lane : goal.gathered-requires-clause-lane
-gathered-requires-clause-lane c =
+pub gather-requires-clause-lane : goal.gather-requires-clause-lane
+gather-requires-clause-lane c =
     lane_there c.args.site.plan.now c.args.group c.args.site.planned c.requires.node c.args.net.now c.lane.new.net c.put_table.new.net c.args.site.tick c.args.site.leaves.now
     c.in_ok-laned.laned c.in_ok-out.ensures.keeps (c.in_ok-laned.ensures c.args.site.tick c.args.site.leaves.now (taken_gives (c.requires.children _ c.requires.node).0 c.in_ok-below.ensures))
 
-pub gathered-requires-clause-slot_width : goal.gathered-requires-clause-slot_width
-gathered-requires-clause-slot_width c =
+pub gather-requires-clause-slot_width : goal.gather-requires-clause-slot_width
+gather-requires-clause-slot_width c =
     c.in_ok-out.ensures.slot_width ∙ ap (λ p. p.slot.width) c.place-place.ensures
     ∙ (c.in_ok-laned.ensures c.args.site.tick c.args.site.leaves.now (taken_gives (c.requires.children _ c.requires.node).0 c.in_ok-below.ensures)).lane.slot_width
 
 pub returns : goal.returns
 returns c =
-    c.gathered.ensures c.args.net.now c.lane.new.net c.args.site.tick c.args.site.leaves.now (c.in_ok-laned.ensures c.args.site.tick c.args.site.leaves.now (taken_gives (c.requires.children _ c.requires.node).0 c.in_ok-below.ensures))
+    c.gather.ensures c.args.net.now c.lane.new.net c.args.site.tick c.args.site.leaves.now (c.in_ok-laned.ensures c.args.site.tick c.args.site.leaves.now (taken_gives (c.requires.children _ c.requires.node).0 c.in_ok-below.ensures))
     c.requires.direct (rw c.place-place.ensures at c.in_ok-out.ensures)

@@ -74,7 +74,7 @@ returns-clause-plan c =
     costs_within nodes root n0 n2 n3 n4 ws plan can.within c.requires.empty nothing put.cost out.cost put.columns.same_widths in
     let shown : Puts n3 n4 (output_ports (widths_of (kinds_of nodes root)) names) =
     subst (λ (z : List ℕ). Puts n3 n4 (output_ports z names)) put.columns.same_widths
-    (subst (λ (z : List (List ℕ)). Puts n3 n4 (output_ports ws z)) c.as_slice.ensures out.ports) in
+    (subst (λ (z : List (List ℕ)). Puts n3 n4 (output_ports ws z)) c.as_slice-names.ensures out.ports) in
     let own : Puts n1 n2 (tick_input ticks) = subst (λ (b : Bool). Puts n1 n2 (tick_input b)) c.reads_time.ensures c.in_ok-tick.ensures.ports in
     let inputs : Puts n0 n2 (input_ports ticks schema) =
     subst (λ (z : List PortShape). Puts n0 n2 z) (inputs_joined ticks schema)
@@ -90,7 +90,7 @@ returns-clause-plan c =
         wires = wires_stay n1 n4 ss ls x wires;
         line = line_stays n2 n4 ticks tick y line;
         serves = λ run r. put.once run (out.extends.runs run r);
-        output = subst (λ (z : List (List ℕ)). IsOutput plain n4 z e) c.as_slice.ensures out.output;
+        output = subst (λ (z : List (List ℕ)). IsOutput plain n4 z e) c.as_slice-names.ensures out.output;
         reset = reset_stays n1 n4 x c.in_ok-leaves.ensures.reset;
       };
       ports = all_put n0 n4 (plan_ports ticks schema (kinds_of nodes root) names) c.requires.empty.ports

@@ -103,7 +103,7 @@ put_window-returns t c =
 
 pub put_time_window-unreachable-requires : goal.put_time_window-unreachable-requires
 put_time_window-unreachable-requires t c =
-    line_is_there c.args.site.plan.now c.args.window c.args.site.planned c.requires.node c.args.site.tick c.in_default-tick.is c.requires.can.timed
+    line_is_there c.args.site.plan.now c.args.window c.args.site.planned c.requires.node c.args.site.tick c.in_default.is c.requires.can.timed
 
 pub put_time_window-circuit_at-requires : goal.put_time_window-circuit_at-requires
 put_time_window-circuit_at-requires t c =

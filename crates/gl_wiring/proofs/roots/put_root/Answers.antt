@@ -29,8 +29,8 @@ put_spare-requires c =
       can = rw at.id c.requires.can;
     }
 
-pub returns-in-Window : goal.returns-in-Window
-returns-in-Window c = rw c.at-window.ensures.id at c.put_spare.ensures
+pub returns : goal.returns
+returns c = rw c.at-window.ensures.id at c.put_spare.ensures
 
 pub unreachable-requires : goal.unreachable-requires
 unreachable-requires c =

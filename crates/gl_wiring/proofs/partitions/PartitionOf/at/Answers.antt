@@ -1,4 +1,4 @@
-use Rattle.std.proofs.Common.{◌∙◌, sym, ap, slice_get, arith}
+use Rattle.std.proofs.Common.{arith}
 use Rattle.std.proofs.lemmas.Option.{slice_get_within}
 use Rattle.gl_algebra.specs.declared.node.PlanNode.TheVariants.{Partition}
 use Rattle.gl_wiring.proofs.partitions.PartitionOf.at.Goals as goal

@@ -1,8 +1,8 @@
 use Rattle.gl_wiring.proofs.PartitionLemmas.{front_put, in_source, key_there, some_gap, source_is_narrow, source_is_sound}
 use Rattle.gl_wiring.proofs.partitions.PartitionOf.front.Goals as goal
 
-pub figures_at-source-requires-clause-within : goal.figures_at-source-requires-clause-within
-figures_at-source-requires-clause-within c = in_source c.args.site.plan.now c.args.self.now c.args.site.planned c.requires.node
+pub figures_at-source-requires : goal.figures_at-source-requires
+figures_at-source-requires c = in_source c.args.site.plan.now c.args.self.now c.args.site.planned c.requires.node
 
 pub put_apart-requires-clause-sound : goal.put_apart-requires-clause-sound
 put_apart-requires-clause-sound c = rw c.figures_at-source.ensures.value (source_is_sound c.args.site.plan.now c.args.self.now c.args.site.planned c.requires.node)
