@@ -25,7 +25,7 @@ use gl_query::columns::kinds_of;
 use gl_query::laws::accepted_have_real_columns;
 use gl_query_check::Checked;
 use gl_schema::{Column, Schema};
-use gl_wiring::wire_plan;
+use gl_wiring::{Root, wire_plan};
 use std::alloc::Global;
 
 /// A compiled query: the text of its module, its figures and its cost, and what it was made of.
@@ -129,14 +129,17 @@ fn text_of(
     plans_tell_time();
     roots_are_right();
     let names = result_names(alloc, &checked.statement, columns)?;
+    let root = Root {
+        id: planned.root,
+        names,
+    };
     let net = wire_plan(
         alloc,
         &checked.schema,
         &planned.plan,
-        planned.root,
         &planned.figures,
+        &root,
         planned.spare,
-        &names,
     )?;
     let made = emit(alloc, &net)?;
     Ok(made)

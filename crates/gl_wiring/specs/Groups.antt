@@ -28,6 +28,10 @@ use Rattle.gl_wiring.specs.Put.{GivesAs}
 abbrev pub IsGroupNode : List PlanNode → GroupOf → Type 0
 IsGroupNode nodes g = slice_get nodes g.id ≡ Some (Group g.source g.body g.key g.groups)
 
+-- a node is a group
+abbrev pub HasGroup : List PlanNode → ℕ → Type 0
+HasGroup nodes id = (g : GroupOf) × (g.id ≡ id) × IsGroupNode nodes g
+
 -- its numbers: a slot, and a copy of its body, for each group that a stream can have
 abbrev pub grouping_of : List PlanNode → GroupOf → Grouping
 grouping_of nodes g = record { key = g.key; slots = g.groups; body = figures_of nodes g.body }

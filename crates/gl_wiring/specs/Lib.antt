@@ -14,6 +14,7 @@ pub mod Copies
 pub mod Groups
 pub mod Partitions
 pub mod Leaves
+pub mod Sites
 pub mod Put
 pub mod Tables
 pub mod Reached

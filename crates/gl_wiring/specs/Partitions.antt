@@ -30,6 +30,10 @@ abbrev pub IsPartitionNode : List PlanNode → PartitionOf → Type 0
 IsPartitionNode nodes p =
     slice_get nodes p.id ≡ Some (Partition p.source p.body p.key p.groups p.size p.advance)
 
+-- a node is windows of each group
+abbrev pub HasPartition : List PlanNode → ℕ → Type 0
+HasPartition nodes id = (p : PartitionOf) × (p.id ≡ id) × IsPartitionNode nodes p
+
 -- their numbers: a slot for each group that a stream can have, and in each as many copies of the body as windows of a
 -- group can be open at once
 abbrev pub partitioning_of : List PlanNode → PartitionOf → Partitioning

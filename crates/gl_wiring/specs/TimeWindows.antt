@@ -1,6 +1,6 @@
 -- Windows of time of a plan in a netlist: the stream, the front with the line of ticks, a circuit of the body behind each
 -- wire of the front, and the back. A beat of a stream brings one row at most, so no spacer stands behind it.
-use Rattle.std.specs.Prelude.{◌≡◌, List, Some, slice_get}
+use Rattle.std.specs.Prelude.{◌≡◌, ℕ, List, Some, slice_get}
 use Rattle.gl_algebra.specs.declared.node.PlanNode.{PlanNode}
 use Rattle.gl_algebra.specs.declared.node.PlanNode.TheVariants.{TimeWindow}
 use Rattle.gl_algebra.specs.FigureTable.{figures_of}
@@ -21,6 +21,10 @@ use Rattle.gl_wiring.specs.Put.{Gives}
 -- a window of time is a node of a plan
 abbrev pub IsTimeWindow : List PlanNode → TimeWindowOf → Type 0
 IsTimeWindow nodes w = slice_get nodes w.id ≡ Some (TimeWindow w.source w.body w.size w.advance)
+
+-- a node is a window of time
+abbrev pub HasTimeWindow : List PlanNode → ℕ → Type 0
+HasTimeWindow nodes id = (w : TimeWindowOf) × (w.id ≡ id) × IsTimeWindow nodes w
 
 -- its rotation
 abbrev pub time_rotation_of : List PlanNode → TimeWindowOf → TimeRotation

@@ -29,6 +29,10 @@ use Rattle.gl_wiring.specs.Put.{GivesAs}
 abbrev pub IsWindow : List PlanNode → WindowOf → Type 0
 IsWindow nodes w = slice_get nodes w.id ≡ Some (Window w.source w.body w.size w.advance)
 
+-- a node is a window
+abbrev pub HasWindow : List PlanNode → ℕ → Type 0
+HasWindow nodes id = (w : WindowOf) × (w.id ≡ id) × IsWindow nodes w
+
 -- the rotation of a window: as many copies of its body as windows can be open at once
 abbrev pub rotation_of : List PlanNode → WindowOf → Rotation
 rotation_of nodes w = record {

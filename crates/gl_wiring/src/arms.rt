@@ -2,14 +2,13 @@
 
 ghost use Rattle.std.specs.Prelude.{◌≡◌, ◌<◌, List, Option, Some, slice_get, IfOk, length};
 ghost use Rattle.gl_algebra.specs.declared.node.PlanNode.TheVariants.{Compute, Select, Project, Aggregate, Union, Beside};
-ghost use Rattle.gl_algebra.specs.FigureTable.{AreSmall, figures_of};
-ghost use Rattle.gl_algebra.specs.Small.{AreFigures};
 ghost use Rattle.gl_net.specs.declared.node.Bit.{Bit as BitOf};
 ghost use Rattle.gl_wire.specs.declared.wire.Wire.{Wire as WireOf};
 ghost use Rattle.gl_wire.specs.Faults.{no_faults};
 ghost use Rattle.gl_wiring.specs.Put.{Gives, HasColumns, IsPutBehind};
 
-use gl_algebra::{Figures, Operands, Ops, Plan, PlanAggs, PlanId};
+use crate::site::Site;
+use gl_algebra::{Operands, Ops, PlanAggs, PlanId};
 use gl_bits::Memory;
 use gl_net::{Buses, NetBuilder};
 use gl_queue::{Joiner, UnionOf};
@@ -17,6 +16,17 @@ use gl_rows::{put_compute, put_project, put_select};
 use gl_totals::put_totals;
 use gl_wire::{Emitted, Faults, Wire};
 use std::alloc::Global;
+
+/// A node over two others.
+#[derive(Clone, Copy)]
+pub(crate) struct OverTwo {
+    /// The node's own number.
+    pub id: PlanId,
+    /// The left one.
+    pub left: PlanId,
+    /// The right one.
+    pub right: PlanId,
+}
 
 /// The wire at a place, without lines.
 pub(crate) fn leaf_of(alloc: Global, leaves: &[Wire], place: usize) -> Result<Emitted, Memory>
@@ -41,168 +51,145 @@ pub(crate) fn leaf_of(alloc: Global, leaves: &[Wire], place: usize) -> Result<Em
     }
 }
 
-// The same figures, each of which fits its 32 bits.
-fn sized(figures: Figures) -> Figures
-    ensures value { result ≡ figures }
-    ensures small { AreSmall result }
-{
-    figures
-}
-
-// The figures of a node.
-pub(crate) fn figures_at(plan: &Plan, figures: &[Figures], id: PlanId) -> Figures
-    requires within { id < length plan.now }
-    requires figures { AreFigures plan.now figures.now }
-    ensures value { result ≡ figures_of plan.now id }
-    ensures small { AreSmall result }
-{
-    // Clauses alone speak of it.
-    let _ = plan;
-    sized(figures[id.number()])
-}
-
 /// The rows of the child with one more column for each operation.
 pub(crate) fn compute_node(
-    alloc: Global,
     net: &mut NetBuilder,
-    plan: &Plan,
+    site: Site<'_>,
     id: PlanId,
     child: PlanId,
     ops: &Ops,
     below: Emitted,
 ) -> Result<Emitted, Memory>
-    requires node { slice_get plan.now id ≡ Some (Compute child ops.now) }
-    requires below { HasColumns plan.now child net.old below }
-    ensures { (tick : Option BitOf) (leaves : List WireOf)
-        → Gives plan.now child net.old tick leaves below
-        → IfOk result (λ e. IsPutBehind plan.now id net.old net.new tick leaves e) }
+    requires node { slice_get site.plan.now id ≡ Some (Compute child ops.now) }
+    requires below { HasColumns site.plan.now child net.old below }
+    ensures { let s = site.entry in (tick : Option BitOf) (leaves : List WireOf)
+        → Gives s.plan.now child net.old tick leaves below
+        → IfOk result (λ e. IsPutBehind s.plan.now id net.old net.new tick leaves e) }
 {
-    // What `len` ensures of it is what the goals below ask for.
-    let _ = plan.len();
     // Named, since a goal speaks of the value.
-    let e = put_compute(alloc, net, below, plan.kinds(child), ops.as_slice())?;
+    let e = put_compute(
+        site.alloc,
+        net,
+        below,
+        site.plan.kinds(child),
+        ops.as_slice(),
+    )?;
     Ok(e)
 }
 
 /// The rows of the child whose column is 1.
 pub(crate) fn select_node(
-    alloc: Global,
     net: &mut NetBuilder,
-    plan: &Plan,
+    site: Site<'_>,
     id: PlanId,
     child: PlanId,
     column: u16,
     below: Emitted,
 ) -> Result<Emitted, Memory>
-    requires node { slice_get plan.now id ≡ Some (Select child column) }
-    requires below { HasColumns plan.now child net.old below }
-    ensures { (tick : Option BitOf) (leaves : List WireOf)
-        → Gives plan.now child net.old tick leaves below
-        → IfOk result (λ e. IsPutBehind plan.now id net.old net.new tick leaves e) }
+    requires node { slice_get site.plan.now id ≡ Some (Select child column) }
+    requires below { HasColumns site.plan.now child net.old below }
+    ensures { let s = site.entry in (tick : Option BitOf) (leaves : List WireOf)
+        → Gives s.plan.now child net.old tick leaves below
+        → IfOk result (λ e. IsPutBehind s.plan.now id net.old net.new tick leaves e) }
 {
-    let _ = plan.len();
-    let e = put_select(alloc, net, below, usize::from(column))?;
+    let e = put_select(site.alloc, net, below, usize::from(column))?;
     Ok(e)
 }
 
 /// Of each row of the child these values.
 pub(crate) fn project_node(
-    alloc: Global,
     net: &mut NetBuilder,
-    plan: &Plan,
+    site: Site<'_>,
     id: PlanId,
     child: PlanId,
     items: &Operands,
     below: Emitted,
 ) -> Result<Emitted, Memory>
-    requires node { slice_get plan.now id ≡ Some (Project child items.now) }
-    requires below { HasColumns plan.now child net.old below }
-    ensures { (tick : Option BitOf) (leaves : List WireOf)
-        → Gives plan.now child net.old tick leaves below
-        → IfOk result (λ e. IsPutBehind plan.now id net.old net.new tick leaves e) }
+    requires node { slice_get site.plan.now id ≡ Some (Project child items.now) }
+    requires below { HasColumns site.plan.now child net.old below }
+    ensures { let s = site.entry in (tick : Option BitOf) (leaves : List WireOf)
+        → Gives s.plan.now child net.old tick leaves below
+        → IfOk result (λ e. IsPutBehind s.plan.now id net.old net.new tick leaves e) }
 {
-    let _ = plan.len();
-    let e = put_project(alloc, net, below, plan.kinds(child), items.as_slice())?;
+    let e = put_project(
+        site.alloc,
+        net,
+        below,
+        site.plan.kinds(child),
+        items.as_slice(),
+    )?;
     Ok(e)
 }
 
 /// One row with each end: the aggregates over the rows of the child.
 pub(crate) fn aggregate_node(
-    alloc: Global,
     net: &mut NetBuilder,
-    plan: &Plan,
+    site: Site<'_>,
     id: PlanId,
     child: PlanId,
     aggs: &PlanAggs,
     below: Emitted,
 ) -> Result<Emitted, Memory>
-    requires node { slice_get plan.now id ≡ Some (Aggregate child aggs.now) }
-    requires below { HasColumns plan.now child net.old below }
-    ensures { (tick : Option BitOf) (leaves : List WireOf)
-        → Gives plan.now child net.old tick leaves below
-        → IfOk result (λ e. IsPutBehind plan.now id net.old net.new tick leaves e) }
+    requires node { slice_get site.plan.now id ≡ Some (Aggregate child aggs.now) }
+    requires below { HasColumns site.plan.now child net.old below }
+    ensures { let s = site.entry in (tick : Option BitOf) (leaves : List WireOf)
+        → Gives s.plan.now child net.old tick leaves below
+        → IfOk result (λ e. IsPutBehind s.plan.now id net.old net.new tick leaves e) }
 {
-    let _ = plan.len();
-    let e = put_totals(alloc, net, below, plan.kinds(child), aggs.as_slice())?;
+    let e = put_totals(
+        site.alloc,
+        net,
+        below,
+        site.plan.kinds(child),
+        aggs.as_slice(),
+    )?;
     Ok(e)
 }
 
 /// The rows of both children in one stream, a left row first where both wait.
 pub(crate) fn union_node(
-    alloc: Global,
     net: &mut NetBuilder,
-    plan: &Plan,
-    figures: &[Figures],
-    id: PlanId,
-    left: PlanId,
-    right: PlanId,
+    site: Site<'_>,
+    node: OverTwo,
     first: Emitted,
     second: Emitted,
 ) -> Result<Emitted, Memory>
-    requires node { slice_get plan.now id ≡ Some (Union left right) }
-    requires figures { AreFigures plan.now figures.now }
-    requires first { HasColumns plan.now left net.old first }
-    requires second { HasColumns plan.now right net.old second }
-    ensures { (tick : Option BitOf) (leaves : List WireOf)
-        → Gives plan.now left net.old tick leaves first
-        → Gives plan.now right net.old tick leaves second
-        → IfOk result (λ e. IsPutBehind plan.now id net.old net.new tick leaves e) }
+    requires node { slice_get site.plan.now node.id ≡ Some (Union node.left node.right) }
+    requires first { HasColumns site.plan.now node.left net.old first }
+    requires second { HasColumns site.plan.now node.right net.old second }
+    ensures { let s = site.entry in (tick : Option BitOf) (leaves : List WireOf)
+        → Gives s.plan.now node.left net.old tick leaves first
+        → Gives s.plan.now node.right net.old tick leaves second
+        → IfOk result (λ e. IsPutBehind s.plan.now node.id net.old net.new tick leaves e) }
 {
-    let _ = plan.len();
     let sides = UnionOf {
-        left: figures_at(plan, figures, left),
-        right: figures_at(plan, figures, right),
+        left: site.figures_at(node.left),
+        right: site.figures_at(node.right),
     };
-    let e = sides.emit(alloc, net, first, second)?;
+    let e = sides.emit(site.alloc, net, first, second)?;
     Ok(e)
 }
 
 /// The rows of both children side by side.
 pub(crate) fn beside_node(
-    alloc: Global,
     net: &mut NetBuilder,
-    plan: &Plan,
-    figures: &[Figures],
-    id: PlanId,
-    left: PlanId,
-    right: PlanId,
+    site: Site<'_>,
+    node: OverTwo,
     first: Emitted,
     second: Emitted,
 ) -> Result<Emitted, Memory>
-    requires node { slice_get plan.now id ≡ Some (Beside left right) }
-    requires figures { AreFigures plan.now figures.now }
-    requires first { HasColumns plan.now left net.old first }
-    requires second { HasColumns plan.now right net.old second }
-    ensures { (tick : Option BitOf) (leaves : List WireOf)
-        → Gives plan.now left net.old tick leaves first
-        → Gives plan.now right net.old tick leaves second
-        → IfOk result (λ e. IsPutBehind plan.now id net.old net.new tick leaves e) }
+    requires node { slice_get site.plan.now node.id ≡ Some (Beside node.left node.right) }
+    requires first { HasColumns site.plan.now node.left net.old first }
+    requires second { HasColumns site.plan.now node.right net.old second }
+    ensures { let s = site.entry in (tick : Option BitOf) (leaves : List WireOf)
+        → Gives s.plan.now node.left net.old tick leaves first
+        → Gives s.plan.now node.right net.old tick leaves second
+        → IfOk result (λ e. IsPutBehind s.plan.now node.id net.old net.new tick leaves e) }
 {
-    let _ = plan.len();
     let sides = Joiner {
-        left: figures_at(plan, figures, left),
-        right: figures_at(plan, figures, right),
+        left: site.figures_at(node.left),
+        right: site.figures_at(node.right),
     };
-    let e = sides.emit(alloc, net, first, second)?;
+    let e = sides.emit(site.alloc, net, first, second)?;
     Ok(e)
 }

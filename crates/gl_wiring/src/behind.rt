@@ -6,14 +6,15 @@ ghost use Rattle.gl_wiring.specs.Put.{CanPut, IsPutBehind};
 ghost use Rattle.gl_wiring.specs.Tables.{HaveChildren};
 
 use crate::arms::{
-    aggregate_node, beside_node, compute_node, leaf_of, project_node, select_node, union_node,
+    OverTwo, aggregate_node, beside_node, compute_node, leaf_of, project_node, select_node,
+    union_node,
 };
-use crate::tables::taken;
-use gl_algebra::{Figures, Plan, PlanId, PlanNode};
+use crate::site::Site;
+use crate::tables::circuit_at;
+use gl_algebra::{PlanId, PlanNode};
 use gl_bits::Memory;
-use gl_net::{Bit, NetBuilder};
-use gl_wire::{Emitted, Wire};
-use std::alloc::Global;
+use gl_net::NetBuilder;
+use gl_wire::Emitted;
 
 /// Whether a node is put over copies of a body.
 pub(crate) fn is_over(node: &PlanNode) -> bool
@@ -30,55 +31,62 @@ pub(crate) fn is_over(node: &PlanNode) -> bool
 
 /// Adds the circuit of a node without a body behind those of its children, which are in the table.
 pub(crate) fn put_behind(
-    alloc: Global,
     net: &mut NetBuilder,
-    plan: &Plan,
-    figures: &[Figures],
+    site: Site<'_>,
     id: PlanId,
-    tick: Option<Bit>,
-    leaves: &[Wire],
     table: &[Option<Emitted>],
 ) -> Result<Emitted, Memory>
-    requires alone { option_map is_over (slice_get plan.now id) ≡ Some false }
-    requires can { CanPut plan.now figures.now id net.old tick leaves.now }
-    requires children { HaveChildren plan.now id net.old tick leaves.now table.now }
-    ensures { IfOk result (λ e. IsPutBehind plan.now id net.old net.new tick leaves.now e) }
+    requires alone { option_map is_over (slice_get site.plan.now id) ≡ Some false }
+    requires can { CanPut site.plan.now site.figures.now id net.old site.tick site.leaves.now }
+    requires children { HaveChildren site.plan.now id net.old site.tick site.leaves.now table.now }
+    ensures { let s = site.entry in
+        IfOk result (λ e. IsPutBehind s.plan.now id net.old net.new s.tick s.leaves.now e) }
 {
-    match plan.node(id) {
+    match site.plan.node(id) {
         PlanNode::Stream(number, _) => {
             // Named, since a goal speaks of the value.
-            let e = leaf_of(alloc, leaves, usize::from(*number))?;
+            let e = leaf_of(site.alloc, site.leaves, usize::from(*number))?;
             Ok(e)
         }
         PlanNode::Body(_) => {
-            let e = leaf_of(alloc, leaves, 0)?;
+            let e = leaf_of(site.alloc, site.leaves, 0)?;
             Ok(e)
         }
         PlanNode::Compute { child, ops } => {
-            let below = taken(alloc, table, *child)?;
-            compute_node(alloc, net, plan, id, *child, ops, below)
+            let below = circuit_at(site.alloc, table, *child)?;
+            compute_node(net, site, id, *child, ops, below)
         }
         PlanNode::Select { child, column } => {
-            let below = taken(alloc, table, *child)?;
-            select_node(alloc, net, plan, id, *child, *column, below)
+            let below = circuit_at(site.alloc, table, *child)?;
+            select_node(net, site, id, *child, *column, below)
         }
         PlanNode::Project { child, items } => {
-            let below = taken(alloc, table, *child)?;
-            project_node(alloc, net, plan, id, *child, items, below)
+            let below = circuit_at(site.alloc, table, *child)?;
+            project_node(net, site, id, *child, items, below)
         }
         PlanNode::Aggregate { child, aggs } => {
-            let below = taken(alloc, table, *child)?;
-            aggregate_node(alloc, net, plan, id, *child, aggs, below)
+            let below = circuit_at(site.alloc, table, *child)?;
+            aggregate_node(net, site, id, *child, aggs, below)
         }
         PlanNode::Union { left, right } => {
-            let first = taken(alloc, table, *left)?;
-            let second = taken(alloc, table, *right)?;
-            union_node(alloc, net, plan, figures, id, *left, *right, first, second)
+            let first = circuit_at(site.alloc, table, *left)?;
+            let second = circuit_at(site.alloc, table, *right)?;
+            let sides = OverTwo {
+                id,
+                left: *left,
+                right: *right,
+            };
+            union_node(net, site, sides, first, second)
         }
         PlanNode::Beside { left, right } => {
-            let first = taken(alloc, table, *left)?;
-            let second = taken(alloc, table, *right)?;
-            beside_node(alloc, net, plan, figures, id, *left, *right, first, second)
+            let first = circuit_at(site.alloc, table, *left)?;
+            let second = circuit_at(site.alloc, table, *right)?;
+            let sides = OverTwo {
+                id,
+                left: *left,
+                right: *right,
+            };
+            beside_node(net, site, sides, first, second)
         }
         _ => unreachable!(),
     }

@@ -5,65 +5,39 @@ ghost use Rattle.gl_wiring.specs.Put.{CanPut, IsPut};
 ghost use Rattle.gl_wiring.specs.Reached.{AreReached, CanPutAll};
 
 use crate::put::put_marked;
-use crate::tables::{Table, taken};
-use gl_algebra::{Figures, Plan, PlanId};
+use crate::site::Site;
+use crate::tables::{Table, circuit_at};
+use gl_algebra::PlanId;
 use gl_bits::Memory;
-use gl_net::{Bit, NetBuilder};
+use gl_net::NetBuilder;
 use gl_reach::marks_of;
-use gl_wire::{Emitted, Wire};
-use std::alloc::Global;
+use gl_wire::Emitted;
 use std::slice::from_ref;
 
 /// Adds the circuits of all that some roots reach, each node once, and gives them by the numbers of their nodes.
 ///
-/// The figures are those of all nodes, as `gl_figures` writes them. The leaves are the wires of the streams, by the streams' numbers;
-/// a body's input is the wire at place 0. Where a plan over streams reads the time, `tick` is the line of ticks. Want of memory is the one
-/// other answer; what the builder then holds is not said.
-pub fn put_reached(
-    alloc: Global,
-    net: &mut NetBuilder,
-    plan: &Plan,
-    figures: &[Figures],
-    roots: &[PlanId],
-    tick: Option<Bit>,
-    leaves: &[Wire],
-) -> Result<Table, Memory>
-    requires { CanPutAll plan.now figures.now roots.now net.old tick leaves.now }
-    ensures { IfOk result (λ table.
-        AreReached plan.now roots.now net.old net.new tick leaves.now table.items) }
+/// Where a plan over streams reads the time, the site has a line of ticks. Want of memory is the one other answer; what the builder then
+/// holds is not said.
+pub fn put_reached(net: &mut NetBuilder, site: Site<'_>, roots: &[PlanId]) -> Result<Table, Memory>
+    requires { CanPutAll site.plan.now site.figures.now roots.now net.old site.tick
+        site.leaves.now }
+    ensures { let s = site.entry in IfOk result (λ table.
+        AreReached s.plan.now roots.now net.old net.new s.tick s.leaves.now table.items) }
 {
-    let limit = plan.len();
-    let marks = marks_of(alloc, plan, roots)?;
+    let limit = site.plan.len();
+    let marks = marks_of(site.alloc, site.plan, roots)?;
     // Named, since a goal speaks of the value.
-    let table = put_marked(
-        alloc,
-        net,
-        plan,
-        figures,
-        marks.as_slice(),
-        limit,
-        tick,
-        leaves,
-    )?;
+    let table = put_marked(net, site, marks.as_slice(), limit)?;
     Ok(table)
 }
 
 /// The same for one root: adds the circuits of a node and of all below it, and gives the node's wire and its lines.
-pub fn put_circuit(
-    alloc: Global,
-    net: &mut NetBuilder,
-    plan: &Plan,
-    figures: &[Figures],
-    id: PlanId,
-    tick: Option<Bit>,
-    leaves: &[Wire],
-) -> Result<Emitted, Memory>
-    requires { CanPut plan.now figures.now id net.old tick leaves.now }
-    ensures { IfOk result (λ e. IsPut plan.now id net.old net.new tick leaves.now e) }
+pub fn put_circuit(net: &mut NetBuilder, site: Site<'_>, id: PlanId) -> Result<Emitted, Memory>
+    requires { CanPut site.plan.now site.figures.now id net.old site.tick site.leaves.now }
+    ensures { let s = site.entry in
+        IfOk result (λ e. IsPut s.plan.now id net.old net.new s.tick s.leaves.now e) }
 {
-    // What `len` ensures of it is what the goals below ask for.
-    let _ = plan.len();
-    let table = put_reached(alloc, net, plan, figures, from_ref(&id), tick, leaves)?;
-    let e = taken(alloc, table.as_slice(), id)?;
+    let table = put_reached(net, site, from_ref(&id))?;
+    let e = circuit_at(site.alloc, table.as_slice(), id)?;
     Ok(e)
 }

@@ -5,7 +5,6 @@ ghost use Rattle.gl_algebra.specs.declared.node.PlanAgg.{PlanAgg as PlanAggOf};
 ghost use Rattle.gl_algebra.specs.declared.node.PlanNode.TheVariants.{Aggregate};
 ghost use Rattle.gl_algebra.specs.Direct.{form_of, is_direct};
 ghost use Rattle.gl_algebra.specs.Shapes.{kinds_of, shape_of};
-ghost use Rattle.gl_algebra.specs.Small.{AreFigures};
 ghost use Rattle.gl_groups.specs.Picks.{bits_of_slots};
 ghost use Rattle.gl_net.specs.declared.node.Bit.{Bit as BitOf};
 ghost use Rattle.gl_net.specs.Net.{Net, IsBit, IsBus};
@@ -19,20 +18,19 @@ ghost use Rattle.gl_wiring.specs.Leaves.{HaveLeaves};
 ghost use Rattle.gl_wiring.specs.Put.{CanPut, Gives, HasColumns, IsPutBehind};
 ghost use Rattle.gl_wiring.specs.Tables.{HaveChildren};
 
-use crate::arms::figures_at;
 use crate::groups::GroupOf;
 use crate::rows::{Place, put_rows};
-use crate::tables::taken;
+use crate::site::Site;
+use crate::tables::circuit_at;
 use crate::windows::put_apart;
 use gl_algebra::columns::kind_of_agg;
-use gl_algebra::{Figures, Plan, PlanAgg, PlanId, PlanNode};
+use gl_algebra::{PlanAgg, PlanId, PlanNode};
 use gl_bits::{Kind, Memory};
 use gl_groups::Lane;
-use gl_net::{Bit, NetBuilder};
+use gl_net::NetBuilder;
 use gl_totals::table::Table;
 use gl_wire::{Emitted, Faults, Wire, both_faults};
 use gl_wire_lanes::TableOut;
-use std::alloc::Global;
 
 /// A lane behind a group's source.
 #[derive(Drop)]
@@ -58,32 +56,32 @@ impl Laned {
 /// The totals of a direct body behind a lane, which is its input.
 #[tactic(auto, using(crate::proofs::LaneRowLemmas::rows_there))]
 pub(crate) fn put_table(
-    alloc: Global,
     net: &mut NetBuilder,
-    plan: &Plan,
+    site: Site<'_>,
     body: PlanId,
     lane: &Wire,
     place: Place,
 ) -> Result<TableOut, Memory>
-    requires within { body < length plan.now }
-    requires direct { is_direct (form_of plan.now body) ≡ true }
-    requires leaves { HaveLeaves net.old (lane.now ∷ []) (shape_of plan.now body).leaves }
+    requires within { body < length site.plan.now }
+    requires direct { is_direct (form_of site.plan.now body) ≡ true }
+    requires leaves { HaveLeaves net.old (lane.now ∷ []) (shape_of site.plan.now body).leaves }
     requires slot { IsBus net.old place.slot }
     requires bits { 1 ≤ place.slot.width }
     requires few { place.slot.width ≤ 8 }
     requires first { IsBit net.old place.first }
-    ensures { IfOk result (IsBodyTable plan.now body net.old net.new lane.now place) }
+    ensures { let s = site.entry in
+        IfOk result (IsBodyTable s.plan.now body net.old net.new lane.now place) }
 {
-    match plan.node(body) {
+    match site.plan.node(body) {
         PlanNode::Aggregate { child, aggs } => {
-            let below = put_rows(alloc, net, plan, *child, lane, place)?;
+            let below = put_rows(net, site, *child, lane, place)?;
             let table = Table {
-                kinds: plan.kinds(*child),
+                kinds: site.plan.kinds(*child),
                 aggs: aggs.as_slice(),
             };
             let behind = below.place;
             // Named, since a goal speaks of the value.
-            let out = table.emit(alloc, net, &below.rows.wire, behind.slot, behind.first)?;
+            let out = table.emit(site.alloc, net, &below.rows.wire, behind.slot, behind.first)?;
             Ok(out)
         }
         _ => unreachable!(),
@@ -115,16 +113,15 @@ fn has_room(kinds: &[Kind], aggs: &[PlanAgg], key: u64) -> bool
 
 impl GroupOf {
     // Whether a memory has room for keys of so many bits.
-    fn stores(&self, plan: &Plan, key: u8) -> bool
-        requires node { IsGroupNode plan.now self.now }
-        ensures { (child : ℕ) (aggs : List PlanAggOf)
-            → slice_get plan.now self.now.body ≡ Some (Aggregate child aggs)
-            → result ≡ has_room (kinds_of plan.now child) aggs key }
+    fn stores(&self, site: Site<'_>, key: u8) -> bool
+        requires node { IsGroupNode site.plan.now self.now }
+        ensures { let s = site.entry in (child : ℕ) (aggs : List PlanAggOf)
+            → slice_get s.plan.now self.now.body ≡ Some (Aggregate child aggs)
+            → result ≡ has_room (kinds_of s.plan.now child) aggs key }
     {
-        let _ = plan.len();
-        match plan.node(self.body) {
+        match site.plan.node(self.body) {
             PlanNode::Aggregate { child, aggs } => {
-                has_room(plan.kinds(*child), aggs.as_slice(), u64::from(key))
+                has_room(site.plan.kinds(*child), aggs.as_slice(), u64::from(key))
             }
             _ => false,
         }
@@ -133,24 +130,20 @@ impl GroupOf {
     /// The source's rows far enough apart for the body, and the lane behind them.
     pub(crate) fn lane(
         &self,
-        alloc: Global,
         net: &mut NetBuilder,
-        plan: &Plan,
-        figures: &[Figures],
+        site: Site<'_>,
         below: Emitted,
     ) -> Result<Laned, Memory>
-        requires node { IsGroupNode plan.now self.now }
-        requires figures { AreFigures plan.now figures.now }
-        requires below { HasColumns plan.now self.now.source net.old below }
-        ensures { (tick : Option BitOf) (leaves : List WireOf)
-            → Gives plan.now self.now.source net.old tick leaves below
-            → IfOk result (λ l. IsGroupLane plan.now self.now net.old net.new tick leaves l) }
+        requires node { IsGroupNode site.plan.now self.now }
+        requires below { HasColumns site.plan.now self.now.source net.old below }
+        ensures { let s = site.entry in (tick : Option BitOf) (leaves : List WireOf)
+            → Gives s.plan.now self.now.source net.old tick leaves below
+            → IfOk result (λ l. IsGroupLane s.plan.now self.now net.old net.new tick leaves l) }
     {
-        let _ = plan.len();
-        let grouping = self.grouping(plan, figures);
-        let source = figures_at(plan, figures, self.source);
-        let apart = put_apart(alloc, net, source, grouping.body.gt, below)?;
-        let lane = grouping.lane(alloc, net, &apart.wire)?;
+        let grouping = self.grouping(site);
+        let source = site.figures_at(self.source);
+        let apart = put_apart(site.alloc, net, source, grouping.body.gt, below)?;
+        let lane = grouping.lane(site.alloc, net, &apart.wire)?;
         Ok(Laned {
             source: apart,
             lane,
@@ -158,32 +151,28 @@ impl GroupOf {
     }
 
     /// The keys in front of the totals of a direct body, the group's ends, and all lines.
-    pub(crate) fn gathered(
+    pub(crate) fn gather(
         &self,
-        alloc: Global,
         net: &mut NetBuilder,
-        plan: &Plan,
-        figures: &[Figures],
+        site: Site<'_>,
         laned: &Laned,
         out: &TableOut,
     ) -> Result<Emitted, Memory>
-        requires node { IsGroupNode plan.now self.now }
-        requires figures { AreFigures plan.now figures.now }
+        requires node { IsGroupNode site.plan.now self.now }
         requires lane { HasLane net.old self.now.groups laned.now }
         requires wire { IsWire net.old out.now.wire }
         requires slot { IsBus net.old out.now.slot }
         requires slot_width { out.now.slot.width ≡ bits_of_slots self.now.groups }
-        ensures { (old mid : Net) (tick : Option BitOf) (leaves : List WireOf)
-            → IsGroupLane plan.now self.now old mid tick leaves laned.now
-            → is_direct (form_of plan.now self.now.body) ≡ true
-            → IsBodyTable plan.now self.now.body mid net.old
+        ensures { let s = site.entry in (old mid : Net) (tick : Option BitOf) (leaves : List WireOf)
+            → IsGroupLane s.plan.now self.now old mid tick leaves laned.now
+            → is_direct (form_of s.plan.now self.now.body) ≡ true
+            → IsBodyTable s.plan.now self.now.body mid net.old
             laned.now.lane.wire (place_of laned.now.lane) out.now
-            → IfOk result (λ e. IsPutBehind plan.now self.now.id old net.new tick leaves e) }
+            → IfOk result (λ e. IsPutBehind s.plan.now self.now.id old net.new tick leaves e) }
     {
-        let _ = plan.len();
-        let grouping = self.grouping(plan, figures);
-        let stored = self.stores(plan, laned.lane.here.width);
-        let wire = grouping.gather(alloc, net, &laned.lane, out, stored)?;
+        let grouping = self.grouping(site);
+        let stored = self.stores(site, laned.lane.here.width);
+        let wire = grouping.gather(site.alloc, net, &laned.lane, out, stored)?;
         let own = Faults {
             passed: None,
             further: Some(laned.lane.further),
@@ -196,25 +185,23 @@ impl GroupOf {
 /// Adds the circuit of a group whose body is direct: one lane for all slots behind its source, the body once, and the keys in front of its
 /// totals.
 pub(crate) fn put_on_lane(
-    alloc: Global,
     net: &mut NetBuilder,
-    plan: &Plan,
-    figures: &[Figures],
+    site: Site<'_>,
     group: GroupOf,
-    tick: Option<Bit>,
-    leaves: &[Wire],
     table: &[Option<Emitted>],
 ) -> Result<Emitted, Memory>
-    requires node { IsGroupNode plan.now group }
-    requires can { CanPut plan.now figures.now group.id net.old tick leaves.now }
-    requires children { HaveChildren plan.now group.id net.old tick leaves.now table.now }
-    requires direct { is_direct (form_of plan.now group.body) ≡ true }
-    ensures { IfOk result (λ e. IsPutBehind plan.now group.id net.old net.new tick leaves.now e) }
+    requires node { IsGroupNode site.plan.now group }
+    requires can { CanPut site.plan.now site.figures.now group.id net.old site.tick
+        site.leaves.now }
+    requires children { HaveChildren site.plan.now group.id net.old site.tick site.leaves.now
+        table.now }
+    requires direct { is_direct (form_of site.plan.now group.body) ≡ true }
+    ensures { let s = site.entry in IfOk result (λ e.
+        IsPutBehind s.plan.now group.id net.old net.new s.tick s.leaves.now e) }
 {
-    let _ = plan.len();
-    let below = taken(alloc, table, group.source)?;
-    let laned = group.lane(alloc, net, plan, figures, below)?;
+    let below = circuit_at(site.alloc, table, group.source)?;
+    let laned = group.lane(net, site, below)?;
     let place = laned.place();
-    let out = put_table(alloc, net, plan, group.body, &laned.lane.wire, place)?;
-    group.gathered(alloc, net, plan, figures, &laned, &out)
+    let out = put_table(net, site, group.body, &laned.lane.wire, place)?;
+    group.gather(net, site, &laned, &out)
 }

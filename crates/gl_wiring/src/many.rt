@@ -12,7 +12,8 @@ use crate::circuits::put_reached;
 use crate::leaves::{put_leaves, put_tick};
 use crate::names::{Face, ResultNames};
 use crate::output::put_result;
-use crate::tables::taken;
+use crate::site::Site;
+use crate::tables::circuit_at;
 use gl_algebra::{Figures, Plan, PlanId};
 use gl_bits::Memory;
 use gl_net::{NetBuilder, Netlist};
@@ -23,7 +24,9 @@ use std::alloc::Global;
 /// A node of a plan, and what its result is called.
 #[derive(Drop, Debug)]
 pub struct Root {
+    /// The node.
     pub id: PlanId,
+    /// The names of its result and of the result's columns.
     pub names: ResultNames,
 }
 
@@ -50,41 +53,39 @@ fn face_of(alloc: Global, names: &ResultNames) -> Result<Face, Memory>
 
 // The output of a root, behind the root's circuit in the table.
 fn put_root_result(
-    alloc: Global,
     net: &mut NetBuilder,
-    plan: &Plan,
+    site: Site<'_>,
     table: &[Option<Emitted>],
     root: &Root,
 ) -> Result<(), Memory>
-    requires within { root.now.id < length plan.now }
-    requires can { CanShow plan.now net.old table.now root.now }
-    ensures { OnOk result (AreShownBy plan.now table.now net.old net.new (root.now ∷ [])) }
+    requires within { root.now.id < length site.plan.now }
+    requires can { CanShow site.plan.now net.old table.now root.now }
+    ensures { let s = site.entry in
+        OnOk result (AreShownBy s.plan.now table.now net.old net.new (root.now ∷ [])) }
 {
-    // What `len` ensures of it is what the goals below ask for.
-    let _ = plan.len();
-    let e = taken(alloc, table, root.id)?;
-    let face = face_of(alloc, &root.names)?;
-    put_result(alloc, net, &e, &face, root.names.columns.as_slice())?;
+    let e = circuit_at(site.alloc, table, root.id)?;
+    let face = face_of(site.alloc, &root.names)?;
+    put_result(site.alloc, net, &e, &face, root.names.columns.as_slice())?;
     Ok(())
 }
 
 // Those of all roots, one after the other.
 fn put_results(
-    alloc: Global,
     net: &mut NetBuilder,
-    plan: &Plan,
+    site: Site<'_>,
     table: &[Option<Emitted>],
     roots: &[Root],
 ) -> Result<(), Memory>
-    requires within { AllByRecursion (λ r. r.id < length plan.now) roots.now }
-    requires can { AllByRecursion (CanShow plan.now net.old table.now) roots.now }
-    ensures { OnOk result (AreShownBy plan.now table.now net.old net.new roots.now) }
+    requires within { AllByRecursion (λ r. r.id < length site.plan.now) roots.now }
+    requires can { AllByRecursion (CanShow site.plan.now net.old table.now) roots.now }
+    ensures { let s = site.entry in
+        OnOk result (AreShownBy s.plan.now table.now net.old net.new roots.now) }
 {
     let Some((root, others)) = roots.split_first() else {
         return Ok(());
     };
-    put_root_result(alloc, net, plan, table, root)?;
-    put_results(alloc, net, plan, table, others)?;
+    put_root_result(net, site, table, root)?;
+    put_results(net, site, table, others)?;
     Ok(())
 }
 
@@ -102,13 +103,20 @@ fn put_many(
     ensures extends { OnOk result (Extends net.old net.new) }
     ensures plan { OnOk result (IsManyNet schema.now plan.now roots.now net.new) }
 {
-    // What `len` ensures of it is what the goals below ask for.
+    // That its nodes are a plan, which a site keeps.
     let _ = plan.len();
     let leaves = put_leaves(alloc, net, schema)?;
     let tick = put_tick(net, plan.reads_time())?;
     let ids = ids_of(alloc, roots)?;
-    let table = put_reached(alloc, net, plan, figures, &ids, tick, &leaves)?;
-    put_results(alloc, net, plan, &table, roots)?;
+    let site = Site {
+        alloc,
+        plan,
+        figures,
+        tick,
+        leaves: &leaves,
+    };
+    let table = put_reached(net, site, &ids)?;
+    put_results(net, site, &table, roots)?;
     Ok(())
 }
 

@@ -11,7 +11,9 @@ use std::alloc::Global;
 /// The names of a result: that behind INTO, and those of its columns in order.
 #[derive(Drop, Debug)]
 pub struct ResultNames {
+    /// The name behind INTO.
     pub into: NameText,
+    /// Those of the columns.
     pub columns: Listed<NameText>,
 }
 

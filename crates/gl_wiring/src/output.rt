@@ -120,26 +120,34 @@ fn put_columns(
     Ok(())
 }
 
+// The two lines that stand beside a result.
+#[derive(Clone, Copy)]
+struct ResultLines {
+    // 1 from the cycle on in which a further group is told of.
+    group: Bit,
+    // 1 from the cycle on in which a passed queue is told of.
+    queue: Bit,
+}
+
 // The output ports of a wire and of two lines.
 fn put_ports(
     alloc: Global,
     net: &mut NetBuilder,
     wire: &Wire,
-    group: Bit,
-    queue: Bit,
+    lines: ResultLines,
     face: &Face,
     names: &[NameText],
 ) -> Result<(), Memory>
     requires lengths { length names.now ≡ length (widths wire.now.columns) }
     requires wire { IsWire net.old wire.now }
-    requires group { IsBit net.old group }
-    requires queue { IsBit net.old queue }
+    requires group { IsBit net.old lines.group }
+    requires queue { IsBit net.old lines.queue }
     ensures extends { OnOk result (Extends net.old net.new) }
     ensures ports { OnOk result (Puts net.old net.new
         (result_outputs (naming_of face.now) (widths wire.now.columns) names.now)) }
     ensures cost { OnOk result (CostsNothing net.old net.new) }
-    ensures shows { OnOk result (Shows (naming_of face.now) net.new names.now wire.now group
-        queue) }
+    ensures shows { OnOk result (Shows (naming_of face.now) net.new names.now wire.now
+        lines.group lines.queue) }
 {
     let valid_name = out_name(alloc, face, b"valid")?;
     let end_name = out_name(alloc, face, b"eos")?;
@@ -149,8 +157,8 @@ fn put_ports(
     let columns = wire.columns.as_slice();
     put_columns(alloc, net, columns, face, names)?;
     put_output(net, &end_name, wire.eos.bus())?;
-    put_output(net, &group_name, group.bus())?;
-    put_output(net, &queue_name, queue.bus())?;
+    put_output(net, &group_name, lines.group.bus())?;
+    put_output(net, &queue_name, lines.queue.bus())?;
     Ok(())
 }
 
@@ -176,6 +184,7 @@ pub(crate) fn put_result(
     let wire = later_wire(alloc, net, &below.wire)?;
     let group = put_group(net, below.faults.further)?;
     let queue = put_queue(net, below.faults.passed)?;
-    put_ports(alloc, net, &wire, group, queue, face, names)?;
+    let lines = ResultLines { group, queue };
+    put_ports(alloc, net, &wire, lines, face, names)?;
     Ok(())
 }

@@ -1,7 +1,6 @@
 //! Windows of each group: the source, the front, and the back behind the copies of the body.
 
 ghost use Rattle.std.specs.Prelude.{◌≡◌, List, Option, IfOk, length};
-ghost use Rattle.gl_algebra.specs.Small.{AreFigures};
 ghost use Rattle.gl_algebra.specs.Views.{copies_of_partition};
 ghost use Rattle.gl_net.specs.declared.node.Bit.{Bit as BitOf};
 ghost use Rattle.gl_net.specs.Net.{Net};
@@ -10,16 +9,15 @@ ghost use Rattle.gl_partitions.specs.Partitionings.{IsPartitioning};
 ghost use Rattle.gl_wire_registers.specs.Joins.{AreCopies};
 ghost use Rattle.gl_wire.specs.declared.wire.Wire.{Wire as WireOf};
 ghost use Rattle.gl_wiring.specs.Put.{Gives, HasColumns, IsPutBehind};
-ghost use Rattle.gl_wiring.specs.Partitions.{AreBehindParts, IsPartitionFront, IsPartitionNode, partitioning_of};
+ghost use Rattle.gl_wiring.specs.Partitions.{AreBehindParts, HasPartition, IsPartitionFront, IsPartitionNode, partitioning_of};
 
-use crate::arms::figures_at;
+use crate::site::Site;
 use crate::windows::put_apart;
-use gl_algebra::{Figures, Plan, PlanId, table};
+use gl_algebra::{Plan, PlanId, PlanNode, table};
 use gl_bits::Memory;
 use gl_net::NetBuilder;
 use gl_partitions::{Fronted, Partitioning};
 use gl_wire::Emitted;
-use std::alloc::Global;
 
 /// Windows of each group of a plan: their number, those of the source and the body, the key's column, how many groups there are, and the
 /// rows of a window.
@@ -42,17 +40,41 @@ pub struct PartitionOf {
 }
 
 impl PartitionOf {
+    /// The windows of each group at a node.
+    pub(crate) fn at(plan: &Plan, id: PlanId) -> PartitionOf
+        requires { HasPartition plan.now id }
+        ensures id { result.id ≡ id }
+        ensures node { IsPartitionNode plan.now result }
+    {
+        match plan.node(id) {
+            PlanNode::Partition {
+                source,
+                body,
+                key,
+                groups,
+                size,
+                advance,
+            } => PartitionOf {
+                id,
+                source: *source,
+                body: *body,
+                key: *key,
+                groups: *groups,
+                size: *size,
+                advance: *advance,
+            },
+            _ => unreachable!(),
+        }
+    }
+
     // The numbers of its circuit.
-    pub(crate) fn partitioning(&self, plan: &Plan, figures: &[Figures]) -> Partitioning
-        requires node { IsPartitionNode plan.now self.now }
-        requires figures { AreFigures plan.now figures.now }
-        ensures value { result ≡ partitioning_of plan.now self.now }
+    pub(crate) fn partitioning(&self, site: Site<'_>) -> Partitioning
+        requires node { IsPartitionNode site.plan.now self.now }
+        ensures value { let s = site.entry in result ≡ partitioning_of s.plan.now self.now }
         ensures is { IsPartitioning result }
     {
-        // What `len` ensures of it is what the goals below ask for.
-        let _ = plan.len();
-        let _ = figures_at(plan, figures, self.id);
-        let body = figures_at(plan, figures, self.body);
+        let _ = site.figures_at(self.id);
+        let body = site.figures_at(self.body);
         let copies = table::copies_of_window(self.size, self.advance);
         Partitioning {
             key: usize::from(self.key),
@@ -67,53 +89,45 @@ impl PartitionOf {
     /// The source's rows far enough apart for the body, and the front behind them.
     pub(crate) fn front(
         &self,
-        alloc: Global,
         net: &mut NetBuilder,
-        plan: &Plan,
-        figures: &[Figures],
+        site: Site<'_>,
         below: Emitted,
     ) -> Result<Fronted, Memory>
-        requires node { IsPartitionNode plan.now self.now }
-        requires figures { AreFigures plan.now figures.now }
-        requires below { HasColumns plan.now self.now.source net.old below }
-        ensures { (tick : Option BitOf) (leaves : List WireOf)
-            → Gives plan.now self.now.source net.old tick leaves below
-            → IfOk result (λ front. IsPartitionFront plan.now self.now net.old net.new tick leaves front) }
+        requires node { IsPartitionNode site.plan.now self.now }
+        requires below { HasColumns site.plan.now self.now.source net.old below }
+        ensures { let s = site.entry in (tick : Option BitOf) (leaves : List WireOf)
+            → Gives s.plan.now self.now.source net.old tick leaves below
+            → IfOk result (λ front. IsPartitionFront s.plan.now self.now net.old net.new tick leaves front) }
     {
-        let _ = plan.len();
-        let partitioning = self.partitioning(plan, figures);
-        let source = figures_at(plan, figures, self.source);
+        let partitioning = self.partitioning(site);
+        let source = site.figures_at(self.source);
         let gap = partitioning.body.gt.max(partitioning.body.ge);
-        let apart = put_apart(alloc, net, source, gap, below)?;
+        let apart = put_apart(site.alloc, net, source, gap, below)?;
         // Named, since a goal speaks of the value.
-        let front = partitioning.front(alloc, net, apart)?;
+        let front = partitioning.front(site.alloc, net, apart)?;
         Ok(front)
     }
 
     /// The back behind the copies of the body.
     pub(crate) fn back(
         &self,
-        alloc: Global,
         net: &mut NetBuilder,
-        plan: &Plan,
-        figures: &[Figures],
+        site: Site<'_>,
         front: &Fronted,
         copies: &[Emitted],
     ) -> Result<Emitted, Memory>
-        requires node { IsPartitionNode plan.now self.now }
-        requires figures { AreFigures plan.now figures.now }
-        requires front { Fronts net.old (partitioning_of plan.now self.now) front.now }
+        requires node { IsPartitionNode site.plan.now self.now }
+        requires front { Fronts net.old (partitioning_of site.plan.now self.now) front.now }
         requires copies { AreCopies net.old copies.now }
         requires count { length copies.now
             ≡ copies_of_partition self.now.groups self.now.size self.now.advance }
-        ensures { (old mid : Net) (tick : Option BitOf) (leaves : List WireOf)
-            → IsPartitionFront plan.now self.now old mid tick leaves front.now
-            → AreBehindParts plan.now self.now.body mid net.old front.now copies.now
-            → IfOk result (λ e. IsPutBehind plan.now self.now.id old net.new tick leaves e) }
+        ensures { let s = site.entry in (old mid : Net) (tick : Option BitOf) (leaves : List WireOf)
+            → IsPartitionFront s.plan.now self.now old mid tick leaves front.now
+            → AreBehindParts s.plan.now self.now.body mid net.old front.now copies.now
+            → IfOk result (λ e. IsPutBehind s.plan.now self.now.id old net.new tick leaves e) }
     {
-        let _ = plan.len();
-        let partitioning = self.partitioning(plan, figures);
-        let e = partitioning.back(alloc, net, front, copies)?;
+        let partitioning = self.partitioning(site);
+        let e = partitioning.back(site.alloc, net, front, copies)?;
         Ok(e)
     }
 }

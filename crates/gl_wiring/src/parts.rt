@@ -19,7 +19,9 @@ use std::alloc::Global;
 /// The input ports of a stream.
 #[derive(Drop, Debug)]
 pub struct Source {
+    /// That of the valid line.
     pub valid: Bus,
+    /// Those of the columns.
     pub columns: Buses,
 }
 

@@ -15,14 +15,14 @@ use crate::direct::is_direct;
 use crate::groups::GroupOf;
 use crate::lanes::put_on_lane;
 use crate::partitions::PartitionOf;
-use crate::tables::{Table, marks_from, taken};
+use crate::site::Site;
+use crate::tables::{Table, circuit_at, marks_from};
 use crate::time_windows::TimeWindowOf;
 use crate::windows::{Copies, WindowOf};
-use gl_algebra::{Figures, Plan, PlanId, PlanNode};
+use gl_algebra::{PlanId, PlanNode};
 use gl_bits::Memory;
-use gl_net::{Bit, NetBuilder};
+use gl_net::NetBuilder;
 use gl_wire::{Emitted, Wire};
-use std::alloc::Global;
 use std::slice::from_ref;
 
 // Adds the circuits of a node and of all below it, each once, and gives the node's wire and its lines. The marks are those of all that
@@ -30,25 +30,20 @@ use std::slice::from_ref;
 #[cycle(put)]
 #[tactic(auto)]
 fn put_root_of(
-    alloc: Global,
     net: &mut NetBuilder,
-    plan: &Plan,
-    figures: &[Figures],
+    site: Site<'_>,
     id: PlanId,
     marks: &[bool],
-    tick: Option<Bit>,
-    leaves: &[Wire],
 ) -> Result<Emitted, Memory>
-    requires marks { AreMarks plan.now (id ∷ []) marks.now }
-    requires can { CanPut plan.now figures.now id net.old tick leaves.now }
-    ensures { IfOk result (λ e. IsPut plan.now id net.old net.new tick leaves.now e) }
+    requires marks { AreMarks site.plan.now (id ∷ []) marks.now }
+    requires can { CanPut site.plan.now site.figures.now id net.old site.tick site.leaves.now }
+    ensures { let s = site.entry in
+        IfOk result (λ e. IsPut s.plan.now id net.old net.new s.tick s.leaves.now e) }
 {
-    // What `len` ensures of it is what the goals below ask for.
-    let _ = plan.len();
     let limit = id.number() + 1;
-    let table = put_marked(alloc, net, plan, figures, marks, limit, tick, leaves)?;
+    let table = put_marked(net, site, marks, limit)?;
     // Named, since a goal speaks of the value.
-    let e = taken(alloc, table.as_slice(), id)?;
+    let e = circuit_at(site.alloc, table.as_slice(), id)?;
     Ok(e)
 }
 
@@ -56,36 +51,21 @@ fn put_root_of(
 #[cycle(put)]
 #[tactic(auto)]
 pub(crate) fn put_marked(
-    alloc: Global,
     net: &mut NetBuilder,
-    plan: &Plan,
-    figures: &[Figures],
+    site: Site<'_>,
     marks: &[bool],
     limit: usize,
-    tick: Option<Bit>,
-    leaves: &[Wire],
 ) -> Result<Table, Memory>
-    requires within { limit ≤ length plan.now }
-    requires can { CanPutMarked plan.now figures.now marks.now net.old tick leaves.now }
-    ensures { IfOk result (λ table.
-        ArePutTo plan.now marks.now limit net.old net.new tick leaves.now table.items) }
+    requires within { limit ≤ length site.plan.now }
+    requires can { CanPutMarked site.plan.now site.figures.now marks.now net.old site.tick
+        site.leaves.now }
+    ensures { let s = site.entry in IfOk result (λ table.
+        ArePutTo s.plan.now marks.now limit net.old net.new s.tick s.leaves.now table.items) }
 {
-    let _ = plan.len();
-    let mut table = Table::new(alloc);
+    let mut table = Table::new(site.alloc);
     let mut number = 0;
     while number < limit {
-        let marked = marks[number];
-        let slot = put_slot(
-            alloc,
-            net,
-            plan,
-            figures,
-            number,
-            marked,
-            tick,
-            leaves,
-            table.as_slice(),
-        )?;
+        let slot = put_slot(net, site, number, marks[number], table.as_slice())?;
         table.push(slot)?;
         number += 1;
     }
@@ -96,32 +76,29 @@ pub(crate) fn put_marked(
 #[cycle(put)]
 #[tactic(auto)]
 fn put_slot(
-    alloc: Global,
     net: &mut NetBuilder,
-    plan: &Plan,
-    figures: &[Figures],
+    site: Site<'_>,
     number: usize,
     marked: bool,
-    tick: Option<Bit>,
-    leaves: &[Wire],
     table: &[Option<Emitted>],
 ) -> Result<Option<Emitted>, Memory>
-    requires within { number < length plan.now }
-    requires can { marked ≡ true → CanPut plan.now figures.now number net.old tick leaves.now }
+    requires within { number < length site.plan.now }
+    requires can { marked ≡ true
+        → CanPut site.plan.now site.figures.now number net.old site.tick site.leaves.now }
     requires children { marked ≡ true
-        → HaveChildren plan.now number net.old tick leaves.now table.now }
-    ensures { IfOk result (λ slot.
-        IsSlot plan.now number net.old net.new tick leaves.now marked slot) }
+        → HaveChildren site.plan.now number net.old site.tick site.leaves.now table.now }
+    ensures { let s = site.entry in IfOk result (λ slot.
+        IsSlot s.plan.now number net.old net.new s.tick s.leaves.now marked slot) }
 {
     if !marked {
         return Ok(None);
     }
-    let id = plan.id(number);
-    if is_over(plan.node(id)) {
-        let e = put_over(alloc, net, plan, figures, id, tick, leaves, table)?;
+    let id = site.plan.id(number);
+    if is_over(site.plan.node(id)) {
+        let e = put_over(net, site, id, table)?;
         Ok(Some(e))
     } else {
-        let e = put_behind(alloc, net, plan, figures, id, tick, leaves, table)?;
+        let e = put_behind(net, site, id, table)?;
         Ok(Some(e))
     }
 }
@@ -130,85 +107,33 @@ fn put_slot(
 #[cycle(put)]
 #[tactic(auto)]
 fn put_over(
-    alloc: Global,
     net: &mut NetBuilder,
-    plan: &Plan,
-    figures: &[Figures],
+    site: Site<'_>,
     id: PlanId,
-    tick: Option<Bit>,
-    leaves: &[Wire],
     table: &[Option<Emitted>],
 ) -> Result<Emitted, Memory>
-    requires over { IsOverCopies plan.now id }
-    requires can { CanPut plan.now figures.now id net.old tick leaves.now }
-    requires children { HaveChildren plan.now id net.old tick leaves.now table.now }
-    ensures { IfOk result (λ e. IsPutBehind plan.now id net.old net.new tick leaves.now e) }
+    requires over { IsOverCopies site.plan.now id }
+    requires can { CanPut site.plan.now site.figures.now id net.old site.tick site.leaves.now }
+    requires children { HaveChildren site.plan.now id net.old site.tick site.leaves.now table.now }
+    ensures { let s = site.entry in
+        IfOk result (λ e. IsPutBehind s.plan.now id net.old net.new s.tick s.leaves.now e) }
 {
-    match plan.node(id) {
-        PlanNode::Window {
-            source,
-            body,
-            size,
-            advance,
-        } => {
-            let window = WindowOf {
-                id,
-                source: *source,
-                body: *body,
-                size: *size,
-                advance: *advance,
-            };
-            put_window(alloc, net, plan, figures, window, tick, leaves, table)
+    match site.plan.node(id) {
+        PlanNode::Window { .. } => {
+            let window = WindowOf::at(site.plan, id);
+            put_window(net, site, window, table)
         }
-        PlanNode::TimeWindow {
-            source,
-            body,
-            size,
-            advance,
-        } => {
-            let window = TimeWindowOf {
-                id,
-                source: *source,
-                body: *body,
-                size: *size,
-                advance: *advance,
-            };
-            let Some(line) = tick else { unreachable!() };
-            put_time_window(alloc, net, plan, figures, window, line, leaves, table)
+        PlanNode::TimeWindow { .. } => {
+            let window = TimeWindowOf::at(site.plan, id);
+            put_time_window(net, site, window, table)
         }
-        PlanNode::Group {
-            source,
-            body,
-            key,
-            groups,
-        } => {
-            let group = GroupOf {
-                id,
-                source: *source,
-                body: *body,
-                key: *key,
-                groups: *groups,
-            };
-            put_group(alloc, net, plan, figures, group, tick, leaves, table)
+        PlanNode::Group { .. } => {
+            let group = GroupOf::at(site.plan, id);
+            put_group(net, site, group, table)
         }
-        PlanNode::Partition {
-            source,
-            body,
-            key,
-            groups,
-            size,
-            advance,
-        } => {
-            let partition = PartitionOf {
-                id,
-                source: *source,
-                body: *body,
-                key: *key,
-                groups: *groups,
-                size: *size,
-                advance: *advance,
-            };
-            put_partition(alloc, net, plan, figures, partition, tick, leaves, table)
+        PlanNode::Partition { .. } => {
+            let partition = PartitionOf::at(site.plan, id);
+            put_partition(net, site, partition, table)
         }
         _ => unreachable!(),
     }
@@ -218,164 +143,124 @@ fn put_over(
 #[cycle(put)]
 #[tactic(auto)]
 fn put_window(
-    alloc: Global,
     net: &mut NetBuilder,
-    plan: &Plan,
-    figures: &[Figures],
+    site: Site<'_>,
     window: WindowOf,
-    tick: Option<Bit>,
-    leaves: &[Wire],
     table: &[Option<Emitted>],
 ) -> Result<Emitted, Memory>
-    requires node { IsWindow plan.now window }
-    requires can { CanPut plan.now figures.now window.id net.old tick leaves.now }
-    requires children { HaveChildren plan.now window.id net.old tick leaves.now table.now }
-    ensures { IfOk result (λ e. IsPutBehind plan.now window.id net.old net.new tick leaves.now e) }
+    requires node { IsWindow site.plan.now window }
+    requires can { CanPut site.plan.now site.figures.now window.id net.old site.tick
+        site.leaves.now }
+    requires children { HaveChildren site.plan.now window.id net.old site.tick site.leaves.now
+        table.now }
+    ensures { let s = site.entry in IfOk result (λ e.
+        IsPutBehind s.plan.now window.id net.old net.new s.tick s.leaves.now e) }
 {
-    // What `len` ensures of it is what the goals below ask for.
-    let _ = plan.len();
-    let below = taken(alloc, table, window.source)?;
-    let front = window.front(alloc, net, plan, figures, below)?;
-    let copies = put_copies(
-        alloc,
-        net,
-        plan,
-        figures,
-        window.body,
-        front.wires.as_slice(),
-    )?;
-    window.back(alloc, net, plan, figures, &front, copies.as_slice())
+    let below = circuit_at(site.alloc, table, window.source)?;
+    let front = window.front(net, site, below)?;
+    let copies = put_copies(net, site, window.body, front.wires.as_slice())?;
+    window.back(net, site, &front, copies.as_slice())
 }
 
 // Adds the circuit of a window of time in the same way, with the line of ticks at its front.
 #[cycle(put)]
 #[tactic(auto)]
 fn put_time_window(
-    alloc: Global,
     net: &mut NetBuilder,
-    plan: &Plan,
-    figures: &[Figures],
+    site: Site<'_>,
     window: TimeWindowOf,
-    line: Bit,
-    leaves: &[Wire],
     table: &[Option<Emitted>],
 ) -> Result<Emitted, Memory>
-    requires node { IsTimeWindow plan.now window }
-    requires can { CanPut plan.now figures.now window.id net.old (Some line) leaves.now }
-    requires children { HaveChildren plan.now window.id net.old (Some line) leaves.now table.now }
-    ensures { IfOk result (λ e.
-        IsPutBehind plan.now window.id net.old net.new (Some line) leaves.now e) }
+    requires node { IsTimeWindow site.plan.now window }
+    requires can { CanPut site.plan.now site.figures.now window.id net.old site.tick
+        site.leaves.now }
+    requires children { HaveChildren site.plan.now window.id net.old site.tick site.leaves.now
+        table.now }
+    ensures { let s = site.entry in IfOk result (λ e.
+        IsPutBehind s.plan.now window.id net.old net.new s.tick s.leaves.now e) }
 {
-    let _ = plan.len();
-    let below = taken(alloc, table, window.source)?;
-    let front = window.front(alloc, net, plan, figures, below, line)?;
-    let copies = put_copies(
-        alloc,
-        net,
-        plan,
-        figures,
-        window.body,
-        front.wires.as_slice(),
-    )?;
-    window.back(alloc, net, plan, figures, line, &front, copies.as_slice())
+    let Some(line) = site.tick else {
+        unreachable!()
+    };
+    let below = circuit_at(site.alloc, table, window.source)?;
+    let front = window.front(net, site, below, line)?;
+    let copies = put_copies(net, site, window.body, front.wires.as_slice())?;
+    window.back(net, site, line, &front, copies.as_slice())
 }
 
 // Adds the circuit of a group in the same way, or, where its body is direct, on a lane.
 #[cycle(put)]
 #[tactic(auto)]
 fn put_group(
-    alloc: Global,
     net: &mut NetBuilder,
-    plan: &Plan,
-    figures: &[Figures],
+    site: Site<'_>,
     group: GroupOf,
-    tick: Option<Bit>,
-    leaves: &[Wire],
     table: &[Option<Emitted>],
 ) -> Result<Emitted, Memory>
-    requires node { IsGroupNode plan.now group }
-    requires can { CanPut plan.now figures.now group.id net.old tick leaves.now }
-    requires children { HaveChildren plan.now group.id net.old tick leaves.now table.now }
-    ensures { IfOk result (λ e. IsPutBehind plan.now group.id net.old net.new tick leaves.now e) }
+    requires node { IsGroupNode site.plan.now group }
+    requires can { CanPut site.plan.now site.figures.now group.id net.old site.tick
+        site.leaves.now }
+    requires children { HaveChildren site.plan.now group.id net.old site.tick site.leaves.now
+        table.now }
+    ensures { let s = site.entry in IfOk result (λ e.
+        IsPutBehind s.plan.now group.id net.old net.new s.tick s.leaves.now e) }
 {
-    let _ = plan.len();
-    if is_direct(plan, group.body) {
-        return put_on_lane(alloc, net, plan, figures, group, tick, leaves, table);
+    if is_direct(site.plan, group.body) {
+        return put_on_lane(net, site, group, table);
     }
-    let below = taken(alloc, table, group.source)?;
-    let front = group.front(alloc, net, plan, figures, below)?;
-    let copies = put_copies(
-        alloc,
-        net,
-        plan,
-        figures,
-        group.body,
-        front.wires.as_slice(),
-    )?;
-    group.back(alloc, net, plan, figures, &front, copies.as_slice())
+    let below = circuit_at(site.alloc, table, group.source)?;
+    let front = group.front(net, site, below)?;
+    let copies = put_copies(net, site, group.body, front.wires.as_slice())?;
+    group.back(net, site, &front, copies.as_slice())
 }
 
 // Adds the circuit of the windows of each group in the same way, with a wire of the front for each copy of each slot.
 #[cycle(put)]
 #[tactic(auto)]
 fn put_partition(
-    alloc: Global,
     net: &mut NetBuilder,
-    plan: &Plan,
-    figures: &[Figures],
+    site: Site<'_>,
     partition: PartitionOf,
-    tick: Option<Bit>,
-    leaves: &[Wire],
     table: &[Option<Emitted>],
 ) -> Result<Emitted, Memory>
-    requires node { IsPartitionNode plan.now partition }
-    requires can { CanPut plan.now figures.now partition.id net.old tick leaves.now }
-    requires children { HaveChildren plan.now partition.id net.old tick leaves.now table.now }
-    ensures { IfOk result (λ e.
-        IsPutBehind plan.now partition.id net.old net.new tick leaves.now e) }
+    requires node { IsPartitionNode site.plan.now partition }
+    requires can { CanPut site.plan.now site.figures.now partition.id net.old site.tick
+        site.leaves.now }
+    requires children { HaveChildren site.plan.now partition.id net.old site.tick site.leaves.now
+        table.now }
+    ensures { let s = site.entry in IfOk result (λ e.
+        IsPutBehind s.plan.now partition.id net.old net.new s.tick s.leaves.now e) }
 {
-    let _ = plan.len();
-    let below = taken(alloc, table, partition.source)?;
-    let front = partition.front(alloc, net, plan, figures, below)?;
-    let copies = put_copies(
-        alloc,
-        net,
-        plan,
-        figures,
-        partition.body,
-        front.wires.as_slice(),
-    )?;
-    partition.back(alloc, net, plan, figures, &front, copies.as_slice())
+    let below = circuit_at(site.alloc, table, partition.source)?;
+    let front = partition.front(net, site, below)?;
+    let copies = put_copies(net, site, partition.body, front.wires.as_slice())?;
+    partition.back(net, site, &front, copies.as_slice())
 }
 
 // Adds a body's circuit behind each of these wires.
 #[cycle(put)]
 #[tactic(auto)]
 pub(crate) fn put_copies(
-    alloc: Global,
     net: &mut NetBuilder,
-    plan: &Plan,
-    figures: &[Figures],
+    site: Site<'_>,
     body: PlanId,
     wires: &[Wire],
 ) -> Result<Copies, Memory>
-    requires { CanCopy plan.now figures.now body net.old wires.now }
-    ensures { IfOk result (λ copies.
-        AreBodies plan.now body net.old net.new wires.now (length wires.now) copies) }
+    requires { CanCopy site.plan.now site.figures.now body net.old wires.now }
+    ensures { let s = site.entry in IfOk result (λ copies.
+        AreBodies s.plan.now body net.old net.new wires.now (length wires.now) copies) }
 {
-    let marks = marks_from(alloc, plan, body)?;
-    let mut copies = Copies::new(alloc);
+    let marks = marks_from(site.alloc, site.plan, body)?;
+    let mut copies = Copies::new(site.alloc);
     for wire in wires {
-        let copy = put_root_of(
-            alloc,
-            net,
-            plan,
-            figures,
-            body,
-            marks.as_slice(),
-            None,
-            from_ref(wire),
-        )?;
+        let behind = Site {
+            alloc: site.alloc,
+            plan: site.plan,
+            figures: site.figures,
+            tick: None,
+            leaves: from_ref(wire),
+        };
+        let copy = put_root_of(net, behind, body, marks.as_slice())?;
         copies.push(copy)?;
     }
     Ok(copies)

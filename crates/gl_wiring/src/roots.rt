@@ -8,55 +8,37 @@ ghost use Rattle.gl_wiring.specs.SpareWindows.{IsSpareWindow};
 
 use crate::circuits::put_circuit;
 use crate::put::put_copies;
+use crate::site::Site;
 use crate::spare_windows::SpareWindowOf;
 use crate::windows::WindowOf;
-use gl_algebra::{Figures, Plan, PlanId, PlanNode, Spare};
+use gl_algebra::{PlanId, PlanNode, Spare};
 use gl_bits::Memory;
-use gl_net::{Bit, NetBuilder};
-use gl_wire::{Emitted, Wire};
-use std::alloc::Global;
+use gl_net::NetBuilder;
+use gl_wire::Emitted;
 
 /// Adds the circuit of a root behind the leaves, and gives its wire and its lines: what the root owes over one stream.
 ///
-/// The figures are those of all nodes, and the spare copies those of the root, as `gl_figures` answers them; `tick` is the line of
-/// ticks, where the plan reads the time.
+/// The spare copies are those of the root, as `gl_figures` answers them; the site has a line of ticks where the plan reads the time.
 pub(crate) fn put_root(
-    alloc: Global,
     net: &mut NetBuilder,
-    plan: &Plan,
-    figures: &[Figures],
+    site: Site<'_>,
     root: PlanId,
     spare: Option<Spare>,
-    tick: Option<Bit>,
-    leaves: &[Wire],
 ) -> Result<Emitted, Memory>
-    requires can { CanPut plan.now figures.now root net.old tick leaves.now }
-    requires spare { spare ≡ spare_at plan.now root }
-    ensures { IfOk result (λ e. IsRootPut plan.now root net.old net.new tick leaves.now e) }
+    requires can { CanPut site.plan.now site.figures.now root net.old site.tick site.leaves.now }
+    requires spare { spare ≡ spare_at site.plan.now root }
+    ensures { let s = site.entry in
+        IfOk result (λ e. IsRootPut s.plan.now root net.old net.new s.tick s.leaves.now e) }
 {
     let Some(spare) = spare else {
-        // What `len` ensures of it is what the goals below ask for.
-        let _ = plan.len();
         // Named, since a goal speaks of the value.
-        let e = put_circuit(alloc, net, plan, figures, root, tick, leaves)?;
+        let e = put_circuit(net, site, root)?;
         return Ok(e);
     };
-    match plan.node(root) {
-        PlanNode::Window {
-            source,
-            body,
-            size,
-            advance,
-        } => {
-            let window = WindowOf {
-                id: root,
-                source: *source,
-                body: *body,
-                size: *size,
-                advance: *advance,
-            };
-            let w = SpareWindowOf { window, spare };
-            put_spare(alloc, net, plan, figures, w, tick, leaves)
+    match site.plan.node(root) {
+        PlanNode::Window { .. } => {
+            let window = WindowOf::at(site.plan, root);
+            put_spare(net, site, SpareWindowOf { window, spare })
         }
         _ => unreachable!(),
     }
@@ -65,30 +47,16 @@ pub(crate) fn put_root(
 // Adds the circuit of windows with spare copies: the source, the front with late ends, the body behind each of the front's
 // wires, and the back.
 #[tactic(auto, using(crate::proofs::CanLemmas::put_columns))]
-fn put_spare(
-    alloc: Global,
-    net: &mut NetBuilder,
-    plan: &Plan,
-    figures: &[Figures],
-    w: SpareWindowOf,
-    tick: Option<Bit>,
-    leaves: &[Wire],
-) -> Result<Emitted, Memory>
-    requires node { IsSpareWindow plan.now w }
-    requires can { CanPut plan.now figures.now w.window.id net.old tick leaves.now }
-    ensures { IfOk result (λ e. IsRootPut plan.now w.window.id net.old net.new tick leaves.now e) }
+fn put_spare(net: &mut NetBuilder, site: Site<'_>, w: SpareWindowOf) -> Result<Emitted, Memory>
+    requires node { IsSpareWindow site.plan.now w }
+    requires can { CanPut site.plan.now site.figures.now w.window.id net.old site.tick
+        site.leaves.now }
+    ensures { let s = site.entry in IfOk result (λ e.
+        IsRootPut s.plan.now w.window.id net.old net.new s.tick s.leaves.now e) }
 {
-    let _ = plan.len();
     let window = w.window;
-    let below = put_circuit(alloc, net, plan, figures, window.source, tick, leaves)?;
-    let front = w.front(alloc, net, plan, figures, below)?;
-    let copies = put_copies(
-        alloc,
-        net,
-        plan,
-        figures,
-        window.body,
-        front.wires.as_slice(),
-    )?;
-    w.back(alloc, net, plan, figures, &front, copies.as_slice())
+    let below = put_circuit(net, site, window.source)?;
+    let front = w.front(net, site, below)?;
+    let copies = put_copies(net, site, window.body, front.wires.as_slice())?;
+    w.back(net, site, &front, copies.as_slice())
 }

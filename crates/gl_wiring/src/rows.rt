@@ -11,12 +11,12 @@ ghost use Rattle.gl_wiring.specs.Leaves.{HaveLeaves};
 ghost use Rattle.gl_wiring.specs.declared.rows.Place.{Place as PlaceOf};
 
 use crate::arms::leaf_of;
-use gl_algebra::{Operands, Ops, Plan, PlanId, PlanNode};
+use crate::site::Site;
+use gl_algebra::{Operands, Ops, PlanId, PlanNode};
 use gl_bits::Memory;
 use gl_net::{Bit, Bus, NetBuilder};
 use gl_rows::{put_compute, put_project, put_select};
 use gl_wire::{Emitted, Wire, later, later_bit};
-use std::alloc::Global;
 use std::slice::from_ref;
 
 /// Whose cycle it is on a lane, and whether its stream begins.
@@ -50,67 +50,72 @@ fn later_place(net: &mut NetBuilder, place: Place) -> Result<Place, Memory>
 
 // The rows of the child with one more column for each operation.
 fn compute_rows(
-    alloc: Global,
     net: &mut NetBuilder,
-    plan: &Plan,
+    site: Site<'_>,
     id: PlanId,
     child: PlanId,
     ops: &Ops,
     below: LaneRows,
 ) -> Result<LaneRows, Memory>
-    requires node { slice_get plan.now id ≡ Some (Compute child ops.now) }
-    requires below { HasRows plan.now child net.old below }
-    ensures { (old : Net) (lane : WireOf) (place : PlaceOf)
-        → AreRows plan.now child old net.old lane place below
-        → IfOk result (AreRows plan.now id old net.new lane place) }
+    requires node { slice_get site.plan.now id ≡ Some (Compute child ops.now) }
+    requires below { HasRows site.plan.now child net.old below }
+    ensures { let s = site.entry in (old : Net) (lane : WireOf) (place : PlaceOf)
+        → AreRows s.plan.now child old net.old lane place below
+        → IfOk result (AreRows s.plan.now id old net.new lane place) }
 {
-    // What `len` ensures of it is what the goals below ask for.
-    let _ = plan.len();
     let place = later_place(net, below.place)?;
-    let rows = put_compute(alloc, net, below.rows, plan.kinds(child), ops.as_slice())?;
+    let rows = put_compute(
+        site.alloc,
+        net,
+        below.rows,
+        site.plan.kinds(child),
+        ops.as_slice(),
+    )?;
     Ok(LaneRows { rows, place })
 }
 
 // The rows of the child whose column is 1.
 fn select_rows(
-    alloc: Global,
     net: &mut NetBuilder,
-    plan: &Plan,
+    site: Site<'_>,
     id: PlanId,
     child: PlanId,
     column: u16,
     below: LaneRows,
 ) -> Result<LaneRows, Memory>
-    requires node { slice_get plan.now id ≡ Some (Select child column) }
-    requires below { HasRows plan.now child net.old below }
-    ensures { (old : Net) (lane : WireOf) (place : PlaceOf)
-        → AreRows plan.now child old net.old lane place below
-        → IfOk result (AreRows plan.now id old net.new lane place) }
+    requires node { slice_get site.plan.now id ≡ Some (Select child column) }
+    requires below { HasRows site.plan.now child net.old below }
+    ensures { let s = site.entry in (old : Net) (lane : WireOf) (place : PlaceOf)
+        → AreRows s.plan.now child old net.old lane place below
+        → IfOk result (AreRows s.plan.now id old net.new lane place) }
 {
-    let _ = plan.len();
     let place = later_place(net, below.place)?;
-    let rows = put_select(alloc, net, below.rows, usize::from(column))?;
+    let rows = put_select(site.alloc, net, below.rows, usize::from(column))?;
     Ok(LaneRows { rows, place })
 }
 
 // Of each row of the child these values.
 fn project_rows(
-    alloc: Global,
     net: &mut NetBuilder,
-    plan: &Plan,
+    site: Site<'_>,
     id: PlanId,
     child: PlanId,
     items: &Operands,
     below: LaneRows,
 ) -> Result<LaneRows, Memory>
-    requires node { slice_get plan.now id ≡ Some (Project child items.now) }
-    requires below { HasRows plan.now child net.old below }
-    ensures { (old : Net) (lane : WireOf) (place : PlaceOf)
-        → AreRows plan.now child old net.old lane place below
-        → IfOk result (AreRows plan.now id old net.new lane place) }
+    requires node { slice_get site.plan.now id ≡ Some (Project child items.now) }
+    requires below { HasRows site.plan.now child net.old below }
+    ensures { let s = site.entry in (old : Net) (lane : WireOf) (place : PlaceOf)
+        → AreRows s.plan.now child old net.old lane place below
+        → IfOk result (AreRows s.plan.now id old net.new lane place) }
 {
-    let _ = plan.len();
-    let rows = put_project(alloc, net, below.rows, plan.kinds(child), items.as_slice())?;
+    let rows = put_project(
+        site.alloc,
+        net,
+        below.rows,
+        site.plan.kinds(child),
+        items.as_slice(),
+    )?;
     Ok(LaneRows {
         rows,
         place: below.place,
@@ -120,37 +125,37 @@ fn project_rows(
 /// The operators of rows up to a node on a lane, which is the body's input, and the place of each row as many cycles later.
 #[tactic(auto, using(crate::proofs::LaneRowLemmas::rows_there))]
 pub(crate) fn put_rows(
-    alloc: Global,
     net: &mut NetBuilder,
-    plan: &Plan,
+    site: Site<'_>,
     id: PlanId,
     lane: &Wire,
     place: Place,
 ) -> Result<LaneRows, Memory>
-    requires within { id < length plan.now }
-    requires form { form_of plan.now id ≡ rowwise }
-    requires leaves { HaveLeaves net.old (lane.now ∷ []) (shape_of plan.now id).leaves }
+    requires within { id < length site.plan.now }
+    requires form { form_of site.plan.now id ≡ rowwise }
+    requires leaves { HaveLeaves net.old (lane.now ∷ []) (shape_of site.plan.now id).leaves }
     requires slot { IsBus net.old place.slot }
     requires few { place.slot.width ≤ 8 }
     requires first { IsBit net.old place.first }
-    ensures { IfOk result (AreRows plan.now id net.old net.new lane.now place) }
+    ensures { let s = site.entry in
+        IfOk result (AreRows s.plan.now id net.old net.new lane.now place) }
 {
-    match plan.node(id) {
+    match site.plan.node(id) {
         PlanNode::Body(_) => {
-            let rows = leaf_of(alloc, from_ref(lane), 0)?;
+            let rows = leaf_of(site.alloc, from_ref(lane), 0)?;
             Ok(LaneRows { rows, place })
         }
         PlanNode::Compute { child, ops } => {
-            let below = put_rows(alloc, net, plan, *child, lane, place)?;
-            compute_rows(alloc, net, plan, id, *child, ops, below)
+            let below = put_rows(net, site, *child, lane, place)?;
+            compute_rows(net, site, id, *child, ops, below)
         }
         PlanNode::Select { child, column } => {
-            let below = put_rows(alloc, net, plan, *child, lane, place)?;
-            select_rows(alloc, net, plan, id, *child, *column, below)
+            let below = put_rows(net, site, *child, lane, place)?;
+            select_rows(net, site, id, *child, *column, below)
         }
         PlanNode::Project { child, items } => {
-            let below = put_rows(alloc, net, plan, *child, lane, place)?;
-            project_rows(alloc, net, plan, id, *child, items, below)
+            let below = put_rows(net, site, *child, lane, place)?;
+            project_rows(net, site, id, *child, items, below)
         }
         _ => unreachable!(),
     }

@@ -1,7 +1,6 @@
 //! Windows with spare copies at the root of a plan: the front with late ends, and the back behind the copies of the body.
 
 ghost use Rattle.std.specs.Prelude.{◌≡◌, List, Option, IfOk, length};
-ghost use Rattle.gl_algebra.specs.Small.{AreFigures};
 ghost use Rattle.gl_net.specs.declared.node.Bit.{Bit as BitOf};
 ghost use Rattle.gl_net.specs.Net.{Net};
 ghost use Rattle.gl_windows_spare.specs.Rotations.{Fronts, IsRotation};
@@ -12,14 +11,13 @@ ghost use Rattle.gl_wiring.specs.Put.{HasColumns, IsPut};
 ghost use Rattle.gl_wiring.specs.Roots.{IsRootPut};
 ghost use Rattle.gl_wiring.specs.SpareWindows.{IsSpareFrontOf, IsSpareWindow, rotation_with};
 
-use crate::arms::figures_at;
+use crate::site::Site;
 use crate::windows::WindowOf;
-use gl_algebra::{Figures, Plan, Spare};
+use gl_algebra::Spare;
 use gl_bits::Memory;
 use gl_net::NetBuilder;
 use gl_windows_spare::{Fronted, SpareRotation};
 use gl_wire::Emitted;
-use std::alloc::Global;
 
 /// Windows at the root of a plan, with spare copies of their body.
 #[derive(Clone, Copy)]
@@ -32,18 +30,15 @@ pub struct SpareWindowOf {
 
 impl SpareWindowOf {
     // The rotation over all copies.
-    fn rotation(&self, plan: &Plan, figures: &[Figures]) -> SpareRotation
-        requires node { IsSpareWindow plan.now self.now }
-        requires figures { AreFigures plan.now figures.now }
-        ensures value { result ≡ rotation_with plan.now self.now }
+    fn rotation(&self, site: Site<'_>) -> SpareRotation
+        requires node { IsSpareWindow site.plan.now self.now }
+        ensures value { let s = site.entry in result ≡ rotation_with s.plan.now self.now }
         ensures is { IsRotation result }
     {
-        // What `len` ensures of it is what the goals below ask for.
-        let _ = plan.len();
         SpareRotation {
             size: self.window.size,
             advance: self.window.advance,
-            body: figures_at(plan, figures, self.window.body),
+            body: site.figures_at(self.window.body),
             spare: self.spare,
         }
     }
@@ -51,50 +46,42 @@ impl SpareWindowOf {
     /// The front behind the source's rows.
     pub(crate) fn front(
         &self,
-        alloc: Global,
         net: &mut NetBuilder,
-        plan: &Plan,
-        figures: &[Figures],
+        site: Site<'_>,
         below: Emitted,
     ) -> Result<Fronted, Memory>
-        requires node { IsSpareWindow plan.now self.now }
-        requires figures { AreFigures plan.now figures.now }
-        requires below { HasColumns plan.now self.now.window.source net.old below }
-        ensures { (old : Net) (tick : Option BitOf) (leaves : List WireOf)
-            → IsPut plan.now self.now.window.source old net.old tick leaves below
+        requires node { IsSpareWindow site.plan.now self.now }
+        requires below { HasColumns site.plan.now self.now.window.source net.old below }
+        ensures { let s = site.entry in (old : Net) (tick : Option BitOf) (leaves : List WireOf)
+            → IsPut s.plan.now self.now.window.source old net.old tick leaves below
             → IfOk result (λ front.
-            IsSpareFrontOf plan.now self.now old net.new tick leaves front) }
+            IsSpareFrontOf s.plan.now self.now old net.new tick leaves front) }
     {
-        let _ = plan.len();
-        let rotation = self.rotation(plan, figures);
+        let rotation = self.rotation(site);
         // Named, since a goal speaks of the value.
-        let front = rotation.front(alloc, net, below)?;
+        let front = rotation.front(site.alloc, net, below)?;
         Ok(front)
     }
 
     /// The back behind the copies of the body.
     pub(crate) fn back(
         &self,
-        alloc: Global,
         net: &mut NetBuilder,
-        plan: &Plan,
-        figures: &[Figures],
+        site: Site<'_>,
         front: &Fronted,
         copies: &[Emitted],
     ) -> Result<Emitted, Memory>
-        requires node { IsSpareWindow plan.now self.now }
-        requires figures { AreFigures plan.now figures.now }
-        requires front { Fronts net.old (rotation_with plan.now self.now) front.now }
+        requires node { IsSpareWindow site.plan.now self.now }
+        requires front { Fronts net.old (rotation_with site.plan.now self.now) front.now }
         requires copies { AreCopies net.old copies.now }
         requires count { length copies.now ≡ self.now.spare.copies }
-        ensures { (old mid : Net) (tick : Option BitOf) (leaves : List WireOf)
-            → IsSpareFrontOf plan.now self.now old mid tick leaves front.now
-            → AreBodies plan.now self.now.window.body mid net.old front.now.wires (length front.now.wires) copies.now
-            → IfOk result (λ e. IsRootPut plan.now self.now.window.id old net.new tick leaves e) }
+        ensures { let s = site.entry in (old mid : Net) (tick : Option BitOf) (leaves : List WireOf)
+            → IsSpareFrontOf s.plan.now self.now old mid tick leaves front.now
+            → AreBodies s.plan.now self.now.window.body mid net.old front.now.wires (length front.now.wires) copies.now
+            → IfOk result (λ e. IsRootPut s.plan.now self.now.window.id old net.new tick leaves e) }
     {
-        let _ = plan.len();
-        let rotation = self.rotation(plan, figures);
-        let e = rotation.back(alloc, net, front, copies)?;
+        let rotation = self.rotation(site);
+        let e = rotation.back(site.alloc, net, front, copies)?;
         Ok(e)
     }
 }

@@ -33,7 +33,7 @@ fn copy_of(alloc: Global, e: &Emitted) -> Result<Emitted, Memory>
 }
 
 /// The circuit of a node, which is in the table.
-pub fn taken(alloc: Global, table: &[Option<Emitted>], id: PlanId) -> Result<Emitted, Memory>
+pub fn circuit_at(alloc: Global, table: &[Option<Emitted>], id: PlanId) -> Result<Emitted, Memory>
     requires { (e : EmittedOf) × (slice_get table.now id ≡ Some (Some e)) }
     ensures { IfOk result (λ e. slice_get table.now id ≡ Some (Some e)) }
 {

@@ -3,23 +3,21 @@
 ghost use Rattle.std.specs.Prelude.{◌≡◌, List, Some, IfOk, length};
 ghost use Rattle.gl_algebra.specs.Views.{copies_of_time};
 ghost use Rattle.gl_algebra.specs.Shapes.{shape_of};
-ghost use Rattle.gl_algebra.specs.Small.{AreFigures};
 ghost use Rattle.gl_net.specs.Net.{Net, IsBit};
 ghost use Rattle.gl_windows.specs.TimeRotations.{IsTimeRotation, TimeFronts};
 ghost use Rattle.gl_wire_registers.specs.Joins.{AreCopies};
 ghost use Rattle.gl_wire.specs.declared.wire.Wire.{Wire as WireOf};
 ghost use Rattle.gl_wiring.specs.Leaves.{HaveLeaves};
 ghost use Rattle.gl_wiring.specs.Put.{Gives, HasColumns, IsPutBehind};
-ghost use Rattle.gl_wiring.specs.TimeWindows.{IsTimeFrontOf, IsTimeWindow, time_rotation_of};
+ghost use Rattle.gl_wiring.specs.TimeWindows.{HasTimeWindow, IsTimeFrontOf, IsTimeWindow, time_rotation_of};
 ghost use Rattle.gl_wiring.specs.Windows.{AreBehind};
 
-use crate::arms::figures_at;
-use gl_algebra::{Figures, Plan, PlanId};
+use crate::site::Site;
+use gl_algebra::{Plan, PlanId, PlanNode};
 use gl_bits::Memory;
 use gl_net::{Bit, NetBuilder};
 use gl_windows::{Fronted, TimeRotation};
 use gl_wire::Emitted;
-use std::alloc::Global;
 
 /// A window of time of a plan: its number, those of its source, a stream, and of its body, and its ticks.
 #[derive(Clone, Copy)]
@@ -37,17 +35,37 @@ pub struct TimeWindowOf {
 }
 
 impl TimeWindowOf {
+    /// The window of time at a node.
+    pub(crate) fn at(plan: &Plan, id: PlanId) -> TimeWindowOf
+        requires { HasTimeWindow plan.now id }
+        ensures id { result.id ≡ id }
+        ensures node { IsTimeWindow plan.now result }
+    {
+        match plan.node(id) {
+            PlanNode::TimeWindow {
+                source,
+                body,
+                size,
+                advance,
+            } => TimeWindowOf {
+                id,
+                source: *source,
+                body: *body,
+                size: *size,
+                advance: *advance,
+            },
+            _ => unreachable!(),
+        }
+    }
+
     // The rotation over as many copies as windows can be open at once.
-    fn rotation(&self, plan: &Plan, figures: &[Figures]) -> TimeRotation
-        requires node { IsTimeWindow plan.now self.now }
-        requires figures { AreFigures plan.now figures.now }
-        ensures value { result ≡ time_rotation_of plan.now self.now }
+    fn rotation(&self, site: Site<'_>) -> TimeRotation
+        requires node { IsTimeWindow site.plan.now self.now }
+        ensures value { let s = site.entry in result ≡ time_rotation_of s.plan.now self.now }
         ensures is { IsTimeRotation result }
     {
-        // What `len` ensures of it is what the goals below ask for.
-        let _ = plan.len();
-        let _ = figures_at(plan, figures, self.id);
-        let body = figures_at(plan, figures, self.body);
+        let _ = site.figures_at(self.id);
+        let body = site.figures_at(self.body);
         TimeRotation {
             size: self.size,
             advance: self.advance,
@@ -58,54 +76,46 @@ impl TimeWindowOf {
     /// The front behind the stream and the line of ticks.
     pub(crate) fn front(
         &self,
-        alloc: Global,
         net: &mut NetBuilder,
-        plan: &Plan,
-        figures: &[Figures],
+        site: Site<'_>,
         below: Emitted,
         tick: Bit,
     ) -> Result<Fronted, Memory>
-        requires node { IsTimeWindow plan.now self.now }
-        requires figures { AreFigures plan.now figures.now }
-        requires below { HasColumns plan.now self.now.source net.old below }
+        requires node { IsTimeWindow site.plan.now self.now }
+        requires below { HasColumns site.plan.now self.now.source net.old below }
         requires tick { IsBit net.old tick }
-        ensures { (leaves : List WireOf)
-            → Gives plan.now self.now.source net.old (Some tick) leaves below
+        ensures { let s = site.entry in (leaves : List WireOf)
+            → Gives s.plan.now self.now.source net.old (Some tick) leaves below
             → IfOk result (λ front.
-            IsTimeFrontOf plan.now self.now net.old net.new tick leaves front) }
+            IsTimeFrontOf s.plan.now self.now net.old net.new tick leaves front) }
     {
-        let _ = plan.len();
-        let rotation = self.rotation(plan, figures);
+        let rotation = self.rotation(site);
         // Named, since a goal speaks of the value.
-        let front = rotation.front(alloc, net, below, tick)?;
+        let front = rotation.front(site.alloc, net, below, tick)?;
         Ok(front)
     }
 
     /// The back behind the copies of the body.
     pub(crate) fn back(
         &self,
-        alloc: Global,
         net: &mut NetBuilder,
-        plan: &Plan,
-        figures: &[Figures],
+        site: Site<'_>,
         tick: Bit,
         front: &Fronted,
         copies: &[Emitted],
     ) -> Result<Emitted, Memory>
-        requires node { IsTimeWindow plan.now self.now }
-        requires figures { AreFigures plan.now figures.now }
-        requires front { TimeFronts net.old (time_rotation_of plan.now self.now) tick front.now }
+        requires node { IsTimeWindow site.plan.now self.now }
+        requires front { TimeFronts net.old (time_rotation_of site.plan.now self.now) tick front.now }
         requires copies { AreCopies net.old copies.now }
         requires count { length copies.now ≡ copies_of_time self.now.size self.now.advance }
-        ensures { (old mid : Net) (leaves : List WireOf)
-            → HaveLeaves old leaves (shape_of plan.now self.now.id).leaves
-            → IsTimeFrontOf plan.now self.now old mid tick leaves front.now
-            → AreBehind plan.now self.now.body mid net.old front.now copies.now
-            → IfOk result (λ e. IsPutBehind plan.now self.now.id old net.new (Some tick) leaves e) }
+        ensures { let s = site.entry in (old mid : Net) (leaves : List WireOf)
+            → HaveLeaves old leaves (shape_of s.plan.now self.now.id).leaves
+            → IsTimeFrontOf s.plan.now self.now old mid tick leaves front.now
+            → AreBehind s.plan.now self.now.body mid net.old front.now copies.now
+            → IfOk result (λ e. IsPutBehind s.plan.now self.now.id old net.new (Some tick) leaves e) }
     {
-        let _ = plan.len();
-        let rotation = self.rotation(plan, figures);
-        let e = rotation.back(alloc, net, tick, front, copies)?;
+        let rotation = self.rotation(site);
+        let e = rotation.back(site.alloc, net, tick, front, copies)?;
         Ok(e)
     }
 }

@@ -3,7 +3,6 @@
 ghost use Rattle.std.specs.Prelude.{◌≡◌, ◌<◌, ◌≤◌, List, Option, IfOk, length};
 ghost use Rattle.gl_algebra.specs.FigureTable.{IsSound, needs_spacer};
 ghost use Rattle.gl_algebra.specs.Views.{copies_of_window};
-ghost use Rattle.gl_algebra.specs.Small.{AreFigures};
 ghost use Rattle.gl_net.specs.declared.node.Bit.{Bit as BitOf};
 ghost use Rattle.gl_net.specs.Net.{Net};
 ghost use Rattle.gl_wire.specs.Counted.{AreNarrow};
@@ -13,11 +12,11 @@ ghost use Rattle.gl_wire.specs.declared.wire.Wire.{Wire as WireOf};
 ghost use Rattle.gl_wire.specs.Faults.{AreLines};
 ghost use Rattle.gl_wire.specs.Wire.{IsWire, widths};
 ghost use Rattle.gl_wiring.specs.Put.{Gives, HasColumns, IsPutBehind};
-ghost use Rattle.gl_wiring.specs.Windows.{AreBehind, IsFrontOf, IsWindow, rotation_of};
+ghost use Rattle.gl_wiring.specs.Windows.{AreBehind, HasWindow, IsFrontOf, IsWindow, rotation_of};
 ghost use Rattle.gl_wiring.specs.Copies.{IsSpacedFor};
 
-use crate::arms::figures_at;
-use gl_algebra::{Figures, Plan, PlanId, table};
+use crate::site::Site;
+use gl_algebra::{Figures, Plan, PlanId, PlanNode, table};
 use gl_bits::{Listed, Memory};
 use gl_net::NetBuilder;
 use gl_queue::Spacer;
@@ -76,17 +75,37 @@ pub(crate) fn put_apart(
 }
 
 impl WindowOf {
+    /// The window at a node.
+    pub(crate) fn at(plan: &Plan, id: PlanId) -> WindowOf
+        requires { HasWindow plan.now id }
+        ensures id { result.id ≡ id }
+        ensures node { IsWindow plan.now result }
+    {
+        match plan.node(id) {
+            PlanNode::Window {
+                source,
+                body,
+                size,
+                advance,
+            } => WindowOf {
+                id,
+                source: *source,
+                body: *body,
+                size: *size,
+                advance: *advance,
+            },
+            _ => unreachable!(),
+        }
+    }
+
     // The rotation over as many copies as windows can be open at once.
-    fn rotation(&self, plan: &Plan, figures: &[Figures]) -> Rotation
-        requires node { IsWindow plan.now self.now }
-        requires figures { AreFigures plan.now figures.now }
-        ensures value { result ≡ rotation_of plan.now self.now }
+    fn rotation(&self, site: Site<'_>) -> Rotation
+        requires node { IsWindow site.plan.now self.now }
+        ensures value { let s = site.entry in result ≡ rotation_of s.plan.now self.now }
         ensures is { IsRotation result }
     {
-        // What `len` ensures of it is what the goals below ask for.
-        let _ = plan.len();
-        let _ = figures_at(plan, figures, self.id);
-        let body = figures_at(plan, figures, self.body);
+        let _ = site.figures_at(self.id);
+        let body = site.figures_at(self.body);
         let copies = table::copies_of_window(self.size, self.advance);
         Rotation {
             size: self.size,
@@ -99,51 +118,43 @@ impl WindowOf {
     /// The source's rows far enough apart for the body, and the front behind them.
     pub(crate) fn front(
         &self,
-        alloc: Global,
         net: &mut NetBuilder,
-        plan: &Plan,
-        figures: &[Figures],
+        site: Site<'_>,
         below: Emitted,
     ) -> Result<Fronted, Memory>
-        requires node { IsWindow plan.now self.now }
-        requires figures { AreFigures plan.now figures.now }
-        requires below { HasColumns plan.now self.now.source net.old below }
-        ensures { (tick : Option BitOf) (leaves : List WireOf)
-            → Gives plan.now self.now.source net.old tick leaves below
-            → IfOk result (λ front. IsFrontOf plan.now self.now net.old net.new tick leaves front) }
+        requires node { IsWindow site.plan.now self.now }
+        requires below { HasColumns site.plan.now self.now.source net.old below }
+        ensures { let s = site.entry in (tick : Option BitOf) (leaves : List WireOf)
+            → Gives s.plan.now self.now.source net.old tick leaves below
+            → IfOk result (λ front. IsFrontOf s.plan.now self.now net.old net.new tick leaves front) }
     {
-        let _ = plan.len();
-        let rotation = self.rotation(plan, figures);
-        let source = figures_at(plan, figures, self.source);
+        let rotation = self.rotation(site);
+        let source = site.figures_at(self.source);
         let gap = rotation.body.gt.max(rotation.body.ge);
-        let apart = put_apart(alloc, net, source, gap, below)?;
-        let front = rotation.front(alloc, net, apart)?;
+        let apart = put_apart(site.alloc, net, source, gap, below)?;
+        let front = rotation.front(site.alloc, net, apart)?;
         Ok(front)
     }
 
     /// The back behind the copies of the body.
     pub(crate) fn back(
         &self,
-        alloc: Global,
         net: &mut NetBuilder,
-        plan: &Plan,
-        figures: &[Figures],
+        site: Site<'_>,
         front: &Fronted,
         copies: &[Emitted],
     ) -> Result<Emitted, Memory>
-        requires node { IsWindow plan.now self.now }
-        requires figures { AreFigures plan.now figures.now }
-        requires front { Fronts net.old (rotation_of plan.now self.now) front.now }
+        requires node { IsWindow site.plan.now self.now }
+        requires front { Fronts net.old (rotation_of site.plan.now self.now) front.now }
         requires copies { AreCopies net.old copies.now }
         requires count { length copies.now ≡ copies_of_window self.now.size self.now.advance }
-        ensures { (old mid : Net) (tick : Option BitOf) (leaves : List WireOf)
-            → IsFrontOf plan.now self.now old mid tick leaves front.now
-            → AreBehind plan.now self.now.body mid net.old front.now copies.now
-            → IfOk result (λ e. IsPutBehind plan.now self.now.id old net.new tick leaves e) }
+        ensures { let s = site.entry in (old mid : Net) (tick : Option BitOf) (leaves : List WireOf)
+            → IsFrontOf s.plan.now self.now old mid tick leaves front.now
+            → AreBehind s.plan.now self.now.body mid net.old front.now copies.now
+            → IfOk result (λ e. IsPutBehind s.plan.now self.now.id old net.new tick leaves e) }
     {
-        let _ = plan.len();
-        let rotation = self.rotation(plan, figures);
-        let e = rotation.back(alloc, net, front, copies)?;
+        let rotation = self.rotation(site);
+        let e = rotation.back(site.alloc, net, front, copies)?;
         Ok(e)
     }
 }

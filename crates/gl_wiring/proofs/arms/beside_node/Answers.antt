@@ -5,25 +5,25 @@ use Rattle.gl_wiring.proofs.CanLemmas.{first_within, second_within}
 use Rattle.gl_wiring.proofs.PairLemmas.{beside_put}
 use Rattle.gl_wiring.proofs.arms.beside_node.Goals as goal
 
-pub figures_at-requires-clause-within : goal.figures_at-requires-clause-within
-figures_at-requires-clause-within c =
-    first_within c.args.plan.now c.args.id (Beside c.args.left c.args.right) c.len.ensures.plan c.requires.node c.args.left (c.args.right ∷ []) refl
+pub figures_at-requires : goal.figures_at-requires
+figures_at-requires c =
+    first_within c.args.site.plan.now c.args.node.id (Beside c.args.node.left c.args.node.right) c.args.site.planned c.requires.node c.args.node.left (c.args.node.right ∷ []) refl
 
-pub figures_at-requires-2-clause-within : goal.figures_at-requires-2-clause-within
-figures_at-requires-2-clause-within c =
-    second_within c.args.plan.now c.args.id (Beside c.args.left c.args.right) c.len.ensures.plan c.requires.node c.args.left c.args.right refl
+pub figures_at-requires-2 : goal.figures_at-requires-2
+figures_at-requires-2 c =
+    second_within c.args.site.plan.now c.args.node.id (Beside c.args.node.left c.args.node.right) c.args.site.planned c.requires.node c.args.node.left c.args.node.right refl
 
 pub emit-requires-clause-sound_left : goal.emit-requires-clause-sound_left
 emit-requires-clause-sound_left c =
-    rw c.figures_at.ensures.value (figures_are_sound c.args.plan.now c.args.left c.len.ensures.plan
-    (first_within c.args.plan.now c.args.id (Beside c.args.left c.args.right) c.len.ensures.plan c.requires.node c.args.left (c.args.right ∷ []) refl))
+    rw c.figures_at.ensures.value (figures_are_sound c.args.site.plan.now c.args.node.left c.args.site.planned
+    (first_within c.args.site.plan.now c.args.node.id (Beside c.args.node.left c.args.node.right) c.args.site.planned c.requires.node c.args.node.left (c.args.node.right ∷ []) refl))
 
 pub emit-requires-clause-sound_right : goal.emit-requires-clause-sound_right
 emit-requires-clause-sound_right c =
-    rw c.figures_at-2.ensures.value (figures_are_sound c.args.plan.now c.args.right c.len.ensures.plan
-    (second_within c.args.plan.now c.args.id (Beside c.args.left c.args.right) c.len.ensures.plan c.requires.node c.args.left c.args.right refl))
+    rw c.figures_at-2.ensures.value (figures_are_sound c.args.site.plan.now c.args.node.right c.args.site.planned
+    (second_within c.args.site.plan.now c.args.node.id (Beside c.args.node.left c.args.node.right) c.args.site.planned c.requires.node c.args.node.left c.args.node.right refl))
 
 pub returns : goal.returns
 returns c = λ tick leaves h i.
-    beside_put c.args.plan.now c.args.id c.args.net.now c.emit.new.net tick leaves c.args.first c.args.second c.in_ok-e.e c.len.ensures.plan
-    c.args.left c.args.right c.requires.node h i (rw (c.figures_at.ensures.value, c.figures_at-2.ensures.value) at c.in_ok-e.ensures)
+    beside_put c.args.site.plan.now c.args.node.id c.args.net.now c.emit.new.net tick leaves c.args.first c.args.second c.in_ok-e.e c.args.site.planned
+    c.args.node.left c.args.node.right c.requires.node h i (rw (c.figures_at.ensures.value, c.figures_at-2.ensures.value) at c.in_ok-e.ensures)

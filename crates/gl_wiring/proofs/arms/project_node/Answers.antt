@@ -5,12 +5,12 @@ use Rattle.gl_wiring.proofs.RowLemmas.{project_put}
 use Rattle.gl_wiring.proofs.arms.project_node.Goals as goal
 
 pub kinds-requires : goal.kinds-requires
-kinds-requires c = first_within c.args.plan.now c.args.id (Project c.args.child c.args.items.now) c.len.ensures.plan c.requires.node c.args.child [] refl
+kinds-requires c = first_within c.args.site.plan.now c.args.id (Project c.args.child c.args.items.now) c.args.site.planned c.requires.node c.args.child [] refl
 
 pub put_project-requires-clause-items : goal.put_project-requires-clause-items
-put_project-requires-clause-items c = rw (c.kinds.ensures.kinds, c.as_slice.ensures) ((c.len.ensures.plan.fits c.args.id _ c.requires.node).suits)
+put_project-requires-clause-items c = rw (c.kinds.ensures.kinds, c.as_slice.ensures) ((c.args.site.planned.fits c.args.id _ c.requires.node).suits)
 
 pub returns : goal.returns
 returns c = λ tick leaves h.
-    project_put c.args.plan.now c.args.id c.args.net.now c.put_project.new.net tick leaves c.args.below c.in_ok-e.e c.len.ensures.plan
+    project_put c.args.site.plan.now c.args.id c.args.net.now c.put_project.new.net tick leaves c.args.below c.in_ok-e.e c.args.site.planned
     c.args.child c.args.items.now c.requires.node h (rw (c.kinds.ensures.kinds, c.as_slice.ensures) at c.in_ok-e.ensures)

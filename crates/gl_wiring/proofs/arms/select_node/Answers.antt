@@ -9,12 +9,12 @@ use Rattle.gl_wiring.proofs.arms.select_node.Goals as goal
 
 pub put_select-requires-clause-column : goal.put_select-requires-clause-column
 put_select-requires-clause-column c =
-    rw (c.requires.below.same_widths, c.from.ensures) (width_at (kinds_of c.args.plan.now c.args.child) c.args.column _
-    ((c.len.ensures.plan.fits c.args.id (Select c.args.child c.args.column) c.requires.node).suits))
+    rw (c.requires.below.same_widths, c.from.ensures) (width_at (kinds_of c.args.site.plan.now c.args.child) c.args.column _
+    ((c.args.site.planned.fits c.args.id (Select c.args.child c.args.column) c.requires.node).suits))
 
 pub returns : goal.returns
 returns c = λ tick leaves h.
-    select_put c.args.plan.now c.args.id c.args.net.now c.put_select.new.net tick leaves c.args.below c.in_ok-e.e c.len.ensures.plan
+    select_put c.args.site.plan.now c.args.id c.args.net.now c.put_select.new.net tick leaves c.args.below c.in_ok-e.e c.args.site.planned
     c.args.child c.args.column c.requires.node h
     (subst (λ (columns : List ℕ). IsBehind c.args.net.now c.put_select.new.net (Steady 1 (keep_where c.args.column)) columns (cost_of_rows columns 0)
     c.args.below c.in_ok-e.e) c.requires.below.same_widths (rw c.from.ensures at c.in_ok-e.ensures))

@@ -4,12 +4,12 @@ use Rattle.gl_wiring.proofs.circuits.put_circuit.Goals as goal
 pub put_reached-requires : goal.put_reached-requires
 put_reached-requires c = rw c.from_ref.ensures.value (c.requires, tt)
 
-pub taken-requires : goal.taken-requires
-taken-requires c =
-    rw c.as_slice.ensures.value (one_there c.args.plan.now c.len.ensures.plan c.args.id c.requires.within c.args.net.now c.put_reached.new.net c.args.tick
-    c.args.leaves.now c.in_ok-table.table.items (rw c.from_ref.ensures.value at c.in_ok-table.ensures))
+pub circuit_at-requires : goal.circuit_at-requires
+circuit_at-requires c =
+    rw c.as_slice.ensures.value (one_there c.args.site.plan.now c.args.site.planned c.args.id c.requires.within c.args.net.now c.put_reached.new.net c.args.site.tick
+    c.args.site.leaves.now c.in_ok-table.table.items (rw c.from_ref.ensures.value at c.in_ok-table.ensures))
 
 pub returns : goal.returns
 returns c =
-    one_reached c.args.plan.now c.len.ensures.plan c.args.id c.requires.within c.args.net.now c.put_reached.new.net c.args.tick
-    c.args.leaves.now c.in_ok-table.table.items (rw c.from_ref.ensures.value at c.in_ok-table.ensures) c.in_ok-e.e (rw c.as_slice.ensures.value at c.in_ok-e.ensures)
+    one_reached c.args.site.plan.now c.args.site.planned c.args.id c.requires.within c.args.net.now c.put_reached.new.net c.args.site.tick
+    c.args.site.leaves.now c.in_ok-table.table.items (rw c.from_ref.ensures.value at c.in_ok-table.ensures) c.in_ok-e.e (rw c.as_slice.ensures.value at c.in_ok-e.ensures)

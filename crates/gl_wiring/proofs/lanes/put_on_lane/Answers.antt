@@ -5,8 +5,8 @@ use Rattle.gl_wiring.proofs.LaneLemmas.{few_slots, lane_leaves, lane_there, some
 use Rattle.gl_wiring.proofs.TableLemmas.{gives_columns, is_there, taken_gives}
 use Rattle.gl_wiring.proofs.lanes.put_on_lane.Goals as goal
 
-pub taken-requires : goal.taken-requires
-taken-requires c = is_there (c.requires.children _ c.requires.node).0
+pub circuit_at-requires : goal.circuit_at-requires
+circuit_at-requires c = is_there (c.requires.children _ c.requires.node).0
 
 pub lane-requires-clause-below : goal.lane-requires-clause-below
 lane-requires-clause-below c = gives_columns (taken_gives (c.requires.children _ c.requires.node).0 c.in_ok-below.ensures)
@@ -14,42 +14,42 @@ lane-requires-clause-below c = gives_columns (taken_gives (c.requires.children _
 pub put_table-requires-clause-within : goal.put_table-requires-clause-within
 put_table-requires-clause-within c =
     let g = c.args.group in
-    second_within c.args.plan.now g.id (Group g.source g.body g.key g.groups) c.len.ensures.plan c.requires.node g.source g.body refl
+    second_within c.args.site.plan.now g.id (Group g.source g.body g.key g.groups) c.args.site.planned c.requires.node g.source g.body refl
 
 pub put_table-requires-clause-leaves : goal.put_table-requires-clause-leaves
 put_table-requires-clause-leaves c =
-    lane_leaves c.args.plan.now c.args.group c.len.ensures.plan c.requires.node c.args.net.now c.lane.new.net c.args.tick c.args.leaves.now c.in_ok-laned.laned
-    (c.in_ok-laned.ensures c.args.tick c.args.leaves.now (taken_gives (c.requires.children _ c.requires.node).0 c.in_ok-below.ensures))
+    lane_leaves c.args.site.plan.now c.args.group c.args.site.planned c.requires.node c.args.net.now c.lane.new.net c.args.site.tick c.args.site.leaves.now c.in_ok-laned.laned
+    (c.in_ok-laned.ensures c.args.site.tick c.args.site.leaves.now (taken_gives (c.requires.children _ c.requires.node).0 c.in_ok-below.ensures))
 
 pub put_table-requires-clause-slot : goal.put_table-requires-clause-slot
 put_table-requires-clause-slot c =
-    rw c.place-place.ensures (c.in_ok-laned.ensures c.args.tick c.args.leaves.now (taken_gives (c.requires.children _ c.requires.node).0 c.in_ok-below.ensures)).lane.slot
+    rw c.place-place.ensures (c.in_ok-laned.ensures c.args.site.tick c.args.site.leaves.now (taken_gives (c.requires.children _ c.requires.node).0 c.in_ok-below.ensures)).lane.slot
 
 pub put_table-requires-clause-bits : goal.put_table-requires-clause-bits
 put_table-requires-clause-bits c =
-    rw c.place-place.ensures (some_slots c.args.plan.now c.args.group c.len.ensures.plan c.requires.node c.args.net.now c.lane.new.net c.args.tick c.args.leaves.now
-    c.in_ok-laned.laned (c.in_ok-laned.ensures c.args.tick c.args.leaves.now (taken_gives (c.requires.children _ c.requires.node).0 c.in_ok-below.ensures)))
+    rw c.place-place.ensures (some_slots c.args.site.plan.now c.args.group c.args.site.planned c.requires.node c.args.net.now c.lane.new.net c.args.site.tick c.args.site.leaves.now
+    c.in_ok-laned.laned (c.in_ok-laned.ensures c.args.site.tick c.args.site.leaves.now (taken_gives (c.requires.children _ c.requires.node).0 c.in_ok-below.ensures)))
 
 pub put_table-requires-clause-few : goal.put_table-requires-clause-few
 put_table-requires-clause-few c =
-    rw c.place-place.ensures (few_slots c.args.plan.now c.args.group c.len.ensures.plan c.requires.node c.args.net.now c.lane.new.net c.args.tick c.args.leaves.now
-    c.in_ok-laned.laned (c.in_ok-laned.ensures c.args.tick c.args.leaves.now (taken_gives (c.requires.children _ c.requires.node).0 c.in_ok-below.ensures)))
+    rw c.place-place.ensures (few_slots c.args.site.plan.now c.args.group c.args.site.planned c.requires.node c.args.net.now c.lane.new.net c.args.site.tick c.args.site.leaves.now
+    c.in_ok-laned.laned (c.in_ok-laned.ensures c.args.site.tick c.args.site.leaves.now (taken_gives (c.requires.children _ c.requires.node).0 c.in_ok-below.ensures)))
 
 pub put_table-requires-clause-first : goal.put_table-requires-clause-first
 put_table-requires-clause-first c =
-    rw c.place-place.ensures (c.in_ok-laned.ensures c.args.tick c.args.leaves.now (taken_gives (c.requires.children _ c.requires.node).0 c.in_ok-below.ensures)).lane.first
+    rw c.place-place.ensures (c.in_ok-laned.ensures c.args.site.tick c.args.site.leaves.now (taken_gives (c.requires.children _ c.requires.node).0 c.in_ok-below.ensures)).lane.first
 
-pub gathered-requires-clause-lane : goal.gathered-requires-clause-lane
-gathered-requires-clause-lane c =
-    lane_there c.args.plan.now c.args.group c.len.ensures.plan c.requires.node c.args.net.now c.lane.new.net c.put_table.new.net c.args.tick c.args.leaves.now
-    c.in_ok-laned.laned c.in_ok-out.ensures.keeps (c.in_ok-laned.ensures c.args.tick c.args.leaves.now (taken_gives (c.requires.children _ c.requires.node).0 c.in_ok-below.ensures))
+pub gather-requires-clause-lane : goal.gather-requires-clause-lane
+gather-requires-clause-lane c =
+    lane_there c.args.site.plan.now c.args.group c.args.site.planned c.requires.node c.args.net.now c.lane.new.net c.put_table.new.net c.args.site.tick c.args.site.leaves.now
+    c.in_ok-laned.laned c.in_ok-out.ensures.keeps (c.in_ok-laned.ensures c.args.site.tick c.args.site.leaves.now (taken_gives (c.requires.children _ c.requires.node).0 c.in_ok-below.ensures))
 
-pub gathered-requires-clause-slot_width : goal.gathered-requires-clause-slot_width
-gathered-requires-clause-slot_width c =
+pub gather-requires-clause-slot_width : goal.gather-requires-clause-slot_width
+gather-requires-clause-slot_width c =
     c.in_ok-out.ensures.slot_width ∙ ap (λ p. p.slot.width) c.place-place.ensures
-    ∙ (c.in_ok-laned.ensures c.args.tick c.args.leaves.now (taken_gives (c.requires.children _ c.requires.node).0 c.in_ok-below.ensures)).lane.slot_width
+    ∙ (c.in_ok-laned.ensures c.args.site.tick c.args.site.leaves.now (taken_gives (c.requires.children _ c.requires.node).0 c.in_ok-below.ensures)).lane.slot_width
 
 pub returns : goal.returns
 returns c =
-    c.gathered.ensures c.args.net.now c.lane.new.net c.args.tick c.args.leaves.now (c.in_ok-laned.ensures c.args.tick c.args.leaves.now (taken_gives (c.requires.children _ c.requires.node).0 c.in_ok-below.ensures))
+    c.gather.ensures c.args.net.now c.lane.new.net c.args.site.tick c.args.site.leaves.now (c.in_ok-laned.ensures c.args.site.tick c.args.site.leaves.now (taken_gives (c.requires.children _ c.requires.node).0 c.in_ok-below.ensures))
     c.requires.direct (rw c.place-place.ensures at c.in_ok-out.ensures)

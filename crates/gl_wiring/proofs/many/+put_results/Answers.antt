@@ -7,15 +7,15 @@ use Rattle.gl_wiring.proofs.many.+put_results.Goals as goal
 
 pub put_root_result-requires-clause-within : goal.put_root_result-requires-clause-within
 put_root_result-requires-clause-within t c =
-    (subst (λ (rs : List Root). AllByRecursion (λ (r : Root). r.id < length c.args.plan.now) rs) c.in-Some.ensures.cases.0 c.requires.within).0
+    (subst (λ (rs : List Root). AllByRecursion (λ (r : Root). r.id < length c.args.site.plan.now) rs) c.in-Some.ensures.cases.0 c.requires.within).0
 
 pub put_root_result-requires-clause-can : goal.put_root_result-requires-clause-can
 put_root_result-requires-clause-can t c =
-    (subst (λ (rs : List Root). AllByRecursion (CanShow c.args.plan.now c.args.net.now c.args.table.now) rs) c.in-Some.ensures.cases.0 c.requires.can).0
+    (subst (λ (rs : List Root). AllByRecursion (CanShow c.args.site.plan.now c.args.net.now c.args.table.now) rs) c.in-Some.ensures.cases.0 c.requires.can).0
 
 pub put_results-requires : goal.put_results-requires
 put_results-requires t c =
-    let nodes = c.args.plan.now in
+    let nodes = c.args.site.plan.now in
     let table = c.args.table.now in
     let n0 = c.args.net.now in
     let n1 = c.put_root_result.new.net in
@@ -26,7 +26,7 @@ put_results-requires t c =
 
 pub returns : goal.returns
 returns t c =
-    let nodes = c.args.plan.now in
+    let nodes = c.args.site.plan.now in
     let table = c.args.table.now in
     let n0 = c.args.net.now in
     let n2 = c.put_results.new.net in

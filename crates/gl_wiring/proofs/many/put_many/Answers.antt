@@ -24,11 +24,11 @@ put_reached-requires c =
     let roots = c.args.roots.now in
     let n1 = c.put_leaves.new.net in
     let n2 = c.put_tick.new.net in
-    let ls = c.deref-2.result.now in
+    let ls = c.deref.result.now in
     let tick = c.in_ok-tick.tick in
-    let wires : AreStreamWires n1 ss ls = subst (AreStreamWires n1 ss) (sym c.deref-2.ensures.value) c.in_ok-leaves.ensures.wires in
+    let wires : AreStreamWires n1 ss ls = subst (AreStreamWires n1 ss) (sym c.deref.ensures.value) c.in_ok-leaves.ensures.wires in
     let line : IsTickLine n2 (reads_time nodes) tick = subst (λ (b : Bool). IsTickLine n2 b tick) c.reads_time.ensures c.in_ok-tick.ensures.line in
-    let same : c.deref.result.now ≡ ids_of roots = c.deref.ensures.value ∙ c.in_ok-ids.ensures in
+    let same : c.deref-2.result.now ≡ ids_of roots = c.deref-2.ensures.value ∙ c.in_ok-ids.ensures in
     subst (λ (ids : List ℕ). CanPutAll nodes c.args.figures.now ids n2 tick ls) (sym same)
     (can_put schema nodes c.args.figures.now n2 tick ls can.figured (wires_stay n1 n2 ss ls c.in_ok-tick.ensures.extends wires) line roots can.each)
 
@@ -41,10 +41,10 @@ put_results-requires-clause-can c =
     let roots = c.args.roots.now in
     let n2 = c.put_tick.new.net in
     let n3 = c.put_reached.new.net in
-    let ls = c.deref-2.result.now in
+    let ls = c.deref.result.now in
     let tick = c.in_ok-tick.tick in
     let table = c.in_ok-table.table.items in
-    let same : c.deref.result.now ≡ ids_of roots = c.deref.ensures.value ∙ c.in_ok-ids.ensures in
+    let same : c.deref-2.result.now ≡ ids_of roots = c.deref-2.ensures.value ∙ c.in_ok-ids.ensures in
     let reached : AreReached nodes (ids_of roots) n2 n3 tick ls table =
     subst (λ (ids : List ℕ). AreReached nodes ids n2 n3 tick ls table) same c.in_ok-table.ensures in
     rw c.deref-3.ensures.value
@@ -74,16 +74,16 @@ returns-clause-plan c =
     let ss = schema.streams in
     let roots = c.args.roots.now in
     let ids = ids_of roots in
-    let ls = c.deref-2.result.now in
+    let ls = c.deref.result.now in
     let tick = c.in_ok-tick.tick in
     let ticks = reads_time nodes in
     let table = c.in_ok-table.table.items in
     let out = c.in_ok-put_results.ensures in
-    let same : c.deref.result.now ≡ ids = c.deref.ensures.value ∙ c.in_ok-ids.ensures in
+    let same : c.deref-2.result.now ≡ ids = c.deref-2.ensures.value ∙ c.in_ok-ids.ensures in
     let reached : AreReached nodes ids n2 n3 tick ls table = subst (λ (xs : List ℕ). AreReached nodes xs n2 n3 tick ls table) same c.in_ok-table.ensures in
     let y : Extends n2 n4 = extends_then n2 n3 n4 (keeps_extends n2 n3 reached.keeps) out.extends in
     let x : Extends n1 n4 = extends_then n1 n2 n4 c.in_ok-tick.ensures.extends y in
-    let wires : AreStreamWires n1 ss ls = subst (AreStreamWires n1 ss) (sym c.deref-2.ensures.value) c.in_ok-leaves.ensures.wires in
+    let wires : AreStreamWires n1 ss ls = subst (AreStreamWires n1 ss) (sym c.deref.ensures.value) c.in_ok-leaves.ensures.wires in
     let line : IsTickLine n2 ticks tick = subst (λ (b : Bool). IsTickLine n2 b tick) c.reads_time.ensures c.in_ok-tick.ensures.line in
     let nothing : CostsNothing n0 n2 = nothing_then n0 n1 n2 c.in_ok-leaves.ensures.cost c.in_ok-tick.ensures.cost in
     let cost = are_within nodes ids n0 n2 n3 n4 c.requires.empty nothing reached.cost out.cost in

@@ -21,16 +21,16 @@ put_root-requires-clause-can c =
     let n1 = c.put_leaves.new.net in
     let n2 = c.put_tick.new.net in
     let ss = c.args.schema.now.streams in
-    let of = (shape_of c.args.plan.now c.args.root).leaves in
+    let of = (shape_of c.args.bare.plan.now c.args.root.now.id).leaves in
     let wires : AreStreamWires n1 ss c.deref.result.now = subst (AreStreamWires n1 ss) (sym c.deref.ensures.value) c.in_ok-leaves.ensures.wires in
-    let line : IsTickLine n2 (reads_time c.args.plan.now) c.in_ok-tick.tick =
+    let line : IsTickLine n2 (reads_time c.args.bare.plan.now) c.in_ok-tick.tick =
     subst (λ (b : Bool). IsTickLine n2 b c.in_ok-tick.tick) c.reads_time.ensures c.in_ok-tick.ensures.line in
     record {
       within = can.within;
       figured = can.figured;
       leaved = leaves_have n2 ss c.deref.result.now of (wires_stay n1 n2 ss c.deref.result.now c.in_ok-tick.ensures.extends wires) can.leaves;
-      ticked = line_there n2 (reads_time c.args.plan.now) c.in_ok-tick.tick line;
-      timed = lines_have n2 (reads_time c.args.plan.now) c.in_ok-tick.tick line of;
+      ticked = line_there n2 (reads_time c.args.bare.plan.now) c.in_ok-tick.tick line;
+      timed = lines_have n2 (reads_time c.args.bare.plan.now) c.in_ok-tick.tick line of;
     }
 
 pub returns-clause-extends : goal.returns-clause-extends
@@ -52,12 +52,12 @@ returns-clause-plan c =
     let n3 = c.put_root.new.net in
     let n4 = c.put_result.new.net in
     let can = c.requires.can in
-    let plan = c.len.ensures.plan in
-    let nodes = c.args.plan.now in
-    let root = c.args.root in
+    let plan = c.args.bare.planned in
+    let nodes = c.args.bare.plan.now in
+    let root = c.args.root.now.id in
     let schema = c.args.schema.now in
     let ss = schema.streams in
-    let names = c.args.names.now.columns in
+    let names = c.args.root.now.names.columns in
     let ls = c.deref.result.now in
     let tick = c.in_ok-tick.tick in
     let ticks = reads_time nodes in
@@ -74,7 +74,7 @@ returns-clause-plan c =
     costs_within nodes root n0 n2 n3 n4 ws plan can.within c.requires.empty nothing put.cost out.cost put.columns.same_widths in
     let shown : Puts n3 n4 (output_ports (widths_of (kinds_of nodes root)) names) =
     subst (λ (z : List ℕ). Puts n3 n4 (output_ports z names)) put.columns.same_widths
-    (subst (λ (z : List (List ℕ)). Puts n3 n4 (output_ports ws z)) c.as_slice.ensures out.ports) in
+    (subst (λ (z : List (List ℕ)). Puts n3 n4 (output_ports ws z)) c.as_slice-names.ensures out.ports) in
     let own : Puts n1 n2 (tick_input ticks) = subst (λ (b : Bool). Puts n1 n2 (tick_input b)) c.reads_time.ensures c.in_ok-tick.ensures.ports in
     let inputs : Puts n0 n2 (input_ports ticks schema) =
     subst (λ (z : List PortShape). Puts n0 n2 z) (inputs_joined ticks schema)
@@ -90,7 +90,7 @@ returns-clause-plan c =
         wires = wires_stay n1 n4 ss ls x wires;
         line = line_stays n2 n4 ticks tick y line;
         serves = λ run r. put.once run (out.extends.runs run r);
-        output = subst (λ (z : List (List ℕ)). IsOutput plain n4 z e) c.as_slice.ensures out.output;
+        output = subst (λ (z : List (List ℕ)). IsOutput plain n4 z e) c.as_slice-names.ensures out.output;
         reset = reset_stays n1 n4 x c.in_ok-leaves.ensures.reset;
       };
       ports = all_put n0 n4 (plan_ports ticks schema (kinds_of nodes root) names) c.requires.empty.ports

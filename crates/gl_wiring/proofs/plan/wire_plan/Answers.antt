@@ -13,7 +13,7 @@ use Rattle.gl_wiring.proofs.plan.wire_plan.Goals as goal
 pub finish-requires : goal.finish-requires
 finish-requires c =
     let s = c.args.schema.now in
-    let names = c.args.names.now in
+    let names = c.args.root.now.names in
     let can = c.requires in
     let net = c.put_plan.new.net in
     let e = c.in_ok-put_plan.ensures in
@@ -21,15 +21,15 @@ finish-requires c =
     e.extends.module_name ∙ c.in_ok-module.ensures.module_name ∙ ap (λ (n : List ℕ). Some n) (cc (c.deref.ensures.value, c.in_ok-name.ensures, c.as_slice.ensures)) in
     let driven = λ (n : ℕ). e.extends.undriven n ∙ c.module.ensures.undriven n ∙ c.new-net.ensures.undriven n in
     let ticks = reads_time c.args.plan.now in
-    let ports : names_of net ≡ port_names ticks s names.columns = plan_names ticks net s c.args.plan.now c.args.root names.columns can.named.many' e.plan.ports in
+    let ports : names_of net ≡ port_names ticks s names.columns = plan_names ticks net s c.args.plan.now c.args.root.now.id names.columns can.named.many' e.plan.ports in
     finished ticks s names.columns names.into net can.schema' can.named.columns can.named.distinct can.named.into ports named driven e.plan.shown.reset
 
 pub returns : goal.returns
 returns c =
     let s = c.args.schema.now in
-    let names = c.args.names.now in
+    let names = c.args.root.now.names in
     let nodes = c.args.plan.now in
-    let root = c.args.root in
+    let root = c.args.root.now.id in
     let can = c.requires in
     let net = c.put_plan.new.net in
     let e = c.in_ok-put_plan.ensures in

@@ -23,35 +23,35 @@ put_root_of-put_marked-requires t c = (
   omega (arith, c.number-limit.ensures),
   (
     omega (arith, c.number-limit.ensures, c.requires.can.within),
-    one_marked c.args.plan.now c.args.figures.now c.args.net.now c.args.tick c.args.leaves.now c.len-limit.ensures.plan c.args.id c.args.marks.now
+    one_marked c.args.site.plan.now c.args.site.figures.now c.args.net.now c.args.site.tick c.args.site.leaves.now c.args.site.planned c.args.id c.args.marks.now
         c.requires.marks c.requires.can,
   ),
 )
 
-pub put_root_of-taken-requires : goal.put_root_of-taken-requires
-put_root_of-taken-requires t c =
+pub put_root_of-circuit_at-requires : goal.put_root_of-circuit_at-requires
+put_root_of-circuit_at-requires t c =
     let limit = ap (λ n. n + 1) c.number-limit.ensures in
-    rw c.as_slice.ensures.value (root_is_there c.args.plan.now c.len-limit.ensures.plan c.args.id (c.number-limit.result + 1) limit c.requires.can.within
-    c.args.marks.now c.requires.marks c.args.net.now c.put_marked.new.net c.args.tick c.args.leaves.now c.in_ok-table.table.items c.in_ok-table.ensures)
+    rw c.as_slice.ensures.value (root_is_there c.args.site.plan.now c.args.site.planned c.args.id (c.number-limit.result + 1) limit c.requires.can.within
+    c.args.marks.now c.requires.marks c.args.net.now c.put_marked.new.net c.args.site.tick c.args.site.leaves.now c.in_ok-table.table.items c.in_ok-table.ensures)
 
 pub put_root_of-returns : goal.put_root_of-returns
 put_root_of-returns t c =
     let limit = ap (λ n. n + 1) c.number-limit.ensures in
-    one_is_put c.args.plan.now c.len-limit.ensures.plan c.args.id (c.number-limit.result + 1) limit c.requires.can.within
-    c.args.marks.now c.requires.marks c.args.net.now c.put_marked.new.net c.args.tick c.args.leaves.now c.in_ok-table.table.items c.in_ok-table.ensures
+    one_is_put c.args.site.plan.now c.args.site.planned c.args.id (c.number-limit.result + 1) limit c.requires.can.within
+    c.args.marks.now c.requires.marks c.args.net.now c.put_marked.new.net c.args.site.tick c.args.site.leaves.now c.in_ok-table.table.items c.in_ok-table.ensures
     c.in_ok-e.e (rw c.as_slice.ensures.value at c.in_ok-e.ensures)
 
 pub put_marked-put_slot-requires : goal.put_marked-put_slot-requires
 put_marked-put_slot-requires t c =
-    let can = marked_kept c.args.plan.now c.args.figures.now c.args.marks.now c.args.net.now c.loop-number.net c.args.tick c.args.leaves.now
+    let can = marked_kept c.args.site.plan.now c.args.site.figures.now c.args.marks.now c.args.net.now c.loop-number.net c.args.site.tick c.args.site.leaves.now
     c.loop-number.invariant.put.keeps c.requires.can in (
       omega (arith, c.loop-number-test.true),
       (
         omega (arith, c.loop-number-test.true, c.requires.within),
         (
           λ marked. can.can c.loop-number.number marked,
-          λ marked. rw c.as_slice.ensures.value (children_there c.args.plan.now c.len.ensures.plan c.args.figures.now c.args.marks.now c.loop-number.net
-              c.args.tick c.args.leaves.now can c.loop-number.number marked c.args.net.now c.loop-number.net c.loop-number.table.items c.loop-number.invariant.put),
+          λ marked. rw c.as_slice.ensures.value (children_there c.args.site.plan.now c.args.site.planned c.args.site.figures.now c.args.marks.now c.loop-number.net
+              c.args.site.tick c.args.site.leaves.now can c.loop-number.number marked c.args.net.now c.loop-number.net c.loop-number.table.items c.loop-number.invariant.put),
         ),
       ),
     )
@@ -59,12 +59,12 @@ put_marked-put_slot-requires t c =
 pub put_marked-loop-number-preserved : goal.put_marked-loop-number-preserved
 put_marked-loop-number-preserved t c = record {
   within = omega (arith, c.loop-number-test.true);
-  put = rw c.in_ok-push.ensures.items (slot_next c.args.plan.now c.args.marks.now c.loop-number.number c.args.net.now c.loop-number.net c.put_slot.new.net
-      c.args.tick c.args.leaves.now c.loop-number.table.items c.loop-number.invariant.put c.in_ok-slot.slot c.in_ok-slot.ensures);
+  put = rw c.in_ok-push.ensures.items (slot_next c.args.site.plan.now c.args.marks.now c.loop-number.number c.args.net.now c.loop-number.net c.put_slot.new.net
+      c.args.site.tick c.args.site.leaves.now c.loop-number.table.items c.loop-number.invariant.put c.in_ok-slot.slot c.in_ok-slot.ensures);
 }
 
-pub put_window-taken-requires : goal.put_window-taken-requires
-put_window-taken-requires t c =
+pub put_window-circuit_at-requires : goal.put_window-circuit_at-requires
+put_window-circuit_at-requires t c =
     is_there (c.requires.children _ c.requires.node).0
 
 pub put_window-front-requires-clause-below : goal.put_window-front-requires-clause-below
@@ -75,34 +75,38 @@ pub put_window-put_copies-requires : goal.put_window-put_copies-requires
 put_window-put_copies-requires t c =
     let w = c.args.window in
     let before : w.body < w.id =
-    second_before c.args.plan.now w.id (Window w.source w.body w.size w.advance) c.len.ensures.plan c.requires.node w.source w.body refl in (
+    second_before c.args.site.plan.now w.id (Window w.source w.body w.size w.advance) c.args.site.planned c.requires.node w.source w.body refl in (
       omega (arith, before),
-      rw c.as_slice.ensures (window_copies c.args.plan.now w c.len.ensures.plan c.requires.node c.args.figures.now c.args.net.now c.args.net.now
-          c.front.new.net c.args.tick c.args.leaves.now c.in_ok-front.front c.requires.can (c.in_ok-front.ensures c.args.tick c.args.leaves.now (taken_gives (c.requires.children _ c.requires.node).0 c.in_ok-below.ensures))),
+      rw c.as_slice.ensures (window_copies c.args.site.plan.now w c.args.site.planned c.requires.node c.args.site.figures.now c.args.net.now c.args.net.now
+          c.front.new.net c.args.site.tick c.args.site.leaves.now c.in_ok-front.front c.requires.can (c.in_ok-front.ensures c.args.site.tick c.args.site.leaves.now (taken_gives (c.requires.children _ c.requires.node).0 c.in_ok-below.ensures))),
     )
 
 pub put_window-back-requires-clause-front : goal.put_window-back-requires-clause-front
 put_window-back-requires-clause-front t c =
-    fronts_kept c.front.new.net c.put_copies.new.net (rotation_of c.args.plan.now c.args.window) c.in_ok-front.front c.in_ok-copies.ensures.keeps
-    (c.in_ok-front.ensures c.args.tick c.args.leaves.now (taken_gives (c.requires.children _ c.requires.node).0 c.in_ok-below.ensures)).fronts
+    fronts_kept c.front.new.net c.put_copies.new.net (rotation_of c.args.site.plan.now c.args.window) c.in_ok-front.front c.in_ok-copies.ensures.keeps
+    (c.in_ok-front.ensures c.args.site.tick c.args.site.leaves.now (taken_gives (c.requires.children _ c.requires.node).0 c.in_ok-below.ensures)).fronts
 
 pub put_window-back-requires-clause-copies : goal.put_window-back-requires-clause-copies
 put_window-back-requires-clause-copies t c =
-    rw c.as_slice-2.ensures (bodies_copies c.args.plan.now c.args.window.body c.front.new.net c.put_copies.new.net c.in_ok-front.front.wires
+    rw c.as_slice-2.ensures (bodies_copies c.args.site.plan.now c.args.window.body c.front.new.net c.put_copies.new.net c.in_ok-front.front.wires
     c.in_ok-copies.copies (rw c.as_slice.ensures at c.in_ok-copies.ensures))
 
 pub put_window-back-requires-clause-count : goal.put_window-back-requires-clause-count
 put_window-back-requires-clause-count t c =
     rw c.as_slice-2.ensures ((rw c.as_slice.ensures at c.in_ok-copies.ensures).as_many
-    ∙ (c.in_ok-front.ensures c.args.tick c.args.leaves.now (taken_gives (c.requires.children _ c.requires.node).0 c.in_ok-below.ensures)).fronts.as_many)
+    ∙ (c.in_ok-front.ensures c.args.site.tick c.args.site.leaves.now (taken_gives (c.requires.children _ c.requires.node).0 c.in_ok-below.ensures)).fronts.as_many)
 
 pub put_window-returns : goal.put_window-returns
 put_window-returns t c =
-    c.back.ensures c.args.net.now c.front.new.net c.args.tick c.args.leaves.now (c.in_ok-front.ensures c.args.tick c.args.leaves.now (taken_gives (c.requires.children _ c.requires.node).0 c.in_ok-below.ensures))
+    c.back.ensures c.args.net.now c.front.new.net c.args.site.tick c.args.site.leaves.now (c.in_ok-front.ensures c.args.site.tick c.args.site.leaves.now (taken_gives (c.requires.children _ c.requires.node).0 c.in_ok-below.ensures))
     (rw c.as_slice-2.ensures (rw c.as_slice.ensures at c.in_ok-copies.ensures))
 
-pub put_time_window-taken-requires : goal.put_time_window-taken-requires
-put_time_window-taken-requires t c =
+pub put_time_window-unreachable-requires : goal.put_time_window-unreachable-requires
+put_time_window-unreachable-requires t c =
+    line_is_there c.args.site.plan.now c.args.window c.args.site.planned c.requires.node c.args.site.tick c.in_default.is c.requires.can.timed
+
+pub put_time_window-circuit_at-requires : goal.put_time_window-circuit_at-requires
+put_time_window-circuit_at-requires t c =
     is_there (c.requires.children _ c.requires.node).0
 
 pub put_time_window-front-requires-clause-below : goal.put_time_window-front-requires-clause-below
@@ -110,44 +114,43 @@ put_time_window-front-requires-clause-below t c =
     gives_columns (taken_gives (c.requires.children _ c.requires.node).0 c.in_ok-below.ensures)
 
 pub put_time_window-front-requires-clause-tick : goal.put_time_window-front-requires-clause-tick
-put_time_window-front-requires-clause-tick t c =
-    c.requires.can.ticked
+put_time_window-front-requires-clause-tick t c = rw c.in-Some.is at c.requires.can.ticked
 
 pub put_time_window-put_copies-requires : goal.put_time_window-put_copies-requires
 put_time_window-put_copies-requires t c =
     let w = c.args.window in
     let before : w.body < w.id =
-    second_before c.args.plan.now w.id (TimeWindow w.source w.body w.size w.advance) c.len.ensures.plan c.requires.node w.source w.body refl in (
+    second_before c.args.site.plan.now w.id (TimeWindow w.source w.body w.size w.advance) c.args.site.planned c.requires.node w.source w.body refl in (
       omega (arith, before),
-      rw c.as_slice.ensures (time_copies c.args.plan.now w c.len.ensures.plan c.requires.node c.args.figures.now c.args.net.now c.args.net.now
-          c.front.new.net c.args.line c.args.leaves.now c.in_ok-front.front c.requires.can
-          (c.in_ok-front.ensures c.args.leaves.now (taken_gives (c.requires.children _ c.requires.node).0 c.in_ok-below.ensures))),
+      rw c.as_slice.ensures (time_copies c.args.site.plan.now w c.args.site.planned c.requires.node c.args.site.figures.now c.args.net.now c.args.net.now
+          c.front.new.net c.in-Some.line c.args.site.leaves.now c.in_ok-front.front (rw c.in-Some.is at c.requires.can)
+          (c.in_ok-front.ensures c.args.site.leaves.now (rw c.in-Some.is at (taken_gives (c.requires.children _ c.requires.node).0 c.in_ok-below.ensures)))),
     )
 
 pub put_time_window-back-requires-clause-front : goal.put_time_window-back-requires-clause-front
 put_time_window-back-requires-clause-front t c =
-    time_fronts_kept c.front.new.net c.put_copies.new.net (time_rotation_of c.args.plan.now c.args.window) c.args.line c.in_ok-front.front
+    time_fronts_kept c.front.new.net c.put_copies.new.net (time_rotation_of c.args.site.plan.now c.args.window) c.in-Some.line c.in_ok-front.front
     c.in_ok-copies.ensures.keeps
-    (c.in_ok-front.ensures c.args.leaves.now (taken_gives (c.requires.children _ c.requires.node).0 c.in_ok-below.ensures)).fronts
+    (c.in_ok-front.ensures c.args.site.leaves.now (rw c.in-Some.is at (taken_gives (c.requires.children _ c.requires.node).0 c.in_ok-below.ensures))).fronts
 
 pub put_time_window-back-requires-clause-copies : goal.put_time_window-back-requires-clause-copies
 put_time_window-back-requires-clause-copies t c =
-    rw c.as_slice-2.ensures (bodies_copies c.args.plan.now c.args.window.body c.front.new.net c.put_copies.new.net c.in_ok-front.front.wires
+    rw c.as_slice-2.ensures (bodies_copies c.args.site.plan.now c.args.window.body c.front.new.net c.put_copies.new.net c.in_ok-front.front.wires
     c.in_ok-copies.copies (rw c.as_slice.ensures at c.in_ok-copies.ensures))
 
 pub put_time_window-back-requires-clause-count : goal.put_time_window-back-requires-clause-count
 put_time_window-back-requires-clause-count t c =
     rw c.as_slice-2.ensures ((rw c.as_slice.ensures at c.in_ok-copies.ensures).as_many
-    ∙ (c.in_ok-front.ensures c.args.leaves.now (taken_gives (c.requires.children _ c.requires.node).0 c.in_ok-below.ensures)).fronts.as_many)
+    ∙ (c.in_ok-front.ensures c.args.site.leaves.now (rw c.in-Some.is at (taken_gives (c.requires.children _ c.requires.node).0 c.in_ok-below.ensures))).fronts.as_many)
 
 pub put_time_window-returns : goal.put_time_window-returns
 put_time_window-returns t c =
-    c.back.ensures c.args.net.now c.front.new.net c.args.leaves.now c.requires.can.leaved
-    (c.in_ok-front.ensures c.args.leaves.now (taken_gives (c.requires.children _ c.requires.node).0 c.in_ok-below.ensures))
-    (rw c.as_slice-2.ensures (rw c.as_slice.ensures at c.in_ok-copies.ensures))
+    rw c.in-Some.is (c.back.ensures c.args.net.now c.front.new.net c.args.site.leaves.now c.requires.can.leaved
+    (c.in_ok-front.ensures c.args.site.leaves.now (rw c.in-Some.is at (taken_gives (c.requires.children _ c.requires.node).0 c.in_ok-below.ensures)))
+    (rw c.as_slice-2.ensures (rw c.as_slice.ensures at c.in_ok-copies.ensures)))
 
-pub put_group-taken-requires : goal.put_group-taken-requires
-put_group-taken-requires t c =
+pub put_group-circuit_at-requires : goal.put_group-circuit_at-requires
+put_group-circuit_at-requires t c =
     is_there (c.requires.children _ c.requires.node).0
 
 pub put_group-front-requires-clause-below : goal.put_group-front-requires-clause-below
@@ -157,7 +160,7 @@ put_group-front-requires-clause-below t c =
 pub put_group-is_direct-requires : goal.put_group-is_direct-requires
 put_group-is_direct-requires t c =
     let g = c.args.group in
-    second_within c.args.plan.now g.id (Group g.source g.body g.key g.groups) c.len.ensures.plan c.requires.node g.source g.body refl
+    second_within c.args.site.plan.now g.id (Group g.source g.body g.key g.groups) c.args.site.planned c.requires.node g.source g.body refl
 
 pub put_group-put_on_lane-requires : goal.put_group-put_on_lane-requires
 put_group-put_on_lane-requires t c = record {
@@ -174,34 +177,34 @@ pub put_group-put_copies-requires : goal.put_group-put_copies-requires
 put_group-put_copies-requires t c =
     let g = c.args.group in
     let before : g.body < g.id =
-    second_before c.args.plan.now g.id (Group g.source g.body g.key g.groups) c.len.ensures.plan c.requires.node g.source g.body refl in (
+    second_before c.args.site.plan.now g.id (Group g.source g.body g.key g.groups) c.args.site.planned c.requires.node g.source g.body refl in (
       omega (arith, before),
-      rw c.as_slice.ensures (group_copies c.args.plan.now g c.len.ensures.plan c.requires.node c.args.figures.now c.args.net.now c.args.net.now
-          c.front.new.net c.args.tick c.args.leaves.now c.in_ok-front.front c.requires.can (c.in_ok-front.ensures c.args.tick c.args.leaves.now (taken_gives (c.requires.children _ c.requires.node).0 c.in_ok-below.ensures))),
+      rw c.as_slice.ensures (group_copies c.args.site.plan.now g c.args.site.planned c.requires.node c.args.site.figures.now c.args.net.now c.args.net.now
+          c.front.new.net c.args.site.tick c.args.site.leaves.now c.in_ok-front.front c.requires.can (c.in_ok-front.ensures c.args.site.tick c.args.site.leaves.now (taken_gives (c.requires.children _ c.requires.node).0 c.in_ok-below.ensures))),
     )
 
 pub put_group-back-requires-clause-front : goal.put_group-back-requires-clause-front
 put_group-back-requires-clause-front t c =
-    slots_kept c.front.new.net c.put_copies.new.net (grouping_of c.args.plan.now c.args.group) c.in_ok-front.front c.in_ok-copies.ensures.keeps
-    (c.in_ok-front.ensures c.args.tick c.args.leaves.now (taken_gives (c.requires.children _ c.requires.node).0 c.in_ok-below.ensures)).fronts
+    slots_kept c.front.new.net c.put_copies.new.net (grouping_of c.args.site.plan.now c.args.group) c.in_ok-front.front c.in_ok-copies.ensures.keeps
+    (c.in_ok-front.ensures c.args.site.tick c.args.site.leaves.now (taken_gives (c.requires.children _ c.requires.node).0 c.in_ok-below.ensures)).fronts
 
 pub put_group-back-requires-clause-copies : goal.put_group-back-requires-clause-copies
 put_group-back-requires-clause-copies t c =
-    rw c.as_slice-2.ensures (bodies_copies c.args.plan.now c.args.group.body c.front.new.net c.put_copies.new.net c.in_ok-front.front.wires
+    rw c.as_slice-2.ensures (bodies_copies c.args.site.plan.now c.args.group.body c.front.new.net c.put_copies.new.net c.in_ok-front.front.wires
     c.in_ok-copies.copies (rw c.as_slice.ensures at c.in_ok-copies.ensures))
 
 pub put_group-back-requires-clause-count : goal.put_group-back-requires-clause-count
 put_group-back-requires-clause-count t c =
     rw c.as_slice-2.ensures ((rw c.as_slice.ensures at c.in_ok-copies.ensures).as_many
-    ∙ (c.in_ok-front.ensures c.args.tick c.args.leaves.now (taken_gives (c.requires.children _ c.requires.node).0 c.in_ok-below.ensures)).fronts.as_many)
+    ∙ (c.in_ok-front.ensures c.args.site.tick c.args.site.leaves.now (taken_gives (c.requires.children _ c.requires.node).0 c.in_ok-below.ensures)).fronts.as_many)
 
 pub put_group-returns : goal.put_group-returns
 put_group-returns t c =
-    c.back.ensures c.args.net.now c.front.new.net c.args.tick c.args.leaves.now (c.in_ok-front.ensures c.args.tick c.args.leaves.now (taken_gives (c.requires.children _ c.requires.node).0 c.in_ok-below.ensures))
+    c.back.ensures c.args.net.now c.front.new.net c.args.site.tick c.args.site.leaves.now (c.in_ok-front.ensures c.args.site.tick c.args.site.leaves.now (taken_gives (c.requires.children _ c.requires.node).0 c.in_ok-below.ensures))
     (rw c.as_slice-2.ensures (rw c.as_slice.ensures at c.in_ok-copies.ensures))
 
-pub put_partition-taken-requires : goal.put_partition-taken-requires
-put_partition-taken-requires t c =
+pub put_partition-circuit_at-requires : goal.put_partition-circuit_at-requires
+put_partition-circuit_at-requires t c =
     is_there (c.requires.children _ c.requires.node).0
 
 pub put_partition-front-requires-clause-below : goal.put_partition-front-requires-clause-below
@@ -212,74 +215,123 @@ pub put_partition-put_copies-requires : goal.put_partition-put_copies-requires
 put_partition-put_copies-requires t c =
     let p = c.args.partition in
     let before : p.body < p.id =
-    second_before c.args.plan.now p.id (Partition p.source p.body p.key p.groups p.size p.advance) c.len.ensures.plan c.requires.node p.source p.body refl in (
+    second_before c.args.site.plan.now p.id (Partition p.source p.body p.key p.groups p.size p.advance) c.args.site.planned c.requires.node p.source p.body refl in (
       omega (arith, before),
-      rw c.as_slice.ensures (partition_copies c.args.plan.now p c.len.ensures.plan c.requires.node c.args.figures.now c.args.net.now c.args.net.now
-          c.front.new.net c.args.tick c.args.leaves.now c.in_ok-front.front c.requires.can (c.in_ok-front.ensures c.args.tick c.args.leaves.now (taken_gives (c.requires.children _ c.requires.node).0 c.in_ok-below.ensures))),
+      rw c.as_slice.ensures (partition_copies c.args.site.plan.now p c.args.site.planned c.requires.node c.args.site.figures.now c.args.net.now c.args.net.now
+          c.front.new.net c.args.site.tick c.args.site.leaves.now c.in_ok-front.front c.requires.can (c.in_ok-front.ensures c.args.site.tick c.args.site.leaves.now (taken_gives (c.requires.children _ c.requires.node).0 c.in_ok-below.ensures))),
     )
 
 pub put_partition-back-requires-clause-front : goal.put_partition-back-requires-clause-front
 put_partition-back-requires-clause-front t c =
-    parts_kept c.front.new.net c.put_copies.new.net (partitioning_of c.args.plan.now c.args.partition) c.in_ok-front.front c.in_ok-copies.ensures.keeps
-    (c.in_ok-front.ensures c.args.tick c.args.leaves.now (taken_gives (c.requires.children _ c.requires.node).0 c.in_ok-below.ensures)).fronts
+    parts_kept c.front.new.net c.put_copies.new.net (partitioning_of c.args.site.plan.now c.args.partition) c.in_ok-front.front c.in_ok-copies.ensures.keeps
+    (c.in_ok-front.ensures c.args.site.tick c.args.site.leaves.now (taken_gives (c.requires.children _ c.requires.node).0 c.in_ok-below.ensures)).fronts
 
 pub put_partition-back-requires-clause-copies : goal.put_partition-back-requires-clause-copies
 put_partition-back-requires-clause-copies t c =
-    rw c.as_slice-2.ensures (bodies_copies c.args.plan.now c.args.partition.body c.front.new.net c.put_copies.new.net c.in_ok-front.front.wires
+    rw c.as_slice-2.ensures (bodies_copies c.args.site.plan.now c.args.partition.body c.front.new.net c.put_copies.new.net c.in_ok-front.front.wires
     c.in_ok-copies.copies (rw c.as_slice.ensures at c.in_ok-copies.ensures))
 
 pub put_partition-back-requires-clause-count : goal.put_partition-back-requires-clause-count
 put_partition-back-requires-clause-count t c =
     rw c.as_slice-2.ensures ((rw c.as_slice.ensures at c.in_ok-copies.ensures).as_many
-    ∙ (c.in_ok-front.ensures c.args.tick c.args.leaves.now (taken_gives (c.requires.children _ c.requires.node).0 c.in_ok-below.ensures)).fronts.as_many)
+    ∙ (c.in_ok-front.ensures c.args.site.tick c.args.site.leaves.now (taken_gives (c.requires.children _ c.requires.node).0 c.in_ok-below.ensures)).fronts.as_many)
 
 pub put_partition-returns : goal.put_partition-returns
 put_partition-returns t c =
-    c.back.ensures c.args.net.now c.front.new.net c.args.tick c.args.leaves.now (c.in_ok-front.ensures c.args.tick c.args.leaves.now (taken_gives (c.requires.children _ c.requires.node).0 c.in_ok-below.ensures))
+    c.back.ensures c.args.net.now c.front.new.net c.args.site.tick c.args.site.leaves.now (c.in_ok-front.ensures c.args.site.tick c.args.site.leaves.now (taken_gives (c.requires.children _ c.requires.node).0 c.in_ok-below.ensures))
     (rw c.as_slice-2.ensures (rw c.as_slice.ensures at c.in_ok-copies.ensures))
 
-pub put_over-put_window-requires : goal.put_over-put_window-requires
-put_over-put_window-requires t c = (omega arith, (c.node.ensures.node ∙ ap Some c.in-Window.is, (c.requires.can, c.requires.children)))
+pub put_over-at-window-requires : goal.put_over-at-window-requires
+put_over-at-window-requires t c = (
+  record {
+    id = c.args.id;
+    source = c.in-Window.source;
+    body = c.in-Window.body;
+    size = c.in-Window.size;
+    advance = c.in-Window.advance;
+  },
+  refl,
+  c.node.ensures.node ∙ ap Some c.in-Window.is,
+)
 
-pub put_over-unreachable-requires : goal.put_over-unreachable-requires
-put_over-unreachable-requires t c =
-    line_is_there c.args.plan.now (record {
-      id = c.args.id;
-      source = c.in-TimeWindow.source;
-      body = c.in-TimeWindow.body;
-      size = c.in-TimeWindow.size;
-      advance = c.in-TimeWindow.advance;
-    }) c.node.ensures.plan (c.node.ensures.node ∙ ap Some c.in-TimeWindow.is) c.args.tick c.in_default-tick.is c.requires.can.timed
+pub put_over-put_window-requires : goal.put_over-put_window-requires
+put_over-put_window-requires t c =
+    let at = c.at-window.ensures in
+    (omega (arith, at.id), (at.node, (rw at.id c.requires.can, rw at.id c.requires.children)))
+
+pub put_over-at-window-requires-in-TimeWindow : goal.put_over-at-window-requires-in-TimeWindow
+put_over-at-window-requires-in-TimeWindow t c = (
+  record {
+    id = c.args.id;
+    source = c.in-TimeWindow.source;
+    body = c.in-TimeWindow.body;
+    size = c.in-TimeWindow.size;
+    advance = c.in-TimeWindow.advance;
+  },
+  refl,
+  c.node.ensures.node ∙ ap Some c.in-TimeWindow.is,
+)
 
 pub put_over-put_time_window-requires : goal.put_over-put_time_window-requires
 put_over-put_time_window-requires t c =
-    let can = rw c.in-Some.is at c.requires.can in
-    let children = rw c.in-Some.is at c.requires.children in
-    (omega arith, (c.node.ensures.node ∙ ap Some c.in-TimeWindow.is, (can, children)))
+    let at = c.at-window-in-TimeWindow.ensures in
+    (omega (arith, at.id), (at.node, (rw at.id c.requires.can, rw at.id c.requires.children)))
+
+pub put_over-at-group-requires : goal.put_over-at-group-requires
+put_over-at-group-requires t c = (
+  record {
+    id = c.args.id;
+    source = c.in-Group.source;
+    body = c.in-Group.body;
+    key = c.in-Group.key;
+    groups = c.in-Group.groups;
+  },
+  refl,
+  c.node.ensures.node ∙ ap Some c.in-Group.is,
+)
 
 pub put_over-put_group-requires : goal.put_over-put_group-requires
-put_over-put_group-requires t c = (omega arith, (c.node.ensures.node ∙ ap Some c.in-Group.is, (c.requires.can, c.requires.children)))
+put_over-put_group-requires t c =
+    let at = c.at-group.ensures in
+    (omega (arith, at.id), (at.node, (rw at.id c.requires.can, rw at.id c.requires.children)))
+
+pub put_over-at-partition-requires : goal.put_over-at-partition-requires
+put_over-at-partition-requires t c = (
+  record {
+    id = c.args.id;
+    source = c.in-Partition.source;
+    body = c.in-Partition.body;
+    key = c.in-Partition.key;
+    groups = c.in-Partition.groups;
+    size = c.in-Partition.size;
+    advance = c.in-Partition.advance;
+  },
+  refl,
+  c.node.ensures.node ∙ ap Some c.in-Partition.is,
+)
 
 pub put_over-put_partition-requires : goal.put_over-put_partition-requires
-put_over-put_partition-requires t c = (omega arith, (c.node.ensures.node ∙ ap Some c.in-Partition.is, (c.requires.can, c.requires.children)))
+put_over-put_partition-requires t c =
+    let at = c.at-partition.ensures in
+    (omega (arith, at.id), (at.node, (rw at.id c.requires.can, rw at.id c.requires.children)))
 
 pub put_copies-put_root_of-requires : goal.put_copies-put_root_of-requires
 put_copies-put_root_of-requires t c = (
   omega arith,
   (
     rw c.as_slice.ensures.value c.in_ok-marks.ensures,
-    rw c.from_ref.ensures.value (can_copy c.args.plan.now c.args.figures.now c.args.body c.args.net.now c.loop-wire.net c.args.wires.now c.loop-wire.wire-index
+    rw c.from_ref.ensures.value (can_copy c.args.site.plan.now c.args.site.figures.now c.args.body c.args.net.now c.loop-wire.net c.args.wires.now c.loop-wire.wire-index
         c.wire-item.result c.loop-wire.invariant.keeps c.requires
         (slice_get-get_or c.args.wires.now c.loop-wire.wire-index c.wire-item.result c.loop-wire-test.true ∙ ap Some (sym c.wire-item.is))),
   ),
 )
 
 pub put_copies-loop-wire-init : goal.put_copies-loop-wire-init
-put_copies-loop-wire-init t c = rw c.new-copies.ensures (bodies_none c.args.plan.now c.args.body c.args.net.now c.args.wires.now)
+put_copies-loop-wire-init t c = rw c.new-copies.ensures (bodies_none c.args.site.plan.now c.args.body c.args.net.now c.args.wires.now)
 
 pub put_copies-loop-wire-preserved : goal.put_copies-loop-wire-preserved
 put_copies-loop-wire-preserved t c =
     let at = slice_get-get_or c.args.wires.now c.loop-wire.wire-index c.wire-item.result c.loop-wire-test.true ∙ ap Some (sym c.wire-item.is) in
-    rw c.in_ok-push.ensures.ok (bodies_more c.args.plan.now c.args.body c.args.net.now c.loop-wire.net c.put_root_of.new.net c.args.wires.now
+    rw c.in_ok-push.ensures.ok (bodies_more c.args.site.plan.now c.args.body c.args.net.now c.loop-wire.net c.put_root_of.new.net c.args.wires.now
     c.loop-wire.wire-index c.loop-wire.copies c.wire-item.result c.in_ok-copy.copy c.loop-wire.invariant at
     (rw c.from_ref.ensures.value at c.in_ok-copy.ensures))

@@ -31,12 +31,12 @@ abbrev pub decreases-put_root_of : goal.decreases-put_root_of
 decreases-put_root_of l = 8 * l.id + 9
 
 abbrev pub invariant-put_copies-loop-wire : goal.invariant-put_copies-loop-wire
-invariant-put_copies-loop-wire l = AreBodies l.plan l.body l.initial.net l.net l.wires l.wire-index l.copies
+invariant-put_copies-loop-wire l = AreBodies l.site.plan.now l.body l.initial.net l.net l.wires l.wire-index l.copies
 
 abbrev pub invariant-put_marked-loop-number : goal.invariant-put_marked-loop-number
 invariant-put_marked-loop-number l = record {
   within : l.number ≤ l.limit;
-  put : ArePutTo l.plan l.marks l.number l.initial.net l.net l.tick l.leaves l.table.items;
+  put : ArePutTo l.site.plan.now l.marks l.number l.initial.net l.net l.site.tick l.site.leaves.now l.table.items;
 }
 
 abbrev pub decreases-put_marked-loop-number : goal.decreases-put_marked-loop-number

@@ -15,12 +15,12 @@ put_select-requires-clause-wire c =
 
 pub put_select-requires-clause-column : goal.put_select-requires-clause-column
 put_select-requires-clause-column c =
-    rw (c.requires.below.same_widths, c.from.ensures) (width_at (kinds_of c.args.plan.now c.args.child) c.args.column _
-    ((c.len.ensures.plan.fits c.args.id (Select c.args.child c.args.column) c.requires.node).suits))
+    rw (c.requires.below.same_widths, c.from.ensures) (width_at (kinds_of c.args.site.plan.now c.args.child) c.args.column _
+    ((c.args.site.planned.fits c.args.id (Select c.args.child c.args.column) c.requires.node).suits))
 
 pub returns : goal.returns
 returns c = λ old lane place h.
-    select_rows c.args.plan.now c.args.id old c.args.net.now c.later_place.new.net c.put_select.new.net lane place c.in_ok-place.place c.args.below c.in_ok-rows.rows
-    c.len.ensures.plan c.args.child c.args.column c.requires.node h c.in_ok-place.ensures
+    select_rows c.args.site.plan.now c.args.id old c.args.net.now c.later_place.new.net c.put_select.new.net lane place c.in_ok-place.place c.args.below c.in_ok-rows.rows
+    c.args.site.planned c.args.child c.args.column c.requires.node h c.in_ok-place.ensures
     (subst (λ (columns : List ℕ). IsBehind c.later_place.new.net c.put_select.new.net (Steady 1 (keep_where c.args.column)) columns (cost_of_rows columns 0)
     c.args.below.rows c.in_ok-rows.rows) c.requires.below.same_widths (rw c.from.ensures at c.in_ok-rows.ensures))

@@ -3,15 +3,15 @@ use Rattle.gl_algebra.specs.declared.node.PlanNode.TheVariants.{Group}
 use Rattle.gl_wiring.proofs.GroupLemmas.{grouping_is, in_body}
 use Rattle.gl_wiring.proofs.groups.GroupOf.grouping.Goals as goal
 
-pub figures_at-requires-clause-within : goal.figures_at-requires-clause-within
-figures_at-requires-clause-within c =
+pub figures_at-requires : goal.figures_at-requires
+figures_at-requires c =
     let g = c.args.self.now in
-    slice_get_within c.args.plan.now g.id (Group g.source g.body g.key g.groups) c.requires.node
+    slice_get_within c.args.site.plan.now g.id (Group g.source g.body g.key g.groups) c.requires.node
 
-pub figures_at-body-requires-clause-within : goal.figures_at-body-requires-clause-within
-figures_at-body-requires-clause-within c = in_body c.args.plan.now c.args.self.now c.len.ensures.plan c.requires.node
+pub figures_at-body-requires : goal.figures_at-body-requires
+figures_at-body-requires c = in_body c.args.site.plan.now c.args.self.now c.args.site.planned c.requires.node
 
 pub returns-clause-is : goal.returns-clause-is
 returns-clause-is c =
-    rw (c.figures_at-body.ensures.value, c.from.ensures, c.from-2.ensures) (grouping_is c.args.plan.now c.args.self.now c.len.ensures.plan c.requires.node
+    rw (c.figures_at-body.ensures.value, c.from.ensures, c.from-2.ensures) (grouping_is c.args.site.plan.now c.args.self.now c.args.site.planned c.requires.node
     (rw c.figures_at.ensures.value at c.figures_at.ensures.small))

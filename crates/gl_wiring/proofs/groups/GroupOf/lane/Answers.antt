@@ -2,27 +2,27 @@ use Rattle.gl_wiring.proofs.GroupLemmas.{in_source, key_there, some_gap, source_
 use Rattle.gl_wiring.proofs.LaneLemmas.{lane_behind}
 use Rattle.gl_wiring.proofs.groups.GroupOf.lane.Goals as goal
 
-pub figures_at-source-requires-clause-within : goal.figures_at-source-requires-clause-within
-figures_at-source-requires-clause-within c = in_source c.args.plan.now c.args.self.now c.len.ensures.plan c.requires.node
+pub figures_at-source-requires : goal.figures_at-source-requires
+figures_at-source-requires c = in_source c.args.site.plan.now c.args.self.now c.args.site.planned c.requires.node
 
 pub put_apart-requires-clause-sound : goal.put_apart-requires-clause-sound
-put_apart-requires-clause-sound c = rw c.figures_at-source.ensures.value (source_is_sound c.args.plan.now c.args.self.now c.len.ensures.plan c.requires.node)
+put_apart-requires-clause-sound c = rw c.figures_at-source.ensures.value (source_is_sound c.args.site.plan.now c.args.self.now c.args.site.planned c.requires.node)
 
 pub put_apart-requires-clause-gap : goal.put_apart-requires-clause-gap
 put_apart-requires-clause-gap c =
-    rw c.grouping-grouping.ensures.value (some_gap c.args.plan.now c.args.self.now c.len.ensures.plan c.requires.node)
+    rw c.grouping-grouping.ensures.value (some_gap c.args.site.plan.now c.args.self.now c.args.site.planned c.requires.node)
 
 pub put_apart-requires-clause-narrow : goal.put_apart-requires-clause-narrow
 put_apart-requires-clause-narrow c =
-    source_is_narrow c.args.plan.now c.args.self.now c.len.ensures.plan c.requires.node c.args.net.now c.args.below c.requires.below
+    source_is_narrow c.args.site.plan.now c.args.self.now c.args.site.planned c.requires.node c.args.net.now c.args.below c.requires.below
 
 pub lane-requires-clause-key : goal.lane-requires-clause-key
 lane-requires-clause-key c =
-    rw c.grouping-grouping.ensures.value (key_there c.args.plan.now c.args.self.now c.len.ensures.plan c.requires.node c.args.below c.in_ok-apart.apart
+    rw c.grouping-grouping.ensures.value (key_there c.args.site.plan.now c.args.self.now c.args.site.planned c.requires.node c.args.below c.in_ok-apart.apart
     c.requires.below.same_widths c.in_ok-apart.ensures.behind.same_widths)
 
 pub returns : goal.returns
 returns c = λ tick leaves h.
-    lane_behind c.args.plan.now c.args.self.now c.len.ensures.plan c.requires.node c.args.net.now c.put_apart.new.net c.lane.new.net tick leaves c.args.below
+    lane_behind c.args.site.plan.now c.args.self.now c.args.site.planned c.requires.node c.args.net.now c.put_apart.new.net c.lane.new.net tick leaves c.args.below
     c.in_ok-apart.apart c.in_ok-lane.lane h (rw (c.figures_at-source.ensures.value, c.grouping-grouping.ensures.value) at c.in_ok-apart.ensures)
     (rw c.grouping-grouping.ensures.value at c.in_ok-lane.ensures)

@@ -7,11 +7,11 @@ use Rattle.gl_wiring.proofs.GroupLemmas.{in_body}
 use Rattle.gl_wiring.proofs.groups.GroupOf.stores.Goals as goal
 
 pub node-requires : goal.node-requires
-node-requires c = in_body c.args.plan.now c.args.self.now c.len.ensures.plan c.requires.node
+node-requires c = in_body c.args.site.plan.now c.args.self.now c.args.site.planned c.requires.node
 
 pub kinds-requires : goal.kinds-requires
 kinds-requires c =
-    first_within c.args.plan.now c.args.self.now.body _ c.node.ensures.plan (c.node.ensures.node ∙ ap Some c.in-Aggregate.is) c.in-Aggregate.child [] refl
+    first_within c.args.site.plan.now c.args.self.now.body _ c.node.ensures.plan (c.node.ensures.node ∙ ap Some c.in-Aggregate.is) c.in-Aggregate.child [] refl
 
 pub returns-in-Aggregate : goal.returns-in-Aggregate
 returns-in-Aggregate c = λ child aggs at.
@@ -19,7 +19,7 @@ returns-in-Aggregate c = λ child aggs at.
     let same : Aggregate c.in-Aggregate.child c.in-Aggregate.aggs ≡ Aggregate child aggs = (let z = sym (c.node.ensures.node ∙ ap Some c.in-Aggregate.is) ∙ at in cc) in
     let child_is : c.in-Aggregate.child ≡ child = cc in
     let aggs_are : c.in-Aggregate.aggs ≡ aggs = cc in
-    own ∙ ap (λ i. has_room (kinds_of c.args.plan.now i) c.in-Aggregate.aggs c.args.key) child_is ∙ ap (λ l. has_room (kinds_of c.args.plan.now child) l c.args.key) aggs_are
+    own ∙ ap (λ i. has_room (kinds_of c.args.site.plan.now i) c.in-Aggregate.aggs c.args.key) child_is ∙ ap (λ l. has_room (kinds_of c.args.site.plan.now child) l c.args.key) aggs_are
 
 pub returns-in_default : goal.returns-in_default
 returns-in_default c = λ child aggs at.

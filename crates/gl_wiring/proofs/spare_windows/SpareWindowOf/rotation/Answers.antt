@@ -1,8 +1,8 @@
 use Rattle.gl_wiring.proofs.SpareLemmas.{in_body, rotates}
 use Rattle.gl_wiring.proofs.spare_windows.SpareWindowOf.rotation.Goals as goal
 
-pub figures_at-requires-clause-within : goal.figures_at-requires-clause-within
-figures_at-requires-clause-within c = in_body c.args.plan.now c.args.self.now c.len.ensures.plan c.requires.node
+pub figures_at-requires : goal.figures_at-requires
+figures_at-requires c = in_body c.args.site.plan.now c.args.self.now c.args.site.planned c.requires.node
 
 pub returns-clause-is : goal.returns-clause-is
-returns-clause-is c = rw c.figures_at.ensures.value (rotates c.args.plan.now c.args.self.now c.len.ensures.plan c.requires.node).0
+returns-clause-is c = rw c.figures_at.ensures.value (rotates c.args.site.plan.now c.args.self.now c.args.site.planned c.requires.node).0

@@ -3,15 +3,15 @@ use Rattle.gl_algebra.specs.declared.node.PlanNode.TheVariants.{TimeWindow}
 use Rattle.gl_wiring.proofs.TimeWindowLemmas.{in_body, rotation_is}
 use Rattle.gl_wiring.proofs.time_windows.TimeWindowOf.rotation.Goals as goal
 
-pub figures_at-requires-clause-within : goal.figures_at-requires-clause-within
-figures_at-requires-clause-within c =
+pub figures_at-requires : goal.figures_at-requires
+figures_at-requires c =
     let w = c.args.self.now in
-    slice_get_within c.args.plan.now w.id (TimeWindow w.source w.body w.size w.advance) c.requires.node
+    slice_get_within c.args.site.plan.now w.id (TimeWindow w.source w.body w.size w.advance) c.requires.node
 
-pub figures_at-body-requires-clause-within : goal.figures_at-body-requires-clause-within
-figures_at-body-requires-clause-within c = in_body c.args.plan.now c.args.self.now c.len.ensures.plan c.requires.node
+pub figures_at-body-requires : goal.figures_at-body-requires
+figures_at-body-requires c = in_body c.args.site.plan.now c.args.self.now c.args.site.planned c.requires.node
 
 pub returns-clause-is : goal.returns-clause-is
 returns-clause-is c =
-    rw c.figures_at-body.ensures.value (rotation_is c.args.plan.now c.args.self.now c.len.ensures.plan c.requires.node
+    rw c.figures_at-body.ensures.value (rotation_is c.args.site.plan.now c.args.self.now c.args.site.planned c.requires.node
     (rw c.figures_at.ensures.value at c.figures_at.ensures.small))

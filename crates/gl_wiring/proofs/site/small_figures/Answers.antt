@@ -1,5 +1,5 @@
 use Rattle.std.proofs.Common.{arith}
-use Rattle.gl_wiring.proofs.arms.sized.Goals as goal
+use Rattle.gl_wiring.proofs.site.small_figures.Goals as goal
 
 pub returns-clause-small : goal.returns-clause-small
 returns-clause-small c = record {
