@@ -1,6 +1,6 @@
 //! The memory that a simulator takes.
 
-ghost use Rattle.std.specs.Prelude.{◌≡◌, ℕ, ◌≤◌, map, replicate, not, ◌&&◌, IfOk, IfSome, [], vec_capacity};
+ghost use Rattle.std.specs.Prelude.{◌≡◌, ℕ, ◌^◌, ◌≤◌, map, replicate, not, ◌&&◌, IfOk, MatchOption, [], vec_capacity};
 ghost use Rattle.std.specs.List.{AllByRecursion};
 ghost use Rattle.gl_verilog.specs.View.{declaration_of, kind_of, statement_of, chained};
 ghost use Rattle.gl_verilog.specs.Widths.{HasSize, IsMemory, words_in, is_clock};
@@ -17,10 +17,7 @@ use std::alloc::Global;
 pub fn zeros(alloc: Global, len: usize) -> Result<Vec<u128>, Memory>
     ensures { IfOk result (λ v. v.items ≡ replicate len 0) }
 {
-    match vec![in alloc; 0u128; len] {
-        Ok(values) => Ok(values),
-        Err(_) => Err(Memory),
-    }
+    Ok(vec![in alloc; 0u128; len]?)
 }
 
 // A bank of zeros; one without words where the kind is no memory's.
@@ -41,10 +38,7 @@ pub fn banks_of(alloc: Global, declarations: &[Declaration]) -> Result<Vec<Bank>
 {
     let mut banks = Vec::new(alloc);
     for declaration in declarations {
-        let bank = bank_of(alloc, declaration.kind)?;
-        if banks.push(bank).is_err() {
-            return Err(Memory);
-        }
+        banks.push(bank_of(alloc, declaration.kind)?)?;
     }
     Ok(banks)
 }
@@ -63,8 +57,8 @@ pub fn ports_of(alloc: Global, declarations: &[Declaration]) -> Result<Vec<usize
 {
     let mut ports = Vec::new(alloc);
     for (n, declaration) in declarations.iter().enumerate() {
-        if is_set(declaration) && ports.push(n).is_err() {
-            return Err(Memory);
+        if is_set(declaration) {
+            ports.push(n)?;
         }
     }
     Ok(ports)
@@ -72,7 +66,8 @@ pub fn ports_of(alloc: Global, declarations: &[Declaration]) -> Result<Vec<usize
 
 // The writes that stand in a statement, where they can be counted.
 fn count_writes(statement: &Statement) -> Option<usize>
-    ensures { IfSome result (λ n. n ≡ writes_in (statement_of statement.now)) }
+    ensures { let writes = writes_in (statement_of statement.now) in
+        MatchOption result (2 ^ 64 ≤ writes) (λ n. n ≡ writes) }
 {
     match statement {
         Statement::Nothing => Some(0),
@@ -91,7 +86,8 @@ fn count_writes(statement: &Statement) -> Option<usize>
 
 /// The writes that stand in all blocks, where they can be counted.
 pub fn count_all(blocks: &[Statement]) -> Option<usize>
-    ensures { IfSome result (λ n. n ≡ writes_in (chained blocks.now)) }
+    ensures { let writes = writes_in (chained blocks.now) in
+        MatchOption result (2 ^ 64 ≤ writes) (λ n. n ≡ writes) }
 {
     let mut count = 0usize;
     for block in blocks {
@@ -106,10 +102,8 @@ pub fn updates_of(alloc: Global, blocks: &[Statement]) -> Result<Vec<Update>, Me
     ensures room { IfOk result (λ v. writes_in (chained blocks.now) ≤ vec_capacity v) }
 {
     let Some(count) = count_all(blocks) else {
+        // No memory has room for 2^64 words.
         return Err(Memory);
     };
-    match Vec::with_capacity(alloc, count) {
-        Ok(updates) => Ok(updates),
-        Err(_) => Err(Memory),
-    }
+    Ok(Vec::with_capacity(alloc, count)?)
 }

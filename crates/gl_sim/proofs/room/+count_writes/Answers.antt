@@ -13,6 +13,19 @@ count_writes-requires t c =
     omega (arith, ap parts_of whole, ap parts_of here, c.loop-statement.invariant.small) in
     search rules
 
+pub returns-in_err-count_writes-in-Block : goal.returns-in_err-count_writes-in-Block
+returns-in_err-count_writes-in-Block t c =
+    let whole = block_chain c.args.statement.now c.in-Block.statements c.deref-statement-items.result.now c.in-Block.is c.deref-statement-items.ensures.value in
+    let here = chained_here c.deref-statement-items.result.now c.loop-statement.statement-index c.statement-item.result c.loop-statement-test.true c.statement-item.is in
+    rw c.from_residual.ensures (omega (arith, ap writes_in whole, ap writes_in here, c.loop-statement.invariant.count, c.in_err-count_writes-in-Block.ensures))
+
+pub returns-in_err-count-in-Block : goal.returns-in_err-count-in-Block
+returns-in_err-count-in-Block t c =
+    let whole = block_chain c.args.statement.now c.in-Block.statements c.deref-statement-items.result.now c.in-Block.is c.deref-statement-items.ensures.value in
+    let here = chained_here c.deref-statement-items.result.now c.loop-statement.statement-index c.statement-item.result c.loop-statement-test.true c.statement-item.is in
+    rw c.from_residual-in_err-count-in-Block.ensures
+    (omega (arith, ap writes_in whole, ap writes_in here, c.loop-statement.invariant.count, c.in_ok-count_writes-in-Block.ensures, c.in_err-count-in-Block.ensures))
+
 pub returns-after-loop-statement : goal.returns-after-loop-statement
 returns-after-loop-statement t c =
     let whole = block_chain c.args.statement.now c.in-Block.statements c.deref-statement-items.result.now c.in-Block.is c.deref-statement-items.ensures.value in
