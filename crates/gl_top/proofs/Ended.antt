@@ -1,5 +1,5 @@
 -- How what a command ran ended: what failed, that its texts pass, and what text is left.
-use Rattle.std.proofs.Common.{◌≡◌, ℕ, List, [], ◌∷◌, inl, inr, refl, sym, subst}
+use Rattle.std.proofs.Common.{◌≡◌, ℕ, List, [], inl, inr, sym, subst}
 use Rattle.gl_outside.specs.Counts.{Rose}
 use Rattle.gl_outside.specs.States.{SinkState, Took}
 use Rattle.gl_outside.specs.Told.{Told}
