@@ -12,6 +12,7 @@ use Rattle.gl_schema.specs.declared.schema.Schema.{Schema}
 use Rattle.gl_schema.specs.Schemas.{IsSchema, IsStream, kinds_of}
 use Rattle.gl_schema.specs.Ports.{eos, out_column, out_eos, fault_group, fault_queue}
 use Rattle.gl_schema.specs.Profile.{ProfilePort, clk, column_inputs, column_outputs, input, input_ports, output, output_ports, profile, stream_inputs, streams_inputs, tick_input}
+use Rattle.gl_query.specs.declared.tree.Statement.{Statement}
 use Rattle.gl_query.specs.Shapes.{query_shape}
 use Rattle.gl_query.proofs.Real.{real_columns}
 use Rattle.gl_verilog.specs.Module.{Module, Declaration}
@@ -26,7 +27,7 @@ use Rattle.gl_dumps.specs.RoundTrip.{AreApart, is_named, names_of, signals_from}
 use Rattle.gl_dumps.specs.Signals.{show_none}
 use Rattle.gl_dumps.specs.Written.{port_declared, ports_among, ports_of}
 use Rattle.gl_compiler_text.specs.declared.compiling.Compiled.{Compiled}
-use Rattle.gl_compiler_text.specs.Meets.{result_columns}
+use Rattle.gl_compiler_text.specs.Meets.{Meets, result_columns}
 use Rattle.gl_compiler_text.proofs.KnownOf.{all_kinds}
 use Rattle.gl_compiler.specs.Dumpable.{IsDumpable}
 use Rattle.gl_compiler.specs.Runnable.{IsRunnable}
@@ -124,10 +125,14 @@ dumpable_text ticks text m schema columns has face fine few kinds =
       shows = ap (λ (ps : List Port). show_none (signals_from 0 ps)) are ∙ profile_shows ticks schema columns few kinds;
     }
 
--- a dump can tell the module of a compiled query
+-- a dump can tell the module of a text that meets a statement
+pub dumpable_where_met : (schema : Schema) (statement : Statement) (latency gap : ℕ) (text : List ℕ) (m : Module) → IsSchema schema → Meets schema statement latency gap text → HasModule text m → IsDumpable m
+dumpable_where_met schema statement latency gap text m fine meets has =
+    let real = real_columns schema (query_shape statement.query) fine meets.accepted in
+    let columns = result_columns schema statement in
+    let same : meets.design ≡ m = one_module text meets.design m meets.has has in
+    subst IsDumpable same (dumpable_text _ text meets.design schema columns meets.has meets.face fine real.result.most (all_kinds columns real.kinds))
+
+-- so of that of a compiled query
 pub dumpable : (c : Compiled) (m : Module) → IsRunnable c → HasModule c.text.items m → IsDumpable m
-dumpable c m is has =
-    let real = real_columns c.schema (query_shape c.statement.query) is.fine is.meets.accepted in
-    let columns = result_columns c.schema c.statement in
-    let same : is.meets.design ≡ m = one_module c.text.items is.meets.design m is.meets.has has in
-    subst IsDumpable same (dumpable_text _ c.text.items is.meets.design c.schema columns is.meets.has is.meets.face is.fine real.result.most (all_kinds columns real.kinds))
+dumpable c m is has = dumpable_where_met c.schema c.statement c.printed.latency c.printed.gap c.text.items m is.fine is.meets has

@@ -3,22 +3,21 @@ use Rattle.std.specs.Prelude.{◌≡◌, ◌≤◌, ◌+◌, ℕ, true, false, L
 use Rattle.std.specs.List.{AllByRecursion}
 use Rattle.gl_bits.specs.declared.kind.Kind.TheVariants.{Unsigned}
 use Rattle.gl_bits.specs.Words.{IsWidth}
+use Rattle.gl_schema.specs.declared.schema.Schema.{Schema}
 use Rattle.gl_schema.specs.Beats.{Beat, AreBeats, KeepsGap, last_cycle}
+use Rattle.gl_schema.specs.Schemas.{IsSchema}
 use Rattle.gl_schema.specs.Ports.{PortValues}
 use Rattle.gl_schema.specs.Seen.{lines, seen}
-use Rattle.gl_verilog.specs.Module.{Module, Nets, Memories}
-use Rattle.gl_verilog.specs.Run.{port_of}
-use Rattle.gl_verilog.specs.Text.{HasModule}
+use Rattle.gl_query.specs.declared.tree.Statement.{Statement}
+use Rattle.gl_verilog.specs.Module.{Module}
 use Rattle.gl_verilog_orders.specs.declared.start.Start.{Start}
 use Rattle.gl_verilog_ports.specs.Profile.{result_names, result_widths}
 use Rattle.gl_dumps.specs.Dumped.{IsDumped, OfLines}
-use Rattle.gl_dumps.specs.Written.{dump_text, ports_of}
+use Rattle.gl_dumps.specs.Written.{ports_of}
 use Rattle.gl_dumps.specs.RoundTrip.{AreApart, is_named, names_of, signals_from}
 use Rattle.gl_dumps.specs.Signals.{show_none}
-use Rattle.gl_compiler_text.specs.declared.compiling.Compiled.{Compiled}
-use Rattle.gl_runner.specs.Prints.{IsEnd, IsRunOver}
-use Rattle.gl_runner.specs.Watches.{rows_to}
-use Rattle.gl_compiler.specs.Runnable.{IsRunnable}
+use Rattle.gl_compiler_text.specs.Meets.{Meets}
+use Rattle.gl_runner.specs.Dumps.{IsDumpOf, OfEachPorts}
 
 -- its name and those of its ports are tokens, no two ports have one name, each has a width, a dump has identifiers for
 -- all of them, and they show a result
@@ -37,11 +36,16 @@ pub record TellsRun (m : Module) (port : PortValues) (n : ℕ) (text : List ℕ)
   pub shows : OfLines text
       (λ bytes. bytes ≡ lines (map Unsigned (result_widths m)) (seen port (result_names m) n))
 
--- what is dumped of a run of a compiled query up to its end tells that run, where its times have room in a dump
+-- where the times up to the end have room in a dump, what is dumped of a run of the text up to its end tells that run
+abbrev pub DumpTells : ℕ → Schema → List Beat → Start → List ℕ → Type 0
+DumpTells latency schema beats start text =
+    last_cycle beats + latency + 1 ≤ 67108864
+    → OfEachPorts text schema beats start
+    (λ m port. (bytes : List ℕ) (dump : IsDumpOf m beats port bytes) → TellsRun m port dump.ended bytes)
+
+-- this is so of each text that meets a statement, over beats that keep its gap
 abbrev pub DumpsTell : Type 0
 DumpsTell =
-    (c : Compiled) (beats : List Beat) (start : Start) (m : Module) (value : ℕ → Nets) (word : ℕ → Memories) (n : ℕ)
-    → IsRunnable c → AreBeats c.schema beats → KeepsGap c.printed.gap beats → HasModule c.text.items m
-    → IsRunOver m c.schema beats start value word → IsEnd beats (result_names m) (port_of m value) n
-    → last_cycle beats + c.printed.latency + 1 ≤ 67108864
-    → TellsRun m (port_of m value) n (dump_text m.name (ports_of m) (rows_to (ports_of m) (port_of m value) n))
+    (schema : Schema) (statement : Statement) (latency gap : ℕ) (text : List ℕ) (beats : List Beat) (start : Start)
+    → IsSchema schema → Meets schema statement latency gap text → AreBeats schema beats → KeepsGap gap beats
+    → DumpTells latency schema beats start text

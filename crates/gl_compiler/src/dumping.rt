@@ -10,12 +10,10 @@ ghost use Rattle.gl_compiler.specs.Runnable.{IsRunnable};
 ghost use Rattle.gl_runner.specs.Dumps.{Dumped, HasFewPorts, OfEachPorts};
 ghost use Rattle.gl_runner.specs.Prints.{CanRun};
 
-use crate::executing::unread;
-use gl_bits::Kind;
+use crate::executing::{Run, unread};
 use gl_compiler_text::Compiled;
 use gl_outside::Sink;
 use gl_runner::{Outcome, dump_module};
-use gl_schema::Schema;
 use gl_tuples::Beats;
 use gl_verilog_grammar::laws::one_module;
 use gl_verilog_orders::Start;
@@ -25,24 +23,17 @@ use std::alloc::Global;
 
 /// Runs the text of a module over beats, and writes the dump of its ports but the clock, as
 /// `dump_module` does.
-pub fn dump<K: Sink>(
-    alloc: Global,
-    text: &[u8],
-    schema: &Schema,
-    kinds: &[Kind],
-    beats: &Beats,
-    latency: u64,
-    start: Start,
-    out: &mut K,
-) -> Outcome
-    requires schema { IsSchema schema.now }
-    requires beats { AreBeats schema.now (plain_beats beats.now) }
-    requires many { length kinds.now ≤ 32 }
-    requires kinds { AllByRecursion IsKind kinds.now }
-    requires runs { CanRun text.now schema.now kinds.now (plain_beats beats.now) latency start }
+pub fn dump<K: Sink>(alloc: Global, text: &[u8], run: Run<'_>, out: &mut K) -> Outcome
+    requires schema { IsSchema run.schema.now }
+    requires beats { AreBeats run.schema.now (plain_beats run.beats.now) }
+    requires many { length run.kinds.now ≤ 32 }
+    requires kinds { AllByRecursion IsKind run.kinds.now }
+    requires runs { CanRun text.now run.schema.now run.kinds.now (plain_beats run.beats.now)
+        run.latency run.start }
     requires few { HasFewPorts text.now }
-    ensures { Dumped (OfEachPorts text.now schema.now (plain_beats beats.now) start)
-        (plain_beats beats.now) (K.state out.old) (K.state out.new) result }
+    ensures { let r = run.entry in let beats = plain_beats r.beats.now in
+        Dumped (OfEachPorts text.now r.schema.now beats r.start) beats
+        (K.state out.old) (K.state out.new) result }
 {
     one_module();
     inputs_are_ports();
@@ -56,6 +47,13 @@ pub fn dump<K: Sink>(
         Ok(design) => design,
         Err(fault) => return unread(fault),
     };
+    let Run {
+        schema,
+        kinds,
+        beats,
+        latency,
+        start,
+    } = run;
     dump_module(
         alloc, &face, design, schema, kinds, beats, latency, start, out,
     )
@@ -77,14 +75,12 @@ pub fn dump_compiled<K: Sink>(
         Dumped (OfEachPorts c.text.items c.schema (plain_beats beats.now) start)
         (plain_beats beats.now) (K.state out.old) (K.state out.new) result }
 {
-    dump(
-        alloc,
-        compiled.text(),
-        compiled.schema(),
-        compiled.kinds(),
+    let run = Run {
+        schema: compiled.schema(),
+        kinds: compiled.kinds(),
         beats,
-        compiled.printed().latency,
+        latency: compiled.printed().latency,
         start,
-        out,
-    )
+    };
+    dump(alloc, compiled.text(), run, out)
 }

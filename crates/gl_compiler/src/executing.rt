@@ -19,6 +19,21 @@ use gl_verilog_ports::laws::inputs_are_ports;
 use gl_verilog_reader::{VerilogFault, read_module};
 use std::alloc::Global;
 
+/// What the text of a module is run over, and from where.
+#[derive(Clone, Copy)]
+pub struct Run<'a> {
+    /// The schema of the beats.
+    pub schema: &'a Schema,
+    /// The kinds of the result's columns, in order.
+    pub kinds: &'a [Kind],
+    /// The beats.
+    pub beats: &'a Beats,
+    /// The cycles behind the last beat's in which the end is waited for.
+    pub latency: u64,
+    /// What registers and memories hold at first.
+    pub start: Start,
+}
+
 // The outcome where a text that has a module was not read: nothing but want of memory does that.
 pub(crate) fn unread(fault: VerilogFault) -> Outcome
     requires { fault ≡ VerilogFault.Memory }
@@ -31,23 +46,16 @@ pub(crate) fn unread(fault: VerilogFault) -> Outcome
 
 /// Runs the text of a module over beats, and writes the lines of the result, as `execute_module`
 /// does.
-pub fn execute<K: Sink>(
-    alloc: Global,
-    text: &[u8],
-    schema: &Schema,
-    kinds: &[Kind],
-    beats: &Beats,
-    latency: u64,
-    start: Start,
-    out: &mut K,
-) -> Outcome
-    requires schema { IsSchema schema.now }
-    requires beats { AreBeats schema.now (plain_beats beats.now) }
-    requires many { length kinds.now ≤ 32 }
-    requires kinds { AllByRecursion IsKind kinds.now }
-    requires runs { CanRun text.now schema.now kinds.now (plain_beats beats.now) latency start }
-    ensures { Ran (OfEachRun text.now schema.now (plain_beats beats.now) start)
-        kinds.now (plain_beats beats.now) (K.state out.old) (K.state out.new) result }
+pub fn execute<K: Sink>(alloc: Global, text: &[u8], run: Run<'_>, out: &mut K) -> Outcome
+    requires schema { IsSchema run.schema.now }
+    requires beats { AreBeats run.schema.now (plain_beats run.beats.now) }
+    requires many { length run.kinds.now ≤ 32 }
+    requires kinds { AllByRecursion IsKind run.kinds.now }
+    requires runs { CanRun text.now run.schema.now run.kinds.now (plain_beats run.beats.now)
+        run.latency run.start }
+    ensures { let r = run.entry in let beats = plain_beats r.beats.now in
+        Ran (OfEachRun text.now r.schema.now beats r.start) r.kinds.now beats
+        (K.state out.old) (K.state out.new) result }
 {
     one_module();
     inputs_are_ports();
@@ -55,5 +63,12 @@ pub fn execute<K: Sink>(
         Ok(design) => design,
         Err(fault) => return unread(fault),
     };
+    let Run {
+        schema,
+        kinds,
+        beats,
+        latency,
+        start,
+    } = run;
     execute_module(alloc, design, schema, kinds, beats, latency, start, out)
 }

@@ -1,9 +1,9 @@
-//! Laws of compiled queries: the contract of a function says one; it does nothing.
+//! Laws of texts that meet a statement: the contract of a function says one; it does nothing.
 
 ghost use Rattle.gl_compiler.specs.Dumpable.{DumpsTell};
 
-/// What `dump_compiled` writes of a run is a dump of that run, and shows its lines, all values in
-/// decimal, where the last beat's cycle and the latency are together below 2^26.
+/// What is dumped of a run of a text that meets a statement is a dump of that run, and shows its
+/// lines, all values in decimal, where the last beat's cycle and the latency are together below 2^26.
 pub fn dumps_tell()
     ensures { DumpsTell }
 {}

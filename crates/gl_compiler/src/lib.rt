@@ -12,7 +12,7 @@ pub mod laws;
 pub mod running;
 
 pub use dumping::{dump, dump_compiled};
-pub use executing::execute;
+pub use executing::{Run, execute};
 pub use gl_compiler_text::Compiled;
 pub use gl_query_compiler::{CompileFault, compile};
 pub use gl_runner::{Ending, Outcome, trace};

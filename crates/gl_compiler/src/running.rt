@@ -7,7 +7,7 @@ ghost use Rattle.gl_compiler_text.specs.Meets.{result_columns};
 ghost use Rattle.gl_runner.specs.Prints.{OfEachRun, Ran};
 ghost use Rattle.gl_compiler.specs.Runnable.{IsRunnable};
 
-use crate::executing::execute;
+use crate::executing::{Run, execute};
 use gl_compiler_text::Compiled;
 use gl_outside::Sink;
 use gl_runner::Outcome;
@@ -32,14 +32,12 @@ pub fn run_compiled<K: Sink>(
         (kinds_of (result_columns c.schema c.statement)) (plain_beats beats.now)
         (K.state out.old) (K.state out.new) result }
 {
-    execute(
-        alloc,
-        compiled.text(),
-        compiled.schema(),
-        compiled.kinds(),
+    let run = Run {
+        schema: compiled.schema(),
+        kinds: compiled.kinds(),
         beats,
-        compiled.printed().latency,
+        latency: compiled.printed().latency,
         start,
-        out,
-    )
+    };
+    execute(alloc, compiled.text(), run, out)
 }

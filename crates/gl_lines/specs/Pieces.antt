@@ -15,15 +15,6 @@ sampled s n row =
 abbrev pub name_in : Format → Option (List ℕ)
 name_in f = option_map (λ n. n.now) f.name
 
-<<<<<<< HEAD
--- the line of a row where one is shown, and nothing elsewhere
-abbrev pub row_if : Bool → List Kind → ℕ → List ℕ → List ℕ
-row_if due kinds n row = row_line kinds n (if due then Some row else None)
-
--- the line of the end where it is shown, and nothing elsewhere
-abbrev pub end_if : Bool → ℕ → List ℕ
-end_if due n = if due then end_line n else []
-=======
 -- what stands behind the cycle's number: nothing, or a comma and the name
 abbrev pub named : Option (List ℕ) → List ℕ
 named None = []
@@ -51,4 +42,3 @@ abbrev pub lines_with : Option (List ℕ) → List Kind → Bool → Shown → L
 lines_with name kinds told s =
     line_if (s.group && not told) name s.cycle (codes ",overflow\n")
     ++ (row_with name kinds s.cycle s.row ++ line_if s.end name s.cycle (codes ",end\n"))
->>>>>>> fa3e95e1e91e4836498761a6d5444a1ea663762b

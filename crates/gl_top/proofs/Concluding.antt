@@ -18,6 +18,7 @@ use Rattle.gl_verilog_orders.specs.declared.start.Start.TheVariants.{Zero}
 use Rattle.gl_tuples.specs.declared.beats.Beat.{Beat}
 use Rattle.gl_tuples.specs.Gaps.{plain_beats}
 use Rattle.gl_verilog.specs.Module.{Module}
+use Rattle.gl_runner.specs.declared.executing.Outcome.TheVariants as outcome
 use Rattle.gl_runner.specs.declared.tracing.Ending.{Ending}
 use Rattle.gl_runner.specs.declared.tracing.Ending.TheVariants as end
 use Rattle.gl_runner.specs.Prints.{HasRunOver}
@@ -28,11 +29,12 @@ use Rattle.gl_top_notes.specs.Refusals.{Puts, Notes, status_of, note_of, no_end_
 use Rattle.gl_top_judging.specs.Causes.{Change, HasCause, IsNext, IsRefused}
 use Rattle.gl_top.specs.Shown.{AreShownOf, IsShownOf, Shows, ShowsAll}
 use Rattle.gl_top.specs.Calls.{Call}
-use Rattle.gl_top.specs.Verdicts.{AllPass, OfFile, Three, ThreeOfAll, Two, TwoOfAll, Completes, Whole, NoMemory, Endless, IsAnswer, RanWhole, RanCut, RanAllWhole, RanAllCut, Dumped, DumpedCut, Traced, Wrote, WroteCut, Refused, IsEndless, IsComplete, IsGiven, OfDump, OfLoad, OfQueries, OfTexts, IsTelling, TellsEnding, TellsFaults, TellsForm, Yields, Same, ToRead, ToWrite, ToMemory, IsFaultless, Says, SaysBy, TellsRefusal}
+use Rattle.gl_top.specs.Verdicts.{AllPass, OfFile, Two, TwoOfAll, Completes, Whole, NoMemory, Endless, IsAnswer, RanWhole, RanCut, Traced, Wrote, WroteCut, Refused, IsEndless, IsComplete, IsGiven, OfDump, OfLoad, OfQueries, OfTexts, IsTelling, TellsEnding, TellsFaults, TellsForm, Yields, Same, ToRead, ToWrite, ToMemory, IsFaultless, Says, SaysBy, TellsRefusal}
 use Rattle.gl_top_judging.proofs.Texts.{next_form}
 use Rattle.gl_top.proofs.Stopping.{Stops, stops}
 use Rattle.gl_top.proofs.Passed.{dump_goes, load_goes, passes_goes}
 use Rattle.gl_top.proofs.Deciding.{formed, one_refusal}
+use Rattle.gl_top.proofs.Ended.{nothing_failed, run_form, sink_failed, texts_pass}
 
 noted_write : (own answered : Status) (line : List ℕ) (notes : Puts) → own ≡ status.WriteFault → Notes own line notes answered → answered ≡ status.WriteFault
 noted_write own answered line notes e (inl n) = n.0 ∙ e
@@ -143,12 +145,8 @@ module _ (call : Call) (schema : Schema) (design : Module) (beats : List Beat) (
 -- ---- of each answer
 
 pub when_says : (call : Call) → IsAnswer call → Says call
-when_says call (RanWhole d) = subst (λ (s : Status). SaysBy s call) (sym d.done) (d.calm, d.whole, d.silent)
-when_says call (RanCut d) = says_noted call status.WriteFault write_line (inl d.cause) d.noted
-when_says call (RanAllWhole d) = subst (λ (s : Status). SaysBy s call) (sym d.done) (d.calm, d.wrote.0, d.silent)
-when_says call (RanAllCut d) = says_noted call status.WriteFault write_line (inl d.wrote.0) d.noted
-when_says call (Dumped d) = subst (λ (s : Status). SaysBy s call) (sym d.done) (d.calm, d.wrote.0, d.silent)
-when_says call (DumpedCut d) = says_noted call status.WriteFault write_line (inl d.wrote.0) d.noted
+when_says call (RanWhole d) = subst (λ (s : Status). SaysBy s call) (sym d.done) (d.calm, nothing_failed call.shelf.old.told call.words call.text call.out.old call.out.new d.run, d.silent)
+when_says call (RanCut d) = says_noted call status.WriteFault write_line (inl (sink_failed call.shelf.old.told call.words call.text call.out.old call.out.new d.run)) d.noted
 when_says call (Traced d) = trace_says call d.schema d.design d.beats d.passes d.run d.calm d.ending d.traced d.tells
 when_says call (Wrote d) = subst (λ (s : Status). SaysBy s call) (sym d.done) (d.calm, d.wrote.calm, d.silent)
 when_says call (WroteCut d) = says_noted call status.WriteFault write_line (inl d.wrote.cause) d.noted
@@ -177,10 +175,6 @@ broken_other told words r notes answered is e n = subst IsJudged (sym e ∙ note
 pub when_told : (call : Call) → IsAnswer call → TellsRefusal call
 when_told call (RanWhole d) r tells is e = absurd (subst IsJudged (sym e ∙ d.done) (judged call.shelf.old.told call.words r is))
 when_told call (RanCut d) r tells is e = absurd (broken_other call.shelf.old.told call.words r call.notes call.status is e d.noted)
-when_told call (RanAllWhole d) r tells is e = absurd (subst IsJudged (sym e ∙ d.done) (judged call.shelf.old.told call.words r is))
-when_told call (RanAllCut d) r tells is e = absurd (broken_other call.shelf.old.told call.words r call.notes call.status is e d.noted)
-when_told call (Dumped d) r tells is e = absurd (subst IsJudged (sym e ∙ d.done) (judged call.shelf.old.told call.words r is))
-when_told call (DumpedCut d) r tells is e = absurd (broken_other call.shelf.old.told call.words r call.notes call.status is e d.noted)
 when_told call (Traced d) r tells is e = absurd (ending_other call.shelf.old.told call.words r d.ending call.notes call.status is e d.tells)
 when_told call (Wrote d) r tells is e = absurd (subst IsJudged (sym e ∙ d.done) (judged call.shelf.old.told call.words r is))
 when_told call (WroteCut d) r tells is e = absurd (broken_other call.shelf.old.told call.words r call.notes call.status is e d.noted)
@@ -190,10 +184,6 @@ when_told call (Refused d) r tells is e = told_by call.words call.shelf call.not
 pub when_untouched : (call : Call) → IsAnswer call → call.status ≢ status.Done → call.status ≢ status.WriteFault → call.status ≢ status.NoEnd → Took call.out.old call.out.new []
 when_untouched call (RanWhole d) nd nw ne = absurd (nd d.done)
 when_untouched call (RanCut d) nd nw ne = absurd (nw (noted_write status.WriteFault call.status write_line call.notes refl d.noted))
-when_untouched call (RanAllWhole d) nd nw ne = absurd (nd d.done)
-when_untouched call (RanAllCut d) nd nw ne = absurd (nw (noted_write status.WriteFault call.status write_line call.notes refl d.noted))
-when_untouched call (Dumped d) nd nw ne = absurd (nd d.done)
-when_untouched call (DumpedCut d) nd nw ne = absurd (nw (noted_write status.WriteFault call.status write_line call.notes refl d.noted))
 when_untouched call (Traced d) nd nw ne = elim (ending_status d.ending call.notes call.status d.tells) [ inl e ↦ absurd (nd e) | inr (inl e) ↦ absurd (nw e) | inr (inr e) ↦ absurd (ne e) ]
 when_untouched call (Wrote d) nd nw ne = absurd (nd d.done)
 when_untouched call (WroteCut d) nd nw ne = absurd (nw (noted_write status.WriteFault call.status write_line call.notes refl d.noted))
@@ -223,12 +213,8 @@ shown_goes told words bytes text a tells (OfTexts d) h = passes_goes told words 
 shown_goes told words bytes text a tells (OfQueries d) h = passes_goes told words a tells (TwoOfAll d.schema d.statements d.passes (shown_no_run_of_all told words bytes text d)) h
 
 pub when_refused : (call : Call) → IsAnswer call → TellsFaults call
-when_refused call (RanWhole d) r tells h = absurd (passes_goes call.shelf.old.told call.words r tells (Three d.schema d.statement d.beats d.emitted.passes) (stops call.shelf.old.told call.words r h))
-when_refused call (RanCut d) r tells h = absurd (passes_goes call.shelf.old.told call.words r tells (Three d.schema d.statement d.beats d.emitted.passes) (stops call.shelf.old.told call.words r h))
-when_refused call (RanAllWhole d) r tells h = absurd (passes_goes call.shelf.old.told call.words r tells (ThreeOfAll d.schema d.statements d.beats d.emitted.passes) (stops call.shelf.old.told call.words r h))
-when_refused call (RanAllCut d) r tells h = absurd (passes_goes call.shelf.old.told call.words r tells (ThreeOfAll d.schema d.statements d.beats d.emitted.passes) (stops call.shelf.old.told call.words r h))
-when_refused call (Dumped d) r tells h = absurd (passes_goes call.shelf.old.told call.words r tells (Three d.schema d.statement d.beats d.emitted.passes) (stops call.shelf.old.told call.words r h))
-when_refused call (DumpedCut d) r tells h = absurd (passes_goes call.shelf.old.told call.words r tells (Three d.schema d.statement d.beats d.emitted.passes) (stops call.shelf.old.told call.words r h))
+when_refused call (RanWhole d) r tells h = absurd (passes_goes call.shelf.old.told call.words r tells (texts_pass call.shelf.old.told call.words call.text call.out.old call.out.new outcome.Done d.run) (stops call.shelf.old.told call.words r h))
+when_refused call (RanCut d) r tells h = absurd (passes_goes call.shelf.old.told call.words r tells (texts_pass call.shelf.old.told call.words call.text call.out.old call.out.new outcome.WriteFault d.run) (stops call.shelf.old.told call.words r h))
 when_refused call (Traced d) r tells h = absurd (passes_goes call.shelf.old.told call.words r tells (OfFile d.schema d.design d.beats d.passes) (stops call.shelf.old.told call.words r h))
 when_refused call (Wrote d) r tells h = absurd (shown_goes call.shelf.old.told call.words d.bytes call.text r tells d.given (stops call.shelf.old.told call.words r h))
 when_refused call (WroteCut d) r tells h = absurd (shown_goes call.shelf.old.told call.words d.bytes call.text r tells d.given (stops call.shelf.old.told call.words r h))
@@ -244,13 +230,9 @@ by_calm call tells pass calm s (Short own) (inl n) = NoMemory (n.0 ∙ own)
 pub when_calm : (call : Call) → IsAnswer call → IsComplete call
 when_calm call (RanWhole d) tells p calm = Whole d.done
 when_calm call (Wrote d) tells p calm = Whole d.done
-when_calm call (Dumped d) tells p calm = Whole d.done
-when_calm call (DumpedCut d) tells p calm = absurd (calm.out d.wrote.0)
 when_calm call (Traced d) tells p calm = trace_completes call d.schema d.design d.beats d.passes d.run d.calm d.ending calm d.traced d.tells
 when_calm call (WroteCut d) tells p calm = absurd (calm.out d.wrote.cause)
-when_calm call (RanCut d) tells p calm = absurd (calm.out d.cause)
-when_calm call (RanAllWhole d) tells p calm = Whole d.done
-when_calm call (RanAllCut d) tells p calm = absurd (calm.out d.wrote.0)
+when_calm call (RanCut d) tells p calm = absurd (calm.out (sink_failed call.shelf.old.told call.words call.text call.out.old call.out.new d.run))
 when_calm call (Refused d) tells p calm = by_calm call tells p calm d.refusal (caused call.words call.shelf d.refusal d.cause) d.noted
 
 -- words of no form
@@ -267,12 +249,8 @@ given_form told words bytes text (OfLoad d) = form_of words Load d.is.loads
 given_form told words bytes text (OfDump d left) = form_of words Undump d.is
 
 pub when_formless : (call : Call) → IsAnswer call → TellsForm call
-when_formless call (RanWhole d) none = absurd (none (form_of call.words Run d.runs))
-when_formless call (RanCut d) none = absurd (none (form_of call.words Run d.runs))
-when_formless call (RanAllWhole d) none = absurd (none (form_of call.words ManyRun d.runs))
-when_formless call (RanAllCut d) none = absurd (none (form_of call.words ManyRun d.runs))
-when_formless call (Dumped d) none = absurd (none (form_of call.words Vcd d.dumps'))
-when_formless call (DumpedCut d) none = absurd (none (form_of call.words Vcd d.dumps'))
+when_formless call (RanWhole d) none = absurd (none (run_form call.shelf.old.told call.words call.text call.out.old call.out.new outcome.Done d.run))
+when_formless call (RanCut d) none = absurd (none (run_form call.shelf.old.told call.words call.text call.out.old call.out.new outcome.WriteFault d.run))
 when_formless call (Traced d) none = absurd (none (form_of call.words Sim d.passes.before.sims))
 when_formless call (Wrote d) none = absurd (none (given_form call.shelf.old.told call.words d.bytes call.text d.given))
 when_formless call (WroteCut d) none = absurd (none (given_form call.shelf.old.told call.words d.bytes call.text d.given))

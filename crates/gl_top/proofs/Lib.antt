@@ -6,4 +6,6 @@ pub mod Stopping
 pub mod Passed
 pub mod Deciding
 pub mod Answering
+pub mod Ended
+pub mod Wanted
 pub mod Concluding

@@ -14,11 +14,12 @@ use Rattle.gl_tuples.specs.Gaps.{plain_beats}
 use Rattle.gl_compiler_text.specs.Built.{latency_of, gap_of}
 use Rattle.gl_compiler_text.specs.Meets.{Meets, result_columns}
 use Rattle.gl_runner.specs.declared.executing.Outcome.{Outcome}
-use Rattle.gl_runner.specs.Prints.{HasRunOver, OfEachRun, Writes, WritesFront}
+use Rattle.gl_runner.specs.Prints.{HasRunOver, OfEachRun}
 use Rattle.gl_runner.specs.Prints as prints
 use Rattle.gl_runner.specs.Dumps as dumps
 use Rattle.gl_runner.specs.Dumps.{OfEachPorts}
 use Rattle.gl_runner.specs.Several.{RanAll}
+use Rattle.gl_compiler.specs.Dumpable.{DumpTells}
 use Rattle.gl_many.specs.Meets.{MeetTogether, shared_gap}
 use Rattle.gl_many_runner.specs.Runs.{OfAllRuns, faces_of}
 use Rattle.gl_runner.specs.declared.executing.Outcome.TheVariants as outcome
@@ -52,20 +53,6 @@ use Rattle.gl_top_notes.specs.Refusals.{Puts, Notes, status_of, note_of, no_end_
 
 -- ---- what was written
 
--- of every run of the text over the beats from this start, all its lines were written
-abbrev pub WritesLines : Schema → Statement → List Beat → Start → List ℕ → Puts → Type 0
-WritesLines schema statement beats start text out =
-    OfEachRun text schema (plain_beats beats) start
-    (λ outs port. Writes (kinds_of (result_columns schema statement)) (plain_beats beats) outs port
-    out.old.taken out.new.taken)
-
--- of every run of the text over the beats from this start, the first bytes of its lines were written
-abbrev pub WritesLinesFront : Schema → Statement → List Beat → Start → List ℕ → Puts → Type 0
-WritesLinesFront schema statement beats start text out =
-    OfEachRun text schema (plain_beats beats) start
-    (λ outs port. WritesFront (kinds_of (result_columns schema statement)) (plain_beats beats) outs port
-    out.old.taken out.new.taken)
-
 -- how the run of the text over these beats ended
 abbrev pub RanLines : Schema → Statement → List Beat → Start → List ℕ → SinkState → SinkState → Outcome → Type 0
 RanLines schema statement beats start text old new outcome =
@@ -76,6 +63,11 @@ RanLines schema statement beats start text old new outcome =
 abbrev pub DumpedRun : Schema → List Beat → Start → List ℕ → SinkState → SinkState → Outcome → Type 0
 DumpedRun schema beats start text old new outcome =
     dumps.Dumped (OfEachPorts text schema (plain_beats beats) start) (plain_beats beats) old new outcome
+
+-- where the times of the run have room in a dump, what is dumped of it is a dump of that run, and shows its lines
+abbrev pub TellsDumped : Schema → Statement → List Beat → Start → List ℕ → Type 0
+TellsDumped schema statement beats start text =
+    DumpTells (latency_of schema statement) schema (plain_beats beats) start text
 
 -- how the run of the text of several statements over these beats ended
 abbrev pub RanLinesOfAll : Schema → List Statement → List Beat → Start → List ℕ → SinkState → SinkState → Outcome
@@ -95,6 +87,24 @@ pub record AreEmitted (told : List ℕ → Told) (words : List (List ℕ)) (sche
     (beats : List Beat) (text : List ℕ) : Type 0 where
   pub passes : TuplesPassAll told words schema statements beats
   pub meets : MeetTogether schema statements (shared_gap schema statements) text
+
+-- what a command ran, from the start that its words say, and how that ended: the lines of the result of `run`, those of
+-- each result of `manyrun`, with its statement's name, or the dump of `vcd`, which tells the run
+pub data IsRun (told : List ℕ → Told) (words : List (List ℕ)) (text : List ℕ) (old new : SinkState) (outcome : Outcome)
+    : Type 0 where
+  OfLines : (is : IsCommand words Run) (schema : Schema) (statement : Statement) (beats : List Beat)
+      (emitted : IsEmitted told words schema statement beats text)
+      (wrote : RanLines schema statement beats (start_of words) text old new outcome)
+      → IsRun told words text old new outcome
+  OfNamedLines : (is : IsCommand words ManyRun) (schema : Schema) (statements : List Statement) (beats : List Beat)
+      (emitted : AreEmitted told words schema statements beats text)
+      (wrote : RanLinesOfAll schema statements beats (start_of words) text old new outcome)
+      → IsRun told words text old new outcome
+  OfPorts : (is : IsCommand words Vcd) (schema : Schema) (statement : Statement) (beats : List Beat)
+      (emitted : IsEmitted told words schema statement beats text)
+      (wrote : DumpedRun schema beats (start_of words) text old new outcome)
+      (tells : TellsDumped schema statement beats (start_of words) text)
+      → IsRun told words text old new outcome
 
 -- the words load so many tuples; the bytes tell of the run over them, and the text is the one that was run
 pub record IsLoaded (words : List (List ℕ)) (bytes text : List ℕ) : Type 0 where
@@ -132,77 +142,16 @@ IsNoneOrEmitted told words text =
 
 -- ---- how a call ended
 
--- the lines of the run were written and nothing was noted; no text was missing, and nothing failed
+-- what a command ran was written and nothing was noted; no text was missing, and nothing failed
 pub record HasRunWhole (call : Call) : Type 0 where
-  pub runs : IsCommand call.words Run
-  pub schema : Schema
-  pub statement : Statement
-  pub beats : List Beat
-  pub emitted : IsEmitted call.shelf.old.told call.words schema statement beats call.text
-  pub wrote : WritesLines schema statement beats (start_of call.words) call.text call.out
-  pub silent : Took call.notes.old call.notes.new []
-  pub calm : IsCalm call.shelf.old call.shelf.new
-  pub whole : call.out.new.faults ≡ call.out.old.faults
-  pub done : call.status ≡ Done
-
--- the output failed behind a front of these lines, and that was noted
-pub record HasRunInPart (call : Call) : Type 0 where
-  pub runs : IsCommand call.words Run
-  pub schema : Schema
-  pub statement : Statement
-  pub beats : List Beat
-  pub emitted : IsEmitted call.shelf.old.told call.words schema statement beats call.text
-  pub wrote : WritesLinesFront schema statement beats (start_of call.words) call.text call.out
-  pub calm : IsCalm call.shelf.old call.shelf.new
-  pub cause : Rose call.out.old.faults call.out.new.faults
-  pub noted : Notes WriteFault write_line call.notes call.status
-
--- the lines of the run of several statements were written, each with its statement's name, and nothing was noted; no
--- text was missing, and nothing failed
-pub record HasRunAllWhole (call : Call) : Type 0 where
-  pub runs : IsCommand call.words ManyRun
-  pub schema : Schema
-  pub statements : List Statement
-  pub beats : List Beat
-  pub emitted : AreEmitted call.shelf.old.told call.words schema statements beats call.text
-  pub wrote : RanLinesOfAll schema statements beats (start_of call.words) call.text call.out.old call.out.new
-      outcome.Done
-  pub silent : Took call.notes.old call.notes.new []
-  pub calm : IsCalm call.shelf.old call.shelf.new
-  pub done : call.status ≡ Done
-
--- the output failed behind a front of these lines, and that was noted
-pub record HasRunAllInPart (call : Call) : Type 0 where
-  pub runs : IsCommand call.words ManyRun
-  pub schema : Schema
-  pub statements : List Statement
-  pub beats : List Beat
-  pub emitted : AreEmitted call.shelf.old.told call.words schema statements beats call.text
-  pub wrote : RanLinesOfAll schema statements beats (start_of call.words) call.text call.out.old call.out.new
-      outcome.WriteFault
-  pub calm : IsCalm call.shelf.old call.shelf.new
-  pub noted : Notes WriteFault write_line call.notes call.status
-
--- the dump of the run was written and nothing was noted; no text was missing, and nothing failed
-pub record HasDumpedWhole (call : Call) : Type 0 where
-  pub dumps' : IsCommand call.words Vcd
-  pub schema : Schema
-  pub statement : Statement
-  pub beats : List Beat
-  pub emitted : IsEmitted call.shelf.old.told call.words schema statement beats call.text
-  pub wrote : DumpedRun schema beats (start_of call.words) call.text call.out.old call.out.new outcome.Done
+  pub run : IsRun call.shelf.old.told call.words call.text call.out.old call.out.new outcome.Done
   pub silent : Took call.notes.old call.notes.new []
   pub calm : IsCalm call.shelf.old call.shelf.new
   pub done : call.status ≡ Done
 
 -- the output failed behind a front of it, and that was noted
-pub record HasDumpedInPart (call : Call) : Type 0 where
-  pub dumps' : IsCommand call.words Vcd
-  pub schema : Schema
-  pub statement : Statement
-  pub beats : List Beat
-  pub emitted : IsEmitted call.shelf.old.told call.words schema statement beats call.text
-  pub wrote : DumpedRun schema beats (start_of call.words) call.text call.out.old call.out.new outcome.WriteFault
+pub record HasRunInPart (call : Call) : Type 0 where
+  pub run : IsRun call.shelf.old.told call.words call.text call.out.old call.out.new outcome.WriteFault
   pub calm : IsCalm call.shelf.old call.shelf.new
   pub noted : Notes WriteFault write_line call.notes call.status
 
@@ -250,10 +199,6 @@ pub record HasRefused (call : Call) : Type 0 where
 pub data IsAnswer (call : Call) : Type 0 where
   RanWhole : (run : HasRunWhole call) → IsAnswer call
   RanCut : (run : HasRunInPart call) → IsAnswer call
-  RanAllWhole : (run : HasRunAllWhole call) → IsAnswer call
-  RanAllCut : (run : HasRunAllInPart call) → IsAnswer call
-  Dumped : (run : HasDumpedWhole call) → IsAnswer call
-  DumpedCut : (run : HasDumpedInPart call) → IsAnswer call
   Traced : (trace : HasTraced call) → IsAnswer call
   Wrote : (written : HasWrittenWhole call) → IsAnswer call
   WroteCut : (written : HasWrittenInPart call) → IsAnswer call

@@ -7,12 +7,16 @@
 //! gl_top_matches, statuses and notes are those of gl_top_notes.
 #![tactic(auto)]
 
-mod dumping;
+mod chain;
+pub mod desk;
 mod loading;
 pub mod running;
-mod several;
+mod showing;
 mod tracing;
+mod undumping;
+mod writing;
 
+pub use desk::Desk;
 pub use gl_top_notes::Status;
 pub use gl_top_words::Part;
 pub use running::run;

@@ -8,54 +8,49 @@ ghost use Rattle.gl_top_judging.specs.Causes.{Change};
 ghost use Rattle.gl_top.specs.Calls.{call_over};
 ghost use Rattle.gl_top.specs.Verdicts.{IsAnswer};
 
-use crate::running::show_text;
+use crate::desk::Desk;
+use crate::showing::show_text;
 use gl_load::load;
-use gl_outside::Sink;
+use gl_outside::{Shelf, Sink};
 use gl_top_notes::{Refusal, Status, tell};
 use gl_top_words::Taken;
 use std::alloc::Global;
 
-// Loads so many tuples, keeps the text that was run, and writes what is told of it.
-fn load_many<K: Sink, N: Sink>(
+// Loads `count` tuples, keeps the text that was run, and writes what is told of it.
+fn load_many<S: Shelf, K: Sink, N: Sink>(
     alloc: Global,
     words: &Taken<'_>,
     count: u32,
-    out: &mut K,
-    notes: &mut N,
-    text: &mut Vec<u8>,
+    desk: &mut Desk<S, K, N>,
 ) -> Status
     requires many { IsLoadOf words.now count }
     requires some { 1 ≤ count }
-    requires empty { text.old.items ≡ [] }
+    requires empty { desk.old.text.items ≡ [] }
     ensures { (c : Change) → IsCalm c.old c.new
-        → IsAnswer (call_over K.state N.state words.now c out.old out.new notes.old notes.new
-        text.new.items result) }
+        → IsAnswer (call_over K.state N.state words.now c desk.old desk.new result) }
 {
     match load(alloc, count) {
         Ok(loaded) => {
             let verilog = loaded.compiled.text();
-            show_text(words, verilog, &loaded.summary, out, notes, text)
+            show_text(words, verilog, &loaded.summary, desk)
         }
-        Err(_) => tell(notes, words, &Refusal::Memory),
+        Err(_) => tell(&mut desk.notes, words, &Refusal::Memory),
     }
 }
 
 /// Loads as many tuples as the words say.
-pub(crate) fn answer_load<K: Sink, N: Sink>(
+pub(crate) fn answer_load<S: Shelf, K: Sink, N: Sink>(
     alloc: Global,
     words: &Taken<'_>,
-    out: &mut K,
-    notes: &mut N,
-    text: &mut Vec<u8>,
+    desk: &mut Desk<S, K, N>,
 ) -> Status
     requires loads { IsCommand words.now Load }
-    requires empty { text.old.items ≡ [] }
+    requires empty { desk.old.text.items ≡ [] }
     ensures { (c : Change) → IsCalm c.old c.new
-        → IsAnswer (call_over K.state N.state words.now c out.old out.new notes.old notes.new
-        text.new.items result) }
+        → IsAnswer (call_over K.state N.state words.now c desk.old desk.new result) }
 {
     match words.load() {
-        Some(count) => load_many(alloc, words, count, out, notes, text),
+        Some(count) => load_many(alloc, words, count, desk),
         None => unreachable!(),
     }
 }

@@ -9,6 +9,7 @@ ghost use Rattle.gl_top_judging.specs.Passing.{CanTrace, IsTraceable};
 ghost use Rattle.gl_top.specs.Calls.{call_of, call_over};
 ghost use Rattle.gl_top.specs.Verdicts.{IsAnswer};
 
+use crate::desk::Desk;
 use gl_outside::{Shelf, Sink};
 use gl_runner::{Ending, trace};
 use gl_top_judging::{Fitted, Simulation, judge_sim};
@@ -20,17 +21,16 @@ use std::alloc::Global;
 
 // Runs the module over the beats from all zero, writes the lines of the run, and notes how that failed
 // or that no end came.
-fn finish_trace<K: Sink, N: Sink>(
+fn finish_trace<S: Shelf, K: Sink, N: Sink>(
     alloc: Global,
     words: &Taken<'_>,
     simulation: Simulation,
-    out: &mut K,
-    notes: &mut N,
+    desk: &mut Desk<S, K, N>,
 ) -> Status
-    requires { CanTrace simulation }
+    requires can { CanTrace simulation }
+    requires empty { desk.old.text.items ≡ [] }
     ensures { (c : Change) → IsTraceable c.old.told words.now simulation → IsCalm c.old c.new
-        → IsAnswer (call_over K.state N.state words.now c out.old out.new notes.old notes.new
-        [] result) }
+        → IsAnswer (call_over K.state N.state words.now c desk.old desk.new result) }
 {
     let Simulation {
         schema,
@@ -48,12 +48,12 @@ fn finish_trace<K: Sink, N: Sink>(
         &beats,
         Start::Zero,
         extra,
-        out,
+        &mut desk.out,
     ) {
         Ending::Done => Status::Done,
-        Ending::NoEnd { cycle } => tell_no_end(notes, cycle),
-        Ending::WriteFault => tell_write_fault(notes),
-        Ending::Memory => tell(notes, words, &Refusal::Memory),
+        Ending::NoEnd { cycle } => tell_no_end(&mut desk.notes, cycle),
+        Ending::WriteFault => tell_write_fault(&mut desk.notes),
+        Ending::Memory => tell(&mut desk.notes, words, &Refusal::Memory),
     }
 }
 
@@ -61,17 +61,15 @@ fn finish_trace<K: Sink, N: Sink>(
 pub(crate) fn answer_sim<S: Shelf, K: Sink, N: Sink>(
     alloc: Global,
     words: &Taken<'_>,
-    shelf: &mut S,
-    out: &mut K,
-    notes: &mut N,
+    desk: &mut Desk<S, K, N>,
 ) -> Status
     requires sims { IsCommand words.now Sim }
-    requires names { (S.state shelf.old).names ≡ words.now }
-    ensures { IsAnswer (call_of S.state K.state N.state words.now shelf.old shelf.new
-        out.old out.new notes.old notes.new [] result) }
+    requires names { (S.state desk.old.shelf).names ≡ words.now }
+    requires empty { desk.old.text.items ≡ [] }
+    ensures { IsAnswer (call_of S.state K.state N.state words.now desk.old desk.new result) }
 {
-    match judge_sim(alloc, shelf, words) {
-        Ok(simulation) => finish_trace(alloc, words, simulation, out, notes),
-        Err(refusal) => tell(notes, words, &refusal),
+    match judge_sim(alloc, &mut desk.shelf, words) {
+        Ok(simulation) => finish_trace(alloc, words, simulation, desk),
+        Err(refusal) => tell(&mut desk.notes, words, &refusal),
     }
 }

@@ -2,6 +2,7 @@ mod Steps
 mod Laid
 mod Ends
 mod Names
+mod Layouts
 mod Runs
 mod Sims
 pub mod Taking

@@ -12,15 +12,16 @@ use Rattle.clap.specs.declared.parser.matches.ArgMatches.{ArgMatches}
 use Rattle.clap.proofs.WalkLemmas.{first_value-rows}
 use Rattle.gl_top_words.specs.declared.command.Command.{Command}
 use Rattle.gl_top_words.specs.declared.command.Command.TheVariants.{Compile, Figures, Explain, Run, Sim, Load, Vcd, Undump, Many, ManyFigures, ManyRun}
-use Rattle.gl_top_words.specs.Forms.{IsCommand, extra_at, extra_in, extra_of, first_word, is_command, is_dashed, load_at, load_in, load_of, many_names, name_of, names_in, names_of, option_front, option_word, start_at, start_in, start_of, takes_values, values_in, values_of, word_of}
+use Rattle.gl_top_words.specs.Forms.{IsCommand, extra_at, extra_in, extra_of, first_word, is_command, is_dashed, load_at, load_in, load_of, many_names, name_of, names_in, names_of, option_word, start_at, start_in, start_of, takes_values, values_in, values_of, word_of}
 use Rattle.gl_top_words.proofs.Named.{is_one}
 use Rattle.gl_top_matches.specs.Apps.{Tells, app_for, two_names}
 use Rattle.gl_top_words.specs.Said.{IsSaid, extra_by, start_by}
 use Rattle.gl_top_matches.proofs.Ends.{Given}
-use Rattle.gl_top_matches.proofs.Laid.{AreNames, Placed, bare, parted, placed, three}
+use Rattle.gl_top_matches.proofs.Laid.{AreNames, bare, placed, three}
 use Rattle.gl_top_matches.proofs.Names.{load_names, query_names}
-use Rattle.gl_top_matches.proofs.Runs.{run_app, run_bare, run_apart_0, run_apart_1, run_apart_2, run_apart_3, run_joined_0, run_joined_1, run_joined_2, run_joined_3}
-use Rattle.gl_top_matches.proofs.Sims.{sim_app, sim_apart_0, sim_apart_1, sim_apart_2, sim_apart_3, sim_joined_0, sim_joined_1, sim_joined_2, sim_joined_3}
+use Rattle.gl_top_matches.proofs.Layouts.{laid}
+use Rattle.gl_top_matches.proofs.Runs.{run_app, run_bare, run_layouts}
+use Rattle.gl_top_matches.proofs.Sims.{sim_app, sim_layouts}
 
 -- ---- what names and a value make of the words
 
@@ -214,34 +215,6 @@ start_front = codes "--start"
 abbrev extra_front : Text
 extra_front = codes "--extra"
 
-run_apart : (v : Text) → is_dashed v ≡ false → (before behind : List Text) → AreNames before → AreNames behind → length (before ++ behind) ≡ 3
-    → Given run_app (before ++ (start_front ∷ v ∷ behind)) (before ++ behind) (Some v)
-run_apart v p = parted (λ a b. Given run_app (a ++ (start_front ∷ v ∷ b)) (a ++ b) (Some v)) (run_apart_0 v p) (run_apart_1 v p) (run_apart_2 v p) (run_apart_3 v p)
-
-run_joined : (v : Text) → (before behind : List Text) → AreNames before → AreNames behind → length (before ++ behind) ≡ 3
-    → Given run_app (before ++ ((option_front start_front ++ v) ∷ behind)) (before ++ behind) (Some v)
-run_joined v = parted (λ a b. Given run_app (a ++ ((option_front start_front ++ v) ∷ b)) (a ++ b) (Some v)) (run_joined_0 v) (run_joined_1 v) (run_joined_2 v) (run_joined_3 v)
-
-sim_apart : (v : Text) → is_dashed v ≡ false → (before behind : List Text) → AreNames before → AreNames behind → length (before ++ behind) ≡ 3
-    → Given sim_app (before ++ (extra_front ∷ v ∷ behind)) (before ++ behind) (Some v)
-sim_apart v p = parted (λ a b. Given sim_app (a ++ (extra_front ∷ v ∷ b)) (a ++ b) (Some v)) (sim_apart_0 v p) (sim_apart_1 v p) (sim_apart_2 v p) (sim_apart_3 v p)
-
-sim_joined : (v : Text) → (before behind : List Text) → AreNames before → AreNames behind → length (before ++ behind) ≡ 3
-    → Given sim_app (before ++ ((option_front extra_front ++ v) ∷ behind)) (before ++ behind) (Some v)
-sim_joined v = parted (λ a b. Given sim_app (a ++ ((option_front extra_front ++ v) ∷ b)) (a ++ b) (Some v)) (sim_joined_0 v) (sim_joined_1 v) (sim_joined_2 v) (sim_joined_3 v)
-
-run_given : (v : Text) → is_dashed v ≡ false → (ws : List Text) (p : Placed start_front v ws) → length (p.before ++ p.behind) ≡ 3 → Given run_app ws (p.before ++ p.behind) (Some v)
-run_given v plain ws p many = elim p.is [
-  | inl e ↦ subst (λ (l : List Text). Given run_app l (p.before ++ p.behind) (Some v)) (sym e) (run_apart v plain p.before p.behind p.names_before p.names_behind many)
-  | inr e ↦ subst (λ (l : List Text). Given run_app l (p.before ++ p.behind) (Some v)) (sym e) (run_joined v p.before p.behind p.names_before p.names_behind many)
-]
-
-sim_given : (v : Text) → is_dashed v ≡ false → (ws : List Text) (p : Placed extra_front v ws) → length (p.before ++ p.behind) ≡ 3 → Given sim_app ws (p.before ++ p.behind) (Some v)
-sim_given v plain ws p many = elim p.is [
-  | inl e ↦ subst (λ (l : List Text). Given sim_app l (p.before ++ p.behind) (Some v)) (sym e) (sim_apart v plain p.before p.behind p.names_before p.names_behind many)
-  | inr e ↦ subst (λ (l : List Text). Given sim_app l (p.before ++ p.behind) (Some v)) (sym e) (sim_joined v p.before p.behind p.names_before p.names_behind many)
-]
-
 -- the first of three names is a first name
 first_there : (names : List Text) → length names ≡ 3 → load_in names ≡ load_at (number_of (at names 0))
 first_there [] e = absurd (omega (arith, e))
@@ -262,7 +235,7 @@ start_read words c is app count option may = elim may [
       let named = names_with words start_front option ∙ p.names in
       let many = ap length (sym named) ∙ many_are words c is ∙ count in
       read_of words (drop 1 words) (p.before ++ p.behind) c (Some h.0) (word_of c) (behind_word words c (word_is words c is))
-      (subst (λ (a : App). Given a (drop 1 words) (p.before ++ p.behind) (Some h.0)) (sym app) (run_given h.0 h.2 (drop 1 words) p many)) named h.1
+      (subst (λ (a : App). Given a (drop 1 words) (p.before ++ p.behind) (Some h.0)) (sym app) (laid run_app start_front run_layouts h.0 h.2 (drop 1 words) p many)) named h.1
       (first_there (p.before ++ p.behind) many)
 ]
 
@@ -275,7 +248,7 @@ sim_read words is =
     let named = names_with words extra_front option ∙ p.names in
     let many = ap length (sym named) ∙ many_are words Sim is in
     read_of words (drop 1 words) (p.before ++ p.behind) Sim (Some h.0) (codes "sim") (behind_word words Sim word)
-    (sim_given h.0 h.2 (drop 1 words) p many) named h.1 (first_there (p.before ++ p.behind) many)
+    (laid sim_app extra_front sim_layouts h.0 h.2 (drop 1 words) p many) named h.1 (first_there (p.before ++ p.behind) many)
 
 -- ---- all commands
 

@@ -1,5 +1,5 @@
 -- The numbers of the statuses.
-use Rattle.std.specs.Prelude.{ℕ, Result, Ok, Err}
+use Rattle.std.specs.Prelude.{ℕ}
 use Rattle.gl_top_notes.specs.declared.status.Status.{Status}
 use Rattle.gl_top_notes.specs.declared.status.Status.TheVariants.{Done, Usage, Missing, ReadFault, WriteFault, Schema, Query, Tuples, Verilog, Limit, Memory, NoEnd, Dump}
 
@@ -18,8 +18,3 @@ code_of Limit = 9
 code_of Memory = 10
 code_of NoEnd = 11
 code_of Dump = 12
-
--- how the program ends; where memory was short before it began, as where it is short in it
-abbrev pub ended_as : {E : Type 0} → Result Status E → Status
-ended_as (Ok status) = status
-ended_as (Err e) = Memory

@@ -10,6 +10,6 @@ pub mod notes;
 pub mod refusal;
 pub mod status;
 
-pub use notes::{show, tell, tell_memory, tell_no_end, tell_usage, tell_write_fault};
+pub use notes::{show, tell, tell_no_end, tell_words, tell_write_fault};
 pub use refusal::Refusal;
 pub use status::{Status, exit_code};

@@ -16,8 +16,8 @@ use crate::refusal::{Refusal, status_of};
 use crate::status::Status;
 use gl_dumps::VcdFault;
 use gl_figures::Limit;
-use gl_outside::{Sink, WriteFault, write_all_of};
-use gl_top_words::{Part, Taken};
+use gl_outside::{Sink, Words, WriteFault, write_all_of};
+use gl_top_words::{Part, Taken, name_of};
 use gl_verilog_syntax::VerilogFault;
 use itoa::Buffer;
 
@@ -41,13 +41,13 @@ fn put_line<N: Sink>(notes: &mut N, head: &[u8], rest: &[u8]) -> Result<(), Writ
 fn put_name<N: Sink>(
     notes: &mut N,
     head: &[u8],
-    words: &Taken<'_>,
+    words: &Words,
     part: Part,
 ) -> Result<(), WriteFault>
     ensures { let bytes = line head.now (forms.name_of words.now part) in
         Wrote (N.state notes.old) (N.state notes.new) bytes result }
 {
-    put_line(notes, head, words.name(part).as_bytes())
+    put_line(notes, head, name_of(words, part).as_bytes())
 }
 
 // Writes a line of a text and a number.
@@ -147,7 +147,7 @@ fn put_dump<N: Sink>(notes: &mut N, fault: &VcdFault) -> Result<(), WriteFault>
 }
 
 // Writes the line of a refusal.
-fn put_note<N: Sink>(notes: &mut N, words: &Taken<'_>, refusal: &Refusal) -> Result<(), WriteFault>
+fn put_note<N: Sink>(notes: &mut N, words: &Words, refusal: &Refusal) -> Result<(), WriteFault>
     ensures { Wrote (N.state notes.old) (N.state notes.new) (note_of words.now refusal.now) result }
 {
     match refusal {
@@ -183,9 +183,9 @@ fn put_note<N: Sink>(notes: &mut N, words: &Taken<'_>, refusal: &Refusal) -> Res
     }
 }
 
-/// Writes the line of a refusal, and answers its status: that of a failed write, if the line could
-/// not be written.
-pub fn tell<N: Sink>(notes: &mut N, words: &Taken<'_>, refusal: &Refusal) -> Status
+/// Writes the line of a refusal of these words, and answers its status: that of a failed write, if the
+/// line could not be written.
+pub fn tell_words<N: Sink>(notes: &mut N, words: &Words, refusal: &Refusal) -> Status
     ensures { let made = puts (N.state notes.old) (N.state notes.new) in
         Notes (told.status_of refusal.now) (note_of words.now refusal.now) made result }
 {
@@ -195,26 +195,12 @@ pub fn tell<N: Sink>(notes: &mut N, words: &Taken<'_>, refusal: &Refusal) -> Sta
     }
 }
 
-/// Writes the line of all forms, for words that are of none.
-pub fn tell_usage<N: Sink>(notes: &mut N) -> Status
+/// Writes the line of a refusal of words that were taken apart, as `tell_words` does.
+pub fn tell<N: Sink>(notes: &mut N, words: &Taken<'_>, refusal: &Refusal) -> Status
     ensures { let made = puts (N.state notes.old) (N.state notes.new) in
-        Notes Status.Usage usage_line made result }
+        Notes (told.status_of refusal.now) (note_of words.now refusal.now) made result }
 {
-    match put_usage(notes) {
-        Ok(()) => Status::Usage,
-        Err(_) => Status::WriteFault,
-    }
-}
-
-/// Writes the line of want of memory, for words that could not be taken apart.
-pub fn tell_memory<N: Sink>(notes: &mut N) -> Status
-    ensures { let made = puts (N.state notes.old) (N.state notes.new) in
-        Notes Status.Memory memory_line made result }
-{
-    match put_memory(notes) {
-        Ok(()) => Status::Memory,
-        Err(_) => Status::WriteFault,
-    }
+    tell_words(notes, words.words(), refusal)
 }
 
 /// Writes the line of an output that could not be written.

@@ -2,9 +2,8 @@
 
 ghost use Rattle.std.specs.Prelude.{◌≡◌};
 ghost use Rattle.std.specs.Process.{exit_status};
-ghost use Rattle.gl_top_notes.specs.Statuses.{code_of, ended_as};
+ghost use Rattle.gl_top_notes.specs.Statuses.{code_of};
 
-use gl_outside::Memory;
 use std::process::ExitCode;
 
 /// How the program ends.
@@ -61,12 +60,9 @@ impl Status {
     }
 }
 
-/// What the process ends with: the number of the status, that of want of memory where none came about.
-pub fn exit_code(ended: Result<Status, Memory>) -> ExitCode
-    ensures { exit_status result ≡ code_of (ended_as ended) }
+/// What the process ends with: the number of the status.
+pub fn exit_code(status: Status) -> ExitCode
+    ensures { exit_status result ≡ code_of status }
 {
-    match ended {
-        Ok(status) => ExitCode::from(status.code()),
-        Err(Memory) => ExitCode::from(Status::Memory.code()),
-    }
+    ExitCode::from(status.code())
 }

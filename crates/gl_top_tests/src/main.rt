@@ -22,7 +22,7 @@
 ghost use Rattle.std.specs.Prelude.{◌≡◌, IfOk};
 
 use gl_outside::{Memory, MemoryShelf, MemorySink, Words};
-use gl_top::run;
+use gl_top::{Desk, run};
 use gl_top_words::copied;
 use std::alloc::Global;
 use std::io;
@@ -131,14 +131,24 @@ struct Told {
 
 // What the words come to over these texts and this query.
 fn told_by(alloc: Global, words: &Words, row: &Row, query: &str) -> Result<Told, Memory> {
-    let mut shelf = shelf_with(alloc, copied(alloc, words)?, row, query)?;
-    let mut out = sink_with(alloc, row.failing.put)?;
-    let mut notes = sink_with(alloc, row.failing.note)?;
-    let mut text = Vec::new(alloc);
-    let status = run(alloc, words, &mut shelf, &mut out, &mut notes, &mut text);
-    let code = status.code();
+    let shelf = shelf_with(alloc, copied(alloc, words)?, row, query)?;
+    let out = sink_with(alloc, row.failing.put)?;
+    let notes = sink_with(alloc, row.failing.note)?;
+    let mut desk = Desk {
+        shelf,
+        out,
+        notes,
+        text: Vec::new(alloc),
+    };
+    let status = run(alloc, words, &mut desk);
+    let Desk {
+        shelf: _,
+        out,
+        notes,
+        text,
+    } = desk;
     Ok(Told {
-        code,
+        code: status.code(),
         out,
         notes,
         text,

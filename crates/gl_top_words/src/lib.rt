@@ -13,5 +13,5 @@ pub mod taken;
 
 pub use command::{Command, Part};
 pub use copying::copied;
-pub use reading::{command_of, extra_at, load_at, start_at};
+pub use reading::{command_of, extra_at, load_at, name_of, start_at};
 pub use taken::Taken;

@@ -5,7 +5,7 @@ ghost use Rattle.gl_tuples.specs.Values.{number_of};
 ghost use Rattle.gl_top_words.specs.Forms as forms;
 ghost use Rattle.gl_top_words.specs.Steps as steps;
 
-use crate::command::Command;
+use crate::command::{Command, Part};
 use gl_outside::Words;
 use gl_tuples::value::number_of;
 use gl_verilog_orders::Start;
@@ -121,6 +121,28 @@ fn name_at(words: &Words, index: usize) -> Option<&str>
         }
     }
     None
+}
+
+// The place of a text's name among the names.
+fn place_of(part: Part) -> usize
+    ensures { result ≡ forms.place_of part }
+{
+    match part {
+        Part::Schema | Part::Dump => 0,
+        Part::Query | Part::Module | Part::Queries => 1,
+        Part::Tuples => 2,
+    }
+}
+
+/// The name of a text, of words of any form or of none; no byte where the words name none.
+#[tactic(auto, unfolding(crate::specs::Forms::name_of))]
+pub fn name_of(words: &Words, part: Part) -> &str
+    ensures { result.now ≡ forms.name_of words.now part }
+{
+    match name_at(words, place_of(part)) {
+        Some(name) => name,
+        None => "",
+    }
 }
 
 // Whether there is a name at a place among the names.

@@ -59,6 +59,13 @@ impl<'a> Taken<'a> {
 }
 
 impl Taken<'_> {
+    /// The words themselves.
+    pub fn words(&self) -> &Words
+        ensures { result.now ≡ self.now }
+    {
+        self.words
+    }
+
     /// The name of a text; no byte where the words name none.
     #[tactic(auto, unfolding(crate::specs::Forms::name_of))]
     pub fn name(&self, part: Part) -> &str

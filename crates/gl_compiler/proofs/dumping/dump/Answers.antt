@@ -7,7 +7,7 @@ use Rattle.gl_compiler.proofs.dumping.dump.Goals as goal
 pub dump_module-requires-clause-can : goal.dump_module-requires-clause-can
 dump_module-requires-clause-can g c =
     let d = c.in-Ok-read_module.design in
-    can_follow c.args.text.now c.args.schema.now c.args.kinds.now (plain_beats c.args.beats.now) c.args.latency c.args.start d (c.one_module.ensures c.args.text.now) (c.inputs_are_ports.ensures c.args.text.now (module_of d) c.in-Ok-read_module.ensures.found)
+    can_follow c.args.text.now c.args.run.schema.now c.args.run.kinds.now (plain_beats c.args.run.beats.now) c.args.run.latency c.args.run.start d (c.one_module.ensures c.args.text.now) (c.inputs_are_ports.ensures c.args.text.now (module_of d) c.in-Ok-read_module.ensures.found)
     c.requires.runs c.in-Ok-read_module.ensures.found c.requires.beats
 
 pub dump_module-requires-clause-plain : goal.dump_module-requires-clause-plain
@@ -15,5 +15,5 @@ dump_module-requires-clause-plain g c = plain_ports c.args.text.now (module_of c
 
 pub returns : goal.returns
 returns g c =
-    dumped_each c.args.text.now c.args.schema.now c.args.kinds.now (plain_beats c.args.beats.now) c.args.latency c.args.start c.in-Ok-read_module.design
+    dumped_each c.args.text.now c.args.run.schema.now c.args.run.kinds.now (plain_beats c.args.run.beats.now) c.args.run.latency c.args.run.start c.in-Ok-read_module.design
     (g.K.Sink.state c.args.out.now) (g.K.Sink.state c.dump_module.new.out) c.dump_module.result (c.one_module.ensures c.args.text.now) c.requires.runs c.in-Ok-read_module.ensures.found c.dump_module.ensures

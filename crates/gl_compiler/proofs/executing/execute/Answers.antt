@@ -8,7 +8,7 @@ pub unread-requires : goal.unread-requires
 unread-requires g c = c.in-Err.ensures.only c.requires.runs.design c.requires.runs.has
 
 pub execute_module-requires-clause-can : goal.execute_module-requires-clause-can
-execute_module-requires-clause-can g c = can_follow c.args.text.now c.args.schema.now c.args.kinds.now (plain_beats c.args.beats.now) c.args.latency c.args.start c.in-Ok.design (c.one_module.ensures c.args.text.now) (c.inputs_are_ports.ensures c.args.text.now (module_of c.in-Ok.design) c.in-Ok.ensures.found)
+execute_module-requires-clause-can g c = can_follow c.args.text.now c.args.run.schema.now c.args.run.kinds.now (plain_beats c.args.run.beats.now) c.args.run.latency c.args.run.start c.in-Ok.design (c.one_module.ensures c.args.text.now) (c.inputs_are_ports.ensures c.args.text.now (module_of c.in-Ok.design) c.in-Ok.ensures.found)
     c.requires.runs c.in-Ok.ensures.found c.requires.beats
 
 pub execute_module-requires-clause-many : goal.execute_module-requires-clause-many
@@ -22,5 +22,5 @@ execute_module-requires-clause-short g c = c.requires.runs.short
 
 pub returns : goal.returns
 returns g c =
-    ran_each c.args.text.now c.args.schema.now c.args.kinds.now (plain_beats c.args.beats.now) c.args.latency c.args.start c.in-Ok.design
+    ran_each c.args.text.now c.args.run.schema.now c.args.run.kinds.now (plain_beats c.args.run.beats.now) c.args.run.latency c.args.run.start c.in-Ok.design
     (g.K.Sink.state c.args.out.now) (g.K.Sink.state c.execute_module.new.out) c.execute_module.result (c.one_module.ensures c.args.text.now) c.requires.runs c.in-Ok.ensures.found c.execute_module.ensures

@@ -11,7 +11,7 @@ returns-in-None g c = Refused (record {
   refusal = refusal.Usage;
   cause = (no_form c.args.words.now (sym c.command_of.ensures ∙ c.in-None.is), calm_none _);
   untouched = took_none _;
-  noted = c.tell_usage.ensures;
+  noted = c.tell_words-in-None.ensures;
   left = inl c.requires.empty;
 })
 
@@ -20,6 +20,6 @@ returns-in-Err g c = Refused (record {
   refusal = refusal.Memory;
   cause = calm_none _;
   untouched = took_none _;
-  noted = c.tell_memory.ensures;
+  noted = c.tell_words.ensures;
   left = inl c.requires.empty;
 })

@@ -1,4 +1,4 @@
-use Rattle.std.proofs.Common.{inl, refl}
+use Rattle.std.proofs.Common.{inl}
 use Rattle.gl_outside.proofs.Takes.{took_none}
 use Rattle.gl_top_judging.specs.Causes.{change}
 use Rattle.gl_top.specs.Verdicts.{Refused}
@@ -13,5 +13,5 @@ returns-in-Err g c = Refused (record {
   cause = c.in-Err.ensures.leaves;
   untouched = took_none _;
   noted = c.tell.ensures;
-  left = inl refl;
+  left = inl c.requires.empty;
 })

@@ -12,16 +12,16 @@ use Rattle.gl_top.specs.Verdicts.{Traced, Refused}
 use Rattle.gl_top.proofs.tracing.finish_trace.Goals as goal
 
 pub trace-requires-clause-valid : goal.trace-requires-clause-valid
-trace-requires-clause-valid g c = c.requires.of_text.1.valid
+trace-requires-clause-valid g c = c.requires.can.of_text.1.valid
 
 pub trace-requires-clause-inputs : goal.trace-requires-clause-inputs
-trace-requires-clause-inputs g c = c.inputs_are_ports.ensures c.requires.of_text.0 (module_of c.args.simulation.fitted.design) c.requires.of_text.1
+trace-requires-clause-inputs g c = c.inputs_are_ports.ensures c.requires.can.of_text.0 (module_of c.args.simulation.fitted.design) c.requires.can.of_text.1
 
 pub returns-in-Done : goal.returns-in-Done
 returns-in-Done g c = λ ch ready calm.
     let s = c.args.simulation in
     let m = module_of s.fitted.design in
-    let of_extra : ℕ → Type 0 = λ n. traces.Traced (OfRunsOf m s.schema (plain_beats s.beats) Zero) (decimal_kinds m) (plain_beats s.beats) n (g.K.Sink.state c.args.out.now) (g.K.Sink.state c.trace.new.out) end.Done in
+    let of_extra : ℕ → Type 0 = λ n. traces.Traced (OfRunsOf m s.schema (plain_beats s.beats) Zero) (decimal_kinds m) (plain_beats s.beats) n (g.K.Sink.state c.args.desk.now.out) (g.K.Sink.state c.trace.new.out) end.Done in
     Traced (record {
       schema = s.schema;
       design = m;
@@ -32,14 +32,14 @@ returns-in-Done g c = λ ch ready calm.
       traced = subst of_extra c.extra-extra.ensures c.in-Done.ensures.lines;
       tells = (refl, took_none _);
       calm = calm;
-      left = refl;
+      left = c.requires.empty;
     })
 
 pub returns-in-NoEnd : goal.returns-in-NoEnd
 returns-in-NoEnd g c = λ ch ready calm.
     let s = c.args.simulation in
     let m = module_of s.fitted.design in
-    let of_extra : ℕ → Type 0 = λ n. traces.Traced (OfRunsOf m s.schema (plain_beats s.beats) Zero) (decimal_kinds m) (plain_beats s.beats) n (g.K.Sink.state c.args.out.now) (g.K.Sink.state c.trace.new.out) (end.NoEnd c.in-NoEnd.cycle) in
+    let of_extra : ℕ → Type 0 = λ n. traces.Traced (OfRunsOf m s.schema (plain_beats s.beats) Zero) (decimal_kinds m) (plain_beats s.beats) n (g.K.Sink.state c.args.desk.now.out) (g.K.Sink.state c.trace.new.out) (end.NoEnd c.in-NoEnd.cycle) in
     Traced (record {
       schema = s.schema;
       design = m;
@@ -50,14 +50,14 @@ returns-in-NoEnd g c = λ ch ready calm.
       traced = subst of_extra c.extra-extra.ensures c.in-NoEnd.ensures.lines;
       tells = c.tell_no_end.ensures;
       calm = calm;
-      left = refl;
+      left = c.requires.empty;
     })
 
 pub returns-in-WriteFault : goal.returns-in-WriteFault
 returns-in-WriteFault g c = λ ch ready calm.
     let s = c.args.simulation in
     let m = module_of s.fitted.design in
-    let of_extra : ℕ → Type 0 = λ n. traces.Traced (OfRunsOf m s.schema (plain_beats s.beats) Zero) (decimal_kinds m) (plain_beats s.beats) n (g.K.Sink.state c.args.out.now) (g.K.Sink.state c.trace.new.out) end.WriteFault in
+    let of_extra : ℕ → Type 0 = λ n. traces.Traced (OfRunsOf m s.schema (plain_beats s.beats) Zero) (decimal_kinds m) (plain_beats s.beats) n (g.K.Sink.state c.args.desk.now.out) (g.K.Sink.state c.trace.new.out) end.WriteFault in
     Traced (record {
       schema = s.schema;
       design = m;
@@ -68,14 +68,14 @@ returns-in-WriteFault g c = λ ch ready calm.
       traced = subst of_extra c.extra-extra.ensures c.in-WriteFault.ensures.lines;
       tells = c.tell_write_fault.ensures;
       calm = calm;
-      left = refl;
+      left = c.requires.empty;
     })
 
 pub returns : goal.returns
 returns g c = λ ch ready calm. Refused (record {
   refusal = refusal.Memory;
   cause = calm;
-  untouched = let P : SinkState → Type 0 = λ s. Took (g.K.Sink.state c.args.out.now) s [] in subst P (sym c.in-Memory.ensures.lines) (took_none _);
+  untouched = let P : SinkState → Type 0 = λ s. Took (g.K.Sink.state c.args.desk.now.out) s [] in subst P (sym c.in-Memory.ensures.lines) (took_none _);
   noted = c.tell.ensures;
-  left = inl refl;
+  left = inl c.requires.empty;
 })

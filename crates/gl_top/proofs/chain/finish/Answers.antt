@@ -1,0 +1,33 @@
+use Rattle.std.proofs.Common.{refl, sym}
+use Rattle.gl_outside.proofs.Takes.{took_none}
+use Rattle.gl_runner.specs.declared.executing.Outcome.TheVariants as outcome
+use Rattle.gl_top.specs.Verdicts.{RanWhole, RanCut, Refused}
+use Rattle.gl_top_notes.specs.declared.refusal.Refusal.TheVariants as refusal
+use Rattle.gl_top.proofs.Ended.{nothing_written, run_left, run_of_kept}
+use Rattle.gl_top.proofs.chain.finish.Goals as goal
+
+pub returns-in-Done : goal.returns-in-Done
+returns-in-Done g c = λ ch passes calm. RanWhole (record {
+  run = run_of_kept _ _ _ _ _ _ outcome.Done (sym c.requires.kept) (c.in-Done.ensures ch.old.told passes);
+  silent = took_none _;
+  calm = calm;
+  done = refl;
+})
+
+pub returns-in-WriteFault : goal.returns-in-WriteFault
+returns-in-WriteFault g c = λ ch passes calm. RanCut (record {
+  run = run_of_kept _ _ _ _ _ _ outcome.WriteFault (sym c.requires.kept) (c.in-WriteFault.ensures ch.old.told passes);
+  calm = calm;
+  noted = c.tell_write_fault.ensures;
+})
+
+pub returns-in-Memory : goal.returns-in-Memory
+returns-in-Memory g c = λ ch passes calm.
+    let run = run_of_kept _ _ _ _ _ _ outcome.Memory (sym c.requires.kept) (c.in-Memory.ensures ch.old.told passes) in
+    Refused (record {
+      refusal = refusal.Memory;
+      cause = calm;
+      untouched = nothing_written _ _ _ _ _ run;
+      noted = c.tell.ensures;
+      left = run_left _ _ _ _ _ outcome.Memory run;
+    })

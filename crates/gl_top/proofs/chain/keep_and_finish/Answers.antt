@@ -1,0 +1,14 @@
+use Rattle.std.proofs.Common.{inl, ◌∙◌}
+use Rattle.gl_outside.proofs.Takes.{took_none}
+use Rattle.gl_top.specs.Verdicts.{Refused}
+use Rattle.gl_top_notes.specs.declared.refusal.Refusal.TheVariants as refusal
+use Rattle.gl_top.proofs.chain.keep_and_finish.Goals as goal
+
+pub returns-in-Err : goal.returns-in-Err
+returns-in-Err g c = λ ch passes calm. Refused (record {
+  refusal = refusal.Memory;
+  cause = calm;
+  untouched = took_none _;
+  noted = c.tell.ensures;
+  left = inl (c.in-Err.ensures.items ∙ c.requires.empty);
+})
