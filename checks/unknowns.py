@@ -107,8 +107,11 @@ def told(lines, kinds):
     """The lines of one result: the last is its end, also where a row's only value is that word."""
     out = []
     for cycle, *values in lines[:-1]:
+        if values == ['overflow']:
+            out.append(f'{cycle} overflow 1')
+            continue
         words = [f'{word_of(it, kind):0{width_of(kind)}b}' for it, kind in zip(values, kinds)]
-        out.append(f'{cycle} overflow 1' if values == ['overflow'] else ' '.join([cycle, 'row 1', *words]))
+        out.append(' '.join([cycle, 'row 1', *words]))
     return out + [f'{lines[-1][0]} end 1']
 
 
