@@ -22,7 +22,7 @@ from common import ended, has_tick, inputs_of, width_of, word_of
 from drawing import Maker, may_have_spare, weight_of
 from meaning import forms_of, query_text
 
-WEIGHT = 16  # of a query, by weight_of
+WEIGHTS = 3, 5, 8, 16  # the most of a query, by weight_of
 WORK = 1000000  # about a file's cycles, times the bytes of the module
 CYCLES = 25, 1000  # the fewest and the most of a file, about
 BATCH = 16  # cases in one compilation
@@ -38,12 +38,13 @@ Drawn = collections.namedtuple('Drawn', 'number cases text beats end want design
 
 
 def query_of(maker, draw, sort):
-    """A query of a sort that weighs little enough."""
+    """A query of a sort that weighs little enough: most modules are small, since `run` reads each whole."""
+    most = draw.choice(WEIGHTS)
     queries = iter(lambda: maker.query(maker.schema, draw.choice([1, 1, 2, 2, 3])), None)
     return next(
         it
         for it in queries
-        if weight_of(it) <= WEIGHT
+        if weight_of(it) <= most
         and (may_have_spare(it) or sort != 'spare')
         and ('windows of each key' in forms_of(it) or sort != 'keyed')
     )
@@ -56,7 +57,7 @@ def drawn(program, seed, room, number):
     maker = Maker(draw, True, draw.random() < 0.4, draw.random() < 0.3, sort == 'times', sort == 'keyed')
     query = query_of(maker, draw, sort)
     if sort == 'lists':
-        statements, text = statements_of(maker, draw, query, draw.randint(2, 8), WEIGHT)
+        statements, text = statements_of(maker, draw, query, draw.randint(2, 8), max(WEIGHTS))
     else:
         statements = [(query, maker.names(1)[0])]
         text = f'{query_text(query)} INTO {statements[0][1]}\n'
