@@ -11,6 +11,7 @@ ghost use Rattle.gl_dumps.specs.Written.{ports_of};
 ghost use Rattle.gl_runner.specs.Cycles.{CanFollow, HasPlainPorts, design_of};
 ghost use Rattle.gl_runner.specs.Dumps.{Dumped, OfTimelyPorts};
 ghost use Rattle.gl_runner.specs.Dumping.{Adds, CanDump, IsEmptyFor, IsInFront, OfTimelyDriven, Serves, StandsDumped};
+ghost use Rattle.gl_runner.specs.Dumping.{outcome_in};
 ghost use Rattle.gl_runner.specs.Probes.{IsLineIn};
 ghost use Rattle.gl_runner.specs.Watches.{dump_of_cycle, end_of_cycle};
 
@@ -133,23 +134,32 @@ impl Watch for DumpLines<'_> {
 }
 
 // Writes what stands in front of the first time, the cycles of a run, and the time behind the last.
-fn put_dump<K: Sink>(drive: &mut Drive<'_>, lines: &mut DumpLines<'_>, out: &mut K) -> Outcome
+fn put_dump<K: Sink>(
+    drive: &mut Drive<'_>,
+    lines: &mut DumpLines<'_>,
+    out: &mut K,
+) -> Result<(), WriteFault>
     requires front { IsInFront lines.old.face.now lines.old }
     requires same { module_of lines.old.face.now ≡ design_of drive.old }
     requires plain { HasPlainPorts (design_of drive.old) }
     requires line { IsLineIn (design_of drive.old) out_eos }
     requires first { drive.old.cycle ≡ 0 }
     ensures { Dumped (OfTimelyDriven drive.old) drive.old.beats (K.state out.old) (K.state out.new)
-        result }
+        (outcome_in result) }
 {
-    if header(lines.face, out).is_err() {
-        return Outcome::WriteFault;
-    }
+    header(lines.face, out)?;
     let ending = drive.follow(lines, out);
     if matches!(ending, Ending::WriteFault) {
-        return Outcome::WriteFault;
+        return Err(WriteFault);
     }
-    match last_time(lines.next, out) {
+    last_time(lines.next, out)
+}
+
+// How dumping ended, by whether it was written.
+fn outcome_in(written: Result<(), WriteFault>) -> Outcome
+    ensures { result ≡ outcome_in written }
+{
+    match written {
         Ok(()) => Outcome::Done,
         Err(_) => Outcome::WriteFault,
     }
@@ -193,5 +203,5 @@ pub fn dump_module<K: Sink>(
     let Ok(mut drive) = Drive::new(alloc, design, task) else {
         return Outcome::Memory;
     };
-    put_dump(&mut drive, &mut lines, out)
+    outcome_in(put_dump(&mut drive, &mut lines, out))
 }

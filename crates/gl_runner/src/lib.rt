@@ -14,7 +14,6 @@ mod following;
 mod naming;
 mod sampling;
 pub mod several;
-mod telling;
 pub mod tracing;
 pub mod watching;
 

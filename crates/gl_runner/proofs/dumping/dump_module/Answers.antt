@@ -8,6 +8,7 @@ use Rattle.gl_verilog.specs.View.{declaration_of, module_of}
 use Rattle.gl_verilog.specs.Widths.{HasSize}
 use Rattle.gl_schema.specs.Ports.{out_eos}
 use Rattle.gl_runner.specs.Probes.{IsLineIn}
+use Rattle.gl_runner.specs.Dumping.{outcome_in}
 use Rattle.gl_runner.proofs.Dumps.{dumped_started}
 use Rattle.gl_runner.proofs.Making.{can_drive}
 use Rattle.gl_runner.proofs.Probing.{end_line}
@@ -32,5 +33,5 @@ put_dump-requires-clause-line g c =
 
 pub returns : goal.returns
 returns g c =
-    dumped_started (module_of c.args.design) c.args.schema.now (plain_beats c.args.beats.now) c.args.start c.args.latency c.in-Ok-new.drive
-    (g.K.Sink.state c.args.out.now) (g.K.Sink.state c.put_dump.new.out) c.put_dump.result c.in-Ok-new.ensures c.put_dump.ensures
+    rw c.outcome_in.ensures (dumped_started (module_of c.args.design) c.args.schema.now (plain_beats c.args.beats.now) c.args.start c.args.latency c.in-Ok-new.drive
+    (g.K.Sink.state c.args.out.now) (g.K.Sink.state c.put_dump.new.out) (outcome_in c.put_dump.result) c.in-Ok-new.ensures c.put_dump.ensures)
