@@ -23,11 +23,8 @@ use crate::watching::{Made, Watch};
 use gl_bits::{Kind, Memory, Row, Word};
 use gl_dumps::{cycle, header, is_dumped, last_time};
 use gl_outside::{Sink, WriteFault};
-use gl_schema::Schema;
 use gl_testbench::number_of;
-use gl_tuples::Beats;
 use gl_verilog::Module;
-use gl_verilog_orders::Start;
 use gl_verilog_ports::ports_of as ports_in;
 use std::alloc::Global;
 use std::mem;
@@ -171,34 +168,26 @@ pub fn dump_module<K: Sink>(
     alloc: Global,
     face: &Module,
     design: Module,
-    schema: &Schema,
     kinds: &[Kind],
-    beats: &Beats,
-    latency: u64,
-    start: Start,
+    task: Task<'_>,
     out: &mut K,
 ) -> Outcome
     requires same { module_of face.now ≡ module_of design }
-    requires can { CanFollow (module_of design) schema.now kinds.now (plain_beats beats.now) }
+    requires can { CanFollow (module_of design) task.schema.now kinds.now
+        (plain_beats task.beats.now) }
     requires many { length kinds.now ≤ 32 }
     requires kinds { AllByRecursion IsKind kinds.now }
-    requires short { latency ≤ 2 ^ 32 }
+    requires short { task.extra ≤ 2 ^ 32 }
     requires few { length (ports_of (module_of design)) ≤ 8836 }
     requires plain { HasPlainPorts (module_of design) }
-    ensures { let beats' = plain_beats beats.now in
-        Dumped (OfTimelyPorts latency (module_of design) schema.now beats' start) beats'
+    ensures { let t = task.entry in let beats = plain_beats t.beats.now in
+        Dumped (OfTimelyPorts t.extra (module_of design) t.schema.now beats t.start) beats
         (K.state out.old) (K.state out.new) result }
 {
     // Clauses alone speak of them.
     let _ = kinds;
     let Ok(mut lines) = DumpLines::new(alloc, face) else {
         return Outcome::Memory;
-    };
-    let task = Task {
-        schema,
-        beats,
-        start,
-        extra: latency,
     };
     let Ok(mut drive) = Drive::new(alloc, design, task) else {
         return Outcome::Memory;

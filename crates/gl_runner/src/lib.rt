@@ -6,7 +6,7 @@
 //! gl_lines, what the ports carry to gl_testbench, one cycle of a module to gl_sim, and texts to gl_compiler.
 #![tactic(auto)]
 
-mod driving;
+pub mod driving;
 pub mod dumping;
 pub mod executing;
 pub mod faces;
@@ -17,6 +17,7 @@ pub mod several;
 pub mod tracing;
 pub mod watching;
 
+pub use driving::Task;
 pub use dumping::dump_module;
 pub use executing::{Outcome, execute_module};
 pub use faces::Face;

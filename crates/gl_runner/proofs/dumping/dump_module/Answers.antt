@@ -25,13 +25,13 @@ new-requires g c =
     }
 
 pub new-requires-2-clause-can : goal.new-requires-2-clause-can
-new-requires-2-clause-can g c = can_drive (module_of c.args.design) c.args.schema.now c.args.kinds.now (plain_beats c.args.beats.now) c.requires.can
+new-requires-2-clause-can g c = can_drive (module_of c.args.design) c.args.task.schema.now c.args.kinds.now (plain_beats c.args.task.beats.now) c.requires.can
 
 pub put_dump-requires-clause-line : goal.put_dump-requires-clause-line
 put_dump-requires-clause-line g c =
-    subst (λ (m : Module). IsLineIn m out_eos) (sym c.in-Ok-new.ensures.design') (end_line (module_of c.args.design) c.args.schema.now c.requires.can.fits)
+    subst (λ (m : Module). IsLineIn m out_eos) (sym c.in-Ok-new.ensures.design') (end_line (module_of c.args.design) c.args.task.schema.now c.requires.can.fits)
 
 pub returns : goal.returns
 returns g c =
-    rw c.outcome_in.ensures (dumped_started (module_of c.args.design) c.args.schema.now (plain_beats c.args.beats.now) c.args.start c.args.latency c.in-Ok-new.drive
+    rw c.outcome_in.ensures (dumped_started (module_of c.args.design) c.args.task.schema.now (plain_beats c.args.task.beats.now) c.args.task.start c.args.task.extra c.in-Ok-new.drive
     (g.K.Sink.state c.args.out.now) (g.K.Sink.state c.put_dump.new.out) (outcome_in c.put_dump.result) c.in-Ok-new.ensures c.put_dump.ensures)
