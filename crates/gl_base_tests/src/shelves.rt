@@ -154,10 +154,8 @@ fn hold(alloc: Global, shelves: &mut Shelves, kind: &str, text: &str) -> Result<
         let bytes = many_bytes(alloc, number_before(rest).0 as usize)?;
         return shelves.hold(name, bytes.as_slice());
     }
-    match bytes_of(alloc, rest) {
-        Ok(bytes) => shelves.hold(name, bytes.as_slice()),
-        Err(_) => Err(Memory),
-    }
+    let bytes = bytes_of(alloc, rest)?;
+    shelves.hold(name, bytes.as_slice())
 }
 
 // Makes the shelves anew.

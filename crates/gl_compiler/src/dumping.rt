@@ -10,15 +10,15 @@ ghost use Rattle.gl_compiler.specs.Runnable.{IsRunnable};
 ghost use Rattle.gl_runner.specs.Dumps.{Dumped, HasFewPorts, OfEachPorts};
 ghost use Rattle.gl_runner.specs.Prints.{CanRun};
 
-use crate::executing::{Run, unread};
+use crate::executing::Run;
 use gl_compiler_text::Compiled;
 use gl_outside::Sink;
-use gl_runner::{Outcome, dump_module};
+use gl_runner::{Outcome, Task, dump_module};
 use gl_tuples::Beats;
 use gl_verilog_grammar::laws::one_module;
 use gl_verilog_orders::Start;
 use gl_verilog_ports::laws::inputs_are_ports;
-use gl_verilog_reader::read_module;
+use gl_verilog_reader::read_known_module;
 use std::alloc::Global;
 
 /// Runs the text of a module over beats, and writes the dump of its ports but the clock, as
@@ -39,24 +39,19 @@ pub fn dump<K: Sink>(alloc: Global, text: &[u8], run: Run<'_>, out: &mut K) -> O
     inputs_are_ports();
     // A simulator takes the module whole, so what stands in front of its cycles is written of
     // another one of the same text.
-    let face = match read_module(alloc, text) {
-        Ok(design) => design,
-        Err(fault) => return unread(fault),
+    let Ok(face) = read_known_module(alloc, text) else {
+        return Outcome::Memory;
     };
-    let design = match read_module(alloc, text) {
-        Ok(design) => design,
-        Err(fault) => return unread(fault),
+    let Ok(design) = read_known_module(alloc, text) else {
+        return Outcome::Memory;
     };
-    let Run {
-        schema,
-        kinds,
-        beats,
-        latency,
-        start,
-    } = run;
-    dump_module(
-        alloc, &face, design, schema, kinds, beats, latency, start, out,
-    )
+    let task = Task {
+        schema: run.schema,
+        beats: run.beats,
+        start: run.start,
+        extra: run.latency,
+    };
+    dump_module(alloc, &face, design, run.kinds, task, out)
 }
 
 /// Runs the text of a compiled query over beats of its schema that keep its gap, in cycles, and writes

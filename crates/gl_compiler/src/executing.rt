@@ -1,6 +1,6 @@
 //! Running the text of a module.
 
-ghost use Rattle.std.specs.Prelude.{◌≡◌, ◌≤◌, length};
+ghost use Rattle.std.specs.Prelude.{◌≤◌, length};
 ghost use Rattle.std.specs.List.{AllByRecursion};
 ghost use Rattle.gl_bits.specs.Kinds.{IsKind};
 ghost use Rattle.gl_schema.specs.Beats.{AreBeats};
@@ -10,13 +10,13 @@ ghost use Rattle.gl_runner.specs.Prints.{CanRun, OfEachRun, Ran};
 
 use gl_bits::Kind;
 use gl_outside::Sink;
-use gl_runner::{Outcome, execute_module};
+use gl_runner::{Outcome, Task, execute_module};
 use gl_schema::Schema;
 use gl_tuples::Beats;
 use gl_verilog_grammar::laws::one_module;
 use gl_verilog_orders::Start;
 use gl_verilog_ports::laws::inputs_are_ports;
-use gl_verilog_reader::{VerilogFault, read_module};
+use gl_verilog_reader::read_known_module;
 use std::alloc::Global;
 
 /// What the text of a module is run over, and from where.
@@ -34,16 +34,6 @@ pub struct Run<'a> {
     pub start: Start,
 }
 
-// The outcome where a text that has a module was not read: nothing but want of memory does that.
-pub(crate) fn unread(fault: VerilogFault) -> Outcome
-    requires { fault ≡ VerilogFault.Memory }
-    ensures { result ≡ Outcome.Memory }
-{
-    // Clauses alone speak of it.
-    let _ = fault;
-    Outcome::Memory
-}
-
 /// Runs the text of a module over beats, and writes the lines of the result, as `execute_module`
 /// does.
 pub fn execute<K: Sink>(alloc: Global, text: &[u8], run: Run<'_>, out: &mut K) -> Outcome
@@ -59,16 +49,14 @@ pub fn execute<K: Sink>(alloc: Global, text: &[u8], run: Run<'_>, out: &mut K) -
 {
     one_module();
     inputs_are_ports();
-    let design = match read_module(alloc, text) {
-        Ok(design) => design,
-        Err(fault) => return unread(fault),
+    let Ok(design) = read_known_module(alloc, text) else {
+        return Outcome::Memory;
     };
-    let Run {
-        schema,
-        kinds,
-        beats,
-        latency,
-        start,
-    } = run;
-    execute_module(alloc, design, schema, kinds, beats, latency, start, out)
+    let task = Task {
+        schema: run.schema,
+        beats: run.beats,
+        start: run.start,
+        extra: run.latency,
+    };
+    execute_module(alloc, design, run.kinds, task, out)
 }

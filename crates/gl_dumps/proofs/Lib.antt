@@ -2,6 +2,7 @@ mod Changes
 mod Digits
 mod Headers
 mod OnWay
+mod Stops
 pub mod Bytes
 pub mod Numerals
 pub mod Numbered

@@ -1,5 +1,5 @@
 -- Pieces of a whole, put one behind the other.
-use Rattle.std.proofs.Common.{◌≡◌, List, [], ◌++◌, ℕ, Result, Ok, Err, IsErrAnd, refl, sym, ap, subst, ◌∙◌, append_assoc}
+use Rattle.std.proofs.Common.{◌≡◌, List, [], ◌++◌, ℕ, Result, refl, sym, ap, subst, ◌∙◌, append_assoc}
 use Rattle.std.proofs.lemmas.List.{append-nil}
 use Rattle.gl_outside.specs.States.{SinkState, Took, Broke, Wrote}
 use Rattle.gl_outside.proofs.Takes.{took_none, took_same, took_then, broke_more, broke_then, wrote_same, wrote_then}
@@ -35,8 +35,3 @@ way_done a b left whole e w =
 pub way_last : {E : Type 0} (a b c : SinkState) (left whole : List ℕ) (r : Result (Unit {0}) E) → IsOnWay a b left whole → Wrote b c left r → Wrote a c whole r
 way_last a b c left whole r w wrote =
     wrote_same a c (w.front ++ left) whole r w.parts (wrote_then a b c w.front left r w.took wrote)
-
--- what failed
-pub failed : {E : Type 0} (P : E → Type 0) (a b : SinkState) (x : List ℕ) (r : Result (Unit {0}) E) → IsErrAnd r P → Broke a b x → Wrote a b x r
-failed P a b x (Ok u) h w = absurd h
-failed P a b x (Err e) h w = w

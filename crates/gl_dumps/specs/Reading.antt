@@ -2,6 +2,7 @@
 -- first here.
 use Rattle.std.specs.Prelude.{ℕ, ◌+◌, ◌-◌, ◌*◌, ◌^◌, Bool, true, false, not, ◌&&◌, ◌||◌, List, [], ◌∷◌, ◌++◌, length, Option, Some, None, Result, Ok, Err, is_some, codes, bytes_eq, slice_get, nat_eq, nat_le, nat_lt, if◌then◌else◌}
 use Rattle.std.specs.List.{fold, list_all}
+use Rattle.gl_bits.specs.Limits.{latest_time}
 use Rattle.gl_tuples.specs.Values.{is_number, number_in}
 use Rattle.gl_dumps.specs.declared.fault.VcdFault.{VcdFault}
 use Rattle.gl_dumps.specs.declared.fault.VcdFault.TheVariants.{Syntax, UnknownSignal, TimeFalls, TooWide, NoValue, Twice, NoPort, TooLate}
@@ -203,7 +204,7 @@ abbrev pub later_time : Reading → ℕ → ℕ → ℕ → Step
 later_time r at time next =
     if nat_le next time then Err (TimeFalls at)
     else if lacks_value r time then Err (NoValue at)
-    else if nat_lt 67108864 next then Err (TooLate at)
+    else if nat_lt latest_time next then Err (TooLate at)
     else Ok (record r { time = Some next })
 
 -- the first time is 0, and every further one is a decimal number above it

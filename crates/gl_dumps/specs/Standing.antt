@@ -110,11 +110,21 @@ pub record CanDeclare (d : Declaring) : Type 0 where
   pub indexed : IsIndexed d.signals
   pub new : IsNewAt (signals_of d.signals) (stage_of d.stage)
 
--- what a token did to the declarations, where this is said of it; want of memory says nothing
-abbrev pub Declares : Step → Declaring → Result (Unit {0}) Stop → Type 0
+-- what a token did to the declarations, where this is said of it, and no memory was taken
+abbrev pub Declares : Step → Declaring → Result (Unit {0}) VcdFault → Type 0
 Declares said new (Ok u) = (said ≡ Ok (declaring_of new)) × CanDeclare new
-Declares said new (Err (stop.Fault fault)) = said ≡ Err fault
-Declares said new (Err stop.Memory) = Unit {0}
+Declares said new (Err fault) = said ≡ Err fault
+
+-- a fault of a token, as why reading stops
+abbrev pub stop_of : Result (Unit {0}) VcdFault → Result (Unit {0}) Stop
+stop_of (Ok u) = Ok u
+stop_of (Err fault) = Err (stop.Fault fault)
+
+-- what a token did where memory may be taken; want of it says nothing
+abbrev pub DeclaresOrStops : Step → Declaring → Result (Unit {0}) Stop → Type 0
+DeclaresOrStops said new (Ok u) = Declares said new (Ok u)
+DeclaresOrStops said new (Err (stop.Fault fault)) = Declares said new (Err fault)
+DeclaresOrStops said new (Err stop.Memory) = Unit {0}
 
 -- ---- changes
 

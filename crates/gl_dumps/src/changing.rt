@@ -14,11 +14,9 @@ ghost use Rattle.gl_dumps.specs.Tokens as spec_token;
 use crate::fault::VcdFault;
 use crate::signals::Signals;
 use crate::tokens::{Token, number_in};
+use gl_bits::limits::LATEST_TIME;
 use gl_bits::{Memory, Word};
 use std::alloc::Global;
-
-/// The last time that a dump may have.
-const LAST_TIME: u128 = 67_108_864;
 
 /// Half of the numbers that 128 bits hold.
 const HALF: u128 = 1 << 127;
@@ -220,7 +218,7 @@ impl<'s, 'a> Changing<'s, 'a> {
         if self.lacks_value() {
             return Err(VcdFault::NoValue { at: at as u64 });
         }
-        if next > LAST_TIME {
+        if next > LATEST_TIME {
             return Err(VcdFault::TooLate { at: at as u64 });
         }
         self.time = Some(next as u64);

@@ -5,8 +5,9 @@ ghost use Rattle.gl_dumps.specs.Reading as spec;
 ghost use Rattle.gl_dumps.specs.Lexing.{token_of};
 ghost use Rattle.gl_bits.specs.Words.{IsWidth};
 ghost use Rattle.gl_dumps.specs.Signals.{number_of_code};
-ghost use Rattle.gl_dumps.specs.Standing.{CanDeclare, Declares, IsIndexed, IsNew, IsNewAt};
-ghost use Rattle.gl_dumps.specs.Standing.{declaring_of, scope_of, signal_of, signals_of, stage_of};
+ghost use Rattle.gl_dumps.specs.Standing.{CanDeclare, Declares, DeclaresOrStops, IsIndexed};
+ghost use Rattle.gl_dumps.specs.Standing.{IsNew, IsNewAt, declaring_of, scope_of, signal_of, signals_of};
+ghost use Rattle.gl_dumps.specs.Standing.{stage_of, stop_of};
 
 use crate::fault::VcdFault;
 use crate::signals::{Signal, Signals, show_none};
@@ -70,12 +71,22 @@ pub struct Declaring<'a> {
 }
 
 // The token cannot stand there.
-fn misplaced(token: Token) -> Stop
-    ensures { result ≡ Stop.Fault (VcdFault.Syntax token.entry.at) }
+fn misplaced(token: Token) -> VcdFault
+    ensures { result ≡ VcdFault.Syntax token.entry.at }
 {
-    Stop::Fault(VcdFault::Syntax {
+    VcdFault::Syntax {
         at: token.at as u64,
-    })
+    }
+}
+
+// A fault of a token, as why reading stops.
+fn as_stop(read: Result<(), VcdFault>) -> Result<(), Stop>
+    ensures { result ≡ stop_of read }
+{
+    match read {
+        Ok(()) => Ok(()),
+        Err(fault) => Err(Stop::Fault(fault)),
+    }
 }
 
 // Whether a section is passed over.
@@ -109,7 +120,7 @@ impl<'a> Declaring<'a> {
     }
 
     // A token that must be so goes on, and any other cannot stand there.
-    fn only(&mut self, fits: bool, token: Token, next: Stage<'a>) -> Result<(), Stop>
+    fn only(&mut self, fits: bool, token: Token, next: Stage<'a>) -> Result<(), VcdFault>
         requires indexed { IsIndexed self.old.signals }
         requires new { IsNewAt (signals_of self.old.signals) (stage_of next) }
         ensures { let r = declaring_of self.old in
@@ -123,7 +134,7 @@ impl<'a> Declaring<'a> {
     }
 
     // A section begins.
-    fn begin(&mut self, token: Token) -> Result<(), Stop>
+    fn begin(&mut self, token: Token) -> Result<(), VcdFault>
         requires { IsIndexed self.old.signals }
         ensures { let r = declaring_of self.old in
             Declares (spec.section_next r (token_of token.entry)) self.new result }
@@ -146,7 +157,7 @@ impl<'a> Declaring<'a> {
     }
 
     // The declarations end: their signals show a result.
-    fn end_definitions(&mut self, token: Token) -> Result<(), Stop>
+    fn end_definitions(&mut self, token: Token) -> Result<(), VcdFault>
         requires { IsIndexed self.old.signals }
         ensures { let r = declaring_of self.old in
             Declares (spec.definitions_end r (token_of token.entry)) self.new result }
@@ -155,16 +166,16 @@ impl<'a> Declaring<'a> {
             return Err(misplaced(token));
         }
         if show_none(self.signals.list.as_slice()) {
-            return Err(Stop::Fault(VcdFault::NoPort {
+            return Err(VcdFault::NoPort {
                 at: token.at as u64,
-            }));
+            });
         }
         self.stage = Stage::DefinitionsEnd;
         Ok(())
     }
 
     // The scope is opened or closed.
-    fn set_scope(&mut self, token: Token, scope: Scope) -> Result<(), Stop>
+    fn set_scope(&mut self, token: Token, scope: Scope) -> Result<(), VcdFault>
         requires { IsIndexed self.old.signals }
         ensures { let r = declaring_of self.old in
             Declares (spec.scope_next r (scope_of scope) (token_of token.entry)) self.new result }
@@ -178,7 +189,7 @@ impl<'a> Declaring<'a> {
     }
 
     // The width of a signal.
-    fn set_width(&mut self, token: Token) -> Result<(), Stop>
+    fn set_width(&mut self, token: Token) -> Result<(), VcdFault>
         requires { IsIndexed self.old.signals }
         ensures { let r = declaring_of self.old in
             Declares (spec.width_next r (token_of token.entry)) self.new result }
@@ -187,16 +198,16 @@ impl<'a> Declaring<'a> {
             return Err(misplaced(token));
         };
         if width == 0 || width > 128 {
-            return Err(Stop::Fault(VcdFault::TooWide {
+            return Err(VcdFault::TooWide {
                 at: token.at as u64,
-            }));
+            });
         }
         self.stage = Stage::VarCode(width as u8);
         Ok(())
     }
 
     // The identifier of a signal, which no other has.
-    fn set_code(&mut self, width: u8, token: Token<'a>) -> Result<(), Stop>
+    fn set_code(&mut self, width: u8, token: Token<'a>) -> Result<(), VcdFault>
         requires indexed { IsIndexed self.old.signals }
         requires width { IsWidth width }
         ensures { let r = declaring_of self.old in
@@ -206,16 +217,16 @@ impl<'a> Declaring<'a> {
             return Err(misplaced(token));
         }
         if self.signals.number_of_code(token.bytes).is_some() {
-            return Err(Stop::Fault(VcdFault::Twice {
+            return Err(VcdFault::Twice {
                 at: token.at as u64,
-            }));
+            });
         }
         self.stage = Stage::VarName(width, token.bytes);
         Ok(())
     }
 
     // The name of a signal, which no other has.
-    fn set_name(&mut self, width: u8, code: &'a [u8], token: Token<'a>) -> Result<(), Stop>
+    fn set_name(&mut self, width: u8, code: &'a [u8], token: Token<'a>) -> Result<(), VcdFault>
         requires indexed { IsIndexed self.old.signals }
         requires width { IsWidth width }
         requires code { number_of_code (signals_of self.old.signals) code.now ≡ None }
@@ -226,9 +237,9 @@ impl<'a> Declaring<'a> {
             return Err(misplaced(token));
         }
         if self.signals.number_of_name(token.bytes).is_some() {
-            return Err(Stop::Fault(VcdFault::Twice {
+            return Err(VcdFault::Twice {
                 at: token.at as u64,
-            }));
+            });
         }
         self.stage = Stage::VarRange(Signal {
             code,
@@ -242,8 +253,8 @@ impl<'a> Declaring<'a> {
     fn declare(&mut self, signal: Signal<'a>) -> Result<(), Stop>
         requires indexed { IsIndexed self.old.signals }
         requires new { IsNew (signals_of self.old.signals) (signal_of signal) }
-        ensures { Declares (spec.declared (declaring_of self.old) (signal_of signal.entry)) self.new
-            result }
+        ensures { let r = declaring_of self.old in
+            DeclaresOrStops (spec.declared r (signal_of signal.entry)) self.new result }
     {
         self.signals.add(signal)?;
         self.stage = Stage::Section;
@@ -251,47 +262,52 @@ impl<'a> Declaring<'a> {
     }
 
     // The range of a signal, or the end of its section.
+    #[tactic(auto, using(crate::proofs::Stops::stops))]
     fn end_name(&mut self, signal: Signal<'a>, token: Token<'a>) -> Result<(), Stop>
         requires indexed { IsIndexed self.old.signals }
         requires new { IsNew (signals_of self.old.signals) (signal_of signal) }
-        ensures { let r = declaring_of self.old in
-            Declares (spec.range_next r (signal_of signal.entry) (token_of token.entry)) self.new result }
+        ensures { let said = spec.range_next (declaring_of self.old) (signal_of signal.entry)
+            (token_of token.entry) in
+            DeclaresOrStops said self.new result }
     {
         if is_end(token) {
             return self.declare(signal);
         }
         let is_range = token.bytes.first() == Some(&b'[');
-        self.only(is_range, token, Stage::VarEnd(signal))
+        as_stop(self.only(is_range, token, Stage::VarEnd(signal)))
     }
 
     /// Reads a token of the declarations.
-    #[tactic(auto, unfolding(crate::specs::Reading::next))]
+    #[tactic(auto, using(crate::proofs::Stops::stops), unfolding(crate::specs::Reading::next))]
     pub fn take(&mut self, token: Token<'a>) -> Result<(), Stop>
         requires can { CanDeclare self.old }
         requires open { spec.is_between (stage_of self.old.stage) ≡ false }
         ensures { let r = declaring_of self.old in
-            Declares (spec.next r (token_of token.entry)) self.new result }
+            DeclaresOrStops (spec.next r (token_of token.entry)) self.new result }
     {
         let word = token.bytes;
         match self.stage {
-            Stage::Section => self.begin(token),
-            Stage::Passed if is_end(token) => self.only(true, token, Stage::Section),
+            Stage::Section => as_stop(self.begin(token)),
+            Stage::Passed if is_end(token) => as_stop(self.only(true, token, Stage::Section)),
             Stage::Passed => Ok(()),
-            Stage::ScopeKind => self.only(word == b"module".as_slice(), token, Stage::ScopeName),
-            Stage::ScopeName => self.only(!is_end(token), token, Stage::ScopeEnd),
-            Stage::ScopeEnd => self.set_scope(token, Scope::Open),
-            Stage::UpscopeEnd => self.set_scope(token, Scope::Closed),
+            Stage::ScopeKind => {
+                let is_module = word == b"module".as_slice();
+                as_stop(self.only(is_module, token, Stage::ScopeName))
+            }
+            Stage::ScopeName => as_stop(self.only(!is_end(token), token, Stage::ScopeEnd)),
+            Stage::ScopeEnd => as_stop(self.set_scope(token, Scope::Open)),
+            Stage::UpscopeEnd => as_stop(self.set_scope(token, Scope::Closed)),
             Stage::VarType => {
                 let is_type = word == b"wire".as_slice() || word == b"reg".as_slice();
-                self.only(is_type, token, Stage::VarWidth)
+                as_stop(self.only(is_type, token, Stage::VarWidth))
             }
-            Stage::VarWidth => self.set_width(token),
-            Stage::VarCode(width) => self.set_code(width, token),
-            Stage::VarName(width, code) => self.set_name(width, code, token),
+            Stage::VarWidth => as_stop(self.set_width(token)),
+            Stage::VarCode(width) => as_stop(self.set_code(width, token)),
+            Stage::VarName(width, code) => as_stop(self.set_name(width, code, token)),
             Stage::VarRange(signal) => self.end_name(signal, token),
             Stage::VarEnd(signal) if is_end(token) => self.declare(signal),
-            Stage::VarEnd(_) => Err(misplaced(token)),
-            Stage::DefinitionsEnd => self.only(is_end(token), token, Stage::Changes),
+            Stage::VarEnd(_) => as_stop(Err(misplaced(token))),
+            Stage::DefinitionsEnd => as_stop(self.only(is_end(token), token, Stage::Changes)),
             // No token of the changes comes here.
             Stage::Changes => Ok(()),
         }

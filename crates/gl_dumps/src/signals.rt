@@ -37,10 +37,8 @@ fn put<'a>(words: &mut IndexSet<&'a [u8]>, word: &'a [u8]) -> Result<(), Stop>
     ensures { MatchResult result (λ _. words_in words.new.keys
         ≡ words_in words.old.keys ++ word.now ∷ []) (λ e. is_fault e ≡ false) }
 {
-    match words.insert(word) {
-        Ok(_) => Ok(()),
-        Err(_) => Err(Stop::Memory),
-    }
+    words.insert(word)?;
+    Ok(())
 }
 
 impl<'a> Signals<'a> {
@@ -83,10 +81,8 @@ impl<'a> Signals<'a> {
     {
         put(&mut self.codes, signal.code)?;
         put(&mut self.names, signal.name)?;
-        match self.list.push(signal) {
-            Ok(()) => Ok(()),
-            Err(_) => Err(Stop::Memory),
-        }
+        self.list.push(signal)?;
+        Ok(())
     }
 }
 

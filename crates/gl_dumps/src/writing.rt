@@ -10,22 +10,12 @@ ghost use Rattle.gl_dumps.specs.Written.{ports_among, ports_of};
 
 use gl_bits::{Row, Word};
 use gl_outside::{Sink, WriteFault, write_all_of};
+use gl_tuples::line::put;
 use gl_verilog::{Declaration, Module};
 use itoa::Buffer;
 
-// Writes bytes at a place, and answers the place behind them.
-fn put(into: &mut [u8; 160], at: usize, bytes: &[u8]) -> usize
-    requires { at + length bytes.now ≤ 160 }
-    ensures end { result ≡ at + length bytes.now }
-    ensures written { take result into.new ≡ take at into.old ++ bytes.now }
-{
-    let end = at + bytes.len();
-    into[at..end].copy_from_slice(bytes);
-    end
-}
-
 // Writes the identifier of a port behind what stands there.
-fn put_code(into: &mut [u8; 160], at: usize, number: usize) -> usize
+fn put_code(into: &mut [u8; 1024], at: usize, number: usize) -> usize
     requires room { at ≤ 150 }
     requires few { number < 8836 }
     ensures end { result ≡ at + 2 }
@@ -39,7 +29,7 @@ fn put_code(into: &mut [u8; 160], at: usize, number: usize) -> usize
 // ---- declarations
 
 // Writes what stands in front of the name in a declaration.
-fn declared_into(number: usize, width: u8, into: &mut [u8; 160]) -> usize
+fn declared_into(number: usize, width: u8, into: &mut [u8; 1024]) -> usize
     requires { number < 8836 }
     ensures short { result ≤ 160 }
     ensures written { take result into.new
@@ -73,7 +63,7 @@ fn put_declaration<K: Sink>(
     ensures { let p = spec.port_declared (declaration_of port.now) in
         Wrote (K.state out.old) (K.state out.new) (spec.declaration number p) result }
 {
-    let mut head = [0u8; 160];
+    let mut head = [0u8; 1024];
     let end = declared_into(number, port.width, &mut head);
     put_named(out, &head[..end], port.name.as_slice(), b" $end\n")
 }
@@ -151,7 +141,7 @@ fn binary_into(value: u128, into: &mut [u8; 128]) -> usize
 }
 
 // Writes `b`, the binary digits of a number and a space.
-fn vector_into(value: u128, into: &mut [u8; 160]) -> usize
+fn vector_into(value: u128, into: &mut [u8; 1024]) -> usize
     ensures short { result ≤ 130 }
     ensures written { take result into.new ≡ 98 ∷ (spec.binary value ++ 32 ∷ []) }
 {
@@ -163,7 +153,7 @@ fn vector_into(value: u128, into: &mut [u8; 160]) -> usize
 }
 
 // Writes what stands in front of the identifier in a change.
-fn value_into(word: Word, into: &mut [u8; 160]) -> usize
+fn value_into(word: Word, into: &mut [u8; 1024]) -> usize
     ensures short { result ≤ 130 }
     ensures written { take result into.new ≡ spec.value_text word }
 {
@@ -175,7 +165,7 @@ fn value_into(word: Word, into: &mut [u8; 160]) -> usize
 }
 
 // Writes the change of a port into a line.
-fn change_into(number: usize, word: Word, into: &mut [u8; 160]) -> usize
+fn change_into(number: usize, word: Word, into: &mut [u8; 1024]) -> usize
     requires { number < 8836 }
     ensures short { result ≤ 160 }
     ensures written { take result into.new ≡ spec.change number word }
@@ -240,7 +230,7 @@ fn is_told(before: Option<&Row>, row: &Row) -> bool
 }
 
 // Writes `#` and a time into a line.
-fn time_into(at: u64, into: &mut [u8; 160]) -> usize
+fn time_into(at: u64, into: &mut [u8; 1024]) -> usize
     ensures short { result ≤ 160 }
     ensures written { take result into.new ≡ spec.time_line at }
 {
@@ -259,7 +249,7 @@ fn put_time<K: Sink>(out: &mut K, at: u64, due: bool) -> Result<(), WriteFault>
     if !due {
         return Ok(());
     }
-    let mut line = [0u8; 160];
+    let mut line = [0u8; 1024];
     let end = time_into(at, &mut line);
     write_all_of(out, &line[..end])
 }
@@ -274,7 +264,7 @@ fn put_change<K: Sink>(out: &mut K, number: usize, word: Word, due: bool) -> Res
     if !due {
         return Ok(());
     }
-    let mut line = [0u8; 160];
+    let mut line = [0u8; 1024];
     let end = change_into(number, word, &mut line);
     write_all_of(out, &line[..end])
 }

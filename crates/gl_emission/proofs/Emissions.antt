@@ -7,13 +7,15 @@ use Rattle.gl_schema.specs.Schemas.{IsSchema}
 use Rattle.gl_net.specs.Net.{Net}
 use Rattle.gl_net.specs.PortValues as circuit
 use Rattle.gl_net.specs.PortValues.{port_values}
-use Rattle.gl_verilog.specs.Module.{Declaration}
+use Rattle.gl_verilog.specs.Module.{Declaration, Module}
 use Rattle.gl_verilog.specs.Run.{input_values, is_input, port_of}
+use Rattle.gl_verilog.specs.Text.{HasModule}
+use Rattle.gl_verilog.specs.Valid.{IsValid}
 use Rattle.gl_verilog.specs.Widths.{IsNet}
-use Rattle.gl_verilog_orders.proofs.EventRuns.{event_runs_are_runs, has_event_runs}
+use Rattle.gl_verilog_orders.specs.Laws.{EventRunsAreRuns, HasEventRuns}
 use Rattle.gl_verilog_writer.specs.Meaning.{IsTextOf}
-use Rattle.gl_verilog_ports.specs.Profile.{declared, ports_of}
-use Rattle.gl_verilog_ports.proofs.Declared.{get_take, inputs_are_ports}
+use Rattle.gl_verilog_ports.specs.Profile.{HasInputPorts, declared, ports_of}
+use Rattle.gl_verilog_ports.proofs.Declared.{get_take}
 use Rattle.gl_verilog_ports.proofs.Profiled.{clock_there, inputs_asked}
 use Rattle.gl_testbench.proofs.Inputs.{AreAsked}
 use Rattle.gl_testbench.proofs.Runs.{runs_asked}
@@ -23,7 +25,9 @@ use Rattle.gl_emission.proofs.Faces.{declared_net, faced}
 use Rattle.gl_emission.proofs.Pins.{pins_other}
 use Rattle.gl_emission.proofs.Showing.{stimulus_same}
 
-module _ (net : Net) (schema : Schema) (text : List ℕ) (t : IsTextOf net text) (ticks : Bool) (outputs : List ProfilePort) (is : IsSchema schema)
+-- by the laws of event orders and of ports
+module _ (two_phase : (m : Module) → IsValid m → EventRunsAreRuns m) (event_runs : (m : Module) → IsValid m → HasEventRuns m)
+    (are_ports : (its : List ℕ) (m : Module) → HasModule its m → HasInputPorts m) (net : Net) (schema : Schema) (text : List ℕ) (t : IsTextOf net text) (ticks : Bool) (outputs : List ProfilePort) (is : IsSchema schema)
     (takes : TakesBeats ticks schema outputs net) where
   face : ports_of t.design ≡ map declared (input clk 1 ∷ profile_ports net)
   face = faced net t.design t.declared
@@ -37,7 +41,7 @@ module _ (net : Net) (schema : Schema) (text : List ℕ) (t : IsTextOf net text)
   -- a run of the module is one of the netlist, with the same beats on its inputs
   traced : (gap : ℕ) → OverRuns t.design schema gap (IsTraced net schema)
   traced gap = λ beats value word driven.
-      let r = t.runs value word (event_runs_are_runs t.design t.has.valid value word driven.run) in
+      let r = t.runs value word (two_phase t.design t.has.valid value word driven.run) in
       record {
         run = r.run;
         trace = r.trace;
@@ -53,11 +57,11 @@ module _ (net : Net) (schema : Schema) (text : List ℕ) (t : IsTextOf net text)
     face = face;
     inputs = record {
       clock = clock_there ticks t.design schema outputs takes.out t.has.valid.names shaped;
-      inputs = λ n d at kind other. asked n d (inputs_are_ports text t.design t.has n d at (ap is_input kind)) kind other;
+      inputs = λ n d at kind other. asked n d (are_ports text t.design t.has n d at (ap is_input kind)) kind other;
     };
     registers = t.registers;
     memories = t.memories;
-    runs = runs_asked t.design schema t.has.valid is asked (has_event_runs t.design t.has.valid);
+    runs = runs_asked t.design schema t.has.valid is asked (event_runs t.design t.has.valid);
     traced = traced;
   }
 

@@ -5,6 +5,8 @@ ghost use Rattle.gl_emission.specs.Emitted.{IsEmitted};
 
 use gl_bits::Memory;
 use gl_net::{Cost, Netlist, cost_of};
+use gl_verilog_orders::laws::{event_runs_are_runs, has_event_runs};
+use gl_verilog_ports::laws::inputs_are_ports;
 use gl_verilog_writer::write_module;
 use std::alloc::Global;
 
@@ -22,6 +24,9 @@ pub struct Emitted {
 pub fn emit(alloc: Global, net: &Netlist) -> Result<Emitted, Memory>
     ensures { IfOk result (λ made. IsEmitted net.now made) }
 {
+    event_runs_are_runs();
+    has_event_runs();
+    inputs_are_ports();
     let mut text = Vec::new(alloc);
     write_module(net, &mut text)?;
     Ok(Emitted {

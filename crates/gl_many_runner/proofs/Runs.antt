@@ -8,8 +8,9 @@ use Rattle.gl_schema.specs.Schemas.{IsSchema}
 use Rattle.gl_query.specs.declared.tree.Statement.{Statement}
 use Rattle.gl_verilog.specs.Module.{Module, Nets, Memories}
 use Rattle.gl_verilog.specs.Run.{port_of}
+use Rattle.gl_verilog.specs.Text.{HasModule}
 use Rattle.gl_verilog_orders.specs.declared.start.Start.{Start}
-use Rattle.gl_verilog_ports.proofs.Declared.{inputs_are_ports}
+use Rattle.gl_verilog_ports.specs.Profile.{HasInputPorts}
 use Rattle.gl_emission.specs.Driven.{Drives}
 use Rattle.gl_emission.specs.Views.{seen_as}
 use Rattle.gl_outside.specs.States.{SinkState}
@@ -47,9 +48,10 @@ all_end schema (s ∷ ss) gap latency design beats value word each long driven =
     record { ended = right.ended; soonest = right.soonest; in_time = omega (arith, right.in_time, long.0); ends = right.ends } in
     (first, all_end schema ss gap latency design beats value word each.1 long.1 driven)
 
-can_run : (m : Many) (beats : List Beat) (start : Start) → AreRunnable m → AreBeats m.schema beats → KeepsGap m.planned.gap beats
+-- by the law of ports
+can_run : (are_ports : (text : List ℕ) (m : Module) → HasModule text m → HasInputPorts m) (m : Many) (beats : List Beat) (start : Start) → AreRunnable m → AreBeats m.schema beats → KeepsGap m.planned.gap beats
     → CanRunAll m.text.items m.schema (faces_of m.schema (statements_in m)) beats (greatest m.planned.latencies.items) start
-can_run m beats start is are keep =
+can_run are_ports m beats start is are keep =
     let meets = is.meets in
     let design = meets.design in
     let latency = greatest m.planned.latencies.items in
@@ -62,7 +64,7 @@ can_run m beats start is are keep =
       has = meets.has;
       drive = record {
         valid = meets.has.valid;
-        inputs = inputs_are_ports m.text.items design meets.has;
+        inputs = are_ports m.text.items design meets.has;
         takes = takes_schema design m.schema (statements_in m) meets.has.valid.names meets.face;
         beats' = are;
       };
@@ -73,14 +75,14 @@ can_run m beats start is are keep =
     }
 
 -- the text of several compiled queries, with their schema, their faces and the longest of their latencies
-pub can_run_many : (m : Many) (beats : List Beat) (text : List ℕ) (schema : Schema) (faces : List Face) (latency : ℕ) (start : Start) → AreRunnable m → AreBeats m.schema beats → KeepsGap m.planned.gap beats
+pub can_run_many : (are_ports : (text : List ℕ) (m : Module) → HasModule text m → HasInputPorts m) (m : Many) (beats : List Beat) (text : List ℕ) (schema : Schema) (faces : List Face) (latency : ℕ) (start : Start) → AreRunnable m → AreBeats m.schema beats → KeepsGap m.planned.gap beats
     → text ≡ m.text.items → schema ≡ m.schema → faces ≡ faces_of m.schema (statements_in m) → latency ≡ greatest m.planned.latencies.items
     → CanRunAll text schema faces beats latency start
-can_run_many m beats text schema faces latency start is are keep a b d e =
+can_run_many are_ports m beats text schema faces latency start is are keep a b d e =
     subst (λ (x : List ℕ). CanRunAll x schema faces beats latency start) (sym a) (
     subst (λ (x : Schema). CanRunAll m.text.items x faces beats latency start) (sym b) (
     subst (λ (x : List Face). CanRunAll m.text.items m.schema x beats latency start) (sym d) (
-    subst (λ (x : ℕ). CanRunAll m.text.items m.schema (faces_of m.schema (statements_in m)) beats x start) (sym e) (can_run m beats start is are keep))))
+    subst (λ (x : ℕ). CanRunAll m.text.items m.schema (faces_of m.schema (statements_in m)) beats x start) (sym e) (can_run are_ports m beats start is are keep))))
 
 -- how its run ended
 pub ran_many : (m : Many) (beats : List Beat) (text : List ℕ) (schema : Schema) (faces : List Face) (start : Start) (old new : SinkState) (r : Outcome)

@@ -11,9 +11,10 @@ use crate::executing::execute_many;
 use crate::faces::faces_of;
 use gl_many::Many;
 use gl_outside::Sink;
-use gl_runner::Outcome;
+use gl_runner::{Outcome, Task};
 use gl_tuples::Beats;
 use gl_verilog_orders::Start;
+use gl_verilog_ports::laws::inputs_are_ports;
 use std::alloc::Global;
 
 // The longest of latencies, or 0 where there is none.
@@ -42,19 +43,17 @@ pub fn run_many<K: Sink>(
         RanAll (OfAllRuns m.text.items m.schema beats' start)
         (faces_of m.schema (statements_in m)) beats' (K.state out.old) (K.state out.new) result }
 {
+    inputs_are_ports();
     let schema = many.schema();
     let Ok(faces) = faces_of(alloc, schema, many.statements()) else {
         return Outcome::Memory;
     };
     let latency = longest(&many.planned().latencies);
-    execute_many(
-        alloc,
-        many.text(),
+    let task = Task {
         schema,
-        faces.as_slice(),
         beats,
-        latency,
         start,
-        out,
-    )
+        extra: latency,
+    };
+    execute_many(alloc, many.text(), faces.as_slice(), task, out)
 }

@@ -1,6 +1,7 @@
 -- A dump from its parts: what stands in front, the cycles, and the time behind the last.
-use Rattle.std.proofs.Common.{◌≡◌, ℕ, suc, inl, inr, List, ◌++◌, Option, refl, sym, ◌∙◌, subst, arith}
-use Rattle.gl_outside.specs.States.{Appends, AppendsFront, Broke, SinkState, Took}
+use Rattle.std.proofs.Common.{◌≡◌, ℕ, suc, inl, inr, List, ◌++◌, Option, Result, Ok, Err, refl, sym, ◌∙◌, subst, arith}
+use Rattle.gl_outside.specs.declared.writing.WriteFault.{WriteFault as Failure}
+use Rattle.gl_outside.specs.States.{Appends, AppendsFront, Broke, SinkState, Took, Wrote}
 use Rattle.gl_outside.proofs.Takes.{appends_then, front_more, front_then}
 use Rattle.gl_schema.specs.Beats.{Beat}
 use Rattle.gl_schema.specs.Ports.{PortValues}
@@ -16,7 +17,7 @@ use Rattle.gl_runner.specs.declared.executing.Outcome.TheVariants.{Done, WriteFa
 use Rattle.gl_runner.specs.declared.tracing.Ending.{Ending}
 use Rattle.gl_runner.specs.declared.tracing.Ending.TheVariants as ending
 use Rattle.gl_runner.specs.Cycles.{Driven, IsStarted, design_of}
-use Rattle.gl_runner.specs.Dumping.{OfTimelyDriven, StandsDumped}
+use Rattle.gl_runner.specs.Dumping.{OfTimelyDriven, StandsDumped, outcome_in}
 use Rattle.gl_runner.specs.Dumps.{Dumped, DumpsFront, DumpsWhole, IsDumpOf, OfTimelyPorts}
 use Rattle.gl_runner.specs.declared.dumping.DumpLines.{DumpLines}
 use Rattle.gl_runner.specs.Prints.{EndsWithin, IsEnd}
@@ -130,6 +131,10 @@ dump_cut_behind d lines old mid late new front' through broke = (
   λ value word before ends.
       cut_behind (design_of d) lines d.beats (port_of (design_of d) value) d.extra old.taken mid.taken late.taken new.taken front'.all (through.each value word before ends) broke.front,
 )
+
+pub dump_written : (d : Driven) (lines : DumpLines) (old mid late new : SinkState) (r : Result (Unit {0}) Failure) → Took old mid (front_of (design_of d)) → IsCalmEnd d lines mid late → Wrote late new (time_line lines.next) r → Dumped (OfTimelyDriven d) d.beats old new (outcome_in r)
+dump_written d lines old mid late new (Ok u) front' through wrote = dump_done d lines old mid late new front' through wrote
+dump_written d lines old mid late new (Err e) front' through wrote = dump_cut_behind d lines old mid late new front' through wrote
 
 -- ---- from what is driven to each run
 

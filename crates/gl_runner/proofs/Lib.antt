@@ -5,6 +5,5 @@ pub mod Each
 pub mod Decimals
 pub mod DumpRows
 pub mod Dumps
-pub mod NamedPieces
 pub mod Named
 pub mod NamedRuns

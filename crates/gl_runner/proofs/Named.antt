@@ -1,5 +1,5 @@
 -- Of a result that stands beside others: where it is shown, what is read there, and what is written of it.
-use Rattle.std.proofs.Common.{◌≡◌, ℕ, suc, ◌+◌, ◌<◌, ◌≤◌, ◌^◌, Bool, true, false, ◌||◌, ◌&&◌, List, [], ◌∷◌, ◌++◌, Option, Some, Result, map, refl, sym, ap, ◌∙◌, subst, add-one}
+use Rattle.std.proofs.Common.{◌≡◌, ℕ, suc, ◌+◌, ◌<◌, ◌≤◌, ◌^◌, Bool, true, false, ◌||◌, ◌&&◌, not, List, [], ◌∷◌, ◌++◌, Option, None, Some, Result, map, refl, sym, ap, ◌∙◌, subst, add-one}
 use Rattle.std.specs.Prelude.{bytes_eq, codes, find, nat_le, slice_get, slice_index, unwrap_or, if◌then◌else◌}
 use Rattle.std.specs.List.{AllByRecursion, AllZip, flat_map, list_all}
 use Rattle.gl_bits.proofs.AllLists.{length_map, map_map}
@@ -22,7 +22,7 @@ use Rattle.gl_verilog_ports.specs.Profile.{ports_of}
 use Rattle.gl_verilog_ports.proofs.Declared.{get_take}
 use Rattle.gl_verilog_ports.proofs.Fits.{line_named}
 use Rattle.gl_lines.specs.declared.lines.Sample.{Sample}
-use Rattle.gl_lines.specs.Pieces.{sampled}
+use Rattle.gl_lines.specs.Pieces.{line_if, lines_with, row_with, sampled}
 use Rattle.gl_testbench.specs.declared.pins.Shows.{Shows}
 use Rattle.gl_testbench.specs.Carried.{name_at}
 use Rattle.gl_testbench.proofs.Outputs.{output_is_net}
@@ -32,7 +32,7 @@ use Rattle.gl_runner.specs.Cycles.{HasNoOther, HasOnPorts}
 use Rattle.gl_runner.specs.Faces.{HasColumn, HasFace}
 use Rattle.gl_runner.specs.Naming.{IsNew, ServesFace, StandsNamed, column_at, names_of}
 use Rattle.gl_runner.specs.Probes.{IsLineIn, IsPortIn, IsProbe, IsSampled, IsSeen}
-use Rattle.gl_runner.specs.Several.{all_ended, ended_before, lines_as, lines_in, outs_of, shown_by, told_by}
+use Rattle.gl_runner.specs.Several.{all_ended, ended_before, lines_as, lines_in, outs_of, row_as, shown_by, told_by}
 use Rattle.gl_runner.proofs.Probing.{line_high, name_there, row_read}
 use Rattle.gl_runner.proofs.Running.{told_more}
 
@@ -170,6 +170,16 @@ seen_named m s port t f kinds shows columns old new sample have none p is same s
 
 lines_same : (name : List ℕ) (kinds : List Kind) (told : Bool) (a b : Shown) → a.cycle ≡ b.cycle → a.row ≡ b.row → a.end ≡ b.end → a.group ≡ b.group → lines_as name kinds told a ≡ lines_as name kinds told b
 lines_same name kinds told a b cycle row ends group = rw (cycle, row, ends, group) refl
+
+row_named : (name : List ℕ) (kinds : List Kind) (n : ℕ) (row : Option (List ℕ)) → row_with (Some name) kinds n row ≡ row_as name kinds n row
+row_named name kinds n None = refl
+row_named name kinds n (Some row) = refl
+
+-- the lines that are printed with a name are those of a result that stands beside others
+pub lines_as_named : (name : List ℕ) (kinds : List Kind) (told : Bool) (s : Shown) → lines_with (Some name) kinds told s ≡ lines_as name kinds told s
+lines_as_named name kinds told s =
+    ap (λ (x : List ℕ). line_if (s.group && not told) (Some name) s.cycle (codes ",overflow\n") ++ (x ++ line_if s.end (Some name) s.cycle (codes ",end\n")))
+    (row_named name kinds s.cycle s.row)
 
 -- the lines of what was sampled are those of what is shown
 pub lines_named : (f : Face) (port : PortValues) (n : ℕ) (name : List ℕ) (kinds : List Kind) (told : Bool) (sample : Sample) (row : List ℕ) → name ≡ f.name → kinds ≡ kinds_of f.columns → told ≡ told_by f port n → IsSeen (seen_as f.name port) (outs_of f) (suc n) sample row → lines_as name kinds told (sampled sample n row) ≡ lines_in port n f

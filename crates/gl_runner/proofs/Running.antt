@@ -1,6 +1,6 @@
 -- Cycle by cycle: what was written so far, and where the end is.
 use Rattle.std.proofs.Common.{◌≡◌, ℕ, zero, suc, ◌+◌, ◌-◌, ◌<◌, ◌≤◌, inl, inr, Bool, true, false, ◌||◌, List, [], ◌∷◌, ◌++◌, Option, None, Result, Ok, Err, refl, sym, ap, ◌∙◌, subst, arith, append_assoc, add-one}
-use Rattle.std.specs.Prelude.{◌⊎◌, IsErrAnd, OnOk, is_err}
+use Rattle.std.specs.Prelude.{◌⊎◌, OnOk, is_err}
 use Rattle.std.specs.Option.{option_map}
 use Rattle.std.proofs.lemmas.List.{append-nil}
 use Rattle.std.proofs.lemmas.Bool.{cases_lt, cases_eq}
@@ -39,11 +39,6 @@ wrote_all a b bytes (Err x) e w = absurd cc
 pub wrote_front : {E : Type 0} (a b : SinkState) (bytes : List ℕ) (r : Result (Unit {0}) E) → is_err r ≡ true → Wrote a b bytes r → Broke a b bytes
 wrote_front a b bytes (Ok u) e w = absurd cc
 wrote_front a b bytes (Err x) e w = w
-
--- what failed
-pub failed : {E : Type 0} (P : E → Type 0) (a b : SinkState) (bytes : List ℕ) (r : Result (Unit {0}) E) → IsErrAnd r P → Broke a b bytes → Wrote a b bytes r
-failed P a b bytes (Ok u) h w = absurd h
-failed P a b bytes (Err e) h w = w
 
 pub counts_of : {E : Type 0} (a b : SinkState) (bytes : List ℕ) (r : Result (Unit {0}) E) → Wrote a b bytes r → Counts a b r
 counts_of a b bytes (Ok u) w = w.calm

@@ -1,8 +1,9 @@
 -- What the watcher that dumps a run keeps.
 -- A middle layer: no promise rests on it.
-use Rattle.std.specs.Prelude.{◌≡◌, ℕ, suc, ◌+◌, ◌≤◌, Option, List, [], ◌∷◌, ◌++◌, length, map, take, bytes_eq, if◌then◌else◌}
+use Rattle.std.specs.Prelude.{◌≡◌, ℕ, suc, ◌+◌, ◌≤◌, Option, Result, Ok, Err, List, [], ◌∷◌, ◌++◌, length, map, take, bytes_eq, if◌then◌else◌}
 use Rattle.std.specs.List.{AllByRecursion}
 use Rattle.gl_bits.specs.Words.{widths_of}
+use Rattle.gl_outside.specs.declared.writing.WriteFault.{WriteFault}
 use Rattle.gl_schema.specs.Ports.{PortValues, out_eos}
 use Rattle.gl_schema.specs.Profile.{clk}
 use Rattle.gl_verilog.specs.declared.module.Module.{Module as Here}
@@ -16,6 +17,8 @@ use Rattle.gl_dumps.specs.Written.{ports_of}
 use Rattle.gl_runner.specs.Cycles.{Driven, HasPlainPorts, IsBefore, design_of}
 use Rattle.gl_runner.specs.Prints.{EndsWithin}
 use Rattle.gl_runner.specs.declared.dumping.DumpLines.{DumpLines}
+use Rattle.gl_runner.specs.declared.executing.Outcome.{Outcome}
+use Rattle.gl_runner.specs.declared.executing.Outcome.TheVariants as ended
 use Rattle.gl_runner.specs.Probes.{IsLineIn}
 use Rattle.gl_runner.specs.Watches.{end_of_cycle, row_in}
 
@@ -80,6 +83,11 @@ pub record Serves (w : DumpLines) (m : Module) : Type 0 where
   pub face' : module_of w.face.now ≡ m
   pub plain : HasPlainPorts m
   pub line' : IsLineIn m out_eos
+
+-- how dumping ended, by whether all was written
+abbrev pub outcome_in : Result (Unit {0}) WriteFault → Outcome
+outcome_in (Ok u) = ended.Done
+outcome_in (Err e) = ended.WriteFault
 
 -- the cycles of a run in front of this one were watched: the row of the one before is kept, and whether it was the end
 pub record StandsDumped (w : DumpLines) (m : Module) (port : PortValues) (n : ℕ) : Type 0 where

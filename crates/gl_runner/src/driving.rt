@@ -28,9 +28,12 @@ use std::marker::Model;
 
 /// What a module is driven over, from where, and how far.
 #[derive(Clone, Copy)]
-pub(crate) struct Task<'a> {
+pub struct Task<'a> {
+    /// The schema of the beats.
     pub schema: &'a Schema,
+    /// The beats.
     pub beats: &'a Beats,
+    /// What registers and memories hold at first.
     pub start: Start,
     /// The cycles behind the last beat's in which the end is waited for.
     pub extra: u64,

@@ -11,6 +11,7 @@ ghost use Rattle.gl_dumps.specs.Written.{ports_of};
 ghost use Rattle.gl_runner.specs.Cycles.{CanFollow, HasPlainPorts, design_of};
 ghost use Rattle.gl_runner.specs.Dumps.{Dumped, OfTimelyPorts};
 ghost use Rattle.gl_runner.specs.Dumping.{Adds, CanDump, IsEmptyFor, IsInFront, OfTimelyDriven, Serves, StandsDumped};
+ghost use Rattle.gl_runner.specs.Dumping.{outcome_in};
 ghost use Rattle.gl_runner.specs.Probes.{IsLineIn};
 ghost use Rattle.gl_runner.specs.Watches.{dump_of_cycle, end_of_cycle};
 
@@ -22,11 +23,8 @@ use crate::watching::{Made, Watch};
 use gl_bits::{Kind, Memory, Row, Word};
 use gl_dumps::{cycle, header, is_dumped, last_time};
 use gl_outside::{Sink, WriteFault};
-use gl_schema::Schema;
 use gl_testbench::number_of;
-use gl_tuples::Beats;
 use gl_verilog::Module;
-use gl_verilog_orders::Start;
 use gl_verilog_ports::ports_of as ports_in;
 use std::alloc::Global;
 use std::mem;
@@ -133,23 +131,32 @@ impl Watch for DumpLines<'_> {
 }
 
 // Writes what stands in front of the first time, the cycles of a run, and the time behind the last.
-fn put_dump<K: Sink>(drive: &mut Drive<'_>, lines: &mut DumpLines<'_>, out: &mut K) -> Outcome
+fn put_dump<K: Sink>(
+    drive: &mut Drive<'_>,
+    lines: &mut DumpLines<'_>,
+    out: &mut K,
+) -> Result<(), WriteFault>
     requires front { IsInFront lines.old.face.now lines.old }
     requires same { module_of lines.old.face.now ≡ design_of drive.old }
     requires plain { HasPlainPorts (design_of drive.old) }
     requires line { IsLineIn (design_of drive.old) out_eos }
     requires first { drive.old.cycle ≡ 0 }
     ensures { Dumped (OfTimelyDriven drive.old) drive.old.beats (K.state out.old) (K.state out.new)
-        result }
+        (outcome_in result) }
 {
-    if header(lines.face, out).is_err() {
-        return Outcome::WriteFault;
-    }
+    header(lines.face, out)?;
     let ending = drive.follow(lines, out);
     if matches!(ending, Ending::WriteFault) {
-        return Outcome::WriteFault;
+        return Err(WriteFault);
     }
-    match last_time(lines.next, out) {
+    last_time(lines.next, out)
+}
+
+// How dumping ended, by whether it was written.
+fn outcome_in(written: Result<(), WriteFault>) -> Outcome
+    ensures { result ≡ outcome_in written }
+{
+    match written {
         Ok(()) => Outcome::Done,
         Err(_) => Outcome::WriteFault,
     }
@@ -161,22 +168,20 @@ pub fn dump_module<K: Sink>(
     alloc: Global,
     face: &Module,
     design: Module,
-    schema: &Schema,
     kinds: &[Kind],
-    beats: &Beats,
-    latency: u64,
-    start: Start,
+    task: Task<'_>,
     out: &mut K,
 ) -> Outcome
     requires same { module_of face.now ≡ module_of design }
-    requires can { CanFollow (module_of design) schema.now kinds.now (plain_beats beats.now) }
+    requires can { CanFollow (module_of design) task.schema.now kinds.now
+        (plain_beats task.beats.now) }
     requires many { length kinds.now ≤ 32 }
     requires kinds { AllByRecursion IsKind kinds.now }
-    requires short { latency ≤ 2 ^ 32 }
+    requires short { task.extra ≤ 2 ^ 32 }
     requires few { length (ports_of (module_of design)) ≤ 8836 }
     requires plain { HasPlainPorts (module_of design) }
-    ensures { let beats' = plain_beats beats.now in
-        Dumped (OfTimelyPorts latency (module_of design) schema.now beats' start) beats'
+    ensures { let t = task.entry in let beats = plain_beats t.beats.now in
+        Dumped (OfTimelyPorts t.extra (module_of design) t.schema.now beats t.start) beats
         (K.state out.old) (K.state out.new) result }
 {
     // Clauses alone speak of them.
@@ -184,14 +189,8 @@ pub fn dump_module<K: Sink>(
     let Ok(mut lines) = DumpLines::new(alloc, face) else {
         return Outcome::Memory;
     };
-    let task = Task {
-        schema,
-        beats,
-        start,
-        extra: latency,
-    };
     let Ok(mut drive) = Drive::new(alloc, design, task) else {
         return Outcome::Memory;
     };
-    put_dump(&mut drive, &mut lines, out)
+    outcome_in(put_dump(&mut drive, &mut lines, out))
 }

@@ -13,11 +13,8 @@ use crate::following::follow_module;
 use crate::tracing::Ending;
 use gl_bits::Kind;
 use gl_outside::Sink;
-use gl_schema::Schema;
 use gl_testbench::shows_of;
-use gl_tuples::Beats;
 use gl_verilog::Module;
-use gl_verilog_orders::Start;
 use std::alloc::Global;
 
 /// How a run ended.
@@ -50,28 +47,21 @@ pub(crate) fn outcome_of(ending: Ending) -> Outcome
 pub fn execute_module<K: Sink>(
     alloc: Global,
     design: Module,
-    schema: &Schema,
     kinds: &[Kind],
-    beats: &Beats,
-    latency: u64,
-    start: Start,
+    task: Task<'_>,
     out: &mut K,
 ) -> Outcome
-    requires can { CanFollow (module_of design) schema.now kinds.now (plain_beats beats.now) }
+    requires can { CanFollow (module_of design) task.schema.now kinds.now
+        (plain_beats task.beats.now) }
     requires many { length kinds.now ≤ 32 }
     requires kinds { AllByRecursion IsKind kinds.now }
-    requires short { latency ≤ 2 ^ 32 }
-    ensures { Ran (OfTimely latency (module_of design) schema.now (plain_beats beats.now) start)
-        kinds.now (plain_beats beats.now) (K.state out.old) (K.state out.new) result }
+    requires short { task.extra ≤ 2 ^ 32 }
+    ensures { let t = task.entry in let beats = plain_beats t.beats.now in
+        Ran (OfTimely t.extra (module_of design) t.schema.now beats t.start)
+        kinds.now beats (K.state out.old) (K.state out.new) result }
 {
     let Ok(shows) = shows_of(alloc, &design) else {
         return Outcome::Memory;
-    };
-    let task = Task {
-        schema,
-        beats,
-        start,
-        extra: latency,
     };
     outcome_of(follow_module(alloc, design, shows, kinds, task, out))
 }

@@ -6,7 +6,7 @@
 //! gl_lines, what the ports carry to gl_testbench, one cycle of a module to gl_sim, and texts to gl_compiler.
 #![tactic(auto)]
 
-mod driving;
+pub mod driving;
 pub mod dumping;
 pub mod executing;
 pub mod faces;
@@ -14,10 +14,10 @@ mod following;
 mod naming;
 mod sampling;
 pub mod several;
-mod telling;
 pub mod tracing;
 pub mod watching;
 
+pub use driving::Task;
 pub use dumping::dump_module;
 pub use executing::{Outcome, execute_module};
 pub use faces::Face;

@@ -12,10 +12,9 @@ ghost use Rattle.gl_runner.specs.Watches.{IsMadeOf, module_in};
 
 use crate::faces::{Face, kinds_in, shows_within};
 use crate::sampling::{sample_of, set_row};
-use crate::telling::put_named;
 use crate::watching::{Made, Watch};
 use gl_bits::{Kind, Memory, Row};
-use gl_lines::zero_row;
+use gl_lines::{Format, put_lines, zero_row};
 use gl_outside::{Sink, WriteFault};
 use gl_testbench::Shows;
 use gl_verilog::Module;
@@ -83,15 +82,12 @@ impl NamedResult {
         set_row(made.sim, self.shows.columns.as_slice(), &mut self.row);
         let sample = sample_of(made.sim, &self.shows);
         let name = face.name.as_slice();
-        put_named(
-            out,
-            name,
-            made.cycle,
-            &self.kinds,
-            &self.row,
-            self.told,
-            sample,
-        )?;
+        let kinds = self.kinds.as_slice();
+        let format = Format {
+            name: Some(name),
+            kinds,
+        };
+        put_lines(out, format, made.cycle, &self.row, self.told, sample)?;
         self.told |= sample.group;
         self.ended |= is_late(sample.end, last, made.cycle);
         Ok(())

@@ -13,10 +13,7 @@ use crate::executing::{Outcome, outcome_of};
 use crate::faces::Face;
 use crate::naming::NamedLines;
 use gl_outside::Sink;
-use gl_schema::Schema;
-use gl_tuples::Beats;
 use gl_verilog::Module;
-use gl_verilog_orders::Start;
 use std::alloc::Global;
 
 /// Runs a module that shows several results over beats, and writes the lines of each with its name.
@@ -28,28 +25,19 @@ use std::alloc::Global;
 pub fn execute_several<K: Sink>(
     alloc: Global,
     design: Module,
-    schema: &Schema,
     faces: &[Face],
-    beats: &Beats,
-    latency: u64,
-    start: Start,
+    task: Task<'_>,
     out: &mut K,
 ) -> Outcome
-    requires can { CanDrive (module_of design) schema.now (plain_beats beats.now) }
+    requires can { CanDrive (module_of design) task.schema.now (plain_beats task.beats.now) }
     requires faces { AllByRecursion (HasFace (module_of design)) faces.now }
-    requires short { latency ≤ 2 ^ 32 }
-    ensures { let beats' = plain_beats beats.now in
-        RanAll (OfTimelyFaces latency (module_of design) schema.now beats' start faces.now)
-        faces.now beats' (K.state out.old) (K.state out.new) result }
+    requires short { task.extra ≤ 2 ^ 32 }
+    ensures { let t = task.entry in let beats = plain_beats t.beats.now in
+        RanAll (OfTimelyFaces t.extra (module_of design) t.schema.now beats t.start faces.now)
+        faces.now beats (K.state out.old) (K.state out.new) result }
 {
-    let Ok(mut lines) = NamedLines::new(alloc, &design, faces, last_of(beats)) else {
+    let Ok(mut lines) = NamedLines::new(alloc, &design, faces, last_of(task.beats)) else {
         return Outcome::Memory;
-    };
-    let task = Task {
-        schema,
-        beats,
-        start,
-        extra: latency,
     };
     let Ok(mut drive) = Drive::new(alloc, design, task) else {
         return Outcome::Memory;

@@ -1,6 +1,6 @@
 //! Tracing a module that is handed in: the lines of its run, with all values in decimal.
 
-ghost use Rattle.std.specs.Prelude.{◌≡◌, Ok, IfOk};
+ghost use Rattle.std.specs.Prelude.{◌≡◌, ◌^◌, ◌≤◌, Ok, IfOk};
 ghost use Rattle.gl_schema.specs.Beats.{AreBeats};
 ghost use Rattle.gl_schema.specs.Schemas.{IsSchema};
 ghost use Rattle.gl_tuples.specs.Gaps.{plain_beats};
@@ -15,12 +15,9 @@ use crate::driving::Task;
 use crate::following::follow_module;
 use gl_bits::{Kind, Memory};
 use gl_outside::Sink;
-use gl_schema::Schema;
 use gl_testbench::laws::has_runs_over;
 use gl_testbench::shows_at;
-use gl_tuples::Beats;
 use gl_verilog::Module;
-use gl_verilog_orders::Start;
 use gl_verilog_ports::{Ports, ports_of, shows_column};
 use std::alloc::Global;
 
@@ -54,27 +51,26 @@ fn decimal_kinds(alloc: Global, design: &Module) -> Result<Vec<Kind>, Memory>
 /// decimal.
 ///
 /// It ends in the first cycle from the last beat's on in which `out__eos` is 1, or, if that comes
-/// in none of the extra cycles behind the last beat's, in the last of these. The lines stand as
+/// in none of the extra cycles of the task behind the last beat's, in the last of these. The lines stand as
 /// `execute` writes them. All memory is taken before the first line.
 pub fn trace<K: Sink>(
     alloc: Global,
     design: Module,
     ports: &Ports,
-    schema: &Schema,
-    beats: &Beats,
-    start: Start,
-    extra: u32,
+    task: Task<'_>,
     out: &mut K,
 ) -> Ending
     requires valid { IsValid (module_of design) }
     requires inputs { HasInputPorts (module_of design) }
-    requires fits { fit_of (module_of design) schema.now ≡ Ok ports.now }
-    requires schema { IsSchema schema.now }
-    requires beats { AreBeats schema.now (plain_beats beats.now) }
-    ensures run { HasRunOver (module_of design) schema.now (plain_beats beats.now) start }
-    ensures lines { Traced (OfRunsOf (module_of design) schema.now (plain_beats beats.now) start)
-        (decimal_kinds (module_of design)) (plain_beats beats.now) extra
-        (K.state out.old) (K.state out.new) result }
+    requires fits { fit_of (module_of design) task.schema.now ≡ Ok ports.now }
+    requires schema { IsSchema task.schema.now }
+    requires beats { AreBeats task.schema.now (plain_beats task.beats.now) }
+    requires short { task.extra ≤ 2 ^ 32 }
+    ensures run { let t = task.entry in
+        HasRunOver (module_of design) t.schema.now (plain_beats t.beats.now) t.start }
+    ensures lines { let t = task.entry in let beats = plain_beats t.beats.now in
+        Traced (OfRunsOf (module_of design) t.schema.now beats t.start)
+        (decimal_kinds (module_of design)) beats t.extra (K.state out.old) (K.state out.new) result }
 {
     has_runs_over();
     let Ok(kinds) = decimal_kinds(alloc, &design) else {
@@ -82,12 +78,6 @@ pub fn trace<K: Sink>(
     };
     let Ok(shows) = shows_at(alloc, &design, ports) else {
         return Ending::Memory;
-    };
-    let task = Task {
-        schema,
-        beats,
-        start,
-        extra: u64::from(extra),
     };
     follow_module(alloc, design, shows, &kinds, task, out)
 }

@@ -11,7 +11,7 @@ ghost use Rattle.gl_top.specs.Verdicts.{IsAnswer};
 
 use crate::desk::Desk;
 use gl_outside::{Shelf, Sink};
-use gl_runner::{Ending, trace};
+use gl_runner::{Ending, Task, trace};
 use gl_top_judging::{Fitted, Simulation, judge_sim};
 use gl_top_notes::{Refusal, Status, tell, tell_no_end, tell_write_fault};
 use gl_top_words::Taken;
@@ -40,16 +40,13 @@ fn finish_trace<S: Shelf, K: Sink, N: Sink>(
     let Fitted { design, ports } = fitted;
     let extra = words.extra();
     inputs_are_ports();
-    match trace(
-        alloc,
-        design,
-        &ports,
-        &schema,
-        &beats,
-        Start::Zero,
-        extra,
-        &mut desk.out,
-    ) {
+    let task = Task {
+        schema: &schema,
+        beats: &beats,
+        start: Start::Zero,
+        extra: u64::from(extra),
+    };
+    match trace(alloc, design, &ports, task, &mut desk.out) {
         Ending::Done => Status::Done,
         Ending::NoEnd { cycle } => tell_no_end(&mut desk.notes, cycle),
         Ending::WriteFault => tell_write_fault(&mut desk.notes),

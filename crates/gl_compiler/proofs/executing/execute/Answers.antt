@@ -3,13 +3,12 @@ use Rattle.gl_verilog.specs.View.{module_of}
 use Rattle.gl_compiler.proofs.Each.{can_follow, ran_each}
 use Rattle.gl_compiler.proofs.executing.execute.Goals as goal
 
--- the text has a module, so the one fault is want of memory
-pub unread-requires : goal.unread-requires
-unread-requires g c = c.in-Err.ensures.only c.requires.runs.design c.requires.runs.has
+pub read_known_module-requires : goal.read_known_module-requires
+read_known_module-requires g c = (c.requires.runs.design, c.requires.runs.has)
 
 pub execute_module-requires-clause-can : goal.execute_module-requires-clause-can
-execute_module-requires-clause-can g c = can_follow c.args.text.now c.args.run.schema.now c.args.run.kinds.now (plain_beats c.args.run.beats.now) c.args.run.latency c.args.run.start c.in-Ok.design (c.one_module.ensures c.args.text.now) (c.inputs_are_ports.ensures c.args.text.now (module_of c.in-Ok.design) c.in-Ok.ensures.found)
-    c.requires.runs c.in-Ok.ensures.found c.requires.beats
+execute_module-requires-clause-can g c = can_follow c.args.text.now c.args.run.schema.now c.args.run.kinds.now (plain_beats c.args.run.beats.now) c.args.run.latency c.args.run.start c.in-Ok.design (c.one_module.ensures c.args.text.now) (c.inputs_are_ports.ensures c.args.text.now (module_of c.in-Ok.design) c.in-Ok.ensures)
+    c.requires.runs c.in-Ok.ensures c.requires.beats
 
 pub execute_module-requires-clause-many : goal.execute_module-requires-clause-many
 execute_module-requires-clause-many g c = c.requires.many
@@ -23,4 +22,4 @@ execute_module-requires-clause-short g c = c.requires.runs.short
 pub returns : goal.returns
 returns g c =
     ran_each c.args.text.now c.args.run.schema.now c.args.run.kinds.now (plain_beats c.args.run.beats.now) c.args.run.latency c.args.run.start c.in-Ok.design
-    (g.K.Sink.state c.args.out.now) (g.K.Sink.state c.execute_module.new.out) c.execute_module.result (c.one_module.ensures c.args.text.now) c.requires.runs c.in-Ok.ensures.found c.execute_module.ensures
+    (g.K.Sink.state c.args.out.now) (g.K.Sink.state c.execute_module.new.out) c.execute_module.result (c.one_module.ensures c.args.text.now) c.requires.runs c.in-Ok.ensures c.execute_module.ensures

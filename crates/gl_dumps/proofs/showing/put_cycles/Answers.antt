@@ -2,7 +2,8 @@ use Rattle.std.proofs.Common.{◌-◌, ap, sym, ◌∙◌}
 use Rattle.gl_bits.specs.Words.{bits_of}
 use Rattle.gl_schema.specs.Seen.{lines_after}
 use Rattle.gl_dumps.specs.Showings.{told_after}
-use Rattle.gl_dumps.proofs.OnWay.{failed, way_cut, way_done, way_next}
+use Rattle.gl_lines.proofs.Puts.{failed}
+use Rattle.gl_dumps.proofs.OnWay.{way_cut, way_done, way_next}
 use Rattle.gl_dumps.proofs.Shown.{next_cycle, silent_lines, silent_told}
 use Rattle.gl_dumps.proofs.showing.put_cycles.Goals as goal
 

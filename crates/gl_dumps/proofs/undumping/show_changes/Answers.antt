@@ -6,7 +6,8 @@ use Rattle.gl_dumps.specs.Showings.{lines_left}
 use Rattle.gl_dumps.specs.Tokens.{Token}
 use Rattle.gl_dumps.proofs.Going.{went_on}
 use Rattle.gl_dumps.proofs.Left.{none_left, shown_then}
-use Rattle.gl_dumps.proofs.OnWay.{failed, way_cut, way_done, way_next, way_same}
+use Rattle.gl_lines.proofs.Puts.{failed}
+use Rattle.gl_dumps.proofs.OnWay.{way_cut, way_done, way_next, way_same}
 use Rattle.gl_dumps.proofs.undumping.show_changes.Goals as goal
 
 pub returns-in_err-show_token : goal.returns-in_err-show_token

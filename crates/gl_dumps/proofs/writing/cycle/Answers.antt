@@ -4,7 +4,7 @@ use Rattle.gl_outside.specs.States.{Broke}
 use Rattle.gl_verilog.specs.View.{module_of}
 use Rattle.gl_dumps.specs.Written.{changes, ports_of}
 use Rattle.gl_dumps.proofs.Changes.{cycle_is, row_few}
-use Rattle.gl_dumps.proofs.OnWay.{failed}
+use Rattle.gl_lines.proofs.Puts.{failed}
 use Rattle.gl_dumps.proofs.writing.cycle.Goals as goal
 
 pub put_changes-requires : goal.put_changes-requires

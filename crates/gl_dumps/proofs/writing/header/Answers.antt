@@ -6,7 +6,7 @@ use Rattle.gl_verilog.specs.View.{module_of}
 use Rattle.gl_dumps.specs.Dumped.{Port}
 use Rattle.gl_dumps.specs.Written.{declarations, header, ports_of}
 use Rattle.gl_dumps.proofs.Headers.{header_is}
-use Rattle.gl_dumps.proofs.OnWay.{failed}
+use Rattle.gl_lines.proofs.Puts.{failed}
 use Rattle.gl_dumps.proofs.writing.header.Goals as goal
 
 -- the pieces, of which the name is read off the module

@@ -1,6 +1,7 @@
 use Rattle.std.proofs.Common.{option_map, arith}
 use Rattle.gl_dumps.proofs.Changes.{changes_end, changes_next}
-use Rattle.gl_dumps.proofs.OnWay.{failed, way_cut, way_done, way_first, way_next}
+use Rattle.gl_lines.proofs.Puts.{failed}
+use Rattle.gl_dumps.proofs.OnWay.{way_cut, way_done, way_first, way_next}
 use Rattle.gl_dumps.proofs.writing.put_changes.Goals as goal
 
 pub loop-number-init : goal.loop-number-init

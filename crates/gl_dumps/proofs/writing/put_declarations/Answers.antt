@@ -1,7 +1,8 @@
 use Rattle.std.proofs.Common.{ap, arith}
 use Rattle.gl_dumps.specs.Written.{declarations}
 use Rattle.gl_dumps.proofs.Headers.{count_more, few_left, left_clock, left_none, left_port}
-use Rattle.gl_dumps.proofs.OnWay.{failed, way_cut, way_done, way_first, way_next}
+use Rattle.gl_lines.proofs.Puts.{failed}
+use Rattle.gl_dumps.proofs.OnWay.{way_cut, way_done, way_first, way_next}
 use Rattle.gl_dumps.proofs.writing.put_declarations.Goals as goal
 use Rattle.gl_dumps.proofs.writing.put_declarations.Goals.{then-is_dumped+in_ok-put_declaration, else-is_dumped}
 

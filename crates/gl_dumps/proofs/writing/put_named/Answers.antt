@@ -1,6 +1,6 @@
 use Rattle.std.proofs.Common.{◌++◌}
 use Rattle.gl_outside.proofs.Takes.{broke_more, broke_then, wrote_then}
-use Rattle.gl_dumps.proofs.OnWay.{failed}
+use Rattle.gl_lines.proofs.Puts.{failed}
 use Rattle.gl_dumps.proofs.writing.put_named.Goals as goal
 
 pub returns-in_err-write_all_of : goal.returns-in_err-write_all_of

@@ -12,7 +12,7 @@ returns c =
     let e : module_text net ≡ text = sym (c.in_ok-write_module.ensures.text ∙ ap (λ (xs : List ℕ). xs ++ module_text net) c.new-text.ensures.items) in
     let meaning = subst (IsTextOf net) e c.write_module.ensures.meaning in
     record {
-      text = λ ticks schema outputs is takes. emission net schema text meaning ticks outputs is takes;
+      text = λ ticks schema outputs is takes. emission c.event_runs_are_runs.ensures.runs c.has_event_runs.ensures.same c.inputs_are_ports.ensures net schema text meaning ticks outputs is takes;
       registers = c.cost_of.ensures.registers;
       memories = c.cost_of.ensures.memories;
       short = subst (λ (xs : List ℕ). length xs ≤ most_bytes net) e c.in_ok-write_module.ensures.length;

@@ -21,8 +21,9 @@ follow_module-requires-clause-short g c = c.requires.short
 pub returns : goal.returns
 returns g c =
     let m = module_of c.args.design in
+    let t = c.args.task in
     let old = g.K.Sink.state c.args.out.now in
     let new = g.K.Sink.state c.follow_module.new.out in
     rw c.outcome_of.ensures
-    (ran_timely m c.args.schema.now c.args.kinds.now (plain_beats c.args.beats.now) c.args.latency c.args.start old new c.follow_module.result
+    (ran_timely m t.schema.now c.args.kinds.now (plain_beats t.beats.now) t.extra t.start old new c.follow_module.result
     c.follow_module.ensures)

@@ -29,6 +29,6 @@ returns g c =
     let old = g.K.Sink.state c.args.out.now in
     let new = g.K.Sink.state c.follow.new.out in
     rw c.outcome_of.ensures
-    (ran_all (module_of c.args.design) c.args.schema.now (plain_beats c.args.beats.now) c.args.start c.args.latency w.last c.args.faces.now w.faces.now
+    (ran_all (module_of c.args.design) c.args.task.schema.now (plain_beats c.args.task.beats.now) c.args.task.start c.args.task.extra w.last c.args.faces.now w.faces.now
     (λ x port n. AllZip (StandsNamed c.follow.new.watch.last port n) c.follow.new.watch.faces.now c.follow.new.watch.results.items) c.in-Ok-new.drive old new c.follow.result
     c.in-Ok-new.ensures (c.in-Ok.ensures.last' ∙ c.last_of.ensures.cycle) c.in-Ok.ensures.faces' c.follow.ensures)

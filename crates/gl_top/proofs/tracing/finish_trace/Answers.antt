@@ -1,4 +1,4 @@
-use Rattle.std.proofs.Common.{ℕ, [], inl, refl, sym, subst}
+use Rattle.std.proofs.Common.{◌∙◌, ℕ, [], inl, refl, sym, subst}
 use Rattle.gl_outside.specs.States.{SinkState, Took}
 use Rattle.gl_outside.proofs.Takes.{took_none}
 use Rattle.gl_verilog_orders.specs.declared.start.Start.TheVariants.{Zero}
@@ -29,7 +29,7 @@ returns-in-Done g c = λ ch ready calm.
       passes = ready.passes;
       run = c.in-Done.ensures.run;
       ending = end.Done;
-      traced = subst of_extra c.extra-extra.ensures c.in-Done.ensures.lines;
+      traced = subst of_extra (c.from.ensures ∙ c.extra-extra.ensures) c.in-Done.ensures.lines;
       tells = (refl, took_none _);
       calm = calm;
       left = c.requires.empty;
@@ -47,7 +47,7 @@ returns-in-NoEnd g c = λ ch ready calm.
       passes = ready.passes;
       run = c.in-NoEnd.ensures.run;
       ending = end.NoEnd c.in-NoEnd.cycle;
-      traced = subst of_extra c.extra-extra.ensures c.in-NoEnd.ensures.lines;
+      traced = subst of_extra (c.from.ensures ∙ c.extra-extra.ensures) c.in-NoEnd.ensures.lines;
       tells = c.tell_no_end.ensures;
       calm = calm;
       left = c.requires.empty;
@@ -65,7 +65,7 @@ returns-in-WriteFault g c = λ ch ready calm.
       passes = ready.passes;
       run = c.in-WriteFault.ensures.run;
       ending = end.WriteFault;
-      traced = subst of_extra c.extra-extra.ensures c.in-WriteFault.ensures.lines;
+      traced = subst of_extra (c.from.ensures ∙ c.extra-extra.ensures) c.in-WriteFault.ensures.lines;
       tells = c.tell_write_fault.ensures;
       calm = calm;
       left = c.requires.empty;

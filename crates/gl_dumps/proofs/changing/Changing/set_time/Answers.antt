@@ -17,14 +17,14 @@ returns-clause-reads c = λ r k.
     record {
       read = record r { time = Some next };
       says = time_comes r c.args.at time c.args.digits.now come next (sym c.in-Some-number_in.is ∙ c.number_in.ensures) lt
-          (sym (c.lacks_value.ensures r time k.holds come) ∙ c.if-lacks_value.false) c.if-next-gt-LAST_TIME.false;
+          (sym (c.lacks_value.ensures r time k.holds come) ∙ c.if-lacks_value.false) c.if-next-gt-LATEST_TIME.false;
       keeps = record {
         stage' = k.stage';
         holds = record {
           signals' = k.holds.signals';
           time' = refl;
           early = all_weaker (λ (x : Change). x.time ≤ now_of r) (λ (x : Change). x.time ≤ next) (λ x h. omega (arith, h, le)) r.changes k.holds.early;
-          late = c.if-next-gt-LAST_TIME.false;
+          late = c.if-next-gt-LATEST_TIME.false;
           values' = λ i below. k.holds.values' i below ∙ value_same r.changes i (now_of r) next k.holds.early le;
         };
       };

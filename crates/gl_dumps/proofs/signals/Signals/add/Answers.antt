@@ -17,14 +17,14 @@ put-requires-2 c =
     let s = c.args.self.now in
     new_word (words_in s.names.keys) (signals_of s) (λ (x : Signal). x.name) c.args.signal.name.now c.requires.indexed.names' c.requires.new.name'
 
-pub returns-in-Ok-clause-added : goal.returns-in-Ok-clause-added
-returns-in-Ok-clause-added c = ap (map signal_of) c.in-Ok.ensures.items ∙ map-append signal_of c.args.self.now.list.items (c.args.signal ∷ [])
+pub returns-clause-added : goal.returns-clause-added
+returns-clause-added c = ap (map signal_of) c.in_ok-push.ensures.items ∙ map-append signal_of c.args.self.now.list.items (c.args.signal ∷ [])
 
-pub returns-in-Ok-clause-indexed : goal.returns-in-Ok-clause-indexed
-returns-in-Ok-clause-indexed c =
+pub returns-clause-indexed : goal.returns-clause-indexed
+returns-clause-indexed c =
     let s = c.args.self.now in
     let x = signal_of c.args.signal in
-    let all = ap (map signal_of) c.in-Ok.ensures.items ∙ map-append signal_of s.list.items (c.args.signal ∷ []) in
+    let all = ap (map signal_of) c.in_ok-push.ensures.items ∙ map-append signal_of s.list.items (c.args.signal ∷ []) in
     record {
       codes' = words_push (words_in s.codes.keys) _ (signals_of s) x (λ (y : Signal). y.code) c.requires.indexed.codes' c.in_ok-put.ensures ∙ ap (map (λ (y : Signal). y.code)) (sym all);
       names' = words_push (words_in s.names.keys) _ (signals_of s) x (λ (y : Signal). y.name) c.requires.indexed.names' c.in_ok-put-2.ensures ∙ ap (map (λ (y : Signal). y.name)) (sym all);

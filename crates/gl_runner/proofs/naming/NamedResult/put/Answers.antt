@@ -6,9 +6,10 @@ use Rattle.gl_outside.specs.States.{Broke, Took}
 use Rattle.gl_runner.specs.Naming.{names_of}
 use Rattle.gl_runner.specs.Several.{outs_of}
 use Rattle.gl_runner.specs.Watches.{module_in}
-use Rattle.gl_runner.proofs.Named.{lines_named, seen_named, stands_behind}
+use Rattle.gl_runner.proofs.Named.{lines_as_named, lines_named, seen_named, stands_behind}
 use Rattle.gl_runner.proofs.Probing.{columns_in, columns_many, end_seen, group_seen, lines_inside}
-use Rattle.gl_runner.proofs.Running.{failed}
+use Rattle.gl_lines.specs.Pieces.{sampled}
+use Rattle.gl_lines.proofs.Puts.{failed}
 use Rattle.gl_runner.proofs.naming.NamedResult.put.Goals as goal
 
 pub sample_of-sample-requires : goal.sample_of-sample-requires
@@ -17,8 +18,8 @@ sample_of-sample-requires g c =
     let w = c.args.self.now in
     lines_inside m (names_of c.args.face.now) w.kinds.items w.shows w.row c.requires.serves.probe
 
-pub returns-in_err-put_named-clause-wrote : goal.returns-in_err-put_named-clause-wrote
-returns-in_err-put_named-clause-wrote g c = λ port made before.
+pub returns-in_err-put_lines-clause-wrote : goal.returns-in_err-put_lines-clause-wrote
+returns-in_err-put_lines-clause-wrote g c = λ port made before.
     let m = module_in c.args.made.now in
     let n = c.args.made.now.cycle in
     let w = c.args.self.now in
@@ -26,9 +27,9 @@ returns-in_err-put_named-clause-wrote g c = λ port made before.
     let sample = c.sample_of-sample.result in
     let row = bits_of c.set_row.new.row in
     let seen = seen_named m c.args.made.now.sim.now port (suc n) f w.kinds.items w.shows c.as_slice.result.now w.row c.set_row.new.row sample made.ports' made.others' c.requires.serves.probe c.sample_of-sample.ensures c.as_slice.ensures.value c.set_row.ensures.bits in
-    let lines = lines_named f port n c.as_slice-name.result.now c.deref.result.now w.told sample row c.as_slice-name.ensures (c.deref.ensures.value ∙ c.requires.serves.kinds') before.told' seen in
+    let lines = lines_as_named c.as_slice-name.result.now c.as_slice-kinds.result.now w.told (sampled sample n row) ∙ lines_named f port n c.as_slice-name.result.now c.as_slice-kinds.result.now w.told sample row c.as_slice-name.ensures (c.as_slice-kinds.ensures.value ∙ c.requires.serves.kinds') before.told' seen in
     failed _ _ _ _ c.from_residual.result c.from_residual.ensures.1
-    (subst (λ (x : List ℕ). Broke (g.K.Sink.state c.args.out.now) (g.K.Sink.state c.put_named.new.out) x) lines c.in_err-put_named.ensures)
+    (subst (λ (x : List ℕ). Broke (g.K.Sink.state c.args.out.now) (g.K.Sink.state c.put_lines.new.out) x) lines c.in_err-put_lines.ensures)
 
 pub returns-clause-wrote : goal.returns-clause-wrote
 returns-clause-wrote g c = λ port made before.
@@ -39,8 +40,8 @@ returns-clause-wrote g c = λ port made before.
     let sample = c.sample_of-sample.result in
     let row = bits_of c.set_row.new.row in
     let seen = seen_named m c.args.made.now.sim.now port (suc n) f w.kinds.items w.shows c.as_slice.result.now w.row c.set_row.new.row sample made.ports' made.others' c.requires.serves.probe c.sample_of-sample.ensures c.as_slice.ensures.value c.set_row.ensures.bits in
-    let lines = lines_named f port n c.as_slice-name.result.now c.deref.result.now w.told sample row c.as_slice-name.ensures (c.deref.ensures.value ∙ c.requires.serves.kinds') before.told' seen in
-    subst (λ (x : List ℕ). Took (g.K.Sink.state c.args.out.now) (g.K.Sink.state c.put_named.new.out) x) lines c.in_ok-put_named.ensures
+    let lines = lines_as_named c.as_slice-name.result.now c.as_slice-kinds.result.now w.told (sampled sample n row) ∙ lines_named f port n c.as_slice-name.result.now c.as_slice-kinds.result.now w.told sample row c.as_slice-name.ensures (c.as_slice-kinds.ensures.value ∙ c.requires.serves.kinds') before.told' seen in
+    subst (λ (x : List ℕ). Took (g.K.Sink.state c.args.out.now) (g.K.Sink.state c.put_lines.new.out) x) lines c.in_ok-put_lines.ensures
 
 pub returns-clause-stands : goal.returns-clause-stands
 returns-clause-stands g c = λ port made before.
