@@ -4,7 +4,7 @@ use Rattle.gl_net.proofs.Determined.{keeps_then}
 use Rattle.gl_net.proofs.Growth.{same_keeps}
 use Rattle.gl_wire.proofs.ColumnLemmas.{bit_kept}
 use Rattle.gl_divide.proofs.DigitNet.{bus_of, shifted_more, shifted_one}
-use Rattle.gl_divide.proofs.digit.shifted.Goals as goal
+use Rattle.gl_divide.proofs.digit.shift.Goals as goal
 
 pub returns-then-bus-eq1 : goal.returns-then-bus-eq1
 returns-then-bus-eq1 c =

@@ -3,7 +3,7 @@ use Rattle.gl_bits.specs.Words.{not_of}
 use Rattle.gl_wire.proofs.GateLemmas.{bit_of}
 use Rattle.gl_wire.proofs.ColumnLemmas.{bit_kept}
 use Rattle.gl_divide.proofs.DigitNet.{turned_line}
-use Rattle.gl_divide.proofs.digit.turned.Goals as goal
+use Rattle.gl_divide.proofs.digit.turn.Goals as goal
 
 pub returns : goal.returns
 returns c =
