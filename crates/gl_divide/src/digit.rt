@@ -18,7 +18,7 @@ pub fn highest(net: &mut NetBuilder, bus: Bus) -> Result<Bit, Memory>
 }
 
 /// A bus one place higher, with a line behind it; its highest bit is lost.
-pub fn shifted(net: &mut NetBuilder, bus: Bus, line: Bit) -> Result<Bus, Memory>
+pub fn shift(net: &mut NetBuilder, bus: Bus, line: Bit) -> Result<Bus, Memory>
     requires bus { IsBus net.old bus }
     requires line { IsBit net.old line }
     ensures { IfOk result (IsShifted net.old net.new bus line) }
@@ -61,7 +61,7 @@ fn zero_word() -> Word
 }
 
 // The line that is 0 where the line is 1.
-fn turned(net: &mut NetBuilder, line: Bit) -> Result<Bit, Memory>
+fn turn(net: &mut NetBuilder, line: Bit) -> Result<Bit, Memory>
     requires { IsBit net.old line }
     ensures { IfOk result (IsTurned net.old net.new line) }
 {
@@ -83,7 +83,7 @@ fn put_short(net: &mut NetBuilder, rest: Bus, bottom: Bus, next: Bit) -> Result<
     let more = net.join(rest, next.bus())?;
     let less = net.binary(BinaryOp::Sub, more, wide)?;
     let under = highest(net, less)?;
-    let fits = turned(net, under)?;
+    let fits = turn(net, under)?;
     let kept = net.choose(under, more, less)?;
     let left = net.cut(kept, rest.width - 1, 0)?;
     Ok(Digit { fits, left })
@@ -98,7 +98,7 @@ fn put_long(net: &mut NetBuilder, rest: Bus, bottom: Bus, next: Bit) -> Result<D
     ensures { IfOk result (IsDigit net.old net.new rest bottom next) }
 {
     let over = highest(net, rest)?;
-    let more = shifted(net, rest, next)?;
+    let more = shift(net, rest, next)?;
     let enough = at_most(net, bottom, more)?;
     let fits = either(net, over, enough)?;
     let less = net.binary(BinaryOp::Sub, more, bottom)?;

@@ -5,7 +5,7 @@ ghost use Rattle.gl_bits.specs.Words.{IsWidth};
 ghost use Rattle.gl_net.specs.Net.{IsBus, IsBit};
 ghost use Rattle.gl_divide.specs.Divider.{IsBehindDigits, IsStage, IsStep};
 
-use crate::digit::{highest, put_digit, shifted};
+use crate::digit::{highest, put_digit, shift};
 use gl_bits::{Memory, Word};
 use gl_net::{Bit, Bus, NetBuilder};
 use gl_wire::{later, later_bit};
@@ -58,7 +58,7 @@ pub fn put_step(net: &mut NetBuilder, stage: Stage) -> Result<Stage, Memory>
 {
     let next = highest(net, stage.digits)?;
     let digit = put_digit(net, stage.rest, stage.bottom, next)?;
-    let digits = shifted(net, stage.digits, digit.fits)?;
+    let digits = shift(net, stage.digits, digit.fits)?;
     let digits = later(net, digits)?;
     let rest = later(net, digit.left)?;
     let bottom = later(net, stage.bottom)?;

@@ -8,13 +8,13 @@ use Rattle.gl_net.specs.declared.node.Bit.{Bit}
 use Rattle.gl_net.specs.Net.{Net, Run, IsRun}
 use Rattle.gl_wire.proofs.ColumnLemmas.{bus_kept}
 use Rattle.gl_wire_registers.specs.Held.{held_at}
-use Rattle.gl_wire_registers.specs.Lines.{line_of}
+use Rattle.gl_wire_registers.specs.Lines.{held_of, line_of}
 use Rattle.gl_wire_registers.specs.Registers.{DrivesAll, MayDrive, Opens}
 use Rattle.gl_wire_registers.proofs.CounterLemmas.{held_by}
 use Rattle.gl_wire_registers.proofs.FlagLemmas.{length_replicate, reg_start, reg_width, regs_count, same_bits}
 use Rattle.gl_wire_registers.proofs.RegisterLemmas.{closed_up, grown_bus}
 use Rattle.gl_groups.specs.Finding.{AddsKeysTaken}
-use Rattle.gl_groups.specs.SlotLines.{AddsNexts, AreKeysOf, held_of}
+use Rattle.gl_groups.specs.SlotLines.{AddsNexts, AreKeysOf}
 use Rattle.gl_groups.proofs.SlotNet.{held_of-get}
 
 module _ (n0 n1 : Net) (nexts : List Bit) (w : Word) (last : Bus) (regs : List Bus) (wide : w.width ≡ last.width) (zeros : w.bits ≡ 0) (o : Opens n0 n1 (replicate (length nexts) w) regs) where

@@ -9,7 +9,7 @@ use Rattle.gl_net.proofs.Determined.{keeps_then}
 use Rattle.gl_wire.specs.Gates.{same_at}
 use Rattle.gl_wire.specs.Wire.{line_at}
 use Rattle.gl_wire_registers.specs.Held.{held_at}
-use Rattle.gl_wire_registers.specs.Lines.{line_of, to_bit, to_bus}
+use Rattle.gl_wire_registers.specs.Lines.{held_of, line_of, to_bit, to_bus}
 use Rattle.gl_wire_registers.specs.Registers.{DrivesAll, MayDrive, Opens}
 use Rattle.gl_wire_registers.proofs.FlagLemmas.{flag_next, flags_may, length_replicate, same_bits}
 use Rattle.gl_wire_registers.proofs.LineLemmas.{line_of-first}
@@ -19,7 +19,7 @@ use Rattle.gl_groups.specs.declared.finding.Sought.{Sought}
 use Rattle.gl_groups.specs.Ahead.{Ahead, GoesOn, sought_in}
 use Rattle.gl_groups.specs.Finding.{AddsHeld, AddsSlotsFound, AddsSought, AreFound, AreSought, IsAsked, IsSought, ahead_in}
 use Rattle.gl_groups.specs.Seeking.{Sought as Slots, is_next, kept}
-use Rattle.gl_groups.specs.SlotLines.{asked_of, held_of, same_to}
+use Rattle.gl_groups.specs.SlotLines.{asked_of, same_to}
 use Rattle.gl_groups.specs.Telling.{passes_in}
 use Rattle.gl_groups.proofs.SeenNet.{bit_opened}
 use Rattle.gl_groups.proofs.SlotNet.{bits_opened}

@@ -11,7 +11,7 @@ use Rattle.gl_wire.specs.Wire.{carried, line_at, row_at, tuple_at, widths}
 use Rattle.gl_wire.proofs.ColumnLemmas.{bit_kept, bus_kept, buses_kept, wire_kept}
 use Rattle.gl_wire_registers.specs.Held.{counted_down, held_at}
 use Rattle.gl_wire_registers.specs.declared.lines.LineOp.TheVariants.{Both, Either}
-use Rattle.gl_wire_registers.specs.Lines.{AddsLines, line_of, pairs}
+use Rattle.gl_wire_registers.specs.Lines.{AddsLines, held_of, line_of, pairs}
 use Rattle.gl_wire_registers.specs.Rows.{AddsWires}
 use Rattle.gl_wire_registers.proofs.LineLemmas.{bits_kept, gates_some, line_of-first}
 use Rattle.gl_groups.specs.declared.front.Chosen.{Chosen}
@@ -21,7 +21,7 @@ use Rattle.gl_groups.specs.declared.front.Turning.{Turning}
 use Rattle.gl_groups.specs.declared.parts.Flush.{Flush}
 use Rattle.gl_groups.specs.declared.parts.Tail.{Tail}
 use Rattle.gl_groups.specs.declared.slots.SlotLines.{SlotLines}
-use Rattle.gl_groups.specs.SlotLines.{AddsSlots, AreSlotLines, IsLatest, held_of, sought_at}
+use Rattle.gl_groups.specs.SlotLines.{AddsSlots, AreSlotLines, IsLatest, sought_at}
 use Rattle.gl_groups.specs.Fronts.{AddsChosen, AddsFront, AddsLooked, AddsLookup, AddsTurning, IsLooked, IsLookup, IsTurning, column_of, ends_of, takes_of, takes_row}
 use Rattle.gl_groups.specs.Groupings.{AreKeys}
 use Rattle.gl_groups.specs.Parts.{AddsFlush, AddsTail, IsFlush, IsTail, TakesOf}

@@ -131,7 +131,7 @@ group_table count f s some sound = record {
   many_more = λ m n l. omega arith;
 }
 
-end_of : (b : Carried) (t : ℕ) (e : Bool) → e ≡ true → BeatOf b t e → b.ends t ≡ true
+pub end_of : (b : Carried) (t : ℕ) (e : Bool) → e ≡ true → BeatOf b t e → b.ends t ≡ true
 end_of b t true p (its_end q) = q
 end_of b t false p (its_tuple r q z) = absurd (cc)
 

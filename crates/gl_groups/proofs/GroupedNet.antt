@@ -1,31 +1,32 @@
 -- A front and a back in a netlist, from their parts, and what they serve.
-use Rattle.std.proofs.Common.{◌≡◌, ℕ, ◌+◌, ◌<◌, ◌≤◌, List, [], ◌∷◌, length, Some, refl, sym, ap, ◌∙◌, subst, arith}
-use Rattle.std.specs.Prelude.{slice_get}
-use Rattle.gl_algebra.specs.FigureTable.{stride_of}
+use Rattle.std.proofs.Common.{◌≡◌, ℕ, ◌+◌, ◌<◌, ◌≤◌, List, [], ◌∷◌, length, Some, None, refl, sym, ap, ◌∙◌, subst, arith}
+use Rattle.std.specs.Prelude.{slice_get, slice_index}
+use Rattle.gl_algebra.specs.declared.figures.Figures.{Figures}
+use Rattle.gl_algebra.specs.FigureTable.{IsSound, stride_of}
 use Rattle.gl_net.specs.declared.node.Bit.{Bit}
 use Rattle.gl_net.specs.declared.node.Bus.{Bus}
-use Rattle.gl_net.specs.Net.{Net, Run, Keeps}
+use Rattle.gl_net.specs.Net.{Net, Run, IsRun}
 use Rattle.gl_net.proofs.Determined.{keeps_then}
 use Rattle.gl_wire.specs.declared.emitted.Emitted.{Emitted}
-use Rattle.gl_wire.specs.Costs.{CostsAtMost}
-use Rattle.gl_wire.specs.Faults.{AreLines, lines_of}
+use Rattle.gl_wire.specs.Costs.{Cost, CostsAtMost}
+use Rattle.gl_wire.specs.Faults.{AreLines, line_of, lines_of}
 use Rattle.gl_wire.specs.Shapes.{IsDelayed}
 use Rattle.gl_wire.specs.Spills.{SameLines, both_lines}
-use Rattle.gl_wire.specs.Wire.{Carried, IsWire, carried, line_at}
+use Rattle.gl_wire.specs.Wire.{Carried, IsWire, carried, line_at, widths}
 use Rattle.gl_wire.proofs.ColumnLemmas.{bus_kept, wire_kept, bit_kept}
 use Rattle.gl_wire.proofs.FaultLemmas.{lines_kept}
 use Rattle.gl_wire_copies.specs.Lift.{tuple_of_any}
 use Rattle.gl_wire_copies.specs.Rotates.{lines_of_all}
-use Rattle.gl_wire_registers.specs.Lines.{carried_of}
+use Rattle.gl_wire_registers.specs.Lines.{carried_of, held_of}
 use Rattle.gl_wire_registers.specs.Timers.{IsClose, IsCloseLine}
-use Rattle.gl_groups.specs.declared.front.Front.{Front}
-use Rattle.gl_groups.specs.declared.grouping.Fronted.{Fronted}
+use Rattle.gl_wire_registers.specs.declared.front.Front.{Front}
+use Rattle.gl_wire_registers.specs.Fronts.{Feeding, Fronts, Giving, HaveKeys, IsBacked, IsFronted, feed_of}
+use Rattle.gl_groups.specs.declared.front.Front.{Front as Given}
 use Rattle.gl_groups.specs.declared.grouping.Grouping.{Grouping}
-use Rattle.gl_groups.specs.SlotLines.{held_of}
 use Rattle.gl_groups.specs.Costs.{cost_of_back}
 use Rattle.gl_groups.specs.Fronts.{AddsFront, IsFront}
-use Rattle.gl_groups.specs.Grouped.{Fronts, IsBacked, IsFronted, columns_with_key, key_width}
-use Rattle.gl_groups.specs.Groupings.{AwaitsFlush, IsGrouping, close_cycles, close_delay, key_of, line_of_further, with_keys}
+use Rattle.gl_groups.specs.Grouped.{grouping_machine, keyed_machine}
+use Rattle.gl_groups.specs.Groupings.{AwaitsFlush, IsGrouping, ServesGroups, close_cycles, close_delay, key_of, line_of_further, with_keys}
 use Rattle.gl_groups.specs.Joins.{AreKeyBuses, JoinsAll, width_of_keys}
 use Rattle.gl_groups.specs.Picks.{bits_of_slots}
 use Rattle.gl_wire_registers.specs.Joins.{columns_of, gives_of, told_of}
@@ -39,9 +40,9 @@ abbrev pub setting_of : (r : Grouping) (a : Carried) (ins : ℕ → Carried) →
 setting_of r a ins is law awaits = awaited r.slots (key_of r) (stride_of r.body) a ins is.some' (omega arith) law awaits
 
 -- wires and keys of a front, and a line of ends behind it
-pub is_fronted : (old mid new : Net) (r : Grouping) (source : Emitted) (g : Front) (close : Bit) (stride cycles width : ℕ) → stride ≡ stride_of r.body → cycles ≡ close_cycles r → width ≡ bits_of_slots r.slots + 1 → IsGrouping r
-    → IsWire old source.wire → AreLines old source.faults → r.key < length source.wire.columns → AddsFront old mid r.key r.slots stride width source.wire g → IsCloseLine mid new cycles 0 source.wire.eos close
-    → IsFronted old new r source (record { source = source; wires = g.wires; keys = g.keys; further = g.further; close = close })
+pub is_fronted : (old mid new : Net) (r : Grouping) (source : Emitted) (g : Given) (close : Bit) (stride cycles width : ℕ) → stride ≡ stride_of r.body → cycles ≡ close_cycles r → width ≡ bits_of_slots r.slots + 1 → IsGrouping r
+    → IsWire old source.wire → AreLines old source.faults → r.key < length (widths source.wire.columns) → AddsFront old mid r.key r.slots stride width source.wire g → IsCloseLine mid new cycles 0 source.wire.eos close
+    → IsFronted old new (grouping_machine r) source (record { source = source; wires = g.wires; keys = g.keys; further = Some g.further; close = close })
 is_fronted old mid new r source g close stride cycles width is_stride is_cycles is_width is wire lines key f c = record {
   keeps = keeps_then old mid new f.keeps c.keeps;
   cost = record {
@@ -53,18 +54,21 @@ is_fronted old mid new r source g close stride cycles width is_stride is_cycles 
   fronts = record {
     source = wire_kept old new source.wire (keeps_then old mid new f.keeps c.keeps) wire;
     lines = lines_kept old new source.faults (keeps_then old mid new f.keeps c.keeps) lines;
-    key = key;
+    column = key;
+    ticks = tt;
     as_many = f.as_many;
     wires = λ k w h. let x = f.wires k w h in (wire_kept mid new w c.keeps x.0, x.1);
-    keys_count = f.keys_count;
-    keys = λ k b h. let x = f.keys k b h in (bus_kept mid new b c.keeps x.0, x.1);
+    keys = record { as_many = f.keys_count; each = λ k b h. let x = f.keys k b h in (bus_kept mid new b c.keeps x.0, x.1) };
     further = bit_kept mid new g.further c.keeps f.further;
     close = c.bit;
-    front = λ run z. (law run (f.law run (c.keeps.runs run z))).front;
-    shown = λ run z. (law run (f.law run (c.keeps.runs run z))).shown;
-    told = λ run z awaits n. (let l = law run (f.law run (c.keeps.runs run z)) in l.told n ∙ further_came (setting_of r (carried run source.wire) (carried_of run g.wires) is l.front awaits) n);
-    closes = λ run z.
-        ap_close run (subst (λ (n : ℕ). IsClose n (n + 1 + 0) (line_at run source.wire.eos) (line_at run close)) is_cycles (c.close run z));
+    feeds = λ run z.
+        let l = law run (f.law run (c.keeps.runs run z)) in
+        record {
+          front = l.front;
+          shown = l.shown;
+          told = λ awaits n. l.told n ∙ further_came (setting_of r (carried run source.wire) (carried_of run g.wires) is l.front awaits) n;
+          closes = ap_close run (subst (λ (n : ℕ). IsClose n (n + 1 + 0) (line_at run source.wire.eos) (line_at run close)) is_cycles (c.close run z));
+        };
   };
 }
   where
@@ -74,50 +78,48 @@ is_fronted old mid new r source g close stride cycles width is_stride is_cycles 
     ap_close : (run : Run) → IsClose (close_cycles r) (close_cycles r + 1 + 0) (line_at run source.wire.eos) (line_at run close) → IsClose (close_cycles r) (close_delay r) (line_at run source.wire.eos) (line_at run close)
     ap_close run h = let e : close_cycles r + 1 + 0 ≡ close_delay r = omega arith in subst (λ (n : ℕ). IsClose (close_cycles r) n (line_at run source.wire.eos) (line_at run close)) e h
 
--- a front stays one in a netlist that grows
-pub fronts_kept : (old new : Net) (r : Grouping) (f : Fronted) → Keeps old new → Fronts old r f → Fronts new r f
-fronts_kept old new r f keeps h = record {
-  source = wire_kept old new f.source.wire keeps h.source;
-  lines = lines_kept old new f.source.faults keeps h.lines;
-  key = h.key;
-  as_many = h.as_many;
-  wires = λ k w e. let x = h.wires k w e in (wire_kept old new w keeps x.0, x.1);
-  keys_count = h.keys_count;
-  keys = λ k b e. let x = h.keys k b e in (bus_kept old new b keeps x.0, x.1);
-  further = bit_kept old new f.further keeps h.further;
-  close = bit_kept old new f.close keeps h.close;
-  front = λ run z. h.front run (keeps.runs run z);
-  shown = λ run z. h.shown run (keeps.runs run z);
-  told = λ run z. h.told run (keeps.runs run z);
-  closes = λ run z. h.closes run (keeps.runs run z);
-}
-
 -- the keys of a front have the key column's width
-width_first : (keys : List Bus) (n : ℕ) → 1 ≤ length keys → ((k : ℕ) (b : Bus) → slice_get keys k ≡ Some b → b.width ≡ n) → width_of_keys keys ≡ n
+pub width_first : (keys : List Bus) (n : ℕ) → 1 ≤ length keys → ((k : ℕ) (b : Bus) → slice_get keys k ≡ Some b → b.width ≡ n) → width_of_keys keys ≡ n
 width_first [] n l h = absurd (omega (arith, l))
 width_first (b ∷ bs) n l h = h 0 b refl
 
-pub width_is : (net : Net) (r : Grouping) (f : Fronted) → IsGrouping r → Fronts net r f → width_of_keys f.keys ≡ key_width r f.source
-width_is net r f is h = width_first f.keys (key_width r f.source) (let m = h.keys_count in let s = is.some' in omega (arith, m, s)) (λ k b e. (h.keys k b e).1)
+pub width_is : (net : Net) (count key : ℕ) (source : List ℕ) (keys : List Bus) → 1 ≤ count → HaveKeys net count key source keys → width_of_keys keys ≡ slice_index source key
+width_is net count key source keys some h = width_first keys (slice_index source key) (let m = h.as_many in omega (arith, m, some)) (λ k b e. (h.each k b e).1)
 
-pub keys_are : (net : Net) (r : Grouping) (f : Fronted) → IsGrouping r → Fronts net r f → AreKeyBuses net f.keys
-keys_are net r f is h = record { each = λ k b e. (h.keys k b e).0; same_width = λ k b e. (h.keys k b e).1 ∙ sym (width_is net r f is h) }
+pub keys_are : (net : Net) (count key : ℕ) (source : List ℕ) (keys : List Bus) → 1 ≤ count → HaveKeys net count key source keys → AreKeyBuses net keys
+keys_are net count key source keys some h = record { each = λ k b e. (h.each k b e).0; same_width = λ k b e. (h.each k b e).1 ∙ sym (width_is net count key source keys some h) }
+
+-- what joins all copies with their keys is a back, if the whole serves what it should one cycle behind them
+pub keyed_backed : (old new : Net) (count key : ℕ) (front_cost : List ℕ → Cost) (feeds : Feeding) (serves : Giving) (f : Front) (copies : List Emitted) (e : Emitted) → 1 ≤ count
+    → Fronts old (keyed_machine count key front_cost feeds serves) f → length copies ≡ count → JoinsAll old new f.source.faults f.further f.close f.keys copies e
+    → ((run : Run) → IsRun new run → IsDelayed 1 (record { tuple = tuple_of_any (with_keys (held_of run f.keys) (gives_of run copies)) count; ends = line_at run f.close }) (carried run e.wire)
+    → serves (line_of run None) (carried run f.source.wire) (feed_of run f) (gives_of run copies) (told_of run copies) (carried run e.wire))
+    → IsBacked old new (keyed_machine count key front_cost feeds serves) f copies e
+keyed_backed old new count key front_cost feeds serves f copies e some h many j serving =
+    let source : List ℕ = widths f.source.wire.columns in
+    let width : width_of_keys f.keys ≡ slice_index source key = width_is old count key source f.keys some h.keys in
+    record {
+      keeps = j.keeps;
+      cost = subst (λ (n : ℕ). CostsAtMost old new (cost_of_back n (slice_index source key ∷ columns_of copies))) many
+          (subst (λ (n : ℕ). CostsAtMost old new (cost_of_back (length copies) (n ∷ columns_of copies))) width j.cost);
+      wire = j.wire;
+      same_widths = j.same_widths ∙ ap (λ n. n ∷ columns_of copies) width;
+      lines = j.lines;
+      told = λ run z.
+          subst (λ (n : ℕ). SameLines (lines_of run e.faults) (both_lines (lines_of run f.source.faults) (both_lines (lines_of_all (told_of run copies) n) (line_of_further (line_of run f.further))))) many (j.told run z);
+      serves = λ run z.
+          serving run z (subst (λ (n : ℕ). IsDelayed 1 (record { tuple = tuple_of_any (with_keys (held_of run f.keys) (gives_of run copies)) n; ends = line_at run f.close }) (carried run e.wire)) many (j.delayed run z));
+    }
 
 -- a back behind copies of a front
-pub is_backed : (old new : Net) (r : Grouping) (f : Fronted) (copies : List Emitted) (e : Emitted) → IsGrouping r → Fronts old r f → length copies ≡ r.slots
-    → JoinsAll old new f.source.faults f.further f.close f.keys copies e → IsBacked old new r f copies e
-is_backed old new r f copies e is h many j = record {
-  keeps = j.keeps;
-  cost = subst (λ (n : ℕ). CostsAtMost old new (cost_of_back n (columns_with_key r f copies))) many
-      (subst (λ (n : ℕ). CostsAtMost old new (cost_of_back (length copies) (n ∷ columns_of copies))) (width_is old r f is h) j.cost);
-  wire = j.wire;
-  same_widths = j.same_widths ∙ ap (λ n. n ∷ columns_of copies) (width_is old r f is h);
-  lines = j.lines;
-  told = λ run z.
-      subst (λ (n : ℕ). SameLines (lines_of run e.faults) (both_lines (lines_of run f.source.faults) (both_lines (lines_of_all (told_of run copies) n) (line_of_further (line_at run f.further))))) many (j.told run z);
-  serves = λ run z source sound.
-      let run_old = j.keeps.runs run z in
-      groupings_serve r source (carried run f.source.wire) (carried run e.wire) (held_of run f.keys) (carried_of run f.wires) (gives_of run copies) (line_at run f.close) (line_at run f.further) (told_of run copies)
-      is sound (h.front run run_old) (h.shown run run_old) (h.told run run_old) (h.closes run run_old)
-      (subst (λ (n : ℕ). IsDelayed 1 (record { tuple = tuple_of_any (with_keys (held_of run f.keys) (gives_of run copies)) n; ends = line_at run f.close }) (carried run e.wire)) many (j.delayed run z));
-}
+pub is_backed : (old new : Net) (r : Grouping) (f : Front) (copies : List Emitted) (e : Emitted) → IsGrouping r → Fronts old (grouping_machine r) f → length copies ≡ r.slots
+    → JoinsAll old new f.source.faults f.further f.close f.keys copies e → IsBacked old new (grouping_machine r) f copies e
+is_backed old new r f copies e is h many j = keyed_backed old new r.slots r.key _ _ _ f copies e is.some' h many j serving
+  where
+    serving : (run : Run) → IsRun new run → IsDelayed 1 (record { tuple = tuple_of_any (with_keys (held_of run f.keys) (gives_of run copies)) r.slots; ends = line_at run f.close }) (carried run e.wire)
+        → (source : Figures) → IsSound source
+        → ServesGroups r source (carried run f.source.wire) (carried_of run f.wires) (gives_of run copies) (told_of run copies) (line_of run f.further) (carried run e.wire)
+    serving run z delayed source sound =
+        let fed = h.feeds run (j.keeps.runs run z) in
+        groupings_serve r source (carried run f.source.wire) (carried run e.wire) (held_of run f.keys) (carried_of run f.wires) (gives_of run copies) (line_at run f.close) (line_of run f.further) (told_of run copies)
+        is sound fed.front fed.shown fed.told fed.closes delayed

@@ -13,7 +13,7 @@ use Rattle.gl_wire.specs.Wire.{line_at}
 use Rattle.gl_wire.proofs.ColumnLemmas.{bus_kept}
 use Rattle.gl_wire.proofs.GateLemmas.{choose_line}
 use Rattle.gl_wire_registers.specs.Held.{held_at, with_registers}
-use Rattle.gl_wire_registers.specs.Lines.{AddsLines, any_to, line_of}
+use Rattle.gl_wire_registers.specs.Lines.{AddsLines, any_to, held_of, line_of}
 use Rattle.gl_wire_registers.proofs.LineLemmas.{line_of-first}
 use Rattle.gl_wire_registers.proofs.RegisterLemmas.{grown_bus}
 use Rattle.gl_groups.specs.declared.slots.Seen.{Seen}
@@ -21,7 +21,7 @@ use Rattle.gl_groups.specs.declared.slots.SlotLines.{SlotLines}
 use Rattle.gl_groups.specs.Homes.{AddsMark, AreMarks, IsMark, keeper}
 use Rattle.gl_groups.specs.Picks.{AddsNumbers, IsPicked, PicksOne}
 use Rattle.gl_groups.specs.Seeking.{Sought, asks, found, has, is_next, kept}
-use Rattle.gl_groups.specs.SlotLines.{AddsKept, AddsSlots, AreKept, AreSeen, AreSlotLines, FindsKey, IsLatest, IsSeen, held_of, same_to, sought_at}
+use Rattle.gl_groups.specs.SlotLines.{AddsKept, AddsSlots, AreKept, AreSeen, AreSlotLines, FindsKey, IsLatest, IsSeen, same_to, sought_at}
 use Rattle.gl_groups.proofs.HomeLemmas.{InOrder, Marks, marks_then, order_next}
 use Rattle.gl_groups.proofs.SeenNet.{seen_kept, seen_opened}
 

@@ -1,5 +1,5 @@
 -- The lines and the wires of copies behind slots, one copy more at a time.
-use Rattle.std.proofs.Common.{◌≡◌, ℕ, zero, suc, ◌+◌, ◌*◌, ◌<◌, List, [], ◌∷◌, ◌++◌, length, Some, None, Bool, true, false, refl, sym, ap, ◌∙◌, subst, arith, inl, inr, length-append}
+use Rattle.std.proofs.Common.{◌≡◌, ℕ, zero, suc, ◌+◌, ◌*◌, ◌<◌, List, [], ◌∷◌, ◌++◌, length, Option, Some, None, Bool, true, false, refl, sym, ap, ◌∙◌, subst, arith, inl, inr, length-append}
 use Rattle.std.specs.Prelude.{slice_get, if◌then◌else◌}
 use Rattle.std.proofs.lemmas.Bool.{cases_lt}
 use Rattle.gl_bits.proofs.AllLists.{get_below, get_front, get_last, get_mapped, get_there}
@@ -20,11 +20,10 @@ use Rattle.gl_wire_copies.specs.Lift.{tuple_of_any}
 use Rattle.gl_wire_copies.specs.Rotates.{lines_of_all}
 use Rattle.gl_wire_registers.specs.Backs.{AreWires, JoinsCopies}
 use Rattle.gl_wire_registers.specs.Held.{held_at}
-use Rattle.gl_wire_registers.specs.Lines.{carried_of}
+use Rattle.gl_wire_registers.specs.Lines.{carried_of, held_of}
 use Rattle.gl_wire_registers.proofs.RowLemmas.{carried_of-get}
 use Rattle.gl_wire_registers.proofs.BackLemmas.{merge_within, tuples_same}
 use Rattle.gl_wire_registers.proofs.JoinLemmas.{or_more, copies_kept, columns_at}
-use Rattle.gl_groups.specs.SlotLines.{held_of}
 use Rattle.gl_groups.specs.Groupings.{in_front, with_keys}
 use Rattle.gl_groups.specs.Joins.{AreKeyBuses, AreKeyed, JoinsAll, JoinsFaults, keyed_wire, width_of_keys}
 use Rattle.gl_wire_registers.specs.Joins.{AreCopies, JoinsLines, columns_of, gives_of, told_of, wires_of}
@@ -32,10 +31,10 @@ use Rattle.gl_groups.proofs.SlotNet.{held_of-get}
 
 -- ---- lines
 
-abbrev pub own_line : Bit → Faults
-own_line further = record { passed = None; further = Some further }
+abbrev pub own_line : Option Bit → Faults
+own_line further = record { passed = None; further = further }
 
-pub faults_are : (old mid new : Net) (source faults out : Faults) (further : Bit) (copies : List Emitted) → JoinsLines old mid source copies (length copies) faults → AreBoth mid new faults (own_line further) out
+pub faults_are : (old mid new : Net) (source faults out : Faults) (further : Option Bit) (copies : List Emitted) → JoinsLines old mid source copies (length copies) faults → AreBoth mid new faults (own_line further) out
     → JoinsFaults old new source further copies out
 faults_are old mid new source faults out further copies h b = record {
   keeps = keeps_then old mid new h.keeps b.keeps;
@@ -51,7 +50,7 @@ faults_are old mid new source faults out further copies h b = record {
       let all : Lines = lines_of_all (told_of run copies) (length copies) in
       record {
         passed = λ c. or_more (line_of run source.passed c) (all.passed c) false (line_of run faults.passed c) (line_of run out.passed c) (both.passed c) (before.passed c);
-        further = λ c. or_more (line_of run source.further c) (all.further c) (line_at run further c) (line_of run faults.further c) (line_of run out.further c) (both.further c) (before.further c);
+        further = λ c. or_more (line_of run source.further c) (all.further c) (line_of run further c) (line_of run faults.further c) (line_of run out.further c) (both.further c) (before.further c);
       };
 }
 
@@ -148,7 +147,7 @@ module _ (copies : List Emitted) (keys bs : List Bus) (e : Emitted) (b : Bus) (h
     wires_there old new keeps h i =
         subst (AreWires new ws) (sym bs_widths) (are_wires new copies keys ws same_count keyed (copies_kept old new copies keeps h) (keys_kept old new keys keeps i))
 
-    pub joins_all : (old mid new : Net) (source faults : Faults) (further close : Bit) (w : Wire) → JoinsFaults old mid source further copies faults → JoinsCopies mid new ws close (widths bs) w
+    pub joins_all : (old mid new : Net) (source faults : Faults) (further : Option Bit) (close : Bit) (w : Wire) → JoinsFaults old mid source further copies faults → JoinsCopies mid new ws close (widths bs) w
         → JoinsAll old new source further close keys copies (record { wire = w; faults = faults })
     joins_all old mid new source faults further close w h joined = record {
       keeps = keeps_then old mid new h.keeps j.keeps;

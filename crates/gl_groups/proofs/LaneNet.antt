@@ -8,7 +8,7 @@ use Rattle.gl_wire.specs.Wire.{Carried, carried, line_at, row_at, tuple_at}
 use Rattle.gl_wire_lanes.specs.Lanes.{Lane}
 use Rattle.gl_wire_lanes.specs.Shares.{lane_of, share, slot_of}
 use Rattle.gl_wire_registers.specs.Held.{held_at}
-use Rattle.gl_wire_registers.specs.Lines.{any_to, line_of}
+use Rattle.gl_wire_registers.specs.Lines.{any_to, held_of, line_of}
 use Rattle.gl_wire_registers.proofs.LineLemmas.{any_same}
 use Rattle.gl_groups.specs.declared.lane.LaneLines.{LaneLines}
 use Rattle.gl_groups.specs.Ahead.{sought_in}
@@ -17,7 +17,7 @@ use Rattle.gl_groups.specs.Firsts.{TellsNew, ends_at, is_begun, takes_row_at}
 use Rattle.gl_groups.specs.Fronts.{KeysCome, column_of}
 use Rattle.gl_groups.specs.Groupings.{AreKeys, AwaitsTurns}
 use Rattle.gl_groups.specs.Lanes.{IsLane}
-use Rattle.gl_groups.specs.SlotLines.{TakeKeys, held_of}
+use Rattle.gl_groups.specs.SlotLines.{TakeKeys}
 use Rattle.gl_groups.specs.Slots.{AreSlots, freed, further_line, is_further, keys_at, slot_at, slot_ends_at, slot_takes, slots_at}
 use Rattle.gl_groups.proofs.EventLemmas.{IsOne, TellsFirst, begins_are, share_end, share_row, within}
 use Rattle.gl_groups.proofs.FirstLemmas.{first_awaited}

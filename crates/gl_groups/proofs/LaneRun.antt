@@ -11,7 +11,7 @@ use Rattle.gl_wire.specs.Wire.{carried, line_at, row_at, tuple_at}
 use Rattle.gl_wire.proofs.ColumnLemmas.{row_at-value}
 use Rattle.gl_wire_lanes.specs.Shares.{slot_of}
 use Rattle.gl_wire_registers.specs.Held.{counted_down, held_at}
-use Rattle.gl_wire_registers.specs.Lines.{any_to, line_of}
+use Rattle.gl_wire_registers.specs.Lines.{any_to, held_of, line_of}
 use Rattle.gl_wire_registers.proofs.LineLemmas.{line_of-first}
 use Rattle.gl_groups.specs.declared.finding.Asking.{Asking}
 use Rattle.gl_groups.specs.declared.finding.SlotsFound.{SlotsFound}
@@ -26,7 +26,6 @@ use Rattle.gl_groups.specs.Fronts.{column_of}
 use Rattle.gl_groups.specs.Lanes.{IsLate, IsTold, end_line, row_line, slot_number}
 use Rattle.gl_groups.specs.Parts.{IsFlush}
 use Rattle.gl_groups.specs.Seeking.{found, has, is_next, kept}
-use Rattle.gl_groups.specs.SlotLines.{held_of}
 use Rattle.gl_groups.specs.Slots.{Slots, is_further, keys_at, no_slots, slot_at, slot_ends_at, slot_takes, slots_at}
 use Rattle.gl_groups.specs.Telling.{passes_in, row_told, slot_told, turn_of}
 use Rattle.gl_groups.specs.Values.{Cycle, Mirrors, Steps, Values, due_of, end_of, sought_of, valid_of}

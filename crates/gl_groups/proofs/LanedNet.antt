@@ -19,7 +19,7 @@ use Rattle.gl_wire_lanes.specs.declared.table.TableOut.{TableOut}
 use Rattle.gl_wire_lanes.specs.Shares.{share, slot_of}
 use Rattle.gl_wire_registers.specs.Held.{held_at}
 use Rattle.gl_wire_memories.specs.Memories.{IsHeld, IsStored}
-use Rattle.gl_wire_registers.specs.Lines.{AddsLine, AddsLines, any_line, any_to, gates_of, line_of}
+use Rattle.gl_wire_registers.specs.Lines.{AddsLine, AddsLines, any_line, any_to, gates_of, held_of, line_of}
 use Rattle.gl_wire_registers.specs.Timers.{IsClose, IsCloseLine}
 use Rattle.gl_wire_registers.proofs.LineLemmas.{bits_kept, gates_some}
 use Rattle.gl_groups.specs.declared.grouping.Grouping.{Grouping}
@@ -30,7 +30,7 @@ use Rattle.gl_groups.specs.Joins.{AreKeyBuses, width_of_keys}
 use Rattle.gl_groups.specs.Laned.{AddsKey, IsGathered, IsLaned, words_of_keys}
 use Rattle.gl_groups.specs.Lanes.{AddsLane, IsLane}
 use Rattle.gl_groups.specs.Picks.{AddsNumbers, AreAlike, PicksOne, bits_of_slots}
-use Rattle.gl_groups.specs.SlotLines.{OneAtMost, TakeKeys, held_of, same_to}
+use Rattle.gl_groups.specs.SlotLines.{OneAtMost, TakeKeys, same_to}
 use Rattle.gl_groups.proofs.EventLemmas.{any_here, any_there}
 use Rattle.gl_groups.proofs.FurtherLemmas.{further_came}
 use Rattle.gl_groups.proofs.GroupedNet.{setting_of}

@@ -21,7 +21,7 @@ tuple_of v x = if v then Some x else None
 abbrev pub base : Bool → Bool → Slots → List ℕ
 base e v s = if s.flush && (v || e) then [] else s.keys
 
-keys_are : (count : ℕ) (key : Row → ℕ) (e v : Bool) (x : Row) (s : Slots) → keys_now count key e (tuple_of v x) s ≡ joined count v (key x) (base e v s)
+pub keys_are : (count : ℕ) (key : Row → ℕ) (e v : Bool) (x : Row) (s : Slots) → keys_now count key e (tuple_of v x) s ≡ joined count v (key x) (base e v s)
 keys_are count key true true x s = ap (λ b. with_tuple count key (Some x) (if b then [] else s.keys)) (sym (and-true s.flush))
 keys_are count key true false x s = ap (λ b. if b then [] else s.keys) (sym (and-true s.flush))
 keys_are count key false true x s = ap (λ b. with_tuple count key (Some x) (if b then [] else s.keys)) (sym (and-true s.flush))

@@ -18,12 +18,11 @@ use Rattle.gl_wire.specs.Wire.{line_at}
 use Rattle.gl_wire.proofs.ColumnLemmas.{bus_kept}
 use Rattle.gl_wire.proofs.GateLemmas.{choose_line}
 use Rattle.gl_wire_registers.specs.Held.{held_at}
-use Rattle.gl_wire_registers.specs.Lines.{line_of}
+use Rattle.gl_wire_registers.specs.Lines.{held_of, line_of}
 use Rattle.gl_wire_registers.proofs.HalfLemmas.{AreHalves, get_behind, halves}
 use Rattle.gl_wire_registers.proofs.LineLemmas.{line_of-get}
 use Rattle.gl_wire_registers.proofs.RegisterLemmas.{length_taken}
 use Rattle.gl_groups.specs.Picks.{AddsNumbers, AreAlike, CarriesZero, IsNumber, IsPicked, Masks, Merges, PicksOne}
-use Rattle.gl_groups.specs.SlotLines.{held_of}
 use Rattle.gl_groups.proofs.SlotNet.{held_of-get, held_of-new, held_of-old}
 
 pub masks_are : (old new : Net) (line : Bit) (bus z b : Bus) → Keeps old new → Costs old new (nodes_alone 1) → IsBus new b → b.width ≡ bus.width → CarriesZero old z

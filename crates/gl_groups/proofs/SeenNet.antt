@@ -13,7 +13,7 @@ use Rattle.gl_wire.specs.Wire.{line_at}
 use Rattle.gl_wire.proofs.ColumnLemmas.{bit_kept, bus_kept}
 use Rattle.gl_wire_registers.specs.Held.{held_at}
 use Rattle.gl_wire_registers.specs.declared.lines.LineOp.TheVariants.{Either, ButNot}
-use Rattle.gl_wire_registers.specs.Lines.{AddsLines, any_to, gates_of, line_of, pairs, to_bit, to_bus, with_line}
+use Rattle.gl_wire_registers.specs.Lines.{AddsLines, any_to, gates_of, held_of, line_of, pairs, to_bit, to_bus, with_line}
 use Rattle.gl_wire_registers.specs.Registers.{DrivesAll, MayDrive, Opens}
 use Rattle.gl_wire_registers.proofs.CounterLemmas.{held_by}
 use Rattle.gl_wire_registers.proofs.FlagLemmas.{flag_next, flags_may, reg_start, reg_width, regs_count, same_bits, length_replicate}
@@ -25,7 +25,7 @@ use Rattle.gl_groups.specs.declared.slots.KeyLines.{KeyLines}
 use Rattle.gl_groups.specs.declared.slots.Seek.{Seek}
 use Rattle.gl_groups.specs.declared.slots.Seen.{Seen}
 use Rattle.gl_groups.specs.Seeking.{Sought, asked, asks, found, has, is_next, kept, takes}
-use Rattle.gl_groups.specs.SlotLines.{AddsAsks, AddsFound, AddsKept, AddsKeys, AddsNexts, AddsSeek, AddsSeen, AreKeyLines, AreKeysOf, AreSeen, FindsKey, IsSeen, asked_of, has_key, held_of, sought_at}
+use Rattle.gl_groups.specs.SlotLines.{AddsAsks, AddsFound, AddsKept, AddsKeys, AddsNexts, AddsSeek, AddsSeen, AreKeyLines, AreKeysOf, AreSeen, FindsKey, IsSeen, asked_of, has_key, sought_at}
 use Rattle.gl_groups.proofs.SeekLemmas.{asked_last, takes_last}
 use Rattle.gl_groups.proofs.SlotNet.{held_of-get, bits_opened}
 

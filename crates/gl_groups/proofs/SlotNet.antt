@@ -16,10 +16,10 @@ use Rattle.gl_wire.proofs.ColumnLemmas.{bit_kept, bus_kept}
 use Rattle.gl_wire.proofs.GateLemmas.{choose_line}
 use Rattle.gl_wire_registers.specs.Held.{held_at}
 use Rattle.gl_wire_registers.specs.declared.lines.LineOp.TheVariants.{Both, ButNot}
-use Rattle.gl_wire_registers.specs.Lines.{AddsLine, AddsLines, AreBits, any_line, any_to, gates_of, line_of, pairs, with_line}
+use Rattle.gl_wire_registers.specs.Lines.{AddsLine, AddsLines, AreBits, any_line, any_to, gates_of, held_of, line_of, pairs, with_line}
 use Rattle.gl_wire_registers.proofs.LineLemmas.{bits_kept, line_of-first, line_of-get, line_of-new, line_of-old}
 use Rattle.gl_groups.specs.Choices.{chosen_to}
-use Rattle.gl_groups.specs.SlotLines.{AddsAsks, AddsFound, AddsNexts, AreKeysOf, asked_of, has_key, held_of, same_to}
+use Rattle.gl_groups.specs.SlotLines.{AddsAsks, AddsFound, AddsNexts, AreKeysOf, asked_of, has_key, same_to}
 
 pub held_of-get : (run : Run) (bs : List Bus) (k : ℕ) (b : Bus) (t : ℕ) → slice_get bs k ≡ Some b → held_of run bs k t ≡ held_at 0 run b t
 unfolding held_of

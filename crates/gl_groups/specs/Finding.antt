@@ -7,7 +7,7 @@ use Rattle.gl_wire.specs.Costs.{Costs, nodes_alone}
 use Rattle.gl_wire.specs.Gates.{same_at}
 use Rattle.gl_wire.specs.Wire.{AreBuses, line_at}
 use Rattle.gl_wire_registers.specs.Held.{held_at, with_registers}
-use Rattle.gl_wire_registers.specs.Lines.{AreBits, any_to, gates_of, line_of}
+use Rattle.gl_wire_registers.specs.Lines.{AreBits, any_to, gates_of, held_of, line_of}
 use Rattle.gl_groups.specs.declared.finding.Asked.{Asked}
 use Rattle.gl_groups.specs.declared.finding.Asking.{Asking}
 use Rattle.gl_groups.specs.declared.finding.Many.{Many}
@@ -19,7 +19,7 @@ use Rattle.gl_groups.specs.Ahead.{Ahead, GoesOn, sought_in}
 use Rattle.gl_groups.specs.Picks.{AddsNumbers, IsPicked}
 use Rattle.gl_groups.specs.Seeking.{is_next, kept}
 use Rattle.gl_groups.specs.Telling.{passes_in}
-use Rattle.gl_groups.specs.SlotLines.{AreKeysOf, asked_of, held_of, same_to}
+use Rattle.gl_groups.specs.SlotLines.{AreKeysOf, asked_of, same_to}
 
 -- the lines that ask are in the netlist
 pub record AreAsking (net : Net) (a : Asking) : Type 0 where

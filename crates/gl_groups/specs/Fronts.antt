@@ -9,13 +9,13 @@ use Rattle.gl_wire.specs.declared.wire.Wire.{Wire}
 use Rattle.gl_wire.specs.Costs.{Costs, CostsAtMost}
 use Rattle.gl_wire.specs.Wire.{AreBuses, IsWire, carried, line_at, row_at, widths}
 use Rattle.gl_wire_registers.specs.Held.{counted_down, held_at, with_registers}
-use Rattle.gl_wire_registers.specs.Lines.{AreBits, carried_of, gates_of, line_of}
+use Rattle.gl_wire_registers.specs.Lines.{AreBits, carried_of, gates_of, held_of, line_of}
 use Rattle.gl_groups.specs.declared.front.Chosen.{Chosen}
 use Rattle.gl_groups.specs.declared.front.Front.{Front}
 use Rattle.gl_groups.specs.declared.front.Looked.{Looked}
 use Rattle.gl_groups.specs.declared.front.Lookup.{Lookup}
 use Rattle.gl_groups.specs.declared.front.Turning.{Turning}
-use Rattle.gl_groups.specs.SlotLines.{AreSeen, OneAtMost, TakeKeys, held_of}
+use Rattle.gl_groups.specs.SlotLines.{AreSeen, OneAtMost, TakeKeys}
 use Rattle.gl_groups.specs.Groupings.{AreKeys}
 use Rattle.gl_groups.specs.Slots.{AreSlots, further_line, is_further, keys_at, slot_at, slot_ends_at, slot_takes, slots_at}
 

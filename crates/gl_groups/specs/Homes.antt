@@ -5,10 +5,9 @@ use Rattle.gl_net.specs.Net.{Net, Run, IsRun, IsBus, Keeps}
 use Rattle.gl_wire.specs.Costs.{Costs, nodes_alone}
 use Rattle.gl_wire.specs.Wire.{line_at}
 use Rattle.gl_wire_registers.specs.Held.{held_at}
-use Rattle.gl_wire_registers.specs.Lines.{line_of}
+use Rattle.gl_wire_registers.specs.Lines.{held_of, line_of}
 use Rattle.gl_groups.specs.declared.slots.Seen.{Seen}
 use Rattle.gl_groups.specs.Picks.{AreAlike}
-use Rattle.gl_groups.specs.SlotLines.{held_of}
 
 -- the mark of one of n lines, where one at most is 1: its number from 1 on, and 0 where none is
 pub record IsMark (n : ℕ) (lines : ℕ → Bool) (mark : ℕ) : Type 0 where

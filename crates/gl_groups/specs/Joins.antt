@@ -1,5 +1,5 @@
 -- Copies behind slots, and what joins them.
-use Rattle.std.specs.Prelude.{◌≡◌, ℕ, ◌+◌, ◌*◌, ◌<◌, List, [], ◌∷◌, length, Some, slice_get}
+use Rattle.std.specs.Prelude.{◌≡◌, ℕ, ◌+◌, ◌*◌, ◌<◌, List, [], ◌∷◌, length, Option, Some, slice_get}
 use Rattle.gl_net.specs.declared.node.Bus.{Bus}
 use Rattle.gl_net.specs.declared.node.Bit.{Bit}
 use Rattle.gl_net.specs.Net.{Net, Run, IsRun, IsBus, Keeps}
@@ -7,14 +7,14 @@ use Rattle.gl_wire.specs.declared.emitted.Emitted.{Emitted}
 use Rattle.gl_wire.specs.declared.emitted.Faults.{Faults}
 use Rattle.gl_wire.specs.declared.wire.Wire.{Wire}
 use Rattle.gl_wire.specs.Costs.{CostsAtMost, nodes_alone}
-use Rattle.gl_wire.specs.Faults.{AreLines, lines_of}
+use Rattle.gl_wire.specs.Faults.{AreLines, line_of, lines_of}
 use Rattle.gl_wire.specs.Shapes.{IsDelayed}
 use Rattle.gl_wire.specs.Spills.{Lines, SameLines, both_lines}
 use Rattle.gl_wire.specs.Wire.{IsWire, carried, line_at, widths}
 use Rattle.gl_wire_copies.specs.Lift.{tuple_of_any}
 use Rattle.gl_wire_copies.specs.Rotates.{lines_of_all}
 use Rattle.gl_wire_registers.specs.Joins.{columns_of, gives_of, told_of}
-use Rattle.gl_groups.specs.SlotLines.{held_of}
+use Rattle.gl_wire_registers.specs.Lines.{held_of}
 use Rattle.gl_groups.specs.Costs.{cost_of_back}
 use Rattle.gl_groups.specs.Groupings.{line_of_further, with_keys}
 
@@ -39,12 +39,12 @@ pub record AreKeyed (copies : List Emitted) (keys : List Bus) (n : ℕ) (ws : Li
       → slice_get ws k ≡ Some (keyed_wire b e.wire)
 
 -- the lines of a source, of all copies, and that of further keys
-abbrev pub all_lines : Run → Faults → Bit → List Emitted → Lines
+abbrev pub all_lines : Run → Faults → Option Bit → List Emitted → Lines
 all_lines run source further copies =
     both_lines (lines_of run source) (both_lines (lines_of_all (told_of run copies) (length copies))
-    (line_of_further (line_at run further)))
+    (line_of_further (line_of run further)))
 
-pub record JoinsFaults (old new : Net) (source : Faults) (further : Bit) (copies : List Emitted) (faults : Faults)
+pub record JoinsFaults (old new : Net) (source : Faults) (further : Option Bit) (copies : List Emitted) (faults : Faults)
     : Type 0 where
   pub keeps : Keeps old new
   pub cost : CostsAtMost old new (nodes_alone (length copies * 2 + 2))
@@ -52,8 +52,8 @@ pub record JoinsFaults (old new : Net) (source : Faults) (further : Bit) (copies
   pub told : (run : Run) → IsRun new run → SameLines (lines_of run faults) (all_lines run source further copies)
 
 -- a wire behind copies, with the keys in front, and all lines
-pub record JoinsAll (old new : Net) (source : Faults) (further close : Bit) (keys : List Bus) (copies : List Emitted)
-    (e : Emitted) : Type 0 where
+pub record JoinsAll (old new : Net) (source : Faults) (further : Option Bit) (close : Bit) (keys : List Bus)
+    (copies : List Emitted) (e : Emitted) : Type 0 where
   pub keeps : Keeps old new
   pub cost : CostsAtMost old new (cost_of_back (length copies) (width_of_keys keys ∷ columns_of copies))
   pub wire : IsWire new e.wire

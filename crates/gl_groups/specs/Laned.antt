@@ -12,7 +12,7 @@ use Rattle.gl_wire.specs.Wire.{IsWire, carried, line_at, widths}
 use Rattle.gl_wire_lanes.specs.declared.table.TableOut.{TableOut}
 use Rattle.gl_wire_lanes.specs.Lanes.{Begins}
 use Rattle.gl_wire_lanes.specs.Shares.{lane_of, share, slot_of}
-use Rattle.gl_wire_registers.specs.Lines.{AreBits}
+use Rattle.gl_wire_registers.specs.Lines.{AreBits, held_of}
 use Rattle.gl_wire_registers.specs.Timers.{IsClose}
 use Rattle.gl_groups.specs.declared.grouping.Grouping.{Grouping}
 use Rattle.gl_groups.specs.declared.laning.Lane.{Lane}
@@ -20,7 +20,7 @@ use Rattle.gl_groups.specs.Fronts.{KeysCome}
 use Rattle.gl_groups.specs.Groupings.{AreKeys, AwaitsFlush, close_cycles, close_delay, in_front, key_of}
 use Rattle.gl_groups.specs.Joins.{width_of_keys}
 use Rattle.gl_groups.specs.Picks.{bits_of_slots}
-use Rattle.gl_groups.specs.SlotLines.{OneAtMost, TakeKeys, held_of}
+use Rattle.gl_groups.specs.SlotLines.{OneAtMost, TakeKeys}
 use Rattle.gl_groups.specs.Slots.{AreSlots, came_further}
 
 -- a lane of so many slots over a source of these columns, with the key in one of them, and the line of ends

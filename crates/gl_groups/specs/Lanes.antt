@@ -10,7 +10,7 @@ use Rattle.gl_wire.specs.Wire.{IsWire, carried, line_at, row_at, widths}
 use Rattle.gl_wire_lanes.specs.Lanes.{Begins}
 use Rattle.gl_wire_lanes.specs.Shares.{lane_of, share, slot_of}
 use Rattle.gl_wire_registers.specs.Held.{counted_down, held_at, with_registers}
-use Rattle.gl_wire_registers.specs.Lines.{AreBits, line_of}
+use Rattle.gl_wire_registers.specs.Lines.{AreBits, held_of, line_of}
 use Rattle.gl_groups.specs.declared.finding.Sought.{Sought}
 use Rattle.gl_groups.specs.declared.lane.HeldEnd.{HeldEnd}
 use Rattle.gl_groups.specs.declared.lane.LaneLines.{LaneLines}
@@ -20,7 +20,6 @@ use Rattle.gl_groups.specs.declared.lane.Told.{Told}
 use Rattle.gl_groups.specs.declared.lane.Turns.{Turns}
 use Rattle.gl_groups.specs.Fronts.{KeysCome, column_of}
 use Rattle.gl_groups.specs.Groupings.{AreKeys, AwaitsTurns}
-use Rattle.gl_groups.specs.SlotLines.{held_of}
 use Rattle.gl_groups.specs.Slots.{AreSlots, further_line}
 
 -- a wire one cycle behind another, with the columns of the row that came last

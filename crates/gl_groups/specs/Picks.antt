@@ -6,9 +6,8 @@ use Rattle.gl_net.specs.Net.{Net, Run, IsRun, IsBus, Keeps}
 use Rattle.gl_wire.specs.Costs.{Costs, nodes_alone}
 use Rattle.gl_wire.specs.Wire.{line_at}
 use Rattle.gl_wire_registers.specs.Held.{held_at}
-use Rattle.gl_wire_registers.specs.Lines.{line_of}
+use Rattle.gl_wire_registers.specs.Lines.{held_of, line_of}
 use Rattle.gl_wire_registers.specs.Numbers.{bits_below}
-use Rattle.gl_groups.specs.SlotLines.{held_of}
 
 -- the bits of a slot's number: the least, and at least one
 abbrev pub bits_of_slots : ℕ → ℕ

@@ -1,12 +1,12 @@
 -- Slots in registers, from the reset cycle on.
-use Rattle.std.specs.Prelude.{◌≡◌, ℕ, zero, suc, ◌+◌, ◌*◌, ◌<◌, List, [], ◌∷◌, length, Some, Bool, true, false, slice_get, if◌then◌else◌, nat_eq, not, ◌&&◌}
+use Rattle.std.specs.Prelude.{◌≡◌, ℕ, zero, suc, ◌+◌, ◌*◌, ◌<◌, List, length, Some, Bool, true, false, slice_get, if◌then◌else◌, nat_eq, not, ◌&&◌}
 use Rattle.gl_net.specs.declared.node.Bus.{Bus}
 use Rattle.gl_net.specs.declared.node.Bit.{Bit}
 use Rattle.gl_net.specs.Net.{Net, Run, IsRun, IsBit, IsBus, Keeps}
 use Rattle.gl_wire.specs.Costs.{Costs, nodes_alone}
 use Rattle.gl_wire.specs.Wire.{AreBuses, line_at}
 use Rattle.gl_wire_registers.specs.Held.{held_at, with_registers}
-use Rattle.gl_wire_registers.specs.Lines.{line_of, AreBits, any_to, gates_of}
+use Rattle.gl_wire_registers.specs.Lines.{held_of, line_of, AreBits, any_to, gates_of}
 use Rattle.gl_groups.specs.declared.slots.Asks.{Asks}
 use Rattle.gl_groups.specs.declared.slots.Found.{Found}
 use Rattle.gl_groups.specs.declared.slots.KeyLines.{KeyLines}
@@ -14,12 +14,6 @@ use Rattle.gl_groups.specs.declared.slots.Seek.{Seek}
 use Rattle.gl_groups.specs.declared.slots.Seen.{Seen}
 use Rattle.gl_groups.specs.declared.slots.SlotLines.{SlotLines}
 use Rattle.gl_groups.specs.Seeking.{Sought, asked, found, has, is_next, kept, takes}
-
--- the register of a slot
-unfoldable pub held_of : Run → List Bus → ℕ → ℕ → ℕ
-held_of run [] k t = 0
-held_of run (b ∷ bs) zero t = held_at 0 run b t
-held_of run (b ∷ bs) (suc k) t = held_of run bs k t
 
 -- keys as wide as this one are in the netlist
 pub record AreKeysOf (net : Net) (value : Bus) (keys : List Bus) : Type 0 where

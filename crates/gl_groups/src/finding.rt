@@ -75,6 +75,17 @@ pub struct Place {
     pub home: Bus,
 }
 
+/// What chooses the slot of a key.
+#[derive(Clone, Copy, PartialEq, Eq, Debug)]
+pub struct Choice {
+    /// 1 where a slot has the key.
+    pub one: Bit,
+    /// 1 where the key is another one than that of the row before.
+    pub moved: Bit,
+    /// The number of the slot that takes the key where none has it.
+    pub base: Bus,
+}
+
 /// What the slots make of a row's key.
 #[derive(Drop)]
 pub struct Sought {
@@ -220,7 +231,7 @@ pub fn find_one(
     })
 }
 
-/// Counts the slots that are used, in so many bits.
+/// Counts the slots that are used, in `width` bits.
 pub fn count_used(net: &mut NetBuilder, free: Bit, new: Bit, width: u8) -> Result<Many, Memory>
     requires free { IsBit net.old free }
     requires new { IsBit net.old new }
@@ -238,55 +249,53 @@ pub fn count_used(net: &mut NetBuilder, free: Bit, new: Bit, width: u8) -> Resul
 /// The number of the slot that has the key, or that takes it.
 pub fn find_place(
     net: &mut NetBuilder,
-    one: Bit,
-    moved: Bit,
+    choice: Choice,
     hits: &[Bit],
-    base: Bus,
     numbers: &[Bus],
 ) -> Result<Place, Memory>
-    requires one { IsBit net.old one }
-    requires moved { IsBit net.old moved }
+    requires one { IsBit net.old choice.one }
+    requires moved { IsBit net.old choice.moved }
     requires hits { AreBits net.old hits.now }
-    requires base { IsBus net.old base }
-    requires numbers { AreAlike net.old base.width numbers.now }
+    requires base { IsBus net.old choice.base }
+    requires numbers { AreAlike net.old choice.base.width numbers.now }
     requires count { length numbers.now ≡ length hits.now }
     requires some { 1 ≤ length hits.now }
-    ensures { IfOk result (AddsPlace net.old net.new one moved hits.now base numbers.now) }
+    ensures { IfOk result (AddsPlace net.old net.new
+        choice.one choice.moved hits.now choice.base numbers.now) }
 {
-    let home = net.register(base.width, None)?;
-    let met = pick(net, hits, numbers, base.width)?;
-    let there = net.choose(moved, met, home)?;
-    let number = net.choose(one, there, base)?;
+    let home = net.register(choice.base.width, None)?;
+    let met = pick(net, hits, numbers, choice.base.width)?;
+    let there = net.choose(choice.moved, met, home)?;
+    let number = net.choose(choice.one, there, choice.base)?;
     net.drive(home, number)?;
     Ok(Place { number, home })
 }
 
-// The number of the slot that has the key, or that takes it, of so many slots.
+// The number of the slot that has the key, or that takes it, of `count` slots.
 fn place_of(
     alloc: Global,
     net: &mut NetBuilder,
-    one: Bit,
-    moved: Bit,
+    choice: Choice,
     hits: &Bits,
-    base: Bus,
     count: u32,
 ) -> Result<Place, Memory>
-    requires one { IsBit net.old one }
-    requires moved { IsBit net.old moved }
+    requires one { IsBit net.old choice.one }
+    requires moved { IsBit net.old choice.moved }
     requires hits { AreBits net.old hits.now }
-    requires base { IsBus net.old base }
+    requires base { IsBus net.old choice.base }
     requires count { length hits.now ≡ count }
     requires some { 1 ≤ count }
-    requires fits { count ≤ 2 ^ base.width }
-    ensures { IfOk result (AddsPlaceOf net.old net.new one moved hits.now base count) }
+    requires fits { count ≤ 2 ^ choice.base.width }
+    ensures { IfOk result (AddsPlaceOf net.old net.new
+        choice.one choice.moved hits.now choice.base count) }
 {
-    let places = numbers(alloc, net, count, base.width)?;
+    let places = numbers(alloc, net, count, choice.base.width)?;
     // Named, since a goal speaks of the value.
-    let place = find_place(net, one, moved, hits.as_slice(), base, places.as_slice())?;
+    let place = find_place(net, choice, hits.as_slice(), places.as_slice())?;
     Ok(place)
 }
 
-/// What slots that are used make of a row's key, and their keys; numbers have so many bits.
+/// What slots that are used make of a row's key, and their keys; numbers have `width` bits.
 #[tactic(auto, using(gl_wire_registers::proofs::LineLemmas::bits_kept))]
 pub fn seek_slots(
     alloc: Global,
@@ -313,7 +322,12 @@ pub fn seek_slots(
     let new = but_not(net, asked.room, one.one)?;
     let passes = but_not(net, asked.full, one.one)?;
     let many = count_used(net, asking.free, new, width)?;
-    let place = place_of(alloc, net, one.one, moved, &hits, many.base, count)?;
+    let choice = Choice {
+        one: one.one,
+        moved,
+        base: many.base,
+    };
+    let place = place_of(alloc, net, choice, &hits, count)?;
     Ok(Sought {
         kept,
         keys,
@@ -348,7 +362,7 @@ pub fn stay_used(
     Ok(has)
 }
 
-/// So many slots in registers, and what they make of the key of the row that came one cycle ago.
+/// `count` slots in registers, and what they make of the key of the row that came one cycle ago.
 pub fn find_slots(
     alloc: Global,
     net: &mut NetBuilder,

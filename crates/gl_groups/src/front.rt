@@ -8,12 +8,25 @@ ghost use Rattle.gl_groups.specs.Fronts.{AddsChosen, AddsFront, AddsLooked, Adds
 
 use crate::homes::put_slots;
 use crate::parts::{count_flush, count_turns, keep_tail, take_rows, turn_lines};
-use crate::slots::Seen;
+use crate::slots::{Seen, Wanted};
 use gl_bits::Memory;
 use gl_net::{Bit, Bus, Buses, NetBuilder};
 use gl_wire::{Wire, later_bit};
-use gl_wire_registers::{Bits, LineOp, Wires, copy_wires, hold_all, pairwise};
+use gl_wire_registers::{Arrival, Bits, LineOp, Wires, copy_wires, hold_all, pairwise};
 use std::alloc::Global;
+
+/// The numbers of a front.
+#[derive(Clone, Copy, PartialEq, Eq, Debug)]
+pub struct Numbers {
+    /// The place of the key's column among the source's columns.
+    pub key: usize,
+    /// The slots.
+    pub slots: u32,
+    /// The cycles from one slot's turn to the next one's in a flush.
+    pub stride: u32,
+    /// The bits of what tells one slot from another.
+    pub width: u8,
+}
 
 /// The row that came last, and the key of the row that comes.
 #[derive(Drop)]
@@ -111,30 +124,33 @@ pub fn turn_slots(
     })
 }
 
-/// Looks at the slots, by the key in a column, whose ends are `stride` cycles apart in a flush; the mark of a slot has so many bits.
+/// Looks at the slots, by the key in a column; a slot's mark has `width` bits.
 #[tactic(auto, using(gl_wire_registers::proofs::LineLemmas::bits_kept, gl_wire::proofs::ColumnLemmas::buses_kept))]
 pub fn look_all(
     alloc: Global,
     net: &mut NetBuilder,
     wire: &Wire,
-    key: usize,
-    count: u32,
-    stride: u32,
-    width: u8,
+    numbers: Numbers,
 ) -> Result<Looked, Memory>
     requires wire { IsWire net.old wire.now }
-    requires key { key < length wire.now.columns }
-    requires count { 1 ≤ count }
-    requires stride { 1 ≤ stride }
-    requires width { IsWidth width }
-    requires fits { count < 2 ^ width }
-    ensures { IfOk result (AddsLooked net.old net.new key count stride width wire.now) }
+    requires key { numbers.key < length wire.now.columns }
+    requires count { 1 ≤ numbers.slots }
+    requires stride { 1 ≤ numbers.stride }
+    requires width { IsWidth numbers.width }
+    requires fits { numbers.slots < 2 ^ numbers.width }
+    ensures { IfOk result (AddsLooked net.old net.new
+        numbers.key numbers.slots numbers.stride numbers.width wire.now) }
 {
-    let flush = count_flush(net, wire.valid, wire.eos, stride)?;
+    let flush = count_flush(net, wire.valid, wire.eos, numbers.stride)?;
     let tail = keep_tail(net, wire.valid, wire.eos, flush.idle)?;
-    let look = look_up(alloc, net, wire, key)?;
-    let slots = put_slots(alloc, net, flush.free, wire.valid, look.here, count, width)?;
-    let turning = turn_slots(alloc, net, wire.eos, flush.due, count)?;
+    let look = look_up(alloc, net, wire, numbers.key)?;
+    let wanted = Wanted {
+        free: flush.free,
+        ask: wire.valid,
+        here: look.here,
+    };
+    let slots = put_slots(alloc, net, wanted, numbers.slots, numbers.width)?;
+    let turning = turn_slots(alloc, net, wire.eos, flush.due, numbers.slots)?;
     Ok(Looked {
         row: look.row,
         keys: slots.keys,
@@ -150,20 +166,18 @@ pub fn choose_slots(
     alloc: Global,
     net: &mut NetBuilder,
     wire: &Wire,
-    key: usize,
-    count: u32,
-    stride: u32,
-    width: u8,
+    numbers: Numbers,
 ) -> Result<Chosen, Memory>
     requires wire { IsWire net.old wire.now }
-    requires key { key < length wire.now.columns }
-    requires count { 1 ≤ count }
-    requires stride { 1 ≤ stride }
-    requires width { IsWidth width }
-    requires fits { count < 2 ^ width }
-    ensures { IfOk result (AddsChosen net.old net.new key count stride width wire.now) }
+    requires key { numbers.key < length wire.now.columns }
+    requires count { 1 ≤ numbers.slots }
+    requires stride { 1 ≤ numbers.stride }
+    requires width { IsWidth numbers.width }
+    requires fits { numbers.slots < 2 ^ numbers.width }
+    ensures { IfOk result (AddsChosen net.old net.new
+        numbers.key numbers.slots numbers.stride numbers.width wire.now) }
 {
-    let look = look_all(alloc, net, wire, key, count, stride, width)?;
+    let look = look_all(alloc, net, wire, numbers)?;
     let ends = pairwise(alloc, net, LineOp::Both, &look.turns, &look.seen.has)?;
     let has_key = pairwise(
         alloc,
@@ -172,7 +186,12 @@ pub fn choose_slots(
         &look.seen.found,
         &look.seen.takes,
     )?;
-    let takes = take_rows(alloc, net, wire.valid, wire.eos, look.tail, &has_key, &ends)?;
+    let comes = Arrival {
+        valid: wire.valid,
+        eos: wire.eos,
+        tail: look.tail,
+    };
+    let takes = take_rows(alloc, net, comes, &has_key, &ends)?;
     Ok(Chosen {
         row: look.row,
         keys: look.keys,
@@ -182,25 +201,23 @@ pub fn choose_slots(
     })
 }
 
-/// The wires of so many slots, by the key in a column, whose ends are `stride` cycles apart in a flush.
+/// The wires of the slots, by the key in a column.
 pub fn put_front(
     alloc: Global,
     net: &mut NetBuilder,
     wire: &Wire,
-    key: usize,
-    count: u32,
-    stride: u32,
-    width: u8,
+    numbers: Numbers,
 ) -> Result<Front, Memory>
     requires wire { IsWire net.old wire.now }
-    requires key { key < length wire.now.columns }
-    requires count { 1 ≤ count }
-    requires stride { 1 ≤ stride }
-    requires width { IsWidth width }
-    requires fits { count < 2 ^ width }
-    ensures { IfOk result (AddsFront net.old net.new key count stride width wire.now) }
+    requires key { numbers.key < length wire.now.columns }
+    requires count { 1 ≤ numbers.slots }
+    requires stride { 1 ≤ numbers.stride }
+    requires width { IsWidth numbers.width }
+    requires fits { numbers.slots < 2 ^ numbers.width }
+    ensures { IfOk result (AddsFront net.old net.new
+        numbers.key numbers.slots numbers.stride numbers.width wire.now) }
 {
-    let chosen = choose_slots(alloc, net, wire, key, count, stride, width)?;
+    let chosen = choose_slots(alloc, net, wire, numbers)?;
     let wires = copy_wires(alloc, net, &chosen.takes, &chosen.ends, &chosen.row)?;
     let further = later_bit(net, chosen.passes)?;
     Ok(Front {

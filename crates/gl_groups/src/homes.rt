@@ -8,9 +8,9 @@ ghost use Rattle.gl_groups.specs.Picks.{AddsNumbers, bits_of_slots};
 ghost use Rattle.gl_groups.specs.SlotLines.{AddsSlots, AreSeen};
 
 use crate::pick::{number, pick, slot_bits};
-use crate::slots::{Seen, SlotLines, keep_slots, same_each};
+use crate::slots::{Seen, SlotLines, Wanted, keep_slots, same_each};
 use gl_bits::Memory;
-use gl_net::{Bit, Bus, Buses, NetBuilder};
+use gl_net::{Bus, Buses, NetBuilder};
 use gl_wire_registers::word;
 use std::alloc::Global;
 
@@ -52,28 +52,27 @@ pub fn mark_slot(net: &mut NetBuilder, seen: &Seen, marks: &[Bus], width: u8) ->
 }
 
 /// All slots in their registers, which look for the key at once: that of the row that comes, or else of the one that came last. A mark has
-/// so many bits.
+/// `width` bits.
 pub fn put_slots(
     alloc: Global,
     net: &mut NetBuilder,
-    free: Bit,
-    ask: Bit,
-    here: Bus,
+    wanted: Wanted,
     count: u32,
     width: u8,
 ) -> Result<SlotLines, Memory>
-    requires free { IsBit net.old free }
-    requires ask { IsBit net.old ask }
-    requires here { IsBus net.old here }
+    requires free { IsBit net.old wanted.free }
+    requires ask { IsBit net.old wanted.ask }
+    requires here { IsBus net.old wanted.here }
     requires count { 1 ≤ count }
     requires width { IsWidth width }
     requires fits { count < 2 ^ width }
-    ensures { IfOk result (AddsSlots net.old net.new free ask here count width) }
+    ensures { IfOk result (AddsSlots net.old net.new
+        wanted.free wanted.ask wanted.here count width) }
 {
     let marks = marks(alloc, net, count, width)?;
     let home = net.register(width, Some(word(0, width)))?;
     let homes = same_each(alloc, net, home, marks.as_slice())?;
-    let slots = keep_slots(alloc, net, free, ask, here, &homes, count)?;
+    let slots = keep_slots(alloc, net, wanted, &homes, count)?;
     let next = mark_slot(net, &slots.seen, marks.as_slice(), width)?;
     net.drive(home, next)?;
     Ok(slots)

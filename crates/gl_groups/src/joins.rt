@@ -2,14 +2,14 @@
 
 ghost use Rattle.std.specs.Prelude.{◌≡◌, ◌≤◌, ◌∷◌, IfOk, length};
 ghost use Rattle.gl_net.specs.Net.{IsBit};
-ghost use Rattle.gl_wire.specs.Faults.{AreLines};
+ghost use Rattle.gl_wire.specs.Faults.{AreLines, IsLine};
 ghost use Rattle.gl_groups.specs.Joins.{AreKeyBuses, AreKeyed, JoinsAll, JoinsFaults, keyed_wire};
 ghost use Rattle.gl_wire_registers.specs.Joins.{AreCopies, HaveLines};
 
 use gl_bits::Memory;
 use gl_net::{Bit, Bus, Buses, NetBuilder};
 use gl_wire::{Emitted, Faults, Wire, both_faults};
-use gl_wire_registers::{Wires, join_copies, join_lines};
+use gl_wire_registers::{Front, Wires, join_copies, join_lines};
 use std::alloc::Global;
 
 /// A bus in front of others.
@@ -53,46 +53,51 @@ pub fn key_wires(alloc: Global, copies: &[Emitted], keys: &[Bus]) -> Result<Wire
 pub fn join_faults(
     net: &mut NetBuilder,
     source: Faults,
-    further: Bit,
+    further: Option<Bit>,
     copies: &[Emitted],
 ) -> Result<Faults, Memory>
     requires source { AreLines net.old source }
-    requires further { IsBit net.old further }
+    requires further { IsLine net.old further }
     requires copies { HaveLines net.old copies.now }
     ensures { IfOk result (JoinsFaults net.old net.new source further copies.now) }
 {
     let faults = join_lines(net, source, copies)?;
     let own = Faults {
         passed: None,
-        further: Some(further),
+        further,
     };
     // Named, since a goal speaks of the value.
     let all = both_faults(net, faults, own)?;
     Ok(all)
 }
 
-/// What all copies carry on one wire, a cycle later, with the keys of their slots in front and the ends of a line, and all lines together.
+/// What all copies behind a front carry on one wire, a cycle later, with their keys in front and the ends of its line, and all lines together.
 pub fn join_all(
     alloc: Global,
     net: &mut NetBuilder,
-    source: Faults,
-    further: Bit,
-    close: Bit,
-    keys: &[Bus],
+    front: &Front,
     copies: &[Emitted],
 ) -> Result<Emitted, Memory>
-    requires source { AreLines net.old source }
-    requires further { IsBit net.old further }
-    requires close { IsBit net.old close }
-    requires keys { AreKeyBuses net.old keys.now }
-    requires keys_count { length keys.now ≡ length copies.now }
+    requires source { AreLines net.old front.now.source.faults }
+    requires further { IsLine net.old front.now.further }
+    requires close { IsBit net.old front.now.close }
+    requires keys { AreKeyBuses net.old front.now.keys }
+    requires keys_count { length front.now.keys ≡ length copies.now }
     requires copies { AreCopies net.old copies.now }
     requires some_copy { 1 ≤ length copies.now }
-    ensures { IfOk result (JoinsAll net.old net.new source further close keys.now copies.now) }
+    ensures { IfOk result (JoinsAll net.old net.new front.now.source.faults front.now.further
+        front.now.close front.now.keys copies.now) }
 {
-    let faults = join_faults(net, source, further, copies)?;
+    let keys = front.keys.as_slice();
+    let faults = join_faults(net, front.source.faults, front.further, copies)?;
     let wires = key_wires(alloc, copies, keys)?;
     let columns = with_first(alloc, keys[0], copies[0].wire.columns.as_slice())?;
-    let wire = join_copies(alloc, net, wires.as_slice(), close, columns.as_slice())?;
+    let wire = join_copies(
+        alloc,
+        net,
+        wires.as_slice(),
+        front.close,
+        columns.as_slice(),
+    )?;
     Ok(Emitted { wire, faults })
 }

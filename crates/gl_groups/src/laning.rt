@@ -9,6 +9,7 @@ ghost use Rattle.gl_groups.specs.Joins.{AreKeyBuses, width_of_keys};
 ghost use Rattle.gl_groups.specs.Laned.{AddsKey, IsGathered, IsLaned, words_of_keys};
 ghost use Rattle.gl_groups.specs.Picks.{bits_of_slots};
 
+use crate::front::Numbers;
 use crate::grouping::Grouping;
 use crate::joins::with_first;
 use crate::lane::put_lane;
@@ -19,7 +20,7 @@ use gl_net::{Bit, Bus, Buses, NetBuilder};
 use gl_wire::{Wire, stage};
 use gl_wire_lanes::TableOut;
 use gl_wire_memories::put_memory;
-use gl_wire_registers::{Bits, any, close_line};
+use gl_wire_registers::{Bits, any, close_line, stride};
 use std::alloc::Global;
 
 /// One wire for the streams of all slots.
@@ -128,10 +129,14 @@ impl Grouping {
         requires key { self.now.key < length source.now.columns }
         ensures { IfOk result (IsLaned net.old net.new self.now source.now) }
     {
-        let stride = self.stride();
         let cycles = self.cycles();
-        let width = slot_bits(self.slots);
-        let lane = put_lane(alloc, net, source, self.key, self.slots, stride, width)?;
+        let numbers = Numbers {
+            key: self.key,
+            slots: self.slots,
+            stride: stride(&self.body),
+            width: slot_bits(self.slots),
+        };
+        let lane = put_lane(alloc, net, source, numbers)?;
         let close = close_line(net, source.eos, cycles, 0)?;
         Ok(Lane {
             wire: lane.wire,

@@ -16,5 +16,5 @@ pub mod parts;
 pub mod pick;
 pub mod slots;
 
-pub use grouping::{Fronted, Grouping};
+pub use grouping::Grouping;
 pub use laning::Lane;

@@ -9,7 +9,8 @@ use gl_bits::Memory;
 use gl_net::{Bit, Bus, NetBuilder};
 use gl_wire::{both, but_not, either};
 use gl_wire_registers::{
-    Bits, LineOp, bits_to, count_down, latch, number_or, pairwise, when_equal, with_all,
+    Arrival, Bits, Counter, LineOp, bits_to, count_down, latch, number_or, pairwise, when_equal,
+    with_all,
 };
 use std::alloc::Global;
 
@@ -48,7 +49,7 @@ pub struct Tail {
     pub tail: Bit,
 }
 
-/// Counts the cycles between the ends of a flush.
+/// Counts the cycles between the ends of a flush. Windows have a part of their own: they have no slots to set free with what comes.
 pub fn count_flush(net: &mut NetBuilder, valid: Bit, eos: Bit, stride: u32) -> Result<Flush, Memory>
     requires valid { IsBit net.old valid }
     requires eos { IsBit net.old eos }
@@ -60,7 +61,13 @@ pub fn count_flush(net: &mut NetBuilder, valid: Bit, eos: Bit, stride: u32) -> R
     let flush = latch(net, eos, valid)?;
     let idle = but_not(net, flush, comes)?;
     let free = both(net, flush, comes)?;
-    let wait = count_down(net, eos, idle, bits_to(stride - 1), 0, last, last)?;
+    let counter = Counter {
+        width: bits_to(stride - 1),
+        start: 0,
+        cleared: last,
+        again: last,
+    };
+    let wait = count_down(net, eos, idle, counter)?;
     let due = when_equal(net, idle, wait, 0)?;
     Ok(Flush {
         flush,
@@ -80,13 +87,19 @@ pub fn count_turns(net: &mut NetBuilder, eos: Bit, due: Bit, count: u32) -> Resu
 {
     let all = u128::from(count);
     let others = u128::from(count - 1);
-    let rest = count_down(net, eos, due, bits_to(count), all, others, 0)?;
+    let counter = Counter {
+        width: bits_to(count),
+        start: all,
+        cleared: others,
+        again: 0,
+    };
+    let rest = count_down(net, eos, due, counter)?;
     let at = number_or(net, eos, all, rest)?;
     let trigger = either(net, eos, due)?;
     Ok(Turns { rest, at, trigger })
 }
 
-/// Keeps whether a tuple came with the end.
+/// Keeps whether a tuple came with the end. `idle` is 0 where the next end comes, so that no gate keeps the tail of the last one from it.
 pub fn keep_tail(net: &mut NetBuilder, valid: Bit, eos: Bit, idle: Bit) -> Result<Tail, Memory>
     requires valid { IsBit net.old valid }
     requires eos { IsBit net.old eos }
@@ -140,22 +153,21 @@ pub fn turn_lines(
 pub fn take_rows(
     alloc: Global,
     net: &mut NetBuilder,
-    valid: Bit,
-    eos: Bit,
-    tail: Bit,
+    comes: Arrival,
     matches: &Bits,
     ends: &Bits,
 ) -> Result<Bits, Memory>
-    requires valid { IsBit net.old valid }
-    requires eos { IsBit net.old eos }
-    requires tail { IsBit net.old tail }
+    requires valid { IsBit net.old comes.valid }
+    requires eos { IsBit net.old comes.eos }
+    requires tail { IsBit net.old comes.tail }
     requires matches { AreBits net.old matches.now }
     requires ends { AreBits net.old ends.now }
     requires count { length ends.now ≡ length matches.now }
-    ensures { IfOk result (TakesOf net.old net.new valid eos tail matches.now ends.now) }
+    ensures { IfOk result
+        (TakesOf net.old net.new comes.valid comes.eos comes.tail matches.now ends.now) }
 {
-    let alone = but_not(net, valid, eos)?;
-    let last = with_all(alloc, net, LineOp::Both, ends, tail)?;
+    let alone = but_not(net, comes.valid, comes.eos)?;
+    let last = with_all(alloc, net, LineOp::Both, ends, comes.tail)?;
     let may = with_all(alloc, net, LineOp::Either, &last, alone)?;
     let takes = pairwise(alloc, net, LineOp::Both, matches, &may)?;
     Ok(takes)

@@ -14,6 +14,17 @@ use gl_wire_registers::{
 };
 use std::alloc::Global;
 
+/// The key that is looked for.
+#[derive(Clone, Copy, PartialEq, Eq, Debug)]
+pub struct Wanted {
+    /// 1 where all slots are set free before.
+    pub free: Bit,
+    /// 1 where a row comes.
+    pub ask: Bit,
+    /// Its key.
+    pub here: Bus,
+}
+
 /// Which slots have the key that is looked for.
 #[derive(Drop)]
 pub struct Found {
@@ -109,25 +120,24 @@ pub fn find_all(
     net: &mut NetBuilder,
     used: &Bits,
     keys: &[Bus],
-    free: Bit,
-    ask: Bit,
-    here: Bus,
+    wanted: Wanted,
     homes: &Bits,
 ) -> Result<Found, Memory>
     requires used { AreBits net.old used.now }
-    requires keys { AreKeysOf net.old here keys.now }
+    requires keys { AreKeysOf net.old wanted.here keys.now }
     requires count { length keys.now ≡ length used.now }
-    requires free { IsBit net.old free }
-    requires ask { IsBit net.old ask }
-    requires here { IsBus net.old here }
+    requires free { IsBit net.old wanted.free }
+    requires ask { IsBit net.old wanted.ask }
+    requires here { IsBus net.old wanted.here }
     requires homes { AreBits net.old homes.now }
     requires homes_count { length homes.now ≡ length used.now }
     ensures { IfOk result
-        (AddsFound net.old net.new used.now keys.now free ask here homes.now) }
+        (AddsFound net.old net.new used.now keys.now
+        wanted.free wanted.ask wanted.here homes.now) }
 {
-    let kept = with_all(alloc, net, LineOp::ButNot, used, free)?;
-    let same = same_each(alloc, net, here, keys)?;
-    let has = choose_each(alloc, net, ask, same.as_slice(), homes.as_slice())?;
+    let kept = with_all(alloc, net, LineOp::ButNot, used, wanted.free)?;
+    let same = same_each(alloc, net, wanted.here, keys)?;
+    let has = choose_each(alloc, net, wanted.ask, same.as_slice(), homes.as_slice())?;
     let found = pairwise(alloc, net, LineOp::Both, &kept, &has)?;
     let one = any(net, &found)?;
     Ok(Found { kept, found, one })
@@ -181,23 +191,22 @@ pub fn see_key(
     net: &mut NetBuilder,
     used: &Bits,
     keys: &[Bus],
-    free: Bit,
-    ask: Bit,
-    here: Bus,
+    wanted: Wanted,
     homes: &Bits,
 ) -> Result<Seen, Memory>
     requires used { AreBits net.old used.now }
-    requires keys { AreKeysOf net.old here keys.now }
+    requires keys { AreKeysOf net.old wanted.here keys.now }
     requires count { length keys.now ≡ length used.now }
-    requires free { IsBit net.old free }
-    requires ask { IsBit net.old ask }
-    requires here { IsBus net.old here }
+    requires free { IsBit net.old wanted.free }
+    requires ask { IsBit net.old wanted.ask }
+    requires here { IsBus net.old wanted.here }
     requires homes { AreBits net.old homes.now }
     requires homes_count { length homes.now ≡ length used.now }
-    ensures { IfOk result (AddsSeen net.old net.new used.now keys.now free ask here homes.now) }
+    ensures { IfOk result (AddsSeen net.old net.new used.now keys.now
+        wanted.free wanted.ask wanted.here homes.now) }
 {
-    let found = find_all(alloc, net, used, keys, free, ask, here, homes)?;
-    let asked = ask_each(alloc, net, ask, found.kept.as_slice())?;
+    let found = find_all(alloc, net, used, keys, wanted, homes)?;
+    let asked = ask_each(alloc, net, wanted.ask, found.kept.as_slice())?;
     let nexts = pairwise(alloc, net, LineOp::ButNot, &asked.asks, &found.kept)?;
     let takes = with_all(alloc, net, LineOp::ButNot, &nexts, found.one)?;
     let has = pairwise(alloc, net, LineOp::Either, &found.kept, &takes)?;
@@ -219,23 +228,22 @@ pub fn seek_key(
     net: &mut NetBuilder,
     used: &Bits,
     keys: &[Bus],
-    free: Bit,
-    ask: Bit,
-    here: Bus,
+    wanted: Wanted,
     homes: &Bits,
 ) -> Result<Seek, Memory>
     requires used { AreBits net.old used.now }
-    requires keys { AreKeysOf net.old here keys.now }
+    requires keys { AreKeysOf net.old wanted.here keys.now }
     requires count { length keys.now ≡ length used.now }
-    requires free { IsBit net.old free }
-    requires ask { IsBit net.old ask }
-    requires here { IsBus net.old here }
+    requires free { IsBit net.old wanted.free }
+    requires ask { IsBit net.old wanted.ask }
+    requires here { IsBus net.old wanted.here }
     requires homes { AreBits net.old homes.now }
     requires homes_count { length homes.now ≡ length used.now }
-    ensures { IfOk result (AddsSeek net.old net.new used.now keys.now free ask here homes.now) }
+    ensures { IfOk result (AddsSeek net.old net.new used.now keys.now
+        wanted.free wanted.ask wanted.here homes.now) }
 {
-    let seen = see_key(alloc, net, used, keys, free, ask, here, homes)?;
-    let keys = key_each(alloc, net, seen.nexts.as_slice(), here, keys)?;
+    let seen = see_key(alloc, net, used, keys, wanted, homes)?;
+    let keys = key_each(alloc, net, seen.nexts.as_slice(), wanted.here, keys)?;
     Ok(Seek { seen, keys })
 }
 
@@ -244,21 +252,20 @@ pub fn keep_keys(
     alloc: Global,
     net: &mut NetBuilder,
     used: &Bits,
-    free: Bit,
-    ask: Bit,
-    here: Bus,
+    wanted: Wanted,
     homes: &Bits,
 ) -> Result<KeyLines, Memory>
     requires used { AreBits net.old used.now }
-    requires free { IsBit net.old free }
-    requires ask { IsBit net.old ask }
-    requires here { IsBus net.old here }
+    requires free { IsBit net.old wanted.free }
+    requires ask { IsBit net.old wanted.ask }
+    requires here { IsBus net.old wanted.here }
     requires homes { AreBits net.old homes.now }
     requires homes_count { length homes.now ≡ length used.now }
-    ensures { IfOk result (AddsKeys net.old net.new used.now free ask here homes.now) }
+    ensures { IfOk result (AddsKeys net.old net.new used.now
+        wanted.free wanted.ask wanted.here homes.now) }
 {
-    let keys = open_same(alloc, net, word(0, here.width), used.len())?;
-    let seek = seek_key(alloc, net, used, keys.as_slice(), free, ask, here, homes)?;
+    let keys = open_same(alloc, net, word(0, wanted.here.width), used.len())?;
+    let seek = seek_key(alloc, net, used, keys.as_slice(), wanted, homes)?;
     drive_all(net, keys.as_slice(), seek.keys.as_slice())?;
     Ok(KeyLines {
         keys,
@@ -270,22 +277,21 @@ pub fn keep_keys(
 pub fn keep_slots(
     alloc: Global,
     net: &mut NetBuilder,
-    free: Bit,
-    ask: Bit,
-    here: Bus,
+    wanted: Wanted,
     homes: &Bits,
     count: u32,
 ) -> Result<SlotLines, Memory>
-    requires free { IsBit net.old free }
-    requires ask { IsBit net.old ask }
-    requires here { IsBus net.old here }
+    requires free { IsBit net.old wanted.free }
+    requires ask { IsBit net.old wanted.ask }
+    requires here { IsBus net.old wanted.here }
     requires homes { AreBits net.old homes.now }
     requires homes_count { length homes.now ≡ count }
-    ensures { IfOk result (AddsKept net.old net.new free ask here homes.now count) }
+    ensures { IfOk result (AddsKept net.old net.new
+        wanted.free wanted.ask wanted.here homes.now count) }
 {
     let flags = open_same(alloc, net, word(0, 1), count as usize)?;
     let used = Bits::from_vec(lines_of(alloc, flags.as_slice())?);
-    let slots = keep_keys(alloc, net, &used, free, ask, here, homes)?;
+    let slots = keep_keys(alloc, net, &used, wanted, homes)?;
     let nexts = buses_of(alloc, slots.seen.has.as_slice())?;
     drive_all(net, flags.as_slice(), nexts.as_slice())?;
     Ok(SlotLines {

@@ -1,23 +1,8 @@
 -- What windows of each key cost against what a plan counts.
-use Rattle.std.proofs.Common.{◌≡◌, ℕ, zero, suc, ◌+◌, ◌*◌, ◌^◌, ◌≤◌, List, [], ◌∷◌, length, Bool, true, false, refl, arith}
-use Rattle.std.specs.Prelude.{slice_index, nat_le, if◌then◌else◌}
-use Rattle.gl_algebra.specs.Cost.{least_exponent}
-use Rattle.gl_wire.specs.Counted.{AreNarrow}
-use Rattle.gl_wire.proofs.CountLemmas.{narrow_sum}
+use Rattle.std.proofs.Common.{◌≡◌, ℕ, zero, suc, ◌+◌, ◌*◌, ◌≤◌, length, refl, arith}
+use Rattle.std.specs.Prelude.{slice_index}
+use Rattle.gl_wire.proofs.CountLemmas.{exponent_few, narrow_at, narrow_sum}
 use Rattle.gl_partitions.specs.Costs.{PartitioningsAreCounted}
-
-narrow_at : (columns : List ℕ) (k : ℕ) → AreNarrow columns → slice_index columns k ≤ 64
-narrow_at [] k h = omega arith
-narrow_at (w ∷ ws) zero h = h 0 0 (omega arith)
-narrow_at (w ∷ ws) (suc k) h = narrow_at ws k (λ i d l. h (suc i) d (omega (arith, l)))
-
-exponent_few : (more exponent depth : ℕ) → least_exponent more exponent depth ≤ more + exponent
-exponent_few zero exponent depth = omega arith
-exponent_few (suc more) exponent depth = by (nat_le depth (2 ^ exponent)) (exponent_few more (suc exponent) depth)
-  where
-    by : (b : Bool) → least_exponent more (suc exponent) depth ≤ more + suc exponent → (if b then exponent else least_exponent more (suc exponent) depth) ≤ suc more + exponent
-    by true rest = omega arith
-    by false rest = omega (arith, rest)
 
 mul_more : (n a b : ℕ) → a ≤ b → n * a ≤ n * b
 mul_more zero a b l = omega arith

@@ -15,12 +15,11 @@ use Rattle.gl_wire.specs.Stages.{IsLaterLine}
 use Rattle.gl_wire.specs.Wire.{Carried, carried, line_at, row_at, tuple_at, widths}
 use Rattle.gl_wire.proofs.ColumnLemmas.{bus_kept, wire_kept}
 use Rattle.gl_wire_registers.specs.Held.{held_at, turned}
-use Rattle.gl_wire_registers.specs.Lines.{line_of}
+use Rattle.gl_wire_registers.specs.Lines.{held_of, line_of}
 use Rattle.gl_wire_registers.specs.Rows.{AddsWires}
 use Rattle.gl_wire_registers.proofs.LineLemmas.{any_same, line_of-get}
 use Rattle.gl_windows.proofs.MachineLemmas.{tuple_of}
 use Rattle.gl_groups.specs.Fronts.{column_of}
-use Rattle.gl_groups.specs.SlotLines.{held_of}
 use Rattle.gl_groups.specs.Slots.{Slots, further_line, keys_at, of_slot, same_key, slots_at, slots_next}
 use Rattle.gl_partitions.specs.declared.front.Look.{Look}
 use Rattle.gl_partitions.specs.declared.slot.Chosen.{Chosen}

@@ -11,7 +11,7 @@ use Rattle.gl_wire.specs.Wire.{carried, line_at, row_at, tuple_at, widths}
 use Rattle.gl_wire.proofs.ColumnLemmas.{bit_kept, bus_kept, buses_kept}
 use Rattle.gl_wire_registers.specs.Held.{counted_down, held_at}
 use Rattle.gl_wire_registers.specs.declared.lines.LineOp.TheVariants.{Either}
-use Rattle.gl_wire_registers.specs.Lines.{AddsLines, line_of, pairs}
+use Rattle.gl_wire_registers.specs.Lines.{AddsLines, held_of, line_of, pairs}
 use Rattle.gl_wire_registers.proofs.LineLemmas.{bits_kept, gates_some, line_of-first}
 use Rattle.gl_groups.specs.declared.front.Lookup.{Lookup}
 use Rattle.gl_groups.specs.declared.parts.Flush.{Flush}
@@ -20,11 +20,11 @@ use Rattle.gl_groups.specs.declared.slots.SlotLines.{SlotLines}
 use Rattle.gl_groups.specs.Fronts.{AddsLookup, IsLookup, column_of}
 use Rattle.gl_groups.specs.Parts.{AddsFlush, AddsTail, IsFlush, IsTail, turned_to}
 use Rattle.gl_groups.specs.Seeking.{Sought, asked, found, has, is_next, kept, matches}
-use Rattle.gl_groups.specs.SlotLines.{AddsSlots, AreSlotLines, held_of, sought_at}
-use Rattle.gl_groups.specs.Slots.{Slots, is_further, keys_at, keys_now, no_slots, same_key, slots_at, with_tuple}
+use Rattle.gl_groups.specs.SlotLines.{AddsSlots, AreSlotLines, sought_at}
+use Rattle.gl_groups.specs.Slots.{Slots, is_further, keys_at, keys_now, no_slots, same_key, slots_at}
 use Rattle.gl_groups.specs.Values.{Cycle, Mirrors, Steps, Values, due_of, sought_of, tail_of}
 use Rattle.gl_groups.proofs.FrontNet.{latest_is, latest_key}
-use Rattle.gl_groups.proofs.MachineLemmas.{further_is, mirrors_next, tuple_of}
+use Rattle.gl_groups.proofs.MachineLemmas.{base, further_is, keys_are, mirrors_next, tuple_of}
 use Rattle.gl_groups.proofs.SeekLemmas.{joined, matches_is}
 use Rattle.gl_partitions.specs.declared.parts.Turns.{Turns}
 use Rattle.gl_partitions.specs.Fronts.{AddsLook, IsLook}
@@ -33,16 +33,6 @@ use Rattle.gl_partitions.specs.Parts.{AddsTurns, IsTurns}
 use Rattle.gl_partitions.proofs.TurnLemmas.{Turned, and_same, any_reset, due_parts, in_flush, none_is, slot_test, some_is, some_so, tail_by, turned_next, turning, turning_is}
 
 -- ---- the slot that has the key of what comes
-
--- the keys before what comes
-abbrev base : Bool → Bool → Slots → List ℕ
-base e v s = if s.flush && (v || e) then [] else s.keys
-
-keys_are : (count : ℕ) (key : Row → ℕ) (e v : Bool) (x : Row) (s : Slots) → keys_now count key e (tuple_of v x) s ≡ joined count v (key x) (base e v s)
-keys_are count key true true x s = ap (λ b. with_tuple count key (Some x) (if b then [] else s.keys)) (sym (and-true s.flush))
-keys_are count key true false x s = ap (λ b. if b then [] else s.keys) (sym (and-true s.flush))
-keys_are count key false true x s = ap (λ b. with_tuple count key (Some x) (if b then [] else s.keys)) (sym (and-true s.flush))
-keys_are count key false false x s = ap (λ b. if b then [] else s.keys) (sym (and-false s.flush))
 
 module _ (count : ℕ) (key : Row → ℕ) (s : Slots) (p : Values) (m : Mirrors count s p) (e v : Bool) (x : Row) (y : ℕ) (is_key : v ≡ true → y ≡ key x) where
   abbrev seen : Sought

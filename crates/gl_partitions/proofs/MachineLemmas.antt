@@ -1,7 +1,6 @@
 -- One cycle of a slot's registers is one step of the machine.
-use Rattle.std.proofs.Common.{◌≡◌, ℕ, zero, suc, ◌+◌, ◌-◌, ◌%◌, ◌<◌, ◌≤◌, Option, Some, None, Bool, true, false, refl, sym, ap, ◌∙◌, arith}
+use Rattle.std.proofs.Common.{◌≡◌, ℕ, suc, ◌+◌, ◌-◌, ◌%◌, ◌<◌, ◌≤◌, Option, Some, None, Bool, true, false, refl, sym, ap, ◌∙◌, arith}
 use Rattle.std.specs.Prelude.{nat_eq, not, ◌&&◌, ◌||◌, if◌then◌else◌}
-use Rattle.std.proofs.lemmas.Bool.{ne_eqb}
 use Rattle.std.proofs.lemmas.Nat.{mod_below}
 use Rattle.std.proofs.Math.Bool.{and-true, and-false}
 use Rattle.gl_bits.specs.Results.{Row}
@@ -9,7 +8,7 @@ use Rattle.gl_bits.proofs.Bools.{and_right, or_none, same_test, eq_turned}
 use Rattle.gl_wire_registers.specs.Held.{counted_down, turned}
 use Rattle.gl_wire_registers.specs.Lines.{any_to}
 use Rattle.gl_wire_registers.proofs.LineLemmas.{any_at}
-use Rattle.gl_windows.proofs.MachineLemmas.{at_oldest, turned_if, tuple_of}
+use Rattle.gl_windows.proofs.MachineLemmas.{at_oldest, count_down_left, turned_if, tuple_of}
 use Rattle.gl_partitions.specs.Machine.{Numbers, Windows, opening, one_opened, closing, closed_by, counted, next, taken}
 use Rattle.gl_partitions.specs.Values.{Cycle, Mirrors, Steps, Values, end_of, mid_of, opens_of, trigger_of, valid_of}
 
@@ -88,15 +87,6 @@ closing_by copies true due x t l quiet a =
     let none = quiet refl in
     rw (same, none, or_none (nat_eq l 0)) refl
 closing_by copies false due x t l quiet a = refl
-
-count_down_left : (size advance l : ℕ) (e v : Bool) → 1 ≤ size → 1 ≤ advance → counted_down (size - 1) (advance - 1) e v l + 1 ≡ (if e then size else (if v then (if nat_eq (l + 1) 1 then advance else (l + 1 - 1)) else (l + 1)))
-count_down_left size advance l true v hs ha = omega (arith, hs)
-count_down_left size advance zero false true hs ha = omega (arith, ha)
-count_down_left size advance (suc n) false true hs ha =
-    let a : nat_eq (suc n) 0 ≡ false = ne_eqb (suc n) 0 (λ h. absurd (omega (arith, h))) in
-    let b : nat_eq (suc n + 1) 1 ≡ false = ne_eqb (suc n + 1) 1 (λ h. absurd (omega (arith, h))) in
-    rw (a, b) (omega arith)
-count_down_left size advance l false false hs ha = refl
 
 -- ---- what a copy takes
 

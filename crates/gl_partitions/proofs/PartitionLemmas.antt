@@ -24,12 +24,13 @@ use Rattle.gl_wire_copies.specs.Rotates.{OverCopies, Rotates, delay_of_whole, fl
 use Rattle.gl_wire_copies.specs.Timed.{Origin, Timed}
 use Rattle.gl_wire_copies.proofs.LiftSpillLemmas.{lift_spills}
 use Rattle.gl_wire_copies.proofs.TimeLemmas.{next_stream, timed_by}
-use Rattle.gl_wire_copies.proofs.VisitLemmas.{BeatOf, its_end, its_tuple, beat_of}
+use Rattle.gl_wire_copies.proofs.VisitLemmas.{beat_of}
 use Rattle.gl_wire_copies.proofs.WholeServes.{whole_lines}
 use Rattle.gl_wire_registers.specs.Timers.{IsClose}
 use Rattle.gl_groups.specs.Groupings.{line_of_further, with_keys}
 use Rattle.gl_groups.specs.Slots.{came_further, key_or, slot_or}
 use Rattle.gl_groups.proofs.FurtherLemmas.{further_carries, further_so, further_told}
+use Rattle.gl_groups.proofs.GroupLemmas.{end_of}
 use Rattle.gl_groups.proofs.KeyedLemmas.{keyed_serving}
 use Rattle.gl_partitions.specs.declared.partitioning.Partitioning.{Partitioning}
 use Rattle.gl_partitions.specs.Laws.{PartitioningsServe}
@@ -144,10 +145,6 @@ partition_table copies f s sound = record {
   few_more = λ m k l. l;
   many_more = λ m k l. omega (arith, l);
 }
-
-end_of : (b : Carried) (t : ℕ) (e : Bool) → e ≡ true → BeatOf b t e → b.ends t ≡ true
-end_of b t true p (its_end q) = q
-end_of b t false p (its_tuple r q z) = absurd (cc)
 
 -- ---- the theorem, over beats in which the source is carried far enough apart
 

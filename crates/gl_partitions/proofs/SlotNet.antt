@@ -13,7 +13,7 @@ use Rattle.gl_wire.specs.Wire.{line_at}
 use Rattle.gl_wire_registers.specs.Counters.{IsPointer}
 use Rattle.gl_wire_registers.specs.Held.{counted_down, held_at, turned}
 use Rattle.gl_wire_registers.specs.Lines.{AreBits, line_of, pointed}
-use Rattle.gl_wire_registers.proofs.LineLemmas.{bits_kept, line_of-first}
+use Rattle.gl_wire_registers.proofs.LineLemmas.{bits_kept, line_of-behind, line_of-first, line_of-front}
 use Rattle.gl_windows.specs.declared.parts.Opening.{Opening}
 use Rattle.gl_windows.specs.declared.turns.OpenCopies.{OpenCopies}
 use Rattle.gl_windows.specs.Parts.{AddsOpening, IsOpening, TakesOf}
@@ -120,17 +120,6 @@ module _ (n0 n1 n2 n3 n4 n5 n6 n7 : Net) (valid eos tail matches due own last : 
   }
 
 -- ---- slots one behind another
-
-line_of-front : (run : Run) (bs cs : List Bit) (k t : ℕ) → k < length bs → line_of run (bs ++ cs) k t ≡ line_of run bs k t
-unfolding line_of
-line_of-front run [] cs k t l = absurd (omega (arith, l))
-line_of-front run (b ∷ bs) cs zero t l = refl
-line_of-front run (b ∷ bs) cs (suc k) t l = line_of-front run bs cs k t (omega (arith, l))
-
-line_of-behind : (run : Run) (bs cs : List Bit) (k t : ℕ) → line_of run (bs ++ cs) (length bs + k) t ≡ line_of run cs k t
-unfolding line_of
-line_of-behind run [] cs k t = let e : 0 + k ≡ k = omega arith in ap (λ i. line_of run cs i t) e
-line_of-behind run (b ∷ bs) cs k t = let e : suc (length bs) + k ≡ suc (length bs + k) = omega arith in ap (λ i. line_of run (b ∷ bs ++ cs) i t) e ∙ line_of-behind run bs cs k t
 
 pub get_either : {A : Type 0} (bs cs : List A) (P : A → Type 0) → ((k : ℕ) (b : A) → slice_get bs k ≡ Some b → P b) → ((k : ℕ) (b : A) → slice_get cs k ≡ Some b → P b)
     → (k : ℕ) (b : A) → slice_get (bs ++ cs) k ≡ Some b → P b

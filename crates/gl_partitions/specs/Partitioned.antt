@@ -1,81 +1,28 @@
--- Windows of each key over copies of a body, in a netlist: the front before the copies, the back behind them, and what
--- both serve.
-use Rattle.std.specs.Prelude.{◌≡◌, ℕ, ◌<◌, List, ◌∷◌, length, Some, slice_get, slice_index}
+-- Windows of each key as a machine over copies of a body: the law of its front, and what front and back promise.
+use Rattle.std.specs.Prelude.{◌≡◌, ℕ}
 use Rattle.gl_algebra.specs.declared.figures.Figures.{Figures}
 use Rattle.gl_algebra.specs.FigureTable.{IsSound}
-use Rattle.gl_net.specs.declared.node.Bus.{Bus}
-use Rattle.gl_net.specs.Net.{Net, Run, IsRun, IsBit, IsBus, Keeps}
-use Rattle.gl_wire.specs.declared.emitted.Emitted.{Emitted}
-use Rattle.gl_wire.specs.declared.wire.Wire.{Wire}
-use Rattle.gl_wire.specs.Costs.{CostsAtMost}
-use Rattle.gl_wire.specs.Faults.{AreLines, lines_of}
-use Rattle.gl_wire.specs.Spills.{SameLines, both_lines}
-use Rattle.gl_wire.specs.Wire.{IsWire, carried, line_at, widths}
-use Rattle.gl_wire_copies.specs.Rotates.{lines_of_all}
-use Rattle.gl_wire_registers.specs.Joins.{columns_of, gives_of, told_of}
-use Rattle.gl_wire_registers.specs.Lines.{carried_of}
+use Rattle.gl_wire.specs.Wire.{Carried}
+use Rattle.gl_wire_registers.specs.Fronts.{Fed, Machine}
 use Rattle.gl_wire_registers.specs.Timers.{IsClose}
-use Rattle.gl_groups.specs.Costs.{cost_of_back}
-use Rattle.gl_groups.specs.Groupings.{line_of_further}
-use Rattle.gl_groups.specs.SlotLines.{held_of}
+use Rattle.gl_groups.specs.Grouped.{keyed_machine}
 use Rattle.gl_groups.specs.Slots.{came_further}
-use Rattle.gl_partitions.specs.declared.partitioning.Fronted.{Fronted}
 use Rattle.gl_partitions.specs.declared.partitioning.Partitioning.{Partitioning}
 use Rattle.gl_partitions.specs.Costs.{cost_of_front}
 use Rattle.gl_partitions.specs.Machine.{ArePartitions}
 use Rattle.gl_partitions.specs.Partitionings.{AreKeys, AwaitsFlush, ServesPartitions, all_copies, close_cycles, close_delay, key_of, numbers_of}
 
--- the width of the key
-abbrev pub key_width : Partitioning → Emitted → ℕ
-key_width r source = slice_index (widths source.wire.columns) r.key
-
--- a front behind a source: for each copy a wire and the key of its slot, the line of further keys, and that of ends.
--- `front` and `shown` are in the words of the machine: glue for the back, and what the whole serves is said without it
-pub record Fronts (net : Net) (r : Partitioning) (f : Fronted) : Type 0 where
-  pub source : IsWire net f.source.wire
-  pub lines : AreLines net f.source.faults
-  pub key : r.key < length f.source.wire.columns
-  pub as_many : length f.wires ≡ all_copies r
-  pub wires : (k : ℕ) (w : Wire) → slice_get f.wires k ≡ Some w → IsWire net w
-      × (widths w.columns ≡ widths f.source.wire.columns)
-  pub keys_count : length f.keys ≡ all_copies r
-  pub keys : (k : ℕ) (b : Bus) → slice_get f.keys k ≡ Some b → IsBus net b × (b.width ≡ key_width r f.source)
-  pub further : IsBit net f.further
-  pub close : IsBit net f.close
-  pub front : (run : Run) → IsRun net run
-      → ArePartitions (numbers_of r) (carried run f.source.wire) (carried_of run f.wires)
-  pub shown : (run : Run) → IsRun net run → AreKeys r (carried run f.source.wire) (held_of run f.keys)
+-- the law of the front: for each copy a wire and the key of its slot, the line of further keys, and that of ends
+pub record FeedsPartitions (r : Partitioning) (a : Carried) (g : Fed) : Type 0 where
+  pub front : ArePartitions (numbers_of r) a g.ins
+  pub shown : AreKeys r a g.keys
   -- after reset it is 1 exactly in the cycle after one in which a tuple came whose key is not among its stream's first
   -- keys
-  pub told : (run : Run) → IsRun net run → AwaitsFlush r (carried run f.source.wire) → (c : ℕ)
-      → line_at run f.further c ≡ came_further r.slots (key_of r) (carried run f.source.wire) c
-  pub closes : (run : Run) → IsRun net run
-      → IsClose (close_cycles r) (close_delay r) (line_at run f.source.wire.eos) (line_at run f.close)
+  pub told : AwaitsFlush r a → (c : ℕ) → g.further c ≡ came_further r.slots (key_of r) a c
+  pub closes : IsClose (close_cycles r) (close_delay r) a.ends g.close
 
--- such a front more
-pub record IsFronted (old new : Net) (r : Partitioning) (source : Emitted) (f : Fronted) : Type 0 where
-  pub keeps : Keeps old new
-  pub cost : CostsAtMost old new (cost_of_front r.slots r.copies r.key (widths source.wire.columns))
-  pub same : f.source ≡ source
-  pub fronts : Fronts new r f
-
--- the columns of the whole: the key, and those of the copies
-abbrev pub columns_with_key : Partitioning → Fronted → List Emitted → List ℕ
-columns_with_key r f copies = key_width r f.source ∷ columns_of copies
-
--- a back behind the copies of a front: what it costs, its lines, and what the whole serves
-pub record IsBacked (old new : Net) (r : Partitioning) (f : Fronted) (copies : List Emitted) (e : Emitted)
-    : Type 0 where
-  pub keeps : Keeps old new
-  pub cost : CostsAtMost old new (cost_of_back (all_copies r) (columns_with_key r f copies))
-  pub wire : IsWire new e.wire
-  pub same_widths : widths e.wire.columns ≡ columns_with_key r f copies
-  pub lines : AreLines new e.faults
-  pub told : (run : Run) → IsRun new run
-      → SameLines (lines_of run e.faults)
-      (both_lines (lines_of run f.source.faults)
-      (both_lines (lines_of_all (told_of run copies) (all_copies r)) (line_of_further (line_at run f.further))))
-  pub serves : (run : Run) → IsRun new run → (source : Figures) → IsSound source
-      → ServesPartitions r source (carried run f.source.wire) (carried_of run f.wires) (gives_of run copies)
-      (told_of run copies) (line_at run f.further)
-      (carried run e.wire)
+-- what its front and its back promise
+abbrev pub partitioning_machine : Partitioning → Machine
+partitioning_machine r =
+    keyed_machine (all_copies r) r.key (cost_of_front r.slots r.copies r.key) (λ tick a g. FeedsPartitions r a g)
+    (λ tick a g outs lines b. (f : Figures) → IsSound f → ServesPartitions r f a g.ins outs lines g.further b)

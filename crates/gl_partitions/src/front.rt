@@ -8,15 +8,31 @@ ghost use Rattle.gl_wire_registers.specs.Lines.{AreBits};
 ghost use Rattle.gl_partitions.specs.Fronts.{AddsFront, AddsLook, ChoosesSlots, repeated};
 
 use crate::parts::count_turns;
-use crate::slot::{Chosen, put_windows};
+use crate::slot::{Chosen, Sizes, put_windows};
 use gl_bits::Memory;
 use gl_groups::front::look_up;
 use gl_groups::homes::put_slots;
 use gl_groups::parts::{count_flush, keep_tail, turn_lines};
+use gl_groups::slots::Wanted;
 use gl_net::{Bit, Bus, Buses, NetBuilder};
 use gl_wire::{Wire, later_bit};
-use gl_wire_registers::{Bits, LineOp, Wires, copy_wires, pairwise};
+use gl_wire_registers::{Arrival, Bits, LineOp, Wires, copy_wires, pairwise};
 use std::alloc::Global;
+
+/// The numbers of a front.
+#[derive(Clone, Copy)]
+pub struct Numbers {
+    /// The place of the key's column among the source's columns.
+    pub key: usize,
+    /// The slots.
+    pub slots: u32,
+    /// The numbers of a slot's windows.
+    pub sizes: Sizes,
+    /// The cycles from one turn to the next one in a flush.
+    pub stride: u32,
+    /// The bits of a slot's mark.
+    pub width: u8,
+}
 
 /// What the slots make of what comes, but for their windows.
 #[derive(Drop)]
@@ -46,7 +62,7 @@ pub struct Front {
     pub further: Bit,
 }
 
-// A key so often behind others.
+// A key `times` times behind others.
 fn push_times(to: &mut Buses, key: Bus, times: u32) -> Result<(), Memory>
     ensures { OnOk result (to.new ≡ to.old ++ replicate times key) }
 {
@@ -67,32 +83,35 @@ pub fn repeat(alloc: Global, keys: &[Bus], copies: u32) -> Result<Buses, Memory>
     Ok(all)
 }
 
-/// Looks at the slots, by the key in a column, which have so many turns each, `stride` cycles apart; the mark of a slot has so many bits.
+/// Looks at the slots, by the key in a column: each has a turn for each of its copies.
 #[tactic(auto, using(gl_wire_registers::proofs::LineLemmas::bits_kept, gl_wire::proofs::ColumnLemmas::buses_kept))]
 pub fn look_at(
     alloc: Global,
     net: &mut NetBuilder,
     wire: &Wire,
-    key: usize,
-    slots: u32,
-    copies: u32,
-    stride: u32,
-    width: u8,
+    numbers: Numbers,
 ) -> Result<Look, Memory>
     requires wire { IsWire net.old wire.now }
-    requires key { key < length wire.now.columns }
-    requires slots { 1 ≤ slots }
-    requires copies { 1 ≤ copies }
-    requires stride { 1 ≤ stride }
-    requires width { IsWidth width }
-    requires fits { slots < 2 ^ width }
-    ensures { IfOk result (AddsLook net.old net.new key slots copies stride width wire.now) }
+    requires key { numbers.key < length wire.now.columns }
+    requires slots { 1 ≤ numbers.slots }
+    requires copies { 1 ≤ numbers.sizes.copies }
+    requires stride { 1 ≤ numbers.stride }
+    requires width { IsWidth numbers.width }
+    requires fits { numbers.slots < 2 ^ numbers.width }
+    ensures { IfOk result (AddsLook net.old net.new
+        numbers.key numbers.slots numbers.sizes.copies numbers.stride numbers.width wire.now) }
 {
-    let flush = count_flush(net, wire.valid, wire.eos, stride)?;
+    let flush = count_flush(net, wire.valid, wire.eos, numbers.stride)?;
     let tail = keep_tail(net, wire.valid, wire.eos, flush.idle)?;
-    let look = look_up(alloc, net, wire, key)?;
-    let lines = put_slots(alloc, net, flush.free, wire.valid, look.here, slots, width)?;
-    let turns = count_turns(net, wire.eos, flush.due, slots, copies)?;
+    let look = look_up(alloc, net, wire, numbers.key)?;
+    let wanted = Wanted {
+        free: flush.free,
+        ask: wire.valid,
+        here: look.here,
+    };
+    let slots = numbers.slots;
+    let lines = put_slots(alloc, net, wanted, slots, numbers.width)?;
+    let turns = count_turns(net, wire.eos, flush.due, slots, numbers.sizes.copies)?;
     let dues = turn_lines(alloc, net, flush.due, turns.rest, slots)?;
     let seen = &lines.seen;
     let matches = pairwise(alloc, net, LineOp::Either, &seen.found, &seen.takes)?;
@@ -112,61 +131,57 @@ fn put_looked(
     net: &mut NetBuilder,
     wire: &Wire,
     look: &Look,
-    size: u32,
-    advance: u32,
-    copies: u32,
+    sizes: Sizes,
 ) -> Result<Chosen, Memory>
     requires wire { IsWire net.old wire.now }
     requires tail { IsBit net.old look.now.tail }
     requires matches { AreBits net.old look.now.matches }
     requires dues { AreBits net.old look.now.dues }
     requires count { length look.now.dues ≡ length look.now.matches }
-    requires size { 1 ≤ size }
-    requires advance { 1 ≤ advance }
-    requires copies { 1 ≤ copies }
-    ensures { IfOk result (ChoosesSlots net.old net.new wire.now look.now size advance copies) }
+    requires size { 1 ≤ sizes.size }
+    requires advance { 1 ≤ sizes.advance }
+    requires copies { 1 ≤ sizes.copies }
+    ensures { IfOk result (ChoosesSlots net.old net.new wire.now look.now
+        sizes.size sizes.advance sizes.copies) }
 {
     let matches = look.matches.as_slice();
     let dues = look.dues.as_slice();
+    let comes = Arrival {
+        valid: wire.valid,
+        eos: wire.eos,
+        tail: look.tail,
+    };
     // Named, since a goal speaks of the value.
-    let chosen = put_windows(
-        alloc, net, wire.valid, wire.eos, look.tail, matches, dues, size, advance, copies,
-    )?;
+    let chosen = put_windows(alloc, net, comes, matches, dues, sizes)?;
     Ok(chosen)
 }
 
-/// The wires of all copies of so many slots, by the key in a column: windows of `size` rows of a key, one from each `advance`-th one on,
-/// whose ends are `stride` cycles apart in a flush.
+/// The wires of all copies of all slots, by the key in a column.
 #[tactic(auto, using(gl_wire_registers::proofs::LineLemmas::bits_kept, gl_wire::proofs::ColumnLemmas::buses_kept))]
 pub fn put_front(
     alloc: Global,
     net: &mut NetBuilder,
     wire: &Wire,
-    key: usize,
-    slots: u32,
-    size: u32,
-    advance: u32,
-    copies: u32,
-    stride: u32,
-    width: u8,
+    numbers: Numbers,
 ) -> Result<Front, Memory>
     requires wire { IsWire net.old wire.now }
-    requires key { key < length wire.now.columns }
-    requires slots { 1 ≤ slots }
-    requires size { 1 ≤ size }
-    requires advance { 1 ≤ advance }
-    requires copies { 1 ≤ copies }
-    requires stride { 1 ≤ stride }
-    requires width { IsWidth width }
-    requires fits { slots < 2 ^ width }
-    ensures { IfOk result
-        (AddsFront net.old net.new key slots size advance copies stride width wire.now) }
+    requires key { numbers.key < length wire.now.columns }
+    requires slots { 1 ≤ numbers.slots }
+    requires size { 1 ≤ numbers.sizes.size }
+    requires advance { 1 ≤ numbers.sizes.advance }
+    requires copies { 1 ≤ numbers.sizes.copies }
+    requires stride { 1 ≤ numbers.stride }
+    requires width { IsWidth numbers.width }
+    requires fits { numbers.slots < 2 ^ numbers.width }
+    ensures { IfOk result (AddsFront net.old net.new numbers.key numbers.slots
+        numbers.sizes.size numbers.sizes.advance numbers.sizes.copies
+        numbers.stride numbers.width wire.now) }
 {
-    let look = look_at(alloc, net, wire, key, slots, copies, stride, width)?;
-    let chosen = put_looked(alloc, net, wire, &look, size, advance, copies)?;
+    let look = look_at(alloc, net, wire, numbers)?;
+    let chosen = put_looked(alloc, net, wire, &look, numbers.sizes)?;
     let wires = copy_wires(alloc, net, &chosen.takes, &chosen.ends, &look.row)?;
     let further = later_bit(net, look.passes)?;
-    let keys = repeat(alloc, look.keys.as_slice(), copies)?;
+    let keys = repeat(alloc, look.keys.as_slice(), numbers.sizes.copies)?;
     Ok(Front {
         wires,
         keys,

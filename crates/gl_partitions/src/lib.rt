@@ -10,4 +10,4 @@ pub mod partitioning;
 pub mod parts;
 pub mod slot;
 
-pub use partitioning::{Fronted, Partitioning};
+pub use partitioning::Partitioning;

@@ -7,7 +7,7 @@ ghost use Rattle.gl_partitions.specs.Parts.{AddsFilled, AddsTurns};
 use gl_bits::Memory;
 use gl_net::{Bit, Bus, NetBuilder};
 use gl_wire::either;
-use gl_wire_registers::{bits_to, count_down, when_equal};
+use gl_wire_registers::{Counter, bits_to, count_down, when_equal};
 
 /// The slot whose turn it is, counted from behind the last one.
 #[derive(Clone, Copy, PartialEq, Eq, Debug)]
@@ -43,9 +43,21 @@ pub fn count_turns(
 {
     let all = u128::from(slots);
     let others = u128::from(copies - 1);
-    let within = count_down(net, eos, due, bits_to(copies - 1), others, others, others)?;
+    let turns = Counter {
+        width: bits_to(copies - 1),
+        start: others,
+        cleared: others,
+        again: others,
+    };
+    let within = count_down(net, eos, due, turns)?;
     let last = when_equal(net, due, within, 0)?;
-    let rest = count_down(net, eos, last, bits_to(slots), all, all, 0)?;
+    let slots = Counter {
+        width: bits_to(slots),
+        start: all,
+        cleared: all,
+        again: 0,
+    };
+    let rest = count_down(net, eos, last, slots)?;
     Ok(Turns { within, rest })
 }
 
@@ -68,7 +80,13 @@ pub fn count_filled(
     let rows = u128::from(size - 1);
     let again = u128::from(advance - 1);
     let bits = bits_to(size.max(advance) - 1);
-    let left = count_down(net, eos, valid, bits, rows, rows, again)?;
+    let counter = Counter {
+        width: bits,
+        start: rows,
+        cleared: rows,
+        again,
+    };
+    let left = count_down(net, eos, valid, counter)?;
     let last = when_equal(net, valid, left, 0)?;
     let trigger = either(net, last, due)?;
     Ok(Filled { left, trigger })

@@ -10,10 +10,21 @@ use crate::parts::count_filled;
 use gl_bits::Memory;
 use gl_net::{Bit, Bus, NetBuilder};
 use gl_windows::parts::{count_openings, take_rows};
-use gl_windows::turns::rotate;
+use gl_windows::turns::{Moves, rotate};
 use gl_wire::both;
-use gl_wire_registers::{Bits, bits_to, pointer};
+use gl_wire_registers::{Arrival, Bits, bits_to, pointer};
 use std::alloc::Global;
+
+/// The numbers of a slot's windows.
+#[derive(Clone, Copy)]
+pub struct Sizes {
+    /// The rows of a window.
+    pub size: u32,
+    /// The rows of a key from the first one of a window to that of the next.
+    pub advance: u32,
+    /// The copies of the slot.
+    pub copies: u32,
+}
 
 /// The windows of a slot.
 #[derive(Drop)]
@@ -50,32 +61,41 @@ pub struct Chosen {
 pub fn put_slot(
     alloc: Global,
     net: &mut NetBuilder,
-    valid: Bit,
-    eos: Bit,
-    tail: Bit,
+    comes: Arrival,
     mine: Bit,
     due: Bit,
-    size: u32,
-    advance: u32,
-    copies: u32,
+    sizes: Sizes,
 ) -> Result<SlotWindows, Memory>
-    requires valid { IsBit net.old valid }
-    requires eos { IsBit net.old eos }
-    requires tail { IsBit net.old tail }
+    requires valid { IsBit net.old comes.valid }
+    requires eos { IsBit net.old comes.eos }
+    requires tail { IsBit net.old comes.tail }
     requires mine { IsBit net.old mine }
     requires due { IsBit net.old due }
-    requires size { 1 ≤ size }
-    requires advance { 1 ≤ advance }
-    requires copies { 1 ≤ copies }
-    ensures { IfOk result (AddsSlot net.old net.new valid eos tail mine due size advance copies) }
+    requires size { 1 ≤ sizes.size }
+    requires advance { 1 ≤ sizes.advance }
+    requires copies { 1 ≤ sizes.copies }
+    ensures { IfOk result (AddsSlot net.old net.new comes.valid comes.eos comes.tail mine due
+        sizes.size sizes.advance sizes.copies) }
 {
-    let own = both(net, valid, mine)?;
-    let last = both(net, tail, mine)?;
-    let next = count_openings(net, own, eos, 0, advance)?;
-    let filled = count_filled(net, own, eos, due, size, advance)?;
-    let opened = pointer(net, next.opens, bits_to(copies - 1), u128::from(copies - 1))?;
-    let open = rotate(alloc, net, next.opens, opened, filled.trigger, 0, 0, copies)?;
-    let takes = take_rows(alloc, net, own, eos, last, &open.mids, &open.ends)?;
+    let eos = comes.eos;
+    let own = both(net, comes.valid, mine)?;
+    let last = both(net, comes.tail, mine)?;
+    let next = count_openings(net, own, eos, 0, sizes.advance)?;
+    let filled = count_filled(net, own, eos, due, sizes.size, sizes.advance)?;
+    let others = sizes.copies - 1;
+    let opened = pointer(net, next.opens, bits_to(others), u128::from(others))?;
+    let moves = Moves {
+        opens: next.opens,
+        opened,
+        trigger: filled.trigger,
+    };
+    let open = rotate(alloc, net, moves, 0, 0, sizes.copies)?;
+    let arrival = Arrival {
+        valid: own,
+        eos,
+        tail: last,
+    };
+    let takes = take_rows(alloc, net, arrival, &open.mids, &open.ends)?;
     Ok(SlotWindows {
         until: next.until,
         left: filled.left,
@@ -102,34 +122,27 @@ fn append(to: &mut Bits, lines: &[Bit]) -> Result<(), Memory>
 pub fn put_windows(
     alloc: Global,
     net: &mut NetBuilder,
-    valid: Bit,
-    eos: Bit,
-    tail: Bit,
+    comes: Arrival,
     matches: &[Bit],
     dues: &[Bit],
-    size: u32,
-    advance: u32,
-    copies: u32,
+    sizes: Sizes,
 ) -> Result<Chosen, Memory>
-    requires valid { IsBit net.old valid }
-    requires eos { IsBit net.old eos }
-    requires tail { IsBit net.old tail }
+    requires valid { IsBit net.old comes.valid }
+    requires eos { IsBit net.old comes.eos }
+    requires tail { IsBit net.old comes.tail }
     requires matches { AreBits net.old matches.now }
     requires dues { AreBits net.old dues.now }
     requires count { length dues.now ≡ length matches.now }
-    requires size { 1 ≤ size }
-    requires advance { 1 ≤ advance }
-    requires copies { 1 ≤ copies }
-    ensures { IfOk result
-        (AddsSlots net.old net.new valid eos tail matches.now dues.now size advance copies
-        (length matches.now)) }
+    requires size { 1 ≤ sizes.size }
+    requires advance { 1 ≤ sizes.advance }
+    requires copies { 1 ≤ sizes.copies }
+    ensures { IfOk result (AddsSlots net.old net.new comes.valid comes.eos comes.tail
+        matches.now dues.now sizes.size sizes.advance sizes.copies (length matches.now)) }
 {
     let mut takes = Bits::new(alloc);
     let mut ends = Bits::new(alloc);
     for (i, line) in matches.iter().enumerate() {
-        let slot = put_slot(
-            alloc, net, valid, eos, tail, *line, dues[i], size, advance, copies,
-        )?;
+        let slot = put_slot(alloc, net, comes, *line, dues[i], sizes)?;
         append(&mut takes, slot.takes.as_slice())?;
         append(&mut ends, slot.ends.as_slice())?;
     }

@@ -15,7 +15,7 @@ use Rattle.gl_wire.specs.declared.wire.Wire.{Wire}
 use Rattle.gl_wire.specs.Shapes.{IsDelayed}
 use Rattle.gl_wire.specs.Wire.{carried, line_at, row_at, tuple_at, widths, wire_of}
 use Rattle.gl_wire.proofs.ColumnLemmas.{AreBuses-none, AreBuses-push, buses_kept, row_at-append, row_at-none, row_at-push, sum-one, widths-push}
-use Rattle.gl_wire.proofs.StageLemmas.{line_first, line_later, tuple_by}
+use Rattle.gl_wire.proofs.StageLemmas.{line_first, line_later, no_line, tuple_by}
 use Rattle.gl_queue.specs.Joining.{IsJoiner}
 use Rattle.gl_queue.specs.JoinLines.{AreKept, AreWaitingBoth, IsKept}
 
@@ -92,13 +92,6 @@ row_of run v bs c r h = by (line_at run v c) refl (sym (tuple_by run v bs c) ∙
     by : (b : Bool) → line_at run v c ≡ b → (if line_at run v c then Some (row_at run c bs) else None) ≡ Some r → (line_at run v c ≡ true) × (row_at run c bs ≡ r)
     by true p q = (p, (let z : Some (row_at run c bs) ≡ Some r = rw p at q in some_same (row_at run c bs) r z))
     by false p q = absurd (let z : None ≡ Some r = rw p at q in cc z)
-
-no_line : (run : Run) (v : Bit) (bs : List Bus) (c : ℕ) → tuple_at run v bs c ≡ None → line_at run v c ≡ false
-no_line run v bs c h = by (line_at run v c) refl (sym (tuple_by run v bs c) ∙ h)
-  where
-    by : (b : Bool) → line_at run v c ≡ b → (if line_at run v c then Some (row_at run c bs) else None) ≡ None → line_at run v c ≡ false
-    by true p q = absurd (let z : Some (row_at run c bs) ≡ None = rw p at q in cc z)
-    by false p q = p
 
 -- a row taken, and kept
 module _ (run : Run) (v : Bit) (bs kept : List Bus) (row : (t : ℕ) → row_at run (suc (suc t)) kept ≡ (if line_at run v (suc t) then row_at run (suc t) bs else row_at run (suc t) kept)) where

@@ -65,7 +65,7 @@ pub fn put_end(
     Ok(end)
 }
 
-// A queue of so many places for the rows of a wire.
+// A queue of `depth` places for the rows of a wire.
 fn put_rows(
     alloc: Global,
     net: &mut NetBuilder,
@@ -93,7 +93,7 @@ pub struct Merged {
     pub passed: Bit,
 }
 
-/// Two wires merged through queues of so many places, the left one first.
+/// Two wires merged through queues of `left_depth` and `right_depth` places, the left one first.
 pub fn put_merged(
     alloc: Global,
     net: &mut NetBuilder,

@@ -56,7 +56,7 @@ pub struct Paced {
     pub pop: Bit,
 }
 
-/// A queue of so many places, from which an entry leaves so many cycles after the last one at least.
+/// A queue of `depth` places, from which an entry leaves at least `gap` cycles after the last one.
 pub fn put_paced(
     alloc: Global,
     net: &mut NetBuilder,

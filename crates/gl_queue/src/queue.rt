@@ -1,7 +1,6 @@
 //! A queue of rows.
 
 ghost use Rattle.std.specs.Prelude.{◌≡◌, ◌≤◌, ◌^◌, IfOk};
-ghost use Rattle.gl_algebra.specs.Cost.{least_exponent};
 ghost use Rattle.gl_net.specs.Net.{IsBit, IsAddressWidth};
 ghost use Rattle.gl_wire.specs.Wire.{AreBuses};
 ghost use Rattle.gl_queue.specs.Costs.{address_bits};
@@ -11,6 +10,7 @@ use crate::ring::{put_columns, put_passed, put_places};
 use crate::short::put_single;
 use gl_bits::Memory;
 use gl_net::{Bit, Bus, Buses, NetBuilder};
+use gl_wire::least_exponent;
 use std::alloc::Global;
 
 /// What a queue shows: whether it has an entry, the oldest one's columns, and whether its places are passed.
@@ -24,22 +24,7 @@ pub struct Queue {
     pub passed: Bit,
 }
 
-// The least exponent, of so many from this one on, whose power of two is at least the depth.
-fn least_exponent(more: u64, exponent: u8, depth: u64) -> u8
-    requires exponent { exponent ≤ 32 }
-    requires depth { depth ≤ 2 ^ 32 }
-    ensures value { result ≡ least_exponent more exponent depth }
-    ensures low { exponent ≤ result }
-    ensures high { result ≤ 32 }
-{
-    if more == 0 || depth <= 1u64 << exponent {
-        exponent
-    } else {
-        least_exponent(more - 1, exponent + 1, depth)
-    }
-}
-
-/// The bits of an address in the memories of a queue with so many places.
+/// The bits of an address in the memories of a queue with `depth` places.
 pub fn address_bits(depth: u64) -> u8
     requires { depth ≤ 2 ^ 32 }
     ensures value { result ≡ address_bits depth }
@@ -49,7 +34,7 @@ pub fn address_bits(depth: u64) -> u8
     least_exponent(depth, 1, depth)
 }
 
-// A ring of so many places.
+// A ring of `depth` places.
 fn put_ring(
     alloc: Global,
     net: &mut NetBuilder,
@@ -68,7 +53,7 @@ fn put_ring(
     let bits = address_bits(depth);
     let at = put_places(net, bits, push, hold)?;
     let passed = put_passed(net, bits, depth, push, at)?;
-    let columns = put_columns(alloc, net, bits, push, at.tail, at.head, columns)?;
+    let columns = put_columns(alloc, net, bits, push, at, columns)?;
     Ok(Queue {
         some: at.some,
         columns,
@@ -76,7 +61,7 @@ fn put_ring(
     })
 }
 
-/// A queue of so many places, from which the oldest entry leaves wherever the line `hold` is 0. One place stands in registers, more are a ring.
+/// A queue of `depth` places, from which the oldest entry leaves wherever the line `hold` is 0. One place stands in registers, more are a ring.
 pub fn put_queue(
     alloc: Global,
     net: &mut NetBuilder,

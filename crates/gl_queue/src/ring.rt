@@ -11,7 +11,7 @@ use gl_wire::{both, but_not, either, same};
 use gl_wire_memories::put_memory;
 use std::alloc::Global;
 
-/// A word of so many bits.
+/// A word of `width` bits.
 pub fn word(number: u64, width: u8) -> Word
     requires width { IsAddressWidth width }
     requires number { number < 2 ^ width }
@@ -35,34 +35,46 @@ pub fn put_place(net: &mut NetBuilder, bits: u8, step: Bit) -> Result<Bus, Memor
     Ok(place)
 }
 
+/// The flag and the places of a ring, and the line of what leaves.
+#[derive(Clone, Copy)]
+pub struct Places {
+    /// 1 where an entry is there.
+    pub some: Bit,
+    /// 1 where the oldest leaves.
+    pub pop: Bit,
+    /// Where the oldest is.
+    pub head: Bus,
+    /// Where the next will be.
+    pub tail: Bus,
+}
+
 /// A memory for each of some columns.
 pub fn put_columns(
     alloc: Global,
     net: &mut NetBuilder,
     bits: u8,
     push: Bit,
-    tail: Bus,
-    head: Bus,
+    at: Places,
     columns: &[Bus],
 ) -> Result<Buses, Memory>
     requires bits { IsAddressWidth bits }
     requires push { IsBit net.old push }
-    requires tail { IsBus net.old tail }
-    requires tail_width { tail.width ≡ bits }
-    requires head { IsBus net.old head }
-    requires head_width { head.width ≡ bits }
+    requires tail { IsBus net.old at.tail }
+    requires tail_width { at.tail.width ≡ bits }
+    requires head { IsBus net.old at.head }
+    requires head_width { at.head.width ≡ bits }
     requires columns { AreBuses net.old columns.now }
-    ensures { IfOk result (AreStored net.old net.new bits push tail head columns.now) }
+    ensures { IfOk result (AreStored net.old net.new bits push at.tail at.head columns.now) }
 {
     let mut all = Buses::new(alloc);
     for bus in columns {
-        let out = put_memory(net, bits, push, tail, head, *bus)?;
+        let out = put_memory(net, bits, push, at.tail, at.head, *bus)?;
         all.push(out)?;
     }
     Ok(all)
 }
 
-/// A line that is 1 where one place is so many before another, round the ring.
+/// A line that is 1 where the place `head` is `number` before the place `tail`, round the ring.
 pub fn put_meeting(
     net: &mut NetBuilder,
     bits: u8,
@@ -82,19 +94,6 @@ pub fn put_meeting(
     let end = net.binary(BinaryOp::Add, head, many)?;
     let line = same(net, end, tail)?;
     Ok(line)
-}
-
-/// The flag and the places of a ring, and the line of what leaves.
-#[derive(Clone, Copy)]
-pub struct Places {
-    /// 1 where an entry is there.
-    pub some: Bit,
-    /// 1 where the oldest leaves.
-    pub pop: Bit,
-    /// Where the oldest is.
-    pub head: Bus,
-    /// Where the next will be.
-    pub tail: Bus,
 }
 
 /// A line that is 1 where a push comes, or an entry is there and the last one does not leave.

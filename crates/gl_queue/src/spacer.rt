@@ -41,7 +41,7 @@ fn without_lines(alloc: Global, columns: &[Bus]) -> Result<Buses, Memory>
     }
 }
 
-/// A wire that carries what another does, at least so many cycles apart, and whether its queue is passed.
+/// A wire that carries what another does, at least `gap` cycles apart, and whether its queue is passed.
 pub fn put_spaced(
     alloc: Global,
     net: &mut NetBuilder,
@@ -71,7 +71,7 @@ pub fn put_spaced(
     })
 }
 
-/// The rows and ends of a stream, at least so many cycles apart. It stands where it is needed alone.
+/// The rows and ends of a stream, at least `gap` cycles apart. It stands where it is needed alone.
 #[derive(Clone, Copy)]
 pub struct Spacer {
     /// The figures of what comes in.

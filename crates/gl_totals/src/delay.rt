@@ -8,7 +8,7 @@ use gl_bits::Memory;
 use gl_net::{Bit, Bus, NetBuilder};
 use gl_wire::{later, later_bit};
 
-/// A bus that carries what another does so many cycles later.
+/// A bus that carries what another does `cycles` cycles later.
 pub fn delay_bus(net: &mut NetBuilder, bus: Bus, cycles: u32) -> Result<Bus, Memory>
     requires { IsBus net.old bus }
     ensures { IfOk result (IsBusBehind net.old net.new cycles bus) }

@@ -10,7 +10,7 @@ ghost use Rattle.gl_totals.specs.declared.fold.Step.TheVariants.{Add, Keep, Set,
 
 use crate::rows::{self, Rows};
 use gl_bits::{Kind, Memory, Op, Word};
-use gl_divide::digit::shifted;
+use gl_divide::digit::shift;
 use gl_net::{BinaryOp, Bit, Bus, NetBuilder};
 use gl_rows::operation::put_operator;
 use gl_wire::{both, but_not, either, same};
@@ -60,6 +60,19 @@ pub struct Fold {
     pub now: Bus,
 }
 
+// The words of the slots, and which of them a cycle reads and writes.
+#[derive(Clone, Copy)]
+struct Slots {
+    // 1 where this cycle's slot begins a stream.
+    first: Bit,
+    // 1 where the next cycle's does.
+    begins: Bit,
+    // The slot of this cycle.
+    slot: Bus,
+    // That of the next one.
+    next: Bus,
+}
+
 // 1 for true.
 fn bit_number(number: bool) -> u128
     ensures value { result ≡ bit number }
@@ -106,7 +119,7 @@ fn put_moved(net: &mut NetBuilder, state: Bus) -> Result<Bus, Memory>
     ensures { IfOk result (IsNext net.old net.new state Shift) }
 {
     let low = net.constant(small_word(false, 1))?;
-    let out = shifted(net, state, low.bit())?;
+    let out = shift(net, state, low.bit())?;
     Ok(out)
 }
 
@@ -227,29 +240,26 @@ fn put_passing(
 fn put_slots(
     net: &mut NetBuilder,
     valid: Bit,
-    first: Bit,
-    begins: Bit,
-    slot: Bus,
-    next: Bus,
+    slots: Slots,
     initial: Word,
     step: Step,
 ) -> Result<Fold, Memory>
     requires valid { IsBit net.old valid }
-    requires first { IsBit net.old first }
-    requires begins { IsBit net.old begins }
-    requires slot { IsBus net.old slot }
-    requires next { IsBus net.old next }
-    requires bits { IsAddressWidth slot.width }
-    requires same_width { next.width ≡ slot.width }
+    requires first { IsBit net.old slots.first }
+    requires begins { IsBit net.old slots.begins }
+    requires slot { IsBus net.old slots.slot }
+    requires next { IsBus net.old slots.next }
+    requires bits { IsAddressWidth slots.slot.width }
+    requires same_width { slots.next.width ≡ slots.slot.width }
     requires step { StepFits net.old initial.width step }
     ensures { (eos : Bit) → IfOk result (IsFold net.old net.new initial.width initial.bits step
-        (in_memory valid eos first begins slot next)) }
+        (in_memory valid eos slots.first slots.begins slots.slot slots.next)) }
 {
     let word = net.register(initial.width(), None)?;
     let fold = put_now(net, valid, word, step)?;
-    let ahead = put_passing(net, valid, first, slot, next, fold.now)?;
+    let ahead = put_passing(net, valid, slots.first, slots.slot, slots.next, fold.now)?;
     let again = net.constant(initial)?;
-    let state = net.choose(begins, again, ahead)?;
+    let state = net.choose(slots.begins, again, ahead)?;
     net.drive(word, state)?;
     Ok(fold)
 }
@@ -269,6 +279,14 @@ pub fn put_fold(net: &mut NetBuilder, rows: Rows, first: Word, step: Step) -> Re
             begins,
             slot,
             next,
-        } => put_slots(net, rows.valid, opens, begins, slot, next, first, step),
+        } => {
+            let slots = Slots {
+                first: opens,
+                begins,
+                slot,
+                next,
+            };
+            put_slots(net, rows.valid, slots, first, step)
+        }
     }
 }

@@ -45,7 +45,7 @@ pub struct Lines {
 impl Lines {
     // The rows behind these lines, with a state for each slot in a memory, where the slot of the next cycle is told, and whether its stream
     // begins.
-    fn kept(self, begins: Bit, next: Bus) -> Rows
+    fn rows(self, begins: Bit, next: Bus) -> Rows
         ensures { result ≡ in_memory self.valid self.eos self.first begins self.slot next }
     {
         Rows {
@@ -105,7 +105,7 @@ impl Table<'_> {
     {
         let lines = put_lines(net, rows, slot, first)?;
         let stream = Stream {
-            rows: lines.kept(first, slot),
+            rows: lines.rows(first, slot),
             source: Source {
                 columns: rows.columns.as_slice(),
                 kinds: self.kinds,

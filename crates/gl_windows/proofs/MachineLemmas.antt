@@ -140,7 +140,7 @@ at_oldest q k x m = elim (eqb_tells q k) [
   | inr h ↦ (let a = h.0 in rw (a, and-false x, and-false (x && m q)) refl)
 ]
 
-count_down_left : (size advance l : ℕ) (e v : Bool) → 1 ≤ size → 1 ≤ advance → counted_down (size - 1) (advance - 1) e v l + 1 ≡ (if e then size else (if v then (if nat_eq (l + 1) 1 then advance else (l + 1 - 1)) else (l + 1)))
+pub count_down_left : (size advance l : ℕ) (e v : Bool) → 1 ≤ size → 1 ≤ advance → counted_down (size - 1) (advance - 1) e v l + 1 ≡ (if e then size else (if v then (if nat_eq (l + 1) 1 then advance else (l + 1 - 1)) else (l + 1)))
 count_down_left size advance l true v hs ha = omega (arith, hs)
 count_down_left size advance zero false true hs ha = omega (arith, ha)
 count_down_left size advance (suc n) false true hs ha =

@@ -15,7 +15,8 @@ use Rattle.gl_windows.proofs.TimeSetting.{IsTimed, ticks_before, ticks_at, times
 use Rattle.gl_windows.proofs.TimeSlices.{tfirsts-more}
 use Rattle.gl_windows.proofs.TimeOpen.{open_is_in, closed_is_past}
 use Rattle.gl_windows.proofs.TimeCounts.{Opened, Completed, last, no_more, count_open, count_close, completed_open}
-use Rattle.gl_windows.proofs.TimeTakes.{ends_completed, takes, if_same}
+use Rattle.gl_windows.proofs.MachineLemmas.{if_same}
+use Rattle.gl_windows.proofs.TimeTakes.{ends_completed, takes}
 
 pub grown : (from size n : ℕ) (ts : List ℕ) (xs : List Row) → length ts ≡ length xs → (o : Option Row)
     → tpart from size (ts ++ times_of o n) (xs ++ option_to_list o) ≡ tpart from size ts xs ++ option_to_list (if nat_le from n && nat_lt n (from + size) then o else None)

@@ -13,7 +13,7 @@ use Rattle.gl_windows.specs.TimeFront.{TimeFront, TimeMachine, states, closes, c
 use Rattle.gl_windows.proofs.TimeSetting.{IsTimed, ticks_before, ticks_at, times_before, times_at}
 use Rattle.gl_windows.proofs.TimeOpen.{closed_is_past, few_open, in_order, open_is_in}
 use Rattle.gl_windows.proofs.TimeCounts.{Opened, Closed, Completed, last, no_more, count_open, count_close, completed_open}
-use Rattle.gl_windows.proofs.TimeTakes.{if_same}
+use Rattle.gl_windows.proofs.MachineLemmas.{if_same}
 use Rattle.gl_windows.proofs.TimeFlow.{Flow, grown, kept, over_low}
 
 module _ (m : TimeMachine) (ok : IsTimed m) where

@@ -1,9 +1,9 @@
 -- The machine of a front of windows of time has room where what comes is spaced by the figures of the whole.
-use Rattle.std.proofs.Common.{◌≡◌, ℕ, ◌+◌, ◌-◌, ◌<◌, ◌≤◌, Bool, true, false, refl, arith}
+use Rattle.std.proofs.Common.{◌≡◌, ℕ, ◌+◌, ◌-◌, ◌<◌, ◌≤◌, Bool, true, arith}
 use Rattle.std.proofs.Math.Nat.{lt-div-mul-add}
 use Rattle.gl_algebra.specs.FigureTable.{input_figures}
 use Rattle.gl_algebra.proofs.FigureLemmas.{one_in_time}
-use Rattle.gl_wire.specs.Beats.{Beats, Spaced, last}
+use Rattle.gl_wire.specs.Beats.{Beats, Spaced}
 use Rattle.gl_wire.specs.Serves.{Fits}
 use Rattle.gl_wire.specs.Ticks.{TicksFit}
 use Rattle.gl_wire.specs.Wire.{Carried}
@@ -13,11 +13,7 @@ use Rattle.gl_windows.specs.TimeFront.{HasRoom, turns_in}
 use Rattle.gl_windows.specs.TimeRotations.{IsTimeRotation, machine_of, time_figures}
 use Rattle.gl_windows.proofs.TickLemmas.{ticks_keep}
 use Rattle.gl_windows.proofs.TimePhases.{room}
-
--- what comes of a beat of a stream comes in its cycle
-none_late : (e : Bool) → last input_figures e ≡ 0
-none_late true = refl
-none_late false = refl
+use Rattle.gl_windows.proofs.TimeServes.{none_late}
 
 pub has_room : (r : TimeRotation) (tick : ℕ → Bool) (a : Carried) (beats : Beats) → IsTimeRotation r → Spaced (time_figures r) beats → Fits input_figures beats a → TicksFit tick beats
     → HasRoom (machine_of r tick a)

@@ -1,5 +1,5 @@
 -- The front and the back of windows of time in a netlist, from their parts.
-use Rattle.std.proofs.Common.{◌≡◌, ℕ, suc, ◌+◌, ◌-◌, ◌*◌, ◌≤◌, List, length, refl, sym, ap, ◌∙◌, subst, arith}
+use Rattle.std.proofs.Common.{◌≡◌, ℕ, suc, ◌+◌, ◌-◌, ◌*◌, ◌≤◌, List, length, Some, None, refl, sym, ap, ◌∙◌, subst, arith}
 use Rattle.std.specs.List.{sum}
 use Rattle.std.specs.Prelude.{◌&&◌, ◌||◌, not}
 use Rattle.gl_algebra.specs.FigureTable.{stride_of}
@@ -10,18 +10,20 @@ use Rattle.gl_net.proofs.Determined.{keeps_then}
 use Rattle.gl_wire.specs.declared.emitted.Emitted.{Emitted}
 use Rattle.gl_wire.specs.declared.wire.Wire.{Wire}
 use Rattle.gl_wire.specs.Costs.{CostsAtMost}
-use Rattle.gl_wire.specs.Faults.{AreLines, lines_of}
+use Rattle.gl_wire.specs.Faults.{AreLines, line_of}
 use Rattle.gl_wire.specs.Gates.{IsGate}
 use Rattle.gl_wire.specs.Shapes.{IsDelayed}
-use Rattle.gl_wire.specs.Spills.{SameLines, both_lines}
 use Rattle.gl_wire.specs.Wire.{IsWire, carried, line_at, widths}
 use Rattle.gl_wire.proofs.ColumnLemmas.{wire_kept, bit_kept}
 use Rattle.gl_wire.proofs.FaultLemmas.{lines_kept}
 use Rattle.gl_wire_copies.specs.Lift.{tuple_of_any}
-use Rattle.gl_wire_copies.specs.Rotates.{flush_of, lines_of_all, turns_of}
+use Rattle.gl_wire_copies.specs.Rotates.{flush_of, turns_of}
 use Rattle.gl_wire_registers.specs.Counters.{IsPointer}
+use Rattle.gl_wire_registers.specs.declared.front.Front.{Front}
+use Rattle.gl_wire_registers.specs.Fronts.{Fronts, IsBacked, IsFronted}
 use Rattle.gl_wire_registers.specs.Held.{held_at, turned, with_registers}
-use Rattle.gl_wire_registers.specs.Joins.{columns_of, cost_of_back, gives_of, JoinsAll, told_of}
+use Rattle.gl_wire_registers.specs.Joins.{gives_of, JoinsAll, told_of}
+use Rattle.gl_wire_registers.proofs.FrontLemmas.{keyless_backed}
 use Rattle.gl_wire_registers.specs.declared.lines.LineOp.TheVariants.{ButNot}
 use Rattle.gl_wire_registers.specs.Lines.{AddsLines, carried_of, pairs}
 use Rattle.gl_wire_registers.specs.Rows.{AddsWires, HoldsRow}
@@ -30,12 +32,12 @@ use Rattle.gl_windows.specs.declared.parts.Opening.{Opening}
 use Rattle.gl_windows.specs.declared.parts.Flush.{Flush}
 use Rattle.gl_windows.specs.declared.parts.Trigger.{Trigger}
 use Rattle.gl_windows.specs.declared.parts.Tail.{Tail}
-use Rattle.gl_windows.specs.declared.rotation.Fronted.{Fronted}
+use Rattle.gl_windows.specs.declared.times.Ticked.{Ticked}
 use Rattle.gl_windows.specs.declared.times.TimeRotation.{TimeRotation}
 use Rattle.gl_windows.specs.declared.turns.OpenCopies.{OpenCopies}
 use Rattle.gl_windows.specs.Parts.{AddsOpening, AddsFlush, AddsTrigger, AddsTail, TakesOf}
 use Rattle.gl_windows.specs.TimeFront.{HasRoom, IsTimeFront}
-use Rattle.gl_windows.specs.TimeRotations.{AreTimeFronts, IsTimeBacked, IsTimeFronted, IsTimeRotation, TimeFronts, copies_of}
+use Rattle.gl_windows.specs.TimeRotations.{AreTimeFronts, IsTimeRotation, ServesTimes, copies_of, ticked_machine}
 use Rattle.gl_windows.specs.Turns.{AddsRotation, Rotating}
 use Rattle.gl_windows.proofs.TimeNet.{time_front_is}
 use Rattle.gl_windows.proofs.TimeRoom.{has_room}
@@ -162,10 +164,10 @@ module _ (n0 n1 n2 n3 n4 n5 n6 n7 n8 n9 n10 n11 n12 n13 n14 n15 : Net) (r : Time
   }
 
 -- wires of a front and a line of ends behind it
-pub is_time_fronted : (old mid new : Net) (r : TimeRotation) (tick : Bit) (source : Emitted) (ws : List Wire) (close : Bit) (flush : ℕ) → flush ≡ flush_of (copies_of r) r.body
-    → IsWire old source.wire → AreLines old source.faults → IsBit old tick → AreTimeFronts old mid r tick source.wire ws → IsCloseLine mid new flush r.body.a source.wire.eos close
-    → IsTimeFronted old new r tick source (record { source = source; wires = ws; close = close })
-is_time_fronted old mid new r tick source ws close flush is_flush wire lines ticks f c = record {
+pub is_time_fronted : (old mid new : Net) (t : Ticked) (source : Emitted) (ws : List Wire) (keys : List Bus) (close : Bit) (flush : ℕ) → flush ≡ flush_of (copies_of t.rotation) t.rotation.body
+    → IsWire old source.wire → AreLines old source.faults → IsBit old t.tick → AreTimeFronts old mid t.rotation t.tick source.wire ws → IsCloseLine mid new flush t.rotation.body.a source.wire.eos close
+    → IsFronted old new (ticked_machine t) source (record { source = source; wires = ws; keys = keys; further = None; close = close })
+is_time_fronted old mid new t source ws keys close flush is_flush wire lines ticks f c = record {
   keeps = keeps_then old mid new f.keeps c.keeps;
   cost = record {
     nodes = omega (arith, f.cost.nodes, c.cost.nodes);
@@ -175,44 +177,29 @@ is_time_fronted old mid new r tick source ws close flush is_flush wire lines tic
   same = refl;
   fronts = record {
     source = wire_kept old new source.wire (keeps_then old mid new f.keeps c.keeps) wire;
-    ticks = bit_kept old new tick (keeps_then old mid new f.keeps c.keeps) ticks;
     lines = lines_kept old new source.faults (keeps_then old mid new f.keeps c.keeps) lines;
+    column = tt;
+    ticks = bit_kept old new t.tick (keeps_then old mid new f.keeps c.keeps) ticks;
     as_many = f.as_many;
     wires = λ k w h. let x = f.wires k w h in (wire_kept mid new w c.keeps x.0, x.1);
+    keys = tt;
+    further = tt;
     close = c.bit;
-    front = λ run run_new. f.front run (c.keeps.runs run run_new);
-    closes = λ run run_new. subst (λ (n : ℕ). IsClose n (n + 1 + r.body.a) (line_at run source.wire.eos) (line_at run close)) is_flush (c.close run run_new);
+    feeds = λ run run_new. record {
+      front = f.front run (c.keeps.runs run run_new);
+      closes = subst (λ (n : ℕ). IsClose n (n + 1 + t.rotation.body.a) (line_at run source.wire.eos) (line_at run close)) is_flush (c.close run run_new);
+    };
   };
 }
 
--- a front stays one in a netlist that grows
-pub time_fronts_kept : (old new : Net) (r : TimeRotation) (tick : Bit) (f : Fronted) → Keeps old new → TimeFronts old r tick f → TimeFronts new r tick f
-time_fronts_kept old new r tick f keeps h = record {
-  source = wire_kept old new f.source.wire keeps h.source;
-  ticks = bit_kept old new tick keeps h.ticks;
-  lines = lines_kept old new f.source.faults keeps h.lines;
-  as_many = h.as_many;
-  wires = λ k w e. let x = h.wires k w e in (wire_kept old new w keeps x.0, x.1);
-  close = bit_kept old new f.close keeps h.close;
-  front = λ run r'. h.front run (keeps.runs run r');
-  closes = λ run r'. h.closes run (keeps.runs run r');
-}
-
 -- a back behind copies of a front
-pub is_time_backed : (old new : Net) (r : TimeRotation) (tick : Bit) (f : Fronted) (copies : List Emitted) (e : Emitted) → IsTimeRotation r → TimeFronts old r tick f
-    → length copies ≡ copies_of r → JoinsAll old new f.source.faults f.close copies e → IsTimeBacked old new r tick f copies e
-is_time_backed old new r tick f copies e is h many j = record {
-  keeps = j.keeps;
-  cost = subst (λ (n : ℕ). CostsAtMost old new (cost_of_back n (columns_of copies))) many j.cost;
-  wire = j.wire;
-  same_widths = j.same_widths;
-  lines = j.lines;
-  told = λ run run_new.
-      subst (λ (n : ℕ). SameLines (lines_of run e.faults) (both_lines (lines_of run f.source.faults) (lines_of_all (told_of run copies) n))) many (j.told run run_new);
-  serves = λ run run_new nodes body beats spaced fits at served.
-      let run_old = j.keeps.runs run run_new in
-      times_serve r (line_at run tick) (carried run f.source.wire) (carried run e.wire) (carried_of run f.wires) (gives_of run copies) (line_at run f.close) (told_of run copies)
-      is (h.front run run_old (has_room r (line_at run tick) (carried run f.source.wire) beats is spaced fits at)) (h.closes run run_old)
-      (subst (λ (n : ℕ). IsDelayed 1 (record { tuple = tuple_of_any (gives_of run copies) n; ends = line_at run f.close }) (carried run e.wire)) many (j.delayed run run_new))
-      nodes body beats spaced fits at served;
-}
+pub is_time_backed : (old new : Net) (t : Ticked) (f : Front) (copies : List Emitted) (e : Emitted) → IsTimeRotation t.rotation → Fronts old (ticked_machine t) f
+    → length copies ≡ copies_of t.rotation → JoinsAll old new f.source.faults f.close copies e → IsBacked old new (ticked_machine t) f copies e
+is_time_backed old new t f copies e is h many j = keyless_backed old new (copies_of t.rotation) (Some t.tick) _ _ _ f copies e many j serving
+  where
+    serving : (run : Run) → IsRun new run → IsDelayed 1 (record { tuple = tuple_of_any (gives_of run copies) (copies_of t.rotation); ends = line_at run f.close }) (carried run e.wire)
+        → ServesTimes t.rotation (line_of run (Some t.tick)) (carried run f.source.wire) (carried_of run f.wires) (gives_of run copies) (told_of run copies) (carried run e.wire)
+    serving run z delayed nodes body beats spaced fits at served =
+        let fed = h.feeds run (j.keeps.runs run z) in
+        times_serve t.rotation (line_at run t.tick) (carried run f.source.wire) (carried run e.wire) (carried_of run f.wires) (gives_of run copies) (line_at run f.close) (told_of run copies)
+        is (fed.front (has_room t.rotation (line_at run t.tick) (carried run f.source.wire) beats is spaced fits at)) fed.closes delayed nodes body beats spaced fits at served

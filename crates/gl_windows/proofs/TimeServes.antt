@@ -43,7 +43,7 @@ stream_sound = record {
 }
 
 -- what comes of a beat of a stream comes in its cycle
-none_late : (e : Bool) → last input_figures e ≡ 0
+pub none_late : (e : Bool) → last input_figures e ≡ 0
 none_late true = refl
 none_late false = refl
 

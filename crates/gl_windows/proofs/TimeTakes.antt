@@ -4,11 +4,8 @@ use Rattle.std.specs.Prelude.{if◌then◌else◌, nat_le, nat_lt, nat_eq}
 use Rattle.std.proofs.lemmas.Bool.{cases_lt, cases_eq, lt-ltb, le-ltb, le-leb, lt-leb, eq-eqb, ne_eqb, and_from, and_left, and_right}
 use Rattle.gl_bits.specs.Results.{Row}
 use Rattle.gl_windows.specs.TimeFront.{TimeFront, closes, idle, last_row, taken, opened_by, reopens}
+use Rattle.gl_windows.proofs.MachineLemmas.{if_same}
 use Rattle.gl_windows.proofs.TimeCounts.{Completed, last, no_more}
-
-pub if_same : {A : Type 0} (b : Bool) (x : A) → (if b then x else x) ≡ x
-if_same true x = refl
-if_same false x = refl
 
 -- in a cycle without the end, where no flush goes on and no window opens by itself
 module _ (b : Bool) (o : Option Row) (s : TimeFront) (base q d n size advance : ℕ) (calm : s.flush ≡ false) (at : s.closed ≡ base + d) (opened : opened_by b s ≡ base + q) where

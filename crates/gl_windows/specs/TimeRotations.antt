@@ -10,25 +10,23 @@ use Rattle.gl_bits.specs.Limits.{most_rows}
 use Rattle.gl_bits.specs.Results.{AreJoined}
 use Rattle.gl_bits.specs.Times.{tslices}
 use Rattle.gl_net.specs.declared.node.Bit.{Bit}
-use Rattle.gl_net.specs.Net.{Net, Run, IsRun, IsBit, Keeps}
-use Rattle.gl_wire.specs.declared.emitted.Emitted.{Emitted}
+use Rattle.gl_net.specs.Net.{Net, Run, IsRun, Keeps}
 use Rattle.gl_wire.specs.declared.wire.Wire.{Wire}
 use Rattle.gl_wire.specs.Beats.{Beats, Spaced, beats_of}
 use Rattle.gl_wire.specs.Costs.{CostsAtMost}
-use Rattle.gl_wire.specs.Faults.{AreLines, lines_of}
 use Rattle.gl_wire.specs.Serves.{Fits}
 use Rattle.gl_wire.specs.Serving.{Serving}
 use Rattle.gl_wire.specs.Shapes.{IsDelayed}
-use Rattle.gl_wire.specs.Spills.{Lines, SameLines, both_lines}
+use Rattle.gl_wire.specs.Spills.{Lines}
 use Rattle.gl_wire.specs.Wire.{Carried, IsWire, carried, line_at, stream, widths}
 use Rattle.gl_wire_copies.specs.Bodies.{OfBody}
 use Rattle.gl_wire_copies.specs.Lift.{tuple_of_any}
 use Rattle.gl_wire_copies.specs.Rotates.{flush_of, lines_of_all}
+use Rattle.gl_wire_registers.specs.Fronts.{Fed, Machine, keyless}
 use Rattle.gl_wire_registers.specs.Held.{with_registers}
-use Rattle.gl_wire_registers.specs.Joins.{columns_of, cost_of_back, gives_of, told_of}
 use Rattle.gl_wire_registers.specs.Lines.{carried_of}
 use Rattle.gl_wire_registers.specs.Timers.{IsClose}
-use Rattle.gl_windows.specs.declared.rotation.Fronted.{Fronted}
+use Rattle.gl_windows.specs.declared.times.Ticked.{Ticked}
 use Rattle.gl_windows.specs.declared.times.TimeRotation.{TimeRotation}
 use Rattle.gl_windows.specs.Costs.{cost_of_time_front}
 use Rattle.gl_wire.specs.Ticks.{TicksFit, ticks_at, times_at}
@@ -77,29 +75,11 @@ pub record AreTimeFronts (old new : Net) (r : TimeRotation) (tick : Bit) (source
 abbrev pub time_close_delay : TimeRotation → ℕ
 time_close_delay r = flush_of (copies_of r) r.body + 1 + r.body.a
 
--- a front behind a source and a line of ticks: for each copy a wire that carries what the machine gives it while it has
--- room, and the line of ends. `front` is in the words of the machine: glue for the back, and what the whole serves is
--- said without it
-pub record TimeFronts (net : Net) (r : TimeRotation) (tick : Bit) (f : Fronted) : Type 0 where
-  pub source : IsWire net f.source.wire
-  pub ticks : IsBit net tick
-  pub lines : AreLines net f.source.faults
-  pub as_many : length f.wires ≡ copies_of r
-  pub wires : (k : ℕ) (w : Wire) → slice_get f.wires k ≡ Some w → IsWire net w
-      × (widths w.columns ≡ widths f.source.wire.columns)
-  pub close : IsBit net f.close
-  pub front : (run : Run) → IsRun net run → HasRoom (machine_of r (line_at run tick) (carried run f.source.wire))
-      → IsTimeFront (machine_of r (line_at run tick) (carried run f.source.wire)) (carried_of run f.wires)
-  pub closes : (run : Run) → IsRun net run
-      → IsClose (flush_of (copies_of r) r.body) (time_close_delay r) (line_at run f.source.wire.eos)
-      (line_at run f.close)
-
--- such a front more
-pub record IsTimeFronted (old new : Net) (r : TimeRotation) (tick : Bit) (source : Emitted) (f : Fronted) : Type 0 where
-  pub keeps : Keeps old new
-  pub cost : CostsAtMost old new (cost_of_time_front (copies_of r) r.body.a (widths source.wire.columns))
-  pub same : f.source ≡ source
-  pub fronts : TimeFronts new r tick f
+-- the law of the front: for each copy a wire that carries what the machine gives it while it has room, and the line of
+-- ends
+pub record FeedsTimes (r : TimeRotation) (tick : ℕ → Bool) (a : Carried) (g : Fed) : Type 0 where
+  pub front : HasRoom (machine_of r tick a) → IsTimeFront (machine_of r tick a) g.ins
+  pub closes : IsClose (flush_of (copies_of r) r.body) (time_close_delay r) a.ends g.close
 
 -- wherever each copy gives a body's results over the beats of its own wire, the whole gives at each end those of all
 -- windows of time, joined: over all beats that are spaced by the whole's figures, of a stream that fits, whose ticks
@@ -116,20 +96,11 @@ ServesTimes r tick a ins outs lines b =
     (tslices r.size r.advance (times_at tick a t) (ticks_at tick a t) (stream a t)))
     (lines_of_all lines (copies_of r)) beats b
 
--- a back behind the copies of a front: what it costs, its lines, and what the whole serves
-pub record IsTimeBacked (old new : Net) (r : TimeRotation) (tick : Bit) (f : Fronted) (copies : List Emitted)
-    (e : Emitted) : Type 0 where
-  pub keeps : Keeps old new
-  pub cost : CostsAtMost old new (cost_of_back (copies_of r) (columns_of copies))
-  pub wire : IsWire new e.wire
-  pub same_widths : widths e.wire.columns ≡ columns_of copies
-  pub lines : AreLines new e.faults
-  pub told : (run : Run) → IsRun new run
-      → SameLines (lines_of run e.faults) (both_lines (lines_of run f.source.faults)
-      (lines_of_all (told_of run copies) (copies_of r)))
-  pub serves : (run : Run) → IsRun new run
-      → ServesTimes r (line_at run tick) (carried run f.source.wire) (carried_of run f.wires) (gives_of run copies)
-      (told_of run copies) (carried run e.wire)
+-- what its front and its back promise beside a line of ticks
+abbrev pub ticked_machine : Ticked → Machine
+ticked_machine t =
+    keyless (copies_of t.rotation) (Some t.tick) (cost_of_time_front (copies_of t.rotation) t.rotation.body.a)
+    (FeedsTimes t.rotation) (λ tick a g. ServesTimes t.rotation tick a g.ins)
 
 -- the law of both: wires behind the machine, a line of ends that comes late, and a wire one cycle behind all copies
 abbrev pub TimesServe : Type 0

@@ -5,50 +5,63 @@ ghost use Rattle.gl_wire.specs.Wire.{IsWire};
 ghost use Rattle.gl_windows.specs.Rotations.{AreFronts};
 
 use crate::parts::{count_flush, count_left, count_openings, keep_tail, take_rows};
-use crate::turns::rotate;
+use crate::turns::{Moves, rotate};
 use gl_bits::Memory;
 use gl_net::NetBuilder;
 use gl_wire::Wire;
-use gl_wire_registers::{Wires, bits_to, copy_wires, hold_all, pointer};
+use gl_wire_registers::{Arrival, Wires, bits_to, copy_wires, hold_all, pointer};
 use std::alloc::Global;
 
-/// The wires of the copies of windows of `size` rows, one from each `advance`-th row on, whose ends are `stride` cycles apart in a flush.
+/// The numbers of a front.
+#[derive(Clone, Copy, PartialEq, Eq, Debug)]
+pub struct Numbers {
+    /// The rows of a window.
+    pub size: u32,
+    /// The rows from the first one of a window to that of the next.
+    pub advance: u32,
+    /// The copies.
+    pub copies: u32,
+    /// The cycles from one copy's turn to the next one's in a flush.
+    pub stride: u32,
+}
+
+/// The wires of the copies.
 #[tactic(auto, using(gl_wire_registers::proofs::LineLemmas::bits_kept, gl_wire::proofs::ColumnLemmas::buses_kept))]
 pub fn put_front(
     alloc: Global,
     net: &mut NetBuilder,
     wire: &Wire,
-    size: u32,
-    advance: u32,
-    count: u32,
-    stride: u32,
+    numbers: Numbers,
 ) -> Result<Wires, Memory>
     requires wire { IsWire net.old wire.now }
-    requires size { 1 ≤ size }
-    requires advance { 1 ≤ advance }
-    requires count { 1 ≤ count }
-    requires stride { 1 ≤ stride }
-    ensures { IfOk result (AreFronts net.old net.new size advance count stride wire.now) }
+    requires size { 1 ≤ numbers.size }
+    requires advance { 1 ≤ numbers.advance }
+    requires copies { 1 ≤ numbers.copies }
+    requires stride { 1 ≤ numbers.stride }
+    ensures { IfOk result (AreFronts net.old net.new
+        numbers.size numbers.advance numbers.copies numbers.stride wire.now) }
 {
     let v = wire.valid;
     let e = wire.eos;
-    let opening = count_openings(net, v, e, 0, advance)?;
-    let flush = count_flush(net, v, e, stride)?;
-    let trigger = count_left(net, v, e, flush.due, size, advance)?;
+    let opening = count_openings(net, v, e, 0, numbers.advance)?;
+    let flush = count_flush(net, v, e, numbers.stride)?;
+    let trigger = count_left(net, v, e, flush.due, numbers.size, numbers.advance)?;
     let tail = keep_tail(net, v, e, flush.idle)?;
-    let bits = bits_to(count - 1);
-    let opened = pointer(net, opening.opens, bits, u128::from(count - 1))?;
-    let open = rotate(
-        alloc,
-        net,
-        opening.opens,
+    let last = numbers.copies - 1;
+    let bits = bits_to(last);
+    let opened = pointer(net, opening.opens, bits, u128::from(last))?;
+    let moves = Moves {
+        opens: opening.opens,
         opened,
-        trigger.trigger,
-        0,
-        0,
-        count,
-    )?;
-    let takes = take_rows(alloc, net, v, e, tail.tail, &open.mids, &open.ends)?;
+        trigger: trigger.trigger,
+    };
+    let open = rotate(alloc, net, moves, 0, 0, numbers.copies)?;
+    let comes = Arrival {
+        valid: v,
+        eos: e,
+        tail: tail.tail,
+    };
+    let takes = take_rows(alloc, net, comes, &open.mids, &open.ends)?;
     let row = hold_all(alloc, net, v, &wire.columns)?;
     // Named, since a goal speaks of the value.
     let wires = copy_wires(alloc, net, &takes, &open.ends, &row)?;

@@ -10,5 +10,5 @@ pub mod rotation;
 pub mod times;
 pub mod turns;
 
-pub use rotation::{Fronted, Rotation};
-pub use times::TimeRotation;
+pub use rotation::Rotation;
+pub use times::{Ticked, TimeRotation};

@@ -8,7 +8,9 @@ ghost use Rattle.gl_windows.specs.Parts.{AddsFlush, AddsOpening, AddsTail, AddsT
 use gl_bits::Memory;
 use gl_net::{Bit, Bus, NetBuilder};
 use gl_wire::{both, but_not, either};
-use gl_wire_registers::{Bits, LineOp, bits_to, count_down, latch, pairwise, when_equal, with_all};
+use gl_wire_registers::{
+    Arrival, Bits, Counter, LineOp, bits_to, count_down, latch, pairwise, when_equal, with_all,
+};
 use std::alloc::Global;
 
 /// When a copy opens.
@@ -53,7 +55,7 @@ pub struct Tail {
     pub tail: Bit,
 }
 
-/// Counts the units to the next opening: so many of each stream come before the first one.
+/// Counts the units to the next opening: `before` of each stream come before the first one.
 pub fn count_openings(
     net: &mut NetBuilder,
     unit: Bit,
@@ -69,12 +71,19 @@ pub fn count_openings(
     let first = u128::from(before);
     let again = u128::from(advance - 1);
     let bits = bits_to(before.max(advance - 1));
-    let until = count_down(net, eos, unit, bits, first, first, again)?;
+    let counter = Counter {
+        width: bits,
+        start: first,
+        cleared: first,
+        again,
+    };
+    let until = count_down(net, eos, unit, counter)?;
     let opens = when_equal(net, unit, until, 0)?;
     Ok(Opening { until, opens })
 }
 
-/// Counts the cycles between the ends of a flush.
+/// Counts the cycles between the ends of a flush. Groups have a part of their own, which tells what comes behind an end apart: there the
+/// slots are set free with it.
 pub fn count_flush(net: &mut NetBuilder, valid: Bit, eos: Bit, stride: u32) -> Result<Flush, Memory>
     requires valid { IsBit net.old valid }
     requires eos { IsBit net.old eos }
@@ -84,7 +93,14 @@ pub fn count_flush(net: &mut NetBuilder, valid: Bit, eos: Bit, stride: u32) -> R
     let last = u128::from(stride - 1);
     let flush = latch(net, eos, valid)?;
     let idle = but_not(net, flush, valid)?;
-    let wait = count_down(net, eos, idle, bits_to(stride - 1), 0, last, last)?;
+    let bits = bits_to(stride - 1);
+    let counter = Counter {
+        width: bits,
+        start: 0,
+        cleared: last,
+        again: last,
+    };
+    let wait = count_down(net, eos, idle, counter)?;
     let due = when_equal(net, idle, wait, 0)?;
     Ok(Flush {
         flush,
@@ -113,7 +129,13 @@ pub fn count_left(
     let rows = u128::from(size - 1);
     let again = u128::from(advance - 1);
     let bits = bits_to(size.max(advance) - 1);
-    let left = count_down(net, eos, unit, bits, rows, rows, again)?;
+    let counter = Counter {
+        width: bits,
+        start: rows,
+        cleared: rows,
+        again,
+    };
+    let left = count_down(net, eos, unit, counter)?;
     let last = when_equal(net, unit, left, 0)?;
     let may = either(net, last, due)?;
     let trigger = either(net, eos, may)?;
@@ -124,7 +146,8 @@ pub fn count_left(
     })
 }
 
-/// Keeps whether a tuple came with the end.
+/// Keeps whether a tuple came with the end. `idle` is 1 too where the next end comes without a tuple, and then no copy takes what is kept:
+/// hence the gate that groups, whose `idle` is 0 there, do without.
 pub fn keep_tail(net: &mut NetBuilder, valid: Bit, eos: Bit, idle: Bit) -> Result<Tail, Memory>
     requires valid { IsBit net.old valid }
     requires eos { IsBit net.old eos }
@@ -144,23 +167,22 @@ pub fn keep_tail(net: &mut NetBuilder, valid: Bit, eos: Bit, idle: Bit) -> Resul
 pub fn take_rows(
     alloc: Global,
     net: &mut NetBuilder,
-    valid: Bit,
-    eos: Bit,
-    tail: Bit,
+    comes: Arrival,
     mids: &Bits,
     ends: &Bits,
 ) -> Result<Bits, Memory>
-    requires valid { IsBit net.old valid }
-    requires eos { IsBit net.old eos }
-    requires tail { IsBit net.old tail }
+    requires valid { IsBit net.old comes.valid }
+    requires eos { IsBit net.old comes.eos }
+    requires tail { IsBit net.old comes.tail }
     requires mids { AreBits net.old mids.now }
     requires ends { AreBits net.old ends.now }
     requires count { length ends.now ≡ length mids.now }
-    ensures { IfOk result (TakesOf net.old net.new valid eos tail mids.now ends.now) }
+    ensures { IfOk result
+        (TakesOf net.old net.new comes.valid comes.eos comes.tail mids.now ends.now) }
 {
-    let alone = but_not(net, valid, eos)?;
+    let alone = but_not(net, comes.valid, comes.eos)?;
     let each = with_all(alloc, net, LineOp::Both, mids, alone)?;
-    let last = with_all(alloc, net, LineOp::Both, ends, tail)?;
+    let last = with_all(alloc, net, LineOp::Both, ends, comes.tail)?;
     // Named, since a goal speaks of the value.
     let takes = pairwise(alloc, net, LineOp::Either, &each, &last)?;
     Ok(takes)

@@ -1,22 +1,18 @@
 //! Windows by rotation: the front before the copies of a body, and the back behind them.
 
-ghost use Rattle.std.specs.Prelude.{◌≡◌, IfOk, length};
-ghost use Rattle.gl_algebra.specs.FigureTable.{stride_of};
+ghost use Rattle.std.specs.Prelude.{◌≡◌};
 ghost use Rattle.gl_wire_copies.specs.Rotates.{flush_of};
-ghost use Rattle.gl_wire.specs.Faults.{AreLines};
-ghost use Rattle.gl_wire.specs.Wire.{IsWire};
-ghost use Rattle.gl_windows.specs.Rotations.{Fronts, IsBacked, IsFronted, IsRotation};
-ghost use Rattle.gl_wire_registers.specs.Joins.{AreCopies};
+ghost use Rattle.gl_windows.specs.Rotations.{IsRotation, rotation_machine};
 
-use crate::front::put_front;
+use crate::front::{Numbers, put_front};
 use gl_algebra::Figures;
 use gl_bits::Memory;
-use gl_net::{Bit, NetBuilder};
+use gl_net::{Buses, NetBuilder};
 use gl_wire::Emitted;
-use gl_wire_registers::{Wires, close_line, join_all};
+use gl_wire_registers::{Front, OverCopies, close_line, join_all, stride};
 use std::alloc::Global;
 
-/// Windows of `size` rows, one from each `advance`-th row on, over so many copies of a body.
+/// Windows of `size` rows, one from each `advance`-th row on, over copies of a body.
 #[derive(Clone, Copy)]
 pub struct Rotation {
     /// The rows of a window.
@@ -29,79 +25,47 @@ pub struct Rotation {
     pub body: Figures,
 }
 
-/// A front behind its source.
-#[derive(Drop)]
-pub struct Fronted {
-    /// What stands before the front.
-    pub source: Emitted,
-    /// For each copy the wire of its input.
-    pub wires: Wires,
-    /// The ends of the whole, one cycle before the back gives them.
-    pub close: Bit,
-}
-
 impl Rotation {
-    // The cycles from one copy's turn to the next one's.
-    fn stride(&self) -> u32
-        requires { IsRotation self.now }
-        ensures { result ≡ stride_of self.now.body }
-    {
-        self.body.le - self.body.a + 1
-    }
-
     // The cycles of a flush.
     fn flush(&self) -> u32
         requires { IsRotation self.now }
         ensures { result ≡ flush_of self.now.copies self.now.body }
     {
-        self.copies * self.stride()
+        self.copies * stride(&self.body)
     }
+}
 
-    /// The front: a wire for each copy, and the line of ends for the back.
-    pub fn front(
-        &self,
-        alloc: Global,
-        net: &mut NetBuilder,
-        source: Emitted,
-    ) -> Result<Fronted, Memory>
-        requires rotation { IsRotation self.now }
-        requires wire { IsWire net.old source.wire }
-        requires lines { AreLines net.old source.faults }
-        ensures { IfOk result (IsFronted net.old net.new self.now source) }
-    {
-        let stride = self.stride();
+impl OverCopies for Rotation {
+    ghost can_be = { IsRotation };
+
+    ghost machine = { rotation_machine };
+
+    fn front(&self, alloc: Global, net: &mut NetBuilder, source: Emitted) -> Result<Front, Memory> {
+        let numbers = Numbers {
+            size: self.size,
+            advance: self.advance,
+            copies: self.copies,
+            stride: stride(&self.body),
+        };
         let flush = self.flush();
-        let wires = put_front(
-            alloc,
-            net,
-            &source.wire,
-            self.size,
-            self.advance,
-            self.copies,
-            stride,
-        )?;
+        let wires = put_front(alloc, net, &source.wire, numbers)?;
         let close = close_line(net, source.wire.eos, flush, self.body.a)?;
-        Ok(Fronted {
+        Ok(Front {
             source,
             wires,
+            keys: Buses::new(alloc),
+            further: None,
             close,
         })
     }
 
-    /// The back: what the copies give on one wire, with all lines. Wherever each copy serves a body, the whole serves its windows.
-    pub fn back(
+    fn back(
         &self,
         alloc: Global,
         net: &mut NetBuilder,
-        front: &Fronted,
+        front: &Front,
         copies: &[Emitted],
-    ) -> Result<Emitted, Memory>
-        requires rotation { IsRotation self.now }
-        requires front { Fronts net.old self.now front.now }
-        requires copies { AreCopies net.old copies.now }
-        requires count { length copies.now ≡ self.now.copies }
-        ensures { IfOk result (IsBacked net.old net.new self.now front.now copies.now) }
-    {
+    ) -> Result<Emitted, Memory> {
         // Named, since a goal speaks of the value.
         let whole = join_all(alloc, net, front.source.faults, front.close, copies)?;
         Ok(whole)

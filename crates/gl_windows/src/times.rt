@@ -1,24 +1,21 @@
 //! Windows of time by rotation: the front before the copies of a body, with a line of ticks, and the back behind them.
 
-ghost use Rattle.std.specs.Prelude.{◌≡◌, IfOk, length};
-ghost use Rattle.gl_algebra.specs.FigureTable.{stride_of};
+ghost use Rattle.std.specs.Prelude.{◌≡◌, IfOk};
 ghost use Rattle.gl_net.specs.Net.{IsBit};
-ghost use Rattle.gl_wire.specs.Faults.{AreLines};
 ghost use Rattle.gl_wire.specs.Wire.{IsWire};
 ghost use Rattle.gl_wire_copies.specs.Rotates.{flush_of, turns_of};
-ghost use Rattle.gl_wire_registers.specs.Joins.{AreCopies};
-ghost use Rattle.gl_windows.specs.TimeRotations.{copies_of, AreTimeFronts, IsTimeBacked, IsTimeFronted, IsTimeRotation, TimeFronts};
+ghost use Rattle.gl_windows.specs.TimeRotations.{AreTimeFronts, IsTimeRotation, copies_of, ticked_machine};
 
 use crate::parts::{count_flush, count_left, count_openings, keep_tail, take_rows};
-use crate::rotation::Fronted;
-use crate::turns::rotate;
+use crate::turns::{Moves, rotate};
 use gl_algebra::Figures;
 use gl_algebra::table::copies_of_time;
 use gl_bits::Memory;
-use gl_net::{Bit, NetBuilder};
+use gl_net::{Bit, Buses, NetBuilder};
 use gl_wire::{Emitted, Wire, but_not, either};
 use gl_wire_registers::{
-    LineOp, Wires, bits_to, close_line, copy_wires, hold_all, join_all, pairwise, pointer, timer,
+    Arrival, Front, LineOp, OverCopies, Wires, bits_to, close_line, copy_wires, hold_all, join_all,
+    pairwise, pointer, stride, timer,
 };
 use std::alloc::Global;
 
@@ -33,8 +30,16 @@ pub struct TimeRotation {
     pub body: Figures,
 }
 
-// The wires of the copies, whose ends are so many cycles apart in a flush with so many cycles to its last turn. The first window
-// is open from reset on, and that of a later stream from the cycle behind the last turn.
+/// Windows of time beside the line of their ticks.
+#[derive(Clone, Copy)]
+pub struct Ticked {
+    /// The windows.
+    pub rotation: TimeRotation,
+    /// 1 where a tick comes.
+    pub tick: Bit,
+}
+
+// The wires of the copies. The first window is open from reset on, and that of a later stream from the cycle behind the last turn.
 #[tactic(auto, using(gl_wire_registers::proofs::LineLemmas::bits_kept, gl_wire::proofs::ColumnLemmas::buses_kept))]
 fn put_time_front(
     alloc: Global,
@@ -42,33 +47,39 @@ fn put_time_front(
     r: &TimeRotation,
     wire: &Wire,
     tick: Bit,
-    stride: u32,
-    turns: u32,
 ) -> Result<Wires, Memory>
     requires rotation { IsTimeRotation r.now }
     requires wire { IsWire net.old wire.now }
     requires tick { IsBit net.old tick }
-    requires stride { stride ≡ stride_of r.now.body }
-    requires turns { turns ≡ turns_of (copies_of r.now) r.now.body }
     ensures { IfOk result (AreTimeFronts net.old net.new r.now tick wire.now) }
 {
     let v = wire.valid;
     let e = wire.eos;
     let count = r.copies();
-    let reopens = timer(net, e, turns)?;
+    let reopens = timer(net, e, r.turns())?;
     let brings = either(net, tick, v)?;
     let busy = either(net, brings, reopens)?;
     let opening = count_openings(net, tick, e, r.advance - 1, r.advance)?;
     let opens = either(net, opening.opens, reopens)?;
-    let flush = count_flush(net, busy, e, stride)?;
+    let flush = count_flush(net, busy, e, stride(&r.body))?;
     let trigger = count_left(net, tick, e, flush.due, r.size, r.advance)?;
     let kept = keep_tail(net, v, e, flush.idle)?;
     let tail = but_not(net, kept.tail, trigger.last)?;
     let first = count - 1;
     let opened = pointer(net, opens, bits_to(first), u128::from(first))?;
-    let open = rotate(alloc, net, opens, opened, trigger.trigger, 1, first, count)?;
+    let moves = Moves {
+        opens,
+        opened,
+        trigger: trigger.trigger,
+    };
+    let open = rotate(alloc, net, moves, 1, first, count)?;
     let stay = pairwise(alloc, net, LineOp::ButNot, &open.mids, &open.ends)?;
-    let takes = take_rows(alloc, net, v, e, tail, &stay, &open.ends)?;
+    let comes = Arrival {
+        valid: v,
+        eos: e,
+        tail,
+    };
+    let takes = take_rows(alloc, net, comes, &stay, &open.ends)?;
     let row = hold_all(alloc, net, v, &wire.columns)?;
     // Named, since a goal speaks of the value.
     let wires = copy_wires(alloc, net, &takes, &open.ends, &row)?;
@@ -84,67 +95,49 @@ impl TimeRotation {
         copies_of_time(self.size, self.advance)
     }
 
-    // The cycles from one copy's turn to the next one's.
-    fn stride(&self) -> u32
+    // The cycles of a flush.
+    fn flush(&self) -> u32
         requires { IsTimeRotation self.now }
-        ensures { result ≡ stride_of self.now.body }
+        ensures { result ≡ flush_of (copies_of self.now) self.now.body }
     {
-        self.body.le - self.body.a + 1
+        self.copies() * stride(&self.body)
     }
 
-    // The cycles of a flush, and those from the end to its last turn.
-    fn flush(&self) -> (u32, u32)
+    // The cycles from the end to the last turn of a flush.
+    fn turns(&self) -> u32
         requires { IsTimeRotation self.now }
-        ensures flush { result.0 ≡ flush_of (copies_of self.now) self.now.body }
-        ensures turns { result.1 ≡ turns_of (copies_of self.now) self.now.body }
+        ensures { result ≡ turns_of (copies_of self.now) self.now.body }
     {
-        let stride = self.stride();
-        let flush = self.copies() * stride;
-        (flush, flush - stride)
+        self.flush() - stride(&self.body)
     }
+}
 
-    /// The front behind a stream and the line of its ticks: a wire for each copy, and the line of ends for the back.
-    pub fn front(
-        &self,
-        alloc: Global,
-        net: &mut NetBuilder,
-        source: Emitted,
-        tick: Bit,
-    ) -> Result<Fronted, Memory>
-        requires rotation { IsTimeRotation self.now }
-        requires wire { IsWire net.old source.wire }
-        requires lines { AreLines net.old source.faults }
-        requires tick { IsBit net.old tick }
-        ensures { IfOk result (IsTimeFronted net.old net.new self.now tick source) }
-    {
-        let (flush, turns) = self.flush();
-        let wires = put_time_front(alloc, net, self, &source.wire, tick, self.stride(), turns)?;
-        let close = close_line(net, source.wire.eos, flush, self.body.a)?;
-        Ok(Fronted {
+impl OverCopies for Ticked {
+    ghost can_be = { λ t. IsTimeRotation t.rotation };
+
+    ghost machine = { ticked_machine };
+
+    fn front(&self, alloc: Global, net: &mut NetBuilder, source: Emitted) -> Result<Front, Memory> {
+        let rotation = self.rotation;
+        let flush = rotation.flush();
+        let wires = put_time_front(alloc, net, &rotation, &source.wire, self.tick)?;
+        let close = close_line(net, source.wire.eos, flush, rotation.body.a)?;
+        Ok(Front {
             source,
             wires,
+            keys: Buses::new(alloc),
+            further: None,
             close,
         })
     }
 
-    /// The back: what the copies give on one wire, with all lines. Wherever each copy serves a body, the whole serves its windows
-    /// of time.
-    pub fn back(
+    fn back(
         &self,
         alloc: Global,
         net: &mut NetBuilder,
-        tick: Bit,
-        front: &Fronted,
+        front: &Front,
         copies: &[Emitted],
-    ) -> Result<Emitted, Memory>
-        requires rotation { IsTimeRotation self.now }
-        requires front { TimeFronts net.old self.now tick front.now }
-        requires copies { AreCopies net.old copies.now }
-        requires count { length copies.now ≡ copies_of self.now }
-        ensures { IfOk result (IsTimeBacked net.old net.new self.now tick front.now copies.now) }
-    {
-        // Clauses alone speak of it.
-        let _ = tick;
+    ) -> Result<Emitted, Memory> {
         // Named, since a goal speaks of the value.
         let whole = join_all(alloc, net, front.source.faults, front.close, copies)?;
         Ok(whole)

@@ -13,6 +13,17 @@ use gl_wire_registers::{
 };
 use std::alloc::Global;
 
+/// What opens a copy, and what ends one.
+#[derive(Clone, Copy, PartialEq, Eq, Debug)]
+pub struct Moves {
+    /// 1 where a copy opens.
+    pub opens: Bit,
+    /// The copy that opens next.
+    pub opened: Bus,
+    /// 1 where the oldest copy ends, if it is open.
+    pub trigger: Bit,
+}
+
 /// What follows from the flags of this cycle.
 #[derive(Drop)]
 pub struct Turn {
@@ -39,32 +50,31 @@ pub struct OpenCopies {
     pub ends: Bits,
 }
 
-/// Opens the copy at the pointer `opened` where `opens` is 1, and ends the oldest one, if it is open, where `trigger` is 1.
+/// Opens a copy and ends the oldest one, if it is open.
 #[tactic(auto, using(gl_wire_registers::proofs::LineLemmas::bits_kept))]
 pub fn take_turn(
     alloc: Global,
     net: &mut NetBuilder,
-    opens: Bit,
-    opened: Bus,
-    trigger: Bit,
+    moves: Moves,
     flags: &Bits,
     oldest: Bus,
     count: u32,
 ) -> Result<Turn, Memory>
-    requires opens { IsBit net.old opens }
-    requires opened { IsBus net.old opened }
-    requires opened_fits { count ≤ 2 ^ opened.width }
-    requires trigger { IsBit net.old trigger }
+    requires opens { IsBit net.old moves.opens }
+    requires opened { IsBus net.old moves.opened }
+    requires opened_fits { count ≤ 2 ^ moves.opened.width }
+    requires trigger { IsBit net.old moves.trigger }
     requires flags { AreBits net.old flags.now }
     requires flags_count { length flags.now ≡ count }
     requires oldest { IsBus net.old oldest }
     requires oldest_fits { count ≤ 2 ^ oldest.width }
     requires some_copy { 1 ≤ count }
-    ensures { IfOk result (Turns net.old net.new count opens opened trigger flags.now oldest) }
+    ensures { IfOk result (Turns net.old net.new count
+        moves.opens moves.opened moves.trigger flags.now oldest) }
 {
-    let news = decode(alloc, net, opens, opened, count)?;
+    let news = decode(alloc, net, moves.opens, moves.opened, count)?;
     let mids = pairwise(alloc, net, LineOp::Either, flags, &news)?;
-    let chosen = decode(alloc, net, trigger, oldest, count)?;
+    let chosen = decode(alloc, net, moves.trigger, oldest, count)?;
     let ends = pairwise(alloc, net, LineOp::Both, &chosen, &mids)?;
     let closes = any(net, &ends)?;
     let kept = pairwise(alloc, net, LineOp::ButNot, &mids, &ends)?;
@@ -99,35 +109,35 @@ fn resets(
     }
 }
 
-/// The copies, in registers that reset clears, but for the last copy's flag and the pointer to the oldest one, which is as wide as `opened`.
+/// The copies, in registers that reset clears, but for the flag of the last one and the pointer to the oldest one: those begin at `last` and
+/// `first`. The pointer is as wide as the other one.
 pub fn rotate(
     alloc: Global,
     net: &mut NetBuilder,
-    opens: Bit,
-    opened: Bus,
-    trigger: Bit,
+    moves: Moves,
     last: u32,
     first: u32,
     count: u32,
 ) -> Result<OpenCopies, Memory>
-    requires opens { IsBit net.old opens }
-    requires opened { IsBus net.old opened }
-    requires opened_fits { count ≤ 2 ^ opened.width }
-    requires trigger { IsBit net.old trigger }
+    requires opens { IsBit net.old moves.opens }
+    requires opened { IsBus net.old moves.opened }
+    requires opened_fits { count ≤ 2 ^ moves.opened.width }
+    requires trigger { IsBit net.old moves.trigger }
     requires some_copy { 1 ≤ count }
     requires last { last ≤ 1 }
     requires first { first < count }
-    ensures { IfOk result (AddsRotation net.old net.new count last first opens opened trigger) }
+    ensures { IfOk result (AddsRotation net.old net.new count last first
+        moves.opens moves.opened moves.trigger) }
 {
     let copies = count as usize;
     let flag = word(u128::from(last), 1);
-    let pointer = word(u128::from(first), opened.width);
+    let pointer = word(u128::from(first), moves.opened.width);
     let resets = resets(alloc, word(0, 1), flag, pointer, copies - 1)?;
     let registers = open_all(alloc, net, resets.as_slice())?;
     let (bits, pointers) = registers.as_slice().split_at(copies);
     let oldest = pointers[0];
     let flags = Bits::from_vec(lines_of(alloc, bits)?);
-    let turn = take_turn(alloc, net, opens, opened, trigger, &flags, oldest, count)?;
+    let turn = take_turn(alloc, net, moves, &flags, oldest, count)?;
     let nexts = buses_with(alloc, turn.kept.as_slice(), turn.next)?;
     drive_all(net, registers.as_slice(), nexts.as_slice())?;
     Ok(OpenCopies {

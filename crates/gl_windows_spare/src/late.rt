@@ -10,7 +10,7 @@ use gl_wire::{Wire, both, but_not, either};
 use gl_wire_registers::{choose_row, close_line, hold_all, latch, same_buses};
 use std::alloc::Global;
 
-/// A wire that carries what another does, but for each end, which comes with its tuple so many cycles later.
+/// A wire that carries what another does, but for each end, which comes with its tuple `shift` cycles later.
 #[tactic(auto, using(gl_wire::proofs::ColumnLemmas::bit_kept, gl_wire::proofs::ColumnLemmas::buses_kept))]
 pub fn late_ends(
     alloc: Global,

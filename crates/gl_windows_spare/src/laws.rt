@@ -20,7 +20,7 @@ pub fn spares_rotate()
     ensures { SparesRotate }
 {}
 
-/// What a rotation with spare copies costs is within what a plan counts for so many copies.
+/// What a rotation with spare copies costs is within what a plan counts for its copies.
 pub fn costs_are_counted()
     ensures { SparesAreCounted }
 {}

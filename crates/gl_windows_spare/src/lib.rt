@@ -7,4 +7,4 @@ pub mod late;
 pub mod laws;
 pub mod rotation;
 
-pub use rotation::{Fronted, SpareRotation};
+pub use rotation::SpareRotation;

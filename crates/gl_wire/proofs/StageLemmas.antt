@@ -1,5 +1,5 @@
 -- Registers behind a line and behind a wire, and wires that are some cycles behind.
-use Rattle.std.proofs.Common.{◌≡◌, ℕ, zero, suc, ◌+◌, ◌<◌, List, length, Some, None, Bool, false, refl, sym, ap, ◌∙◌, arith}
+use Rattle.std.proofs.Common.{◌≡◌, ℕ, zero, suc, ◌+◌, ◌<◌, List, length, Some, None, Bool, true, false, refl, sym, ap, ◌∙◌, arith}
 use Rattle.std.specs.Prelude.{if◌then◌else◌}
 use Rattle.std.specs.List.{sum}
 use Rattle.gl_bits.specs.Results.{Row}
@@ -27,6 +27,14 @@ line_first run line = refl
 pub tuple_by : (run : Run) (v : Bit) (bs : List Bus) (t : ℕ) → tuple_at run v bs t ≡ (if line_at run v t then Some (row_at run t bs) else None)
 unfolding tuple_at
 tuple_by run v bs t = refl
+
+-- and where none is, the line is 0
+pub no_line : (run : Run) (v : Bit) (bs : List Bus) (t : ℕ) → tuple_at run v bs t ≡ None → line_at run v t ≡ false
+no_line run v bs t e = by (line_at run v t) (sym (tuple_by run v bs t) ∙ e)
+  where
+    by : (b : Bool) → (if b then Some (row_at run t bs) else None) ≡ None → b ≡ false
+    by true p = absurd (cc)
+    by false p = refl
 
 tuple_later : (run : Run) (v u : Bit) (bs cs : List Bus) → ((t : ℕ) → line_at run u (suc t) ≡ line_at run v t) → ((t : ℕ) → row_at run (suc (suc t)) cs ≡ row_at run (suc t) bs) → (t : ℕ) → tuple_at run u cs (suc t) ≡ tuple_at run v bs t
 tuple_later run v u bs cs line row zero =

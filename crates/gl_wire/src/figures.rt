@@ -6,7 +6,7 @@ ghost use Rattle.gl_algebra.specs.FigureTable.{AreSmall, IsSound, aggregate_figu
 
 use gl_algebra::Figures;
 
-/// The figures of what comes so many cycles later.
+/// The figures of what comes `cycles` cycles later.
 pub fn delayed_figures(source: Figures, cycles: u32) -> Figures
     requires sound { IsSound source }
     requires small { AreSmall (delayed cycles source) }
@@ -36,7 +36,7 @@ pub fn settled_figures(source: Figures) -> Figures
     }
 }
 
-/// The figures of one row with each end, so many cycles later.
+/// The figures of one row with each end, `cycles` cycles later.
 pub fn total_figures(source: Figures, cycles: u32) -> Figures
     requires sound { IsSound source }
     requires small { AreSmall (aggregate_figures cycles source) }

@@ -10,6 +10,7 @@ pub mod gates;
 pub mod laws;
 pub mod operator;
 pub mod stages;
+pub mod widths;
 pub mod wire;
 
 pub use emitted::{Emitted, Faults};
@@ -18,4 +19,5 @@ pub use figures::{delayed_figures, settled_figures, total_figures};
 pub use gates::{both, but_not, either, same};
 pub use operator::Operator;
 pub use stages::{later, later_all, later_bit, later_wire, pad, stage};
+pub use widths::least_exponent;
 pub use wire::Wire;

@@ -98,7 +98,7 @@ fn copied(alloc: Global, wire: &Wire) -> Result<Wire, Memory>
     }
 }
 
-/// A wire that carries what another does so many cycles later, and nothing before.
+/// A wire that carries what another does `cycles` cycles later, and nothing before.
 pub fn pad(alloc: Global, net: &mut NetBuilder, wire: &Wire, cycles: u32) -> Result<Wire, Memory>
     requires { IsWire net.old wire.now }
     ensures { IfOk result (IsPad net.old net.new cycles wire.now) }

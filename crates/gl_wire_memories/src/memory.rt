@@ -7,7 +7,8 @@ ghost use Rattle.gl_wire_memories.specs.Memories.{IsStored};
 use gl_bits::Memory;
 use gl_net::{Bit, Bus, NetBuilder};
 
-/// A memory with places of so many bits: a value is written at a place where a line is 1, and what stands at a place is read in its own cycle.
+/// A memory whose places have numbers of `bits` bits: a value is written at `place` where `write` is 1, and what stands at the place `at` is
+/// read in its own cycle.
 pub fn put_memory(
     net: &mut NetBuilder,
     bits: u8,

@@ -8,3 +8,4 @@ pub mod RowLemmas
 pub mod TimerLemmas
 pub mod BackLemmas
 pub mod JoinLemmas
+pub mod FrontLemmas

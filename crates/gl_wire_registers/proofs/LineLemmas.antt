@@ -117,13 +117,13 @@ any_split m (suc n) f =
     let e : m + suc n ≡ suc (m + n) = omega arith in
     ap (λ i. any_to i f) e ∙ ap (λ b. b || f (m + n)) (any_split m n f) ∙ or_join (any_to m f) (any_to n (λ k. f (m + k))) (f (m + n))
 
-line_of-front : (run : Run) (bs cs : List Bit) (k t : ℕ) → k < length bs → line_of run (bs ++ cs) k t ≡ line_of run bs k t
+pub line_of-front : (run : Run) (bs cs : List Bit) (k t : ℕ) → k < length bs → line_of run (bs ++ cs) k t ≡ line_of run bs k t
 unfolding line_of
 line_of-front run [] cs k t l = absurd (omega (arith, l))
 line_of-front run (b ∷ bs) cs zero t l = refl
 line_of-front run (b ∷ bs) cs (suc k) t l = line_of-front run bs cs k t (omega (arith, l))
 
-line_of-behind : (run : Run) (bs cs : List Bit) (k t : ℕ) → line_of run (bs ++ cs) (length bs + k) t ≡ line_of run cs k t
+pub line_of-behind : (run : Run) (bs cs : List Bit) (k t : ℕ) → line_of run (bs ++ cs) (length bs + k) t ≡ line_of run cs k t
 unfolding line_of
 line_of-behind run [] cs k t = let e : 0 + k ≡ k = omega arith in ap (λ i. line_of run cs i t) e
 line_of-behind run (b ∷ bs) cs k t = let e : suc (length bs) + k ≡ suc (length bs + k) = omega arith in ap (λ i. line_of run (b ∷ bs ++ cs) i t) e ∙ line_of-behind run bs cs k t

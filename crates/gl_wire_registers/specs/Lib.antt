@@ -7,3 +7,4 @@ pub mod Rows
 pub mod Timers
 pub mod Backs
 pub mod Joins
+pub mod Fronts

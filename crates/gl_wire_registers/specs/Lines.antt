@@ -22,6 +22,12 @@ carried_of run [] k = record { tuple = λ t. None; ends = λ t. false }
 carried_of run (w ∷ ws) zero = carried run w
 carried_of run (w ∷ ws) (suc k) = carried_of run ws k
 
+-- what the register of a copy carries; in the reset cycle it counts as 0
+unfoldable pub held_of : Run → List Bus → ℕ → ℕ → ℕ
+held_of run [] k t = 0
+held_of run (b ∷ bs) zero t = held_at 0 run b t
+held_of run (b ∷ bs) (suc k) t = held_of run bs k t
+
 -- what a gate makes of two lines: both, either, or the first without the second
 abbrev pub line_op : LineOp → Bool → Bool → Bool
 line_op Both x y = x && y

@@ -10,7 +10,20 @@ use gl_bits::Memory;
 use gl_net::{BinaryOp, Bit, Bus, NetBuilder};
 use gl_wire::{but_not, either};
 
-/// The next value of a counter that goes down where `tick` is 1 and from 0 begins again at a number.
+/// The numbers of a counter that goes down.
+#[derive(Clone, Copy, PartialEq, Eq, Debug)]
+pub struct Counter {
+    /// The bits of its register.
+    pub width: u8,
+    /// What it begins at behind reset.
+    pub start: u128,
+    /// What it begins anew at where it is cleared.
+    pub cleared: u128,
+    /// What it begins again at from 0.
+    pub again: u128,
+}
+
+/// The next value of a counter that goes down where `tick` is 1 and from 0 begins again at `again`.
 pub fn next_count(net: &mut NetBuilder, counter: Bus, tick: Bit, again: u128) -> Result<Bus, Memory>
     requires counter { IsBus net.old counter }
     requires tick { IsBit net.old tick }
@@ -24,32 +37,31 @@ pub fn next_count(net: &mut NetBuilder, counter: Bus, tick: Bit, again: u128) ->
     Ok(kept)
 }
 
-/// A counter of so many bits that goes down where `tick` is 1, from 0 begins again at a number, and where `clear` is 1 at another one.
+/// A counter that goes down where `tick` is 1, and where `clear` is 1 begins anew.
 pub fn count_down(
     net: &mut NetBuilder,
     clear: Bit,
     tick: Bit,
-    width: u8,
-    start: u128,
-    cleared: u128,
-    again: u128,
+    counter: Counter,
 ) -> Result<Bus, Memory>
     requires clear { IsBit net.old clear }
     requires tick { IsBit net.old tick }
-    requires width { IsWidth width }
-    requires start { start < 2 ^ width }
-    requires cleared { cleared < 2 ^ width }
-    requires again { again < 2 ^ width }
-    ensures { IfOk result (IsCounter net.old net.new clear tick width start cleared again) }
+    requires width { IsWidth counter.width }
+    requires start { counter.start < 2 ^ counter.width }
+    requires cleared { counter.cleared < 2 ^ counter.width }
+    requires again { counter.again < 2 ^ counter.width }
+    ensures { IfOk result (IsCounter net.old net.new clear tick
+        counter.width counter.start counter.cleared counter.again) }
 {
-    let register = net.register(width, Some(word(start, width)))?;
-    let kept = next_count(net, register, tick, again)?;
-    let next = number_or(net, clear, cleared, kept)?;
+    let start = word(counter.start, counter.width);
+    let register = net.register(counter.width, Some(start))?;
+    let kept = next_count(net, register, tick, counter.again)?;
+    let next = number_or(net, clear, counter.cleared, kept)?;
     net.drive(register, next)?;
     Ok(register)
 }
 
-/// The next value of a pointer that goes up where `tick` is 1 and from the last one begins again at 0.
+/// The next value of a pointer that goes up where `tick` is 1 and from `last` begins again at 0.
 pub fn next_pointer(
     net: &mut NetBuilder,
     pointer: Bus,
@@ -67,7 +79,7 @@ pub fn next_pointer(
     Ok(next)
 }
 
-/// A pointer of so many bits that begins at 0, goes up where `tick` is 1, and from the last one begins again.
+/// A pointer of `width` bits that begins at 0, goes up where `tick` is 1, and from `last` begins again.
 pub fn pointer(net: &mut NetBuilder, tick: Bit, width: u8, last: u128) -> Result<Bus, Memory>
     requires tick { IsBit net.old tick }
     requires width { IsWidth width }

@@ -5,21 +5,25 @@
 
 pub mod back;
 pub mod counters;
+pub mod front;
 pub mod joins;
 pub mod lines;
 pub mod numbers;
+pub mod over_copies;
 pub mod registers;
 pub mod rows;
 pub mod timers;
 pub mod widths;
 
 pub use back::{choose_row, join_copies};
-pub use counters::{count_down, hold, latch, next_count, next_pointer, pointer};
+pub use counters::{Counter, count_down, hold, latch, next_count, next_pointer, pointer};
+pub use front::{Arrival, Front, stride};
 pub use joins::{join_all, join_lines};
 pub use lines::{
     Bits, LineOp, any, buses_of, buses_with, decode, gate, lines_of, pairwise, with_all,
 };
 pub use numbers::{always, never, number_at, number_or, when_equal, word};
+pub use over_copies::OverCopies;
 pub use registers::{drive_all, open_all, open_same};
 pub use rows::{Wires, copy_wires, hold_all, same_buses};
 pub use timers::{close_line, later_by, timer};

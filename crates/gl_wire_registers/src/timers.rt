@@ -4,21 +4,27 @@ ghost use Rattle.std.specs.Prelude.{IfOk};
 ghost use Rattle.gl_net.specs.Net.{IsBit};
 ghost use Rattle.gl_wire_registers.specs.Timers.{IsCloseLine, IsLaterBy, IsTimer};
 
-use crate::counters::{count_down, latch};
+use crate::counters::{Counter, count_down, latch};
 use crate::numbers::{always, when_equal};
 use crate::widths::bits_to;
 use gl_bits::Memory;
 use gl_net::{Bit, NetBuilder};
 use gl_wire::later_bit;
 
-/// A line that is 1 one cycle and so many more after the line `set` was 1, unless that was 1 again in between.
+/// A line that is 1 `cycles` + 1 cycles after the line `set` was 1, unless that was 1 again in between.
 pub fn timer(net: &mut NetBuilder, set: Bit, cycles: u32) -> Result<Bit, Memory>
     requires { IsBit net.old set }
     ensures { IfOk result (IsTimer net.old net.new set cycles) }
 {
     let one = always(net)?;
     let bits = bits_to(cycles);
-    let left = count_down(net, set, one, bits, 0, u128::from(cycles), 0)?;
+    let counter = Counter {
+        width: bits,
+        start: 0,
+        cleared: u128::from(cycles),
+        again: 0,
+    };
+    let left = count_down(net, set, one, counter)?;
     let over = when_equal(net, one, left, 0)?;
     let on = latch(net, set, over)?;
     // Named, since a goal speaks of the value.
@@ -26,7 +32,7 @@ pub fn timer(net: &mut NetBuilder, set: Bit, cycles: u32) -> Result<Bit, Memory>
     Ok(fired)
 }
 
-/// A line so many cycles behind another, which is 0 before.
+/// A line `cycles` cycles behind another, which is 0 before.
 pub fn later_by(net: &mut NetBuilder, line: Bit, cycles: u32) -> Result<Bit, Memory>
     requires { IsBit net.old line }
     ensures { IfOk result (IsLaterBy net.old net.new cycles line) }
@@ -38,7 +44,7 @@ pub fn later_by(net: &mut NetBuilder, line: Bit, cycles: u32) -> Result<Bit, Mem
     Ok(last)
 }
 
-/// The line of ends, one cycle and so many and so many more later, where ends are farther apart than the timer runs.
+/// The line of ends `cycles` + 1 + `more` cycles later, where ends are farther apart than the timer runs.
 pub fn close_line(net: &mut NetBuilder, ends: Bit, cycles: u32, more: u32) -> Result<Bit, Memory>
     requires { IsBit net.old ends }
     ensures { IfOk result (IsCloseLine net.old net.new cycles more ends) }

@@ -23,7 +23,7 @@ returns c =
     let b = c.in_ok-more.more in
     let width : rest.width ≡ suc (rest.width - 1) = omega (arith, c.requires.rest.width.some') in
     record {
-      keeps = keeps_then _ c.highest.new.net _ over.keeps (keeps_then _ c.shifted.new.net _ more.keeps
+      keeps = keeps_then _ c.highest.new.net _ over.keeps (keeps_then _ c.shift.new.net _ more.keeps
           (keeps_then _ c.at_most.new.net _ enough.keeps (keeps_then _ c.either.new.net _ fits.keeps behind)));
       cost = record {
         nodes = omega (arith, over.cost.nodes, more.cost.nodes, enough.cost.nodes, fits.cost.nodes, less.size, left.size);

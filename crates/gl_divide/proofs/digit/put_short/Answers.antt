@@ -32,7 +32,7 @@ returns c =
     let left = c.in_ok-left.ensures in
     let x = c.in_ok-more.more in
     let y = c.in_ok-less.less in
-    let behind_fits = keeps_then c.turned.new.net c.choose.new.self new kept.keeps left.keeps in
+    let behind_fits = keeps_then c.turn.new.net c.choose.new.self new kept.keeps left.keeps in
     let before_more : Keeps old c.join-2.new.self = keeps_then old c.constant.new.self _ zero.keeps (keeps_then _ c.join.new.self _ wide.keeps more.keeps) in
     let one_more : x.width ≡ rest.width + 1 = more.width ∙ ap (λ (n : ℕ). rest.width + n) c.bus.ensures.width in
     let is_more : (run : Run) → IsRun c.join-2.new.self run → (t : ℕ) → run.at (suc t) x.node ≡ 2 * run.at (suc t) rest.node + bit (line_at run next (suc t)) =
@@ -52,13 +52,13 @@ returns c =
     λ run r t. subst (λ (w : ℕ). run.at (suc t) bottom.node < 2 ^ w) (sym c.requires.widths) (bus_fits old bottom run c.requires.bottom (before_more.runs run r) (suc t)) in
     record {
       keeps = keeps_then old c.join-2.new.self new before_more (keeps_then _ c.binary.new.self new less.keeps
-          (keeps_then _ c.highest.new.net new under.keeps (keeps_then _ c.turned.new.net new fits.keeps behind_fits)));
+          (keeps_then _ c.highest.new.net new under.keeps (keeps_then _ c.turn.new.net new fits.keeps behind_fits)));
       cost = record {
         nodes = omega (arith, zero.size, wide.size, more.size, less.size, under.cost.nodes, fits.cost.nodes, kept.size, left.size);
         registers = omega (arith, zero.register_bits, wide.register_bits, more.register_bits, less.register_bits, under.cost.registers, fits.cost.registers, kept.register_bits, left.register_bits);
         memories = omega (arith, zero.memory_bits, wide.memory_bits, more.memory_bits, less.memory_bits, under.cost.memories, fits.cost.memories, kept.memory_bits, left.memory_bits);
       };
-      bit = bit_kept c.turned.new.net new c.in_ok-fits.fits behind_fits fits.bit;
+      bit = bit_kept c.turn.new.net new c.in_ok-fits.fits behind_fits fits.bit;
       bus = left.bus;
       same_width = omega (arith, left.width, c.requires.rest.width.some');
       line = λ run r t lt.

@@ -20,7 +20,7 @@ returns c =
     let stage : Stage = record { digits = c.in_ok-digits-2.digits; rest = c.in_ok-rest.rest; bottom = c.in_ok-bottom.bottom; go = c.in_ok-go.go } in
     record {
       keeps = keeps_then _ c.highest.new.net _ next.keeps (keeps_then _ c.put_digit.new.net _ digit.keeps
-          (keeps_then _ c.shifted.new.net _ shift.keeps (keeps_then _ c.later.new.net _ digits.keeps behind_digits)));
+          (keeps_then _ c.shift.new.net _ shift.keeps (keeps_then _ c.later.new.net _ digits.keeps behind_digits)));
       cost = record {
         nodes = omega (arith, next.cost.nodes, digit.cost.nodes, shift.cost.nodes, digits.cost.nodes, rest.cost.nodes, bottom.cost.nodes, go.cost.nodes);
         registers = omega (

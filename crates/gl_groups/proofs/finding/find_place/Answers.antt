@@ -11,7 +11,7 @@ pub pick-requires-clause-lines : goal.pick-requires-clause-lines
 pick-requires-clause-lines c = bits_opened c.args.net.now c.register.new.self c.args.hits.now c.in_ok-home.ensures.grows c.requires.hits
 
 pub pick-requires-clause-buses : goal.pick-requires-clause-buses
-pick-requires-clause-buses c = alike_opened c.args.net.now c.register.new.self c.args.base.width c.args.numbers.now c.in_ok-home.ensures.grows c.requires.numbers
+pick-requires-clause-buses c = alike_opened c.args.net.now c.register.new.self c.args.choice.base.width c.args.numbers.now c.in_ok-home.ensures.grows c.requires.numbers
 
 pub returns : goal.returns
 returns c =
@@ -37,7 +37,7 @@ returns c =
           met.law run (there.keeps.runs run (number.keeps.runs run at_number)) t;
       number = λ run r.
           let at_number = drive.grows.runs run r in
-          number_at run c.args.one c.args.moved c.in_ok-met.met c.in_ok-home.home c.args.base c.in_ok-there.there c.in_ok-number.number
+          number_at run c.args.choice.one c.args.choice.moved c.in_ok-met.met c.in_ok-home.home c.args.choice.base c.in_ok-there.there c.in_ok-number.number
           (there.value run (number.keeps.runs run at_number)) (number.value run at_number);
       home = λ run r. home_at run c.in_ok-home.home c.in_ok-number.number (drive.value run r);
     }

@@ -18,6 +18,6 @@ returns c = record {
   mid = c.numbers.new.net;
   numbers = c.in_ok-places.places;
   counts = c.in_ok-places.ensures;
-  place = subst (λ (bs : List Bus). AddsPlace c.numbers.new.net c.find_place.new.net c.args.one c.args.moved c.args.hits.now c.args.base bs c.in_ok-place.place) c.as_slice-2.ensures
-      (subst (λ (bs : List Bit). AddsPlace c.numbers.new.net c.find_place.new.net c.args.one c.args.moved bs c.args.base c.as_slice-2.result.now c.in_ok-place.place) c.as_slice.ensures c.in_ok-place.ensures);
+  place = subst (λ (bs : List Bus). AddsPlace c.numbers.new.net c.find_place.new.net c.args.choice.one c.args.choice.moved c.args.hits.now c.args.choice.base bs c.in_ok-place.place) c.as_slice-2.ensures
+      (subst (λ (bs : List Bit). AddsPlace c.numbers.new.net c.find_place.new.net c.args.choice.one c.args.choice.moved bs c.args.choice.base c.as_slice-2.result.now c.in_ok-place.place) c.as_slice.ensures c.in_ok-place.ensures);
 }

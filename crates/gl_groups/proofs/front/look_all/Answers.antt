@@ -26,6 +26,6 @@ turn_slots-requires-clause-due c =
 pub returns : goal.returns
 returns c =
     looked_are c.args.net.now c.count_flush.new.net c.keep_tail.new.net c.look_up.new.net c.put_slots.new.net c.turn_slots.new.net
-    c.args.wire.now c.args.key c.args.count c.args.stride c.args.width c.requires.count
+    c.args.wire.now c.args.numbers.key c.args.numbers.slots c.args.numbers.stride c.args.numbers.width c.requires.count
     c.in_ok-flush.flush c.in_ok-tail.tail c.in_ok-look.look c.in_ok-slots.slots c.in_ok-turning.turning
     c.in_ok-flush.ensures c.in_ok-tail.ensures c.in_ok-look.ensures c.in_ok-slots.ensures c.in_ok-turning.ensures

@@ -7,5 +7,5 @@ later_bit-requires c = bit_kept c.choose_slots.new.net c.copy_wires.new.net c.in
 
 pub returns : goal.returns
 returns c =
-    fronts_are c.args.net.now c.choose_slots.new.net c.copy_wires.new.net c.later_bit.new.net c.args.wire.now c.args.key c.args.count c.args.stride c.args.width
+    fronts_are c.args.net.now c.choose_slots.new.net c.copy_wires.new.net c.later_bit.new.net c.args.wire.now c.args.numbers.key c.args.numbers.slots c.args.numbers.stride c.args.numbers.width
     c.in_ok-chosen.chosen c.in_ok-wires.wires c.in_ok-further.further c.in_ok-chosen.ensures c.in_ok-wires.ensures c.in_ok-further.ensures

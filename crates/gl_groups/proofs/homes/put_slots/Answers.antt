@@ -21,18 +21,18 @@ same_each-requires-clause-keys c =
 
 pub keep_slots-requires-clause-free : goal.keep_slots-requires-clause-free
 keep_slots-requires-clause-free c =
-    bit_kept c.register.new.self c.same_each.new.net c.args.free c.in_ok-homes.ensures.keeps
-    (bit_opened c.marks.new.net c.register.new.self c.args.free c.in_ok-home.ensures.grows (bit_kept c.args.net.now c.marks.new.net c.args.free c.in_ok-marks.ensures.keeps c.requires.free))
+    bit_kept c.register.new.self c.same_each.new.net c.args.wanted.free c.in_ok-homes.ensures.keeps
+    (bit_opened c.marks.new.net c.register.new.self c.args.wanted.free c.in_ok-home.ensures.grows (bit_kept c.args.net.now c.marks.new.net c.args.wanted.free c.in_ok-marks.ensures.keeps c.requires.free))
 
 pub keep_slots-requires-clause-ask : goal.keep_slots-requires-clause-ask
 keep_slots-requires-clause-ask c =
-    bit_kept c.register.new.self c.same_each.new.net c.args.ask c.in_ok-homes.ensures.keeps
-    (bit_opened c.marks.new.net c.register.new.self c.args.ask c.in_ok-home.ensures.grows (bit_kept c.args.net.now c.marks.new.net c.args.ask c.in_ok-marks.ensures.keeps c.requires.ask))
+    bit_kept c.register.new.self c.same_each.new.net c.args.wanted.ask c.in_ok-homes.ensures.keeps
+    (bit_opened c.marks.new.net c.register.new.self c.args.wanted.ask c.in_ok-home.ensures.grows (bit_kept c.args.net.now c.marks.new.net c.args.wanted.ask c.in_ok-marks.ensures.keeps c.requires.ask))
 
 pub keep_slots-requires-clause-here : goal.keep_slots-requires-clause-here
 keep_slots-requires-clause-here c =
-    bus_kept c.register.new.self c.same_each.new.net c.args.here c.in_ok-homes.ensures.keeps
-    (grown_bus c.marks.new.net c.register.new.self c.args.here c.in_ok-home.ensures.grows (bus_kept c.args.net.now c.marks.new.net c.args.here c.in_ok-marks.ensures.keeps c.requires.here))
+    bus_kept c.register.new.self c.same_each.new.net c.args.wanted.here c.in_ok-homes.ensures.keeps
+    (grown_bus c.marks.new.net c.register.new.self c.args.wanted.here c.in_ok-home.ensures.grows (bus_kept c.args.net.now c.marks.new.net c.args.wanted.here c.in_ok-marks.ensures.keeps c.requires.here))
 
 pub keep_slots-requires-clause-homes_count : goal.keep_slots-requires-clause-homes_count
 keep_slots-requires-clause-homes_count c = c.in_ok-homes.ensures.count ∙ ap (λ (bs : List Bus). length bs) c.as_slice.ensures ∙ c.in_ok-marks.ensures.count
@@ -73,7 +73,7 @@ returns c =
     inner drive.grows drive.ports drive.name drive.others drive.driven in
     let lines = subst (λ (bs : List Bus). AddsLines c.register.new.self c.same_each.new.net (length bs) 1 c.in_ok-homes.homes (same_to c.in_ok-home.home bs)) c.as_slice.ensures c.in_ok-homes.ensures in
     let next = subst (λ (bs : List Bus). AddsMark c.keep_slots.new.net c.mark_slot.new.net c.in_ok-slots.slots.seen (length bs) c.args.width c.in_ok-next.next) c.as_slice-2.ensures c.in_ok-next.ensures in
-    slots_add c.args.net.now c.marks.new.net c.register.new.self c.same_each.new.net c.keep_slots.new.net c.mark_slot.new.net c.drive.new.self c.args.free c.args.ask c.args.here c.args.count c.args.width
+    slots_add c.args.net.now c.marks.new.net c.register.new.self c.same_each.new.net c.keep_slots.new.net c.mark_slot.new.net c.drive.new.self c.args.wanted.free c.args.wanted.ask c.args.wanted.here c.args.count c.args.width
     c.in_ok-marks.marks c.in_ok-home.home c.in_ok-homes.homes c.in_ok-slots.slots c.in_ok-next.next c.in_ok-marks.ensures (λ run r. home.start run r ∙ c.word.ensures.bits)
     (record { nodes = omega (arith, home.size); registers = omega (arith, home.register_bits); memories = omega (arith, home.memory_bits) }) home.grows lines c.in_ok-slots.ensures next
     drive.grows (record { nodes = omega (arith, drive.size); registers = omega (arith, drive.register_bits); memories = omega (arith, drive.memory_bits) }) drive.value closed

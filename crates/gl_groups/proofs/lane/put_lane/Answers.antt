@@ -14,17 +14,17 @@ find_slots-requires-clause-asking c =
     let k_end = keeps_then c.count_flush.new.net c.hold_end.new.net c.count_over.new.net c.in_ok-end.ensures.keeps c.in_ok-over.ensures.keeps in
     let k_late = keeps_then c.hold_wire.new.net c.count_flush.new.net c.count_over.new.net c.in_ok-flush.ensures.keeps k_end in
     let k_all = keeps_then c.args.net.now c.hold_wire.new.net c.count_over.new.net late.keeps k_late in
-    let many = columns_as_many c.args.wire.now.columns c.in_ok-late.late.columns c.args.key late.same_widths c.requires.key in
+    let many = columns_as_many c.args.wire.now.columns c.in_ok-late.late.columns c.args.numbers.key late.same_widths c.requires.key in
     let none : Bus = record { node = 0; width = 0 } in
-    let last = column_is c.in_ok-late.late.columns c.as_slice.result.now c.args.key none c.as_slice.ensures many in
-    let here = column_is c.args.wire.now.columns c.as_slice-2.result.now c.args.key none c.as_slice-2.ensures c.requires.key in
+    let last = column_is c.in_ok-late.late.columns c.as_slice.result.now c.args.numbers.key none c.as_slice.ensures many in
+    let here = column_is c.args.wire.now.columns c.as_slice-2.result.now c.args.numbers.key none c.as_slice-2.ensures c.requires.key in
     record {
       free = bit_kept c.count_flush.new.net c.count_over.new.net c.in_ok-flush.flush.free k_end c.in_ok-flush.ensures.free;
       ask = bit_kept c.hold_wire.new.net c.count_over.new.net c.in_ok-late.late.valid k_late late.wire.valid;
-      last = bus_kept c.hold_wire.new.net c.count_over.new.net _ k_late (column_there c.hold_wire.new.net c.in_ok-late.late.columns c.as_slice.result.now c.args.key none late.wire.columns c.as_slice.ensures many);
+      last = bus_kept c.hold_wire.new.net c.count_over.new.net _ k_late (column_there c.hold_wire.new.net c.in_ok-late.late.columns c.as_slice.result.now c.args.numbers.key none late.wire.columns c.as_slice.ensures many);
       come = bit_kept c.args.net.now c.count_over.new.net c.args.wire.now.valid k_all c.requires.wire.valid;
-      here = bus_kept c.args.net.now c.count_over.new.net _ k_all (column_there c.args.net.now c.args.wire.now.columns c.as_slice-2.result.now c.args.key none c.requires.wire.columns c.as_slice-2.ensures c.requires.key);
-      same_width = width_there c.args.wire.now.columns c.args.key _ here ∙ sym (ap (λ ws. slice_index ws c.args.key) late.same_widths) ∙ sym (width_there c.in_ok-late.late.columns c.args.key _ last);
+      here = bus_kept c.args.net.now c.count_over.new.net _ k_all (column_there c.args.net.now c.args.wire.now.columns c.as_slice-2.result.now c.args.numbers.key none c.requires.wire.columns c.as_slice-2.ensures c.requires.key);
+      same_width = width_there c.args.wire.now.columns c.args.numbers.key _ here ∙ sym (ap (λ ws. slice_index ws c.args.numbers.key) late.same_widths) ∙ sym (width_there c.in_ok-late.late.columns c.args.numbers.key _ last);
     }
 
 pub tell_lane-requires-clause-late : goal.tell_lane-requires-clause-late
@@ -49,11 +49,11 @@ tell_lane-requires-clause-turns c =
 pub returns : goal.returns
 returns c =
     let none : Bus = record { node = 0; width = 0 } in
-    let many = columns_as_many c.args.wire.now.columns c.in_ok-late.late.columns c.args.key c.in_ok-late.ensures.same_widths c.requires.key in
+    let many = columns_as_many c.args.wire.now.columns c.in_ok-late.late.columns c.args.numbers.key c.in_ok-late.ensures.same_widths c.requires.key in
     let lines = c.in_ok-lines.ensures in
-    subst (AddsLane c.args.net.now c.tell_lane.new.net c.args.key c.args.count c.args.stride c.args.width c.args.wire.now) (sym lines.lines)
-    (lanes_are c.args.net.now c.hold_wire.new.net c.count_flush.new.net c.hold_end.new.net c.count_over.new.net c.find_slots.new.net c.tell_lane.new.net c.args.wire.now c.in_ok-late.late c.args.key c.args.count c.args.stride c.args.width
-    c.requires.count c.requires.stride c.requires.fits c.in_ok-flush.flush c.in_ok-end.end c.in_ok-over.over (slice_index_or c.as_slice.result.now c.args.key none) (slice_index_or c.as_slice-2.result.now c.args.key none)
+    subst (AddsLane c.args.net.now c.tell_lane.new.net c.args.numbers.key c.args.numbers.slots c.args.numbers.stride c.args.numbers.width c.args.wire.now) (sym lines.lines)
+    (lanes_are c.args.net.now c.hold_wire.new.net c.count_flush.new.net c.hold_end.new.net c.count_over.new.net c.find_slots.new.net c.tell_lane.new.net c.args.wire.now c.in_ok-late.late c.args.numbers.key c.args.numbers.slots c.args.numbers.stride c.args.numbers.width
+    c.requires.count c.requires.stride c.requires.fits c.in_ok-flush.flush c.in_ok-end.end c.in_ok-over.over (slice_index_or c.as_slice.result.now c.args.numbers.key none) (slice_index_or c.as_slice-2.result.now c.args.numbers.key none)
     c.in_ok-found.found lines.told
-    (column_is c.in_ok-late.late.columns c.as_slice.result.now c.args.key none c.as_slice.ensures many) (column_is c.args.wire.now.columns c.as_slice-2.result.now c.args.key none c.as_slice-2.ensures c.requires.key)
+    (column_is c.in_ok-late.late.columns c.as_slice.result.now c.args.numbers.key none c.as_slice.ensures many) (column_is c.args.wire.now.columns c.as_slice-2.result.now c.args.numbers.key none c.as_slice-2.ensures c.requires.key)
     c.in_ok-late.ensures c.in_ok-flush.ensures c.in_ok-end.ensures c.in_ok-over.ensures c.in_ok-found.ensures lines.adds)

@@ -8,7 +8,7 @@ use Rattle.gl_groups.proofs.SlotNet.{found_are, keys_of_kept}
 use Rattle.gl_groups.proofs.slots.find_all.Goals as goal
 
 pub same_each-requires-clause-keys : goal.same_each-requires-clause-keys
-same_each-requires-clause-keys c = keys_of_kept c.args.net.now c.with_all.new.net c.args.here c.args.keys.now c.in_ok-kept.ensures.keeps c.requires.keys
+same_each-requires-clause-keys c = keys_of_kept c.args.net.now c.with_all.new.net c.args.wanted.here c.args.keys.now c.in_ok-kept.ensures.keeps c.requires.keys
 
 pub choose_each-requires-clause-yes : goal.choose_each-requires-clause-yes
 choose_each-requires-clause-yes c = subst (AreBits c.same_each.new.net) (sym c.as_slice.ensures) c.in_ok-same.ensures.bits
@@ -35,8 +35,8 @@ pairwise-requires-clause-count c =
 
 pub returns : goal.returns
 returns c =
-    let chosen = subst (λ (bs : List Bit). AddsLines c.same_each.new.net c.choose_each.new.net (length c.in_ok-same.same) 1 c.in_ok-has.has (chosen_to c.args.ask c.in_ok-same.same bs))
+    let chosen = subst (λ (bs : List Bit). AddsLines c.same_each.new.net c.choose_each.new.net (length c.in_ok-same.same) 1 c.in_ok-has.has (chosen_to c.args.wanted.ask c.in_ok-same.same bs))
     c.as_slice-2.ensures
-    (subst (λ (bs : List Bit). AddsLines c.same_each.new.net c.choose_each.new.net (length bs) 1 c.in_ok-has.has (chosen_to c.args.ask bs c.as_slice-2.result.now)) c.as_slice.ensures c.in_ok-has.ensures) in
-    found_are c.args.net.now c.with_all.new.net c.same_each.new.net c.choose_each.new.net c.pairwise.new.net c.any.new.net c.args.used.now c.args.keys.now c.args.free c.args.ask c.args.here c.args.homes.now
+    (subst (λ (bs : List Bit). AddsLines c.same_each.new.net c.choose_each.new.net (length bs) 1 c.in_ok-has.has (chosen_to c.args.wanted.ask bs c.as_slice-2.result.now)) c.as_slice.ensures c.in_ok-has.ensures) in
+    found_are c.args.net.now c.with_all.new.net c.same_each.new.net c.choose_each.new.net c.pairwise.new.net c.any.new.net c.args.used.now c.args.keys.now c.args.wanted.free c.args.wanted.ask c.args.wanted.here c.args.homes.now
     c.in_ok-kept.kept c.in_ok-same.same c.in_ok-has.has c.in_ok-found.found c.in_ok-one.one c.requires.count c.in_ok-kept.ensures c.in_ok-same.ensures chosen c.in_ok-found.ensures c.in_ok-one.ensures

@@ -35,7 +35,7 @@ but_not-requires-clause-right c =
 
 pub returns : goal.returns
 returns c =
-    seen_are c.args.net.now c.find_all.new.net c.ask_each.new.net c.pairwise.new.net c.with_all.new.net c.pairwise-2.new.net c.but_not.new.net c.args.used.now c.args.keys.now c.args.free c.args.ask c.args.here c.args.homes.now
+    seen_are c.args.net.now c.find_all.new.net c.ask_each.new.net c.pairwise.new.net c.with_all.new.net c.pairwise-2.new.net c.but_not.new.net c.args.used.now c.args.keys.now c.args.wanted.free c.args.wanted.ask c.args.wanted.here c.args.homes.now
     c.in_ok-found.found c.in_ok-asked.asked c.in_ok-nexts.nexts c.in_ok-takes.takes c.in_ok-has.has c.in_ok-passes.passes c.in_ok-found.ensures
-    (subst (λ (bs : List Bit). AddsAsks c.find_all.new.net c.ask_each.new.net c.args.ask bs (length bs) c.in_ok-asked.asked) c.as_slice.ensures c.in_ok-asked.ensures)
+    (subst (λ (bs : List Bit). AddsAsks c.find_all.new.net c.ask_each.new.net c.args.wanted.ask bs (length bs) c.in_ok-asked.asked) c.as_slice.ensures c.in_ok-asked.ensures)
     c.in_ok-nexts.ensures c.in_ok-takes.ensures c.in_ok-has.ensures c.in_ok-passes.ensures

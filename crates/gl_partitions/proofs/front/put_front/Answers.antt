@@ -20,8 +20,8 @@ later_bit-requires c =
 pub returns : goal.returns
 returns c =
     let look = c.in_ok-look.look in
-    let keys : c.in_ok-keys.keys ≡ repeated c.args.copies look.keys = c.in_ok-keys.ensures ∙ ap (repeated c.args.copies) c.as_slice.ensures in
-    subst (λ (bs : List Bus). AddsFront c.args.net.now c.later_bit.new.net c.args.key c.args.slots c.args.size c.args.advance c.args.copies c.args.stride c.args.width c.args.wire.now
+    let keys : c.in_ok-keys.keys ≡ repeated c.args.numbers.sizes.copies look.keys = c.in_ok-keys.ensures ∙ ap (repeated c.args.numbers.sizes.copies) c.as_slice.ensures in
+    subst (λ (bs : List Bus). AddsFront c.args.net.now c.later_bit.new.net c.args.numbers.key c.args.numbers.slots c.args.numbers.sizes.size c.args.numbers.sizes.advance c.args.numbers.sizes.copies c.args.numbers.stride c.args.numbers.width c.args.wire.now
     (record { wires = c.in_ok-wires.wires; keys = bs; further = c.in_ok-further.further })) (sym keys)
-    (front_adds c.args.net.now c.look_at.new.net c.put_looked.new.net c.copy_wires.new.net c.later_bit.new.net c.args.wire.now c.args.key c.args.slots c.args.size c.args.advance c.args.copies c.args.stride c.args.width
+    (front_adds c.args.net.now c.look_at.new.net c.put_looked.new.net c.copy_wires.new.net c.later_bit.new.net c.args.wire.now c.args.numbers.key c.args.numbers.slots c.args.numbers.sizes.size c.args.numbers.sizes.advance c.args.numbers.sizes.copies c.args.numbers.stride c.args.numbers.width
     c.requires.size c.requires.advance c.requires.copies look c.in_ok-chosen.chosen c.in_ok-wires.wires c.in_ok-further.further c.in_ok-look.ensures c.in_ok-chosen.ensures c.in_ok-wires.ensures c.in_ok-further.ensures)

@@ -16,5 +16,5 @@ put_windows-requires-clause-count c = ap (λ (bs : List Bit). length bs) c.as_sl
 pub returns : goal.returns
 returns c =
     let look = c.args.look.now in
-    subst (λ (ds : List Bit). AddsSlots c.args.net.now c.put_windows.new.net c.args.wire.now.valid c.args.wire.now.eos look.tail look.matches ds c.args.size c.args.advance c.args.copies (length look.matches) c.in_ok-chosen.chosen) c.as_slice-dues.ensures
-    (subst (λ (ms : List Bit). AddsSlots c.args.net.now c.put_windows.new.net c.args.wire.now.valid c.args.wire.now.eos look.tail ms c.as_slice-dues.result.now c.args.size c.args.advance c.args.copies (length ms) c.in_ok-chosen.chosen) c.as_slice-matches.ensures c.in_ok-chosen.ensures)
+    subst (λ (ds : List Bit). AddsSlots c.args.net.now c.put_windows.new.net c.args.wire.now.valid c.args.wire.now.eos look.tail look.matches ds c.args.sizes.size c.args.sizes.advance c.args.sizes.copies (length look.matches) c.in_ok-chosen.chosen) c.as_slice-dues.ensures
+    (subst (λ (ms : List Bit). AddsSlots c.args.net.now c.put_windows.new.net c.args.wire.now.valid c.args.wire.now.eos look.tail ms c.as_slice-dues.result.now c.args.sizes.size c.args.sizes.advance c.args.sizes.copies (length ms) c.in_ok-chosen.chosen) c.as_slice-matches.ensures c.in_ok-chosen.ensures)

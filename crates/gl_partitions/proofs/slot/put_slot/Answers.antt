@@ -12,7 +12,7 @@ take_rows-requires-clause-valid c =
 
 pub take_rows-requires-clause-eos : goal.take_rows-requires-clause-eos
 take_rows-requires-clause-eos c =
-    bit_kept c.args.net.now c.rotate.new.net c.args.eos
+    bit_kept c.args.net.now c.rotate.new.net c.args.comes.eos
     (keeps_then c.args.net.now c.both.new.net c.rotate.new.net c.in_ok-own.ensures.keeps (keeps_then c.both.new.net c.both-2.new.net c.rotate.new.net c.in_ok-last.ensures.keeps
     (keeps_then c.both-2.new.net c.count_openings.new.net c.rotate.new.net c.in_ok-next.ensures.keeps (keeps_then c.count_openings.new.net c.count_filled.new.net c.rotate.new.net c.in_ok-filled.ensures.keeps
     (keeps_then c.count_filled.new.net c.pointer.new.net c.rotate.new.net c.in_ok-opened.ensures.keeps c.in_ok-open.ensures.keeps)))))
@@ -28,6 +28,6 @@ take_rows-requires-clause-tail c =
 pub returns : goal.returns
 returns c =
     slot_adds c.args.net.now c.both.new.net c.both-2.new.net c.count_openings.new.net c.count_filled.new.net c.pointer.new.net c.rotate.new.net c.take_rows.new.net
-    c.args.valid c.args.eos c.args.tail c.args.mine c.args.due c.in_ok-own.own c.in_ok-last.last c.args.size c.args.advance c.args.copies c.bits_to.result c.from.result c.requires.copies c.bits_to.ensures.few c.from.ensures
+    c.args.comes.valid c.args.comes.eos c.args.comes.tail c.args.mine c.args.due c.in_ok-own.own c.in_ok-last.last c.args.sizes.size c.args.sizes.advance c.args.sizes.copies c.bits_to.result c.from.result c.requires.copies c.bits_to.ensures.few c.from.ensures
     c.in_ok-next.next c.in_ok-filled.filled c.in_ok-opened.opened c.in_ok-open.open c.in_ok-takes.takes
     c.in_ok-own.ensures c.in_ok-last.ensures c.in_ok-next.ensures c.in_ok-filled.ensures c.in_ok-opened.ensures c.in_ok-open.ensures c.in_ok-takes.ensures

@@ -7,7 +7,7 @@ use Rattle.gl_partitions.proofs.SlotNet.{slots_more, slots_none}
 use Rattle.gl_partitions.proofs.slot.put_windows.Goals as goal
 
 pub loop-i-init : goal.loop-i-init
-loop-i-init c = rw (c.new-takes.ensures, c.new-ends.ensures) (slots_none c.args.net.now c.args.valid c.args.eos c.args.tail c.args.matches.now c.args.dues.now c.args.size c.args.advance c.args.copies)
+loop-i-init c = rw (c.new-takes.ensures, c.new-ends.ensures) (slots_none c.args.net.now c.args.comes.valid c.args.comes.eos c.args.comes.tail c.args.matches.now c.args.dues.now c.args.sizes.size c.args.sizes.advance c.args.sizes.copies)
 
 pub put_slot-requires-clause-valid : goal.put_slot-requires-clause-valid
 put_slot-requires-clause-valid c = bit_kept c.args.net.now c.loop-i.net _ c.loop-i.invariant.keeps c.requires.valid
@@ -32,5 +32,5 @@ loop-i-preserved c =
     let line : Bit = slice_index_or c.args.matches.now c.loop-i.i (record { node = 0 }) in
     let due : Bit = slice_index_or c.args.dues.now c.loop-i.i (record { node = 0 }) in
     rw (c.in_ok-append.ensures, c.in_ok-append-2.ensures, c.as_slice.ensures, c.as_slice-in-loop-i.ensures)
-    (slots_more c.args.net.now c.loop-i.net c.put_slot.new.net c.args.valid c.args.eos c.args.tail line due c.args.matches.now c.args.dues.now c.args.size c.args.advance c.args.copies c.loop-i.i
+    (slots_more c.args.net.now c.loop-i.net c.put_slot.new.net c.args.comes.valid c.args.comes.eos c.args.comes.tail line due c.args.matches.now c.args.dues.now c.args.sizes.size c.args.sizes.advance c.args.sizes.copies c.loop-i.i
     (record { takes = c.loop-i.takes; ends = c.loop-i.ends }) c.in_ok-slot.slot (slice_get-get_or _ _ _ c.loop-i-test.true) (slice_get-get_or _ _ _ more) c.loop-i.invariant c.in_ok-slot.ensures)

@@ -7,7 +7,7 @@ use Rattle.gl_totals.proofs.fold.put_moved.Goals as goal
 pub returns : goal.returns
 returns c =
     let old = c.args.net.now in
-    let new = c.shifted.new.net in
+    let new = c.shift.new.net in
     let low = c.in_ok-low.ensures in
     let out = c.in_ok-out.ensures in
     record {

@@ -15,14 +15,14 @@ use Rattle.gl_totals.proofs.fold.put_slots.Goals as goal
 pub choose-requires-clause-test : goal.choose-requires-clause-test
 choose-requires-clause-test c =
     let passed : Keeps c.put_now.new.net c.constant.new.self = keeps_then c.put_now.new.net c.put_passing.new.net c.constant.new.self c.in_ok-ahead.ensures.keeps c.in_ok-again.ensures.keeps in
-    bit_kept c.register.new.self c.constant.new.self c.args.begins (keeps_then c.register.new.self c.put_now.new.net c.constant.new.self c.in_ok-fold.ensures.keeps passed)
+    bit_kept c.register.new.self c.constant.new.self c.args.slots.begins (keeps_then c.register.new.self c.put_now.new.net c.constant.new.self c.in_ok-fold.ensures.keeps passed)
     (record { there = c.in_ok-word.ensures.grows.shapes _ _ c.requires.begins.there })
 
 pub returns : goal.returns
 returns c = λ eos.
     let old = c.args.net.now in
     let new = c.drive.new.self in
-    let slot = c.args.slot in
+    let slot = c.args.slots.slot in
     let word = c.in_ok-word.ensures in
     let w = c.in_ok-word.word in
     let f = c.in_ok-fold.fold in
@@ -54,10 +54,10 @@ returns c = λ eos.
           let at_state = drive.grows.runs run r in
           let at_ahead = cleared.runs run at_state in
           let at_fold = ahead.keeps.runs run at_ahead in
-          subst (λ (b : Bus). IsFolded run c.args.initial.width c.args.initial.bits c.args.step (in_memory c.args.valid eos c.args.first c.args.begins slot c.args.next) b f.now) (sym fold.before)
-          (slots_folded run c.args.valid c.args.first slot c.args.next f.now c.args.initial.width c.args.initial.bits c.args.step eos c.args.begins w
+          subst (λ (b : Bus). IsFolded run c.args.initial.width c.args.initial.bits c.args.step (in_memory c.args.valid eos c.args.slots.first c.args.slots.begins slot c.args.slots.next) b f.now) (sym fold.before)
+          (slots_folded run c.args.valid c.args.slots.first slot c.args.slots.next f.now c.args.initial.width c.args.initial.bits c.args.step eos c.args.slots.begins w
           c.in_ok-ahead.ahead (ahead.past run at_ahead)
           (λ t. fold.with_row run at_fold t ∙ ap (λ (n : ℕ). if line_at run c.args.valid (suc t) then next_of c.args.step run n (suc t) (run.at (suc t) w.node) else run.at (suc t) w.node) (word.width ∙ c.width.ensures.value))
-          (λ t. drive.value run r t ∙ state.value run at_state (suc t) ∙ choose_line run c.args.begins (run.at (suc t) c.in_ok-again.again.node) (run.at (suc t) c.in_ok-ahead.ahead.node) t
-          ∙ ap (λ (n : ℕ). if line_at run c.args.begins (suc t) then n else run.at (suc t) c.in_ok-ahead.ahead.node) (again.value run (state.keeps.runs run at_state) (suc t))) led);
+          (λ t. drive.value run r t ∙ state.value run at_state (suc t) ∙ choose_line run c.args.slots.begins (run.at (suc t) c.in_ok-again.again.node) (run.at (suc t) c.in_ok-ahead.ahead.node) t
+          ∙ ap (λ (n : ℕ). if line_at run c.args.slots.begins (suc t) then n else run.at (suc t) c.in_ok-ahead.ahead.node) (again.value run (state.keeps.runs run at_state) (suc t))) led);
     }

@@ -20,6 +20,6 @@ copy_wires-requires-clause-ends c =
 pub returns : goal.returns
 returns c =
     fronts_are c.args.net.now c.count_openings.new.net c.count_flush.new.net c.count_left.new.net c.keep_tail.new.net c.pointer.new.net c.rotate.new.net c.take_rows.new.net c.hold_all.new.net c.copy_wires.new.net
-    c.args.wire.now c.args.size c.args.advance c.args.count c.args.stride c.bits_to-bits.result c.from.result c.bits_to-bits.ensures.few c.requires.size c.requires.advance c.requires.count c.from.ensures
+    c.args.wire.now c.args.numbers.size c.args.numbers.advance c.args.numbers.copies c.args.numbers.stride c.bits_to-bits.result c.from.result c.bits_to-bits.ensures.few c.requires.size c.requires.advance c.requires.copies c.from.ensures
     c.in_ok-opening.opening c.in_ok-flush.flush c.in_ok-trigger.trigger c.in_ok-tail.tail c.in_ok-opened.opened c.in_ok-open.open c.in_ok-takes.takes c.in_ok-row.row c.in_ok-wires.wires
     c.in_ok-opening.ensures c.in_ok-flush.ensures c.in_ok-trigger.ensures c.in_ok-tail.ensures c.in_ok-opened.ensures c.in_ok-open.ensures c.in_ok-takes.ensures c.in_ok-row.ensures c.in_ok-wires.ensures

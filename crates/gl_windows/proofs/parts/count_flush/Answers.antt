@@ -21,7 +21,7 @@ returns c =
         registers = omega (arith, flush.cost.registers, idle.cost.registers, wait.cost.registers, due.cost.registers, wait.width);
         memories = omega (arith, flush.cost.memories, idle.cost.memories, wait.cost.memories, due.cost.memories);
       };
-      few = omega (arith, wait.width, c.bits_to.ensures.few);
+      few = omega (arith, wait.width, c.bits_to-bits.ensures.few);
       law = λ run r.
           let at_wait = due.keeps.runs run r in
           let at_idle = wait.keeps.runs run at_wait in

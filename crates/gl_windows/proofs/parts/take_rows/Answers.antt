@@ -3,5 +3,5 @@ use Rattle.gl_windows.proofs.parts.take_rows.Goals as goal
 
 pub returns : goal.returns
 returns c =
-    takes_of c.args.net.now c.but_not.new.net c.with_all.new.net c.with_all-2.new.net c.pairwise.new.net c.args.valid c.args.eos c.args.tail c.in_ok-alone.alone c.args.mids.now c.args.ends.now
+    takes_of c.args.net.now c.but_not.new.net c.with_all.new.net c.with_all-2.new.net c.pairwise.new.net c.args.comes.valid c.args.comes.eos c.args.comes.tail c.in_ok-alone.alone c.args.mids.now c.args.ends.now
     c.in_ok-each.each c.in_ok-last.last c.in_ok-takes.takes c.in_ok-alone.ensures c.requires.count c.in_ok-each.ensures c.in_ok-last.ensures c.in_ok-takes.ensures

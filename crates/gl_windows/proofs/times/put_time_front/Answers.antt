@@ -62,9 +62,9 @@ pub returns : goal.returns
 returns c =
     time_fronts_are c.args.net.now c.timer.new.net c.either.new.net c.either-2.new.net c.count_openings.new.net c.either-3.new.net c.count_flush.new.net c.count_left.new.net c.keep_tail.new.net c.but_not.new.net
     c.pointer.new.net c.rotate.new.net c.pairwise.new.net c.take_rows.new.net c.hold_all.new.net c.copy_wires.new.net
-    c.args.r.now c.args.wire.now c.args.tick c.copies-count.result c.args.stride c.args.turns c.bits_to.result c.from.result (c.copies-count.result - 1) c.bits_to.ensures.few
+    c.args.r.now c.args.wire.now c.args.tick c.copies-count.result c.stride.result c.turns.result c.bits_to.result c.from.result (c.copies-count.result - 1) c.bits_to.ensures.few
     (subst (λ (n : ℕ). 1 ≤ n) (sym c.copies-count.ensures) (one_in_time c.args.r.now.size c.args.r.now.advance))
-    c.copies-count.ensures c.requires.stride c.requires.turns c.from.ensures refl
+    c.copies-count.ensures c.stride.ensures c.turns.ensures c.from.ensures refl
     c.in_ok-reopens.reopens c.in_ok-brings.brings c.in_ok-busy.busy c.in_ok-opens.opens c.in_ok-tail.tail c.in_ok-opening.opening c.in_ok-flush.flush c.in_ok-trigger.trigger c.in_ok-kept.kept c.in_ok-opened.opened
     c.in_ok-open.open c.in_ok-stay.stay c.in_ok-takes.takes c.in_ok-row.row c.in_ok-wires.wires
     c.in_ok-reopens.ensures c.in_ok-brings.ensures c.in_ok-busy.ensures c.in_ok-opening.ensures c.in_ok-opens.ensures c.in_ok-flush.ensures c.in_ok-trigger.ensures c.in_ok-kept.ensures c.in_ok-tail.ensures c.in_ok-opened.ensures

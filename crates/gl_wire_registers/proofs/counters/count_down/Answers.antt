@@ -22,6 +22,6 @@ returns c =
           let before_drive = drive.grows.runs run r in
           let before_next = next.keeps.runs run before_drive in
           let before_kept = kept.keeps.runs run before_next in
-          counter_at run c.in_ok-register.register c.in_ok-kept.kept c.in_ok-next.next c.args.clear c.args.tick c.args.start c.args.cleared c.args.again
-          (register.start run before_kept ∙ c.word.ensures.bits) (drive.value run r) (kept.next run before_next) (next.value run before_drive);
+          counter_at run c.in_ok-register.register c.in_ok-kept.kept c.in_ok-next.next c.args.clear c.args.tick c.args.counter.start c.args.counter.cleared c.args.counter.again
+          (register.start run before_kept ∙ c.word-start.ensures.bits) (drive.value run r) (kept.next run before_next) (next.value run before_drive);
     }

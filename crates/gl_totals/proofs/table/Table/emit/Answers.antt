@@ -17,7 +17,7 @@ put_aggs-requires-clause-stream c =
     let rows = c.args.rows.now in
     let source : Source = record { columns = c.as_slice.result; kinds = c.args.self.now.kinds } in
     let wide : c.in_ok-lines.lines.slot.width ≡ c.args.slot.width = lines.same_width in
-    subst (λ (k : Rows). IsStream c.put_lines.new.net (record { rows = k; source = source })) (sym c.kept.ensures)
+    subst (λ (k : Rows). IsStream c.put_lines.new.net (record { rows = k; source = source })) (sym c.rows.ensures)
     (record {
       valid = lines.row_line;
       eos = lines.end_line;
@@ -49,7 +49,7 @@ returns c =
     let l = c.in_ok-lines.lines in
     let source : Source = record { columns = c.as_slice.result; kinds = table.kinds } in
     let s : Stream = record { rows = in_memory l.valid l.eos l.first c.args.first l.slot c.args.slot; source = source } in
-    let kept = subst (λ (k : Rows). AreAggsOf one two (c.delay_of_aggs-more.result - 1) (record { rows = k; source = source }) aggs c.in_ok-columns.columns) c.kept.ensures
+    let kept = subst (λ (k : Rows). AreAggsOf one two (c.delay_of_aggs-more.result - 1) (record { rows = k; source = source }) aggs c.in_ok-columns.columns) c.rows.ensures
     c.in_ok-columns.ensures in
     let is = c.delay_of_aggs-more.ensures in
     table_is c.args.net.now one two three new table c.args.rows.now c.args.slot c.args.first l source c.in_ok-columns.columns c.in_ok-end.end c.in_ok-out.out

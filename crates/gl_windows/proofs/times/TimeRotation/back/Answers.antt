@@ -1,6 +1,0 @@
-use Rattle.gl_windows.proofs.TimeRotationNet.{is_time_backed}
-use Rattle.gl_windows.proofs.times.TimeRotation.back.Goals as goal
-
-pub returns : goal.returns
-returns c =
-    is_time_backed c.args.net.now c.join_all.new.net c.args.self.now c.args.tick c.args.front.now c.args.copies.now c.in_ok-whole.whole c.requires.rotation c.requires.front c.requires.count c.in_ok-whole.ensures

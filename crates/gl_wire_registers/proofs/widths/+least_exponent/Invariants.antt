@@ -1,4 +1,0 @@
-use Rattle.gl_wire_registers.proofs.widths.+least_exponent.Given as goal
-
-abbrev pub decreases-least_exponent : goal.decreases-least_exponent
-decreases-least_exponent l = l.more
