@@ -30,7 +30,7 @@ can_run : (schema : Schema) (statement : Statement) (latency gap : ℕ) (text : 
 can_run schema statement latency gap text kinds beats start fine m e short are keeps = record {
   design = m.design;
   has = m.has;
-  fits = ports_fit schema statement latency gap text fine m;
+  fits = ports_fit schema statement latency gap text real_columns fine m;
   widths = widths_are schema statement latency gap text m ∙ ap (λ (ks : List Kind). map width_of ks) (sym e);
   short = short;
   ends = λ value word over. let right = m.right beats value word (record { are = are; keep = keeps; run = over.run; stimulus = over.stimulus }) in record { ended = right.ended; soonest = right.soonest; in_time = right.in_time; ends = right.ends };

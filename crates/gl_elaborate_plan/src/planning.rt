@@ -52,7 +52,8 @@ pub struct Planned {
     pub spare: Option<Spare>,
 }
 
-// Writes the figures of each node of a plan with this root into the node's place, or gives the limit that it passes.
+// Writes the figures of each node of a plan with this root into the node's place, or gives the
+// limit that it passes.
 fn figure(plan: &Plan, root: PlanId, into: &mut [Figures]) -> Result<(), Limit>
     requires { length into.old ≡ length plan.now }
     ensures figures { OnOk result (AreFigures plan.now into.new) }

@@ -75,7 +75,8 @@ fn elaborated(
     Ok((plan, roots))
 }
 
-// Writes the figures of each node of a plan with these roots into the node's place, or gives the limit that it passes.
+// Writes the figures of each node of a plan with these roots into the node's place, or gives the
+// limit that it passes.
 fn figure(plan: &Plan, roots: &[PlanId], into: &mut [Figures]) -> Result<(), Limit>
     requires { length into.old ≡ length plan.now }
     ensures figures { OnOk result (AreFigures plan.now into.new) }

@@ -9,6 +9,7 @@ use Rattle.gl_many.specs.Queries.{trees_of}
 use Rattle.gl_many.proofs.Made.{are_compiled, are_queries}
 use Rattle.gl_many.proofs.Reading.{all_over, can_stand, has_trees}
 use Rattle.gl_many.proofs.Refusing.{list_cause, plan_cause, refused_goes, tells_none, tells_of}
+use Rattle.gl_many.proofs.Standing.{Laws}
 use Rattle.gl_many.proofs.compiling.compile_many.Goals as goal
 
 -- the text has no statements
@@ -81,7 +82,7 @@ returns-clause-compiled c =
     let is = subst (λ (all : List Checked). ArePlanned schema (statements_of all) planned) c.as_slice.ensures c.in_ok-planned.ensures.planned in
     let meets = subst (λ (all : List Checked). MeetTogether schema (statements_of all) (shared_gap schema (statements_of all)) text.items) c.as_slice.ensures
     c.in_ok-planned.ensures.meets in
-    let laws = record {
+    let laws : Laws = record {
       columns = c.accepted_have_real_columns.ensures;
       plans = c.plans_are_right.ensures;
       several = c.several_are_right.ensures;
