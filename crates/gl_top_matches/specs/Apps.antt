@@ -3,7 +3,7 @@ use Rattle.std.specs.Prelude.{ℕ, Bool, true, false, List, [], Some, codes, unw
 use Rattle.clap.specs.Words.{App, Rule, Text, first_value, found_of, new_app, new_rule, with_rule}
 use Rattle.clap.specs.declared.parser.matches.ArgMatches.{ArgMatches}
 use Rattle.gl_top_words.specs.declared.command.Command.{Command}
-use Rattle.gl_top_words.specs.declared.command.Command.TheVariants.{Compile, Figures, Explain, Run, Sim, Load, Vcd, Undump, Many, ManyFigures, ManyRun}
+use Rattle.gl_top_words.specs.declared.command.Command.TheVariants.{Compile, Figures, Explain, Run, Sim, Load, Vcd, Undump, Many, ManyFigures, ManyRun, Version}
 use Rattle.gl_top_words.specs.Said.{IsSaid}
 
 abbrev pub name_rule : Text → Rule
@@ -12,8 +12,11 @@ name_rule id = record (new_rule id) { required = true }
 abbrev pub option_rule : Text → Bool → Rule
 option_rule long required = record (new_rule (codes "value")) { long = Some long; required = required }
 
+abbrev pub no_name : App
+no_name = new_app (codes "glacier")
+
 abbrev pub one_name : App
-one_name = with_rule (new_app (codes "glacier")) (name_rule (codes "first"))
+one_name = with_rule no_name (name_rule (codes "first"))
 
 abbrev pub two_names : App
 two_names = with_rule one_name (name_rule (codes "second"))
@@ -33,6 +36,7 @@ app_for Undump = one_name
 app_for Many = two_names
 app_for ManyFigures = two_names
 app_for ManyRun = with_rule three_names (option_rule (codes "start") false)
+app_for Version = no_name
 
 -- the text that was matched for a name
 abbrev pub text_of : ArgMatches → Text → Text
