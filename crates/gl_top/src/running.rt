@@ -13,7 +13,7 @@ use crate::loading::answer_load;
 use crate::showing::{answer_figures, answer_text, show_text};
 use crate::tracing::answer_sim;
 use crate::undumping::answer_undump;
-use crate::version::version;
+use crate::version::version_text;
 use crate::writing::{Dump, Lines, NamedLines};
 use gl_compiler_text::Compiled;
 use gl_many::Many;
@@ -54,7 +54,7 @@ fn answer_command<S: Shelf, K: Sink, N: Sink>(
         Command::Many => answer_text::<Many, S, K, N>(alloc, words, desk),
         Command::ManyFigures => answer_figures::<Many, S, K, N>(alloc, words, desk),
         Command::ManyRun => answer_run::<NamedLines, S, K, N>(alloc, words, desk),
-        Command::Version => show_text(words, b"", version(), desk),
+        Command::Version => show_text(words, b"", version_text(), desk),
     }
 }
 

@@ -16,7 +16,7 @@ returns-in-Explain g c =
 pub returns-in-Version : goal.returns-in-Version
 returns-in-Version g c =
     let is = subst (λ (k : Command). IsCommand c.args.words.now k) c.in-Version.is c.requires.command in
-    c.show_text.ensures (change _ _) (OfVersion is c.version.ensures refl) (calm_none _)
+    c.show_text.ensures (change _ _) (OfVersion is c.version_text.ensures refl) (calm_none _)
 
 pub returns-in-Load : goal.returns-in-Load
 returns-in-Load g c = c.answer_load.ensures (change _ _) (calm_none _)
