@@ -52,9 +52,9 @@ pub(crate) trait Shows: Drop {
 
     /// The lines of the figures.
     fn figures(&self, alloc: Global) -> Result<Vec<u8>, Memory>
-        requires passes { (told : List ℕ → Told) × (words : List (List ℕ))
+        requires { (told : List ℕ → Told) × (words : List (List ℕ))
             × passes self.now told words }
-        ensures given { IfOk result (λ bytes. (told : List ℕ → Told) (words : List (List ℕ))
+        ensures { IfOk result (λ bytes. (told : List ℕ → Told) (words : List (List ℕ))
             → passes self.now told words → wants_figures words
             → IsGiven told words bytes.items (verilog self.now)) };
 }

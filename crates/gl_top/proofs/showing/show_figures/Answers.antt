@@ -4,8 +4,8 @@ use Rattle.gl_top_notes.specs.declared.refusal.Refusal.TheVariants as refusal
 use Rattle.gl_top.specs.Verdicts.{IsGiven, Refused}
 use Rattle.gl_top.proofs.showing.show_figures.Goals as goal
 
-pub figures-requires-clause-passes : goal.figures-requires-clause-passes
-figures-requires-clause-passes g c = (c.requires.passes.0, c.args.words.now, c.requires.passes.1)
+pub figures-requires : goal.figures-requires
+figures-requires g c = (c.requires.passes.0, c.args.words.now, c.requires.passes.1)
 
 pub returns-in-Ok : goal.returns-in-Ok
 returns-in-Ok g c = λ ch passes calm.
