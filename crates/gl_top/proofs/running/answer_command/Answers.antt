@@ -1,4 +1,5 @@
 use Rattle.std.proofs.Common.{refl, sym, subst}
+use Rattle.gl_outside.specs.States.{IsCalm, ShelfState}
 use Rattle.gl_outside.proofs.Counting.{calm_none}
 use Rattle.gl_top_words.specs.declared.command.Command.{Command}
 use Rattle.gl_top_words.specs.Forms.{IsCommand}
@@ -16,7 +17,5 @@ returns-in-Explain g c =
 pub returns-in-Version : goal.returns-in-Version
 returns-in-Version g c =
     let is = subst (λ (k : Command). IsCommand c.args.words.now k) c.in-Version.is c.requires.command in
-    c.show_text.ensures (change _ _) (OfVersion is c.version_text.ensures refl) (calm_none _)
-
-pub returns-in-Load : goal.returns-in-Load
-returns-in-Load g c = c.answer_load.ensures (change _ _) (calm_none _)
+    c.show_text.ensures.answer (change _ _) (OfVersion is c.version_text.ensures refl)
+    (subst (λ (s : ShelfState). IsCalm (g.S.Shelf.state c.args.desk.now.shelf) s) (sym c.show_text.ensures.shelf) (calm_none _))
