@@ -25,14 +25,14 @@ use Rattle.gl_verilog.specs.Text.{HasModule}
 use Rattle.gl_top_words.specs.declared.command.Command.TheVariants as command
 use Rattle.gl_top_words.specs.declared.command.Part.TheVariants as part
 use Rattle.gl_top_words.specs.Forms.{IsCommand, IsLoadOf, IsNamed, IsOfRun, name_of}
-use Rattle.gl_top_words.proofs.Named.{form_of, load_names_none, many_run_names_queries, named_form, one_query_part, queries_and_no_module, sim_names_no_query}
+use Rattle.gl_top_words.proofs.Named.{form_of, load_names_none, many_run_names_queries, named_form, one_query_part, queries_and_no_module, sim_names_no_query, version_names_none}
 use Rattle.gl_top_notes.specs.declared.refusal.Refusal.{Refusal}
 use Rattle.gl_top_texts.specs.Texts.{HasText, SchemaPasses}
 use Rattle.gl_top_judging.specs.Passing.{AsksGap, FilePasses, ModulePasses, OfAll, OfOne, QueriesPass, QueryPasses, kept_beats}
 use Rattle.gl_top_judging.specs.Readings.{One, Several}
 use Rattle.gl_top_judging.proofs.Modules.{module_goes}
 use Rattle.gl_top_judging.proofs.Texts.{asks_named, asks_schema, run_names_query, sim_names_module, sim_names_tuples}
-use Rattle.gl_top.specs.Verdicts.{AllPass, IsTelling, IsUndumped, Loads, OfFile, Three, ThreeOfAll, Two, TwoOfAll, Undumps}
+use Rattle.gl_top.specs.Verdicts.{AllPass, IsTelling, IsUndumped, Loads, OfFile, Three, ThreeOfAll, Two, TwoOfAll, Undumps, Versions}
 use Rattle.gl_top.proofs.Dumps.{DumpFails, no_dump, undump_names}
 use Rattle.gl_top.proofs.Failing.{Failing, FailsAt, Fine, no_error, not_both, weaker, with_both}
 use Rattle.gl_top.proofs.Stopping.{AtDump, AtFile, AtModule, AtQuery, AtSchema, AtSecond, AtThird, AtTuples, AtWords, ModuleFails, QueryFails, SchemaFails, SecondStops, Stops, ThirdStops, TuplesFail, filed, queries_out, query_out}
@@ -214,6 +214,14 @@ load_goes told words count a is (AtSecond s p h) = load_names_none words part.Sc
 load_goes told words count a is (AtThird s p h) = load_names_none words part.Schema is.loads p.named
 load_goes told words count a is (AtDump named f) = load_names_none words part.Dump is.loads named
 
+-- nor do the words of the version
+pub version_goes : (told : List ℕ → Told) (words : List (List ℕ)) (a : Refusal) → IsCommand words command.Version → Stops told words a → ⊥
+version_goes told words a is (AtWords n e) = n (form_of words command.Version is)
+version_goes told words a is (AtSchema named f) = version_names_none words part.Schema is named
+version_goes told words a is (AtSecond s p h) = version_names_none words part.Schema is p.named
+version_goes told words a is (AtThird s p h) = version_names_none words part.Schema is p.named
+version_goes told words a is (AtDump named f) = version_names_none words part.Dump is named
+
 -- nor does a dump that is read
 pub dump_goes : (told : List ℕ → Told) (words : List (List ℕ)) (bytes : List ℕ) (a : Refusal) → IsTelling told words → IsUndumped told words bytes → Stops told words a → ⊥
 dump_goes told words bytes a tells d (AtWords n e) = n (form_of words command.Undump d.is)
@@ -232,3 +240,4 @@ passes_goes told words a tells (ThreeOfAll s sts beats p) h = three_go told word
 passes_goes told words a tells (OfFile s m beats p) h = file_goes told words s m beats a tells p h
 passes_goes told words a tells (Loads count is) h = load_goes told words count a is h
 passes_goes told words a tells (Undumps bytes d) h = dump_goes told words bytes a tells d h
+passes_goes told words a tells (Versions is) h = version_goes told words a is h

@@ -1,5 +1,5 @@
 -- What `compile`, `figures` and `explain` write of the texts that they name, and `many` and `manyfigures` of theirs.
-use Rattle.std.specs.Prelude.{◌≡◌, ℕ, List, []}
+use Rattle.std.specs.Prelude.{◌≡◌, ℕ, List, [], codes}
 use Rattle.gl_outside.specs.Told.{Told}
 use Rattle.gl_schema.specs.declared.schema.Schema.{Schema}
 use Rattle.gl_query.specs.declared.tree.Statement.{Statement}
@@ -13,6 +13,10 @@ use Rattle.gl_top_words.specs.declared.command.Command.TheVariants.{Compile, Fig
 use Rattle.gl_top_words.specs.Forms.{IsCommand}
 use Rattle.gl_top_judging.specs.Figuring.{IsFigured, figure_lines_of_all}
 use Rattle.gl_top_judging.specs.Passing.{QueriesPass, QueryPasses}
+
+-- what is written of the version
+unfoldable pub version_line : List ℕ
+version_line = codes "glacier 0.2\n"
 
 -- what such a command writes of a statement, and the text that it leaves: the Verilog text, which meets the statement;
 -- the figures that are printed for it and what it costs; or the statement and its plan

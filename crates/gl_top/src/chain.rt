@@ -54,7 +54,8 @@ fn finish<R: Runs, S: Shelf, K: Sink, N: Sink>(
     requires wants { R.wants words.now }
     requires passes { (told : List ℕ → Told) × R.passes job.now told words.now }
     requires kept { desk.old.text.items ≡ R.verilog job.now }
-    ensures { (c : Change) → R.passes job.now c.old.told words.now → IsCalm c.old c.new
+    ensures shelf { S.state desk.new.shelf ≡ S.state desk.old.shelf }
+    ensures answer { (c : Change) → R.passes job.now c.old.told words.now → IsCalm c.old c.new
         → IsAnswer (call_over K.state N.state words.now c desk.old desk.new result) }
 {
     match job.write(alloc, words, &mut desk.out) {
@@ -74,7 +75,8 @@ fn keep_and_finish<R: Runs, S: Shelf, K: Sink, N: Sink>(
     requires wants { R.wants words.now }
     requires passes { (told : List ℕ → Told) × R.passes job.now told words.now }
     requires empty { desk.old.text.items ≡ [] }
-    ensures { (c : Change) → R.passes job.now c.old.told words.now → IsCalm c.old c.new
+    ensures shelf { S.state desk.new.shelf ≡ S.state desk.old.shelf }
+    ensures answer { (c : Change) → R.passes job.now c.old.told words.now → IsCalm c.old c.new
         → IsAnswer (call_over K.state N.state words.now c desk.old desk.new result) }
 {
     match desk.text.extend_from_slice(job.text()) {

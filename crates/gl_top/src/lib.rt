@@ -2,7 +2,7 @@
 //!
 //! Here belongs what each command does with the texts that gl_top_judging gives: `compile`, `figures`,
 //! `run`, `vcd` and `load` on the text that a query is compiled to, `many`, `manyfigures` and `manyrun`
-//! on that of several queries, `sim` on a given Verilog text, `undump` on a given dump. `explain`
+//! on that of several queries, `sim` on a given Verilog text, `undump` on a given dump, and `--version` on none. `explain`
 //! belongs to gl_top_explain. The words' forms are those of gl_top_words, what they say is found by
 //! gl_top_matches, statuses and notes are those of gl_top_notes.
 #![tactic(auto)]
@@ -14,6 +14,7 @@ pub mod running;
 mod showing;
 mod tracing;
 mod undumping;
+mod version;
 mod writing;
 
 pub use desk::Desk;

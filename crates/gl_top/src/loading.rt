@@ -5,7 +5,7 @@ ghost use Rattle.gl_outside.specs.States.{IsCalm};
 ghost use Rattle.gl_top_words.specs.declared.command.Command.TheVariants.{Load};
 ghost use Rattle.gl_top_words.specs.Forms.{IsCommand, IsLoadOf};
 ghost use Rattle.gl_top_judging.specs.Causes.{Change};
-ghost use Rattle.gl_top.specs.Calls.{call_over};
+ghost use Rattle.gl_top.specs.Calls.{call_of, call_over};
 ghost use Rattle.gl_top.specs.Verdicts.{IsAnswer};
 
 use crate::desk::Desk;
@@ -26,7 +26,8 @@ fn load_many<S: Shelf, K: Sink, N: Sink>(
     requires many { IsLoadOf words.now count }
     requires some { 1 ≤ count }
     requires empty { desk.old.text.items ≡ [] }
-    ensures { (c : Change) → IsCalm c.old c.new
+    ensures shelf { S.state desk.new.shelf ≡ S.state desk.old.shelf }
+    ensures answer { (c : Change) → IsCalm c.old c.new
         → IsAnswer (call_over K.state N.state words.now c desk.old desk.new result) }
 {
     match load(alloc, count) {
@@ -46,8 +47,7 @@ pub(crate) fn answer_load<S: Shelf, K: Sink, N: Sink>(
 ) -> Status
     requires loads { IsCommand words.now Load }
     requires empty { desk.old.text.items ≡ [] }
-    ensures { (c : Change) → IsCalm c.old c.new
-        → IsAnswer (call_over K.state N.state words.now c desk.old desk.new result) }
+    ensures { IsAnswer (call_of S.state K.state N.state words.now desk.old desk.new result) }
 {
     match words.load() {
         Some(count) => load_many(alloc, words, count, desk),

@@ -10,9 +10,10 @@ ghost use Rattle.gl_top.specs.Verdicts.{TellsFaults, TellsForm, TellsRefusal};
 use crate::chain::answer_run;
 use crate::desk::Desk;
 use crate::loading::answer_load;
-use crate::showing::{answer_figures, answer_text};
+use crate::showing::{answer_figures, answer_text, show_text};
 use crate::tracing::answer_sim;
 use crate::undumping::answer_undump;
+use crate::version::version_text;
 use crate::writing::{Dump, Lines, NamedLines};
 use gl_compiler_text::Compiled;
 use gl_many::Many;
@@ -53,6 +54,7 @@ fn answer_command<S: Shelf, K: Sink, N: Sink>(
         Command::Many => answer_text::<Many, S, K, N>(alloc, words, desk),
         Command::ManyFigures => answer_figures::<Many, S, K, N>(alloc, words, desk),
         Command::ManyRun => answer_run::<NamedLines, S, K, N>(alloc, words, desk),
+        Command::Version => show_text(words, b"", version_text(), desk),
     }
 }
 
@@ -85,7 +87,7 @@ fn answer<S: Shelf, K: Sink, N: Sink>(
 /// and the gap of all; `manyrun S Q T` writes what that text does over T, each line with the name of its
 /// query, from a start as `run` has it. These leave the text on the desk.
 /// `undump D` reads such a dump of any origin back, and writes the lines of the result that it shows,
-/// with all values in decimal. `explain S Q`
+/// with all values in decimal. `--version` writes the version of the program. `explain S Q`
 /// writes the query in its canonical form and its plan. `sim S V T --extra N` writes what the Verilog
 /// text V does over T, from registers and words of 0, with all values in decimal, up to the end, for
 /// which it waits N cycles behind the last beat's; these leave no text.

@@ -52,9 +52,9 @@ pub(crate) trait Shows: Drop {
 
     /// The lines of the figures.
     fn figures(&self, alloc: Global) -> Result<Vec<u8>, Memory>
-        requires passes { (told : List ℕ → Told) × (words : List (List ℕ))
+        requires { (told : List ℕ → Told) × (words : List (List ℕ))
             × passes self.now told words }
-        ensures given { IfOk result (λ bytes. (told : List ℕ → Told) (words : List (List ℕ))
+        ensures { IfOk result (λ bytes. (told : List ℕ → Told) (words : List (List ℕ))
             → passes self.now told words → wants_figures words
             → IsGiven told words bytes.items (verilog self.now)) };
 }
@@ -119,7 +119,8 @@ pub(crate) fn show_text<S: Shelf, K: Sink, N: Sink>(
     desk: &mut Desk<S, K, N>,
 ) -> Status
     requires empty { desk.old.text.items ≡ [] }
-    ensures { (c : Change) → IsGiven c.old.told words.now bytes.now verilog.now
+    ensures shelf { S.state desk.new.shelf ≡ S.state desk.old.shelf }
+    ensures answer { (c : Change) → IsGiven c.old.told words.now bytes.now verilog.now
         → IsCalm c.old c.new
         → IsAnswer (call_over K.state N.state words.now c desk.old desk.new result) }
 {
@@ -159,7 +160,8 @@ fn show_figures<C: Shows, S: Shelf, K: Sink, N: Sink>(
     requires wants { C.wants_figures words.now }
     requires passes { (told : List ℕ → Told) × C.passes compiled.now told words.now }
     requires empty { desk.old.text.items ≡ [] }
-    ensures { (c : Change) → C.passes compiled.now c.old.told words.now → IsCalm c.old c.new
+    ensures shelf { S.state desk.new.shelf ≡ S.state desk.old.shelf }
+    ensures answer { (c : Change) → C.passes compiled.now c.old.told words.now → IsCalm c.old c.new
         → IsAnswer (call_over K.state N.state words.now c desk.old desk.new result) }
 {
     match compiled.figures(alloc) {

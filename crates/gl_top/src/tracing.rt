@@ -29,7 +29,8 @@ fn finish_trace<S: Shelf, K: Sink, N: Sink>(
 ) -> Status
     requires can { CanTrace simulation }
     requires empty { desk.old.text.items ≡ [] }
-    ensures { (c : Change) → IsTraceable c.old.told words.now simulation → IsCalm c.old c.new
+    ensures shelf { S.state desk.new.shelf ≡ S.state desk.old.shelf }
+    ensures answer { (c : Change) → IsTraceable c.old.told words.now simulation → IsCalm c.old c.new
         → IsAnswer (call_over K.state N.state words.now c desk.old desk.new result) }
 {
     let Simulation {

@@ -26,7 +26,8 @@ fn show_dump<S: Shelf, K: Sink, N: Sink>(
 ) -> Status
     requires undumps { IsCommand words.now Undump }
     requires empty { desk.old.text.items ≡ [] }
-    ensures { (c : Change)
+    ensures shelf { S.state desk.new.shelf ≡ S.state desk.old.shelf }
+    ensures answer { (c : Change)
         → HasText c.old.told words.now Part.Dump (λ text. dump.now ≡ text)
         → IsCalm c.old c.new
         → IsAnswer (call_over K.state N.state words.now c desk.old desk.new result) }

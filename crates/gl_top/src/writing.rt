@@ -1,6 +1,5 @@
 //! What `run`, `vcd` and `manyrun` write of what they run.
 
-ghost use Rattle.std.specs.Prelude.{◌≡◌};
 ghost use Rattle.gl_top_words.specs.declared.command.Command.TheVariants.{ManyRun, Run, Vcd};
 ghost use Rattle.gl_top_words.specs.Forms.{IsCommand};
 ghost use Rattle.gl_top_judging.specs.Passing.{AreReady, IsReady};

@@ -2,11 +2,14 @@
 use Rattle.std.proofs.Common.{◌≡◌, false, [], ◌∷◌, None, refl}
 use Rattle.clap.specs.Words.{Text}
 use Rattle.clap.specs.Simple.{Shape, built}
-use Rattle.clap.specs.Walk.{nothing_held}
+use Rattle.clap.specs.Walk.{nothing_held, walk_from}
 use Rattle.gl_top_words.specs.Forms.{is_dashed}
-use Rattle.gl_top_matches.specs.Apps.{one_name, two_names}
+use Rattle.gl_top_matches.specs.Apps.{no_name, one_name, two_names}
 use Rattle.gl_top_matches.proofs.Ends.{Given, IsAlone, given}
 use Rattle.gl_top_matches.proofs.Steps.{name, stop}
+
+none_alone : IsAlone no_name
+none_alone = record { takes_is = λ command ws. refl; rows_are = λ command ws. refl }
 
 one_alone : IsAlone one_name
 one_alone = record { takes_is = λ command ws. refl; rows_are = λ command ws. refl }
@@ -14,11 +17,18 @@ one_alone = record { takes_is = λ command ws. refl; rows_are = λ command ws. r
 two_alone : IsAlone two_names
 two_alone = record { takes_is = λ command ws. refl; rows_are = λ command ws. refl }
 
+abbrev none : Shape
+none = (built no_name).top
+
 abbrev one : Shape
 one = (built one_name).top
 
 abbrev two : Shape
 two = (built two_names).top
+
+-- `--version`
+pub version_names : Given no_name [] [] None
+version_names = given no_name [] [] None _ none_alone (stop none (walk_from nothing_held)) refl (refl, refl, refl, refl)
 
 -- `load N` and `undump D`
 pub load_names : (n : Text) → is_dashed n ≡ false → Given one_name (n ∷ []) (n ∷ []) None

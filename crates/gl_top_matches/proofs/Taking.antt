@@ -11,14 +11,14 @@ use Rattle.clap.specs.Words.{App, HasMatchesOf, Text, first_of, found_of, is_sim
 use Rattle.clap.specs.declared.parser.matches.ArgMatches.{ArgMatches}
 use Rattle.clap.proofs.WalkLemmas.{first_value-rows}
 use Rattle.gl_top_words.specs.declared.command.Command.{Command}
-use Rattle.gl_top_words.specs.declared.command.Command.TheVariants.{Compile, Figures, Explain, Run, Sim, Load, Vcd, Undump, Many, ManyFigures, ManyRun}
+use Rattle.gl_top_words.specs.declared.command.Command.TheVariants.{Compile, Figures, Explain, Run, Sim, Load, Vcd, Undump, Many, ManyFigures, ManyRun, Version}
 use Rattle.gl_top_words.specs.Forms.{IsCommand, extra_at, extra_in, extra_of, first_word, is_command, is_dashed, load_at, load_in, load_of, many_names, name_of, names_in, names_of, option_word, start_at, start_in, start_of, takes_values, values_in, values_of, word_of}
 use Rattle.gl_top_words.proofs.Named.{is_one}
 use Rattle.gl_top_matches.specs.Apps.{Tells, app_for, two_names}
 use Rattle.gl_top_words.specs.Said.{IsSaid, extra_by, start_by}
 use Rattle.gl_top_matches.proofs.Ends.{Given}
 use Rattle.gl_top_matches.proofs.Laid.{AreNames, bare, placed, three}
-use Rattle.gl_top_matches.proofs.Names.{load_names, query_names}
+use Rattle.gl_top_matches.proofs.Names.{load_names, query_names, version_names}
 use Rattle.gl_top_matches.proofs.Layouts.{laid}
 use Rattle.gl_top_matches.proofs.Runs.{run_app, run_bare, run_layouts}
 use Rattle.gl_top_matches.proofs.Sims.{sim_app, sim_layouts}
@@ -103,6 +103,7 @@ some_word Undump e = omega (arith, e)
 some_word Many e = omega (arith, e)
 some_word ManyFigures e = omega (arith, e)
 some_word ManyRun e = omega (arith, e)
+some_word Version e = omega (arith, e)
 
 behind_word : (words : List Text) (c : Command) → first_word words ≡ word_of c → words ≡ word_of c ∷ drop 1 words
 behind_word [] c e = absurd (some_word c (ap length (sym e)))
@@ -135,6 +136,14 @@ undump_by : (words ws : List Text) → words ≡ codes "undump" ∷ ws → AreNa
 undump_by words [] same n e named valued = absurd (omega (arith, e))
 undump_by words (m ∷ []) same n e named valued = read_of words (m ∷ []) (m ∷ []) Undump None (codes "undump") same (load_names m n.0) named valued refl
 undump_by words (m ∷ u ∷ ws) same n e named valued = absurd (omega (arith, e))
+
+no_number : load_in [] ≡ load_at (number_of [])
+unfolding number_of is_number
+no_number = refl
+
+version_by : (words ws : List Text) → words ≡ codes "--version" ∷ ws → length ws ≡ 0 → names_of words ≡ ws → values_of words ≡ [] → IsRead words Version
+version_by words [] same e named valued = read_of words [] [] Version None (codes "--version") same version_names named valued no_number
+version_by words (m ∷ ws) same e named valued = absurd (omega (arith, e))
 
 two : (P : List Text → Type 0) → ((s q : Text) → is_dashed s ≡ false → is_dashed q ≡ false → P (s ∷ q ∷ [])) → (ws : List Text) → AreNames ws → length ws ≡ 2 → P ws
 two P p [] n e = absurd (omega (arith, e))
@@ -281,6 +290,9 @@ read_by words ManyFigures is = two_read words ManyFigures is refl refl (none_tak
 read_by words ManyRun is =
     start_read words ManyRun is refl refl (option_is words (codes "manyrun") (word_is words ManyRun is))
     (run_values (values_of words) (values_are words ManyRun is))
+read_by words Version is =
+    let b = bare_words words Version is (none_taken (values_of words) (values_are words Version is)) in
+    version_by words (drop 1 words) b.same b.many b.named b.valued
 
 pub read : (words : List Text) (c : Command) → IsCommand words c → IsRead words c
 read words c is = read_by words c (is_one words c is)
@@ -299,6 +311,7 @@ simple Undump = refl
 simple Many = refl
 simple ManyFigures = refl
 simple ManyRun = refl
+simple Version = refl
 
 -- no other refusal than want of memory
 pub takes_all : (words given : List Text) (c : Command) (app : App) → app ≡ app_for c → given ≡ words → IsCommand words c → takes app given ≡ true

@@ -3,7 +3,7 @@ use Rattle.std.specs.Prelude.{ℕ, Bool, true, false, List, [], Some, codes, unw
 use Rattle.clap.specs.Words.{App, Rule, Text, first_value, found_of, new_app, new_rule, with_rule}
 use Rattle.clap.specs.declared.parser.matches.ArgMatches.{ArgMatches}
 use Rattle.gl_top_words.specs.declared.command.Command.{Command}
-use Rattle.gl_top_words.specs.declared.command.Command.TheVariants.{Compile, Figures, Explain, Run, Sim, Load, Vcd, Undump, Many, ManyFigures, ManyRun}
+use Rattle.gl_top_words.specs.declared.command.Command.TheVariants.{Compile, Figures, Explain, Run, Sim, Load, Vcd, Undump, Many, ManyFigures, ManyRun, Version}
 use Rattle.gl_top_words.specs.Said.{IsSaid}
 
 -- a name that must stand in the words
@@ -14,9 +14,15 @@ name_rule id = record (new_rule id) { required = true }
 abbrev pub option_rule : Text → Bool → Rule
 option_rule long required = record (new_rule (codes "value")) { long = Some long; required = required }
 
+<<<<<<< HEAD
 -- a command with one name behind it
+=======
+abbrev pub no_name : App
+no_name = new_app (codes "glacier")
+
+>>>>>>> ea50b1026c0e6f3240ea15428a3f1f9d0a172f09
 abbrev pub one_name : App
-one_name = with_rule (new_app (codes "glacier")) (name_rule (codes "first"))
+one_name = with_rule no_name (name_rule (codes "first"))
 
 -- a command with two names behind it
 abbrev pub two_names : App
@@ -39,6 +45,7 @@ app_for Undump = one_name
 app_for Many = two_names
 app_for ManyFigures = two_names
 app_for ManyRun = with_rule three_names (option_rule (codes "start") false)
+app_for Version = no_name
 
 -- the text that was matched for a name
 abbrev pub text_of : ArgMatches → Text → Text

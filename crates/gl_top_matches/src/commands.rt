@@ -3,7 +3,7 @@
 ghost use Rattle.std.specs.Prelude.{◌≡◌, IfOk};
 ghost use Rattle.clap.specs.Words.{app_of, with_rule};
 ghost use Rattle.gl_top_words.specs.Forms.{IsCommand};
-ghost use Rattle.gl_top_matches.specs.Apps.{Tells, app_for, name_rule, one_name, option_rule, three_names, two_names};
+ghost use Rattle.gl_top_matches.specs.Apps.{Tells, app_for, name_rule, no_name, one_name, option_rule, three_names, two_names};
 
 use clap::error::ErrorKind;
 use clap::{Arg, ArgMatches};
@@ -38,10 +38,16 @@ fn with_option<'a>(
     command.arg(option)
 }
 
+fn no_name<'a>(alloc: Global) -> Result<clap::Command<'a>, AllocError>
+    ensures { IfOk result (λ c. app_of c ≡ no_name) }
+{
+    Ok(clap::Command::new(alloc, "glacier"))
+}
+
 fn one_name<'a>(alloc: Global) -> Result<clap::Command<'a>, AllocError>
     ensures { IfOk result (λ c. app_of c ≡ one_name) }
 {
-    with_name(alloc, clap::Command::new(alloc, "glacier"), "first")
+    with_name(alloc, no_name(alloc)?, "first")
 }
 
 fn two_names<'a>(alloc: Global) -> Result<clap::Command<'a>, AllocError>
@@ -74,6 +80,7 @@ fn command_for<'a>(alloc: Global, command: Command) -> Result<clap::Command<'a>,
         ),
         Command::Sim => with_option(alloc, three_names(alloc)?, "extra", true),
         Command::Load | Command::Undump => one_name(alloc),
+        Command::Version => no_name(alloc),
     }
 }
 

@@ -210,7 +210,7 @@ kind_line head kind middle number = head ++ kind ++ line middle (decimal number)
 unfoldable pub usage_line : List ℕ
 usage_line =
     codes "usage: glacier compile S Q, figures S Q, explain S Q, run S Q T [--start N], sim S V T --extra N, load N, "
-    ++ codes "vcd S Q T [--start N], undump D, many S Q, manyfigures S Q, manyrun S Q T [--start N]\n"
+    ++ codes "vcd S Q T [--start N], undump D, many S Q, manyfigures S Q, manyrun S Q T [--start N], --version\n"
 
 -- the other lines that tell of no text
 unfoldable pub memory_line : List ℕ

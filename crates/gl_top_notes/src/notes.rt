@@ -25,7 +25,7 @@ use itoa::Buffer;
 const USAGE: &[u8] =
     b"usage: glacier compile S Q, figures S Q, explain S Q, run S Q T [--start N], \
 sim S V T --extra N, load N, vcd S Q T [--start N], undump D, \
-many S Q, manyfigures S Q, manyrun S Q T [--start N]\n";
+many S Q, manyfigures S Q, manyrun S Q T [--start N], --version\n";
 
 // Writes a line of a head and what it tells of.
 #[tactic(auto, using(gl_outside::proofs::Takes::pieces))]

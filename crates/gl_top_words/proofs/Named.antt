@@ -11,7 +11,7 @@ use Rattle.gl_verilog_orders.specs.declared.start.Start.TheVariants.{Zero}
 use Rattle.gl_top_words.specs.declared.command.Part.{Part}
 use Rattle.gl_top_words.specs.declared.command.Part.TheVariants.{Schema, Query, Module, Tuples, Dump, Queries}
 use Rattle.gl_top_words.specs.declared.command.Command.{Command}
-use Rattle.gl_top_words.specs.declared.command.Command.TheVariants.{Compile, Figures, Explain, Run, Sim, Load, Vcd, Undump, Many, ManyFigures, ManyRun}
+use Rattle.gl_top_words.specs.declared.command.Command.TheVariants.{Compile, Figures, Explain, Run, Sim, Load, Vcd, Undump, Many, ManyFigures, ManyRun, Version}
 use Rattle.gl_top_words.specs.Forms.{IsCommand, IsForm, IsLoadOf, IsNamed, IsOfRun, command_of, extra_in, extra_of, is_command, is_dashed, load_in, load_of, many_names, name_of, names_in, names_of, option_word, parts_of, place_of, start_in, start_of, values_of}
 
 -- ---- a name is one of the words
@@ -61,11 +61,11 @@ pub commanded : (words : List (List ℕ)) → Commanded words (command_of words)
 unfolding command_of
 commanded words = by (is_command words Compile) (is_command words Figures) (is_command words Explain) (is_command words Run) (is_command words Sim) (is_command words Load)
     (is_command words Vcd) (is_command words Undump) (is_command words Many) (is_command words ManyFigures) (is_command words ManyRun)
-    refl refl refl refl refl refl refl refl refl refl refl
+    (is_command words Version) refl refl refl refl refl refl refl refl refl refl refl refl
   where
-    by : (a f b c s l v u m n k : Bool) → is_command words Compile ≡ a → is_command words Figures ≡ f → is_command words Explain ≡ b
+    by : (a f b c s l v u m n k j : Bool) → is_command words Compile ≡ a → is_command words Figures ≡ f → is_command words Explain ≡ b
         → is_command words Run ≡ c → is_command words Sim ≡ s → is_command words Load ≡ l → is_command words Vcd ≡ v → is_command words Undump ≡ u
-        → is_command words Many ≡ m → is_command words ManyFigures ≡ n → is_command words ManyRun ≡ k
+        → is_command words Many ≡ m → is_command words ManyFigures ≡ n → is_command words ManyRun ≡ k → is_command words Version ≡ j
         → Commanded words (if is_command words Compile then Some Compile
         else if is_command words Figures then Some Figures
         else if is_command words Explain then Some Explain
@@ -77,19 +77,21 @@ commanded words = by (is_command words Compile) (is_command words Figures) (is_c
         else if is_command words Many then Some Many
         else if is_command words ManyFigures then Some ManyFigures
         else if is_command words ManyRun then Some ManyRun
+        else if is_command words Version then Some Version
         else None)
-    by true f b c s l v u m n k p g q r t o w x y z i = Of Compile p (rw p refl)
-    by false true b c s l v u m n k p g q r t o w x y z i = Of Figures g (rw (p, g) refl)
-    by false false true c s l v u m n k p g q r t o w x y z i = Of Explain q (rw (p, g, q) refl)
-    by false false false true s l v u m n k p g q r t o w x y z i = Of Run r (rw (p, g, q, r) refl)
-    by false false false false true l v u m n k p g q r t o w x y z i = Of Sim t (rw (p, g, q, r, t) refl)
-    by false false false false false true v u m n k p g q r t o w x y z i = Of Load o (rw (p, g, q, r, t, o) refl)
-    by false false false false false false true u m n k p g q r t o w x y z i = Of Vcd w (rw (p, g, q, r, t, o, w) refl)
-    by false false false false false false false true m n k p g q r t o w x y z i = Of Undump x (rw (p, g, q, r, t, o, w, x) refl)
-    by false false false false false false false false true n k p g q r t o w x y z i = Of Many y (rw (p, g, q, r, t, o, w, x, y) refl)
-    by false false false false false false false false false true k p g q r t o w x y z i = Of ManyFigures z (rw (p, g, q, r, t, o, w, x, y, z) refl)
-    by false false false false false false false false false false true p g q r t o w x y z i = Of ManyRun i (rw (p, g, q, r, t, o, w, x, y, z, i) refl)
-    by false false false false false false false false false false false p g q r t o w x y z i = Formless (rw (p, g, q, r, t, o, w, x, y, z, i) refl)
+    by true f b c s l v u m n k j p g q r t o w x y z i d = Of Compile p (rw p refl)
+    by false true b c s l v u m n k j p g q r t o w x y z i d = Of Figures g (rw (p, g) refl)
+    by false false true c s l v u m n k j p g q r t o w x y z i d = Of Explain q (rw (p, g, q) refl)
+    by false false false true s l v u m n k j p g q r t o w x y z i d = Of Run r (rw (p, g, q, r) refl)
+    by false false false false true l v u m n k j p g q r t o w x y z i d = Of Sim t (rw (p, g, q, r, t) refl)
+    by false false false false false true v u m n k j p g q r t o w x y z i d = Of Load o (rw (p, g, q, r, t, o) refl)
+    by false false false false false false true u m n k j p g q r t o w x y z i d = Of Vcd w (rw (p, g, q, r, t, o, w) refl)
+    by false false false false false false false true m n k j p g q r t o w x y z i d = Of Undump x (rw (p, g, q, r, t, o, w, x) refl)
+    by false false false false false false false false true n k j p g q r t o w x y z i d = Of Many y (rw (p, g, q, r, t, o, w, x, y) refl)
+    by false false false false false false false false false true k j p g q r t o w x y z i d = Of ManyFigures z (rw (p, g, q, r, t, o, w, x, y, z) refl)
+    by false false false false false false false false false false true j p g q r t o w x y z i d = Of ManyRun i (rw (p, g, q, r, t, o, w, x, y, z, i) refl)
+    by false false false false false false false false false false false true p g q r t o w x y z i d = Of Version d (rw (p, g, q, r, t, o, w, x, y, z, i, d) refl)
+    by false false false false false false false false false false false false p g q r t o w x y z i d = Formless (rw (p, g, q, r, t, o, w, x, y, z, i, d) refl)
 
 pub form_of : (words : List (List ℕ)) (c : Command) → IsCommand words c → IsForm words
 form_of words c is = rw is refl
@@ -159,6 +161,7 @@ place_within Undump p h = subst (λ (x : Part). place_of x < 1) (dump_alone p h)
 place_within Many p h = place_two p Queries (omega arith) h
 place_within ManyFigures p h = place_two p Queries (omega arith) h
 place_within ManyRun p h = place_three p
+place_within Version p h = absurd (omega (arith, h.1))
 
 -- the name of a text that the words name is one of the words
 pub named : (words : List (List ℕ)) (p : Part) → IsNamed words p → Contains words (name_of words p)
@@ -181,6 +184,7 @@ first_part Undump p b h = let no : is_beside Dump ≡ true = subst (λ (x : Part
 first_part Many p b h = (0, omega arith, refl)
 first_part ManyFigures p b h = (0, omega arith, refl)
 first_part ManyRun p b h = (0, omega arith, refl)
+first_part Version p b h = absurd (omega (arith, h.1))
 
 pub schema_named : (words : List (List ℕ)) (p : Part) → is_beside p ≡ true → IsNamed words p → IsNamed words Schema
 schema_named words p beside is = record { command = is.command; is = is.is; names = first_part is.command p beside is.names }
@@ -194,6 +198,10 @@ parts_are words c p is h = subst (λ (d : Command). Contains (parts_of d) p) (on
 
 pub load_names_none : (words : List (List ℕ)) (p : Part) → IsCommand words Load → IsNamed words p → ⊥
 load_names_none words p is h = let c = parts_are words Load p is h in omega (arith, c.1)
+
+-- nor do those of the version
+pub version_names_none : (words : List (List ℕ)) (p : Part) → IsCommand words Version → IsNamed words p → ⊥
+version_names_none words p is h = let c = parts_are words Version p is h in omega (arith, c.1)
 
 no_query : Contains (parts_of Sim) Query → ⊥
 no_query (zero, l, e) = absurd cc
@@ -220,6 +228,7 @@ undumps Undump h = refl
 undumps Many h = let e = part_in is_beside (parts_of Many) Dump refl h in absurd cc
 undumps ManyFigures h = let e = part_in is_beside (parts_of ManyFigures) Dump refl h in absurd cc
 undumps ManyRun h = let e = part_in is_beside (parts_of ManyRun) Dump refl h in absurd cc
+undumps Version h = absurd (omega (arith, h.1))
 
 pub dump_is_undumped : (words : List (List ℕ)) → IsNamed words Dump → IsCommand words Undump
 dump_is_undumped words h = subst (λ (c : Command). IsCommand words c) (sym (undumps h.command h.names)) h.is
@@ -255,6 +264,7 @@ beside_queries Undump h = let e = part_in is_other (parts_of Undump) Queries ref
 beside_queries Many h = refl
 beside_queries ManyFigures h = refl
 beside_queries ManyRun h = refl
+beside_queries Version h = absurd (omega (arith, h.1))
 
 named_beside : (words : List (List ℕ)) (p : Part) → IsNamed words Queries → IsNamed words p → is_beside_queries p ≡ true
 named_beside words p h i = part_in is_beside_queries (parts_of h.command) p (beside_queries h.command h.names) (parts_are words h.command p h.is i)

@@ -1,12 +1,12 @@
 -- The forms of command lines: a command, names, and options, which may stand anywhere behind the command. The names are
--- those of texts, but for one command the number of tuples.
+-- those of texts, but for one command the number of tuples. The words of the version have neither.
 use Rattle.std.specs.Prelude.{◌≡◌, ◌⊎◌, ℕ, zero, suc, ◌^◌, Bool, true, false, ◌&&◌, ◌==◌, nat_le, nat_lt, List, [], ◌∷◌, ◌++◌, length, codes, bytes_eq, slice_get, unwrap_or, drop, Contains, Option, Some, None, is_some, IsTrue, if◌then◌else◌}
 use Rattle.std.specs.List.{starts_with}
 use Rattle.gl_verilog_orders.specs.declared.start.Start.{Start}
 use Rattle.gl_verilog_orders.specs.declared.start.Start.TheVariants.{Zero, Drawn}
 use Rattle.gl_tuples.specs.Values.{number_of}
 use Rattle.gl_top_words.specs.declared.command.Command.{Command}
-use Rattle.gl_top_words.specs.declared.command.Command.TheVariants.{Compile, Figures, Explain, Run, Sim, Load, Vcd, Undump, Many, ManyFigures, ManyRun}
+use Rattle.gl_top_words.specs.declared.command.Command.TheVariants.{Compile, Figures, Explain, Run, Sim, Load, Vcd, Undump, Many, ManyFigures, ManyRun, Version}
 use Rattle.gl_top_words.specs.declared.command.Part.{Part}
 use Rattle.gl_top_words.specs.declared.command.Part.TheVariants.{Schema, Query, Module, Tuples, Dump, Queries}
 
@@ -132,6 +132,7 @@ word_of Undump = codes "undump"
 word_of Many = codes "many"
 word_of ManyFigures = codes "manyfigures"
 word_of ManyRun = codes "manyrun"
+word_of Version = codes "--version"
 
 -- how many names stand behind a command: those of its texts, or the number of tuples
 abbrev pub many_names : Command → ℕ
@@ -146,6 +147,7 @@ many_names Undump = 1
 many_names Many = 2
 many_names ManyFigures = 2
 many_names ManyRun = 3
+many_names Version = 0
 
 -- the values that its option may have: a start, to run or to dump, or none; to simulate, the cycles that are waited; else none
 abbrev pub takes_values : Command → List (Option (List ℕ)) → Bool
@@ -167,7 +169,15 @@ is_command words c =
     bytes_eq (first_word words) (word_of c) && (length (names_of words) == many_names c) && takes_names c
     (names_of words) && takes_values c (values_of words)
 
--- the command of some words
+-- the command of some words: one of several queries or that of the version, where they are none of the others
+abbrev pub later_command_of : List (List ℕ) → Option Command
+later_command_of words =
+    if is_command words Many then Some Many
+    else if is_command words ManyFigures then Some ManyFigures
+    else if is_command words ManyRun then Some ManyRun
+    else if is_command words Version then Some Version
+    else None
+
 unfoldable pub command_of : List (List ℕ) → Option Command
 command_of words =
     if is_command words Compile then Some Compile
@@ -178,10 +188,7 @@ command_of words =
     else if is_command words Load then Some Load
     else if is_command words Vcd then Some Vcd
     else if is_command words Undump then Some Undump
-    else if is_command words Many then Some Many
-    else if is_command words ManyFigures then Some ManyFigures
-    else if is_command words ManyRun then Some ManyRun
-    else None
+    else later_command_of words
 
 -- the words are those of this command
 abbrev pub IsCommand : List (List ℕ) → Command → Type 0
@@ -202,7 +209,11 @@ pub record IsLoadOf (words : List (List ℕ)) (n : ℕ) : Type 0 where
 
 -- ---- the texts
 
+<<<<<<< HEAD
 -- the texts that a command names, in their order; a load names none
+=======
+-- those that a command names, in their order; a load and the version name none
+>>>>>>> ea50b1026c0e6f3240ea15428a3f1f9d0a172f09
 abbrev pub parts_of : Command → List Part
 parts_of Compile = Schema ∷ Query ∷ []
 parts_of Figures = Schema ∷ Query ∷ []
@@ -215,6 +226,7 @@ parts_of Undump = Dump ∷ []
 parts_of Many = Schema ∷ Queries ∷ []
 parts_of ManyFigures = Schema ∷ Queries ∷ []
 parts_of ManyRun = Schema ∷ Queries ∷ Tuples ∷ []
+parts_of Version = []
 
 -- at which place among the names a command names this text
 abbrev pub place_of : Part → ℕ

@@ -3,7 +3,7 @@ use Rattle.std.specs.Prelude.{◌≡◌, ℕ, List, [], ◌∷◌, codes, Some, 
 use Rattle.gl_verilog_orders.specs.declared.start.Start.{Start}
 use Rattle.gl_verilog_orders.specs.declared.start.Start.TheVariants as from
 use Rattle.gl_top_words.specs.declared.command.Command.{Command}
-use Rattle.gl_top_words.specs.declared.command.Command.TheVariants.{Compile, Figures, Explain, Run, Sim, Load, Vcd, Undump, Many, ManyFigures, ManyRun}
+use Rattle.gl_top_words.specs.declared.command.Command.TheVariants.{Compile, Figures, Explain, Run, Sim, Load, Vcd, Undump, Many, ManyFigures, ManyRun, Version}
 use Rattle.gl_top_words.specs.Forms.{command_of, extra_of, load_of, names_of, start_of}
 
 -- the name of a schema's text
@@ -137,6 +137,10 @@ pub record WorkedForms : Type 0 where
   pub load_twice : IsFormless (load (codes "1" ∷ codes "2" ∷ []))
   pub load_start : IsFormless (load (codes "--start=1" ∷ codes "5" ∷ []))
   pub load_dashed : IsFormless (load (codes "-5" ∷ []))
+  pub version : Names (codes "--version" ∷ []) Version []
+  pub version_and_a_name : IsFormless (codes "--version" ∷ s ∷ [])
+  pub version_and_an_option : IsFormless (codes "--version" ∷ codes "--start=5" ∷ [])
+  pub version_twice : IsFormless (codes "--version" ∷ codes "--version" ∷ [])
   pub dashed_help : IsFormless (codes "--help" ∷ [])
   pub help : IsFormless (codes "help" ∷ [])
   pub no_command : IsFormless (s ∷ q ∷ t ∷ [])

@@ -28,6 +28,8 @@ pub enum Command {
     ManyFigures,
     /// `manyrun S Q T [--start N]`: what the Verilog text of several queries does over a tuple file.
     ManyRun,
+    /// `--version`: the version of the program.
+    Version,
 }
 
 impl Command {
@@ -47,6 +49,7 @@ impl Command {
             Command::Many => "many",
             Command::ManyFigures => "manyfigures",
             Command::ManyRun => "manyrun",
+            Command::Version => "--version",
         }
     }
 
@@ -62,6 +65,7 @@ impl Command {
             | Command::ManyFigures => 2,
             Command::Run | Command::Sim | Command::Vcd | Command::ManyRun => 3,
             Command::Load | Command::Undump => 1,
+            Command::Version => 0,
         }
     }
 }

@@ -294,7 +294,8 @@ fn takes_values(words: &Words, command: Command) -> bool
         | Command::Load
         | Command::Undump
         | Command::Many
-        | Command::ManyFigures => value_at(words, 0).is_none(),
+        | Command::ManyFigures
+        | Command::Version => value_at(words, 0).is_none(),
     }
 }
 
@@ -313,7 +314,8 @@ fn takes_names(words: &Words, command: Command) -> bool
         | Command::Undump
         | Command::Many
         | Command::ManyFigures
-        | Command::ManyRun => true,
+        | Command::ManyRun
+        | Command::Version => true,
     }
 }
 
@@ -326,6 +328,25 @@ fn is_command(words: &Words, command: Command) -> bool
         && has_names(words, command.names())
         && takes_names(words, command)
         && takes_values(words, command)
+}
+
+// The command that the words are, if they are of one of the last four forms.
+fn later_command(words: &Words) -> Option<Command>
+    ensures { result ≡ forms.later_command_of words.now }
+{
+    if is_command(words, Command::Many) {
+        return Some(Command::Many);
+    }
+    if is_command(words, Command::ManyFigures) {
+        return Some(Command::ManyFigures);
+    }
+    if is_command(words, Command::ManyRun) {
+        return Some(Command::ManyRun);
+    }
+    if is_command(words, Command::Version) {
+        return Some(Command::Version);
+    }
+    None
 }
 
 /// The command that the words are, if they are of a form.
@@ -357,14 +378,5 @@ pub fn command_of(words: &Words) -> Option<Command>
     if is_command(words, Command::Undump) {
         return Some(Command::Undump);
     }
-    if is_command(words, Command::Many) {
-        return Some(Command::Many);
-    }
-    if is_command(words, Command::ManyFigures) {
-        return Some(Command::ManyFigures);
-    }
-    if is_command(words, Command::ManyRun) {
-        return Some(Command::ManyRun);
-    }
-    None
+    later_command(words)
 }

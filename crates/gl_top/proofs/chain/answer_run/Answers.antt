@@ -1,4 +1,5 @@
-use Rattle.std.proofs.Common.{inl}
+use Rattle.std.proofs.Common.{inl, sym, subst}
+use Rattle.gl_outside.specs.States.{IsCalm, ShelfState}
 use Rattle.gl_outside.proofs.Takes.{took_none}
 use Rattle.gl_top_judging.specs.Causes.{change}
 use Rattle.gl_top.specs.Verdicts.{Refused}
@@ -8,7 +9,9 @@ pub keep_and_finish-requires-clause-passes : goal.keep_and_finish-requires-claus
 keep_and_finish-requires-clause-passes g c = (_, c.in-Ok.ensures.passes)
 
 pub returns-in-Ok : goal.returns-in-Ok
-returns-in-Ok g c = c.keep_and_finish.ensures (change _ _) c.in-Ok.ensures.passes c.in-Ok.ensures.leaves
+returns-in-Ok g c =
+    c.keep_and_finish.ensures.answer (change _ _) c.in-Ok.ensures.passes
+    (subst (λ (s : ShelfState). IsCalm (g.S.Shelf.state c.args.desk.now.shelf) s) (sym c.keep_and_finish.ensures.shelf) c.in-Ok.ensures.leaves)
 
 pub returns-in-Err : goal.returns-in-Err
 returns-in-Err g c = Refused (record {

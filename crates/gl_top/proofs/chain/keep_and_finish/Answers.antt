@@ -4,8 +4,8 @@ use Rattle.gl_top.specs.Verdicts.{Refused}
 use Rattle.gl_top_notes.specs.declared.refusal.Refusal.TheVariants as refusal
 use Rattle.gl_top.proofs.chain.keep_and_finish.Goals as goal
 
-pub returns-in-Err : goal.returns-in-Err
-returns-in-Err g c = λ ch passes calm. Refused (record {
+pub returns-in-Err-clause-answer : goal.returns-in-Err-clause-answer
+returns-in-Err-clause-answer g c = λ ch passes calm. Refused (record {
   refusal = refusal.Memory;
   cause = calm;
   untouched = took_none _;

@@ -5,10 +5,10 @@ use Rattle.gl_top_notes.specs.declared.refusal.Refusal.TheVariants as refusal
 use Rattle.gl_top.specs.Verdicts.{IsGiven, Refused, OfLoad}
 use Rattle.gl_top.proofs.loading.load_many.Goals as goal
 
-pub returns-in-Ok : goal.returns-in-Ok
-returns-in-Ok g c = λ ch calm.
+pub returns-in-Ok-clause-answer : goal.returns-in-Ok-clause-answer
+returns-in-Ok-clause-answer g c = λ ch calm.
     let told : List ℕ → Type 0 = λ bytes. IsLoad c.args.count bytes c.in-Ok.loaded.compiled.text.items in
-    c.show_text.ensures ch
+    c.show_text.ensures.answer ch
     (subst (IsGiven ch.old.told c.args.words.now c.deref.result.now) (sym c.text-verilog.ensures) (OfLoad (record {
       count = c.args.count;
       is = c.requires.many;
@@ -16,8 +16,8 @@ returns-in-Ok g c = λ ch calm.
     })))
     calm
 
-pub returns-in-Err : goal.returns-in-Err
-returns-in-Err g c = λ ch calm. Refused (record {
+pub returns-in-Err-clause-answer : goal.returns-in-Err-clause-answer
+returns-in-Err-clause-answer g c = λ ch calm. Refused (record {
   refusal = refusal.Memory;
   cause = calm;
   untouched = took_none _;

@@ -1,4 +1,5 @@
-use Rattle.std.proofs.Common.{inl, inr}
+use Rattle.std.proofs.Common.{inl, inr, sym, subst}
+use Rattle.gl_outside.specs.States.{IsCalm, ShelfState}
 use Rattle.gl_outside.proofs.Takes.{took_none}
 use Rattle.gl_top_judging.specs.Causes.{change}
 use Rattle.gl_top.specs.Verdicts.{Refused}
@@ -11,7 +12,9 @@ pub show_figures-requires-clause-passes : goal.show_figures-requires-clause-pass
 show_figures-requires-clause-passes g c = (_, c.in-Ok.ensures.passes)
 
 pub returns-in-Ok : goal.returns-in-Ok
-returns-in-Ok g c = c.show_figures.ensures (change _ _) c.in-Ok.ensures.passes c.in-Ok.ensures.leaves
+returns-in-Ok g c =
+    c.show_figures.ensures.answer (change _ _) c.in-Ok.ensures.passes
+    (subst (λ (s : ShelfState). IsCalm (g.S.Shelf.state c.args.desk.now.shelf) s) (sym c.show_figures.ensures.shelf) c.in-Ok.ensures.leaves)
 
 pub returns-in-Err : goal.returns-in-Err
 returns-in-Err g c = Refused (record {

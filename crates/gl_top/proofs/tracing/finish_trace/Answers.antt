@@ -17,8 +17,8 @@ trace-requires-clause-valid g c = c.requires.can.of_text.1.valid
 pub trace-requires-clause-inputs : goal.trace-requires-clause-inputs
 trace-requires-clause-inputs g c = c.inputs_are_ports.ensures c.requires.can.of_text.0 (module_of c.args.simulation.fitted.design) c.requires.can.of_text.1
 
-pub returns-in-Done : goal.returns-in-Done
-returns-in-Done g c = λ ch ready calm.
+pub returns-in-Done-clause-answer : goal.returns-in-Done-clause-answer
+returns-in-Done-clause-answer g c = λ ch ready calm.
     let s = c.args.simulation in
     let m = module_of s.fitted.design in
     let of_extra : ℕ → Type 0 = λ n. traces.Traced (OfRunsOf m s.schema (plain_beats s.beats) Zero) (decimal_kinds m) (plain_beats s.beats) n (g.K.Sink.state c.args.desk.now.out) (g.K.Sink.state c.trace.new.out) end.Done in
@@ -35,8 +35,8 @@ returns-in-Done g c = λ ch ready calm.
       left = c.requires.empty;
     })
 
-pub returns-in-NoEnd : goal.returns-in-NoEnd
-returns-in-NoEnd g c = λ ch ready calm.
+pub returns-in-NoEnd-clause-answer : goal.returns-in-NoEnd-clause-answer
+returns-in-NoEnd-clause-answer g c = λ ch ready calm.
     let s = c.args.simulation in
     let m = module_of s.fitted.design in
     let of_extra : ℕ → Type 0 = λ n. traces.Traced (OfRunsOf m s.schema (plain_beats s.beats) Zero) (decimal_kinds m) (plain_beats s.beats) n (g.K.Sink.state c.args.desk.now.out) (g.K.Sink.state c.trace.new.out) (end.NoEnd c.in-NoEnd.cycle) in
@@ -53,8 +53,8 @@ returns-in-NoEnd g c = λ ch ready calm.
       left = c.requires.empty;
     })
 
-pub returns-in-WriteFault : goal.returns-in-WriteFault
-returns-in-WriteFault g c = λ ch ready calm.
+pub returns-in-WriteFault-clause-answer : goal.returns-in-WriteFault-clause-answer
+returns-in-WriteFault-clause-answer g c = λ ch ready calm.
     let s = c.args.simulation in
     let m = module_of s.fitted.design in
     let of_extra : ℕ → Type 0 = λ n. traces.Traced (OfRunsOf m s.schema (plain_beats s.beats) Zero) (decimal_kinds m) (plain_beats s.beats) n (g.K.Sink.state c.args.desk.now.out) (g.K.Sink.state c.trace.new.out) end.WriteFault in
@@ -71,8 +71,8 @@ returns-in-WriteFault g c = λ ch ready calm.
       left = c.requires.empty;
     })
 
-pub returns : goal.returns
-returns g c = λ ch ready calm. Refused (record {
+pub returns-clause-answer : goal.returns-clause-answer
+returns-clause-answer g c = λ ch ready calm. Refused (record {
   refusal = refusal.Memory;
   cause = calm;
   untouched = let P : SinkState → Type 0 = λ s. Took (g.K.Sink.state c.args.desk.now.out) s [] in subst P (sym c.in-Memory.ensures.lines) (took_none _);

@@ -1,4 +1,5 @@
 use Rattle.std.proofs.Common.{◌≡◌, ℕ, List, inl, sym, subst}
+use Rattle.gl_outside.specs.States.{IsCalm, ShelfState}
 use Rattle.gl_outside.proofs.Takes.{took_none}
 use Rattle.gl_top_words.specs.declared.command.Part.TheVariants as part
 use Rattle.gl_top_texts.specs.Texts.{HasText}
@@ -15,7 +16,8 @@ pub returns-in-Ok : goal.returns-in-Ok
 returns-in-Ok g c =
     let told = (g.S.Shelf.state c.args.desk.now.shelf).told in
     let has = subst (λ (v : List ℕ). HasText told c.args.words.now part.Dump (λ text. v ≡ text)) (sym c.deref.ensures.value) c.in-Ok.ensures.text in
-    c.show_dump.ensures (change _ _) has c.in-Ok.ensures.leaves
+    c.show_dump.ensures.answer (change _ _) has
+    (subst (λ (s : ShelfState). IsCalm (g.S.Shelf.state c.args.desk.now.shelf) s) (sym c.show_dump.ensures.shelf) c.in-Ok.ensures.leaves)
 
 pub returns-in-Err : goal.returns-in-Err
 returns-in-Err g c =

@@ -10,8 +10,8 @@ use Rattle.gl_top.specs.Verdicts.{OfDump, Refused, Wrote, WroteCut}
 use Rattle.gl_top.proofs.Dumps.{undump_names, undumped}
 use Rattle.gl_top.proofs.undumping.show_dump.Goals as goal
 
-pub returns-in-Done : goal.returns-in-Done
-returns-in-Done g c = λ ch has calm.
+pub returns-in-Done-clause-answer : goal.returns-in-Done-clause-answer
+returns-in-Done-clause-answer g c = λ ch has calm.
     let of = c.in-Done.ensures in
     Wrote (record {
       bytes = lines_of of.dump;
@@ -22,8 +22,8 @@ returns-in-Done g c = λ ch has calm.
       done = refl;
     })
 
-pub returns-in-Fault : goal.returns-in-Fault
-returns-in-Fault g c = λ ch has calm.
+pub returns-in-Fault-clause-answer : goal.returns-in-Fault-clause-answer
+returns-in-Fault-clause-answer g c = λ ch has calm.
     let fault = c.in-Fault.fault in
     Refused (record {
       refusal = refusal.Dump fault;
@@ -39,8 +39,8 @@ returns-in-Fault g c = λ ch has calm.
       left = inl c.requires.empty;
     })
 
-pub returns-in-WriteFault : goal.returns-in-WriteFault
-returns-in-WriteFault g c = λ ch has calm.
+pub returns-in-WriteFault-clause-answer : goal.returns-in-WriteFault-clause-answer
+returns-in-WriteFault-clause-answer g c = λ ch has calm.
     let of = c.in-WriteFault.ensures in
     WroteCut (record {
       bytes = lines_of of.dump;
@@ -50,8 +50,8 @@ returns-in-WriteFault g c = λ ch has calm.
       noted = c.tell_write_fault.ensures;
     })
 
-pub returns-in-Memory : goal.returns-in-Memory
-returns-in-Memory g c = λ ch has calm. Refused (record {
+pub returns-in-Memory-clause-answer : goal.returns-in-Memory-clause-answer
+returns-in-Memory-clause-answer g c = λ ch has calm. Refused (record {
   refusal = refusal.Memory;
   cause = calm;
   untouched = let P : SinkState → Type 0 = λ s. Took (g.K.Sink.state c.args.desk.now.out) s [] in subst P (sym c.in-Memory.ensures) (took_none _);

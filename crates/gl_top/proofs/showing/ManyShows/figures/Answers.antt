@@ -5,4 +5,4 @@ pub many_figures_text-requires : goal.many_figures_text-requires
 many_figures_text-requires c = c.requires.1.1.0
 
 pub returns : goal.returns
-returns c = figures_of_all_given c.args.self.now c.in_ok.bytes.items c.in_ok.ensures
+returns c = figures_of_all_given c.args.self.now c.in_ok-bytes.bytes.items c.in_ok-bytes.ensures

@@ -1,5 +1,4 @@
 use Rattle.std.proofs.Common.{ℕ, sym, subst}
-use Rattle.gl_outside.specs.Told.{Told}
 use Rattle.gl_schema.specs.Beats.{KeepsGap}
 use Rattle.gl_tuples.specs.Gaps.{plain_beats}
 use Rattle.gl_verilog_orders.specs.declared.start.Start.{Start}
