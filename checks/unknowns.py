@@ -27,7 +27,8 @@ WORK = 1000000  # about a file's cycles, times the bytes of the module
 CYCLES = 25, 1000  # the fewest and the most of a file, about
 BATCH = 16  # cases in one compilation
 MARGIN = 20  # cycles that a testbench goes on behind the last line of `run`
-SORTS = ('groups', 'groups', 'spare', 'keyed', 'times', 'lists')
+SORTS = ('groups', 'groups', 'spare', 'keyed', 'times', 'union', 'concat', 'lists')
+WANTED = {'keyed': 'windows of each key', 'times': 'windows of time', 'union': 'UNION', 'concat': 'CONCAT'}
 LIMIT = 'refused by limit'
 TOLD = 20  # differences that are printed; the others are counted
 LINES = ('out', 'valid'), ('out', 'eos'), ('fault', 'group'), ('fault', 'queue')
@@ -46,7 +47,7 @@ def query_of(maker, draw, sort):
         for it in queries
         if weight_of(it) <= most
         and (may_have_spare(it) or sort != 'spare')
-        and ('windows of each key' in forms_of(it) or sort != 'keyed')
+        and (sort not in WANTED or WANTED[sort] in forms_of(it))
     )
 
 
