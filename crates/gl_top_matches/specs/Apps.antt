@@ -14,13 +14,11 @@ name_rule id = record (new_rule id) { required = true }
 abbrev pub option_rule : Text → Bool → Rule
 option_rule long required = record (new_rule (codes "value")) { long = Some long; required = required }
 
-<<<<<<< HEAD
--- a command with one name behind it
-=======
+-- a command with no name behind it
 abbrev pub no_name : App
 no_name = new_app (codes "glacier")
 
->>>>>>> ea50b1026c0e6f3240ea15428a3f1f9d0a172f09
+-- a command with one name behind it
 abbrev pub one_name : App
 one_name = with_rule no_name (name_rule (codes "first"))
 

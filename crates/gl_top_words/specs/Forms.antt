@@ -209,11 +209,7 @@ pub record IsLoadOf (words : List (List ℕ)) (n : ℕ) : Type 0 where
 
 -- ---- the texts
 
-<<<<<<< HEAD
--- the texts that a command names, in their order; a load names none
-=======
--- those that a command names, in their order; a load and the version name none
->>>>>>> ea50b1026c0e6f3240ea15428a3f1f9d0a172f09
+-- the texts that a command names, in their order; a load and the version name none
 abbrev pub parts_of : Command → List Part
 parts_of Compile = Schema ∷ Query ∷ []
 parts_of Figures = Schema ∷ Query ∷ []
