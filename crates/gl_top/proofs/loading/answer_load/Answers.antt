@@ -14,7 +14,7 @@ unreachable-requires g c =
     let none : ◌≡◌ {A = Option ℕ} None (Some there.0) = sym c.in-None.is ∙ c.load.ensures.value ∙ there.1.many in
     absurd cc
 
-pub returns-in-Some : goal.returns-in-Some
-returns-in-Some g c =
+pub returns : goal.returns
+returns g c =
     c.load_many.ensures.answer (change _ _)
     (subst (λ (s : ShelfState). IsCalm (g.S.Shelf.state c.args.desk.now.shelf) s) (sym c.load_many.ensures.shelf) (calm_none _))
