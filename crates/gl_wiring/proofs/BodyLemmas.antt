@@ -1,5 +1,5 @@
 -- Copies of a body behind the wires of a front, each over the beats of its own wire, and the source before them.
-use Rattle.std.proofs.Common.{◌≡◌, ℕ, zero, suc, ◌+◌, ◌<◌, List, [], ◌∷◌, length, Some, None, slice_get, refl, sym, ap, ◌∙◌, subst, arith, Option}
+use Rattle.std.proofs.Common.{◌≡◌, ℕ, zero, suc, ◌<◌, List, [], ◌∷◌, length, Some, None, slice_get, refl, sym, ap, ◌∙◌, subst, arith, Option}
 use Rattle.gl_bits.proofs.AllLists.{get_there}
 use Rattle.gl_algebra.specs.declared.figures.Figures.{Figures}
 use Rattle.gl_algebra.specs.declared.node.PlanNode.{PlanNode}
@@ -26,7 +26,7 @@ use Rattle.gl_wire.specs.Spills.{Lines}
 use Rattle.gl_wire.specs.Wire.{Carried, carried, stream, widths}
 use Rattle.gl_wire.proofs.DelayLemmas.{spaced_closer}
 use Rattle.gl_wire.proofs.ServingLemmas.{serving_as}
-use Rattle.gl_wiring.specs.Copies.{AreBodies, IsSpacedFor, LeavesRoom, cost_of_spaced, paceless}
+use Rattle.gl_wiring.specs.Copies.{AreBodies, IsSpacedFor, LeavesRoom, cost_from, cost_of_spaced, paceless}
 use Rattle.gl_wiring.specs.Leaves.{LeavesFit, leaf, widths_of}
 use Rattle.gl_wiring.specs.Put.{Gives, GivesAs}
 use Rattle.gl_wiring.proofs.CopyLemmas.{copy_fits}
@@ -60,16 +60,7 @@ module _ (nodes : List PlanNode) (source gap : ℕ) (g : Figures) (room : Leaves
   pub source_keeps : Keeps old new
   source_keeps = keeps_then old net new sp.behind.keeps keeps
 
-  abbrev cost_up_to : Cost → Cost
-  cost_up_to fore =
-      let spacer = cost_of_spaced gap p (widths_of (kinds_of nodes source)) in
-      record {
-        nodes = spacer.nodes + fore.nodes;
-        registers = spacer.registers + fore.registers;
-        memories = spacer.memories + fore.memories;
-      }
-
-  pub source_cost : (fore : Cost) → CostsAtMost net new fore → CostsAtMost old new (cost_up_to fore)
+  pub source_cost : (fore : Cost) → CostsAtMost net new fore → CostsAtMost old new (cost_from nodes source gap fore)
   source_cost fore cost =
       let spacer : CostsAtMost old net (cost_of_spaced gap p (widths_of (kinds_of nodes source))) =
       subst (λ (cs : List ℕ). CostsAtMost old net (cost_of_spaced gap p cs)) columns sp.behind.cost in

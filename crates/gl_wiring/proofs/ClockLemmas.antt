@@ -14,7 +14,7 @@ use Rattle.gl_wiring.specs.Bringing.{Brings, row_at}
 use Rattle.gl_wiring.specs.Leaves.{silent}
 use Rattle.gl_wiring.proofs.BeatLemmas.{before_none, ends_only, last_late}
 
--- the times of the rows of n cycles from a place on, behind so many ticks
+-- the times of the rows of n cycles from a place on, behind `before` ticks
 unfoldable times_in : (ℕ → Bool) → (ℕ → Option Row) → ℕ → ℕ → ℕ → List ℕ
 times_in tick tuple before c zero = []
 times_in tick tuple before c (suc n) = times_of (tuple c) (before + bit (tick c)) ++ times_in tick tuple (before + bit (tick c)) (suc c) n

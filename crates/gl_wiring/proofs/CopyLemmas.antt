@@ -25,8 +25,8 @@ use Rattle.gl_wire.specs.Serves.{Fits}
 use Rattle.gl_wire.specs.Wire.{IsWire, carried, widths}
 use Rattle.gl_wire.proofs.ClosingLemmas.{own_fits}
 use Rattle.gl_wiring.specs.Leaves.{HaveLeaves, LeavesFit, widths_of}
-use Rattle.gl_wiring.specs.Put.{CanPut, HasColumns, IsPut, counted}
-use Rattle.gl_wiring.specs.Copies.{AreBodies, CanCopy}
+use Rattle.gl_wiring.specs.Put.{CanPut, HasColumns, IsPut, plan_cost}
+use Rattle.gl_wiring.specs.Copies.{AreBodies, CanCopy, CanStandBehind}
 use Rattle.gl_wiring.proofs.CanLemmas.{can_body, leaves_kept, second_within}
 use Rattle.gl_wiring.proofs.GivesLemmas.{gives_kept}
 
@@ -47,19 +47,23 @@ copy_fits run w = record { each = each; ticks = record { each = λ c h. absurd (
     each zero wire h = let same : w ≡ wire = cc in subst (λ (x : Wire). Fits input_figures (beats_of (carried run w)) (carried run x)) same (own_fits (carried run w))
     each (suc place) wire h = absurd (cc)
 
--- behind wires with the columns of its source a body can be put
-pub can_copies : (nodes : List PlanNode) (figures : List Figures) (id source body : ℕ) (node : PlanNode) (old net : Net) (tick : Option Bit) (leaves wires : List Wire)
+-- behind a wire with the columns of its source a body can be put
+pub can_stand : (nodes : List PlanNode) (figures : List Figures) (id source body : ℕ) (node : PlanNode) (net : Net) (tick : Option Bit) (leaves : List Wire) (columns : List ℕ)
     → IsPlan nodes → slice_get nodes id ≡ Some node → named_by node ≡ source ∷ body ∷ [] → IsBodyFor (shape_of nodes source) (shape_of nodes body)
-    → CanPut nodes figures id old tick leaves
-    → ((k : ℕ) (wire : Wire) → slice_get wires k ≡ Some wire → IsWire net wire × (widths wire.columns ≡ widths_of (kinds_of nodes source)))
-    → CanCopy nodes figures body net wires
-can_copies nodes figures id source body node old net tick leaves wires plan at named for can has = record {
+    → CanPut nodes figures id net tick leaves → columns ≡ widths_of (kinds_of nodes source) → CanStandBehind nodes figures body columns
+can_stand nodes figures id source body node net tick leaves columns plan at named for can same = record {
   within = second_within nodes id node plan at source body named;
-  each = λ k wire at_wire.
-      let x = has k wire at_wire in
-      (can_body nodes figures id node old tick leaves plan at can source body wire (kinds_of nodes source) net named
-      (body_leaves net wire (kinds_of nodes source) x.0 x.1 (shape_of nodes body).leaves for.leaves) for.leaves).can;
+  each = λ other wire is own.
+      (can_body nodes figures id node net tick leaves plan at can source body wire (kinds_of nodes source) other named
+      (body_leaves other wire (kinds_of nodes source) is (own ∙ same) (shape_of nodes body).leaves for.leaves) for.leaves).can;
 }
+
+-- behind each of some wires with these columns
+pub can_copies : (nodes : List PlanNode) (figures : List Figures) (body : ℕ) (columns : List ℕ) (net : Net) (wires : List Wire) → CanStandBehind nodes figures body columns
+    → ((k : ℕ) (wire : Wire) → slice_get wires k ≡ Some wire → IsWire net wire × (widths wire.columns ≡ columns))
+    → CanCopy nodes figures body net wires
+can_copies nodes figures body columns net wires stands has =
+    record { within = stands.within; each = λ k wire at. let x = has k wire at in stands.each net wire x.0 x.1 }
 
 -- also once others are put
 pub can_copy : (nodes : List PlanNode) (figures : List Figures) (body : ℕ) (old new : Net) (wires : List Wire) (k : ℕ) (w : Wire) → Keeps old new
@@ -88,9 +92,9 @@ pub bodies_more : (nodes : List PlanNode) (body : ℕ) (old mid new : Net) (wire
 bodies_more nodes body old mid new wires n copies w e are at h = record {
   keeps = keeps_then old mid new are.keeps h.keeps;
   cost = record {
-    nodes = omega (arith, are.cost.nodes, h.cost.nodes, one_more (counted nodes body).nodes);
-    registers = omega (arith, are.cost.registers, h.cost.registers, one_more (counted nodes body).registers);
-    memories = omega (arith, are.cost.memories, h.cost.memories, one_more (counted nodes body).memories);
+    nodes = omega (arith, are.cost.nodes, h.cost.nodes, one_more (plan_cost nodes body).nodes);
+    registers = omega (arith, are.cost.registers, h.cost.registers, one_more (plan_cost nodes body).registers);
+    memories = omega (arith, are.cost.memories, h.cost.memories, one_more (plan_cost nodes body).memories);
   };
   as_many = length-append copies (e ∷ []) ∙ ap (λ (k : ℕ). k + 1) are.as_many;
   gives = λ k v x at_wire at_copy. elim (place_in_append copies e k x at_copy) [

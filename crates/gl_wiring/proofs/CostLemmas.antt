@@ -12,7 +12,7 @@ use Rattle.gl_rows.specs.Costs.{cost_of_items, cost_of_rows}
 use Rattle.gl_wire.specs.Costs.{Cost, CostsAtMost}
 use Rattle.gl_wire.proofs.CountLemmas.{narrow_kinds, narrow_sum}
 use Rattle.gl_wiring.specs.Leaves.{widths_of}
-use Rattle.gl_wiring.specs.Put.{counted_own}
+use Rattle.gl_wiring.specs.Put.{own_cost}
 
 -- a node's own part
 pub record IsOwn (nodes : List PlanNode) (id weight lean store : ℕ) : Type 0 where
@@ -22,7 +22,7 @@ pub record IsOwn (nodes : List PlanNode) (id weight lean store : ℕ) : Type 0 w
 
 -- one block behind what was put
 pub cost_behind : (nodes : List PlanNode) (id weight lean store : ℕ) (old new : Net) (most : Cost) → IsOwn nodes id weight lean store
-    → CostsAtMost old new most → IsCounted most weight lean store → CostsAtMost old new (counted_own nodes id)
+    → CostsAtMost old new most → IsCounted most weight lean store → CostsAtMost old new (own_cost nodes id)
 cost_behind nodes id weight lean store old new most s b c = record {
   nodes = omega (arith, b.nodes, c.nodes, s.weight');
   registers = omega (arith, b.registers, c.registers, s.lean');

@@ -25,7 +25,7 @@ use Rattle.gl_wiring.specs.declared.groups.GroupOf.{GroupOf}
 use Rattle.gl_wiring.specs.Copies.{cost_of_spaced, times}
 use Rattle.gl_wiring.specs.Groups.{IsGroupNode, cost_to_slots}
 use Rattle.gl_wiring.specs.Leaves.{widths_of}
-use Rattle.gl_wiring.specs.Put.{counted, counted_own}
+use Rattle.gl_wiring.specs.Put.{plan_cost, own_cost}
 use Rattle.gl_wiring.proofs.CostLemmas.{at_most, costs_then, stored_within}
 
 -- nodes, bits of registers, and bits of memories
@@ -118,8 +118,8 @@ module _ (nodes : List PlanNode) (g : GroupOf) (plan : IsPlan nodes) (at : IsGro
   store : store_part nodes g.id ≡ g.groups * store_of nodes g.body + spacer.memories
   store = rw source_lines (parts.store ∙ ap (λ n. n + store_spacer_of) (store_copied (form_of nodes g.body) copies g.groups (store_of nodes g.body)))
 
-  pub group_cost : (old mid net new : Net) → CostsAtMost old mid (cost_to_slots nodes g) → CostsAtMost mid net (times g.groups (counted nodes g.body))
-      → CostsAtMost net new (cost_of_back g.groups own) → CostsAtMost old new (counted_own nodes g.id)
+  pub group_cost : (old mid net new : Net) → CostsAtMost old mid (cost_to_slots nodes g) → CostsAtMost mid net (times g.groups (plan_cost nodes g.body))
+      → CostsAtMost net new (cost_of_back g.groups own) → CostsAtMost old new (own_cost nodes g.id)
   group_cost old mid net new front bodies back =
       let all = costs_then old net new _ _ (costs_then old mid net _ _ front bodies) back in
       record {

@@ -37,7 +37,7 @@ use Rattle.gl_wiring.specs.Groups.{IsGroupNode}
 use Rattle.gl_wiring.specs.LaneGroups.{cost_to_lane}
 use Rattle.gl_wiring.specs.Lanes.{cost_of_body, has_room}
 use Rattle.gl_wiring.specs.Leaves.{widths_of}
-use Rattle.gl_wiring.specs.Put.{counted_own}
+use Rattle.gl_wiring.specs.Put.{own_cost}
 use Rattle.gl_wiring.proofs.CostLemmas.{bits_within}
 use Rattle.gl_wiring.proofs.GroupCosts.{key_width_is}
 
@@ -175,7 +175,7 @@ module _ (nodes : List PlanNode) (g : GroupOf) (plan : IsPlan nodes) (at : IsGro
   pub lane_cost : (old mid net last new : Net) → CostsAtMost old mid (cost_to_lane nodes g)
       → CostsAtMost mid net (cost_of_body nodes child aggs (bits_of_slots g.groups))
       → (words : ℕ) → 2 ^ bits_of_slots g.groups * sum_by (kept_of_agg (kinds_of nodes child)) aggs + words ≤ 128 * (length aggs * 2 ^ bits_of_slots g.groups)
-      → CostsAtMost net last (record { nodes = g.groups * 4 + length aggs + 4; registers = sum own + 2; memories = words }) → CostsAtMost last new (nodes_alone 2) → CostsAtMost old new (counted_own nodes g.id)
+      → CostsAtMost net last (record { nodes = g.groups * 4 + length aggs + 4; registers = sum own + 2; memories = words }) → CostsAtMost last new (nodes_alone 2) → CostsAtMost old new (own_cost nodes g.id)
   lane_cost old mid net last new front tables words room gathered lines =
       let key : slice_index source g.key ≡ w = key_width_is (kinds_of nodes g.source) g.key within in
       let n = nodes_within (weight_of nodes g.body) (weight_of nodes child) spacer.nodes parts g.groups (length source) (length aggs) delay

@@ -37,6 +37,7 @@ use Rattle.gl_groups.specs.LaneLaws as laws
 use Rattle.gl_groups.specs.Picks.{bits_of_slots}
 use Rattle.gl_groups.specs.Slots.{AreSlots}
 use Rattle.gl_groups.proofs.GroupLemmas.{groups_then}
+use Rattle.gl_groups.proofs.GroupedNet.{width_first}
 use Rattle.gl_groups.proofs.LaneServes.{lanes_serve}
 use Rattle.gl_wire.specs.declared.emitted.Emitted.{Emitted}
 use Rattle.gl_wire.specs.declared.emitted.Faults.{Faults}
@@ -67,7 +68,7 @@ use Rattle.gl_wiring.specs.Groups.{IsGroupNode, group_whole, grouping_of, spaced
 use Rattle.gl_wiring.specs.LaneGroups.{HasLane, IsGroupLane}
 use Rattle.gl_wiring.specs.Lanes.{IsBodyTable, IsDirectBehind, cost_of_body, has_room, place_of}
 use Rattle.gl_wiring.specs.Leaves.{HaveLeaves, leaf, widths_of}
-use Rattle.gl_wiring.specs.Put.{Gives, IsPutBehind, counted_own}
+use Rattle.gl_wiring.specs.Put.{Gives, IsPutBehind, own_cost}
 use Rattle.gl_wiring.proofs.BodyLemmas.{columns_between, source_apart, source_cost, source_gives, source_keeps}
 use Rattle.gl_wiring.proofs.CanLemmas.{first_within}
 use Rattle.gl_wiring.proofs.CopyLemmas.{body_leaves}
@@ -112,10 +113,6 @@ few_bits slots few = exponent_within slots 1 slots (omega arith) few
 keys_alike : (keys : List Bus) (w : ℕ) → ((k : ℕ) (b : Bus) → slice_get keys k ≡ Some b → b.width ≡ w) → (k : ℕ) (b : Bus) → slice_get keys k ≡ Some b → b.width ≡ width_of_keys keys
 keys_alike [] w h k b e = absurd (cc)
 keys_alike (x ∷ xs) w h k b e = h k b e ∙ sym (h 0 x refl)
-
-keys_width : (keys : List Bus) (w : ℕ) → 1 ≤ length keys → ((k : ℕ) (b : Bus) → slice_get keys k ≡ Some b → b.width ≡ w) → width_of_keys keys ≡ w
-keys_width [] w some h = absurd (omega (arith, some))
-keys_width (x ∷ xs) w some h = h 0 x refl
 
 -- ---- lines
 
@@ -179,7 +176,7 @@ module _ (nodes : List PlanNode) (g : GroupOf) (plan : IsPlan nodes) (at : IsGro
   -- the slots' keys are as wide as the one that comes
   keys_here : (old new : Net) (tick : Option Bit) (leaves : List Wire) (l : Laned) → IsGroupLane nodes g old new tick leaves l → width_of_keys l.lane.keys ≡ l.lane.here.width
   keys_here old new tick leaves l is =
-      keys_width l.lane.keys (slice_index (widths l.source.wire.columns) g.key) (omega (arith, is.lane.keys_count, (fits nodes g plan at).suits.2.least)) (λ k b e. (is.lane.keys k b e).1)
+      width_first l.lane.keys (slice_index (widths l.source.wire.columns) g.key) (omega (arith, is.lane.keys_count, (fits nodes g plan at).suits.2.least)) (λ k b e. (is.lane.keys k b e).1)
       ∙ sym is.lane.here_width
 
   -- also once the body is put
@@ -248,7 +245,7 @@ module _ (nodes : List PlanNode) (g : GroupOf) (plan : IsPlan nodes) (at : IsGro
     tables : CostsAtMost mid net (cost_of_body nodes t.child t.aggs (bits_of_slots g.groups))
     tables = subst (λ (w : ℕ). CostsAtMost mid net (cost_of_body nodes t.child t.aggs w)) is.lane.slot_width t.cost
 
-    cost : CostsAtMost old new (counted_own nodes g.id)
+    cost : CostsAtMost old new (own_cost nodes g.id)
     cost =
         let kinds = kinds_of nodes t.child in
         let in_child = first_within nodes g.body (Aggregate t.child t.aggs) plan t.at t.child [] refl in

@@ -35,7 +35,7 @@ use Rattle.gl_wire.specs.Shapes.{Steady, keep_where}
 use Rattle.gl_wire.specs.Stages.{IsLaterBus, IsLaterLine}
 use Rattle.gl_wire.specs.Wire.{carried, line_at, row_at, tuple_at}
 use Rattle.gl_wire.proofs.ColumnLemmas.{bit_kept, bus_kept}
-use Rattle.gl_wire.proofs.StageLemmas.{line_first, tuple_by}
+use Rattle.gl_wire.proofs.StageLemmas.{line_first, no_line, tuple_by}
 use Rattle.gl_wire_copies.specs.Bodies.{OfBody, alone}
 use Rattle.gl_wire_lanes.specs.Lanes.{Begins}
 use Rattle.gl_wire_lanes.specs.Shares.{lane_of}
@@ -248,13 +248,6 @@ module _ (nodes : List PlanNode) (id : ℕ) (old mid net new : Net) (lane : Wire
 
 -- ---- where a lane tells where streams begin, what is behind the operators does too
 
-no_tuple : (run : Run) (v : Bit) (bs : List Bus) (c : ℕ) → tuple_at run v bs c ≡ None → line_at run v c ≡ false
-no_tuple run v bs c e = by (line_at run v c) (sym (tuple_by run v bs c) ∙ e)
-  where
-    by : (b : Bool) → (if b then Some (row_at run c bs) else None) ≡ None → b ≡ false
-    by true p = absurd (cc)
-    by false p = refl
-
 module _ (nodes : List PlanNode) (id : ℕ) (old new : Net) (lane : Wire) (place : Place) (r : LaneRows) (h : AreRows nodes id old new lane place r) (run : Run) (is : IsRun new run) where
   came : (c : ℕ) → line_at run r.rows.wire.valid (c + h.depth) ≡ true → line_at run lane.valid c ≡ true
   came c p = by (line_at run lane.valid c) (tuple_by run lane.valid lane.columns c)
@@ -262,11 +255,11 @@ module _ (nodes : List PlanNode) (id : ℕ) (old new : Net) (lane : Wire) (place
       by : (b : Bool) → tuple_at run lane.valid lane.columns c ≡ (if b then Some (row_at run c lane.columns) else None) → b ≡ true
       by true e = refl
       by false e =
-          absurd (let z = no_tuple run r.rows.wire.valid r.rows.wire.columns (c + h.depth) ((h.steady run is).tuples c ∙ ap (option_and_then h.step) e) in cc (z, p))
+          absurd (let z = no_line run r.rows.wire.valid r.rows.wire.columns (c + h.depth) ((h.steady run is).tuples c ∙ ap (option_and_then h.step) e) in cc (z, p))
 
   pub rows_begin : Begins (lane_of run lane place.slot place.first) → Begins (lane_of run r.rows.wire r.place.slot r.place.first)
   rows_begin b = begins_behind h.depth _ _ b (record {
-    no_row = λ c l. no_tuple run r.rows.wire.valid r.rows.wire.columns c ((h.steady run is).before c l);
+    no_row = λ c l. no_line run r.rows.wire.valid r.rows.wire.columns c ((h.steady run is).before c l);
     no_end = (h.steady run is).no_end;
     no_first = h.no_first run is;
     rows = came;

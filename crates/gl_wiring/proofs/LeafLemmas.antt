@@ -24,7 +24,7 @@ use Rattle.gl_wire.specs.Serving.{inputs_at}
 use Rattle.gl_wire.specs.Wire.{Carried, IsWire, carried, stream, widths}
 use Rattle.gl_wire.proofs.ServingLemmas.{leaf_serving, serving_as}
 use Rattle.gl_wiring.specs.Leaves.{HasLeaf, HaveLeaves, carried_by, leaf, leaf_kinds, leaf_place, widths_of}
-use Rattle.gl_wiring.specs.Put.{GivesAs, IsPutBehind, counted_own}
+use Rattle.gl_wiring.specs.Put.{GivesAs, IsPutBehind, own_cost}
 
 -- a leaf's wire gives the leaf
 leaf_gives : (s : Shape) (m : Meaning) (k : ℕ) (net : Net) (tick : Option Bit) (leaves : List Wire) (e : Emitted) → slice_get leaves k ≡ Some e.wire → e.faults ≡ no_faults
@@ -59,7 +59,7 @@ leaf_wire net leaves node w h at = let same : h.wire ≡ w = let z = h.there in 
     (subst (IsWire net) same h.is, subst (λ (x : Wire). widths x.columns ≡ widths_of (leaf_kinds node)) same h.same_widths)
 
 -- nothing is added
-no_cost : (nodes : List PlanNode) (id : ℕ) (net : Net) → CostsAtMost net net (counted_own nodes id)
+no_cost : (nodes : List PlanNode) (id : ℕ) (net : Net) → CostsAtMost net net (own_cost nodes id)
 no_cost nodes id net = record { nodes = omega arith; registers = omega arith; memories = omega arith }
 
 module _ (nodes : List PlanNode) (id : ℕ) (net : Net) (tick : Option Bit) (leaves : List Wire) (plan : IsPlan nodes) (has : HaveLeaves net leaves (shape_of nodes id).leaves) where

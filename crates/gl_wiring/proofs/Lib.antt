@@ -21,6 +21,7 @@ pub mod ManyLemmas
 pub mod CanLemmas
 pub mod BodyLemmas
 pub mod CopyLemmas
+pub mod OverLemmas
 pub mod GroupCosts
 pub mod GroupLemmas
 pub mod PartitionCosts

@@ -33,13 +33,13 @@ use Rattle.gl_wiring.specs.Emitted.{CostsNothing, Extends, Puts, names_of}
 use Rattle.gl_wiring.specs.EmittedPorts.{input, streams_inputs}
 use Rattle.gl_wiring.specs.Leaves.{widths_of}
 use Rattle.gl_wiring.specs.Many.{CanWireRoot, IsRightFor, ids_of, many_ports, naming_at, result_names, root_outputs, widest_gap}
-use Rattle.gl_wiring.specs.ManyNet.{AreShownBy, CanShow, IsShown, counted_outputs}
+use Rattle.gl_wiring.specs.ManyNet.{AreShownBy, CanShow, IsShown, outputs_cost}
 use Rattle.gl_wiring.specs.Naming.{Naming}
 use Rattle.gl_wiring.specs.Output.{IsOutput, input_ports, output_cost, result_outputs, tick_input}
 use Rattle.gl_wiring.specs.PlanNet.{IsEmpty, IsRootNet}
 use Rattle.gl_wiring.specs.PortNames.{module_names, result_ports, results_ports, streams_ports, tick_port}
 use Rattle.gl_wiring.specs.Put.{HasColumns}
-use Rattle.gl_wiring.specs.Reached.{AreReached, CanPutAll, counted_once}
+use Rattle.gl_wiring.specs.Reached.{AreReached, CanPutAll, once_cost}
 use Rattle.gl_wiring.specs.StreamWires.{AreStreamWires, IsTickLine}
 use Rattle.gl_wiring.specs.Tables.{HasCircuit}
 use Rattle.gl_wiring.specs.declared.many.Root.{Root}
@@ -114,7 +114,7 @@ add_bits old mid new own rest all h k e = omega (arith, h, k, e)
 
 -- one output
 one_cost : (nodes : List PlanNode) (id : ℕ) (old new : Net) (columns : List ℕ) → IsPlan nodes → id < length nodes → columns ≡ widths_of (kinds_of nodes id)
-    → CostsAtMost old new (output_cost columns) → CostsAtMost old new (counted_outputs nodes (id ∷ []))
+    → CostsAtMost old new (output_cost columns) → CostsAtMost old new (outputs_cost nodes (id ∷ []))
 one_cost nodes id old new columns plan within same own =
     let kinds = kinds_of nodes id in
     let long : length columns ≡ length kinds = ap length same ∙ length_map width_of kinds in
@@ -127,8 +127,8 @@ one_cost nodes id old new columns plan within same own =
     }
 
 -- the outputs of roots, and those of others behind them
-costs_of : (nodes : List PlanNode) (id : ℕ) (ids : List ℕ) (old mid new : Net) → CostsAtMost old mid (counted_outputs nodes (id ∷ []))
-    → CostsAtMost mid new (counted_outputs nodes ids) → CostsAtMost old new (counted_outputs nodes (id ∷ ids))
+costs_of : (nodes : List PlanNode) (id : ℕ) (ids : List ℕ) (old mid new : Net) → CostsAtMost old mid (outputs_cost nodes (id ∷ []))
+    → CostsAtMost mid new (outputs_cost nodes ids) → CostsAtMost old new (outputs_cost nodes (id ∷ ids))
 costs_of nodes id ids old mid new own rest =
     let part = output_part nodes in
     let all : sum_by part (id ∷ ids) ≡ sum_by part (id ∷ []) + sum_by part ids = sum_by-append part (id ∷ []) ids in
@@ -153,8 +153,8 @@ total_bits n0 n1 n2 n3 lean keys out a b c d = omega (arith, a, b, c, d)
 total_store : (n0 n1 n2 n3 own : ℕ) → n0 ≡ 0 → n1 ≡ n0 → n2 ≤ n1 + own → n3 ≤ n2 + 0 → n3 ≤ own
 total_store n0 n1 n2 n3 own a b c d = omega (arith, a, b, c, d)
 
-pub are_within : (nodes : List PlanNode) (ids : List ℕ) (n0 n1 n2 n3 : Net) → IsEmpty n0 → CostsNothing n0 n1 → CostsAtMost n1 n2 (counted_once nodes ids)
-    → CostsAtMost n2 n3 (counted_outputs nodes ids) → AreWithin nodes ids n3
+pub are_within : (nodes : List PlanNode) (ids : List ℕ) (n0 n1 n2 n3 : Net) → IsEmpty n0 → CostsNothing n0 n1 → CostsAtMost n1 n2 (once_cost nodes ids)
+    → CostsAtMost n2 n3 (outputs_cost nodes ids) → AreWithin nodes ids n3
 are_within nodes ids n0 n1 n2 n3 empty none put out = record {
   size = total_size (size_of n0) (size_of n1) (size_of n2) (size_of n3) (weight_of_reached nodes ids) (sum_by (output_part nodes) ids)
       empty.size none.nodes put.nodes out.nodes;

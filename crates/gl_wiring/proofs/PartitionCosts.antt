@@ -25,7 +25,7 @@ use Rattle.gl_wiring.specs.declared.partitions.PartitionOf.{PartitionOf}
 use Rattle.gl_wiring.specs.Copies.{cost_of_spaced, times}
 use Rattle.gl_wiring.specs.Leaves.{widths_of}
 use Rattle.gl_wiring.specs.Partitions.{IsPartitionNode, cost_to_partitions}
-use Rattle.gl_wiring.specs.Put.{counted, counted_own}
+use Rattle.gl_wiring.specs.Put.{plan_cost, own_cost}
 use Rattle.gl_wiring.proofs.CostLemmas.{at_most, costs_then, stored_within}
 use Rattle.gl_wiring.proofs.WindowCosts.{bits_within, nodes_within}
 
@@ -87,8 +87,8 @@ module _ (nodes : List PlanNode) (p : PartitionOf) (plan : IsPlan nodes) (at : I
   store : store_part nodes p.id ≡ count * store_of nodes p.body + spacer.memories
   store = rw source_lines parts.store
 
-  pub partition_cost : (old mid net new : Net) → CostsAtMost old mid (cost_to_partitions nodes p) → CostsAtMost mid net (times count (counted nodes p.body))
-      → CostsAtMost net new back → CostsAtMost old new (counted_own nodes p.id)
+  pub partition_cost : (old mid net new : Net) → CostsAtMost old mid (cost_to_partitions nodes p) → CostsAtMost mid net (times count (plan_cost nodes p.body))
+      → CostsAtMost net new back → CostsAtMost old new (own_cost nodes p.id)
   partition_cost old mid net new to_front bodies rear =
       let all = costs_then old net new _ _ (costs_then old mid net _ _ to_front bodies) rear in
       record {

@@ -1,14 +1,13 @@
 -- The circuits of windows of each group.
 use Rattle.std.proofs.Common.{◌≡◌, ℕ, ◌<◌, ◌≤◌, List, [], ◌∷◌, length, Bool, ◌||◌, refl, sym, ap, ◌∙◌, subst, arith, Option}
 use Rattle.std.specs.List.{All}
-use Rattle.std.specs.Prelude.{slice_index}
+use Rattle.std.proofs.lemmas.List.{length-map}
 use Rattle.std.proofs.lemmas.Option.{slice_get_within}
 use Rattle.std.proofs.Math.Nat.{mul-pos}
 use Rattle.gl_bits.specs.Kinds.{IsKind, width_of}
 use Rattle.gl_bits.specs.Lists.{has_further}
 use Rattle.gl_bits.specs.Partitions.{parts}
 use Rattle.gl_bits.specs.Results.{Row, Results, IsOfGroup, IsOfParts}
-use Rattle.gl_bits.proofs.AllLists.{get_there}
 use Rattle.gl_bits.proofs.Bools.{or_join}
 use Rattle.gl_algebra.specs.Columns.{kind_of_column}
 use Rattle.gl_algebra.specs.declared.figures.Figures.{Figures}
@@ -18,7 +17,7 @@ use Rattle.gl_algebra.specs.FigureTable.{AreSmall, IsSound, figures_of, partitio
 use Rattle.gl_algebra.specs.Fits.{Fits as FitsPlan, IsPlan}
 use Rattle.gl_algebra.specs.Laws.{FollowsTables}
 use Rattle.gl_algebra.specs.Results.{Inputs, IsPlanResult, given}
-use Rattle.gl_algebra.specs.Shapes.{Shape, kinds_of, shape_of}
+use Rattle.gl_algebra.specs.Shapes.{Shape, kinds_of}
 use Rattle.gl_algebra.specs.Views.{copies_of_partition, copies_of_window}
 use Rattle.gl_algebra.proofs.FigureLemmas.{closing_nodes_wait, figures_are_sound, one_copy}
 use Rattle.gl_algebra.proofs.KindLemmas.{columns_have_kinds}
@@ -27,41 +26,33 @@ use Rattle.gl_algebra.proofs.SoundLemmas.{spaced_sound}
 use Rattle.gl_algebra.proofs.TableLemmas.{nodes_follow_tables}
 use Rattle.gl_net.specs.declared.node.Bit.{Bit}
 use Rattle.gl_net.specs.Net.{Net}
-use Rattle.gl_net.proofs.Determined.{keeps_then}
-use Rattle.gl_wire.specs.Counted.{AreNarrow}
-use Rattle.gl_rows.proofs.MadeLemmas.{as_many}
 use Rattle.gl_wire_copies.specs.Bodies.{OfBody, alone}
 use Rattle.gl_wire_copies.specs.Rotates.{lines_of_all}
 use Rattle.gl_groups.specs.Costs.{cost_of_back}
 use Rattle.gl_groups.specs.Groupings.{line_of_further}
-use Rattle.gl_partitions.specs.declared.partitioning.Fronted.{Fronted}
 use Rattle.gl_partitions.specs.declared.partitioning.Partitioning.{Partitioning}
-use Rattle.gl_partitions.specs.Costs.{cost_of_front}
-use Rattle.gl_partitions.specs.Partitioned.{IsBacked, IsFronted, key_width}
+use Rattle.gl_partitions.specs.Partitioned.{partitioning_machine}
 use Rattle.gl_partitions.specs.Partitionings.{IsPartitioning, OfPartitions, key_of}
 use Rattle.gl_partitions.proofs.PartLemmas.{partitions_partition}
+use Rattle.gl_wire_registers.specs.Fronts.{columns_over}
 use Rattle.gl_wire_registers.specs.Joins.{columns_of, told_of}
 use Rattle.gl_wire.specs.declared.emitted.Emitted.{Emitted}
 use Rattle.gl_wire.specs.declared.wire.Wire.{Wire}
-use Rattle.gl_wire.specs.Apart.{CarriesApart}
 use Rattle.gl_wire.specs.Beats.{Beats}
 use Rattle.gl_wire.specs.Costs.{CostsAtMost}
 use Rattle.gl_wire.specs.Faults.{line_of, lines_of}
 use Rattle.gl_wire.specs.Serving.{Serving, inputs_at}
 use Rattle.gl_wire.specs.Spills.{Lines, ServedWithLines, both_lines}
-use Rattle.gl_wire.specs.Wire.{Carried, carried, line_at, widths}
-use Rattle.gl_wire.proofs.DelayLemmas.{spaced_closer}
+use Rattle.gl_wire.specs.Wire.{Carried, carried}
 use Rattle.gl_wire.proofs.ServingLemmas.{serving_as, serving_lines, serving_then}
-use Rattle.gl_wire.proofs.CountLemmas.{narrow_kinds}
 use Rattle.gl_wiring.specs.declared.partitions.PartitionOf.{PartitionOf}
-use Rattle.gl_wiring.specs.Copies.{AreBodies, CanCopy, IsSpacedFor, LeavesRoom, paceless}
+use Rattle.gl_wiring.specs.Copies.{CanStandBehind, IsPutOver, IsSpacedSource, LeavesRoom}
 use Rattle.gl_wiring.specs.Leaves.{leaf, widths_of}
-use Rattle.gl_wiring.specs.Partitions.{IsPartitionFront, IsPartitionNode, parted_whole, partitioning_of, spaced_parted}
-use Rattle.gl_wiring.specs.Put.{CanPut, Gives, GivesAs, HasColumns, IsPutBehind}
-use Rattle.gl_wiring.proofs.BodyLemmas.{columns_between, copies_serve, source_apart, source_cost, source_gives, source_keeps}
+use Rattle.gl_wiring.specs.Partitions.{IsPartitionNode, parted_whole, partitioning_of, spaced_parted}
+use Rattle.gl_wiring.specs.Put.{CanPut, IsPutBehind}
 use Rattle.gl_wiring.proofs.CanLemmas.{first_within, second_within}
-use Rattle.gl_wiring.proofs.CopyLemmas.{bodies_columns, can_copies}
-use Rattle.gl_wiring.proofs.GroupCosts.{key_width_is}
+use Rattle.gl_wiring.proofs.CopyLemmas.{can_stand}
+use Rattle.gl_wiring.proofs.OverLemmas.{around, keyed_columns, over_columns}
 use Rattle.gl_wiring.proofs.PartitionCosts.{partition_cost}
 use Rattle.gl_wiring.proofs.WindowLemmas.{joined_as}
 
@@ -121,15 +112,9 @@ module _ (nodes : List PlanNode) (p : PartitionOf) (plan : IsPlan nodes) (at : I
   sound_body : IsSound s
   sound_body = figures_are_sound nodes p.body plan in_body
 
-  pub source_is_sound : IsSound (figures_of nodes p.source)
-  source_is_sound = figures_are_sound nodes p.source plan in_source
-
   -- what a spacer asks for
   pub some_gap : 1 ≤ window_gap s
   some_gap = omega (arith, sound_body.end_gap)
-
-  pub source_is_narrow : (net : Net) (e : Emitted) → HasColumns nodes p.source net e → AreNarrow (widths e.wire.columns)
-  source_is_narrow net e has = rw has.same_widths (narrow_kinds (kinds_of nodes p.source) (columns_have_kinds nodes p.source plan in_source))
 
   pub some_step : 1 ≤ p.advance
   some_step = fits.suits.4.least
@@ -142,7 +127,7 @@ module _ (nodes : List PlanNode) (p : PartitionOf) (plan : IsPlan nodes) (at : I
   some_copy = mul-pos fits.suits.2.least copy_of_slot
 
   sound_source : IsSound f
-  sound_source = spaced_sound (window_gap s) (figures_of nodes p.source) source_is_sound
+  sound_source = spaced_sound (window_gap s) (figures_of nodes p.source) (figures_are_sound nodes p.source plan in_source)
 
   room : LeavesRoom (window_gap s) f h
   room = room_for c f s sound_body
@@ -154,86 +139,49 @@ module _ (nodes : List PlanNode) (p : PartitionOf) (plan : IsPlan nodes) (at : I
       (closing_nodes_wait nodes p.body plan in_body fits.suits.0.closing) (subst AreSmall follows.figures small)
 
   -- the key is a column of what stands behind the source's columns
-  pub key_there : (below between : Emitted) → widths below.wire.columns ≡ widths_of (kinds_of nodes p.source)
-      → widths between.wire.columns ≡ widths below.wire.columns → p.key < length between.wire.columns
-  key_there below between of_source same =
-      omega (arith, fits.suits.1, as_many between.wire.columns (kinds_of nodes p.source) (same ∙ of_source))
+  pub key_there : (columns : List ℕ) → columns ≡ widths_of (kinds_of nodes p.source) → p.key < length columns
+  key_there columns same = rw (same, length-map (kinds_of nodes p.source) width_of) (fits.suits.1)
 
-  -- the source spaced, and the front behind it
-  pub front_put : (old net new : Net) (tick : Option Bit) (leaves : List Wire) (below between : Emitted) (front : Fronted) → Gives nodes p.source old tick leaves below
-      → IsSpacedFor old net (window_gap s) (figures_of nodes p.source) below between → IsFronted net new (partitioning_of nodes p) between front
-      → IsPartitionFront nodes p old new tick leaves front
-  front_put old net new tick leaves below between front put sp fr =
-      let gap = window_gap s in
-      let columns = columns_between nodes p.source gap h room old net new tick leaves below between put sp fr.keeps in
-      let fore : CostsAtMost net new (cost_of_front p.groups (copies_of_window p.size p.advance) p.key (widths_of (kinds_of nodes p.source))) =
-      subst (λ (cs : List ℕ). CostsAtMost net new (cost_of_front p.groups (copies_of_window p.size p.advance) p.key cs)) columns fr.cost in
+  -- behind a wire with the source's columns the body can be put
+  pub partition_stands : (figures : List Figures) (net : Net) (tick : Option Bit) (leaves : List Wire) (columns : List ℕ) → CanPut nodes figures p.id net tick leaves
+      → columns ≡ widths_of (kinds_of nodes p.source) → CanStandBehind nodes figures p.body columns
+  partition_stands figures net tick leaves columns can same =
+      can_stand nodes figures p.id p.source p.body node net tick leaves columns plan at refl fits.suits.0 can same
+
+  -- the machine behind the source
+  pub partition_put : (old mid new : Net) (tick : Option Bit) (leaves : List Wire) (between e : Emitted) → IsSpacedSource nodes p.source (window_gap s) old mid tick leaves between
+      → IsPutOver nodes p.body (partitioning_machine (partitioning_of nodes p)) between mid new e → IsPutBehind nodes p.id old new tick leaves e
+  partition_put old mid new tick leaves between e sp o =
+      let m = partitioning_machine (partitioning_of nodes p) in
+      let x = around nodes p.source p.body (window_gap s) h m between old mid new tick leaves e plan in_body fits.suits.0 room sp o in
+      let b = o.backed in
+      let columns : columns_of o.copies ≡ widths_of (kinds_of nodes p.body) = over_columns nodes p.body m between mid new e o some_copy in
+      let own : columns_over m o.front o.copies ≡ widths_of (kind_of_column (kinds_of nodes p.source) p.key ∷ kinds_of nodes p.body) =
+      keyed_columns (kinds_of nodes p.source) p.key fits.suits.1 (kinds_of nodes p.body) _ _ x.columns columns in
+      let rear : CostsAtMost o.behind new (cost_of_back c (widths_of (kind_of_column (kinds_of nodes p.source) p.key ∷ kinds_of nodes p.body))) =
+      subst (λ (cs : List ℕ). CostsAtMost o.behind new (cost_of_back c cs)) own b.cost in
       record {
-        keeps = source_keeps nodes p.source gap h room old net new tick leaves below between put sp fr.keeps;
-        cost = source_cost nodes p.source gap h room old net new tick leaves below between put sp fr.keeps _ fore;
-        gives = subst (GivesAs (paceless (shape_of nodes p.source)) f (IsPlanResult nodes p.source) new tick leaves) (sym fr.same)
-            (source_gives nodes p.source gap h room old net new tick leaves below between put sp fr.keeps);
-        apart = λ run r beats spaced_beats has.
-            subst (λ (e : Emitted). CarriesApart gap (carried run e.wire)) (sym fr.same)
-            (source_apart nodes p.source gap h room old net new tick leaves below between put sp fr.keeps run r beats spaced_beats has);
-        fronts = fr.fronts;
-      }
-
-  -- behind the front the body can be put
-  pub partition_copies : (figures : List Figures) (old mid net : Net) (tick : Option Bit) (leaves : List Wire) (front : Fronted) → CanPut nodes figures p.id old tick leaves
-      → IsPartitionFront nodes p mid net tick leaves front → CanCopy nodes figures p.body net front.wires
-  partition_copies figures old mid net tick leaves front can fr =
-      can_copies nodes figures p.id p.source p.body node old net tick leaves front.wires plan at refl fits.suits.0 can
-      (λ k wire at_wire. let x = fr.fronts.wires k wire at_wire in (x.0, x.1 ∙ fr.gives.same_widths))
-
-  -- the columns of the whole: the key, and those of the body
-  own_columns : (mid net new : Net) (tick : Option Bit) (leaves : List Wire) (front : Fronted) (copies : List Emitted) → GivesAs (paceless (shape_of nodes p.source)) f (IsPlanResult nodes p.source) new tick leaves front.source
-      → AreBodies nodes p.body mid net front.wires c copies → length front.wires ≡ c
-      → key_width (partitioning_of nodes p) front.source ∷ columns_of copies ≡ widths_of (kind_of_column (kinds_of nodes p.source) p.key ∷ kinds_of nodes p.body)
-  own_columns mid net new tick leaves front copies gives are many =
-      let first = get_there copies 0 (omega (arith, some_copy, are.as_many)) in
-      let bodies : AreBodies nodes p.body mid net front.wires (length front.wires) copies = subst (λ (n : ℕ). AreBodies nodes p.body mid net front.wires n copies) (sym many) are in
-      let columns : columns_of copies ≡ widths_of (kinds_of nodes p.body) = bodies_columns nodes p.body mid net front.wires copies bodies 0 first.0 first.1 in
-      let key : key_width (partitioning_of nodes p) front.source ≡ width_of (kind_of_column (kinds_of nodes p.source) p.key) =
-      ap (λ (ws : List ℕ). slice_index ws p.key) gives.same_widths ∙ key_width_is (kinds_of nodes p.source) p.key fits.suits.1 in
-      rw (key, columns) refl
-
-  -- the back behind the copies
-  pub back_put : (old mid net new : Net) (tick : Option Bit) (leaves : List Wire) (front : Fronted) (copies : List Emitted) (e : Emitted) → IsPartitionFront nodes p old mid tick leaves front
-      → AreBodies nodes p.body mid net front.wires (length front.wires) copies → IsBacked net new (partitioning_of nodes p) front copies e
-      → IsPutBehind nodes p.id old new tick leaves e
-  back_put old mid net new tick leaves front copies e fr bodies b =
-      let many : length front.wires ≡ c = fr.fronts.as_many in
-      let are : AreBodies nodes p.body mid net front.wires c copies =
-      subst (λ (n : ℕ). AreBodies nodes p.body mid net front.wires n copies) many bodies in
-      let own = own_columns mid net mid tick leaves front copies fr.gives are many in
-      let rear : CostsAtMost net new (cost_of_back c (widths_of (kind_of_column (kinds_of nodes p.source) p.key ∷ kinds_of nodes p.body))) =
-      subst (λ (cs : List ℕ). CostsAtMost net new (cost_of_back c cs)) own b.cost in
-      record {
-        keeps = keeps_then old mid new fr.keeps (keeps_then mid net new are.keeps b.keeps);
+        keeps = x.keeps;
         cost = partition_cost nodes p plan at copy_of_slot (columns_have_kinds nodes p.source plan in_source)
             (subst (λ (x : Shape). All IsKind x.kinds) follows.shape (columns_have_kinds nodes p.id plan (slice_get_within nodes p.id node at)))
-            old mid net new fr.cost are.cost rear;
+            old o.mid o.behind new x.cost o.bodies.cost rear;
         gives = rw (follows.shape, follows.figures) (record {
           wire = b.wire;
           same_widths = b.same_widths ∙ own;
           lines = b.lines;
           paced = λ run r. tt;
           serving = λ run r beats spaced_beats has.
-              let run_net = b.keeps.runs run r in
-              let run_mid = are.keeps.runs run run_net in
-              let source = fr.gives.serving run run_mid beats (spaced_closer f h beats room.closer spaced_beats) has in
-              let whole = b.serves run r f sound_source nodes p.body beats spaced_beats source.fits (fr.apart run run_mid beats spaced_beats has)
-              (λ k l own_beats. copies_serve nodes p.source p.body plan in_body fits.suits.0 mid net run front.wires c copies run_net are many k l own_beats) in
+              let y = x.in_run run r beats spaced_beats has in
+              let whole = b.serves run r f sound_source nodes p.body beats spaced_beats y.source'.fits y.apart y.copies in
               let ins : ℕ → Inputs = inputs_at (line_of run tick) (leaf run leaves) (leaf run leaves 0) in
-              let told : Lines = both_lines (lines_of_all (told_of run copies) c) (line_of_further (line_at run front.further)) in
-              let lines : Lines = both_lines (lines_of run front.source.faults) told in
+              let told : Lines = both_lines (lines_of_all (told_of run o.copies) c) (line_of_further (line_of run o.front.further)) in
+              let lines : Lines = both_lines (lines_of run o.front.source.faults) told in
               serving_lines h (λ t. IsPlanResult nodes p.id (ins t)) (lines_of run e.faults) lines beats (carried run e.wire) (b.told run r)
               (serving_as h _ (λ t. IsPlanResult nodes p.id (ins t)) lines beats (carried run e.wire)
               (λ t ys x v. (follows.results (ins t) ys x).1 v)
               (parts_then f h (λ t. IsPlanResult nodes p.source (ins t)) (partitioning_of nodes p) (OfBody nodes p.body)
               (λ t rows. IsPlanResult nodes p.body (given (ins t) rows))
               (λ t rows zs q y. body_reads nodes p.body plan in_body (kinds_of nodes p.source) fits.suits.0.leaves (alone rows) (given (ins t) rows) refl zs q y)
-              (lines_of run front.source.faults) told beats (carried run front.source.wire) (carried run e.wire) source whole));
+              (lines_of run o.front.source.faults) told beats (carried run o.front.source.wire) (carried run e.wire) y.source' whole));
         });
       }

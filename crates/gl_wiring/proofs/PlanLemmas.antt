@@ -17,7 +17,7 @@ use Rattle.gl_bits.specs.Kinds.{width_of}
 use Rattle.gl_net.specs.Net.{Net, Run, IsRun, IsTrace, memory_bits_of, register_bits_of, size_of}
 use Rattle.gl_net.specs.PortValues.{PortShape, input_values, port_shapes}
 use Rattle.gl_wiring.specs.Leaves.{widths_of}
-use Rattle.gl_wiring.specs.Roots.{root_counted}
+use Rattle.gl_wiring.specs.Roots.{root_cost}
 use Rattle.gl_wiring.proofs.CostLemmas.{bits_within}
 use Rattle.gl_schema.specs.Beats.{Beat, AreBeats, KeepsGap, inputs_of, last_cycle}
 use Rattle.gl_schema.specs.Ports.{IsStimulus, rst, eos, tick, out_valid, out_column, out_eos, fault_group, fault_queue}
@@ -105,7 +105,7 @@ pub record IsWithin (nodes : List PlanNode) (root : ℕ) (net : Net) : Type 0 wh
 
 -- the circuit of the root and an output are within what the plan counts with its output
 pub costs_within : (nodes : List PlanNode) (root : ℕ) (n0 n1 n2 n3 : Net) (columns : List ℕ) → IsPlan nodes → root < length nodes
-    → IsEmpty n0 → CostsNothing n0 n1 → CostsAtMost n1 n2 (root_counted nodes root) → CostsAtMost n2 n3 (output_cost columns)
+    → IsEmpty n0 → CostsNothing n0 n1 → CostsAtMost n1 n2 (root_cost nodes root) → CostsAtMost n2 n3 (output_cost columns)
     → columns ≡ widths_of (kinds_of nodes root) → IsWithin nodes root n3
 costs_within nodes root n0 n1 n2 n3 columns plan within empty none put out same =
     let kinds = kinds_of nodes root in

@@ -25,14 +25,14 @@ use Rattle.gl_wire.specs.Costs.{CostsAtMost}
 use Rattle.gl_wire.proofs.CountLemmas.{narrow_kinds}
 use Rattle.gl_wiring.specs.declared.spare_windows.SpareWindowOf.{SpareWindowOf}
 use Rattle.gl_wiring.specs.Leaves.{widths_of}
-use Rattle.gl_wiring.specs.Put.{counted}
-use Rattle.gl_wiring.specs.Roots.{root_counted}
+use Rattle.gl_wiring.specs.Put.{plan_cost}
+use Rattle.gl_wiring.specs.Roots.{root_cost}
 use Rattle.gl_wiring.specs.SpareWindows.{IsSpareWindow, cost_to_front}
 use Rattle.gl_wiring.specs.Copies.{cost_of_spaced, times}
 use Rattle.gl_wiring.proofs.CostLemmas.{at_most, costs_then}
 use Rattle.gl_wiring.proofs.WindowCosts.{keys, lean, own_lines, source_lines, store, weight}
 
--- so many copies, those for windows that can be open at once and the further ones
+-- `most` copies, those for windows that can be open at once and the further ones
 split : (count most each : ℕ) → count ≤ most → most * each ≡ count * each + (most - count) * each
 split count most each enough =
     let whole : most ≡ count + (most - count) = omega (arith, enough) in
@@ -118,8 +118,8 @@ module _ (nodes : List PlanNode) (w : SpareWindowOf) (plan : IsPlan nodes) (is :
   further_of values =
       more (part_of_copy (shape_of nodes) values (lines_of (shape_of nodes w.window.id))) ∙ ap (λ (n : ℕ). (most - count) * n) (part_is values)
 
-  pub spare_cost : (old mid net new : Net) → CostsAtMost old mid (cost_to_front nodes w) → CostsAtMost mid net (times most (counted nodes w.window.body))
-      → CostsAtMost net new (cost_of_back most own) → CostsAtMost old new (root_counted nodes w.window.id)
+  pub spare_cost : (old mid net new : Net) → CostsAtMost old mid (cost_to_front nodes w) → CostsAtMost mid net (times most (plan_cost nodes w.window.body))
+      → CostsAtMost net new (cost_of_back most own) → CostsAtMost old new (root_cost nodes w.window.id)
   spare_cost old mid net new front bodies back =
       let all = costs_then old net new _ _ (costs_then old mid net _ _ front bodies) back in
       let spacer = cost_of_spaced (window_gap (figures_of nodes w.window.body)) (figures_of nodes w.window.source) source in

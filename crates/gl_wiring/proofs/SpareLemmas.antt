@@ -1,8 +1,7 @@
 -- The circuit of windows with spare copies at the root of a plan.
-use Rattle.std.proofs.Common.{◌≡◌, ℕ, ◌<◌, List, [], ◌∷◌, length, Bool, false, refl, sym, ap, ◌∙◌, subst, arith, Option}
+use Rattle.std.proofs.Common.{◌≡◌, ℕ, ◌<◌, List, [], ◌∷◌, length, Bool, false, refl, sym, ap, ◌∙◌, subst, Option}
 use Rattle.gl_bits.specs.Lists.{slices}
 use Rattle.gl_bits.specs.Results.{IsOfParts, Row}
-use Rattle.gl_bits.proofs.AllLists.{get_there}
 use Rattle.gl_algebra.specs.declared.figures.Figures.{Figures}
 use Rattle.gl_algebra.specs.declared.node.PlanNode.{PlanNode}
 use Rattle.gl_algebra.specs.declared.node.PlanNode.TheVariants.{Window}
@@ -21,10 +20,9 @@ use Rattle.gl_figures.proofs.RootLemmas.{figures_there, spare_there}
 use Rattle.gl_net.specs.declared.node.Bit.{Bit}
 use Rattle.gl_net.specs.Net.{Net}
 use Rattle.gl_net.proofs.Determined.{keeps_then}
-use Rattle.gl_windows_spare.specs.declared.rotation.Fronted.{Fronted}
 use Rattle.gl_windows_spare.specs.declared.rotation.SpareRotation.{SpareRotation}
 use Rattle.gl_windows_spare.specs.Costs.{cost_of_front}
-use Rattle.gl_windows_spare.specs.Rotations.{IsBacked, IsFronted, IsRotation, Suits, figures_over}
+use Rattle.gl_windows_spare.specs.Rotations.{IsRotation, Suits, figures_over, spare_machine}
 use Rattle.gl_windows_spare.proofs.NumberLemmas.{spares_rotate}
 use Rattle.gl_wire_copies.specs.Bodies.{OfBody, alone}
 use Rattle.gl_wire_copies.specs.Rotates.{lines_of_all}
@@ -40,16 +38,17 @@ use Rattle.gl_wire.specs.Spills.{Lines, both_lines}
 use Rattle.gl_wire.specs.Wire.{carried}
 use Rattle.gl_wire.proofs.OnceLemmas.{once_as, once_lines, spaced_once}
 use Rattle.gl_wiring.specs.declared.spare_windows.SpareWindowOf.{SpareWindowOf}
-use Rattle.gl_wiring.specs.Copies.{AreBodies, CanCopy}
+use Rattle.gl_wiring.specs.Copies.{CanStandBehind, IsPutOver}
 use Rattle.gl_wiring.specs.Leaves.{leaf, widths_of}
 use Rattle.gl_wiring.specs.Put.{CanPut, Gives, IsPut}
 use Rattle.gl_wiring.specs.Roots.{IsRootPut}
-use Rattle.gl_wiring.specs.SpareWindows.{IsSpareFrontOf, IsSpareWindow, rotation_with}
+use Rattle.gl_wiring.specs.SpareWindows.{IsSpareWindow, rotation_with}
 use Rattle.gl_wiring.proofs.BodyLemmas.{copies_serve}
 use Rattle.gl_wiring.proofs.CanLemmas.{first_within, second_within}
-use Rattle.gl_wiring.proofs.CopyLemmas.{bodies_columns, can_copies}
+use Rattle.gl_wiring.proofs.CopyLemmas.{can_stand}
 use Rattle.gl_wiring.proofs.CostLemmas.{costs_then}
 use Rattle.gl_wiring.proofs.GivesLemmas.{gives_kept}
+use Rattle.gl_wiring.proofs.OverLemmas.{over_columns}
 use Rattle.gl_wiring.proofs.SpareCosts.{spare_cost}
 use Rattle.gl_wiring.proofs.WindowLemmas.{joined_as}
 
@@ -99,26 +98,11 @@ module _ (nodes : List PlanNode) (w : SpareWindowOf) (plan : IsPlan nodes) (is :
   figures_are : root_figures nodes id ≡ figures_over r f
   figures_are = figures_there nodes id node (Some w.spare) is.window' is.spare'
 
-  -- the front behind the source
-  pub spare_front : (old mid new : Net) (tick : Option Bit) (leaves : List Wire) (below : Emitted) (front : Fronted) → IsPut nodes of_source old mid tick leaves below
-      → IsFronted mid new r below front → IsSpareFrontOf nodes w old new tick leaves front
-  spare_front old mid new tick leaves below front h fr =
-      let delay : ℕ = (figures_of nodes of_body).a in
-      let fore : CostsAtMost mid new (cost_of_front w.spare.copies delay (widths_of (kinds_of nodes of_source))) =
-      subst (λ (cs : List ℕ). CostsAtMost mid new (cost_of_front w.spare.copies delay cs)) h.gives.same_widths fr.cost in
-      record {
-        keeps = keeps_then old mid new h.keeps fr.keeps;
-        cost = costs_then old mid new _ _ h.cost fore;
-        gives = subst (λ (e : Emitted). Gives nodes of_source new tick leaves e) (sym fr.same) (gives_kept _ _ _ mid new tick leaves below fr.keeps h.gives);
-        fronts = fr.fronts;
-      }
-
-  -- behind the front the body can be put
-  pub spare_copies : (figures : List Figures) (old mid net : Net) (tick : Option Bit) (leaves : List Wire) (front : Fronted) → CanPut nodes figures id old tick leaves
-      → IsSpareFrontOf nodes w mid net tick leaves front → CanCopy nodes figures of_body net front.wires
-  spare_copies figures old mid net tick leaves front can h =
-      can_copies nodes figures id of_source of_body node old net tick leaves front.wires plan is.window' refl fits.suits.0 can
-      (λ k wire at_wire. let x = h.fronts.wires k wire at_wire in (x.0, x.1 ∙ h.gives.same_widths))
+  -- behind a wire with the source's columns the body can be put
+  pub spare_stands : (figures : List Figures) (net : Net) (tick : Option Bit) (leaves : List Wire) (columns : List ℕ) → CanPut nodes figures id net tick leaves
+      → columns ≡ widths_of (kinds_of nodes of_source) → CanStandBehind nodes figures of_body columns
+  spare_stands figures net tick leaves columns can same =
+      can_stand nodes figures id of_source of_body node net tick leaves columns plan is.window' refl fits.suits.0 can same
 
   -- the results of all windows are those of the root
   abbrev parts_of : Inputs → List Row → Bool → Type 0
@@ -137,37 +121,37 @@ module _ (nodes : List PlanNode) (w : SpareWindowOf) (plan : IsPlan nodes) (is :
         any = v.any;
       })
 
-  -- the back behind the copies
-  pub spare_back : (old mid net new : Net) (tick : Option Bit) (leaves : List Wire) (front : Fronted) (copies : List Emitted) (e : Emitted)
-      → IsSpareFrontOf nodes w old mid tick leaves front → AreBodies nodes of_body mid net front.wires (length front.wires) copies
-      → IsBacked net new r front copies e → IsRootPut nodes id old new tick leaves e
-  spare_back old mid net new tick leaves front copies e h bodies b =
-      let many : length front.wires ≡ w.spare.copies = h.fronts.as_many in
-      let are : AreBodies nodes of_body mid net front.wires w.spare.copies copies =
-      subst (λ (n : ℕ). AreBodies nodes of_body mid net front.wires n copies) many bodies in
-      let first = get_there copies 0 (omega (arith, rotates.0.a_copy, are.as_many)) in
-      let columns : columns_of copies ≡ widths_of (kinds_of nodes of_body) =
-      bodies_columns nodes of_body mid net front.wires copies bodies 0 first.0 first.1 in
-      let rear : CostsAtMost net new (cost_of_back w.spare.copies (widths_of (kinds_of nodes of_body))) =
-      subst (λ (cs : List ℕ). CostsAtMost net new (cost_of_back w.spare.copies cs)) columns b.cost in
+  -- the machine behind the source
+  pub spare_put : (old mid new : Net) (tick : Option Bit) (leaves : List Wire) (below e : Emitted) → IsPut nodes of_source old mid tick leaves below
+      → IsPutOver nodes of_body (spare_machine r) below mid new e → IsRootPut nodes id old new tick leaves e
+  spare_put old mid new tick leaves below e h o =
+      let b = o.backed in
+      let delay : ℕ = (figures_of nodes of_body).a in
+      let columns : columns_of o.copies ≡ widths_of (kinds_of nodes of_body) = over_columns nodes of_body (spare_machine r) below mid new e o rotates.0.a_copy in
+      let fore : CostsAtMost mid o.mid (cost_of_front w.spare.copies delay (widths_of (kinds_of nodes of_source))) =
+      subst (λ (cs : List ℕ). CostsAtMost mid o.mid (cost_of_front w.spare.copies delay cs)) h.gives.same_widths o.fronted.cost in
+      let rear : CostsAtMost o.behind new (cost_of_back w.spare.copies (widths_of (kinds_of nodes of_body))) =
+      subst (λ (cs : List ℕ). CostsAtMost o.behind new (cost_of_back w.spare.copies cs)) columns b.cost in
+      let given : Gives nodes of_source o.mid tick leaves o.front.source =
+      subst (λ (x : Emitted). Gives nodes of_source o.mid tick leaves x) (sym o.fronted.same) (gives_kept _ _ _ mid o.mid tick leaves below o.fronted.keeps h.gives) in
       record {
-        keeps = keeps_then old mid new h.keeps (keeps_then mid net new are.keeps b.keeps);
+        keeps = keeps_then old mid new h.keeps (keeps_then mid o.mid new o.fronted.keeps (keeps_then o.mid o.behind new o.bodies.keeps b.keeps));
         cost = spare_cost nodes w plan is (columns_have_kinds nodes of_source plan in_source) (columns_have_kinds nodes of_body plan in_body)
-            old mid net new h.cost are.cost rear;
+            old o.mid o.behind new (costs_then old mid o.mid _ _ h.cost fore) o.bodies.cost rear;
         columns = record {
           wire = b.wire;
           same_widths = b.same_widths ∙ columns ∙ ap (λ (s : Shape). widths_of s.kinds) (sym follows.shape);
           lines = b.lines;
         };
         once = λ run run_new beats last one spaced has.
-            let run_net = b.keeps.runs run run_new in
-            let run_mid = are.keeps.runs run run_net in
+            let run_behind = b.keeps.runs run run_new in
+            let run_mid = o.bodies.keeps.runs run run_behind in
             let ins : ℕ → Inputs = inputs_at (line_of run tick) (leaf run leaves) (leaf run leaves 0) in
             let here : Spaced (figures_over r f) beats = subst (λ (g : Figures). Spaced g beats) figures_are spaced in
-            let source = h.gives.serving run run_mid beats (spaced_once f (figures_over r f) beats last rotates.1.source_gap one here) has in
-            let whole = b.serves run run_new f sound_source rotates.1 nodes of_source of_body ins (lines_of run front.source.faults) beats last one here source
-            (λ k l own. copies_serve nodes of_source of_body plan in_body fits.suits.0 mid net run front.wires w.spare.copies copies run_net are many k l own) in
-            let lines : Lines = both_lines (lines_of run front.source.faults) (lines_of_all (told_of run copies) w.spare.copies) in
+            let source = given.serving run run_mid beats (spaced_once f (figures_over r f) beats last rotates.1.source_gap one here) has in
+            let whole = b.serves run run_new f sound_source rotates.1 nodes of_source of_body ins (lines_of run o.front.source.faults) beats last one here source
+            (λ k l own. copies_serve nodes of_source of_body plan in_body fits.suits.0 o.mid o.behind run o.front.wires w.spare.copies o.copies run_behind o.bodies o.fronted.fronts.as_many k l own) in
+            let lines : Lines = both_lines (lines_of run o.front.source.faults) (lines_of_all (told_of run o.copies) w.spare.copies) in
             subst (λ (g : Figures). ServingOnce g (IsPlanResult nodes id (ins last)) (lines_of run e.faults) last (carried run e.wire)) (sym figures_are)
             (once_lines (figures_over r f) (IsPlanResult nodes id (ins last)) (lines_of run e.faults) lines last (carried run e.wire) (b.told run run_new)
             (once_as (figures_over r f) (parts_of (ins last)) (IsPlanResult nodes id (ins last)) lines last (carried run e.wire) (of_root (ins last)) whole));

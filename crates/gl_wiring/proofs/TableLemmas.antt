@@ -30,7 +30,7 @@ use Rattle.gl_reach.proofs.SumLemmas.{sum-same}
 use Rattle.gl_wire.specs.declared.emitted.Emitted.{Emitted}
 use Rattle.gl_wire.specs.declared.wire.Wire.{Wire}
 use Rattle.gl_wire.specs.Costs.{CostsAtMost}
-use Rattle.gl_wiring.specs.Put.{Gives, HasColumns, IsPut, IsPutBehind, counted}
+use Rattle.gl_wiring.specs.Put.{Gives, HasColumns, IsPut, IsPutBehind, plan_cost}
 use Rattle.gl_wiring.specs.Tables.{ArePutTo, CanPutMarked, HasCircuit, HaveChildren, IsSlot, is_marked}
 use Rattle.gl_wiring.proofs.GivesLemmas.{gives_kept}
 use Rattle.gl_wiring.proofs.MarkedLemmas.{all_by}
@@ -150,7 +150,7 @@ children_there nodes plan figures marks net tick leaves can k marked old mid tab
 -- what is reached from one root costs no more than the root's circuit where each node is put for each use
 one_root : (nodes : List PlanNode) → IsPlan nodes → (root limit : ℕ) → root < length nodes → (marks : List Bool) → AreMarks nodes (root ∷ []) marks
     → (old new : Net) (tick : Option Bit) (leaves : List Wire) (table : List (Option Emitted)) → ArePutTo nodes marks limit old new tick leaves table
-    → CostsAtMost old new (counted nodes root)
+    → CostsAtMost old new (plan_cost nodes root)
 one_root nodes plan root limit within marks are old new tick leaves table h =
     let rooted : All (λ r. r < length nodes) (root ∷ []) = All-cons (λ r. r < length nodes) root [] within (All-nil (λ r. r < length nodes)) in
     let once = once_below nodes (root ∷ []) limit plan rooted in

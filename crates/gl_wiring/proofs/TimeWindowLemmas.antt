@@ -22,12 +22,11 @@ use Rattle.gl_algebra.proofs.ListLemmas.{any_at}
 use Rattle.gl_algebra.proofs.ReadLemmas.{body_reads}
 use Rattle.gl_algebra.proofs.TableLemmas.{nodes_follow_tables}
 use Rattle.gl_net.specs.declared.node.Bit.{Bit}
-use Rattle.gl_net.specs.Net.{Net, Run, IsRun, Keeps}
+use Rattle.gl_net.specs.Net.{Net, Run, IsRun}
 use Rattle.gl_net.proofs.Determined.{keeps_then}
-use Rattle.gl_windows.specs.declared.rotation.Fronted.{Fronted}
 use Rattle.gl_windows.specs.declared.times.TimeRotation.{TimeRotation}
 use Rattle.gl_windows.specs.Costs.{cost_of_time_front}
-use Rattle.gl_windows.specs.TimeRotations.{IsTimeBacked, IsTimeFronted, IsTimeRotation, TimeFronts, time_figures}
+use Rattle.gl_windows.specs.TimeRotations.{IsTimeRotation, ticked_machine, time_figures}
 use Rattle.gl_windows.proofs.TimeCosts.{times_rotate}
 use Rattle.gl_wire_copies.specs.Bodies.{OfBody, alone}
 use Rattle.gl_wire_copies.specs.Rotates.{lines_of_all}
@@ -42,19 +41,19 @@ use Rattle.gl_wire.specs.Serving.{Serving, inputs_at}
 use Rattle.gl_wire.specs.Spills.{Lines, both_lines}
 use Rattle.gl_wire.specs.Ticks.{ticks_at, times_at}
 use Rattle.gl_wire.specs.Wire.{Carried, carried, stream}
-use Rattle.gl_wire.proofs.ColumnLemmas.{bit_kept, wire_kept}
+use Rattle.gl_wire.proofs.ColumnLemmas.{wire_kept}
 use Rattle.gl_wire.proofs.DelayLemmas.{spaced_closer}
-use Rattle.gl_wire.proofs.FaultLemmas.{lines_kept}
 use Rattle.gl_wire.proofs.ServingLemmas.{serving_lines}
 use Rattle.gl_wiring.specs.declared.time_windows.TimeWindowOf.{TimeWindowOf}
 use Rattle.gl_wiring.specs.Leaves.{HasLeaf, HaveLeaves, HaveLine, LeavesFit, carried_by, leaf, widths_of}
 use Rattle.gl_wiring.specs.Put.{CanPut, Gives, GivesAs, IsPutBehind}
-use Rattle.gl_wiring.specs.TimeWindows.{IsTimeFrontOf, IsTimeWindow, time_rotation_of}
-use Rattle.gl_wiring.specs.Copies.{AreBodies, CanCopy}
+use Rattle.gl_wiring.specs.TimeWindows.{IsTimeWindow, time_rotation_of}
+use Rattle.gl_wiring.specs.Copies.{CanStandBehind, IsPutOver}
 use Rattle.gl_wiring.proofs.BodyLemmas.{copies_serve}
 use Rattle.gl_wiring.proofs.CanLemmas.{first_within, second_within}
-use Rattle.gl_wiring.proofs.CopyLemmas.{bodies_columns, can_copies}
+use Rattle.gl_wiring.proofs.CopyLemmas.{can_stand}
 use Rattle.gl_wiring.proofs.GivesLemmas.{gives_kept}
+use Rattle.gl_wiring.proofs.OverLemmas.{over_columns}
 use Rattle.gl_wiring.proofs.TickLemmas.{end_of_beat, same_ends, same_ticks, same_times, serving_beside}
 use Rattle.gl_wiring.proofs.TimeWindowCosts.{time_window_cost}
 use Rattle.gl_wiring.proofs.WindowLemmas.{joined_as}
@@ -66,19 +65,6 @@ unspaced gap = by (nat_lt 1 gap)
     by : (b : Bool) → (if b && false then spacer_figures gap input_figures else input_figures) ≡ input_figures
     by true = refl
     by false = refl
-
--- a front stays one in a netlist that grows
-pub time_fronts_kept : (old new : Net) (r : TimeRotation) (tick : Bit) (f : Fronted) → Keeps old new → TimeFronts old r tick f → TimeFronts new r tick f
-time_fronts_kept old new r tick f keeps h = record {
-  source = wire_kept old new f.source.wire keeps h.source;
-  ticks = bit_kept old new tick keeps h.ticks;
-  lines = lines_kept old new f.source.faults keeps h.lines;
-  as_many = h.as_many;
-  wires = λ k w e. let x = h.wires k w e in (wire_kept old new w keeps x.0, x.1);
-  close = bit_kept old new f.close keeps h.close;
-  front = λ run r'. h.front run (keeps.runs run r');
-  closes = λ run r'. h.closes run (keeps.runs run r');
-}
 
 module _ (nodes : List PlanNode) (w : TimeWindowOf) (plan : IsPlan nodes) (at : IsTimeWindow nodes w) where
   abbrev node : PlanNode
@@ -141,26 +127,11 @@ module _ (nodes : List PlanNode) (w : TimeWindowOf) (plan : IsPlan nodes) (at : 
       let own : is_some tick ≡ true = (subst (HaveLine (reads_time nodes) tick) only_leaf h).0 (any_at is_time nodes w.id node at refl) in
       absurd (let z : false ≡ true = rw none at own in cc)
 
-  -- the front behind the stream
-  pub front_put : (old new : Net) (tick : Bit) (leaves : List Wire) (below : Emitted) (front : Fronted) → Gives nodes w.source old (Some tick) leaves below
-      → IsTimeFronted old new r tick below front → IsTimeFrontOf nodes w old new tick leaves front
-  front_put old new tick leaves below front h fr =
-      let fore : CostsAtMost old new (cost_of_time_front c s.a (widths_of (kinds_of nodes w.source))) =
-      subst (λ (cs : List ℕ). CostsAtMost old new (cost_of_time_front c s.a cs)) h.same_widths fr.cost in
-      record {
-        keeps = fr.keeps;
-        cost = fore;
-        gives = subst (λ (e : Emitted). Gives nodes w.source new (Some tick) leaves e) (sym fr.same)
-            (gives_kept _ _ _ old new (Some tick) leaves below fr.keeps h);
-        fronts = fr.fronts;
-      }
-
-  -- behind the front the body can be put
-  pub time_copies : (figures : List Figures) (old mid net : Net) (tick : Bit) (leaves : List Wire) (front : Fronted)
-      → CanPut nodes figures w.id old (Some tick) leaves → IsTimeFrontOf nodes w mid net tick leaves front → CanCopy nodes figures w.body net front.wires
-  time_copies figures old mid net tick leaves front can h =
-      can_copies nodes figures w.id w.source w.body node old net (Some tick) leaves front.wires plan at refl fits.suits.0 can
-      (λ k wire at_wire. let x = h.fronts.wires k wire at_wire in (x.0, x.1 ∙ h.gives.same_widths))
+  -- behind a wire with the stream's columns the body can be put
+  pub time_stands : (figures : List Figures) (net : Net) (tick : Option Bit) (leaves : List Wire) (columns : List ℕ) → CanPut nodes figures w.id net tick leaves
+      → columns ≡ widths_of (kinds_of nodes w.source) → CanStandBehind nodes figures w.body columns
+  time_stands figures net tick leaves columns can same =
+      can_stand nodes figures w.id w.source w.body node net tick leaves columns plan at refl fits.suits.0 can same
 
   module _ (net : Net) (run : Run) (is : IsRun net run) (tick : Bit) (leaves : List Wire) (e : Emitted) (gives : Gives nodes w.source net (Some tick) leaves e)
       (has : HasLeaf net leaves (Stream number kinds)) (beats : Beats) (spaced_beats : Spaced (time_figures r) beats) (fit : LeavesFit run (Some tick) leaves beats) where
@@ -231,49 +202,50 @@ module _ (nodes : List PlanNode) (w : TimeWindowOf) (plan : IsPlan nodes) (at : 
           any = sym (or_none (source.spill t || p) ∙ ap (λ (b : Bool). b || p) (no_spill t q));
         })
 
-  -- the back behind the copies
-  pub back_put : (old mid net new : Net) (tick : Bit) (leaves : List Wire) (front : Fronted) (copies : List Emitted) (e : Emitted)
-      → HaveLeaves old leaves (shape_of nodes w.id).leaves → IsTimeFrontOf nodes w old mid tick leaves front
-      → AreBodies nodes w.body mid net front.wires (length front.wires) copies → IsTimeBacked net new r tick front copies e
+  -- the machine behind the stream
+  pub time_put : (old new : Net) (tick : Bit) (leaves : List Wire) (below e : Emitted) → HaveLeaves old leaves (shape_of nodes w.id).leaves
+      → Gives nodes w.source old (Some tick) leaves below → IsPutOver nodes w.body (ticked_machine (record { rotation = r; tick = tick })) below old new e
       → IsPutBehind nodes w.id old new (Some tick) leaves e
-  back_put old mid net new tick leaves front copies e leaved h bodies b =
-      let many : length front.wires ≡ c = h.fronts.as_many in
-      let are : AreBodies nodes w.body mid net front.wires c copies =
-      subst (λ (n : ℕ). AreBodies nodes w.body mid net front.wires n copies) many bodies in
-      let first = get_there copies 0 (omega (arith, one_in_time w.size w.advance, are.as_many)) in
-      let columns : columns_of copies ≡ widths_of (kinds_of nodes w.body) =
-      bodies_columns nodes w.body mid net front.wires copies bodies 0 first.0 first.1 in
-      let rear : CostsAtMost net new (cost_of_back c (widths_of (kinds_of nodes w.body))) =
-      subst (λ (cs : List ℕ). CostsAtMost net new (cost_of_back c cs)) columns b.cost in
+  time_put old new tick leaves below e leaved h o =
+      let b = o.backed in
+      let columns : columns_of o.copies ≡ widths_of (kinds_of nodes w.body) =
+      over_columns nodes w.body (ticked_machine (record { rotation = r; tick = tick })) below old new e o (one_in_time w.size w.advance) in
+      let fore : CostsAtMost old o.mid (cost_of_time_front c s.a (widths_of (kinds_of nodes w.source))) =
+      subst (λ (cs : List ℕ). CostsAtMost old o.mid (cost_of_time_front c s.a cs)) h.same_widths o.fronted.cost in
+      let rear : CostsAtMost o.behind new (cost_of_back c (widths_of (kinds_of nodes w.body))) =
+      subst (λ (cs : List ℕ). CostsAtMost o.behind new (cost_of_back c cs)) columns b.cost in
+      let given : Gives nodes w.source o.mid (Some tick) leaves o.front.source =
+      subst (λ (x : Emitted). Gives nodes w.source o.mid (Some tick) leaves x) (sym o.fronted.same)
+      (gives_kept _ _ _ old o.mid (Some tick) leaves below o.fronted.keeps h) in
       let has : HasLeaf old leaves (Stream number kinds) = (subst (HaveLeaves old leaves) only_leaf leaved).0 in
       record {
-        keeps = keeps_then old mid new h.keeps (keeps_then mid net new are.keeps b.keeps);
+        keeps = keeps_then old o.mid new o.fronted.keeps (keeps_then o.mid o.behind new o.bodies.keeps b.keeps);
         cost = time_window_cost nodes w plan at (columns_have_kinds nodes w.source plan in_source) (columns_have_kinds nodes w.body plan in_body)
-            old mid net new h.cost are.cost rear;
+            old o.mid o.behind new fore o.bodies.cost rear;
         gives = rw (follows.shape, whole) (record {
           wire = b.wire;
           same_widths = b.same_widths ∙ columns;
           lines = b.lines;
           paced = λ run is. tt;
           serving = λ run is beats spaced_beats fit.
-              let run_net = b.keeps.runs run is in
-              let run_mid = are.keeps.runs run run_net in
-              let here : HasLeaf mid leaves (Stream number kinds) = record {
+              let run_behind = b.keeps.runs run is in
+              let run_mid = o.bodies.keeps.runs run run_behind in
+              let here : HasLeaf o.mid leaves (Stream number kinds) = record {
                 wire = has.wire;
                 there = has.there;
-                is = wire_kept old mid has.wire h.keeps has.is;
+                is = wire_kept old o.mid has.wire o.fronted.keeps has.is;
                 same_widths = has.same_widths;
               } in
-              let below = source mid run run_mid tick leaves front.source h.gives here beats spaced_beats fit in
-              let all = b.serves run is nodes w.body beats spaced_beats below.fits fit.ticks
-              (λ k l own. copies_serve nodes w.source w.body plan in_body fits.suits.0 mid net run front.wires c copies run_net are many k l own) in
+              let of_stream = source o.mid run run_mid tick leaves o.front.source given here beats spaced_beats fit in
+              let all = b.serves run is nodes w.body beats spaced_beats of_stream.fits fit.ticks
+              (λ k l own. copies_serve nodes w.source w.body plan in_body fits.suits.0 o.mid o.behind run o.front.wires c o.copies run_behind o.bodies o.fronted.fronts.as_many k l own) in
               let ins : ℕ → Inputs = inputs_at (line_of run (Some tick)) (leaf run leaves) (leaf run leaves 0) in
-              let own : Lines = lines_of_all (told_of run copies) c in
-              let lines : Lines = both_lines (lines_of run front.source.faults) own in
+              let own : Lines = lines_of_all (told_of run o.copies) c in
+              let lines : Lines = both_lines (lines_of run o.front.source.faults) own in
               serving_lines (time_figures r) (λ t. IsPlanResult nodes w.id (ins t)) (lines_of run e.faults) lines beats (carried run e.wire) (b.told run is)
               (serving_beside input_figures (time_figures r) (λ t. IsPlanResult nodes w.source (ins t)) _ (λ t. IsPlanResult nodes w.id (ins t))
-              (lines_of run front.source.faults) own beats (carried run front.source.wire) (carried run e.wire) below
-              (no_spill mid run run_mid tick leaves front.source h.gives here beats spaced_beats fit) all
-              (joined mid run run_mid tick leaves front.source h.gives here beats spaced_beats fit));
+              (lines_of run o.front.source.faults) own beats (carried run o.front.source.wire) (carried run e.wire) of_stream
+              (no_spill o.mid run run_mid tick leaves o.front.source given here beats spaced_beats fit) all
+              (joined o.mid run run_mid tick leaves o.front.source given here beats spaced_beats fit));
         });
       }

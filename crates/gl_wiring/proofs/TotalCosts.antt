@@ -63,7 +63,7 @@ module _ (kinds : List Kind) (are : All IsKind kinds) where
   state_within (Avg operand) h = divider_within (width_of (kind_of_operand kinds operand)) (operand_within operand h.0)
   state_within (Wsum operand weights) h = let w = operand_within operand h.0 in omega (arith, w)
 
-  -- one aggregate, so many cycles after the end
+  -- one aggregate, `m` cycles after the end
   agg_counted : (m : ℕ) (agg : PlanAgg) → AggFits kinds agg
       → state_of_agg kinds agg + width_of (kind_of_agg kinds agg) * m ≤ 64 * (m + weight_of_agg kinds agg)
   agg_counted m agg h =

@@ -23,7 +23,7 @@ use Rattle.gl_wire.specs.Costs.{Cost, CostsAtMost}
 use Rattle.gl_wire.proofs.CountLemmas.{narrow_kinds}
 use Rattle.gl_wiring.specs.declared.windows.WindowOf.{WindowOf}
 use Rattle.gl_wiring.specs.Leaves.{widths_of}
-use Rattle.gl_wiring.specs.Put.{counted, counted_own}
+use Rattle.gl_wiring.specs.Put.{plan_cost, own_cost}
 use Rattle.gl_wiring.specs.Windows.{IsWindow, cost_to_front}
 use Rattle.gl_wiring.specs.Copies.{cost_of_spaced, times}
 use Rattle.gl_wiring.proofs.CostLemmas.{at_most, costs_then, stored_within}
@@ -109,8 +109,8 @@ module _ (nodes : List PlanNode) (w : WindowOf) (plan : IsPlan nodes) (at : IsWi
   own_store : store_part nodes w.id ≡ count * store_of nodes w.body + spacer.memories
   own_store = rw source_lines parts.store
 
-  pub window_cost : (old mid net new : Net) → CostsAtMost old mid (cost_to_front nodes w) → CostsAtMost mid net (times count (counted nodes w.body))
-      → CostsAtMost net new (cost_of_back count own) → CostsAtMost old new (counted_own nodes w.id)
+  pub window_cost : (old mid net new : Net) → CostsAtMost old mid (cost_to_front nodes w) → CostsAtMost mid net (times count (plan_cost nodes w.body))
+      → CostsAtMost net new (cost_of_back count own) → CostsAtMost old new (own_cost nodes w.id)
   window_cost old mid net new front bodies back =
       let all = costs_then old net new _ _ (costs_then old mid net _ _ front bodies) back in
       record {

@@ -1,6 +1,6 @@
 -- Groups of a plan over direct bodies, in a netlist: the source, spaced where its tuples may come too fast, and one lane
 -- for all slots behind it.
-use Rattle.std.specs.Prelude.{◌≡◌, ℕ, ◌+◌, List, length, Option}
+use Rattle.std.specs.Prelude.{◌≡◌, ℕ, List, length, Option}
 use Rattle.gl_algebra.specs.declared.node.PlanNode.{PlanNode}
 use Rattle.gl_algebra.specs.FigureTable.{figures_of, group_gap}
 use Rattle.gl_algebra.specs.Results.{IsPlanResult}
@@ -19,21 +19,15 @@ use Rattle.gl_wire_registers.specs.Lines.{AreBits}
 use Rattle.gl_wiring.specs.declared.groups.GroupOf.{GroupOf}
 use Rattle.gl_wiring.specs.declared.lanes.Laned.{Laned}
 use Rattle.gl_wiring.specs.Leaves.{LeavesFit, widths_of}
-use Rattle.gl_wiring.specs.Copies.{cost_of_spaced, paceless}
+use Rattle.gl_wiring.specs.Copies.{cost_from, paceless}
 use Rattle.gl_wiring.specs.Groups.{group_whole, grouping_of, spaced_source}
 use Rattle.gl_wiring.specs.Put.{GivesAs}
 
 -- the cost of a group's lane, from its source on
 abbrev pub cost_to_lane : List PlanNode → GroupOf → Cost
 cost_to_lane nodes g =
-    let columns = widths_of (kinds_of nodes g.source) in
-    let spacer = cost_of_spaced (group_gap (figures_of nodes g.body)) (figures_of nodes g.source) columns in
-    let lane = cost_of_lane g.groups g.key columns in
-    record {
-      nodes = spacer.nodes + lane.nodes;
-      registers = spacer.registers + lane.registers;
-      memories = spacer.memories + lane.memories;
-    }
+    cost_from nodes g.source (group_gap (figures_of nodes g.body))
+    (cost_of_lane g.groups g.key (widths_of (kinds_of nodes g.source)))
 
 -- the lane of a group: its source gives the source's results, far enough apart for the body
 pub record IsGroupLane (nodes : List PlanNode) (g : GroupOf) (old new : Net) (tick : Option Bit) (leaves : List Wire)

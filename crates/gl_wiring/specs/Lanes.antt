@@ -53,7 +53,7 @@ pub record HasRows (nodes : List PlanNode) (id : ℕ) (net : Net) (r : LaneRows)
   pub few : r.place.slot.width ≤ 8
   pub first_line : IsBit net r.place.first
 
--- the operators of rows up to a node, behind a lane: each row that comes is dropped or goes through one step, so many
+-- the operators of rows up to a node, behind a lane: each row that comes is dropped or goes through one step, `depth`
 -- cycles later, and so does its place; that step is what the node makes of a body's input
 pub record AreRows (nodes : List PlanNode) (id : ℕ) (old new : Net) (lane : Wire) (place : Place) (r : LaneRows)
     : Type 0 where
@@ -73,7 +73,7 @@ pub record AreRows (nodes : List PlanNode) (id : ℕ) (old new : Net) (lane : Wi
   pub firsts : (run : Run) → IsRun new run → (t : ℕ)
       → line_at run r.place.first (t + depth) ≡ line_at run place.first t
 
--- behind a lane a step for each row, so many cycles later, and then, so many cycles after each end of a slot, one row of
+-- behind a lane a step for each row, `depth` cycles later, and then, `delay` cycles after each end of a slot, one row of
 -- that slot's stream, if the lane tells where streams begin
 pub record IsDirectBehind (run : Run) (depth delay : ℕ) (step : Row → Option Row) (total : List Row → Row)
     (lane : Wire) (place : Place) (out : TableOut) : Type 0 where
@@ -84,11 +84,11 @@ pub record IsDirectBehind (run : Run) (depth delay : ℕ) (step : Row → Option
   pub table : Begins (lane_of run lane place.slot place.first) → (k : ℕ)
       → AtEnds delay total (share slot_mid k mid) (share (slot_of run out.slot) k (carried run out.wire))
 
--- whether a key of so many bits is within what these aggregates leave of the 128 bits that a plan counts for each
+-- whether a key of `key` bits is within what these aggregates leave of the 128 bits that a plan counts for each
 abbrev pub has_room : List Kind → List PlanAgg → ℕ → Bool
 has_room kinds aggs key = nat_le key (sum_by (λ agg. 128 - kept_of_agg kinds agg) aggs)
 
--- what operators of rows up to a node and a table behind them count, for slots whose numbers have so many bits
+-- what operators of rows up to a node and a table behind them count, for slots whose numbers have `bits` bits
 abbrev pub cost_of_body : List PlanNode → ℕ → List PlanAgg → ℕ → Cost
 cost_of_body nodes child aggs bits =
     let table = cost_of_table bits (kinds_of nodes child) aggs in

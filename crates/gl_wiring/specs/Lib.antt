@@ -15,6 +15,7 @@ pub mod Groups
 pub mod Partitions
 pub mod Leaves
 pub mod Sites
+pub mod Machines
 pub mod Put
 pub mod Tables
 pub mod Reached

@@ -34,8 +34,8 @@ pub record IsShown (net : Net) (table : List (Option Emitted)) (r : Root) : Type
   pub output : IsOutput (naming_at r) net r.names.columns e
 
 -- what a plan counts for the outputs behind its nodes
-abbrev pub counted_outputs : List PlanNode → List ℕ → Cost
-counted_outputs nodes ids = record {
+abbrev pub outputs_cost : List PlanNode → List ℕ → Cost
+outputs_cost nodes ids = record {
   nodes = sum_by (output_part nodes) ids;
   registers = 64 * sum_by (output_part nodes) ids;
   memories = 0;
@@ -46,7 +46,7 @@ pub record AreShownBy (nodes : List PlanNode) (table : List (Option Emitted)) (o
     : Type 0 where
   pub extends : Extends old new
   pub ports : Puts old new (flat_map (root_outputs nodes) roots)
-  pub cost : CostsAtMost old new (counted_outputs nodes (ids_of roots))
+  pub cost : CostsAtMost old new (outputs_cost nodes (ids_of roots))
   pub shown : AllByRecursion (IsShown new table) roots
 
 -- the circuits of all roots between the wires of the streams, and an output for each

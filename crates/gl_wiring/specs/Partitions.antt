@@ -1,29 +1,18 @@
 -- Windows of each group of a plan in a netlist: the source, spaced where its tuples may come too fast, the front, a
 -- circuit of the body behind each wire of the front, and the back.
-use Rattle.std.specs.Prelude.{◌≡◌, ℕ, ◌+◌, List, length, Some, slice_get, Option}
+use Rattle.std.specs.Prelude.{◌≡◌, ℕ, List, Some, slice_get}
 use Rattle.gl_algebra.specs.declared.figures.Figures.{Figures}
 use Rattle.gl_algebra.specs.declared.node.PlanNode.{PlanNode}
 use Rattle.gl_algebra.specs.declared.node.PlanNode.TheVariants.{Partition}
 use Rattle.gl_algebra.specs.FigureTable.{figures_of, partition_figures, spaced, window_gap}
-use Rattle.gl_algebra.specs.Results.{IsPlanResult}
-use Rattle.gl_algebra.specs.Shapes.{kinds_of, shape_of}
+use Rattle.gl_algebra.specs.Shapes.{kinds_of}
 use Rattle.gl_algebra.specs.Views.{copies_of_partition, copies_of_window}
-use Rattle.gl_net.specs.declared.node.Bit.{Bit}
-use Rattle.gl_net.specs.Net.{Net, Run, IsRun, Keeps}
-use Rattle.gl_partitions.specs.declared.partitioning.Fronted.{Fronted}
 use Rattle.gl_partitions.specs.declared.partitioning.Partitioning.{Partitioning}
 use Rattle.gl_partitions.specs.Costs.{cost_of_front}
-use Rattle.gl_partitions.specs.Partitioned.{Fronts}
-use Rattle.gl_wire.specs.declared.emitted.Emitted.{Emitted}
-use Rattle.gl_wire.specs.declared.wire.Wire.{Wire}
-use Rattle.gl_wire.specs.Apart.{CarriesApart}
-use Rattle.gl_wire.specs.Beats.{Beats, Spaced}
-use Rattle.gl_wire.specs.Costs.{Cost, CostsAtMost}
-use Rattle.gl_wire.specs.Wire.{carried}
+use Rattle.gl_wire.specs.Costs.{Cost}
 use Rattle.gl_wiring.specs.declared.partitions.PartitionOf.{PartitionOf}
-use Rattle.gl_wiring.specs.Leaves.{LeavesFit, widths_of}
-use Rattle.gl_wiring.specs.Copies.{AreBodies, cost_of_spaced, paceless}
-use Rattle.gl_wiring.specs.Put.{GivesAs}
+use Rattle.gl_wiring.specs.Leaves.{widths_of}
+use Rattle.gl_wiring.specs.Copies.{cost_from}
 
 -- windows of each group are a node of a plan
 abbrev pub IsPartitionNode : List PlanNode → PartitionOf → Type 0
@@ -57,27 +46,5 @@ parted_whole nodes p =
 -- the cost of the front, from the source on
 abbrev pub cost_to_partitions : List PlanNode → PartitionOf → Cost
 cost_to_partitions nodes p =
-    let columns = widths_of (kinds_of nodes p.source) in
-    let spacer = cost_of_spaced (window_gap (figures_of nodes p.body)) (figures_of nodes p.source) columns in
-    let front = cost_of_front p.groups (copies_of_window p.size p.advance) p.key columns in
-    record {
-      nodes = spacer.nodes + front.nodes;
-      registers = spacer.registers + front.registers;
-      memories = spacer.memories + front.memories;
-    }
-
--- the front: the source gives its own results, far enough apart for the body
-pub record IsPartitionFront (nodes : List PlanNode) (p : PartitionOf) (old new : Net) (tick : Option Bit)
-    (leaves : List Wire) (front : Fronted) : Type 0 where
-  pub keeps : Keeps old new
-  pub cost : CostsAtMost old new (cost_to_partitions nodes p)
-  pub gives : GivesAs (paceless (shape_of nodes p.source)) (spaced_parted nodes p) (IsPlanResult nodes p.source)
-      new tick leaves
-      front.source
-  pub apart : (run : Run) → IsRun new run → (beats : Beats) → Spaced (parted_whole nodes p) beats
-      → LeavesFit run tick leaves beats → CarriesApart (window_gap (figures_of nodes p.body)) (carried run front.source.wire)
-  pub fronts : Fronts new (partitioning_of nodes p) front
-
--- a circuit of the body behind each of its wires
-abbrev pub AreBehindParts : List PlanNode → ℕ → Net → Net → Fronted → List Emitted → Type 0
-AreBehindParts nodes body old new front copies = AreBodies nodes body old new front.wires (length front.wires) copies
+    cost_from nodes p.source (window_gap (figures_of nodes p.body))
+    (cost_of_front p.groups (copies_of_window p.size p.advance) p.key (widths_of (kinds_of nodes p.source)))

@@ -25,16 +25,16 @@ use Rattle.gl_wiring.specs.Leaves.{HaveLeaves, HaveLine, LeavesFit, leaf, widths
 
 -- what a plan counts for the circuit of a node and of all below it, for each use: nodes, bits of registers, bits of
 -- memories
-abbrev pub counted : List PlanNode → ℕ → Cost
-counted nodes id = record {
+abbrev pub plan_cost : List PlanNode → ℕ → Cost
+plan_cost nodes id = record {
   nodes = weight_of nodes id;
   registers = 64 * lean_of nodes id + keys_of nodes id;
   memories = store_of nodes id;
 }
 
 -- what it counts for the node itself
-abbrev pub counted_own : List PlanNode → ℕ → Cost
-counted_own nodes id = record {
+abbrev pub own_cost : List PlanNode → ℕ → Cost
+own_cost nodes id = record {
   nodes = weight_part nodes id;
   registers = 64 * lean_part nodes id + keys_part nodes id;
   memories = store_part nodes id;
@@ -78,12 +78,12 @@ Gives nodes id net tick leaves e =
 pub record IsPutBehind (nodes : List PlanNode) (id : ℕ) (old new : Net) (tick : Option Bit) (leaves : List Wire)
     (e : Emitted) : Type 0 where
   pub keeps : Keeps old new
-  pub cost : CostsAtMost old new (counted_own nodes id)
+  pub cost : CostsAtMost old new (own_cost nodes id)
   pub gives : Gives nodes id new tick leaves e
 
 -- the circuit of a node with those of all below it, no more than the plan counts for them
 pub record IsPut (nodes : List PlanNode) (id : ℕ) (old new : Net) (tick : Option Bit) (leaves : List Wire)
     (e : Emitted) : Type 0 where
   pub keeps : Keeps old new
-  pub cost : CostsAtMost old new (counted nodes id)
+  pub cost : CostsAtMost old new (plan_cost nodes id)
   pub gives : Gives nodes id new tick leaves e

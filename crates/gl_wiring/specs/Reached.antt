@@ -13,8 +13,8 @@ use Rattle.gl_wiring.specs.Put.{CanPut}
 use Rattle.gl_wiring.specs.Tables.{HasCircuit}
 
 -- what a plan counts for all that roots reach, each node once
-abbrev pub counted_once : List PlanNode → List ℕ → Cost
-counted_once nodes roots = record {
+abbrev pub once_cost : List PlanNode → List ℕ → Cost
+once_cost nodes roots = record {
   nodes = weight_of_reached nodes roots;
   registers = 64 * lean_of_reached nodes roots + keys_of_reached nodes roots;
   memories = store_of_reached nodes roots;
@@ -29,5 +29,5 @@ CanPutAll nodes figures roots net tick leaves = AllByRecursion (λ root. CanPut 
 pub record AreReached (nodes : List PlanNode) (roots : List ℕ) (old new : Net) (tick : Option Bit) (leaves : List Wire)
     (table : List (Option Emitted)) : Type 0 where
   pub keeps : Keeps old new
-  pub cost : CostsAtMost old new (counted_once nodes roots)
+  pub cost : CostsAtMost old new (once_cost nodes roots)
   pub gives : (root : ℕ) → list_any (λ r. nat_eq r root) roots ≡ true → HasCircuit nodes new tick leaves table root

@@ -32,8 +32,8 @@ abbrev pub ServesOnceIn : List PlanNode → ℕ → Option Bit → List Wire →
 ServesOnceIn nodes root = ServesOnceBy (root_figures nodes root) nodes root
 
 -- what a plan counts for the circuit of its root: nodes, bits of registers, bits of memories
-abbrev pub root_counted : List PlanNode → ℕ → Cost
-root_counted nodes root = record {
+abbrev pub root_cost : List PlanNode → ℕ → Cost
+root_cost nodes root = record {
   nodes = weight_of nodes root + further_weight nodes root;
   registers = 64 * (lean_of nodes root + further_lean nodes root) + (keys_of nodes root + further_keys nodes root);
   memories = store_of nodes root + further_store nodes root;
@@ -44,6 +44,6 @@ root_counted nodes root = record {
 pub record IsRootPut (nodes : List PlanNode) (root : ℕ) (old new : Net) (tick : Option Bit) (leaves : List Wire)
     (e : Emitted) : Type 0 where
   pub keeps : Keeps old new
-  pub cost : CostsAtMost old new (root_counted nodes root)
+  pub cost : CostsAtMost old new (root_cost nodes root)
   pub columns : HasColumns nodes root new e
   pub once : (run : Run) → IsRun new run → ServesOnceIn nodes root tick leaves e run

@@ -1,21 +1,16 @@
 -- Windows with spare copies at the root of a plan, in a netlist: the source, the front with late ends, a circuit of the
 -- body behind each wire of the front, and the back.
-use Rattle.std.specs.Prelude.{◌≡◌, ◌+◌, List, Some, Option}
+use Rattle.std.specs.Prelude.{◌≡◌, ◌+◌, List, Some}
 use Rattle.gl_algebra.specs.declared.node.PlanNode.{PlanNode}
 use Rattle.gl_algebra.specs.FigureTable.{figures_of}
 use Rattle.gl_algebra.specs.Roots.{spare_at}
 use Rattle.gl_algebra.specs.Shapes.{kinds_of}
-use Rattle.gl_net.specs.declared.node.Bit.{Bit}
-use Rattle.gl_net.specs.Net.{Net, Keeps}
-use Rattle.gl_windows_spare.specs.declared.rotation.Fronted.{Fronted}
 use Rattle.gl_windows_spare.specs.declared.rotation.SpareRotation.{SpareRotation}
 use Rattle.gl_windows_spare.specs.Costs.{cost_of_front}
-use Rattle.gl_windows_spare.specs.Rotations.{Fronts}
-use Rattle.gl_wire.specs.declared.wire.Wire.{Wire}
-use Rattle.gl_wire.specs.Costs.{Cost, CostsAtMost}
+use Rattle.gl_wire.specs.Costs.{Cost}
 use Rattle.gl_wiring.specs.declared.spare_windows.SpareWindowOf.{SpareWindowOf}
 use Rattle.gl_wiring.specs.Leaves.{widths_of}
-use Rattle.gl_wiring.specs.Put.{Gives, counted}
+use Rattle.gl_wiring.specs.Put.{plan_cost}
 use Rattle.gl_wiring.specs.Windows.{IsWindow}
 
 -- windows at the root of a plan have these spare copies
@@ -35,7 +30,7 @@ rotation_with nodes w = record {
 -- the cost up to the front; no spacer stands behind a source that gives each beat's rows and end in one cycle
 abbrev pub cost_to_front : List PlanNode → SpareWindowOf → Cost
 cost_to_front nodes w =
-    let source = counted nodes w.window.source in
+    let source = plan_cost nodes w.window.source in
     let delay = (figures_of nodes w.window.body).a in
     let front = cost_of_front w.spare.copies delay (widths_of (kinds_of nodes w.window.source)) in
     record {
@@ -43,11 +38,3 @@ cost_to_front nodes w =
       registers = source.registers + front.registers;
       memories = source.memories + front.memories;
     }
-
--- the front of such windows: its source gives the source's results
-pub record IsSpareFrontOf (nodes : List PlanNode) (w : SpareWindowOf) (old new : Net) (tick : Option Bit)
-    (leaves : List Wire) (front : Fronted) : Type 0 where
-  pub keeps : Keeps old new
-  pub cost : CostsAtMost old new (cost_to_front nodes w)
-  pub gives : Gives nodes w.window.source new tick leaves front.source
-  pub fronts : Fronts new (rotation_with nodes w) front

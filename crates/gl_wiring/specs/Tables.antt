@@ -16,8 +16,8 @@ abbrev pub is_marked : List Bool → ℕ → Bool
 is_marked marks id = get_or marks id false
 
 -- what a plan counts for all marked nodes below a limit, each once
-abbrev pub counted_to : List PlanNode → List Bool → ℕ → Cost
-counted_to nodes marks limit =
+abbrev pub cost_up_to : List PlanNode → List Bool → ℕ → Cost
+cost_up_to nodes marks limit =
     let marked : ℕ → Bool = is_marked marks in
     record {
       nodes = sum_where marked (weight_part nodes) limit;
@@ -51,7 +51,7 @@ pub record ArePutTo (nodes : List PlanNode) (marks : List Bool) (limit : ℕ) (o
     (leaves : List Wire) (table : List (Option Emitted)) : Type 0 where
   pub as_many : length table ≡ limit
   pub keeps : Keeps old new
-  pub cost : CostsAtMost old new (counted_to nodes marks limit)
+  pub cost : CostsAtMost old new (cost_up_to nodes marks limit)
   pub gives : (id : ℕ) → id < limit → is_marked marks id ≡ true → HasCircuit nodes new tick leaves table id
 
 -- an entry: the node's circuit where it is marked, else none

@@ -6,17 +6,11 @@ use Rattle.gl_algebra.specs.declared.node.PlanNode.TheVariants.{TimeWindow}
 use Rattle.gl_algebra.specs.FigureTable.{figures_of}
 use Rattle.gl_algebra.specs.Views.{copies_of_time}
 use Rattle.gl_algebra.specs.Shapes.{kinds_of}
-use Rattle.gl_net.specs.declared.node.Bit.{Bit}
-use Rattle.gl_net.specs.Net.{Net, Keeps}
-use Rattle.gl_windows.specs.declared.rotation.Fronted.{Fronted}
 use Rattle.gl_windows.specs.declared.times.TimeRotation.{TimeRotation}
 use Rattle.gl_windows.specs.Costs.{cost_of_time_front}
-use Rattle.gl_windows.specs.TimeRotations.{TimeFronts}
-use Rattle.gl_wire.specs.declared.wire.Wire.{Wire}
-use Rattle.gl_wire.specs.Costs.{Cost, CostsAtMost}
+use Rattle.gl_wire.specs.Costs.{Cost}
 use Rattle.gl_wiring.specs.declared.time_windows.TimeWindowOf.{TimeWindowOf}
 use Rattle.gl_wiring.specs.Leaves.{widths_of}
-use Rattle.gl_wiring.specs.Put.{Gives}
 
 -- a window of time is a node of a plan
 abbrev pub IsTimeWindow : List PlanNode → TimeWindowOf → Type 0
@@ -35,11 +29,3 @@ abbrev pub cost_to_time_front : List PlanNode → TimeWindowOf → Cost
 cost_to_time_front nodes w =
     let columns = widths_of (kinds_of nodes w.source) in
     cost_of_time_front (copies_of_time w.size w.advance) (figures_of nodes w.body).a columns
-
--- the front of such a window: its source gives the stream
-pub record IsTimeFrontOf (nodes : List PlanNode) (w : TimeWindowOf) (old new : Net) (tick : Bit) (leaves : List Wire)
-    (front : Fronted) : Type 0 where
-  pub keeps : Keeps old new
-  pub cost : CostsAtMost old new (cost_to_time_front nodes w)
-  pub gives : Gives nodes w.source new (Some tick) leaves front.source
-  pub fronts : TimeFronts new (time_rotation_of nodes w) tick front

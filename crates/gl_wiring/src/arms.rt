@@ -1,13 +1,13 @@
 //! The circuit of a node of each kind behind those of its children.
 
-ghost use Rattle.std.specs.Prelude.{◌≡◌, ◌<◌, List, Option, Some, slice_get, IfOk, length};
+ghost use Rattle.std.specs.Prelude.{◌≡◌, ◌<◌, Some, slice_get, IfOk, length};
 ghost use Rattle.gl_algebra.specs.declared.node.PlanNode.TheVariants.{Compute, Select, Project, Aggregate, Union, Beside};
-ghost use Rattle.gl_net.specs.declared.node.Bit.{Bit as BitOf};
-ghost use Rattle.gl_wire.specs.declared.wire.Wire.{Wire as WireOf};
 ghost use Rattle.gl_wire.specs.Faults.{no_faults};
-ghost use Rattle.gl_wiring.specs.Put.{Gives, HasColumns, IsPutBehind};
+ghost use Rattle.gl_wiring.specs.Put.{IsPutBehind};
+ghost use Rattle.gl_wiring.specs.Tables.{HasCircuit};
 
 use crate::site::Site;
+use crate::tables::circuit_at;
 use gl_algebra::{Operands, Ops, PlanAggs, PlanId};
 use gl_bits::Memory;
 use gl_net::{Buses, NetBuilder};
@@ -16,17 +16,6 @@ use gl_rows::{put_compute, put_project, put_select};
 use gl_totals::put_totals;
 use gl_wire::{Emitted, Faults, Wire};
 use std::alloc::Global;
-
-/// A node over two others.
-#[derive(Clone, Copy)]
-pub(crate) struct OverTwo {
-    /// The node's own number.
-    pub id: PlanId,
-    /// The left one.
-    pub left: PlanId,
-    /// The right one.
-    pub right: PlanId,
-}
 
 /// The wire at a place, without lines.
 pub(crate) fn leaf_of(alloc: Global, leaves: &[Wire], place: usize) -> Result<Emitted, Memory>
@@ -58,15 +47,14 @@ pub(crate) fn compute_node(
     id: PlanId,
     child: PlanId,
     ops: &Ops,
-    below: Emitted,
+    table: &[Option<Emitted>],
 ) -> Result<Emitted, Memory>
     requires node { slice_get site.plan.now id ≡ Some (Compute child ops.now) }
-    requires below { HasColumns site.plan.now child net.old below }
-    ensures { let s = site.entry in (tick : Option BitOf) (leaves : List WireOf)
-        → Gives s.plan.now child net.old tick leaves below
-        → IfOk result (λ e. IsPutBehind s.plan.now id net.old net.new tick leaves e) }
+    requires there { HasCircuit site.plan.now net.old site.tick site.leaves.now table.now child }
+    ensures { let s = site.entry in
+        IfOk result (λ e. IsPutBehind s.plan.now id net.old net.new s.tick s.leaves.now e) }
 {
-    // Named, since a goal speaks of the value.
+    let below = circuit_at(site.alloc, table, child)?;
     let e = put_compute(
         site.alloc,
         net,
@@ -84,14 +72,14 @@ pub(crate) fn select_node(
     id: PlanId,
     child: PlanId,
     column: u16,
-    below: Emitted,
+    table: &[Option<Emitted>],
 ) -> Result<Emitted, Memory>
     requires node { slice_get site.plan.now id ≡ Some (Select child column) }
-    requires below { HasColumns site.plan.now child net.old below }
-    ensures { let s = site.entry in (tick : Option BitOf) (leaves : List WireOf)
-        → Gives s.plan.now child net.old tick leaves below
-        → IfOk result (λ e. IsPutBehind s.plan.now id net.old net.new tick leaves e) }
+    requires there { HasCircuit site.plan.now net.old site.tick site.leaves.now table.now child }
+    ensures { let s = site.entry in
+        IfOk result (λ e. IsPutBehind s.plan.now id net.old net.new s.tick s.leaves.now e) }
 {
+    let below = circuit_at(site.alloc, table, child)?;
     let e = put_select(site.alloc, net, below, usize::from(column))?;
     Ok(e)
 }
@@ -103,14 +91,14 @@ pub(crate) fn project_node(
     id: PlanId,
     child: PlanId,
     items: &Operands,
-    below: Emitted,
+    table: &[Option<Emitted>],
 ) -> Result<Emitted, Memory>
     requires node { slice_get site.plan.now id ≡ Some (Project child items.now) }
-    requires below { HasColumns site.plan.now child net.old below }
-    ensures { let s = site.entry in (tick : Option BitOf) (leaves : List WireOf)
-        → Gives s.plan.now child net.old tick leaves below
-        → IfOk result (λ e. IsPutBehind s.plan.now id net.old net.new tick leaves e) }
+    requires there { HasCircuit site.plan.now net.old site.tick site.leaves.now table.now child }
+    ensures { let s = site.entry in
+        IfOk result (λ e. IsPutBehind s.plan.now id net.old net.new s.tick s.leaves.now e) }
 {
+    let below = circuit_at(site.alloc, table, child)?;
     let e = put_project(
         site.alloc,
         net,
@@ -128,14 +116,14 @@ pub(crate) fn aggregate_node(
     id: PlanId,
     child: PlanId,
     aggs: &PlanAggs,
-    below: Emitted,
+    table: &[Option<Emitted>],
 ) -> Result<Emitted, Memory>
     requires node { slice_get site.plan.now id ≡ Some (Aggregate child aggs.now) }
-    requires below { HasColumns site.plan.now child net.old below }
-    ensures { let s = site.entry in (tick : Option BitOf) (leaves : List WireOf)
-        → Gives s.plan.now child net.old tick leaves below
-        → IfOk result (λ e. IsPutBehind s.plan.now id net.old net.new tick leaves e) }
+    requires there { HasCircuit site.plan.now net.old site.tick site.leaves.now table.now child }
+    ensures { let s = site.entry in
+        IfOk result (λ e. IsPutBehind s.plan.now id net.old net.new s.tick s.leaves.now e) }
 {
+    let below = circuit_at(site.alloc, table, child)?;
     let e = put_totals(
         site.alloc,
         net,
@@ -150,21 +138,22 @@ pub(crate) fn aggregate_node(
 pub(crate) fn union_node(
     net: &mut NetBuilder,
     site: Site<'_>,
-    node: OverTwo,
-    first: Emitted,
-    second: Emitted,
+    id: PlanId,
+    left: PlanId,
+    right: PlanId,
+    table: &[Option<Emitted>],
 ) -> Result<Emitted, Memory>
-    requires node { slice_get site.plan.now node.id ≡ Some (Union node.left node.right) }
-    requires first { HasColumns site.plan.now node.left net.old first }
-    requires second { HasColumns site.plan.now node.right net.old second }
-    ensures { let s = site.entry in (tick : Option BitOf) (leaves : List WireOf)
-        → Gives s.plan.now node.left net.old tick leaves first
-        → Gives s.plan.now node.right net.old tick leaves second
-        → IfOk result (λ e. IsPutBehind s.plan.now node.id net.old net.new tick leaves e) }
+    requires node { slice_get site.plan.now id ≡ Some (Union left right) }
+    requires first { HasCircuit site.plan.now net.old site.tick site.leaves.now table.now left }
+    requires second { HasCircuit site.plan.now net.old site.tick site.leaves.now table.now right }
+    ensures { let s = site.entry in
+        IfOk result (λ e. IsPutBehind s.plan.now id net.old net.new s.tick s.leaves.now e) }
 {
+    let first = circuit_at(site.alloc, table, left)?;
+    let second = circuit_at(site.alloc, table, right)?;
     let sides = UnionOf {
-        left: site.figures_at(node.left),
-        right: site.figures_at(node.right),
+        left: site.figures_at(left),
+        right: site.figures_at(right),
     };
     let e = sides.emit(site.alloc, net, first, second)?;
     Ok(e)
@@ -174,21 +163,22 @@ pub(crate) fn union_node(
 pub(crate) fn beside_node(
     net: &mut NetBuilder,
     site: Site<'_>,
-    node: OverTwo,
-    first: Emitted,
-    second: Emitted,
+    id: PlanId,
+    left: PlanId,
+    right: PlanId,
+    table: &[Option<Emitted>],
 ) -> Result<Emitted, Memory>
-    requires node { slice_get site.plan.now node.id ≡ Some (Beside node.left node.right) }
-    requires first { HasColumns site.plan.now node.left net.old first }
-    requires second { HasColumns site.plan.now node.right net.old second }
-    ensures { let s = site.entry in (tick : Option BitOf) (leaves : List WireOf)
-        → Gives s.plan.now node.left net.old tick leaves first
-        → Gives s.plan.now node.right net.old tick leaves second
-        → IfOk result (λ e. IsPutBehind s.plan.now node.id net.old net.new tick leaves e) }
+    requires node { slice_get site.plan.now id ≡ Some (Beside left right) }
+    requires first { HasCircuit site.plan.now net.old site.tick site.leaves.now table.now left }
+    requires second { HasCircuit site.plan.now net.old site.tick site.leaves.now table.now right }
+    ensures { let s = site.entry in
+        IfOk result (λ e. IsPutBehind s.plan.now id net.old net.new s.tick s.leaves.now e) }
 {
+    let first = circuit_at(site.alloc, table, left)?;
+    let second = circuit_at(site.alloc, table, right)?;
     let sides = Joiner {
-        left: site.figures_at(node.left),
-        right: site.figures_at(node.right),
+        left: site.figures_at(left),
+        right: site.figures_at(right),
     };
     let e = sides.emit(site.alloc, net, first, second)?;
     Ok(e)

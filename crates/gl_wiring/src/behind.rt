@@ -6,11 +6,9 @@ ghost use Rattle.gl_wiring.specs.Put.{CanPut, IsPutBehind};
 ghost use Rattle.gl_wiring.specs.Tables.{HaveChildren};
 
 use crate::arms::{
-    OverTwo, aggregate_node, beside_node, compute_node, leaf_of, project_node, select_node,
-    union_node,
+    aggregate_node, beside_node, compute_node, leaf_of, project_node, select_node, union_node,
 };
 use crate::site::Site;
-use crate::tables::circuit_at;
 use gl_algebra::{PlanId, PlanNode};
 use gl_bits::Memory;
 use gl_net::NetBuilder;
@@ -44,7 +42,6 @@ pub(crate) fn put_behind(
 {
     match site.plan.node(id) {
         PlanNode::Stream(number, _) => {
-            // Named, since a goal speaks of the value.
             let e = leaf_of(site.alloc, site.leaves, usize::from(*number))?;
             Ok(e)
         }
@@ -52,42 +49,12 @@ pub(crate) fn put_behind(
             let e = leaf_of(site.alloc, site.leaves, 0)?;
             Ok(e)
         }
-        PlanNode::Compute { child, ops } => {
-            let below = circuit_at(site.alloc, table, *child)?;
-            compute_node(net, site, id, *child, ops, below)
-        }
-        PlanNode::Select { child, column } => {
-            let below = circuit_at(site.alloc, table, *child)?;
-            select_node(net, site, id, *child, *column, below)
-        }
-        PlanNode::Project { child, items } => {
-            let below = circuit_at(site.alloc, table, *child)?;
-            project_node(net, site, id, *child, items, below)
-        }
-        PlanNode::Aggregate { child, aggs } => {
-            let below = circuit_at(site.alloc, table, *child)?;
-            aggregate_node(net, site, id, *child, aggs, below)
-        }
-        PlanNode::Union { left, right } => {
-            let first = circuit_at(site.alloc, table, *left)?;
-            let second = circuit_at(site.alloc, table, *right)?;
-            let sides = OverTwo {
-                id,
-                left: *left,
-                right: *right,
-            };
-            union_node(net, site, sides, first, second)
-        }
-        PlanNode::Beside { left, right } => {
-            let first = circuit_at(site.alloc, table, *left)?;
-            let second = circuit_at(site.alloc, table, *right)?;
-            let sides = OverTwo {
-                id,
-                left: *left,
-                right: *right,
-            };
-            beside_node(net, site, sides, first, second)
-        }
+        PlanNode::Compute { child, ops } => compute_node(net, site, id, *child, ops, table),
+        PlanNode::Select { child, column } => select_node(net, site, id, *child, *column, table),
+        PlanNode::Project { child, items } => project_node(net, site, id, *child, items, table),
+        PlanNode::Aggregate { child, aggs } => aggregate_node(net, site, id, *child, aggs, table),
+        PlanNode::Union { left, right } => union_node(net, site, id, *left, *right, table),
+        PlanNode::Beside { left, right } => beside_node(net, site, id, *left, *right, table),
         _ => unreachable!(),
     }
 }

@@ -26,7 +26,6 @@ pub fn put_reached(net: &mut NetBuilder, site: Site<'_>, roots: &[PlanId]) -> Re
 {
     let limit = site.plan.len();
     let marks = marks_of(site.alloc, site.plan, roots)?;
-    // Named, since a goal speaks of the value.
     let table = put_marked(net, site, marks.as_slice(), limit)?;
     Ok(table)
 }

@@ -15,14 +15,13 @@ ghost use Rattle.gl_wiring.specs.Groups.{IsGroupNode};
 ghost use Rattle.gl_wiring.specs.LaneGroups.{HasLane, IsGroupLane};
 ghost use Rattle.gl_wiring.specs.Lanes.{IsBodyTable, has_room, place_of};
 ghost use Rattle.gl_wiring.specs.Leaves.{HaveLeaves};
-ghost use Rattle.gl_wiring.specs.Put.{CanPut, Gives, HasColumns, IsPutBehind};
-ghost use Rattle.gl_wiring.specs.Tables.{HaveChildren};
+ghost use Rattle.gl_wiring.specs.Put.{CanPut, IsPutBehind};
+ghost use Rattle.gl_wiring.specs.Tables.{HasCircuit, HaveChildren};
 
+use crate::apart::put_source;
 use crate::groups::GroupOf;
 use crate::rows::{Place, put_rows};
 use crate::site::Site;
-use crate::tables::circuit_at;
-use crate::windows::put_apart;
 use gl_algebra::columns::kind_of_agg;
 use gl_algebra::{PlanAgg, PlanId, PlanNode};
 use gl_bits::{Kind, Memory};
@@ -80,7 +79,6 @@ pub(crate) fn put_table(
                 aggs: aggs.as_slice(),
             };
             let behind = below.place;
-            // Named, since a goal speaks of the value.
             let out = table.emit(site.alloc, net, &below.rows.wire, behind.slot, behind.first)?;
             Ok(out)
         }
@@ -101,7 +99,7 @@ fn spare_of(kinds: &[Kind], agg: &PlanAgg) -> u64
     }
 }
 
-// Whether a key of so many bits is within what these aggregates leave of the bits that a plan counts for each.
+// Whether a key of `key` bits is within what these aggregates leave of the bits that a plan counts for each.
 fn has_room(kinds: &[Kind], aggs: &[PlanAgg], key: u64) -> bool
     ensures { result ≡ has_room kinds.now aggs.now key }
 {
@@ -112,7 +110,7 @@ fn has_room(kinds: &[Kind], aggs: &[PlanAgg], key: u64) -> bool
 }
 
 impl GroupOf {
-    // Whether a memory has room for keys of so many bits.
+    // Whether a memory has room for keys of `key` bits.
     fn stores(&self, site: Site<'_>, key: u8) -> bool
         requires node { IsGroupNode site.plan.now self.now }
         ensures { let s = site.entry in (child : ℕ) (aggs : List PlanAggOf)
@@ -132,22 +130,18 @@ impl GroupOf {
         &self,
         net: &mut NetBuilder,
         site: Site<'_>,
-        below: Emitted,
+        table: &[Option<Emitted>],
     ) -> Result<Laned, Memory>
         requires node { IsGroupNode site.plan.now self.now }
-        requires below { HasColumns site.plan.now self.now.source net.old below }
-        ensures { let s = site.entry in (tick : Option BitOf) (leaves : List WireOf)
-            → Gives s.plan.now self.now.source net.old tick leaves below
-            → IfOk result (λ l. IsGroupLane s.plan.now self.now net.old net.new tick leaves l) }
+        requires there { HasCircuit site.plan.now net.old site.tick site.leaves.now table.now
+            self.now.source }
+        ensures { let s = site.entry in IfOk result
+            (IsGroupLane s.plan.now self.now net.old net.new s.tick s.leaves.now) }
     {
         let grouping = self.grouping(site);
-        let source = site.figures_at(self.source);
-        let apart = put_apart(site.alloc, net, source, grouping.body.gt, below)?;
-        let lane = grouping.lane(site.alloc, net, &apart.wire)?;
-        Ok(Laned {
-            source: apart,
-            lane,
-        })
+        let source = put_source(net, site, self.source, grouping.body.gt, table)?;
+        let lane = grouping.lane(site.alloc, net, &source.wire)?;
+        Ok(Laned { source, lane })
     }
 
     /// The keys in front of the totals of a direct body, the group's ends, and all lines.
@@ -199,8 +193,7 @@ pub(crate) fn put_on_lane(
     ensures { let s = site.entry in IfOk result (λ e.
         IsPutBehind s.plan.now group.id net.old net.new s.tick s.leaves.now e) }
 {
-    let below = circuit_at(site.alloc, table, group.source)?;
-    let laned = group.lane(net, site, below)?;
+    let laned = group.lane(net, site, table)?;
     let place = laned.place();
     let out = put_table(net, site, group.body, &laned.lane.wire, place)?;
     group.gather(net, site, &laned, &out)

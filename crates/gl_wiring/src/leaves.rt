@@ -79,7 +79,6 @@ pub(crate) fn put_leaves(
     let streams = schema.streams.as_slice();
     let sources = put_sources(alloc, net, streams)?;
     let end = put_input(net, b"eos", 1)?;
-    // Named, since a goal speaks of the value.
     let wires = wires_of(alloc, &sources, end.bit())?;
     Ok(wires)
 }

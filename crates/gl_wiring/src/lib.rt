@@ -2,8 +2,11 @@
 //!
 //! Here belong the names of ports and the blocks that make a plan's netlist. What a netlist's runs
 //! are stands in `gl_net`, what is right for a query in `gl_schema`; no text is written here.
+//!
+//! A value that is named and given back in the next line is one of which a goal speaks.
 #![tactic(auto)]
 
+mod apart;
 mod arms;
 mod behind;
 pub mod circuits;
@@ -11,6 +14,7 @@ mod direct;
 pub mod groups;
 pub mod lanes;
 mod leaves;
+pub mod machines;
 pub mod many;
 pub mod names;
 mod output;

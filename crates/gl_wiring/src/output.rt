@@ -47,7 +47,6 @@ fn put_late(net: &mut NetBuilder, line: Bit) -> Result<Bit, Memory>
         (λ run. later_line (line_at run line))) }
 {
     let later = later_bit(net, line)?;
-    // Named, since a goal speaks of the value.
     let fault = put_sticky(net, later)?;
     Ok(fault)
 }

@@ -35,7 +35,6 @@ pub(crate) fn put_input(net: &mut NetBuilder, name: &[u8], width: u8) -> Result<
     ensures bus { IfOk result (λ b. IsBus net.new b) }
     ensures width { IfOk result (λ b. b.width ≡ width) }
 {
-    // Named, since a goal speaks of the value.
     let bus = net.input(name, width)?;
     Ok(bus)
 }

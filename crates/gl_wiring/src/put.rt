@@ -8,22 +8,33 @@ ghost use Rattle.gl_wiring.specs.Groups.{IsGroupNode};
 ghost use Rattle.gl_wiring.specs.Partitions.{IsPartitionNode};
 ghost use Rattle.gl_wiring.specs.TimeWindows.{IsTimeWindow};
 ghost use Rattle.gl_wiring.specs.Windows.{IsWindow};
-ghost use Rattle.gl_wiring.specs.Copies.{AreBodies, CanCopy, IsOverCopies};
+ghost use Rattle.gl_wire.specs.Faults.{AreLines, IsLine};
+ghost use Rattle.gl_wire.specs.Wire.{IsWire, widths};
+ghost use Rattle.gl_wire_registers.specs.Fronts.{HasColumn};
+ghost use Rattle.gl_wiring.specs.Copies.{AreBodies, CanCopy, CanStandBehind, IsOverCopies, IsPutOver};
+ghost use Rattle.gl_wiring.specs.Machines.{CanBe, machine_of};
 
+use crate::apart::put_source;
 use crate::behind::{is_over, put_behind};
 use crate::direct::is_direct;
 use crate::groups::GroupOf;
 use crate::lanes::put_on_lane;
+use crate::machines::CopyMachine;
 use crate::partitions::PartitionOf;
 use crate::site::Site;
 use crate::tables::{Table, circuit_at, marks_from};
 use crate::time_windows::TimeWindowOf;
-use crate::windows::{Copies, WindowOf};
+use crate::windows::WindowOf;
 use gl_algebra::{PlanId, PlanNode};
-use gl_bits::Memory;
+use gl_bits::{Listed, Memory};
 use gl_net::NetBuilder;
+use gl_windows::Ticked;
 use gl_wire::{Emitted, Wire};
+use gl_wire_registers::OverCopies as _;
 use std::slice::from_ref;
+
+// What copies of a body give, and their lines.
+type Copies = Listed<Emitted>;
 
 // Adds the circuits of a node and of all below it, each once, and gives the node's wire and its lines. The marks are those of all that
 // the node reaches.
@@ -42,7 +53,6 @@ fn put_root_of(
 {
     let limit = id.number() + 1;
     let table = put_marked(net, site, marks, limit)?;
-    // Named, since a goal speaks of the value.
     let e = circuit_at(site.alloc, table.as_slice(), id)?;
     Ok(e)
 }
@@ -139,7 +149,7 @@ fn put_over(
     }
 }
 
-// Adds the circuit of a window: its source, the front, the body behind each of the front's wires, and the back.
+// Adds the circuit of a window: its machine behind its source.
 #[cycle(put)]
 #[tactic(auto)]
 fn put_window(
@@ -156,13 +166,15 @@ fn put_window(
     ensures { let s = site.entry in IfOk result (λ e.
         IsPutBehind s.plan.now window.id net.old net.new s.tick s.leaves.now e) }
 {
-    let below = circuit_at(site.alloc, table, window.source)?;
-    let front = window.front(net, site, below)?;
-    let copies = put_copies(net, site, window.body, front.wires.as_slice())?;
-    window.back(net, site, &front, copies.as_slice())
+    let rotation = window.rotation(site);
+    let gap = rotation.body.gt.max(rotation.body.ge);
+    let source = put_source(net, site, window.source, gap, table)?;
+    let machine = CopyMachine::Windows(rotation);
+    let e = put_over_copies(net, site, window.body, machine, source)?;
+    Ok(e)
 }
 
-// Adds the circuit of a window of time in the same way, with the line of ticks at its front.
+// Adds that of a window of time: its machine, with the line of ticks, behind its stream.
 #[cycle(put)]
 #[tactic(auto)]
 fn put_time_window(
@@ -179,16 +191,17 @@ fn put_time_window(
     ensures { let s = site.entry in IfOk result (λ e.
         IsPutBehind s.plan.now window.id net.old net.new s.tick s.leaves.now e) }
 {
-    let Some(line) = site.tick else {
+    let Some(tick) = site.tick else {
         unreachable!()
     };
-    let below = circuit_at(site.alloc, table, window.source)?;
-    let front = window.front(net, site, below, line)?;
-    let copies = put_copies(net, site, window.body, front.wires.as_slice())?;
-    window.back(net, site, line, &front, copies.as_slice())
+    let source = circuit_at(site.alloc, table, window.source)?;
+    let rotation = window.rotation(site);
+    let machine = CopyMachine::Times(Ticked { rotation, tick });
+    let e = put_over_copies(net, site, window.body, machine, source)?;
+    Ok(e)
 }
 
-// Adds the circuit of a group in the same way, or, where its body is direct, on a lane.
+// Adds that of a group: its machine behind its source, or, where its body is direct, a lane.
 #[cycle(put)]
 #[tactic(auto)]
 fn put_group(
@@ -208,13 +221,14 @@ fn put_group(
     if is_direct(site.plan, group.body) {
         return put_on_lane(net, site, group, table);
     }
-    let below = circuit_at(site.alloc, table, group.source)?;
-    let front = group.front(net, site, below)?;
-    let copies = put_copies(net, site, group.body, front.wires.as_slice())?;
-    group.back(net, site, &front, copies.as_slice())
+    let grouping = group.grouping(site);
+    let source = put_source(net, site, group.source, grouping.body.gt, table)?;
+    let machine = CopyMachine::Groups(grouping);
+    let e = put_over_copies(net, site, group.body, machine, source)?;
+    Ok(e)
 }
 
-// Adds the circuit of the windows of each group in the same way, with a wire of the front for each copy of each slot.
+// Adds that of the windows of each group: their machine behind their source.
 #[cycle(put)]
 #[tactic(auto)]
 fn put_partition(
@@ -231,16 +245,44 @@ fn put_partition(
     ensures { let s = site.entry in IfOk result (λ e.
         IsPutBehind s.plan.now partition.id net.old net.new s.tick s.leaves.now e) }
 {
-    let below = circuit_at(site.alloc, table, partition.source)?;
-    let front = partition.front(net, site, below)?;
-    let copies = put_copies(net, site, partition.body, front.wires.as_slice())?;
-    partition.back(net, site, &front, copies.as_slice())
+    let partitioning = partition.partitioning(site);
+    let gap = partitioning.body.gt.max(partitioning.body.ge);
+    let source = put_source(net, site, partition.source, gap, table)?;
+    let machine = CopyMachine::Partitions(partitioning);
+    let e = put_over_copies(net, site, partition.body, machine, source)?;
+    Ok(e)
+}
+
+/// Adds a machine over copies of a body behind its source: the front, the body behind each of the front's wires, and the back.
+#[cycle(put)]
+#[tactic(auto)]
+pub(crate) fn put_over_copies(
+    net: &mut NetBuilder,
+    site: Site<'_>,
+    body: PlanId,
+    machine: CopyMachine,
+    source: Emitted,
+) -> Result<Emitted, Memory>
+    requires numbers { CanBe machine }
+    requires wire { IsWire net.old source.wire }
+    requires lines { AreLines net.old source.faults }
+    requires key { HasColumn (machine_of machine).key (widths source.wire.columns) }
+    requires tick { IsLine net.old (machine_of machine).tick }
+    requires stands { CanStandBehind site.plan.now site.figures.now body
+        (widths source.wire.columns) }
+    ensures { let s = site.entry in IfOk result
+        (IsPutOver s.plan.now body (machine_of machine) source net.old net.new) }
+{
+    let front = machine.front(site.alloc, net, source)?;
+    let copies = put_copies(net, site, body, front.wires.as_slice())?;
+    let e = machine.back(site.alloc, net, &front, copies.as_slice())?;
+    Ok(e)
 }
 
 // Adds a body's circuit behind each of these wires.
 #[cycle(put)]
 #[tactic(auto)]
-pub(crate) fn put_copies(
+fn put_copies(
     net: &mut NetBuilder,
     site: Site<'_>,
     body: PlanId,

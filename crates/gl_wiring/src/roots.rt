@@ -7,7 +7,8 @@ ghost use Rattle.gl_wiring.specs.Roots.{IsRootPut};
 ghost use Rattle.gl_wiring.specs.SpareWindows.{IsSpareWindow};
 
 use crate::circuits::put_circuit;
-use crate::put::put_copies;
+use crate::machines::CopyMachine;
+use crate::put::put_over_copies;
 use crate::site::Site;
 use crate::spare_windows::SpareWindowOf;
 use crate::windows::WindowOf;
@@ -31,7 +32,6 @@ pub(crate) fn put_root(
         IfOk result (λ e. IsRootPut s.plan.now root net.old net.new s.tick s.leaves.now e) }
 {
     let Some(spare) = spare else {
-        // Named, since a goal speaks of the value.
         let e = put_circuit(net, site, root)?;
         return Ok(e);
     };
@@ -44,8 +44,7 @@ pub(crate) fn put_root(
     }
 }
 
-// Adds the circuit of windows with spare copies: the source, the front with late ends, the body behind each of the front's
-// wires, and the back.
+// Adds the circuit of windows with spare copies: their machine behind the source's circuit.
 #[tactic(auto, using(crate::proofs::CanLemmas::put_columns))]
 fn put_spare(net: &mut NetBuilder, site: Site<'_>, w: SpareWindowOf) -> Result<Emitted, Memory>
     requires node { IsSpareWindow site.plan.now w }
@@ -55,8 +54,9 @@ fn put_spare(net: &mut NetBuilder, site: Site<'_>, w: SpareWindowOf) -> Result<E
         IsRootPut s.plan.now w.window.id net.old net.new s.tick s.leaves.now e) }
 {
     let window = w.window;
-    let below = put_circuit(net, site, window.source)?;
-    let front = w.front(net, site, below)?;
-    let copies = put_copies(net, site, window.body, front.wires.as_slice())?;
-    w.back(net, site, &front, copies.as_slice())
+    let source = put_circuit(net, site, window.source)?;
+    let rotation = w.rotation(site);
+    let machine = CopyMachine::Spare(rotation);
+    let e = put_over_copies(net, site, window.body, machine, source)?;
+    Ok(e)
 }

@@ -48,7 +48,6 @@ pub(crate) fn marks_from(alloc: Global, plan: &Plan, root: PlanId) -> Result<Vec
     requires { root < length plan.now }
     ensures { IfOk result (λ marks. AreMarks plan.now (root ∷ []) marks.items) }
 {
-    // Named, since a goal speaks of the value.
     let marks = marks_of(alloc, plan, from_ref(&root))?;
     Ok(marks)
 }

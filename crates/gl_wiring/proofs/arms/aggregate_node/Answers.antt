@@ -3,7 +3,17 @@ use Rattle.gl_algebra.specs.declared.node.PlanNode.TheVariants.{Aggregate}
 use Rattle.gl_algebra.proofs.KindLemmas.{columns_have_kinds}
 use Rattle.gl_wiring.proofs.CanLemmas.{first_within}
 use Rattle.gl_wiring.proofs.RowLemmas.{aggregate_put}
+use Rattle.gl_wiring.proofs.TableLemmas.{is_there, taken_gives}
 use Rattle.gl_wiring.proofs.arms.aggregate_node.Goals as goal
+
+pub circuit_at-requires : goal.circuit_at-requires
+circuit_at-requires c = is_there c.requires.there
+
+pub put_totals-requires-clause-wire : goal.put_totals-requires-clause-wire
+put_totals-requires-clause-wire c = (taken_gives c.requires.there c.in_ok-below.ensures).wire
+
+pub put_totals-requires-clause-kinds : goal.put_totals-requires-clause-kinds
+put_totals-requires-clause-kinds c = rw c.kinds.ensures.kinds (taken_gives c.requires.there c.in_ok-below.ensures).same_widths
 
 pub kinds-requires : goal.kinds-requires
 kinds-requires c =
@@ -18,6 +28,7 @@ pub put_totals-requires-clause-aggs : goal.put_totals-requires-clause-aggs
 put_totals-requires-clause-aggs c = rw (c.kinds.ensures.kinds, c.as_slice.ensures) ((c.args.site.planned.fits c.args.id _ c.requires.node).suits)
 
 pub returns : goal.returns
-returns c = λ tick leaves h.
-    aggregate_put c.args.site.plan.now c.args.id c.args.net.now c.put_totals.new.net tick leaves c.args.below c.in_ok-e.e c.args.site.planned
-    c.args.child c.args.aggs.now c.requires.node h (rw (c.kinds.ensures.kinds, c.as_slice.ensures) at c.in_ok-e.ensures)
+returns c =
+    aggregate_put c.args.site.plan.now c.args.id c.args.net.now c.put_totals.new.net c.args.site.tick c.args.site.leaves.now c.in_ok-below.below c.in_ok-e.e c.args.site.planned
+    c.args.child c.args.aggs.now c.requires.node (taken_gives c.requires.there c.in_ok-below.ensures)
+    (rw (c.kinds.ensures.kinds, c.as_slice.ensures) at c.in_ok-e.ensures)

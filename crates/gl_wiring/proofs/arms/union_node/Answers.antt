@@ -5,33 +5,53 @@ use Rattle.gl_algebra.proofs.FigureLemmas.{figures_are_sound}
 use Rattle.gl_wiring.specs.Leaves.{widths_of}
 use Rattle.gl_wiring.proofs.CanLemmas.{first_within, second_within}
 use Rattle.gl_wiring.proofs.PairLemmas.{union_put}
+use Rattle.gl_wiring.proofs.TableLemmas.{is_there, taken_gives}
 use Rattle.gl_wiring.proofs.arms.union_node.Goals as goal
+
+pub circuit_at-requires : goal.circuit_at-requires
+circuit_at-requires c = is_there c.requires.first
+
+pub circuit_at-requires-2 : goal.circuit_at-requires-2
+circuit_at-requires-2 c = is_there c.requires.second
+
+pub emit-requires-clause-left : goal.emit-requires-clause-left
+emit-requires-clause-left c = (taken_gives c.requires.first c.in_ok-first.ensures).wire
+
+pub emit-requires-clause-right : goal.emit-requires-clause-right
+emit-requires-clause-right c = (taken_gives c.requires.second c.in_ok-second.ensures).wire
+
+pub emit-requires-clause-left_lines : goal.emit-requires-clause-left_lines
+emit-requires-clause-left_lines c = (taken_gives c.requires.first c.in_ok-first.ensures).lines
+
+pub emit-requires-clause-right_lines : goal.emit-requires-clause-right_lines
+emit-requires-clause-right_lines c = (taken_gives c.requires.second c.in_ok-second.ensures).lines
 
 pub figures_at-requires : goal.figures_at-requires
 figures_at-requires c =
-    first_within c.args.site.plan.now c.args.node.id (Union c.args.node.left c.args.node.right) c.args.site.planned c.requires.node c.args.node.left (c.args.node.right ∷ []) refl
+    first_within c.args.site.plan.now c.args.id (Union c.args.left c.args.right) c.args.site.planned c.requires.node c.args.left (c.args.right ∷ []) refl
 
 pub figures_at-requires-2 : goal.figures_at-requires-2
 figures_at-requires-2 c =
-    second_within c.args.site.plan.now c.args.node.id (Union c.args.node.left c.args.node.right) c.args.site.planned c.requires.node c.args.node.left c.args.node.right refl
+    second_within c.args.site.plan.now c.args.id (Union c.args.left c.args.right) c.args.site.planned c.requires.node c.args.left c.args.right refl
 
 pub emit-requires-clause-sound_left : goal.emit-requires-clause-sound_left
 emit-requires-clause-sound_left c =
-    rw c.figures_at.ensures.value (figures_are_sound c.args.site.plan.now c.args.node.left c.args.site.planned
-    (first_within c.args.site.plan.now c.args.node.id (Union c.args.node.left c.args.node.right) c.args.site.planned c.requires.node c.args.node.left (c.args.node.right ∷ []) refl))
+    rw c.figures_at.ensures.value (figures_are_sound c.args.site.plan.now c.args.left c.args.site.planned
+    (first_within c.args.site.plan.now c.args.id (Union c.args.left c.args.right) c.args.site.planned c.requires.node c.args.left (c.args.right ∷ []) refl))
 
 pub emit-requires-clause-sound_right : goal.emit-requires-clause-sound_right
 emit-requires-clause-sound_right c =
-    rw c.figures_at-2.ensures.value (figures_are_sound c.args.site.plan.now c.args.node.right c.args.site.planned
-    (second_within c.args.site.plan.now c.args.node.id (Union c.args.node.left c.args.node.right) c.args.site.planned c.requires.node c.args.node.left c.args.node.right refl))
+    rw c.figures_at-2.ensures.value (figures_are_sound c.args.site.plan.now c.args.right c.args.site.planned
+    (second_within c.args.site.plan.now c.args.id (Union c.args.left c.args.right) c.args.site.planned c.requires.node c.args.left c.args.right refl))
 
 pub emit-requires-clause-widths : goal.emit-requires-clause-widths
 emit-requires-clause-widths c =
-    c.requires.first.same_widths
-    ∙ ap (λ (kinds : List Kind). widths_of kinds) (c.args.site.planned.fits c.args.node.id (Union c.args.node.left c.args.node.right) c.requires.node).suits
-    ∙ sym c.requires.second.same_widths
+    (taken_gives c.requires.first c.in_ok-first.ensures).same_widths
+    ∙ ap (λ (kinds : List Kind). widths_of kinds) (c.args.site.planned.fits c.args.id (Union c.args.left c.args.right) c.requires.node).suits
+    ∙ sym (taken_gives c.requires.second c.in_ok-second.ensures).same_widths
 
 pub returns : goal.returns
-returns c = λ tick leaves h i.
-    union_put c.args.site.plan.now c.args.node.id c.args.net.now c.emit.new.net tick leaves c.args.first c.args.second c.in_ok-e.e c.args.site.planned
-    c.args.node.left c.args.node.right c.requires.node h i (rw (c.figures_at.ensures.value, c.figures_at-2.ensures.value) at c.in_ok-e.ensures)
+returns c =
+    union_put c.args.site.plan.now c.args.id c.args.net.now c.emit.new.net c.args.site.tick c.args.site.leaves.now c.in_ok-first.first c.in_ok-second.second c.in_ok-e.e c.args.site.planned
+    c.args.left c.args.right c.requires.node (taken_gives c.requires.first c.in_ok-first.ensures) (taken_gives c.requires.second c.in_ok-second.ensures)
+    (rw (c.figures_at.ensures.value, c.figures_at-2.ensures.value) at c.in_ok-e.ensures)

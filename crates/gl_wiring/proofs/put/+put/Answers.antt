@@ -1,21 +1,19 @@
-use Rattle.std.proofs.Common.{◌∙◌, ◌+◌, ◌<◌, Some, refl, sym, ap, arith}
+use Rattle.std.proofs.Common.{ℕ, ◌∙◌, ◌+◌, ◌<◌, Some, refl, sym, ap, subst, arith}
 use Rattle.std.proofs.lemmas.Option.{slice_get-get_or}
 use Rattle.gl_algebra.specs.declared.node.PlanNode.TheVariants.{Window, TimeWindow, Group, Partition}
-use Rattle.gl_groups.proofs.GroupedNet.{fronts_kept as slots_kept}
-use Rattle.gl_partitions.proofs.PartitionNet.{fronts_kept as parts_kept}
-use Rattle.gl_windows.proofs.RotationNet.{fronts_kept}
-use Rattle.gl_wiring.specs.Groups.{grouping_of}
-use Rattle.gl_wiring.specs.Partitions.{partitioning_of}
-use Rattle.gl_wiring.specs.TimeWindows.{time_rotation_of}
-use Rattle.gl_wiring.specs.Windows.{rotation_of}
+use Rattle.gl_wire.specs.declared.emitted.Emitted.{Emitted}
+use Rattle.gl_wire.specs.Wire.{widths}
+use Rattle.gl_wire_registers.proofs.FrontLemmas.{fronts_kept}
+use Rattle.gl_wiring.specs.Copies.{AreBodies}
+use Rattle.gl_wiring.specs.Machines.{machine_of}
 use Rattle.gl_wiring.proofs.CanLemmas.{second_before, second_within}
-use Rattle.gl_wiring.proofs.CopyLemmas.{bodies_copies, bodies_more, bodies_none, can_copy}
-use Rattle.gl_wiring.proofs.GroupLemmas.{group_copies}
+use Rattle.gl_wiring.proofs.CopyLemmas.{bodies_copies, bodies_more, bodies_none, can_copies, can_copy}
+use Rattle.gl_wiring.proofs.GroupLemmas as groups
 use Rattle.gl_wiring.proofs.MarkedLemmas.{marked_kept, one_marked}
-use Rattle.gl_wiring.proofs.PartitionLemmas.{partition_copies}
-use Rattle.gl_wiring.proofs.TableLemmas.{children_there, gives_columns, is_there, one_is_put, root_is_there, slot_next, taken_gives}
-use Rattle.gl_wiring.proofs.TimeWindowLemmas.{line_is_there, time_copies, time_fronts_kept}
-use Rattle.gl_wiring.proofs.WindowLemmas.{window_copies}
+use Rattle.gl_wiring.proofs.PartitionLemmas as partitions
+use Rattle.gl_wiring.proofs.TableLemmas.{children_there, is_there, one_is_put, root_is_there, slot_next, taken_gives}
+use Rattle.gl_wiring.proofs.TimeWindowLemmas as times
+use Rattle.gl_wiring.proofs.WindowLemmas as windows
 use Rattle.gl_wiring.proofs.put.+put.Goals as goal
 
 pub put_root_of-put_marked-requires : goal.put_root_of-put_marked-requires
@@ -63,99 +61,85 @@ put_marked-loop-number-preserved t c = record {
       c.args.site.tick c.args.site.leaves.now c.loop-number.table.items c.loop-number.invariant.put c.in_ok-slot.slot c.in_ok-slot.ensures);
 }
 
-pub put_window-circuit_at-requires : goal.put_window-circuit_at-requires
-put_window-circuit_at-requires t c =
-    is_there (c.requires.children _ c.requires.node).0
+pub put_window-put_source-requires-clause-within : goal.put_window-put_source-requires-clause-within
+put_window-put_source-requires-clause-within t c = windows.in_source c.args.site.plan.now c.args.window c.args.site.planned c.requires.node
 
-pub put_window-front-requires-clause-below : goal.put_window-front-requires-clause-below
-put_window-front-requires-clause-below t c =
-    gives_columns (taken_gives (c.requires.children _ c.requires.node).0 c.in_ok-below.ensures)
+pub put_window-put_source-requires-clause-gap : goal.put_window-put_source-requires-clause-gap
+put_window-put_source-requires-clause-gap t c = rw (c.max-gap.ensures, c.rotation-rotation.ensures.value) (windows.some_gap c.args.site.plan.now c.args.window c.args.site.planned c.requires.node)
 
-pub put_window-put_copies-requires : goal.put_window-put_copies-requires
-put_window-put_copies-requires t c =
+pub put_window-put_source-requires-clause-there : goal.put_window-put_source-requires-clause-there
+put_window-put_source-requires-clause-there t c = (c.requires.children _ c.requires.node).0
+
+pub put_window-put_over_copies-requires : goal.put_window-put_over_copies-requires
+put_window-put_over_copies-requires t c =
     let w = c.args.window in
     let before : w.body < w.id =
-    second_before c.args.site.plan.now w.id (Window w.source w.body w.size w.advance) c.args.site.planned c.requires.node w.source w.body refl in (
+    second_before c.args.site.plan.now w.id (Window w.source w.body w.size w.advance) c.args.site.planned c.requires.node w.source w.body refl in
+    let x = c.in_ok-source.ensures in
+    let same = x.spaced'.behind.same_widths ∙ x.gives.same_widths in (
       omega (arith, before),
-      rw c.as_slice.ensures (window_copies c.args.site.plan.now w c.args.site.planned c.requires.node c.args.site.figures.now c.args.net.now c.args.net.now
-          c.front.new.net c.args.site.tick c.args.site.leaves.now c.in_ok-front.front c.requires.can (c.in_ok-front.ensures c.args.site.tick c.args.site.leaves.now (taken_gives (c.requires.children _ c.requires.node).0 c.in_ok-below.ensures))),
+      (
+        c.rotation-rotation.ensures.is,
+        (
+          x.spaced'.behind.wire,
+          (
+            x.spaced'.behind.lines,
+            (
+              tt,
+              (
+                tt,
+                windows.window_stands c.args.site.plan.now w c.args.site.planned c.requires.node c.args.site.figures.now c.args.net.now c.args.site.tick c.args.site.leaves.now
+                    (widths c.in_ok-source.source.wire.columns) c.requires.can same,
+              ),
+            ),
+          ),
+        ),
+      ),
     )
-
-pub put_window-back-requires-clause-front : goal.put_window-back-requires-clause-front
-put_window-back-requires-clause-front t c =
-    fronts_kept c.front.new.net c.put_copies.new.net (rotation_of c.args.site.plan.now c.args.window) c.in_ok-front.front c.in_ok-copies.ensures.keeps
-    (c.in_ok-front.ensures c.args.site.tick c.args.site.leaves.now (taken_gives (c.requires.children _ c.requires.node).0 c.in_ok-below.ensures)).fronts
-
-pub put_window-back-requires-clause-copies : goal.put_window-back-requires-clause-copies
-put_window-back-requires-clause-copies t c =
-    rw c.as_slice-2.ensures (bodies_copies c.args.site.plan.now c.args.window.body c.front.new.net c.put_copies.new.net c.in_ok-front.front.wires
-    c.in_ok-copies.copies (rw c.as_slice.ensures at c.in_ok-copies.ensures))
-
-pub put_window-back-requires-clause-count : goal.put_window-back-requires-clause-count
-put_window-back-requires-clause-count t c =
-    rw c.as_slice-2.ensures ((rw c.as_slice.ensures at c.in_ok-copies.ensures).as_many
-    ∙ (c.in_ok-front.ensures c.args.site.tick c.args.site.leaves.now (taken_gives (c.requires.children _ c.requires.node).0 c.in_ok-below.ensures)).fronts.as_many)
 
 pub put_window-returns : goal.put_window-returns
 put_window-returns t c =
-    c.back.ensures c.args.net.now c.front.new.net c.args.site.tick c.args.site.leaves.now (c.in_ok-front.ensures c.args.site.tick c.args.site.leaves.now (taken_gives (c.requires.children _ c.requires.node).0 c.in_ok-below.ensures))
-    (rw c.as_slice-2.ensures (rw c.as_slice.ensures at c.in_ok-copies.ensures))
+    windows.window_put c.args.site.plan.now c.args.window c.args.site.planned c.requires.node c.args.net.now c.put_source.new.net c.put_over_copies.new.net c.args.site.tick
+    c.args.site.leaves.now c.in_ok-source.source c.in_ok-e.e (rw (c.max-gap.ensures, c.rotation-rotation.ensures.value) at c.in_ok-source.ensures) (rw c.rotation-rotation.ensures.value at c.in_ok-e.ensures)
 
 pub put_time_window-unreachable-requires : goal.put_time_window-unreachable-requires
 put_time_window-unreachable-requires t c =
-    line_is_there c.args.site.plan.now c.args.window c.args.site.planned c.requires.node c.args.site.tick c.in_default.is c.requires.can.timed
+    times.line_is_there c.args.site.plan.now c.args.window c.args.site.planned c.requires.node c.args.site.tick c.in_default.is c.requires.can.timed
 
 pub put_time_window-circuit_at-requires : goal.put_time_window-circuit_at-requires
-put_time_window-circuit_at-requires t c =
-    is_there (c.requires.children _ c.requires.node).0
+put_time_window-circuit_at-requires t c = is_there (c.requires.children _ c.requires.node).0
 
-pub put_time_window-front-requires-clause-below : goal.put_time_window-front-requires-clause-below
-put_time_window-front-requires-clause-below t c =
-    gives_columns (taken_gives (c.requires.children _ c.requires.node).0 c.in_ok-below.ensures)
-
-pub put_time_window-front-requires-clause-tick : goal.put_time_window-front-requires-clause-tick
-put_time_window-front-requires-clause-tick t c = rw c.in-Some.is at c.requires.can.ticked
-
-pub put_time_window-put_copies-requires : goal.put_time_window-put_copies-requires
-put_time_window-put_copies-requires t c =
+pub put_time_window-put_over_copies-requires : goal.put_time_window-put_over_copies-requires
+put_time_window-put_over_copies-requires t c =
     let w = c.args.window in
     let before : w.body < w.id =
-    second_before c.args.site.plan.now w.id (TimeWindow w.source w.body w.size w.advance) c.args.site.planned c.requires.node w.source w.body refl in (
+    second_before c.args.site.plan.now w.id (TimeWindow w.source w.body w.size w.advance) c.args.site.planned c.requires.node w.source w.body refl in
+    let x = taken_gives (c.requires.children _ c.requires.node).0 c.in_ok-source.ensures in (
       omega (arith, before),
-      rw c.as_slice.ensures (time_copies c.args.site.plan.now w c.args.site.planned c.requires.node c.args.site.figures.now c.args.net.now c.args.net.now
-          c.front.new.net c.in-Some.line c.args.site.leaves.now c.in_ok-front.front (rw c.in-Some.is at c.requires.can)
-          (c.in_ok-front.ensures c.args.site.leaves.now (rw c.in-Some.is at (taken_gives (c.requires.children _ c.requires.node).0 c.in_ok-below.ensures)))),
+      (
+        c.rotation-rotation.ensures.is,
+        (
+          x.wire,
+          (
+            x.lines,
+            (
+              tt,
+              (
+                rw c.in-Some.is at c.requires.can.ticked,
+                times.time_stands c.args.site.plan.now w c.args.site.planned c.requires.node c.args.site.figures.now c.args.net.now c.args.site.tick c.args.site.leaves.now
+                    (widths c.in_ok-source.source.wire.columns) c.requires.can x.same_widths,
+              ),
+            ),
+          ),
+        ),
+      ),
     )
-
-pub put_time_window-back-requires-clause-front : goal.put_time_window-back-requires-clause-front
-put_time_window-back-requires-clause-front t c =
-    time_fronts_kept c.front.new.net c.put_copies.new.net (time_rotation_of c.args.site.plan.now c.args.window) c.in-Some.line c.in_ok-front.front
-    c.in_ok-copies.ensures.keeps
-    (c.in_ok-front.ensures c.args.site.leaves.now (rw c.in-Some.is at (taken_gives (c.requires.children _ c.requires.node).0 c.in_ok-below.ensures))).fronts
-
-pub put_time_window-back-requires-clause-copies : goal.put_time_window-back-requires-clause-copies
-put_time_window-back-requires-clause-copies t c =
-    rw c.as_slice-2.ensures (bodies_copies c.args.site.plan.now c.args.window.body c.front.new.net c.put_copies.new.net c.in_ok-front.front.wires
-    c.in_ok-copies.copies (rw c.as_slice.ensures at c.in_ok-copies.ensures))
-
-pub put_time_window-back-requires-clause-count : goal.put_time_window-back-requires-clause-count
-put_time_window-back-requires-clause-count t c =
-    rw c.as_slice-2.ensures ((rw c.as_slice.ensures at c.in_ok-copies.ensures).as_many
-    ∙ (c.in_ok-front.ensures c.args.site.leaves.now (rw c.in-Some.is at (taken_gives (c.requires.children _ c.requires.node).0 c.in_ok-below.ensures))).fronts.as_many)
 
 pub put_time_window-returns : goal.put_time_window-returns
 put_time_window-returns t c =
-    rw c.in-Some.is (c.back.ensures c.args.net.now c.front.new.net c.args.site.leaves.now c.requires.can.leaved
-    (c.in_ok-front.ensures c.args.site.leaves.now (rw c.in-Some.is at (taken_gives (c.requires.children _ c.requires.node).0 c.in_ok-below.ensures)))
-    (rw c.as_slice-2.ensures (rw c.as_slice.ensures at c.in_ok-copies.ensures)))
-
-pub put_group-circuit_at-requires : goal.put_group-circuit_at-requires
-put_group-circuit_at-requires t c =
-    is_there (c.requires.children _ c.requires.node).0
-
-pub put_group-front-requires-clause-below : goal.put_group-front-requires-clause-below
-put_group-front-requires-clause-below t c =
-    gives_columns (taken_gives (c.requires.children _ c.requires.node).0 c.in_ok-below.ensures)
+    rw c.in-Some.is (times.time_put c.args.site.plan.now c.args.window c.args.site.planned c.requires.node c.args.net.now c.put_over_copies.new.net c.in-Some.tick
+    c.args.site.leaves.now c.in_ok-source.source c.in_ok-e.e c.requires.can.leaved
+    (rw c.in-Some.is at (taken_gives (c.requires.children _ c.requires.node).0 c.in_ok-source.ensures)) (rw c.rotation-rotation.ensures.value at c.in_ok-e.ensures))
 
 pub put_group-is_direct-requires : goal.put_group-is_direct-requires
 put_group-is_direct-requires t c =
@@ -170,76 +154,121 @@ put_group-put_on_lane-requires t c = record {
   direct = sym c.is_direct.ensures ∙ c.if-is_direct.true;
 }
 
-pub put_group-back-requires-clause-copied : goal.put_group-back-requires-clause-copied
-put_group-back-requires-clause-copied t c = sym c.is_direct.ensures ∙ c.if-is_direct.false
+pub put_group-put_source-requires-clause-within : goal.put_group-put_source-requires-clause-within
+put_group-put_source-requires-clause-within t c = groups.in_source c.args.site.plan.now c.args.group c.args.site.planned c.requires.node
 
-pub put_group-put_copies-requires : goal.put_group-put_copies-requires
-put_group-put_copies-requires t c =
+pub put_group-put_source-requires-clause-gap : goal.put_group-put_source-requires-clause-gap
+put_group-put_source-requires-clause-gap t c = rw c.grouping-grouping.ensures.value (groups.some_gap c.args.site.plan.now c.args.group c.args.site.planned c.requires.node)
+
+pub put_group-put_source-requires-clause-there : goal.put_group-put_source-requires-clause-there
+put_group-put_source-requires-clause-there t c = (c.requires.children _ c.requires.node).0
+
+pub put_group-put_over_copies-requires : goal.put_group-put_over_copies-requires
+put_group-put_over_copies-requires t c =
     let g = c.args.group in
     let before : g.body < g.id =
-    second_before c.args.site.plan.now g.id (Group g.source g.body g.key g.groups) c.args.site.planned c.requires.node g.source g.body refl in (
+    second_before c.args.site.plan.now g.id (Group g.source g.body g.key g.groups) c.args.site.planned c.requires.node g.source g.body refl in
+    let x = c.in_ok-source.ensures in
+    let same = x.spaced'.behind.same_widths ∙ x.gives.same_widths in (
       omega (arith, before),
-      rw c.as_slice.ensures (group_copies c.args.site.plan.now g c.args.site.planned c.requires.node c.args.site.figures.now c.args.net.now c.args.net.now
-          c.front.new.net c.args.site.tick c.args.site.leaves.now c.in_ok-front.front c.requires.can (c.in_ok-front.ensures c.args.site.tick c.args.site.leaves.now (taken_gives (c.requires.children _ c.requires.node).0 c.in_ok-below.ensures))),
+      (
+        c.grouping-grouping.ensures.is,
+        (
+          x.spaced'.behind.wire,
+          (
+            x.spaced'.behind.lines,
+            (
+              rw c.grouping-grouping.ensures.value (groups.key_there c.args.site.plan.now g c.args.site.planned c.requires.node _ same),
+              (
+                tt,
+                groups.group_stands c.args.site.plan.now g c.args.site.planned c.requires.node c.args.site.figures.now c.args.net.now c.args.site.tick c.args.site.leaves.now
+                    (widths c.in_ok-source.source.wire.columns) c.requires.can same,
+              ),
+            ),
+          ),
+        ),
+      ),
     )
-
-pub put_group-back-requires-clause-front : goal.put_group-back-requires-clause-front
-put_group-back-requires-clause-front t c =
-    slots_kept c.front.new.net c.put_copies.new.net (grouping_of c.args.site.plan.now c.args.group) c.in_ok-front.front c.in_ok-copies.ensures.keeps
-    (c.in_ok-front.ensures c.args.site.tick c.args.site.leaves.now (taken_gives (c.requires.children _ c.requires.node).0 c.in_ok-below.ensures)).fronts
-
-pub put_group-back-requires-clause-copies : goal.put_group-back-requires-clause-copies
-put_group-back-requires-clause-copies t c =
-    rw c.as_slice-2.ensures (bodies_copies c.args.site.plan.now c.args.group.body c.front.new.net c.put_copies.new.net c.in_ok-front.front.wires
-    c.in_ok-copies.copies (rw c.as_slice.ensures at c.in_ok-copies.ensures))
-
-pub put_group-back-requires-clause-count : goal.put_group-back-requires-clause-count
-put_group-back-requires-clause-count t c =
-    rw c.as_slice-2.ensures ((rw c.as_slice.ensures at c.in_ok-copies.ensures).as_many
-    ∙ (c.in_ok-front.ensures c.args.site.tick c.args.site.leaves.now (taken_gives (c.requires.children _ c.requires.node).0 c.in_ok-below.ensures)).fronts.as_many)
 
 pub put_group-returns : goal.put_group-returns
 put_group-returns t c =
-    c.back.ensures c.args.net.now c.front.new.net c.args.site.tick c.args.site.leaves.now (c.in_ok-front.ensures c.args.site.tick c.args.site.leaves.now (taken_gives (c.requires.children _ c.requires.node).0 c.in_ok-below.ensures))
-    (rw c.as_slice-2.ensures (rw c.as_slice.ensures at c.in_ok-copies.ensures))
+    groups.group_put c.args.site.plan.now c.args.group c.args.site.planned c.requires.node c.args.net.now c.put_source.new.net c.put_over_copies.new.net c.args.site.tick
+    c.args.site.leaves.now c.in_ok-source.source c.in_ok-e.e (rw c.grouping-grouping.ensures.value at c.in_ok-source.ensures) (rw c.grouping-grouping.ensures.value at c.in_ok-e.ensures)
+    (sym c.is_direct.ensures ∙ c.if-is_direct.false)
 
-pub put_partition-circuit_at-requires : goal.put_partition-circuit_at-requires
-put_partition-circuit_at-requires t c =
-    is_there (c.requires.children _ c.requires.node).0
+pub put_partition-put_source-requires-clause-within : goal.put_partition-put_source-requires-clause-within
+put_partition-put_source-requires-clause-within t c = partitions.in_source c.args.site.plan.now c.args.partition c.args.site.planned c.requires.node
 
-pub put_partition-front-requires-clause-below : goal.put_partition-front-requires-clause-below
-put_partition-front-requires-clause-below t c =
-    gives_columns (taken_gives (c.requires.children _ c.requires.node).0 c.in_ok-below.ensures)
+pub put_partition-put_source-requires-clause-gap : goal.put_partition-put_source-requires-clause-gap
+put_partition-put_source-requires-clause-gap t c = rw (c.max-gap.ensures, c.partitioning-partitioning.ensures.value) (partitions.some_gap c.args.site.plan.now c.args.partition c.args.site.planned c.requires.node)
 
-pub put_partition-put_copies-requires : goal.put_partition-put_copies-requires
-put_partition-put_copies-requires t c =
+pub put_partition-put_source-requires-clause-there : goal.put_partition-put_source-requires-clause-there
+put_partition-put_source-requires-clause-there t c = (c.requires.children _ c.requires.node).0
+
+pub put_partition-put_over_copies-requires : goal.put_partition-put_over_copies-requires
+put_partition-put_over_copies-requires t c =
     let p = c.args.partition in
     let before : p.body < p.id =
-    second_before c.args.site.plan.now p.id (Partition p.source p.body p.key p.groups p.size p.advance) c.args.site.planned c.requires.node p.source p.body refl in (
+    second_before c.args.site.plan.now p.id (Partition p.source p.body p.key p.groups p.size p.advance) c.args.site.planned c.requires.node p.source p.body refl in
+    let x = c.in_ok-source.ensures in
+    let same = x.spaced'.behind.same_widths ∙ x.gives.same_widths in (
       omega (arith, before),
-      rw c.as_slice.ensures (partition_copies c.args.site.plan.now p c.args.site.planned c.requires.node c.args.site.figures.now c.args.net.now c.args.net.now
-          c.front.new.net c.args.site.tick c.args.site.leaves.now c.in_ok-front.front c.requires.can (c.in_ok-front.ensures c.args.site.tick c.args.site.leaves.now (taken_gives (c.requires.children _ c.requires.node).0 c.in_ok-below.ensures))),
+      (
+        c.partitioning-partitioning.ensures.is,
+        (
+          x.spaced'.behind.wire,
+          (
+            x.spaced'.behind.lines,
+            (
+              rw c.partitioning-partitioning.ensures.value (partitions.key_there c.args.site.plan.now p c.args.site.planned c.requires.node _ same),
+              (
+                tt,
+                partitions.partition_stands c.args.site.plan.now p c.args.site.planned c.requires.node c.args.site.figures.now c.args.net.now c.args.site.tick c.args.site.leaves.now
+                    (widths c.in_ok-source.source.wire.columns) c.requires.can same,
+              ),
+            ),
+          ),
+        ),
+      ),
     )
-
-pub put_partition-back-requires-clause-front : goal.put_partition-back-requires-clause-front
-put_partition-back-requires-clause-front t c =
-    parts_kept c.front.new.net c.put_copies.new.net (partitioning_of c.args.site.plan.now c.args.partition) c.in_ok-front.front c.in_ok-copies.ensures.keeps
-    (c.in_ok-front.ensures c.args.site.tick c.args.site.leaves.now (taken_gives (c.requires.children _ c.requires.node).0 c.in_ok-below.ensures)).fronts
-
-pub put_partition-back-requires-clause-copies : goal.put_partition-back-requires-clause-copies
-put_partition-back-requires-clause-copies t c =
-    rw c.as_slice-2.ensures (bodies_copies c.args.site.plan.now c.args.partition.body c.front.new.net c.put_copies.new.net c.in_ok-front.front.wires
-    c.in_ok-copies.copies (rw c.as_slice.ensures at c.in_ok-copies.ensures))
-
-pub put_partition-back-requires-clause-count : goal.put_partition-back-requires-clause-count
-put_partition-back-requires-clause-count t c =
-    rw c.as_slice-2.ensures ((rw c.as_slice.ensures at c.in_ok-copies.ensures).as_many
-    ∙ (c.in_ok-front.ensures c.args.site.tick c.args.site.leaves.now (taken_gives (c.requires.children _ c.requires.node).0 c.in_ok-below.ensures)).fronts.as_many)
 
 pub put_partition-returns : goal.put_partition-returns
 put_partition-returns t c =
-    c.back.ensures c.args.net.now c.front.new.net c.args.site.tick c.args.site.leaves.now (c.in_ok-front.ensures c.args.site.tick c.args.site.leaves.now (taken_gives (c.requires.children _ c.requires.node).0 c.in_ok-below.ensures))
-    (rw c.as_slice-2.ensures (rw c.as_slice.ensures at c.in_ok-copies.ensures))
+    partitions.partition_put c.args.site.plan.now c.args.partition c.args.site.planned c.requires.node c.args.net.now c.put_source.new.net c.put_over_copies.new.net c.args.site.tick
+    c.args.site.leaves.now c.in_ok-source.source c.in_ok-e.e (rw (c.max-gap.ensures, c.partitioning-partitioning.ensures.value) at c.in_ok-source.ensures) (rw c.partitioning-partitioning.ensures.value at c.in_ok-e.ensures)
+
+pub put_over_copies-put_copies-requires : goal.put_over_copies-put_copies-requires
+put_over_copies-put_copies-requires t c = (
+  omega arith,
+  rw c.as_slice.ensures (can_copies c.args.site.plan.now c.args.site.figures.now c.args.body (widths c.args.source.wire.columns) c.front.new.net c.in_ok-front.front.wires
+      c.requires.stands (λ k wire at.
+      let x = c.in_ok-front.ensures.fronts.wires k wire at in (x.0, x.1 ∙ ap (λ (e : Emitted). widths e.wire.columns) c.in_ok-front.ensures.same))),
+)
+
+pub put_over_copies-back-requires-clause-front : goal.put_over_copies-back-requires-clause-front
+put_over_copies-back-requires-clause-front t c =
+    fronts_kept c.front.new.net c.put_copies.new.net (machine_of c.args.machine) c.in_ok-front.front c.in_ok-copies.ensures.keeps c.in_ok-front.ensures.fronts
+
+pub put_over_copies-back-requires-clause-copies : goal.put_over_copies-back-requires-clause-copies
+put_over_copies-back-requires-clause-copies t c =
+    rw c.as_slice-2.ensures (bodies_copies c.args.site.plan.now c.args.body c.front.new.net c.put_copies.new.net c.in_ok-front.front.wires
+    c.in_ok-copies.copies (rw c.as_slice.ensures at c.in_ok-copies.ensures))
+
+pub put_over_copies-back-requires-clause-count : goal.put_over_copies-back-requires-clause-count
+put_over_copies-back-requires-clause-count t c =
+    rw c.as_slice-2.ensures ((rw c.as_slice.ensures at c.in_ok-copies.ensures).as_many ∙ c.in_ok-front.ensures.fronts.as_many)
+
+pub put_over_copies-returns : goal.put_over_copies-returns
+put_over_copies-returns t c = record {
+  mid = c.front.new.net;
+  behind = c.put_copies.new.net;
+  front = c.in_ok-front.front;
+  copies = c.in_ok-copies.copies;
+  fronted = c.in_ok-front.ensures;
+  bodies = subst (λ (n : ℕ). AreBodies c.args.site.plan.now c.args.body c.front.new.net c.put_copies.new.net c.in_ok-front.front.wires n c.in_ok-copies.copies)
+      c.in_ok-front.ensures.fronts.as_many (rw c.as_slice.ensures at c.in_ok-copies.ensures);
+  backed = rw c.as_slice-2.ensures at c.in_ok-e.ensures;
+}
 
 pub put_over-at-window-requires : goal.put_over-at-window-requires
 put_over-at-window-requires t c = (

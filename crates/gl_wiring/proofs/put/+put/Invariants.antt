@@ -24,6 +24,9 @@ decreases-put_group l = 8 * l.group.id + 5
 abbrev pub decreases-put_partition : goal.decreases-put_partition
 decreases-put_partition l = 8 * l.partition.id + 5
 
+abbrev pub decreases-put_over_copies : goal.decreases-put_over_copies
+decreases-put_over_copies l = 8 * l.body + 11
+
 abbrev pub decreases-put_copies : goal.decreases-put_copies
 decreases-put_copies l = 8 * l.body + 10
 

@@ -1,28 +1,23 @@
-use Rattle.gl_wiring.proofs.GroupLemmas.{in_source, key_there, some_gap, source_is_narrow, source_is_sound}
+use Rattle.std.proofs.Common.{◌∙◌}
+use Rattle.gl_wiring.proofs.GroupLemmas.{in_source, key_column, some_gap}
 use Rattle.gl_wiring.proofs.LaneLemmas.{lane_behind}
 use Rattle.gl_wiring.proofs.groups.GroupOf.lane.Goals as goal
 
-pub figures_at-source-requires : goal.figures_at-source-requires
-figures_at-source-requires c = in_source c.args.site.plan.now c.args.self.now c.args.site.planned c.requires.node
+pub put_source-requires-clause-within : goal.put_source-requires-clause-within
+put_source-requires-clause-within c = in_source c.args.site.plan.now c.args.self.now c.args.site.planned c.requires.node
 
-pub put_apart-requires-clause-sound : goal.put_apart-requires-clause-sound
-put_apart-requires-clause-sound c = rw c.figures_at-source.ensures.value (source_is_sound c.args.site.plan.now c.args.self.now c.args.site.planned c.requires.node)
-
-pub put_apart-requires-clause-gap : goal.put_apart-requires-clause-gap
-put_apart-requires-clause-gap c =
+pub put_source-requires-clause-gap : goal.put_source-requires-clause-gap
+put_source-requires-clause-gap c =
     rw c.grouping-grouping.ensures.value (some_gap c.args.site.plan.now c.args.self.now c.args.site.planned c.requires.node)
-
-pub put_apart-requires-clause-narrow : goal.put_apart-requires-clause-narrow
-put_apart-requires-clause-narrow c =
-    source_is_narrow c.args.site.plan.now c.args.self.now c.args.site.planned c.requires.node c.args.net.now c.args.below c.requires.below
 
 pub lane-requires-clause-key : goal.lane-requires-clause-key
 lane-requires-clause-key c =
-    rw c.grouping-grouping.ensures.value (key_there c.args.site.plan.now c.args.self.now c.args.site.planned c.requires.node c.args.below c.in_ok-apart.apart
-    c.requires.below.same_widths c.in_ok-apart.ensures.behind.same_widths)
+    let x = c.in_ok-source.ensures in
+    rw c.grouping-grouping.ensures.value (key_column c.args.site.plan.now c.args.self.now c.args.site.planned c.requires.node c.in_ok-source.source.wire.columns
+    (x.spaced'.behind.same_widths ∙ x.gives.same_widths))
 
 pub returns : goal.returns
-returns c = λ tick leaves h.
-    lane_behind c.args.site.plan.now c.args.self.now c.args.site.planned c.requires.node c.args.net.now c.put_apart.new.net c.lane.new.net tick leaves c.args.below
-    c.in_ok-apart.apart c.in_ok-lane.lane h (rw (c.figures_at-source.ensures.value, c.grouping-grouping.ensures.value) at c.in_ok-apart.ensures)
-    (rw c.grouping-grouping.ensures.value at c.in_ok-lane.ensures)
+returns c =
+    let x = rw c.grouping-grouping.ensures.value at c.in_ok-source.ensures in
+    lane_behind c.args.site.plan.now c.args.self.now c.args.site.planned c.requires.node c.args.net.now c.put_source.new.net c.lane.new.net c.args.site.tick
+    c.args.site.leaves.now x.below c.in_ok-source.source c.in_ok-lane.lane x.gives x.spaced' (rw c.grouping-grouping.ensures.value at c.in_ok-lane.ensures)

@@ -1,5 +1,5 @@
 use Rattle.gl_wiring.proofs.SpacedLemmas.{none_put, spacer_put}
-use Rattle.gl_wiring.proofs.windows.put_apart.Goals as goal
+use Rattle.gl_wiring.proofs.apart.put_apart.Goals as goal
 
 pub returns-else-needs_spacer : goal.returns-else-needs_spacer
 returns-else-needs_spacer c =
