@@ -14,10 +14,10 @@ use Rattle.gl_verilog.specs.Valid.{AreDistinct}
 use Rattle.gl_verilog_ports.specs.Profile.{HasProfile, declared, result_names, result_widths}
 use Rattle.gl_verilog_ports.specs.Profile as face
 use Rattle.gl_verilog_ports.proofs.Profiled.{inputs_in}
-use Rattle.gl_dumps.specs.Dumped.{Port}
-use Rattle.gl_dumps.specs.RoundTrip.{lines_over, signal_at, signals_from}
-use Rattle.gl_dumps.specs.Signals.{Signal, columns_of, kind_of, seen_below, shows_column}
-use Rattle.gl_dumps.specs.Written.{ports_of}
+use Rattle.gl_vcd.specs.Dumped.{Port}
+use Rattle.gl_vcd.specs.RoundTrip.{lines_over, signal_at, signals_from}
+use Rattle.gl_vcd.specs.Signals.{Signal, columns_of, kind_of, seen_below, shows_column}
+use Rattle.gl_vcd.specs.Written.{ports_of}
 use Rattle.gl_compiler.proofs.Dumpable.{ports_are}
 use Rattle.gl_compiler.proofs.ReadBack.{other_names, without_clock}
 use Rattle.gl_compiler.proofs.Shows.{IsAside, inputs_aside, port_in}

@@ -22,13 +22,13 @@ use Rattle.gl_verilog.specs.Widths.{HasSize}
 use Rattle.gl_verilog_ports.specs.Profile.{HasProfile, declared}
 use Rattle.gl_verilog_ports.proofs.Declared.{distinct_take}
 use Rattle.gl_verilog_grammar.proofs.ReadModules.{one_module}
-use Rattle.gl_dumps.specs.Dumped.{Port}
-use Rattle.gl_dumps.specs.RoundTrip.{AreApart, is_named, names_of, signals_from}
-use Rattle.gl_dumps.specs.Signals.{show_none}
-use Rattle.gl_dumps.specs.Written.{port_declared, ports_among, ports_of}
-use Rattle.gl_compiler_text.specs.declared.compiling.Compiled.{Compiled}
-use Rattle.gl_compiler_text.specs.Meets.{Meets, result_columns}
-use Rattle.gl_compiler_text.proofs.KnownOf.{all_kinds}
+use Rattle.gl_vcd.specs.Dumped.{Port}
+use Rattle.gl_vcd.specs.RoundTrip.{AreApart, is_named, names_of, signals_from}
+use Rattle.gl_vcd.specs.Signals.{show_none}
+use Rattle.gl_vcd.specs.Written.{port_declared, ports_among, ports_of}
+use Rattle.gl_compiler.specs.declared.compiling.Compiled.{Compiled}
+use Rattle.gl_compiler.specs.Meets.{Meets, result_columns}
+use Rattle.gl_compiler.proofs.KnownOf.{all_kinds}
 use Rattle.gl_compiler.specs.Dumpable.{IsDumpable}
 use Rattle.gl_compiler.specs.Runnable.{IsRunnable}
 use Rattle.gl_compiler.proofs.Shows.{port_in, profile_shows}

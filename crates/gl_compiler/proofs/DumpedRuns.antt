@@ -15,9 +15,9 @@ use Rattle.gl_verilog_orders.specs.Events.{IsEventRun}
 use Rattle.gl_verilog_orders.specs.declared.start.Start.{Start}
 use Rattle.gl_verilog_orders.proofs.EventRuns.{is_run}
 use Rattle.gl_verilog_ports.specs.Profile.{HasProfile, result_names}
-use Rattle.gl_dumps.specs.Written.{dump_text, ports_of}
-use Rattle.gl_emission.specs.Driven.{Drives}
-use Rattle.gl_compiler_text.specs.Meets.{Meets, result_columns, takes_ticks}
+use Rattle.gl_vcd.specs.Written.{dump_text, ports_of}
+use Rattle.gl_testbench.specs.Driven.{Drives}
+use Rattle.gl_compiler.specs.Meets.{Meets, result_columns, takes_ticks}
 use Rattle.gl_runner.specs.Prints.{IsEnd, IsRunOver}
 use Rattle.gl_runner.specs.Watches.{rows_to}
 use Rattle.gl_compiler.specs.Dumpable.{DumpsTell, TellsRun}

@@ -18,12 +18,12 @@ use Rattle.gl_verilog.proofs.Distinct.{number_at}
 use Rattle.gl_verilog_orders.specs.Events.{IsEventRun}
 use Rattle.gl_verilog_orders.proofs.EventRuns.{is_run}
 use Rattle.gl_verilog_ports.proofs.Declared.{distinct_take, get_take}
-use Rattle.gl_dumps.specs.Dumped.{IsDumped, Port}
-use Rattle.gl_dumps.specs.Dumped as dumped
-use Rattle.gl_dumps.specs.RoundTrip.{CanDump, IsRow, IsRunOver, ReadsBack, value_named}
-use Rattle.gl_dumps.specs.Signals.{Signal}
-use Rattle.gl_dumps.specs.Written.{dump_text, port_declared, ports_among, ports_of}
-use Rattle.gl_dumps.proofs.RoundTrip.{reads_back}
+use Rattle.gl_vcd.specs.Dumped.{IsDumped, Port}
+use Rattle.gl_vcd.specs.Dumped as dumped
+use Rattle.gl_vcd.specs.RoundTrip.{CanDump, IsRow, IsRunOver, ReadsBack, value_named}
+use Rattle.gl_vcd.specs.Signals.{Signal}
+use Rattle.gl_vcd.specs.Written.{dump_text, port_declared, ports_among, ports_of}
+use Rattle.gl_vcd.proofs.RoundTrip.{reads_back}
 use Rattle.gl_runner.specs.Watches.{row_in, rows_to}
 use Rattle.gl_compiler.specs.Dumpable.{IsDumpable}
 use Rattle.gl_compiler.proofs.Dumpable.{all_among}

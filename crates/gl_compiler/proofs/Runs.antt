@@ -14,12 +14,12 @@ use Rattle.gl_query.proofs.Real.{real_columns}
 use Rattle.gl_outside.specs.States.{SinkState}
 use Rattle.gl_verilog_orders.specs.declared.start.Start.{Start}
 use Rattle.gl_figures.specs.declared.Printed.{Printed}
-use Rattle.gl_compiler_text.specs.declared.compiling.Compiled.{Compiled}
-use Rattle.gl_compiler_text.specs.Compiles.{IsCompiled}
-use Rattle.gl_compiler_text.specs.Meets.{Meets, result_columns}
-use Rattle.gl_compiler_text.proofs.KnownOf.{all_kinds}
-use Rattle.gl_compiler_text.proofs.Ports.{ports_fit, widths_are}
-use Rattle.gl_query_compiler.specs.Texts.{IsCompiledText}
+use Rattle.gl_compiler.specs.declared.compiling.Compiled.{Compiled}
+use Rattle.gl_compiler.specs.Compiles.{IsCompiled}
+use Rattle.gl_compiler.specs.Meets.{Meets, result_columns}
+use Rattle.gl_compiler.proofs.KnownOf.{all_kinds}
+use Rattle.gl_compiler.proofs.Ports.{ports_fit, widths_are}
+use Rattle.gl_compiler.specs.Texts.{IsCompiledText}
 use Rattle.gl_runner.specs.declared.executing.Outcome.{Outcome}
 use Rattle.gl_runner.specs.Dumps.{Dumped, OfEachPorts}
 use Rattle.gl_runner.specs.Prints.{CanRun, OfEachRun, Ran}

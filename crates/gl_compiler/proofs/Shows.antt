@@ -11,9 +11,9 @@ use Rattle.gl_schema.specs.declared.schema.Schema.{Schema}
 use Rattle.gl_schema.specs.Schemas.{kinds_of}
 use Rattle.gl_schema.specs.Ports.{rst, eos, tick, in_valid, in_column, out_valid, out_column, out_eos, fault_group, fault_queue}
 use Rattle.gl_schema.specs.Profile.{ProfilePort, column_inputs, column_outputs, input, input_ports, output, output_ports, profile, stream_inputs, streams_inputs, tick_input}
-use Rattle.gl_dumps.specs.Dumped.{Port}
-use Rattle.gl_dumps.specs.RoundTrip.{signal_at, signals_from}
-use Rattle.gl_dumps.specs.Signals.{Signal, are_columns, columns_of, has_line, has_wide, show_none, shows_column}
+use Rattle.gl_vcd.specs.Dumped.{Port}
+use Rattle.gl_vcd.specs.RoundTrip.{signal_at, signals_from}
+use Rattle.gl_vcd.specs.Signals.{Signal, are_columns, columns_of, has_line, has_wide, show_none, shows_column}
 
 -- a port of the profile as one of a dump
 abbrev pub port_in : ProfilePort → Port

@@ -9,7 +9,7 @@ use Rattle.gl_verilog.specs.Resolve.{Resolved, resolve_items, resolve_expr, reso
 use Rattle.gl_verilog.specs.Text.{HasModule}
 use Rattle.gl_verilog.specs.Tokens.{Token, Name, Mark, OpenParen, CloseParen, Semicolon, Reserved, ModuleWord, EndModuleWord}
 use Rattle.gl_verilog.specs.Written.{WrittenItem, WrittenPort, Range, Wires, Registers, MemoryOf, Assign, Always, spell_direction, spell_items, spell_more_ports, spell_port, spell_ports, spell_range}
-use Rattle.gl_dumps.specs.RoundTrip.{is_named}
+use Rattle.gl_vcd.specs.RoundTrip.{is_named}
 use Rattle.gl_compiler.proofs.Words.{IsFine, all_fine}
 
 -- ---- the ports stand first among the declarations

@@ -6,7 +6,7 @@ use Rattle.gl_bits.proofs.AllLists.{all_append}
 use Rattle.gl_bits.proofs.Bools.{else_false, neither}
 use Rattle.gl_schema.specs.SchemaText.{is_blank}
 use Rattle.gl_verilog.specs.Tokens.{Keyword, Sign, OpenParen, CloseParen, OpenBracket, CloseBracket, OpenBrace, CloseBrace, Semicolon, Comma, Colon, Question, At, Equals, Tilde, Exclamation, Star, Plus, Minus, Less, Greater, Ampersand, Caret, Bar, LessEquals, GreaterEquals, EqualsEquals, ExclamationEquals, AmpersandAmpersand, BarBar, Token, Name, Number, Sized, Mark, Never, Class, Letter, Digit, Quote, Blank, LineEnd, Opens, Alone, Follow, IsPair, IsLine, IsBlock, IsNew, Mode, Between, InWord, InNumber, AtQuote, AtBase, InDigits, Half, InLine, InBlock, AtStar, Move, after, after_half, at_base, at_quote, at_star, class_of, follow_of, fresh, fresh_by, goes_on, in_block, in_digits, in_line, in_number, in_word, is_digit_of, last_of, move, number_token, radix_of, reserved, scan, sign_token, sized_token, tokens_of, word_by, word_token}
-use Rattle.gl_dumps.specs.RoundTrip.{is_named}
+use Rattle.gl_vcd.specs.RoundTrip.{is_named}
 
 -- ---- bytes
 

@@ -12,11 +12,11 @@ use Rattle.gl_query.specs.declared.tree.Statement.{Statement}
 use Rattle.gl_verilog.specs.Module.{Module}
 use Rattle.gl_verilog_orders.specs.declared.start.Start.{Start}
 use Rattle.gl_verilog_ports.specs.Profile.{result_names, result_widths}
-use Rattle.gl_dumps.specs.Dumped.{IsDumped, OfLines}
-use Rattle.gl_dumps.specs.Written.{ports_of}
-use Rattle.gl_dumps.specs.RoundTrip.{AreApart, is_named, names_of, signals_from}
-use Rattle.gl_dumps.specs.Signals.{show_none}
-use Rattle.gl_compiler_text.specs.Meets.{Meets}
+use Rattle.gl_vcd.specs.Dumped.{IsDumped, OfLines}
+use Rattle.gl_vcd.specs.Written.{ports_of}
+use Rattle.gl_vcd.specs.RoundTrip.{AreApart, is_named, names_of, signals_from}
+use Rattle.gl_vcd.specs.Signals.{show_none}
+use Rattle.gl_compiler.specs.Meets.{Meets}
 use Rattle.gl_runner.specs.Dumps.{IsDumpOf, OfEachPorts}
 
 -- its name and those of its ports are tokens, no two ports have one name, each has a width, a dump has identifiers for

@@ -3,8 +3,8 @@ use Rattle.std.specs.Prelude.{◌≡◌, ◌≤◌, ◌^◌, length}
 use Rattle.std.specs.List.{AllByRecursion}
 use Rattle.gl_bits.specs.Kinds.{IsKind}
 use Rattle.gl_schema.specs.Schemas.{IsSchema, kinds_of}
-use Rattle.gl_compiler_text.specs.declared.compiling.Compiled.{Compiled}
-use Rattle.gl_compiler_text.specs.Meets.{Meets, result_columns}
+use Rattle.gl_compiler.specs.declared.compiling.Compiled.{Compiled}
+use Rattle.gl_compiler.specs.Meets.{Meets, result_columns}
 
 -- its text meets its statement within the latency and gap that are printed, and its kinds are those of the result
 pub record IsRunnable (c : Compiled) : Type 0 where

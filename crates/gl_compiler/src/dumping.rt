@@ -10,8 +10,8 @@ ghost use Rattle.gl_compiler.specs.Runnable.{IsRunnable};
 ghost use Rattle.gl_runner.specs.Dumps.{Dumped, HasFewPorts, OfEachPorts};
 ghost use Rattle.gl_runner.specs.Prints.{CanRun};
 
+use crate::Compiled;
 use crate::executing::Run;
-use gl_compiler_text::Compiled;
 use gl_outside::Sink;
 use gl_runner::{Outcome, Task, dump_module};
 use gl_tuples::Beats;

@@ -3,12 +3,12 @@
 ghost use Rattle.gl_schema.specs.Beats.{AreBeats, KeepsGap};
 ghost use Rattle.gl_schema.specs.Schemas.{kinds_of};
 ghost use Rattle.gl_tuples.specs.Gaps.{plain_beats};
-ghost use Rattle.gl_compiler_text.specs.Meets.{result_columns};
+ghost use Rattle.gl_compiler.specs.Meets.{result_columns};
 ghost use Rattle.gl_runner.specs.Prints.{OfEachRun, Ran};
 ghost use Rattle.gl_compiler.specs.Runnable.{IsRunnable};
 
+use crate::Compiled;
 use crate::executing::{Run, execute};
-use gl_compiler_text::Compiled;
 use gl_outside::Sink;
 use gl_runner::Outcome;
 use gl_tuples::Beats;

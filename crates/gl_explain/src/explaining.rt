@@ -6,14 +6,14 @@ ghost use Rattle.gl_algebra.specs.Added.{placed_at};
 ghost use Rattle.gl_algebra.specs.Roots.{spare_at};
 ghost use Rattle.gl_algebra.specs.Small.{AreFigures};
 ghost use Rattle.gl_elaborate.specs.Plans.{plan_of};
-ghost use Rattle.gl_elaborate_plan.specs.Planned.{PassesOr};
+ghost use Rattle.gl_plan.specs.Planned.{PassesOr};
 ghost use Rattle.gl_explain.specs.Explained.{IsExplained};
 ghost use Rattle.gl_explain.specs.Lines.{plan_text};
 
 use crate::lines::{put, put_lines, put_root, put_spare};
 use gl_algebra::{Figures, Plan, PlanId, Spare};
 use gl_bits::Memory;
-use gl_elaborate_plan::{PlanFault, plan_statement};
+use gl_plan::{PlanFault, plan_statement};
 use gl_query_check::Checked;
 use gl_query_printer::print_statement;
 use std::alloc::Global;

@@ -6,3 +6,7 @@ pub mod TradeLemmas
 pub mod SpareLemmas
 pub mod RootLemmas
 pub mod PrintedLemmas
+pub mod SumLemmas
+pub mod ReachLemmas
+pub mod PartLemmas
+pub mod MarkLemmas

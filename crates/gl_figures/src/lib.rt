@@ -6,6 +6,8 @@
 pub mod copied;
 pub mod figured;
 pub mod laws;
+pub mod marks;
+pub mod reach_laws;
 pub mod roots;
 pub mod spares;
 pub mod weighed;
@@ -14,6 +16,7 @@ mod weights;
 pub use copied::cap;
 pub use figured::{figures, places};
 pub use gl_algebra::Spare;
+pub use marks::marks_of;
 pub use roots::{figures_at, root_spare};
 use thiserror::Error;
 pub use weighed::{weigh, zeros};

@@ -8,11 +8,11 @@ use Rattle.gl_bits.specs.Results.{Row}
 use Rattle.gl_bits.proofs.AllLists.{get_past}
 use Rattle.gl_wire.specs.Apart.{Carries, a_tuple, an_end}
 use Rattle.gl_wire.specs.Wire.{pending, stream}
-use Rattle.gl_wire_copies.specs.Lift.{Visits}
+use Rattle.gl_wire.specs.Lift.{Visits}
 use Rattle.gl_groups.specs.Slots.{Slots, freed, keys_now, of_slot, slots_next, who_slots, rows_of_key}
 use Rattle.gl_groups.proofs.Setting.{Setting}
-use Rattle.gl_wire_copies.proofs.NumberLemmas.{mul_below}
-use Rattle.gl_wire_copies.proofs.VisitLemmas.{did_none, did_one, visits_none}
+use Rattle.gl_wire.proofs.NumberLemmas.{mul_below}
+use Rattle.gl_wire.proofs.VisitLemmas.{did_none, did_one, visits_none}
 use Rattle.gl_groups.proofs.KeyLemmas.{key_below, rows-push}
 use Rattle.gl_groups.proofs.SlotLemmas.{Step, Flow, Flush, few_keys, grows, stops, group_of, group_shown, of_group}
 

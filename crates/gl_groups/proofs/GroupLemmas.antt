@@ -16,21 +16,21 @@ use Rattle.gl_wire.specs.Spills.{Lines, ServedWithLines, both_lines}
 use Rattle.gl_wire.specs.Wire.{Carried, stream}
 use Rattle.gl_wire.proofs.FurtherLemmas.{served_further}
 use Rattle.gl_wire.proofs.ServingLemmas.{serving_as, serving_then}
-use Rattle.gl_wire_copies.specs.Coming.{by_tuples}
-use Rattle.gl_wire_copies.specs.Lift.{Visits, tuple_of_any}
-use Rattle.gl_wire_copies.specs.Rotates.{OverCopies, Rotates, delay_of_whole, lines_of_all, turns_of}
-use Rattle.gl_wire_copies.specs.Timed.{Origin, Timed}
-use Rattle.gl_wire_copies.proofs.LiftSpillLemmas.{lift_spills}
-use Rattle.gl_wire_copies.proofs.TimeLemmas.{next_stream, timed_by}
-use Rattle.gl_wire_copies.proofs.WholeServes.{whole_lines}
+use Rattle.gl_wire.specs.Coming.{by_tuples}
+use Rattle.gl_wire.specs.Lift.{Visits, tuple_of_any}
+use Rattle.gl_wire.specs.Rotates.{OverCopies, Rotates, delay_of_whole, lines_of_all, turns_of}
+use Rattle.gl_wire.specs.Timed.{Origin, Timed}
+use Rattle.gl_wire.proofs.LiftSpillLemmas.{lift_spills}
+use Rattle.gl_wire.proofs.TimeLemmas.{next_stream, timed_by}
+use Rattle.gl_wire.proofs.WholeServes.{whole_lines}
 use Rattle.gl_wire_registers.specs.Timers.{IsClose}
 use Rattle.gl_groups.specs.Groupings.{AreKeys, AwaitsTurns, OfGroups, key_of, line_of_further, with_keys}
-use Rattle.gl_wire_copies.specs.Bodies.{OfBody}
+use Rattle.gl_wire.specs.Bodies.{OfBody}
 use Rattle.gl_groups.specs.Laws.{GroupingsServe, GroupsGroup}
 use Rattle.gl_groups.specs.Slots.{AreSlots, came_further, key_or, slot_or, slots_at, who_slots}
 use Rattle.gl_groups.proofs.Setting.{Setting}
-use Rattle.gl_wire_copies.proofs.NumberLemmas.{all_turns}
-use Rattle.gl_wire_copies.proofs.VisitLemmas.{BeatOf, its_end, its_tuple, beat_of}
+use Rattle.gl_wire.proofs.NumberLemmas.{all_turns}
+use Rattle.gl_wire.proofs.VisitLemmas.{BeatOf, its_end, its_tuple, beat_of}
 use Rattle.gl_groups.proofs.SlotLemmas.{of_group}
 use Rattle.gl_groups.proofs.PhaseLemmas.{empty_slots, keys_stay, slot_begins, slot_from, slot_parted}
 use Rattle.gl_groups.proofs.TurnLemmas.{many_slots, no_slots_end, visit_key}

@@ -15,8 +15,8 @@ use Rattle.gl_wire.specs.Spills.{SameLines, both_lines}
 use Rattle.gl_wire.specs.Wire.{Carried, IsWire, carried, line_at, widths}
 use Rattle.gl_wire.proofs.ColumnLemmas.{bus_kept, wire_kept, bit_kept}
 use Rattle.gl_wire.proofs.FaultLemmas.{lines_kept}
-use Rattle.gl_wire_copies.specs.Lift.{tuple_of_any}
-use Rattle.gl_wire_copies.specs.Rotates.{lines_of_all}
+use Rattle.gl_wire.specs.Lift.{tuple_of_any}
+use Rattle.gl_wire.specs.Rotates.{lines_of_all}
 use Rattle.gl_wire_registers.specs.Lines.{carried_of, held_of}
 use Rattle.gl_wire_registers.specs.Timers.{IsClose, IsCloseLine}
 use Rattle.gl_wire_registers.specs.declared.front.Front.{Front}

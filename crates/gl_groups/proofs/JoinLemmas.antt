@@ -16,8 +16,8 @@ use Rattle.gl_wire.specs.Wire.{AreBuses, Carried, IsWire, carried, line_at, row_
 use Rattle.gl_wire.proofs.ColumnLemmas.{bus_kept, buses_kept}
 use Rattle.gl_wire.proofs.FaultLemmas.{lines_kept}
 use Rattle.gl_wire.proofs.StageLemmas.{delayed_same}
-use Rattle.gl_wire_copies.specs.Lift.{tuple_of_any}
-use Rattle.gl_wire_copies.specs.Rotates.{lines_of_all}
+use Rattle.gl_wire.specs.Lift.{tuple_of_any}
+use Rattle.gl_wire.specs.Rotates.{lines_of_all}
 use Rattle.gl_wire_registers.specs.Backs.{AreWires, JoinsCopies}
 use Rattle.gl_wire_registers.specs.Held.{held_at}
 use Rattle.gl_wire_registers.specs.Lines.{carried_of, held_of}

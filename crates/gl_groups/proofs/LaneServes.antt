@@ -4,8 +4,8 @@ use Rattle.std.specs.Prelude.{filter_map}
 use Rattle.gl_bits.specs.Results.{Row, Results, IsInput}
 use Rattle.gl_algebra.specs.declared.figures.Figures.{Figures}
 use Rattle.gl_algebra.specs.FigureTable.{IsSound, delayed, group_gap, input_figures}
-use Rattle.gl_wire_copies.specs.Bodies.{OfBody}
-use Rattle.gl_wire_copies.specs.Lift.{tuple_of_any}
+use Rattle.gl_wire.specs.Bodies.{OfBody}
+use Rattle.gl_wire.specs.Lift.{tuple_of_any}
 use Rattle.gl_groups.specs.Groupings.{in_front, with_keys}
 use Rattle.gl_groups.proofs.GroupLemmas.{flush_awaited, groups_served}
 use Rattle.gl_groups.specs.LaneLaws.{Laned, LanesServe, direct_figures}

@@ -18,7 +18,7 @@ use Rattle.gl_wire.proofs.StageLemmas.{delayed_same}
 use Rattle.gl_wire_lanes.specs.declared.table.TableOut.{TableOut}
 use Rattle.gl_wire_lanes.specs.Shares.{share, slot_of}
 use Rattle.gl_wire_registers.specs.Held.{held_at}
-use Rattle.gl_wire_memories.specs.Memories.{IsHeld, IsStored}
+use Rattle.gl_wire_lanes.specs.Memories.{IsHeld, IsStored}
 use Rattle.gl_wire_registers.specs.Lines.{AddsLine, AddsLines, any_line, any_to, gates_of, held_of, line_of}
 use Rattle.gl_wire_registers.specs.Timers.{IsClose, IsCloseLine}
 use Rattle.gl_wire_registers.proofs.LineLemmas.{bits_kept, gates_some}

@@ -4,11 +4,11 @@ use Rattle.gl_bits.specs.Lists.{groups, keys_of}
 use Rattle.gl_bits.specs.Results.{Row}
 use Rattle.gl_wire.specs.Apart.{Carries, a_tuple, an_end}
 use Rattle.gl_wire.specs.Wire.{pending, stream}
-use Rattle.gl_wire_copies.specs.Lift.{Visits, visits}
-use Rattle.gl_wire_copies.specs.Timed.{Begins, at_first, after_end}
+use Rattle.gl_wire.specs.Lift.{Visits, visits}
+use Rattle.gl_wire.specs.Timed.{Begins, at_first, after_end}
 use Rattle.gl_groups.specs.Slots.{Slots, no_slots, freed, with_tuple, keys_now, slots_next, slots_at, keys_at, who_slots}
 use Rattle.gl_groups.proofs.Setting.{Setting}
-use Rattle.gl_wire_copies.proofs.VisitLemmas.{begins_more}
+use Rattle.gl_wire.proofs.VisitLemmas.{begins_more}
 use Rattle.gl_groups.proofs.SlotLemmas.{Step, Flow, Flush, step_at, few_keys, keys_with, flow_tuple, flow_idle, flow_end, group_of, of_group}
 use Rattle.gl_groups.proofs.FlushLemmas.{flush_idle, flush_done, fresh, none_taken}
 

@@ -2,9 +2,9 @@
 use Rattle.std.proofs.Common.{ℕ, ◌+◌, ◌-◌, ◌*◌, ◌≤◌, arith}
 use Rattle.gl_bits.specs.Results.{Row}
 use Rattle.gl_wire.specs.Wire.{Carried}
-use Rattle.gl_wire_copies.specs.Coming.{by_tuples}
-use Rattle.gl_wire_copies.specs.Timed.{Timed}
-use Rattle.gl_wire_copies.proofs.NumberLemmas.{all_turns}
+use Rattle.gl_wire.specs.Coming.{by_tuples}
+use Rattle.gl_wire.specs.Timed.{Timed}
+use Rattle.gl_wire.proofs.NumberLemmas.{all_turns}
 use Rattle.gl_groups.specs.Groupings.{AwaitsTurns}
 use Rattle.gl_groups.specs.Slots.{AreSlots}
 

@@ -8,10 +8,10 @@ use Rattle.gl_bits.specs.Results.{Row}
 use Rattle.gl_bits.proofs.AllLists.{get_past}
 use Rattle.gl_wire.specs.Apart.{Carries}
 use Rattle.gl_wire.specs.Wire.{pending, stream}
-use Rattle.gl_wire_copies.specs.Lift.{Visits}
+use Rattle.gl_wire.specs.Lift.{Visits}
 use Rattle.gl_groups.specs.Slots.{Slots, freed, with_tuple, keys_now, of_slot, slot_now, slot_ends, slot_takes, slots_next, slots_at, keys_at, slot_at, who_slots, rows_of_key, key_or, slot_or}
 use Rattle.gl_groups.proofs.Setting.{Setting}
-use Rattle.gl_wire_copies.proofs.VisitLemmas.{did, did_none, did_one}
+use Rattle.gl_wire.proofs.VisitLemmas.{did, did_none, did_one}
 use Rattle.gl_groups.proofs.KeyLemmas.{keys-push, rows_kept, rows-push, key_below}
 
 module _ (front : Setting) where

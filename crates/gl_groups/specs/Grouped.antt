@@ -5,7 +5,7 @@ use Rattle.gl_algebra.specs.FigureTable.{IsSound, stride_of}
 use Rattle.gl_wire.specs.Costs.{Cost}
 use Rattle.gl_wire.specs.Spills.{both_lines}
 use Rattle.gl_wire.specs.Wire.{Carried}
-use Rattle.gl_wire_copies.specs.Rotates.{lines_of_all}
+use Rattle.gl_wire.specs.Rotates.{lines_of_all}
 use Rattle.gl_wire_registers.specs.Fronts.{Fed, Feeding, Giving, Machine}
 use Rattle.gl_wire_registers.specs.Timers.{IsClose}
 use Rattle.gl_groups.specs.declared.grouping.Grouping.{Grouping}

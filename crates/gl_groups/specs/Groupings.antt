@@ -11,9 +11,9 @@ use Rattle.gl_wire.specs.Serves.{Fits}
 use Rattle.gl_wire.specs.Serving.{Serving}
 use Rattle.gl_wire.specs.Spills.{Lines, Relation, ServedWithLines, both_lines}
 use Rattle.gl_wire.specs.Wire.{Carried, stream}
-use Rattle.gl_wire_copies.specs.Rotates.{lines_of_all, turns_of}
-use Rattle.gl_wire_copies.specs.Timed.{Rested}
-use Rattle.gl_wire_copies.specs.Bodies.{OfBody}
+use Rattle.gl_wire.specs.Rotates.{lines_of_all, turns_of}
+use Rattle.gl_wire.specs.Timed.{Rested}
+use Rattle.gl_wire.specs.Bodies.{OfBody}
 use Rattle.gl_groups.specs.declared.grouping.Grouping.{Grouping}
 use Rattle.gl_groups.specs.Slots.{slots_at}
 

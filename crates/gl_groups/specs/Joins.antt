@@ -11,8 +11,8 @@ use Rattle.gl_wire.specs.Faults.{AreLines, line_of, lines_of}
 use Rattle.gl_wire.specs.Shapes.{IsDelayed}
 use Rattle.gl_wire.specs.Spills.{Lines, SameLines, both_lines}
 use Rattle.gl_wire.specs.Wire.{IsWire, carried, line_at, widths}
-use Rattle.gl_wire_copies.specs.Lift.{tuple_of_any}
-use Rattle.gl_wire_copies.specs.Rotates.{lines_of_all}
+use Rattle.gl_wire.specs.Lift.{tuple_of_any}
+use Rattle.gl_wire.specs.Rotates.{lines_of_all}
 use Rattle.gl_wire_registers.specs.Joins.{columns_of, gives_of, told_of}
 use Rattle.gl_wire_registers.specs.Lines.{held_of}
 use Rattle.gl_groups.specs.Costs.{cost_of_back}

@@ -9,8 +9,8 @@ use Rattle.gl_wire.specs.Serves.{Fits}
 use Rattle.gl_wire.specs.Shapes.{AtEnds, IsDelayed, Steady}
 use Rattle.gl_wire.specs.Spills.{ServedWithLines, both_lines, no_lines}
 use Rattle.gl_wire.specs.Wire.{Carried}
-use Rattle.gl_wire_copies.specs.Bodies.{OfBody}
-use Rattle.gl_wire_copies.specs.Rotates.{lines_of_all, turns_of}
+use Rattle.gl_wire.specs.Bodies.{OfBody}
+use Rattle.gl_wire.specs.Rotates.{lines_of_all, turns_of}
 use Rattle.gl_wire_lanes.specs.Shares.{share}
 use Rattle.gl_wire_registers.specs.Timers.{IsClose}
 use Rattle.gl_groups.specs.Groupings.{AreKeys, AwaitsTurns, OfGroups, in_front, line_of_further}

@@ -6,7 +6,7 @@ use Rattle.gl_algebra.specs.FigureTable.{AreSmall, IsSound, groups_over, stride_
 use Rattle.gl_wire.specs.Shapes.{IsDelayed}
 use Rattle.gl_wire.specs.Spills.{Lines}
 use Rattle.gl_wire.specs.Wire.{Carried}
-use Rattle.gl_wire_copies.specs.Lift.{tuple_of_any}
+use Rattle.gl_wire.specs.Lift.{tuple_of_any}
 use Rattle.gl_wire_registers.specs.Timers.{IsClose}
 use Rattle.gl_groups.specs.declared.grouping.Grouping.{Grouping}
 use Rattle.gl_groups.specs.Groupings.{AreKeys, AwaitsFlush, IsGrouping, ServesGroups, close_cycles, close_delay, key_of, with_keys}

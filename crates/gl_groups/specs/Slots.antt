@@ -5,7 +5,7 @@ use Rattle.gl_bits.specs.Lists.{keys_of, rows_with}
 use Rattle.gl_bits.specs.Tables.{with_key}
 use Rattle.gl_bits.specs.Results.{Row}
 use Rattle.gl_wire.specs.Wire.{Carried, stream}
-use Rattle.gl_wire_copies.specs.Lift.{Visits}
+use Rattle.gl_wire.specs.Lift.{Visits}
 
 -- the registers: the keys of the slots that are used (they stay until the next tuple or end comes), whether an end was
 -- the last that came, the slot whose turn is next and the cycles before it, the tuple that came with the end

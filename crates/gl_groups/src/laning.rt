@@ -18,8 +18,7 @@ use crate::slots::same_each;
 use gl_bits::Memory;
 use gl_net::{Bit, Bus, Buses, NetBuilder};
 use gl_wire::{Wire, stage};
-use gl_wire_lanes::TableOut;
-use gl_wire_memories::put_memory;
+use gl_wire_lanes::{TableOut, put_memory};
 use gl_wire_registers::{Bits, any, close_line, stride};
 use std::alloc::Global;
 

@@ -11,21 +11,21 @@ use Rattle.gl_query.specs.Shapes.{QueryShape, query_shape}
 use Rattle.gl_query.specs.Trees.{StatementTree, statement_tree}
 use Rattle.gl_query.proofs.Alike.{query_same}
 use Rattle.gl_query_reader.specs.Grammar.{HasStatement}
-use Rattle.gl_query_judge.specs.Judged.{BreaksRule, HasNoStatement}
-use Rattle.gl_query_judge.proofs.Judged.{one_meaning}
-use Rattle.gl_query_judge.specs.Limits.{IsOverLimit}
+use Rattle.gl_query_texts.specs.Judged.{BreaksRule, HasNoStatement}
+use Rattle.gl_query_texts.proofs.Judged.{one_meaning}
+use Rattle.gl_query_texts.specs.Limits.{IsOverLimit}
 use Rattle.gl_figures.specs.declared.Limit.{Limit}
-use Rattle.gl_compiler_text.proofs.Planning.{gap_at}
+use Rattle.gl_compiler.proofs.Planning.{gap_at}
 use Rattle.gl_elaborate.specs.Plans.{placed, plan_of, stream_node}
-use Rattle.gl_elaborate_plan.specs.Planned.{IsWithinLimits}
-use Rattle.gl_elaborate_plan.proofs.LimitLemmas.{one_limit}
-use Rattle.gl_compiler_text.specs.declared.compiling.Compiled.{Compiled}
-use Rattle.gl_compiler_text.specs.Built.{gap_of, latency_of}
-use Rattle.gl_compiler_text.specs.Meets.{Meets}
-use Rattle.gl_query_compiler.specs.declared.fault.CompileFault.{CompileFault}
-use Rattle.gl_query_compiler.specs.declared.fault.CompileFault.TheVariants as compile
-use Rattle.gl_query_compiler.specs.Queries.{IsQueryRefused}
-use Rattle.gl_query_compiler.specs.Texts.{IsCompiledText, IsTextRefused, OfSchema}
+use Rattle.gl_plan.specs.Planned.{IsWithinLimits}
+use Rattle.gl_plan.proofs.LimitLemmas.{one_limit}
+use Rattle.gl_compiler.specs.declared.compiling.Compiled.{Compiled}
+use Rattle.gl_compiler.specs.Built.{gap_of, latency_of}
+use Rattle.gl_compiler.specs.Meets.{Meets}
+use Rattle.gl_compiler.specs.declared.fault.CompileFault.{CompileFault}
+use Rattle.gl_compiler.specs.declared.fault.CompileFault.TheVariants as compile
+use Rattle.gl_compiler.specs.Queries.{IsQueryRefused}
+use Rattle.gl_compiler.specs.Texts.{IsCompiledText, IsTextRefused, OfSchema}
 use Rattle.gl_load.specs.Query.{load_schema, query_text, schema_text}
 use Rattle.gl_load.specs.Steps.{IsCompiledLoad}
 use Rattle.gl_load.proofs.Constants.{load_tree, query_faultless, query_has, schema_spelled}

@@ -15,12 +15,12 @@ use Rattle.gl_algebra.specs.Small.{are_small, small_of}
 use Rattle.gl_algebra.proofs.SmallLemmas.{small-is}
 use Rattle.gl_algebra.specs.Weights.{weight_of}
 use Rattle.gl_algebra.specs.Roots.{of_further, spare_at, weight_with_output}
-use Rattle.gl_compiler_text.proofs.Planning.{gap_at}
+use Rattle.gl_compiler.proofs.Planning.{gap_at}
 use Rattle.gl_figures.specs.Answered.{AreSmallBefore}
 use Rattle.gl_bits.specs.Limits.{most_weight}
 use Rattle.gl_elaborate.specs.Levels.{level_of}
 use Rattle.gl_elaborate.specs.Plans.{placed, stream_node}
-use Rattle.gl_elaborate_plan.specs.Planned.{IsWithinLimits}
+use Rattle.gl_plan.specs.Planned.{IsWithinLimits}
 use Rattle.gl_load.specs.Query.{load_schema}
 use Rattle.gl_load.proofs.Constants.{load_tree}
 

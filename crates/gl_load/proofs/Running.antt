@@ -18,11 +18,11 @@ use Rattle.gl_verilog.specs.Run.{port_of}
 use Rattle.gl_verilog.specs.Text.{HasModule}
 use Rattle.gl_verilog_orders.specs.declared.start.Start.TheVariants.{Zero}
 use Rattle.gl_verilog_ports.specs.Profile.{result_names}
-use Rattle.gl_compiler_text.specs.declared.compiling.Compiled.{Compiled}
+use Rattle.gl_compiler.specs.declared.compiling.Compiled.{Compiled}
 use Rattle.gl_runner.specs.declared.executing.Outcome.TheVariants.{Done}
-use Rattle.gl_compiler_text.specs.Built.{gap_of, latency_of}
-use Rattle.gl_compiler_text.specs.Meets.{result_columns}
-use Rattle.gl_query_compiler.specs.Queries.{IsQuery}
+use Rattle.gl_compiler.specs.Built.{gap_of, latency_of}
+use Rattle.gl_compiler.specs.Meets.{result_columns}
+use Rattle.gl_compiler.specs.Queries.{IsQuery}
 use Rattle.gl_runner.specs.Prints.{AreLinesOf, IsRunOver, OfEachRun, Ran, Writes}
 use Rattle.gl_load.specs.Query.{load_schema, query_text}
 use Rattle.gl_load.specs.Loads.{IsLoad, TellsRun}

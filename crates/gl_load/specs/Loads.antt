@@ -7,9 +7,9 @@ use Rattle.gl_schema.specs.Seen.{rows_of, seen, shown}
 use Rattle.gl_query.specs.declared.tree.Statement.{Statement}
 use Rattle.gl_query.specs.Results.{IsResult}
 use Rattle.gl_verilog_orders.specs.declared.start.Start.TheVariants.{Zero}
-use Rattle.gl_compiler_text.specs.Built.{gap_of, latency_of}
-use Rattle.gl_query_compiler.specs.Queries.{IsQuery}
-use Rattle.gl_compiler_text.specs.Meets.{Meets, result_columns}
+use Rattle.gl_compiler.specs.Built.{gap_of, latency_of}
+use Rattle.gl_compiler.specs.Queries.{IsQuery}
+use Rattle.gl_compiler.specs.Meets.{Meets, result_columns}
 use Rattle.gl_runner.specs.Prints.{IsEnd, OfEachRun}
 use Rattle.gl_load.specs.Query.{load_schema, query_text}
 use Rattle.gl_load.specs.Tuples.{load_beats}

@@ -4,9 +4,9 @@ use Rattle.std.specs.Prelude.{◌≡◌, ℕ, ◌*◌, ◌≤◌, List, Some}
 use Rattle.gl_schema.specs.Schemas.{kinds_of}
 use Rattle.gl_schema.specs.Beats.{Beat}
 use Rattle.gl_verilog_orders.specs.declared.start.Start.TheVariants.{Zero}
-use Rattle.gl_compiler_text.specs.declared.compiling.Compiled.{Compiled}
-use Rattle.gl_compiler_text.specs.Meets.{result_columns}
-use Rattle.gl_query_compiler.specs.Texts.{IsCompiledText}
+use Rattle.gl_compiler.specs.declared.compiling.Compiled.{Compiled}
+use Rattle.gl_compiler.specs.Meets.{result_columns}
+use Rattle.gl_compiler.specs.Texts.{IsCompiledText}
 use Rattle.gl_runner.specs.Prints.{AreLinesOf, OfEachRun}
 use Rattle.gl_outside.specs.States.{SinkState}
 use Rattle.gl_load.specs.declared.tally.Tally.{Tally as Rust}

@@ -2,7 +2,7 @@
 //! them, in five lines.
 //!
 //! Here belongs what the load is and what it comes to. How queries are compiled and texts run stands
-//! below (`gl_compiler`); the command's words stand in `gl_top_words`, and its status above (`gl_top`).
+//! below (`gl_compiler`); the command's words stand in `gl_top_forms`, and its status above (`gl_top`).
 #![tactic(auto)]
 
 pub mod loading;

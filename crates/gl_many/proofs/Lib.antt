@@ -8,3 +8,6 @@ pub mod Ports
 pub mod Results
 pub mod Meeting
 pub mod Made
+mod Shown
+pub mod Runs
+mod Each

@@ -4,9 +4,9 @@ use Rattle.std.specs.List.{AllByRecursion}
 use Rattle.gl_schema.specs.declared.schema.Schema.{Schema}
 use Rattle.gl_schema.specs.Schemas.{IsSchema}
 use Rattle.gl_query.specs.Laws.{TreesAreAlike}
-use Rattle.gl_query_list.specs.Laws.{StatementsAreListed}
-use Rattle.gl_query_list.specs.Lists.{HasStatements, IsCheckedOver, tree_of}
-use Rattle.gl_several_plan.specs.Together.{ArePlanned, statements_of}
+use Rattle.gl_query_texts.specs.ListLaws.{StatementsAreListed}
+use Rattle.gl_query_texts.specs.Lists.{HasStatements, IsCheckedOver, tree_of}
+use Rattle.gl_plan.specs.Together.{ArePlanned, statements_of}
 use Rattle.gl_many.specs.declared.compiling.Many.{Many}
 use Rattle.gl_many.specs.Compiles.{AreCompiled}
 use Rattle.gl_many.specs.Meets.{MeetTogether, shared_gap}

@@ -20,20 +20,20 @@ use Rattle.gl_verilog_ports.specs.Profile.{declared}
 use Rattle.gl_elaborate.specs.Plans.{Several, plans_of}
 use Rattle.gl_wiring.specs.Many.{AreWired, IsRightFor, ids_of, many_ports}
 use Rattle.gl_wiring.specs.Wired.{plan_means}
-use Rattle.gl_emission.specs.declared.emitting.Emitted.{Emitted}
-use Rattle.gl_emission.specs.Driven.{OverRuns}
-use Rattle.gl_emission.specs.Emission.{IsEmission, TakesBeats}
-use Rattle.gl_emission.specs.Emitted.{IsEmitted}
-use Rattle.gl_emission.specs.Overflow.{TellsGroup}
-use Rattle.gl_emission.specs.Views.{seen_as}
-use Rattle.gl_emission.proofs.Emissions.{holds_of_runs}
-use Rattle.gl_emission.proofs.OverflowRuns.{KeepsLine, keeps_past, tells_group}
-use Rattle.gl_emission.proofs.Pins.{outs_other}
-use Rattle.gl_emission.proofs.Showing.{NoClock, right_past, right_wider}
-use Rattle.gl_emission.proofs.Views.{past_within, view_steady}
-use Rattle.gl_several_plan.specs.declared.planning.PlannedSeveral.{PlannedSeveral}
-use Rattle.gl_several_plan.specs.Together.{ArePlanned, several_at}
-use Rattle.gl_compiler_text.specs.Meets.{result_columns}
+use Rattle.gl_testbench.specs.declared.emitting.Emitted.{Emitted}
+use Rattle.gl_testbench.specs.Driven.{OverRuns}
+use Rattle.gl_testbench.specs.Emission.{IsEmission, TakesBeats}
+use Rattle.gl_testbench.specs.Emitted.{IsEmitted}
+use Rattle.gl_testbench.specs.Overflow.{TellsGroup}
+use Rattle.gl_testbench.specs.Views.{seen_as}
+use Rattle.gl_testbench.proofs.Emissions.{holds_of_runs}
+use Rattle.gl_testbench.proofs.OverflowRuns.{KeepsLine, keeps_past, tells_group}
+use Rattle.gl_testbench.proofs.PinLemmas.{outs_other}
+use Rattle.gl_testbench.proofs.Showing.{NoClock, right_past, right_wider}
+use Rattle.gl_testbench.proofs.Views.{past_within, view_steady}
+use Rattle.gl_plan.specs.declared.several.PlannedSeveral.{PlannedSeveral}
+use Rattle.gl_plan.specs.Together.{ArePlanned, several_at}
+use Rattle.gl_compiler.specs.Meets.{result_columns}
 use Rattle.gl_many.specs.Meets.{IsRightAmong, MeetTogether, most_memory_of_all, most_registers_of_all, outputs_among, outs_of, own_latency, shared_gap, take_ticks}
 use Rattle.gl_many.specs.Roots.{CanStand, root_of, roots_of}
 use Rattle.gl_many.proofs.Ports.{takes_beats}

@@ -4,16 +4,16 @@ use Rattle.gl_schema.specs.declared.schema.Schema.{Schema}
 use Rattle.gl_query.specs.declared.fault.QueryFault.{QueryFault}
 use Rattle.gl_query.specs.declared.tree.Statement.{Statement}
 use Rattle.gl_query.specs.Trees.{statement_tree}
-use Rattle.gl_query_list.specs.Lists.{HasStatements}
-use Rattle.gl_query_list.specs.Laws.{IsVerdict, Verdict}
-use Rattle.gl_query_list.proofs.Verdicts.{verdicts}
+use Rattle.gl_query_texts.specs.Lists.{HasStatements}
+use Rattle.gl_query_texts.specs.ListLaws.{IsVerdict, Verdict}
+use Rattle.gl_query_texts.proofs.Verdicts.{verdicts}
 use Rattle.gl_algebra.specs.Added.{Placed}
 use Rattle.gl_algebra.specs.FigureTable.{figures_of}
 use Rattle.gl_figures.specs.declared.Limit.{Limit}
 use Rattle.gl_elaborate.specs.Plans.{Several, plan_of, plans_of}
-use Rattle.gl_compiler_text.proofs.Shaped.{plans_alike}
-use Rattle.gl_several_plan.specs.Together.{AreWithinLimits, PassLimit}
-use Rattle.gl_several_plan.proofs.TogetherLemmas.{several-one-limit}
+use Rattle.gl_compiler.proofs.Shaped.{plans_alike}
+use Rattle.gl_plan.specs.Together.{AreWithinLimits, PassLimit}
+use Rattle.gl_plan.proofs.TogetherLemmas.{several-one-limit}
 use Rattle.gl_many.specs.Meets.{shared_gap}
 use Rattle.gl_many.specs.Queries.{AreOverLimit, AreQueries, IsFaultOfAll, trees_of}
 use Rattle.gl_many.proofs.Alike.{joint_plans_alike}

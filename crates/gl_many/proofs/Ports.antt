@@ -21,10 +21,10 @@ use Rattle.gl_wiring.specs.EmittedPorts.{output}
 use Rattle.gl_wiring.specs.Many.{many_ports, root_outputs}
 use Rattle.gl_wiring.specs.Naming.{beside_others}
 use Rattle.gl_wiring.specs.Output.{column_outputs, input_ports, result_outputs}
-use Rattle.gl_emission.specs.Emission.{TakesBeats, port_like}
-use Rattle.gl_emission.specs.Views.{within}
-use Rattle.gl_compiler_text.specs.Meets.{result_columns}
-use Rattle.gl_compiler_text.proofs.Faces.{inputs_are}
+use Rattle.gl_testbench.specs.Emission.{TakesBeats, port_like}
+use Rattle.gl_testbench.specs.Views.{within}
+use Rattle.gl_compiler.specs.Meets.{result_columns}
+use Rattle.gl_compiler.proofs.Faces.{inputs_are}
 use Rattle.gl_many.specs.Meets.{outputs_among, port_among, take_ticks}
 use Rattle.gl_many.specs.Roots.{root_of, roots_of}
 use Rattle.gl_many.proofs.Standing.{AllStand, StandsAt, kinds_own}

@@ -13,10 +13,10 @@ use Rattle.gl_query.specs.Trees.{StatementTree, statement_tree}
 use Rattle.gl_query.specs.Laws.{TreesAreAlike}
 use Rattle.gl_query_check.specs.declared.checking.Checked.{Checked}
 use Rattle.gl_query_reader.specs.Grammar.{IsRegular}
-use Rattle.gl_query_list.specs.Lists.{HasStatements, tree_of}
-use Rattle.gl_query_list.specs.Lists as list
-use Rattle.gl_query_list.specs.Laws.{StatementsAreListed}
-use Rattle.gl_several_plan.specs.Together.{IsCheckedOver, statements_of}
+use Rattle.gl_query_texts.specs.Lists.{HasStatements, tree_of}
+use Rattle.gl_query_texts.specs.Lists as list
+use Rattle.gl_query_texts.specs.ListLaws.{StatementsAreListed}
+use Rattle.gl_plan.specs.Together.{IsCheckedOver, statements_of}
 use Rattle.gl_many.specs.Queries.{trees_of}
 use Rattle.gl_many.specs.Roots.{CanStand, IsNamed, names_of}
 

@@ -6,14 +6,14 @@ use Rattle.gl_query.specs.declared.fault.QueryFault.{QueryFault}
 use Rattle.gl_query.specs.declared.fault.QueryFault.TheVariants as fault
 use Rattle.gl_figures.specs.declared.Limit.{Limit}
 use Rattle.gl_elaborate.specs.Plans.{plans_of}
-use Rattle.gl_elaborate_plan.specs.declared.planning.PlanFault.{PlanFault}
-use Rattle.gl_elaborate_plan.specs.declared.planning.PlanFault.TheVariants as plan
-use Rattle.gl_several_plan.specs.Together.{PassOr}
-use Rattle.gl_query_list.specs.Lists.{HasStatements, IsFaultOrMemory}
-use Rattle.gl_query_compiler.specs.declared.fault.CompileFault.{CompileFault}
-use Rattle.gl_query_compiler.specs.declared.fault.CompileFault.TheVariants as compile
-use Rattle.gl_query_compiler.specs.Faults.{fault_of_plan, fault_of_query}
-use Rattle.gl_query_compiler.specs.Queries.{IfRefused}
+use Rattle.gl_plan.specs.declared.planning.PlanFault.{PlanFault}
+use Rattle.gl_plan.specs.declared.planning.PlanFault.TheVariants as plan
+use Rattle.gl_plan.specs.Together.{PassOr}
+use Rattle.gl_query_texts.specs.Lists.{HasStatements, IsFaultOrMemory}
+use Rattle.gl_compiler.specs.declared.fault.CompileFault.{CompileFault}
+use Rattle.gl_compiler.specs.declared.fault.CompileFault.TheVariants as compile
+use Rattle.gl_compiler.specs.Faults.{fault_of_plan, fault_of_query}
+use Rattle.gl_compiler.specs.Queries.{IfRefused}
 use Rattle.gl_many.specs.declared.compiling.Many.{Many}
 use Rattle.gl_many.specs.Queries.{AreOverLimit, AreQueries, AreRefused, IsFaultOfAll, IsToldOfAll, TellsCausesOfAll, trees_of}
 use Rattle.gl_many.proofs.OneVerdict.{all_within, no_list, one_fault_of_all, one_limit_of_all}

@@ -17,13 +17,13 @@ use Rattle.gl_algebra.specs.Small.{AreFigures}
 use Rattle.gl_algebra.specs.Views.{reads_time}
 use Rattle.gl_elaborate.specs.Laws.{IsRightAt, PlansAreRight, PlansTellTime, SeveralAreRight}
 use Rattle.gl_elaborate.specs.Plans.{Several}
-use Rattle.gl_elaborate_plan.specs.Planned.{AreAllSmall}
-use Rattle.gl_several_plan.specs.declared.planning.PlannedSeveral.{PlannedSeveral}
-use Rattle.gl_several_plan.specs.Together.{ArePlanned, gap_together, latency_alone}
+use Rattle.gl_plan.specs.Planned.{AreAllSmall}
+use Rattle.gl_plan.specs.declared.several.PlannedSeveral.{PlannedSeveral}
+use Rattle.gl_plan.specs.Together.{ArePlanned, gap_together, latency_alone}
 use Rattle.gl_wiring.specs.Many.{CanWireAll, CanWireRoot, ids_of, intos, result_names, widest_gap}
 use Rattle.gl_wiring.specs.StreamWires.{AreStreamLeaves}
-use Rattle.gl_compiler_text.specs.Meets.{result_columns}
-use Rattle.gl_compiler_text.proofs.KnownOf.{Known, known}
+use Rattle.gl_compiler.specs.Meets.{result_columns}
+use Rattle.gl_compiler.proofs.KnownOf.{Known, known}
 use Rattle.gl_many.specs.Meets.{own_figures, own_latency, shared_gap, take_ticks}
 use Rattle.gl_many.specs.Roots.{CanStand, IsNamed, names_of, root_of, roots_of}
 use Rattle.gl_many.proofs.Times.{several-time}

@@ -16,7 +16,7 @@ use Rattle.gl_algebra.specs.Views.{is_time, reads_time}
 use Rattle.gl_algebra.proofs.PlanLemmas.{node_inserted}
 use Rattle.gl_elaborate.specs.Laws.{PlansTellTime}
 use Rattle.gl_elaborate.specs.Plans.{placed, plan_behind, plans_of, stream_node}
-use Rattle.gl_compiler_text.specs.Meets.{takes_ticks}
+use Rattle.gl_compiler.specs.Meets.{takes_ticks}
 use Rattle.gl_many.specs.Meets.{take_ticks}
 use denote.RawPtr.{null_ptr}
 

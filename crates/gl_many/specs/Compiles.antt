@@ -3,7 +3,7 @@ use Rattle.std.specs.Prelude.{◌≡◌, ℕ, ◌≤◌, ◌^◌, List, map}
 use Rattle.std.specs.List.{AllByRecursion}
 use Rattle.gl_schema.specs.declared.schema.Schema.{Schema}
 use Rattle.gl_query.specs.declared.tree.Statement.{Statement}
-use Rattle.gl_several_plan.specs.Together.{ArePlanned, statements_of}
+use Rattle.gl_plan.specs.Together.{ArePlanned, statements_of}
 use Rattle.gl_many.specs.declared.compiling.Many.{Many}
 use Rattle.gl_many.specs.Meets.{MeetTogether, own_latency, shared_gap}
 use Rattle.gl_many.specs.Queries.{AreQueries}

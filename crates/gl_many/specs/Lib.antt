@@ -2,3 +2,4 @@ pub mod Meets
 pub mod Queries
 pub mod Compiles
 pub mod Roots
+pub mod Runs

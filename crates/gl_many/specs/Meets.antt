@@ -14,7 +14,7 @@ use Rattle.gl_query.specs.Results.{IsResult}
 use Rattle.gl_query.specs.Shapes.{query_shape}
 use Rattle.gl_algebra.specs.declared.figures.Figures.{Figures}
 use Rattle.gl_algebra.specs.Roots.{output_part}
-use Rattle.gl_reach.specs.Reach.{keys_of_reached, lean_of_reached, store_of_reached}
+use Rattle.gl_figures.specs.Reach.{keys_of_reached, lean_of_reached, store_of_reached}
 use Rattle.gl_elaborate.specs.Figures.{query_figures}
 use Rattle.gl_elaborate.specs.Plans.{Several, plans_of}
 use Rattle.gl_verilog.specs.Cost.{memory_bits, register_bits}
@@ -22,10 +22,10 @@ use Rattle.gl_verilog.specs.Module.{Module}
 use Rattle.gl_verilog.specs.Text.{HasModule}
 use Rattle.gl_verilog_ports.specs.Profile.{declared, ports_of}
 use Rattle.gl_testbench.specs.Runs.{HasRunsOver}
-use Rattle.gl_emission.specs.Driven.{OverRuns}
-use Rattle.gl_emission.specs.Overflow.{TellsGroup}
-use Rattle.gl_emission.specs.Views.{seen_as, within}
-use Rattle.gl_compiler_text.specs.Meets.{result_columns, takes_ticks}
+use Rattle.gl_testbench.specs.Driven.{OverRuns}
+use Rattle.gl_testbench.specs.Overflow.{TellsGroup}
+use Rattle.gl_testbench.specs.Views.{seen_as, within}
+use Rattle.gl_compiler.specs.Meets.{result_columns, takes_ticks}
 
 -- ---- figures
 

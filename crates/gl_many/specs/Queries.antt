@@ -7,11 +7,11 @@ use Rattle.gl_query.specs.declared.tree.Statement.{Statement}
 use Rattle.gl_query.specs.Trees.{StatementTree, statement_tree}
 use Rattle.gl_figures.specs.declared.Limit.{Limit}
 use Rattle.gl_elaborate.specs.Plans.{plans_of}
-use Rattle.gl_several_plan.specs.Together.{AreWithinLimits, PassLimit}
-use Rattle.gl_query_list.specs.Lists.{HasStatements, IsListFault}
-use Rattle.gl_query_compiler.specs.declared.fault.CompileFault.{CompileFault}
-use Rattle.gl_query_compiler.specs.declared.fault.CompileFault.TheVariants as compile
-use Rattle.gl_query_compiler.specs.Queries.{IfRefused}
+use Rattle.gl_plan.specs.Together.{AreWithinLimits, PassLimit}
+use Rattle.gl_query_texts.specs.Lists.{HasStatements, IsListFault}
+use Rattle.gl_compiler.specs.declared.fault.CompileFault.{CompileFault}
+use Rattle.gl_compiler.specs.declared.fault.CompileFault.TheVariants as compile
+use Rattle.gl_compiler.specs.Queries.{IfRefused}
 use Rattle.gl_many.specs.declared.compiling.Many.{Many}
 
 -- statements without their places in memory

@@ -9,7 +9,7 @@ use Rattle.gl_query.specs.Checked.{IsChecked}
 use Rattle.gl_query.specs.Names.{StatementHasNames}
 use Rattle.gl_query.specs.Shapes.{statement_shape}
 use Rattle.gl_wiring.specs.declared.many.Root.{Root}
-use Rattle.gl_compiler_text.specs.Meets.{result_columns}
+use Rattle.gl_compiler.specs.Meets.{result_columns}
 
 -- the names behind INTO
 abbrev pub names_of : List Statement → List (List ℕ)

@@ -1,12 +1,12 @@
 //! The roots of statements in their joint plan, under the names of their results.
 
 ghost use Rattle.std.specs.Prelude.{◌≡◌, ◌++◌, IfOk, OnOk};
-ghost use Rattle.gl_several_plan.specs.Together.{statements_of};
+ghost use Rattle.gl_plan.specs.Together.{statements_of};
 ghost use Rattle.gl_many.specs.Roots.{root_of, roots_of};
 
 use gl_algebra::PlanId;
 use gl_bits::Memory;
-use gl_compiler_text::naming::{result_columns, result_names};
+use gl_compiler::naming::{result_columns, result_names};
 use gl_query::Statement;
 use gl_query_check::Checked;
 use gl_schema::Schema;

@@ -1,8 +1,7 @@
 //! Counting bits.
 
 ghost use Rattle.std.specs.Prelude.{◌≡◌, ◌≤◌, ◌*◌, sum_by};
-ghost use Rattle.gl_net.specs.Net.{memory_bits as memory_bits_of_node, register_bits as register_bits_of_node};
-ghost use Rattle.gl_net.specs.Net.{memory_bits_of, register_bits_of};
+ghost use Rattle.gl_net.specs.Net.{memory_bits as memory_bits_of_node, register_bits as register_bits_of_node, memory_bits_of, register_bits_of};
 ghost use Rattle.gl_net.specs.Small.{AreAddressed, IsAddressed};
 
 use crate::{Netlist, Node};

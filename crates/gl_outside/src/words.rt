@@ -1,7 +1,6 @@
 //! Lists of texts.
 
-ghost use Rattle.std.specs.Prelude.{◌≡◌, ◌++◌, ◌∷◌, [], length, map, slice_get, string_bytes};
-ghost use Rattle.std.specs.Prelude.{option_map, OnOk, OnErr, Some, Contains};
+ghost use Rattle.std.specs.Prelude.{◌≡◌, ◌++◌, ◌∷◌, [], length, map, slice_get, string_bytes, option_map, OnOk, OnErr, Some, Contains};
 
 use gl_bits::Memory;
 use std::alloc::Global;

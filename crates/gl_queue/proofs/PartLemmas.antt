@@ -13,7 +13,7 @@ use Rattle.gl_wire.specs.Gates.{same_at}
 use Rattle.gl_wire.specs.Wire.{widths, line_at}
 use Rattle.gl_wire.proofs.ColumnLemmas.{AreBuses-push, AreBuses-none, buses_kept, sum-one, widths-push}
 use Rattle.gl_queue.specs.RingLines.{IsPointer, ArePlaces, IsPassed}
-use Rattle.gl_wire_memories.specs.Memories.{IsStored}
+use Rattle.gl_wire_lanes.specs.Memories.{IsStored}
 use Rattle.gl_queue.specs.Parts.{AreStored}
 use Rattle.gl_queue.proofs.RingLinesLemmas.{held_none, held_more}
 

@@ -11,7 +11,7 @@ use Rattle.gl_net.specs.Net.{Run, stored_of}
 use Rattle.gl_wire.specs.Wire.{line_at, row_at, tuple_at}
 use Rattle.gl_queue.specs.Queue.{IsQueue}
 use Rattle.gl_queue.specs.Ring.{wrap, IsRing}
-use Rattle.gl_wire_memories.specs.Memories.{IsHeld}
+use Rattle.gl_wire_lanes.specs.Memories.{IsHeld}
 use Rattle.gl_queue.specs.RingLines.{AreHeld, IsRingOf, RingLinesAreQueues, ArePlaces, IsPassed}
 use Rattle.gl_queue.proofs.RingLemmas.{wrap_mod, wrap_depth, rings_are_queues}
 

@@ -8,7 +8,7 @@ ghost use Rattle.gl_queue.specs.Parts.{ArePlacesOf, AreStored, IsFlagOf, IsMeeti
 use gl_bits::{Memory, Word};
 use gl_net::{BinaryOp, Bit, Bus, Buses, NetBuilder};
 use gl_wire::{both, but_not, either, same};
-use gl_wire_memories::put_memory;
+use gl_wire_lanes::put_memory;
 use std::alloc::Global;
 
 /// A word of `width` bits.

@@ -19,9 +19,9 @@ use Rattle.gl_verilog.specs.View.{declaration_of, module_of}
 use Rattle.gl_verilog.specs.Widths.{HasSize, is_clock}
 use Rattle.gl_verilog.proofs.Fits.{in_range}
 use Rattle.gl_verilog_ports.proofs.Declared.{get_take}
-use Rattle.gl_lines.proofs.Rows.{widths_length}
-use Rattle.gl_dumps.specs.Dumped.{Port}
-use Rattle.gl_dumps.specs.Written.{cycle, cycles, dump_text, header, port_declared, ports_among, ports_of, time_line}
+use Rattle.gl_tuples.proofs.Rows.{widths_length}
+use Rattle.gl_vcd.specs.Dumped.{Port}
+use Rattle.gl_vcd.specs.Written.{cycle, cycles, dump_text, header, port_declared, ports_among, ports_of, time_line}
 use Rattle.gl_runner.specs.Cycles.{HasPlainPorts, HasOnPorts}
 use Rattle.gl_runner.specs.Dumping.{numbers_from, numbers_of, widths_in}
 use Rattle.gl_runner.specs.Watches.{bytes_to, dump_of_cycle, row_before, row_in, rows_to}

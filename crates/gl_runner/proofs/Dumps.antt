@@ -5,7 +5,7 @@ use Rattle.gl_outside.specs.States.{Appends, AppendsFront, Broke, SinkState, Too
 use Rattle.gl_outside.proofs.Takes.{appends_then, front_more, front_then}
 use Rattle.gl_schema.specs.Beats.{Beat}
 use Rattle.gl_schema.specs.Ports.{PortValues}
-use Rattle.gl_dumps.specs.Written.{header, ports_of, time_line}
+use Rattle.gl_vcd.specs.Written.{header, ports_of, time_line}
 use Rattle.gl_verilog.specs.Module.{Module}
 use Rattle.gl_verilog_ports.specs.Profile.{result_names}
 use Rattle.gl_outside.specs.Counts.{Rose}

@@ -13,7 +13,7 @@ use Rattle.gl_schema.specs.declared.schema.Column.{Column}
 use Rattle.gl_schema.specs.Ports.{PortValues, fault_group, out_column, out_eos, out_valid}
 use Rattle.gl_schema.specs.Schemas.{kinds_of}
 use Rattle.gl_schema.specs.Seen.{Shown, shown, value_at}
-use Rattle.gl_emission.specs.Views.{seen_as, within}
+use Rattle.gl_testbench.specs.Views.{seen_as, within}
 use Rattle.gl_sim.specs.Simulation.{Simulation}
 use Rattle.gl_verilog.specs.Module.{Declaration, Module, number_of}
 use Rattle.gl_verilog.specs.Widths.{is_clock, width_at}
@@ -21,8 +21,8 @@ use Rattle.gl_verilog.proofs.Fits.{width_at-found}
 use Rattle.gl_verilog_ports.specs.Profile.{ports_of}
 use Rattle.gl_verilog_ports.proofs.Declared.{get_take}
 use Rattle.gl_verilog_ports.proofs.Fits.{line_named}
-use Rattle.gl_lines.specs.declared.lines.Sample.{Sample}
-use Rattle.gl_lines.specs.Pieces.{line_if, lines_with, row_with, sampled}
+use Rattle.gl_tuples.specs.declared.lines.Sample.{Sample}
+use Rattle.gl_tuples.specs.Pieces.{line_if, lines_with, row_with, sampled}
 use Rattle.gl_testbench.specs.declared.pins.Shows.{Shows}
 use Rattle.gl_testbench.specs.Carried.{name_at}
 use Rattle.gl_testbench.proofs.Outputs.{output_is_net}

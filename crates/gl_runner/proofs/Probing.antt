@@ -20,9 +20,9 @@ use Rattle.gl_verilog.proofs.Fits.{in_range, width_at-found}
 use Rattle.gl_verilog_ports.specs.Profile.{FitsSchema, IsLine, ports_of, result_names}
 use Rattle.gl_verilog_ports.proofs.Declared.{get_take}
 use Rattle.gl_verilog_ports.proofs.Fits.{line_named}
-use Rattle.gl_lines.specs.declared.lines.Sample.{Sample}
-use Rattle.gl_lines.specs.Pieces.{sampled}
-use Rattle.gl_lines.proofs.Rows.{widths_length}
+use Rattle.gl_tuples.specs.declared.lines.Sample.{Sample}
+use Rattle.gl_tuples.specs.Pieces.{sampled}
+use Rattle.gl_tuples.proofs.Rows.{widths_length}
 use Rattle.gl_testbench.specs.declared.pins.Shows.{Shows}
 use Rattle.gl_testbench.specs.Benches.{AreShows, columns_from}
 use Rattle.gl_testbench.specs.Carried.{name_at}

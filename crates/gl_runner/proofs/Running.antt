@@ -9,7 +9,7 @@ use Rattle.gl_bits.specs.declared.kind.Kind.{Kind}
 use Rattle.gl_outside.specs.States.{Appends, AppendsFront, Broke, Counts, SinkState, Took, Wrote}
 use Rattle.gl_outside.specs.Counts.{Rose}
 use Rattle.gl_outside.proofs.Takes.{appends_none, appends_then, front_then, front_more}
-use Rattle.gl_dumps.specs.Signals.{seen_below}
+use Rattle.gl_vcd.specs.Signals.{seen_below}
 use Rattle.gl_schema.specs.declared.schema.Schema.{Schema}
 use Rattle.gl_schema.specs.Beats.{Beat, last_cycle}
 use Rattle.gl_schema.specs.Ports.{PortValues}
@@ -20,8 +20,8 @@ use Rattle.gl_verilog.specs.Run.{port_of}
 use Rattle.gl_verilog.specs.View.{module_of}
 use Rattle.gl_sim.specs.Simulation.{Simulation}
 use Rattle.gl_runner.specs.Cycles.{Advances, Driven, HasOnPorts, IsAhead, IsBefore, IsFollowed, IsMade, design_of}
-use Rattle.gl_lines.specs.declared.lines.Sample.{Sample}
-use Rattle.gl_lines.specs.Pieces.{sampled}
+use Rattle.gl_tuples.specs.declared.lines.Sample.{Sample}
+use Rattle.gl_tuples.specs.Pieces.{sampled}
 use Rattle.gl_runner.specs.Ends.{IsLastCycle}
 use Rattle.gl_runner.specs.Probes.{IsSeen}
 use Rattle.gl_runner.proofs.Probing.{lines_seen}

@@ -13,7 +13,7 @@ use Rattle.gl_verilog.specs.View.{module_of}
 use Rattle.gl_verilog.specs.Widths.{HasSize}
 use Rattle.gl_verilog_ports.specs.Profile as profile
 use Rattle.gl_verilog_ports.specs.Profile.{result_names}
-use Rattle.gl_dumps.specs.Written.{ports_of}
+use Rattle.gl_vcd.specs.Written.{ports_of}
 use Rattle.gl_runner.specs.Cycles.{Driven, HasPlainPorts, IsBefore, design_of}
 use Rattle.gl_runner.specs.Prints.{EndsWithin}
 use Rattle.gl_runner.specs.declared.dumping.DumpLines.{DumpLines}

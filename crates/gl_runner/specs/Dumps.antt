@@ -5,7 +5,7 @@ use Rattle.gl_outside.specs.States.{SinkState, Appends, AppendsFront}
 use Rattle.gl_schema.specs.declared.schema.Schema.{Schema}
 use Rattle.gl_schema.specs.Beats.{Beat}
 use Rattle.gl_schema.specs.Ports.{PortValues}
-use Rattle.gl_dumps.specs.Written.{dump_text, ports_of}
+use Rattle.gl_vcd.specs.Written.{dump_text, ports_of}
 use Rattle.gl_verilog.specs.Module.{Module, Nets, Memories}
 use Rattle.gl_verilog.specs.Run.{port_of}
 use Rattle.gl_verilog.specs.Text.{HasModule}

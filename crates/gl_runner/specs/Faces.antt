@@ -4,7 +4,7 @@ use Rattle.std.specs.List.{AllByRecursion}
 use Rattle.gl_bits.specs.Kinds.{IsKind, width_of}
 use Rattle.gl_schema.specs.declared.schema.Column.{Column}
 use Rattle.gl_schema.specs.Ports.{fault_group, out_column, out_eos, out_valid}
-use Rattle.gl_emission.specs.Views.{within}
+use Rattle.gl_testbench.specs.Views.{within}
 use Rattle.gl_verilog.specs.Module.{Declaration, Module}
 use Rattle.gl_verilog_ports.specs.Profile.{HasLine, IsLine, is_output, port_named}
 use Rattle.gl_runner.specs.declared.faces.Face.{Face}

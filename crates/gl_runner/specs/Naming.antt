@@ -7,7 +7,7 @@ use Rattle.gl_bits.specs.Kinds.{width_of}
 use Rattle.gl_schema.specs.declared.schema.Column.{Column}
 use Rattle.gl_schema.specs.Ports.{PortValues, fault_group, out_column, out_eos, out_valid}
 use Rattle.gl_schema.specs.Schemas.{kinds_of}
-use Rattle.gl_emission.specs.Views.{within}
+use Rattle.gl_testbench.specs.Views.{within}
 use Rattle.gl_verilog.specs.Module.{Module, number_of}
 use Rattle.gl_verilog_ports.specs.Profile.{ports_of}
 use Rattle.gl_testbench.specs.declared.pins.Shows.{Shows}

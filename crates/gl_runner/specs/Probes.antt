@@ -11,7 +11,7 @@ use Rattle.gl_verilog.specs.Evaluate.{nets_of}
 use Rattle.gl_verilog.specs.Module.{Declaration, Module, number_of}
 use Rattle.gl_verilog.specs.Widths.{IsReadable, width_at}
 use Rattle.gl_verilog_ports.specs.Profile.{IsLine, port_named, ports_of, result_names}
-use Rattle.gl_lines.specs.declared.lines.Sample.{Sample}
+use Rattle.gl_tuples.specs.declared.lines.Sample.{Sample}
 use Rattle.gl_testbench.specs.declared.pins.Shows.{Shows}
 use Rattle.gl_testbench.specs.Carried.{name_at}
 

@@ -11,8 +11,8 @@ use Rattle.gl_schema.specs.Beats.{Beat, last_cycle}
 use Rattle.gl_schema.specs.Ports.{PortValues, out_column}
 use Rattle.gl_schema.specs.Schemas.{kinds_of}
 use Rattle.gl_schema.specs.Seen.{Shown, shown, values_text}
-use Rattle.gl_dumps.specs.Signals.{seen_below}
-use Rattle.gl_emission.specs.Views.{seen_as}
+use Rattle.gl_vcd.specs.Signals.{seen_below}
+use Rattle.gl_testbench.specs.Views.{seen_as}
 use Rattle.gl_verilog.specs.Module.{Module, Nets, Memories}
 use Rattle.gl_verilog.specs.Run.{port_of}
 use Rattle.gl_verilog_orders.specs.declared.start.Start.{Start}

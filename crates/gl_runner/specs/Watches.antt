@@ -4,9 +4,9 @@ use Rattle.std.specs.List.{list_any}
 use Rattle.gl_bits.specs.declared.kind.Kind.{Kind}
 use Rattle.gl_bits.specs.Kinds.{width_of}
 use Rattle.gl_bits.specs.Words.{Word, widths_of}
-use Rattle.gl_dumps.specs.Dumped.{Port}
-use Rattle.gl_dumps.specs.Signals.{seen_below}
-use Rattle.gl_dumps.specs.Written as written
+use Rattle.gl_vcd.specs.Dumped.{Port}
+use Rattle.gl_vcd.specs.Signals.{seen_below}
+use Rattle.gl_vcd.specs.Written as written
 use Rattle.gl_schema.specs.Ports.{PortValues}
 use Rattle.gl_schema.specs.Seen.{Shown, cycle_lines, shown, value_at}
 use Rattle.gl_verilog.specs.Module.{Module}

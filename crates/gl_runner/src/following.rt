@@ -16,9 +16,9 @@ use crate::sampling::{sample_of, set_row};
 use crate::tracing::Ending;
 use crate::watching::{Made, Watch};
 use gl_bits::{Kind, Memory, Row};
-use gl_lines::{put_cycle, zero_row};
 use gl_outside::{Sink, WriteFault};
 use gl_testbench::Shows;
+use gl_tuples::{put_cycle, zero_row};
 use gl_verilog::Module;
 use std::alloc::Global;
 

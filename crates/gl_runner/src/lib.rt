@@ -3,7 +3,7 @@
 //! (`execute_several`).
 //!
 //! Here belongs the loop over the cycles of a file, and where it ends. The lines of a cycle belong to
-//! gl_lines, what the ports carry to gl_testbench, one cycle of a module to gl_sim, and texts to gl_compiler.
+//! gl_tuples, what the ports carry to gl_testbench, one cycle of a module to gl_sim, and texts to gl_compiler.
 #![tactic(auto)]
 
 pub mod driving;

@@ -7,9 +7,9 @@ ghost use Rattle.gl_verilog.specs.View.{module_of};
 ghost use Rattle.gl_runner.specs.Probes.{AreInside, IsSampled, is_one};
 
 use gl_bits::Row;
-use gl_lines::{Sample, set_value};
 use gl_sim::Sim;
 use gl_testbench::Shows;
+use gl_tuples::{Sample, set_value};
 
 /// Whether a port is there and shows 1.
 pub(crate) fn is_high(sim: &Sim, port: Option<usize>) -> bool

@@ -2,3 +2,8 @@ pub mod Carried
 pub mod Benches
 pub mod Dues
 pub mod Runs
+pub mod Driven
+pub mod Emission
+pub mod Emitted
+pub mod Overflow
+pub mod Views

@@ -1,10 +1,10 @@
 -- What is answered with the text that is left, and with what is written.
 use Rattle.std.proofs.Common.{◌≡◌, ℕ, List, [], ◌++◌, sym, ap, subst, ◌∙◌}
 use Rattle.gl_outside.specs.States.{IsCalm}
-use Rattle.gl_top_notes.specs.declared.status.Status.{Status}
-use Rattle.gl_top_notes.specs.Refusals.{Puts}
-use Rattle.gl_top_notes.specs.Written.{IsWritten, Whole, InPart}
-use Rattle.gl_top_judging.specs.Causes.{Change}
+use Rattle.gl_top_status.specs.declared.status.Status.{Status}
+use Rattle.gl_top_status.specs.Refusals.{Puts}
+use Rattle.gl_top_status.specs.Written.{IsWritten, Whole, InPart}
+use Rattle.gl_top_inputs.specs.Causes.{Change}
 use Rattle.gl_top.specs.Calls.{Call}
 use Rattle.gl_top.specs.Verdicts.{IsAnswer, IsGiven, Wrote, WroteCut}
 

@@ -2,17 +2,17 @@
 use Rattle.std.proofs.Common.{◌≡◌, ◌≢◌, ◌⊎◌, ℕ, List, [], refl, sym, ap, subst, ◌∙◌, inl, inr}
 use Rattle.gl_outside.specs.Counts.{Rose}
 use Rattle.gl_schema.specs.declared.schema.Schema.{Schema}
-use Rattle.gl_top_notes.specs.declared.refusal.Refusal.{Refusal}
-use Rattle.gl_top_notes.specs.declared.refusal.Refusal.TheVariants as refusal
-use Rattle.gl_top_notes.specs.declared.status.Status.{Status}
-use Rattle.gl_top_notes.specs.declared.status.Status.TheVariants as status
+use Rattle.gl_top_status.specs.declared.refusal.Refusal.{Refusal}
+use Rattle.gl_top_status.specs.declared.refusal.Refusal.TheVariants as refusal
+use Rattle.gl_top_status.specs.declared.status.Status.{Status}
+use Rattle.gl_top_status.specs.declared.status.Status.TheVariants as status
 use Rattle.gl_outside.specs.Told.{Told}
-use Rattle.gl_top_words.specs.declared.command.Command.{Command}
-use Rattle.gl_top_words.specs.declared.command.Command.TheVariants.{Load, ManyRun, Run, Sim, Undump, Vcd, Version}
-use Rattle.gl_top_words.specs.declared.command.Part.{Part}
-use Rattle.gl_top_words.specs.declared.command.Part.TheVariants as part
-use Rattle.gl_top_words.specs.Forms.{IsCommand, IsForm, IsOfRun, extra_of}
-use Rattle.gl_top_words.proofs.Named.{form_of, named_form, one_command}
+use Rattle.gl_top_forms.specs.declared.command.Command.{Command}
+use Rattle.gl_top_forms.specs.declared.command.Command.TheVariants.{Load, ManyRun, Run, Sim, Undump, Vcd, Version}
+use Rattle.gl_top_forms.specs.declared.command.Part.{Part}
+use Rattle.gl_top_forms.specs.declared.command.Part.TheVariants as part
+use Rattle.gl_top_forms.specs.Forms.{IsCommand, IsForm, IsOfRun, extra_of}
+use Rattle.gl_top_forms.proofs.Named.{form_of, named_form, one_command}
 use Rattle.gl_outside.specs.States.{IsCalm, Took}
 use Rattle.gl_verilog_orders.specs.declared.start.Start.TheVariants.{Zero}
 use Rattle.gl_tuples.specs.declared.beats.Beat.{Beat}
@@ -24,13 +24,13 @@ use Rattle.gl_runner.specs.declared.tracing.Ending.TheVariants as end
 use Rattle.gl_runner.specs.Prints.{HasRunOver}
 use Rattle.gl_runner.specs.Traces.{OfRunsOf, decimal_kinds}
 use Rattle.gl_runner.specs.Traces as traces
-use Rattle.gl_top_judging.specs.Passing.{FilePasses}
-use Rattle.gl_top_notes.specs.Refusals.{Puts, Notes, status_of, note_of, no_end_line, write_line}
-use Rattle.gl_top_judging.specs.Causes.{Change, HasCause, IsNext, IsRefused}
+use Rattle.gl_top_inputs.specs.Passing.{FilePasses}
+use Rattle.gl_top_status.specs.Refusals.{Puts, Notes, status_of, note_of, no_end_line, write_line}
+use Rattle.gl_top_inputs.specs.Causes.{Change, HasCause, IsNext, IsRefused}
 use Rattle.gl_top.specs.Shown.{AreShownOf, IsShownOf, Shows, ShowsAll}
 use Rattle.gl_top.specs.Calls.{Call}
 use Rattle.gl_top.specs.Verdicts.{AllPass, OfFile, Two, TwoOfAll, Completes, Whole, NoMemory, Endless, IsAnswer, RanWhole, RanCut, Traced, Wrote, WroteCut, Refused, IsEndless, IsComplete, IsGiven, OfDump, OfLoad, OfQueries, OfTexts, OfVersion, IsTelling, TellsEnding, TellsFaults, TellsForm, Yields, Same, ToRead, ToWrite, ToMemory, IsFaultless, Says, SaysBy, TellsRefusal}
-use Rattle.gl_top_judging.proofs.Texts.{next_form}
+use Rattle.gl_top_inputs.proofs.Texts.{next_form}
 use Rattle.gl_top.proofs.Stopping.{Stops, stops}
 use Rattle.gl_top.proofs.Passed.{dump_goes, load_goes, passes_goes, version_goes}
 use Rattle.gl_top.proofs.Deciding.{formed, one_refusal}

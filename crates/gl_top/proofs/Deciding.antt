@@ -3,15 +3,15 @@ use Rattle.std.proofs.Common.{◌≡◌, ◌⊎◌, ℕ, List, inl, inr, refl, s
 use Rattle.gl_outside.specs.Told.{Told}
 use Rattle.gl_schema.specs.declared.schema.Schema.{Schema}
 use Rattle.gl_schema.specs.Schemas.{IsSchema}
-use Rattle.gl_top_words.specs.declared.command.Part.TheVariants as part
-use Rattle.gl_top_words.specs.Forms.{IsForm, name_of}
-use Rattle.gl_top_words.proofs.Named.{named_form, queries_and_no_module, sim_names_no_query}
-use Rattle.gl_top_notes.specs.declared.refusal.Refusal.{Refusal}
-use Rattle.gl_top_notes.specs.declared.refusal.Refusal.TheVariants as refusal
-use Rattle.gl_top_judging.specs.Passing.{kept_beats}
-use Rattle.gl_top_judging.specs.Readings.{One, Several}
-use Rattle.gl_top_judging.specs.Causes.{IsRefused}
-use Rattle.gl_top_judging.proofs.Texts.{asks_named, sim_names_module, sim_names_tuples}
+use Rattle.gl_top_forms.specs.declared.command.Part.TheVariants as part
+use Rattle.gl_top_forms.specs.Forms.{IsForm, name_of}
+use Rattle.gl_top_forms.proofs.Named.{named_form, queries_and_no_module, sim_names_no_query}
+use Rattle.gl_top_status.specs.declared.refusal.Refusal.{Refusal}
+use Rattle.gl_top_status.specs.declared.refusal.Refusal.TheVariants as refusal
+use Rattle.gl_top_inputs.specs.Passing.{kept_beats}
+use Rattle.gl_top_inputs.specs.Readings.{One, Several}
+use Rattle.gl_top_inputs.specs.Causes.{IsRefused}
+use Rattle.gl_top_inputs.proofs.Texts.{asks_named, sim_names_module, sim_names_tuples}
 use Rattle.gl_top.specs.Verdicts.{IsTelling}
 use Rattle.gl_top.proofs.Dumps.{DumpFails, dump_once, no_dump}
 use Rattle.gl_top.proofs.Failing.{fails_once}

@@ -1,19 +1,19 @@
 -- Words that name a dump, and how its text may stop `undump`.
 use Rattle.std.proofs.Common.{◌≡◌, ℕ, true, List, Ok, Err, refl, sym, ap, subst, ◌∙◌, arith}
-use Rattle.gl_dumps.specs.declared.fault.VcdFault.{VcdFault}
-use Rattle.gl_dumps.specs.Dumped.{OfLines}
-use Rattle.gl_dumps.specs.Reading.{dump_of}
-use Rattle.gl_dumps.specs.Signals.{Dump, lines_of}
+use Rattle.gl_vcd.specs.declared.fault.VcdFault.{VcdFault}
+use Rattle.gl_vcd.specs.Dumped.{OfLines}
+use Rattle.gl_vcd.specs.Reading.{dump_of}
+use Rattle.gl_vcd.specs.Signals.{Dump, lines_of}
 use Rattle.gl_outside.specs.Told.{Told}
-use Rattle.gl_top_words.specs.declared.command.Command.TheVariants.{Undump}
-use Rattle.gl_top_words.specs.declared.command.Part.{Part}
-use Rattle.gl_top_words.specs.declared.command.Part.TheVariants as part
-use Rattle.gl_top_words.specs.Forms.{IsCommand, IsNamed}
-use Rattle.gl_top_words.proofs.Named.{dump_is_undumped, is_beside, undump_names_dump}
-use Rattle.gl_top_notes.specs.declared.refusal.Refusal.{Refusal}
-use Rattle.gl_top_notes.specs.declared.refusal.Refusal.TheVariants as refusal
-use Rattle.gl_top_texts.specs.Texts.{HasText}
-use Rattle.gl_top_texts.proofs.Fetched.{has_text}
+use Rattle.gl_top_forms.specs.declared.command.Command.TheVariants.{Undump}
+use Rattle.gl_top_forms.specs.declared.command.Part.{Part}
+use Rattle.gl_top_forms.specs.declared.command.Part.TheVariants as part
+use Rattle.gl_top_forms.specs.Forms.{IsCommand, IsNamed}
+use Rattle.gl_top_forms.proofs.Named.{dump_is_undumped, is_beside, undump_names_dump}
+use Rattle.gl_top_status.specs.declared.refusal.Refusal.{Refusal}
+use Rattle.gl_top_status.specs.declared.refusal.Refusal.TheVariants as refusal
+use Rattle.gl_top_status.specs.Texts.{HasText}
+use Rattle.gl_top_status.proofs.Fetched.{has_text}
 use Rattle.gl_top.specs.Verdicts.{IsUndumped}
 use Rattle.gl_top.proofs.Failing.{one_error}
 

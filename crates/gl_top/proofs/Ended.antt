@@ -6,9 +6,9 @@ use Rattle.gl_outside.specs.Told.{Told}
 use Rattle.gl_outside.proofs.Takes.{took_none}
 use Rattle.gl_runner.specs.declared.executing.Outcome.{Outcome}
 use Rattle.gl_runner.specs.declared.executing.Outcome.TheVariants as outcome
-use Rattle.gl_top_words.specs.declared.command.Command.TheVariants.{ManyRun, Run, Vcd}
-use Rattle.gl_top_words.specs.Forms.{IsForm}
-use Rattle.gl_top_words.proofs.Named.{form_of}
+use Rattle.gl_top_forms.specs.declared.command.Command.TheVariants.{ManyRun, Run, Vcd}
+use Rattle.gl_top_forms.specs.Forms.{IsForm}
+use Rattle.gl_top_forms.proofs.Named.{form_of}
 use Rattle.gl_top.specs.Verdicts.{AllPass, IsNoneOrEmitted, IsRun, OfLines, OfNamedLines, OfPorts, Three, ThreeOfAll}
 
 module _ (told : List ℕ → Told) (words : List (List ℕ)) (text : List ℕ) (old new : SinkState) where

@@ -3,22 +3,22 @@ use Rattle.std.proofs.Common.{ℕ, List, [], inl, refl, sym, subst}
 use Rattle.gl_outside.specs.Told.{Told}
 use Rattle.gl_outside.specs.States.{ShelfState}
 use Rattle.gl_schema.specs.declared.schema.Schema.{Schema}
-use Rattle.gl_query_judge.specs.Judged.{IsAcceptedText}
-use Rattle.gl_query_compiler.specs.Queries.{IsQuery}
-use Rattle.gl_top_words.specs.declared.command.Command.TheVariants.{Explain}
-use Rattle.gl_top_words.specs.declared.command.Part.TheVariants as part
-use Rattle.gl_top_words.specs.Forms.{IsCommand, name_of}
-use Rattle.gl_top_words.proofs.Named.{schema_named}
-use Rattle.gl_top_notes.specs.declared.refusal.Refusal.{Refusal}
-use Rattle.gl_top_notes.specs.declared.status.Status.{Status}
-use Rattle.gl_top_notes.specs.Refusals.{Puts}
-use Rattle.gl_top_texts.specs.Texts.{SchemaPasses}
+use Rattle.gl_query_texts.specs.Judged.{IsAcceptedText}
+use Rattle.gl_compiler.specs.Queries.{IsQuery}
+use Rattle.gl_top_forms.specs.declared.command.Command.TheVariants.{Explain}
+use Rattle.gl_top_forms.specs.declared.command.Part.TheVariants as part
+use Rattle.gl_top_forms.specs.Forms.{IsCommand, name_of}
+use Rattle.gl_top_forms.proofs.Named.{schema_named}
+use Rattle.gl_top_status.specs.declared.refusal.Refusal.{Refusal}
+use Rattle.gl_top_status.specs.declared.status.Status.{Status}
+use Rattle.gl_top_status.specs.Refusals.{Puts}
+use Rattle.gl_top_status.specs.Texts.{SchemaPasses}
 use Rattle.gl_top_explain.specs.Ending.{IsPlanText, IsUnexplained, Unfetched, OfFault, OfLimit, NoMemory, HasNoPlan, AtSchema, AtQuery, EndsExplain, Explained}
 use Rattle.gl_top_explain.specs.Ending as explain
 use Rattle.gl_top_explain.proofs.Plans.{explain_names_query}
-use Rattle.gl_top_judging.specs.Causes.{HasCause, change}
-use Rattle.gl_top_judging.specs.Readings.{One}
-use Rattle.gl_top_judging.proofs.Texts.{no_schema_cause, unfetched_cause}
+use Rattle.gl_top_inputs.specs.Causes.{HasCause, change}
+use Rattle.gl_top_inputs.specs.Readings.{One}
+use Rattle.gl_top_inputs.proofs.Texts.{no_schema_cause, unfetched_cause}
 use Rattle.gl_top.specs.Shown.{IsShownOf}
 use Rattle.gl_top.specs.Verdicts.{IsAnswer, OfTexts, Refused}
 use Rattle.gl_top.proofs.Answering.{leaving, written}

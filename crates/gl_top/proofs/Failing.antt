@@ -1,10 +1,10 @@
 -- How the text of a part may stop a command, in one way at most.
 use Rattle.std.proofs.Common.{◌≡◌, ◌≢◌, ℕ, ◌<◌, ◌≤◌, List, length, Result, Ok, Err, refl, sym, ◌∙◌, arith}
 use Rattle.gl_outside.specs.Told.{Told, Untold, Lacks, Holds, IsLacking, IfTold}
-use Rattle.gl_top_words.specs.declared.command.Part.{Part}
-use Rattle.gl_top_words.specs.Forms.{name_of}
-use Rattle.gl_top_notes.specs.declared.refusal.Refusal.{Refusal}
-use Rattle.gl_top_notes.specs.declared.refusal.Refusal.TheVariants as refusal
+use Rattle.gl_top_forms.specs.declared.command.Part.{Part}
+use Rattle.gl_top_forms.specs.Forms.{name_of}
+use Rattle.gl_top_status.specs.declared.refusal.Refusal.{Refusal}
+use Rattle.gl_top_status.specs.declared.refusal.Refusal.TheVariants as refusal
 
 -- a text of at most 64 MiB with a property
 abbrev pub Fine : Told → (List ℕ → Type 0) → Type 0

@@ -1,8 +1,8 @@
 -- What passes does not stop a command, where the texts are told.
 use Rattle.std.proofs.Common.{◌≡◌, ◌≢◌, ℕ, List, Result, Ok, refl, sym, subst, ◌∙◌}
 use Rattle.gl_outside.specs.Told.{Told, Untold}
-use Rattle.gl_dumps.specs.Dumped.{OfLines}
-use Rattle.gl_dumps.specs.Reading.{dump_of}
+use Rattle.gl_vcd.specs.Dumped.{OfLines}
+use Rattle.gl_vcd.specs.Reading.{dump_of}
 use Rattle.gl_schema.specs.declared.schema.Schema.{Schema}
 use Rattle.gl_schema.specs.declared.fault.SchemaFault.{SchemaFault}
 use Rattle.gl_schema.specs.SchemaFaults.{schema_of}
@@ -10,11 +10,11 @@ use Rattle.gl_schema.specs.SchemaText.{IsSchemaText}
 use Rattle.gl_schema.proofs.Complete.{read_again}
 use Rattle.gl_query.specs.declared.tree.Statement.{Statement}
 use Rattle.gl_query.specs.Trees.{statement_tree}
-use Rattle.gl_query_judge.proofs.Judged.{one_meaning}
-use Rattle.gl_compiler_text.proofs.Planning.{gap_by_shape}
-use Rattle.gl_compiler_text.proofs.Shaped.{shapes_alike}
-use Rattle.gl_compiler_text.specs.Built.{gap_of}
-use Rattle.gl_query_compiler.specs.Queries.{IsQuery}
+use Rattle.gl_query_texts.proofs.Judged.{one_meaning}
+use Rattle.gl_compiler.proofs.Planning.{gap_by_shape}
+use Rattle.gl_compiler.proofs.Shaped.{shapes_alike}
+use Rattle.gl_compiler.specs.Built.{gap_of}
+use Rattle.gl_compiler.specs.Queries.{IsQuery}
 use Rattle.gl_tuples.specs.declared.beats.Beat.{Beat}
 use Rattle.gl_tuples.specs.declared.fault.TupleFault.{TupleFault}
 use Rattle.gl_many.specs.Meets.{shared_gap}
@@ -22,16 +22,16 @@ use Rattle.gl_many.specs.Queries.{AreQueries}
 use Rattle.gl_many.proofs.OneVerdict.{one_gap_of_all}
 use Rattle.gl_verilog.specs.Module.{Module}
 use Rattle.gl_verilog.specs.Text.{HasModule}
-use Rattle.gl_top_words.specs.declared.command.Command.TheVariants as command
-use Rattle.gl_top_words.specs.declared.command.Part.TheVariants as part
-use Rattle.gl_top_words.specs.Forms.{IsCommand, IsLoadOf, IsNamed, IsOfRun, name_of}
-use Rattle.gl_top_words.proofs.Named.{form_of, load_names_none, many_run_names_queries, named_form, one_query_part, queries_and_no_module, sim_names_no_query, version_names_none}
-use Rattle.gl_top_notes.specs.declared.refusal.Refusal.{Refusal}
-use Rattle.gl_top_texts.specs.Texts.{HasText, SchemaPasses}
-use Rattle.gl_top_judging.specs.Passing.{AsksGap, FilePasses, ModulePasses, OfAll, OfOne, QueriesPass, QueryPasses, kept_beats}
-use Rattle.gl_top_judging.specs.Readings.{One, Several}
-use Rattle.gl_top_judging.proofs.Modules.{module_goes}
-use Rattle.gl_top_judging.proofs.Texts.{asks_named, asks_schema, run_names_query, sim_names_module, sim_names_tuples}
+use Rattle.gl_top_forms.specs.declared.command.Command.TheVariants as command
+use Rattle.gl_top_forms.specs.declared.command.Part.TheVariants as part
+use Rattle.gl_top_forms.specs.Forms.{IsCommand, IsLoadOf, IsNamed, IsOfRun, name_of}
+use Rattle.gl_top_forms.proofs.Named.{form_of, load_names_none, many_run_names_queries, named_form, one_query_part, queries_and_no_module, sim_names_no_query, version_names_none}
+use Rattle.gl_top_status.specs.declared.refusal.Refusal.{Refusal}
+use Rattle.gl_top_status.specs.Texts.{HasText, SchemaPasses}
+use Rattle.gl_top_inputs.specs.Passing.{AsksGap, FilePasses, ModulePasses, OfAll, OfOne, QueriesPass, QueryPasses, kept_beats}
+use Rattle.gl_top_inputs.specs.Readings.{One, Several}
+use Rattle.gl_top_inputs.proofs.Modules.{module_goes}
+use Rattle.gl_top_inputs.proofs.Texts.{asks_named, asks_schema, run_names_query, sim_names_module, sim_names_tuples}
 use Rattle.gl_top.specs.Verdicts.{AllPass, IsTelling, IsUndumped, Loads, OfFile, Three, ThreeOfAll, Two, TwoOfAll, Undumps, Versions}
 use Rattle.gl_top.proofs.Dumps.{DumpFails, no_dump, undump_names}
 use Rattle.gl_top.proofs.Failing.{Failing, FailsAt, Fine, no_error, not_both, weaker, with_both}

@@ -1,12 +1,12 @@
 -- What is compiled for the program can be run.
 use Rattle.std.proofs.Common.{ℕ, sym, subst}
-use Rattle.gl_compiler_text.specs.declared.compiling.Compiled.{Compiled}
-use Rattle.gl_compiler_text.specs.Built.{gap_of}
-use Rattle.gl_compiler_text.specs.Meets.{Meets}
+use Rattle.gl_compiler.specs.declared.compiling.Compiled.{Compiled}
+use Rattle.gl_compiler.specs.Built.{gap_of}
+use Rattle.gl_compiler.specs.Meets.{Meets}
 use Rattle.gl_compiler.specs.Runnable.{IsRunnable}
 use Rattle.gl_many.specs.declared.compiling.Many.{Many}
-use Rattle.gl_many_runner.specs.Runs.{AreRunnable}
-use Rattle.gl_top_judging.specs.Passing.{AreCompiledTogether, IsCompiled}
+use Rattle.gl_many.specs.Runs.{AreRunnable}
+use Rattle.gl_top_inputs.specs.Passing.{AreCompiledTogether, IsCompiled}
 
 pub runnable_of : (c : Compiled) → IsCompiled c → IsRunnable c
 runnable_of c is = record {

@@ -1,41 +1,41 @@
 -- What stops a command: the first of its texts that is refused, and why.
 use Rattle.std.proofs.Common.{◌≡◌, ℕ, List, Result, Err, inl, inr, refl, sym, ap, ◌∙◌}
 use Rattle.gl_outside.specs.Told.{Told}
-use Rattle.gl_dumps.specs.Reading.{dump_of}
+use Rattle.gl_vcd.specs.Reading.{dump_of}
 use Rattle.gl_schema.specs.declared.schema.Schema.{Schema}
 use Rattle.gl_schema.specs.declared.fault.SchemaFault.{SchemaFault}
 use Rattle.gl_schema.specs.SchemaFaults.{schema_of}
 use Rattle.gl_schema.specs.Schemas.{IsSchema}
 use Rattle.gl_query.specs.declared.tree.Statement.{Statement}
 use Rattle.gl_query.specs.declared.fault.QueryFault.{QueryFault}
-use Rattle.gl_query_judge.specs.Limits.{IsOverLimit}
-use Rattle.gl_query_judge.proofs.Judged.{accepted_goes, one_fault}
+use Rattle.gl_query_texts.specs.Limits.{IsOverLimit}
+use Rattle.gl_query_texts.proofs.Judged.{accepted_goes, one_fault}
 use Rattle.gl_figures.specs.declared.Limit.{Limit}
 use Rattle.gl_tuples.specs.declared.beats.Beat.{Beat}
 use Rattle.gl_tuples.specs.declared.fault.TupleFault.{TupleFault}
 use Rattle.gl_tuple_reader.specs.Filing.{beats_of, records_of}
 use Rattle.gl_verilog.specs.Module.{Module}
-use Rattle.gl_verilog_syntax.specs.declared.fault.VerilogFault.{VerilogFault}
-use Rattle.gl_compiler_text.specs.declared.compiling.Compiled.{Compiled}
-use Rattle.gl_compiler_text.specs.Built.{gap_of}
-use Rattle.gl_query_compiler.specs.Queries.{IsQuery}
-use Rattle.gl_query_compiler.specs.declared.fault.CompileFault.{CompileFault}
-use Rattle.gl_query_compiler.specs.declared.fault.CompileFault.TheVariants as compile
-use Rattle.gl_query_compiler.proofs.Refusing.{over_goes, query_accepted, tells_of}
+use Rattle.gl_verilog_tokens.specs.declared.fault.VerilogFault.{VerilogFault}
+use Rattle.gl_compiler.specs.declared.compiling.Compiled.{Compiled}
+use Rattle.gl_compiler.specs.Built.{gap_of}
+use Rattle.gl_compiler.specs.Queries.{IsQuery}
+use Rattle.gl_compiler.specs.declared.fault.CompileFault.{CompileFault}
+use Rattle.gl_compiler.specs.declared.fault.CompileFault.TheVariants as compile
+use Rattle.gl_compiler.proofs.Refusing.{over_goes, query_accepted, tells_of}
 use Rattle.gl_many.specs.Meets.{shared_gap}
 use Rattle.gl_many.specs.Queries.{AreQueries}
 use Rattle.gl_many.proofs.OneVerdict.{all_within, no_list, one_fault_of_all, one_limit_of_all}
-use Rattle.gl_top_words.specs.declared.command.Command.TheVariants as command
-use Rattle.gl_top_words.specs.declared.command.Part.TheVariants as part
-use Rattle.gl_top_notes.specs.declared.refusal.Refusal.{Refusal}
-use Rattle.gl_top_notes.specs.declared.refusal.Refusal.TheVariants as refusal
-use Rattle.gl_top_words.specs.Forms.{IsCommand, IsForm, IsNamed, name_of}
-use Rattle.gl_top_texts.specs.Texts.{SchemaPasses}
-use Rattle.gl_top_judging.specs.Passing.{AsksGap, ModulePasses, OfAll, OfOne, kept_beats}
-use Rattle.gl_top_judging.specs.Readings.{IsFaultBy, IsOverBy, One, Reading, Several, part_read}
-use Rattle.gl_top_judging.specs.Causes.{PassBeforeTuples, OfRun, OfRunAll, OfSim, ToRun, ToRunAll, ToSim, IsModuleFault, IsRefused}
-use Rattle.gl_top_judging.proofs.Modules.{one_module_fault}
-use Rattle.gl_top_judging.proofs.Texts.{asks_schema}
+use Rattle.gl_top_forms.specs.declared.command.Command.TheVariants as command
+use Rattle.gl_top_forms.specs.declared.command.Part.TheVariants as part
+use Rattle.gl_top_status.specs.declared.refusal.Refusal.{Refusal}
+use Rattle.gl_top_status.specs.declared.refusal.Refusal.TheVariants as refusal
+use Rattle.gl_top_forms.specs.Forms.{IsCommand, IsForm, IsNamed, name_of}
+use Rattle.gl_top_status.specs.Texts.{SchemaPasses}
+use Rattle.gl_top_inputs.specs.Passing.{AsksGap, ModulePasses, OfAll, OfOne, kept_beats}
+use Rattle.gl_top_inputs.specs.Readings.{IsFaultBy, IsOverBy, One, Reading, Several, part_read}
+use Rattle.gl_top_inputs.specs.Causes.{PassBeforeTuples, OfRun, OfRunAll, OfSim, ToRun, ToRunAll, ToSim, IsModuleFault, IsRefused}
+use Rattle.gl_top_inputs.proofs.Modules.{one_module_fault}
+use Rattle.gl_top_inputs.proofs.Texts.{asks_schema}
 use Rattle.gl_top.proofs.Dumps.{DumpFails}
 use Rattle.gl_top.proofs.Failing.{FailsAt, Failing, Fine, Lacking, Long, bad, one_error}
 

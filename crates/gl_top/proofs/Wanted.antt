@@ -2,14 +2,14 @@
 use Rattle.std.proofs.Common.{◌≡◌, ◌⊎◌, ℕ, List, Result, Ok, Err, inl, inr, refl, arith}
 use Rattle.std.specs.Prelude.{IfOk}
 use Rattle.gl_outside.specs.Told.{Told}
-use Rattle.gl_compiler_text.specs.declared.compiling.Compiled.{Compiled}
+use Rattle.gl_compiler.specs.declared.compiling.Compiled.{Compiled}
 use Rattle.gl_many.specs.declared.compiling.Many.{Many}
 use Rattle.gl_many.specs.Compiles.{statements_in}
-use Rattle.gl_top_words.specs.declared.command.Command.TheVariants as command
-use Rattle.gl_top_words.specs.declared.command.Part.TheVariants as part
-use Rattle.gl_top_words.specs.Forms.{IsCommand, IsNamed}
-use Rattle.gl_top_judging.specs.Figuring.{figure_lines, figure_lines_of_all}
-use Rattle.gl_top_judging.specs.Passing.{AreCompiledTogether, IsCompiled, QueriesPass, QueryPasses}
+use Rattle.gl_top_forms.specs.declared.command.Command.TheVariants as command
+use Rattle.gl_top_forms.specs.declared.command.Part.TheVariants as part
+use Rattle.gl_top_forms.specs.Forms.{IsCommand, IsNamed}
+use Rattle.gl_top_inputs.specs.Figuring.{figure_lines, figure_lines_of_all}
+use Rattle.gl_top_inputs.specs.Passing.{AreCompiledTogether, IsCompiled, QueriesPass, QueryPasses}
 use Rattle.gl_top.specs.Verdicts.{IsGiven, OfQueries, OfTexts}
 
 -- ---- the texts

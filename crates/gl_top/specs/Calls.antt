@@ -1,9 +1,9 @@
 -- What a call of the program leaves.
 use Rattle.std.specs.Prelude.{ℕ, List}
 use Rattle.gl_outside.specs.States.{ShelfState, SinkState}
-use Rattle.gl_top_notes.specs.declared.status.Status.{Status}
-use Rattle.gl_top_notes.specs.Refusals.{Puts, puts}
-use Rattle.gl_top_judging.specs.Causes.{Change, change}
+use Rattle.gl_top_status.specs.declared.status.Status.{Status}
+use Rattle.gl_top_status.specs.Refusals.{Puts, puts}
+use Rattle.gl_top_inputs.specs.Causes.{Change, change}
 use Rattle.gl_top.specs.declared.desk.Desk.{Desk}
 
 -- the words that it was given, the shelf, the output and the notes before and after it, the text that it left, and its

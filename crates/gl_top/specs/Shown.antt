@@ -5,14 +5,14 @@ use Rattle.gl_schema.specs.declared.schema.Schema.{Schema}
 use Rattle.gl_query.specs.declared.tree.Statement.{Statement}
 use Rattle.gl_elaborate.specs.Plans.{plan_of}
 use Rattle.gl_explain.specs.Lines.{plan_text}
-use Rattle.gl_compiler_text.specs.Built.{latency_of, gap_of}
-use Rattle.gl_compiler_text.specs.Meets.{Meets}
+use Rattle.gl_compiler.specs.Built.{latency_of, gap_of}
+use Rattle.gl_compiler.specs.Meets.{Meets}
 use Rattle.gl_many.specs.Meets.{MeetTogether, shared_gap}
-use Rattle.gl_top_words.specs.declared.command.Command.{Command}
-use Rattle.gl_top_words.specs.declared.command.Command.TheVariants.{Compile, Figures, Explain, Many, ManyFigures}
-use Rattle.gl_top_words.specs.Forms.{IsCommand}
-use Rattle.gl_top_judging.specs.Figuring.{IsFigured, figure_lines_of_all}
-use Rattle.gl_top_judging.specs.Passing.{QueriesPass, QueryPasses}
+use Rattle.gl_top_forms.specs.declared.command.Command.{Command}
+use Rattle.gl_top_forms.specs.declared.command.Command.TheVariants.{Compile, Figures, Explain, Many, ManyFigures}
+use Rattle.gl_top_forms.specs.Forms.{IsCommand}
+use Rattle.gl_top_inputs.specs.Figuring.{IsFigured, figure_lines_of_all}
+use Rattle.gl_top_inputs.specs.Passing.{QueriesPass, QueryPasses}
 
 -- what is written of the version
 unfoldable pub version_line : List ℕ

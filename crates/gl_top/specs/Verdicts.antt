@@ -11,8 +11,8 @@ use Rattle.gl_verilog_orders.specs.declared.start.Start.{Start}
 use Rattle.gl_verilog_orders.specs.declared.start.Start.TheVariants.{Zero}
 use Rattle.gl_tuples.specs.declared.beats.Beat.{Beat}
 use Rattle.gl_tuples.specs.Gaps.{plain_beats}
-use Rattle.gl_compiler_text.specs.Built.{latency_of, gap_of}
-use Rattle.gl_compiler_text.specs.Meets.{Meets, result_columns}
+use Rattle.gl_compiler.specs.Built.{latency_of, gap_of}
+use Rattle.gl_compiler.specs.Meets.{Meets, result_columns}
 use Rattle.gl_runner.specs.declared.executing.Outcome.{Outcome}
 use Rattle.gl_runner.specs.Prints.{HasRunOver, OfEachRun}
 use Rattle.gl_runner.specs.Prints as prints
@@ -21,35 +21,35 @@ use Rattle.gl_runner.specs.Dumps.{OfEachPorts}
 use Rattle.gl_runner.specs.Several.{RanAll}
 use Rattle.gl_compiler.specs.Dumpable.{DumpTells}
 use Rattle.gl_many.specs.Meets.{MeetTogether, shared_gap}
-use Rattle.gl_many_runner.specs.Runs.{OfAllRuns, faces_of}
+use Rattle.gl_many.specs.Runs.{OfAllRuns, faces_of}
 use Rattle.gl_runner.specs.declared.executing.Outcome.TheVariants as outcome
-use Rattle.gl_dumps.specs.declared.fault.VcdFault.{VcdFault}
-use Rattle.gl_dumps.specs.Dumped.{OfLines}
-use Rattle.gl_top_texts.specs.Texts.{HasText}
-use Rattle.gl_top_words.specs.declared.command.Part.TheVariants as part
+use Rattle.gl_vcd.specs.declared.fault.VcdFault.{VcdFault}
+use Rattle.gl_vcd.specs.Dumped.{OfLines}
+use Rattle.gl_top_status.specs.Texts.{HasText}
+use Rattle.gl_top_forms.specs.declared.command.Part.TheVariants as part
 use Rattle.gl_runner.specs.declared.tracing.Ending.{Ending}
 use Rattle.gl_runner.specs.declared.tracing.Ending.TheVariants as end
 use Rattle.gl_runner.specs.Traces.{OfRunsOf, TracesOut, decimal_kinds}
 use Rattle.gl_runner.specs.Traces as traces
 use Rattle.gl_verilog.specs.Module.{Module}
-use Rattle.gl_verilog_syntax.specs.declared.fault.VerilogFault.{VerilogFault}
-use Rattle.gl_top_words.specs.declared.command.Part.{Part}
-use Rattle.gl_top_notes.specs.declared.refusal.Refusal.{Refusal}
-use Rattle.gl_top_notes.specs.declared.status.Status.{Status}
-use Rattle.gl_top_notes.specs.declared.status.Status.TheVariants.{Done, WriteFault, ReadFault, Memory}
-use Rattle.gl_top_notes.specs.declared.status.Status.TheVariants as status
-use Rattle.gl_top_notes.specs.declared.refusal.Refusal.TheVariants as refusal
+use Rattle.gl_verilog_tokens.specs.declared.fault.VerilogFault.{VerilogFault}
+use Rattle.gl_top_forms.specs.declared.command.Part.{Part}
+use Rattle.gl_top_status.specs.declared.refusal.Refusal.{Refusal}
+use Rattle.gl_top_status.specs.declared.status.Status.{Status}
+use Rattle.gl_top_status.specs.declared.status.Status.TheVariants.{Done, WriteFault, ReadFault, Memory}
+use Rattle.gl_top_status.specs.declared.status.Status.TheVariants as status
+use Rattle.gl_top_status.specs.declared.refusal.Refusal.TheVariants as refusal
 use Rattle.gl_schema.specs.declared.fault.SchemaFault.{SchemaFault}
 use Rattle.gl_query.specs.declared.fault.QueryFault.{QueryFault}
 use Rattle.gl_tuples.specs.declared.fault.TupleFault.{TupleFault}
-use Rattle.gl_top_words.specs.declared.command.Command.TheVariants.{ManyRun, Run, Undump, Vcd, Version}
-use Rattle.gl_top_words.specs.Forms.{IsCommand, IsForm, IsLoadOf, IsNamed, IsOfRun, extra_of, name_of, start_of}
+use Rattle.gl_top_forms.specs.declared.command.Command.TheVariants.{ManyRun, Run, Undump, Vcd, Version}
+use Rattle.gl_top_forms.specs.Forms.{IsCommand, IsForm, IsLoadOf, IsNamed, IsOfRun, extra_of, name_of, start_of}
 use Rattle.gl_load.specs.Loads.{IsLoad}
 use Rattle.gl_top.specs.Calls.{Call}
 use Rattle.gl_top.specs.Shown.{AreShownOf, IsShownOf, version_line}
-use Rattle.gl_top_judging.specs.Passing.{QueriesPass, QueryPasses, TuplesPass, TuplesPassAll, FilePasses}
-use Rattle.gl_top_judging.specs.Causes.{HasCause, IsTooLong, IsBadSchema, IsBadQuery, IsOver, IsBadVerilog, IsRefused, AreBadTuples, IsBadDump}
-use Rattle.gl_top_notes.specs.Refusals.{Puts, Notes, status_of, note_of, no_end_line, write_line}
+use Rattle.gl_top_inputs.specs.Passing.{QueriesPass, QueryPasses, TuplesPass, TuplesPassAll, FilePasses}
+use Rattle.gl_top_inputs.specs.Causes.{HasCause, IsTooLong, IsBadSchema, IsBadQuery, IsOver, IsBadVerilog, IsRefused, AreBadTuples, IsBadDump}
+use Rattle.gl_top_status.specs.Refusals.{Puts, Notes, status_of, note_of, no_end_line, write_line}
 
 -- ---- what was written
 

@@ -3,15 +3,15 @@
 ghost use Rattle.std.specs.Prelude.{◌≡◌, ℕ, List, [], IfOk};
 ghost use Rattle.gl_outside.specs.States.{IsCalm};
 ghost use Rattle.gl_outside.specs.Told.{Told};
-ghost use Rattle.gl_top_judging.specs.Causes.{Change, Leaves};
+ghost use Rattle.gl_top_inputs.specs.Causes.{Change, Leaves};
 ghost use Rattle.gl_top.specs.Calls.{call_of, call_over};
 ghost use Rattle.gl_top.specs.Verdicts.{IsAnswer, IsRun};
 
 use crate::desk::Desk;
 use gl_compiler::Outcome;
 use gl_outside::{Shelf, Sink};
-use gl_top_notes::{Refusal, Status, tell, tell_write_fault};
-use gl_top_words::Taken;
+use gl_top_forms::Taken;
+use gl_top_status::{Refusal, Status, tell, tell_write_fault};
 use std::alloc::Global;
 
 /// What was compiled to be run, over what, and what is written of its run.

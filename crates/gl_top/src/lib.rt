@@ -1,10 +1,10 @@
 //! All that the program does, over any shelf and any sinks.
 //!
-//! Here belongs what each command does with the texts that gl_top_judging gives: `compile`, `figures`,
+//! Here belongs what each command does with the texts that gl_top_inputs gives: `compile`, `figures`,
 //! `run`, `vcd` and `load` on the text that a query is compiled to, `many`, `manyfigures` and `manyrun`
 //! on that of several queries, `sim` on a given Verilog text, `undump` on a given dump, and `--version` on none. `explain`
-//! belongs to gl_top_explain. The words' forms are those of gl_top_words, what they say is found by
-//! gl_top_matches, statuses and notes are those of gl_top_notes.
+//! belongs to gl_top_explain. The words' forms are those of gl_top_forms, what they say is found by
+//! gl_top_matches, statuses and notes are those of gl_top_status.
 #![tactic(auto)]
 
 mod chain;
@@ -18,6 +18,6 @@ mod version;
 mod writing;
 
 pub use desk::Desk;
-pub use gl_top_notes::Status;
-pub use gl_top_words::Part;
+pub use gl_top_forms::Part;
+pub use gl_top_status::Status;
 pub use running::run;

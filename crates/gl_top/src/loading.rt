@@ -2,9 +2,9 @@
 
 ghost use Rattle.std.specs.Prelude.{◌≡◌, ◌≤◌, []};
 ghost use Rattle.gl_outside.specs.States.{IsCalm};
-ghost use Rattle.gl_top_words.specs.declared.command.Command.TheVariants.{Load};
-ghost use Rattle.gl_top_words.specs.Forms.{IsCommand, IsLoadOf};
-ghost use Rattle.gl_top_judging.specs.Causes.{Change};
+ghost use Rattle.gl_top_forms.specs.declared.command.Command.TheVariants.{Load};
+ghost use Rattle.gl_top_forms.specs.Forms.{IsCommand, IsLoadOf};
+ghost use Rattle.gl_top_inputs.specs.Causes.{Change};
 ghost use Rattle.gl_top.specs.Calls.{call_of, call_over};
 ghost use Rattle.gl_top.specs.Verdicts.{IsAnswer};
 
@@ -12,8 +12,8 @@ use crate::desk::Desk;
 use crate::showing::show_text;
 use gl_load::load;
 use gl_outside::{Shelf, Sink};
-use gl_top_notes::{Refusal, Status, tell};
-use gl_top_words::Taken;
+use gl_top_forms::Taken;
+use gl_top_status::{Refusal, Status, tell};
 use std::alloc::Global;
 
 // Loads `count` tuples, keeps the text that was run, and writes what is told of it.

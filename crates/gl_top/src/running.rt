@@ -2,10 +2,9 @@
 
 ghost use Rattle.std.specs.Prelude.{◌≡◌, ◌≢◌, []};
 ghost use Rattle.gl_outside.specs.States.{Took};
-ghost use Rattle.gl_top_words.specs.Forms.{IsCommand};
+ghost use Rattle.gl_top_forms.specs.Forms.{IsCommand};
 ghost use Rattle.gl_top.specs.Calls.{call_of};
-ghost use Rattle.gl_top.specs.Verdicts.{IsAnswer, IsComplete, Says};
-ghost use Rattle.gl_top.specs.Verdicts.{TellsFaults, TellsForm, TellsRefusal};
+ghost use Rattle.gl_top.specs.Verdicts.{IsAnswer, IsComplete, Says, TellsFaults, TellsForm, TellsRefusal};
 
 use crate::chain::answer_run;
 use crate::desk::Desk;
@@ -15,13 +14,13 @@ use crate::tracing::answer_sim;
 use crate::undumping::answer_undump;
 use crate::version::version_text;
 use crate::writing::{Dump, Lines, NamedLines};
-use gl_compiler_text::Compiled;
+use gl_compiler::Compiled;
 use gl_many::Many;
 use gl_outside::{Shelf, Sink, Words};
 use gl_top_explain::answer_explain;
+use gl_top_forms::{Command, Taken, command_of};
 use gl_top_matches::take;
-use gl_top_notes::{Refusal, Status, tell_words};
-use gl_top_words::{Command, Taken, command_of};
+use gl_top_status::{Refusal, Status, tell_words};
 use std::alloc::Global;
 
 // Does what the words of a command say, and notes how that failed.

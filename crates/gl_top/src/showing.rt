@@ -4,22 +4,21 @@ ghost use Rattle.std.specs.Prelude.{◌≡◌, ◌⊎◌, ℕ, List, [], IfOk};
 ghost use Rattle.gl_many.specs.Compiles.{statements_in};
 ghost use Rattle.gl_outside.specs.States.{IsCalm};
 ghost use Rattle.gl_outside.specs.Told.{Told};
-ghost use Rattle.gl_top_words.specs.declared.command.Command.TheVariants as command;
-ghost use Rattle.gl_top_words.specs.Forms.{IsCommand};
-ghost use Rattle.gl_top_judging.specs.Causes.{Change, Leaves};
-ghost use Rattle.gl_top_judging.specs.Passing.{AreCompiledTogether, IsCompiled};
-ghost use Rattle.gl_top_judging.specs.Passing.{QueriesPass, QueryPasses};
+ghost use Rattle.gl_top_forms.specs.declared.command.Command.TheVariants as command;
+ghost use Rattle.gl_top_forms.specs.Forms.{IsCommand};
+ghost use Rattle.gl_top_inputs.specs.Causes.{Change, Leaves};
+ghost use Rattle.gl_top_inputs.specs.Passing.{AreCompiledTogether, IsCompiled, QueriesPass, QueryPasses};
 ghost use Rattle.gl_top.specs.Calls.{call_of, call_over};
 ghost use Rattle.gl_top.specs.Verdicts.{IsAnswer, IsGiven};
 
 use crate::desk::Desk;
 use gl_bits::Memory;
-use gl_compiler_text::Compiled;
+use gl_compiler::Compiled;
 use gl_many::Many;
 use gl_outside::{Shelf, Sink};
-use gl_top_judging::{figures_text, judge_compile, judge_many, many_figures_text};
-use gl_top_notes::{Refusal, Status, show, tell};
-use gl_top_words::Taken;
+use gl_top_forms::Taken;
+use gl_top_inputs::{figures_text, judge_compile, judge_many, many_figures_text};
+use gl_top_status::{Refusal, Status, show, tell};
 use std::alloc::Global;
 
 /// What was compiled of the texts of a command.

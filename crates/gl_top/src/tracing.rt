@@ -2,19 +2,19 @@
 
 ghost use Rattle.std.specs.Prelude.{◌≡◌, []};
 ghost use Rattle.gl_outside.specs.States.{IsCalm};
-ghost use Rattle.gl_top_words.specs.declared.command.Command.TheVariants.{Sim};
-ghost use Rattle.gl_top_words.specs.Forms.{IsCommand};
-ghost use Rattle.gl_top_judging.specs.Causes.{Change};
-ghost use Rattle.gl_top_judging.specs.Passing.{CanTrace, IsTraceable};
+ghost use Rattle.gl_top_forms.specs.declared.command.Command.TheVariants.{Sim};
+ghost use Rattle.gl_top_forms.specs.Forms.{IsCommand};
+ghost use Rattle.gl_top_inputs.specs.Causes.{Change};
+ghost use Rattle.gl_top_inputs.specs.Passing.{CanTrace, IsTraceable};
 ghost use Rattle.gl_top.specs.Calls.{call_of, call_over};
 ghost use Rattle.gl_top.specs.Verdicts.{IsAnswer};
 
 use crate::desk::Desk;
 use gl_outside::{Shelf, Sink};
 use gl_runner::{Ending, Task, trace};
-use gl_top_judging::{Fitted, Simulation, judge_sim};
-use gl_top_notes::{Refusal, Status, tell, tell_no_end, tell_write_fault};
-use gl_top_words::Taken;
+use gl_top_forms::Taken;
+use gl_top_inputs::{Fitted, Simulation, judge_sim};
+use gl_top_status::{Refusal, Status, tell, tell_no_end, tell_write_fault};
 use gl_verilog_orders::Start;
 use gl_verilog_ports::laws::inputs_are_ports;
 use std::alloc::Global;

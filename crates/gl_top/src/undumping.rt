@@ -2,19 +2,18 @@
 
 ghost use Rattle.std.specs.Prelude.{◌≡◌, []};
 ghost use Rattle.gl_outside.specs.States.{IsCalm};
-ghost use Rattle.gl_top_words.specs.declared.command.Command.TheVariants.{Undump};
-ghost use Rattle.gl_top_words.specs.Forms.{IsCommand};
-ghost use Rattle.gl_top_judging.specs.Causes.{Change};
-ghost use Rattle.gl_top_texts.specs.Texts.{HasText};
+ghost use Rattle.gl_top_forms.specs.declared.command.Command.TheVariants.{Undump};
+ghost use Rattle.gl_top_forms.specs.Forms.{IsCommand};
+ghost use Rattle.gl_top_inputs.specs.Causes.{Change};
+ghost use Rattle.gl_top_status.specs.Texts.{HasText};
 ghost use Rattle.gl_top.specs.Calls.{call_of, call_over};
 ghost use Rattle.gl_top.specs.Verdicts.{IsAnswer};
 
 use crate::desk::Desk;
-use gl_dumps::{Undump, undump};
 use gl_outside::{Shelf, Sink};
-use gl_top_notes::{Refusal, Status, tell, tell_write_fault};
-use gl_top_texts::fetch;
-use gl_top_words::{Part, Taken};
+use gl_top_forms::{Part, Taken};
+use gl_top_status::{Refusal, Status, fetch, tell, tell_write_fault};
+use gl_vcd::{Undump, undump};
 use std::alloc::Global;
 
 // Writes the lines that a dump shows, and notes how that failed.

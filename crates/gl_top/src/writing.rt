@@ -1,17 +1,17 @@
 //! What `run`, `vcd` and `manyrun` write of what they run.
 
-ghost use Rattle.gl_top_words.specs.declared.command.Command.TheVariants.{ManyRun, Run, Vcd};
-ghost use Rattle.gl_top_words.specs.Forms.{IsCommand};
-ghost use Rattle.gl_top_judging.specs.Passing.{AreReady, IsReady};
+ghost use Rattle.gl_top_forms.specs.declared.command.Command.TheVariants.{ManyRun, Run, Vcd};
+ghost use Rattle.gl_top_forms.specs.Forms.{IsCommand};
+ghost use Rattle.gl_top_inputs.specs.Passing.{AreReady, IsReady};
 
 use crate::chain::Runs;
 use gl_compiler::laws::dumps_tell;
 use gl_compiler::{Outcome, dump_compiled, run_compiled};
-use gl_many_runner::run_many;
+use gl_many::run_many;
 use gl_outside::{Shelf, Sink};
-use gl_top_judging::{Job, ManyJob, judge_many_run, judge_run};
-use gl_top_notes::Refusal;
-use gl_top_words::Taken;
+use gl_top_forms::Taken;
+use gl_top_inputs::{Job, ManyJob, judge_many_run, judge_run};
+use gl_top_status::Refusal;
 use std::alloc::Global;
 
 /// A compiled query of whose run the lines are written.

@@ -5,16 +5,16 @@ use Rattle.gl_outside.specs.Told.{Told}
 use Rattle.gl_outside.specs.States.{ShelfState, Stays, IsCalm}
 use Rattle.gl_outside.proofs.Counting.{calm_then}
 use Rattle.gl_schema.specs.declared.schema.Schema.{Schema}
-use Rattle.gl_query_judge.specs.Judged.{IsAcceptedText, IsQueryFault}
-use Rattle.gl_query_judge.specs.Limits.{IsOverLimit}
-use Rattle.gl_top_words.specs.declared.command.Command.TheVariants.{Explain}
-use Rattle.gl_top_words.specs.declared.command.Part.TheVariants as part
-use Rattle.gl_top_words.specs.Forms.{IsCommand, IsNamed}
-use Rattle.gl_top_notes.specs.declared.refusal.Refusal.{Refusal}
-use Rattle.gl_top_notes.specs.declared.refusal.Refusal.TheVariants as refusal
-use Rattle.gl_top_texts.specs.Texts.{HasText, SchemaPasses}
-use Rattle.gl_top_texts.proofs.Fetched.{has_text}
-use Rattle.gl_top_texts.proofs.Later.{same_told, unfetched_later}
+use Rattle.gl_query_texts.specs.Judged.{IsAcceptedText, IsQueryFault}
+use Rattle.gl_query_texts.specs.Limits.{IsOverLimit}
+use Rattle.gl_top_forms.specs.declared.command.Command.TheVariants.{Explain}
+use Rattle.gl_top_forms.specs.declared.command.Part.TheVariants as part
+use Rattle.gl_top_forms.specs.Forms.{IsCommand, IsNamed}
+use Rattle.gl_top_status.specs.declared.refusal.Refusal.{Refusal}
+use Rattle.gl_top_status.specs.declared.refusal.Refusal.TheVariants as refusal
+use Rattle.gl_top_status.specs.Texts.{HasText, SchemaPasses}
+use Rattle.gl_top_status.proofs.Fetched.{has_text}
+use Rattle.gl_top_status.proofs.Later.{same_told, unfetched_later}
 use Rattle.gl_top_explain.specs.Explaining.{IsExplained, IsExplainRefused}
 use Rattle.gl_top_explain.specs.Ending.{IsPlanText, IsUnexplained, Unfetched, OfFault, OfLimit, NoMemory, AtQuery, LeavesQuery, LeavesPlan}
 

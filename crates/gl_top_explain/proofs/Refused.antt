@@ -3,9 +3,9 @@ use Rattle.std.proofs.Common.{◌≡◌, ◌≢◌, ℕ, List, inl, inr, refl}
 use Rattle.gl_schema.specs.declared.schema.Schema.{Schema}
 use Rattle.gl_query.specs.declared.fault.QueryFault.{QueryFault}
 use Rattle.gl_query.specs.declared.fault.QueryFault.TheVariants as fault
-use Rattle.gl_query_judge.specs.Judged.{IsFaultOrMemory}
-use Rattle.gl_top_notes.specs.declared.refusal.Refusal.TheVariants as refusal
-use Rattle.gl_top_notes.specs.Refusals.{query_refusal}
+use Rattle.gl_query_texts.specs.Judged.{IsFaultOrMemory}
+use Rattle.gl_top_status.specs.declared.refusal.Refusal.TheVariants as refusal
+use Rattle.gl_top_status.specs.Refusals.{query_refusal}
 use Rattle.gl_top_explain.specs.Explaining.{IsExplainRefused}
 
 -- a fault is told as it is

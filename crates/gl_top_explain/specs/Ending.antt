@@ -6,18 +6,18 @@ use Rattle.gl_schema.specs.declared.schema.Schema.{Schema}
 use Rattle.gl_query.specs.declared.tree.Statement.{Statement}
 use Rattle.gl_query.specs.declared.fault.QueryFault.{QueryFault}
 use Rattle.gl_figures.specs.declared.Limit.{Limit}
-use Rattle.gl_query_judge.specs.Judged.{IsAcceptedText, IsQueryFault}
-use Rattle.gl_query_judge.specs.Limits.{IsOverLimit}
+use Rattle.gl_query_texts.specs.Judged.{IsAcceptedText, IsQueryFault}
+use Rattle.gl_query_texts.specs.Limits.{IsOverLimit}
 use Rattle.gl_elaborate.specs.Plans.{plan_of}
-use Rattle.gl_elaborate_plan.specs.Planned.{IsWithinLimits}
+use Rattle.gl_plan.specs.Planned.{IsWithinLimits}
 use Rattle.gl_explain.specs.Lines.{plan_text}
-use Rattle.gl_top_words.specs.declared.command.Part.TheVariants as part
-use Rattle.gl_top_notes.specs.declared.refusal.Refusal.{Refusal}
-use Rattle.gl_top_notes.specs.declared.refusal.Refusal.TheVariants as refusal
-use Rattle.gl_top_notes.specs.declared.status.Status.{Status}
-use Rattle.gl_top_notes.specs.Refusals.{Puts, Notes, status_of, note_of}
-use Rattle.gl_top_notes.specs.Written.{IsWritten}
-use Rattle.gl_top_texts.specs.Texts.{HasText, HasNoSchema, IsUnfetched, SchemaPasses}
+use Rattle.gl_top_forms.specs.declared.command.Part.TheVariants as part
+use Rattle.gl_top_status.specs.declared.refusal.Refusal.{Refusal}
+use Rattle.gl_top_status.specs.declared.refusal.Refusal.TheVariants as refusal
+use Rattle.gl_top_status.specs.declared.status.Status.{Status}
+use Rattle.gl_top_status.specs.Refusals.{Puts, Notes, status_of, note_of}
+use Rattle.gl_top_status.specs.Written.{IsWritten}
+use Rattle.gl_top_status.specs.Texts.{HasText, HasNoSchema, IsUnfetched, SchemaPasses}
 
 -- the texts that the words name pass, and the bytes are the statement and its plan
 pub record IsPlanText (told : List ℕ → Told) (words : List (List ℕ)) (bytes : List ℕ) : Type 0 where

@@ -2,15 +2,15 @@
 use Rattle.std.specs.Prelude.{◌≡◌, ℕ, List}
 use Rattle.gl_schema.specs.declared.schema.Schema.{Schema}
 use Rattle.gl_query.specs.declared.tree.Statement.{Statement}
-use Rattle.gl_query_judge.specs.Judged.{IsAcceptedText, IsQueryFault}
-use Rattle.gl_query_judge.specs.Limits.{IsOverLimit}
-use Rattle.gl_elaborate_plan.specs.declared.planning.PlanFault.{PlanFault}
-use Rattle.gl_elaborate_plan.specs.declared.planning.PlanFault.TheVariants as plan
+use Rattle.gl_query_texts.specs.Judged.{IsAcceptedText, IsQueryFault}
+use Rattle.gl_query_texts.specs.Limits.{IsOverLimit}
+use Rattle.gl_plan.specs.declared.planning.PlanFault.{PlanFault}
+use Rattle.gl_plan.specs.declared.planning.PlanFault.TheVariants as plan
 use Rattle.gl_elaborate.specs.Plans.{plan_of}
-use Rattle.gl_elaborate_plan.specs.Planned.{IsWithinLimits}
+use Rattle.gl_plan.specs.Planned.{IsWithinLimits}
 use Rattle.gl_explain.specs.Lines.{plan_text}
-use Rattle.gl_top_notes.specs.declared.refusal.Refusal.{Refusal}
-use Rattle.gl_top_notes.specs.declared.refusal.Refusal.TheVariants as refusal
+use Rattle.gl_top_status.specs.declared.refusal.Refusal.{Refusal}
+use Rattle.gl_top_status.specs.declared.refusal.Refusal.TheVariants as refusal
 
 -- the text's accepted statement, and its plan, which is within the limits
 pub record IsExplained (schema : Schema) (text bytes : List ℕ) : Type 0 where

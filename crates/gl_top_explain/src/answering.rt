@@ -1,18 +1,17 @@
 //! From the words of `explain S Q` to a status.
 
 ghost use Rattle.std.specs.Prelude.{◌≡◌, IfOk};
-ghost use Rattle.gl_top_words.specs.declared.command.Command.TheVariants.{Explain};
-ghost use Rattle.gl_top_words.specs.Forms.{IsCommand, IsNamed};
-ghost use Rattle.gl_top_notes.specs.Refusals.{puts};
-ghost use Rattle.gl_top_texts.specs.Texts.{SchemaPasses};
+ghost use Rattle.gl_top_forms.specs.declared.command.Command.TheVariants.{Explain};
+ghost use Rattle.gl_top_forms.specs.Forms.{IsCommand, IsNamed};
+ghost use Rattle.gl_top_status.specs.Refusals.{puts};
+ghost use Rattle.gl_top_status.specs.Texts.{SchemaPasses};
 ghost use Rattle.gl_top_explain.specs.Ending.{EndsExplain, IsPlanText, LeavesPlan, LeavesQuery};
 
 use crate::explaining::explain_query;
 use gl_outside::{Shelf, Sink};
 use gl_schema::Schema;
-use gl_top_notes::{Refusal, Status, show, tell};
-use gl_top_texts::{fetch, fetch_schema};
-use gl_top_words::{Part, Taken};
+use gl_top_forms::{Part, Taken};
+use gl_top_status::{Refusal, Status, fetch, fetch_schema, show, tell};
 use std::alloc::Global;
 
 // Fetches the query and explains it.

@@ -5,15 +5,15 @@ ghost use Rattle.gl_schema.specs.Schemas.{IsSchema};
 ghost use Rattle.gl_top_explain.specs.Explaining as told;
 ghost use Rattle.gl_top_explain.specs.Explaining.{IsExplained, IsExplainRefused};
 
-use gl_elaborate_plan::PlanFault;
 use gl_explain::explain;
-use gl_query_judge::judge_query;
+use gl_plan::PlanFault;
+use gl_query_texts::judge_query;
 use gl_schema::Schema;
-use gl_top_notes::Refusal;
+use gl_top_status::Refusal;
 use std::alloc::Global;
 
-// What a plan passes, as a refusal. (A `From` would stand in gl_top_notes, which is to stand on no
-// planner, or in gl_elaborate_plan, which knows of no refusal.)
+// What a plan passes, as a refusal. (A `From` would stand in gl_top_status, which is to stand on no
+// planner, or in gl_plan, which knows of no refusal.)
 fn plan_refusal(fault: PlanFault) -> Refusal
     ensures { result ≡ told.plan_refusal fault }
 {

@@ -2,7 +2,7 @@
 //! of `explain S Q` to a status.
 //!
 //! Here belongs which texts are explained and what refuses others. How a statement and its plan are
-//! written belongs to gl_explain, and the lines of refusals to gl_top_notes.
+//! written belongs to gl_explain, and the lines of refusals to gl_top_status.
 #![tactic(auto)]
 
 pub mod answering;

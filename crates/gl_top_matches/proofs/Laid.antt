@@ -4,7 +4,7 @@ use Rattle.std.specs.Prelude.{bytes_eq, ◌==◌}
 use Rattle.std.specs.List.{starts_with}
 use Rattle.std.proofs.lemmas.Bool.{eqb-true}
 use Rattle.gl_bits.proofs.Bools.{and_left, and_right, bytes_same}
-use Rattle.gl_top_words.specs.Forms.{is_dashed, names_in, option_front, values_in}
+use Rattle.gl_top_forms.specs.Forms.{is_dashed, names_in, option_front, values_in}
 
 -- each word is a name
 abbrev pub AreNames : List (List ℕ) → Type 0

@@ -1,7 +1,7 @@
 -- Where an option with its value may stand among three names, and what clap makes of each layout.
 use Rattle.std.proofs.Common.{◌≡◌, inl, inr, false, List, [], ◌∷◌, ◌++◌, length, Some, sym, subst}
 use Rattle.clap.specs.Words.{App, Text}
-use Rattle.gl_top_words.specs.Forms.{is_dashed, option_front}
+use Rattle.gl_top_forms.specs.Forms.{is_dashed, option_front}
 use Rattle.gl_top_matches.proofs.Ends.{Given}
 use Rattle.gl_top_matches.proofs.Laid.{AreNames, Placed, parted}
 

@@ -3,7 +3,7 @@ use Rattle.std.proofs.Common.{◌≡◌, false, [], ◌∷◌, None, refl}
 use Rattle.clap.specs.Words.{Text}
 use Rattle.clap.specs.Simple.{Shape, built}
 use Rattle.clap.specs.Walk.{nothing_held, walk_from}
-use Rattle.gl_top_words.specs.Forms.{is_dashed}
+use Rattle.gl_top_forms.specs.Forms.{is_dashed}
 use Rattle.gl_top_matches.specs.Apps.{no_name, one_name, two_names}
 use Rattle.gl_top_matches.proofs.Ends.{Given, IsAlone, given}
 use Rattle.gl_top_matches.proofs.Steps.{name, stop}

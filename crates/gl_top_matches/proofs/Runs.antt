@@ -3,8 +3,8 @@ use Rattle.std.proofs.Common.{◌≡◌, false, [], ◌∷◌, ◌++◌, Some, N
 use Rattle.clap.specs.Words.{App, Text}
 use Rattle.clap.specs.Simple.{Shape, built}
 use Rattle.clap.specs.Walk.{nothing_held, walked}
-use Rattle.gl_top_words.specs.declared.command.Command.TheVariants.{Run}
-use Rattle.gl_top_words.specs.Forms.{is_dashed, option_front}
+use Rattle.gl_top_forms.specs.declared.command.Command.TheVariants.{Run}
+use Rattle.gl_top_forms.specs.Forms.{is_dashed, option_front}
 use Rattle.gl_top_matches.specs.Apps.{app_for}
 use Rattle.gl_top_matches.proofs.Ends.{Given, IsAlone, given}
 use Rattle.gl_top_matches.proofs.Layouts.{Layouts}

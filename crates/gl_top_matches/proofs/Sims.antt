@@ -3,8 +3,8 @@ use Rattle.std.proofs.Common.{[], ◌∷◌, ◌++◌, Some, refl, codes}
 use Rattle.clap.specs.Words.{App, Text}
 use Rattle.clap.specs.Simple.{Shape, built}
 use Rattle.clap.specs.Walk.{nothing_held, walked}
-use Rattle.gl_top_words.specs.declared.command.Command.TheVariants.{Sim}
-use Rattle.gl_top_words.specs.Forms.{option_front}
+use Rattle.gl_top_forms.specs.declared.command.Command.TheVariants.{Sim}
+use Rattle.gl_top_forms.specs.Forms.{option_front}
 use Rattle.gl_top_matches.specs.Apps.{app_for}
 use Rattle.gl_top_matches.proofs.Ends.{IsAlone, given}
 use Rattle.gl_top_matches.proofs.Layouts.{Layouts}

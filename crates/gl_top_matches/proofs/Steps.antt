@@ -6,7 +6,7 @@ use Rattle.clap.specs.Lexer.{long_of, short_of}
 use Rattle.clap.specs.Simple.{Shape}
 use Rattle.clap.specs.Takes.{step_passes, turn_passes, walk_passes}
 use Rattle.clap.specs.Walk.{Held, Rule, Text, Walk, arg_by_id, arg_by_index, idle, option, option_word, to_positional, value, walked}
-use Rattle.gl_top_words.specs.Forms.{is_dashed}
+use Rattle.gl_top_forms.specs.Forms.{is_dashed}
 
 -- a word that is no flag
 record IsPlain (word : Text) : Type 0 where

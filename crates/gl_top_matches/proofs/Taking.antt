@@ -10,12 +10,12 @@ use Rattle.gl_verilog_orders.specs.declared.start.Start.TheVariants.{Zero}
 use Rattle.clap.specs.Words.{App, HasMatchesOf, Text, first_of, found_of, is_simple, matches_of, rows_of, takes}
 use Rattle.clap.specs.declared.parser.matches.ArgMatches.{ArgMatches}
 use Rattle.clap.proofs.WalkLemmas.{first_value-rows}
-use Rattle.gl_top_words.specs.declared.command.Command.{Command}
-use Rattle.gl_top_words.specs.declared.command.Command.TheVariants.{Compile, Figures, Explain, Run, Sim, Load, Vcd, Undump, Many, ManyFigures, ManyRun, Version}
-use Rattle.gl_top_words.specs.Forms.{IsCommand, extra_at, extra_in, extra_of, first_word, is_command, is_dashed, load_at, load_in, load_of, many_names, name_of, names_in, names_of, option_word, start_at, start_in, start_of, takes_values, values_in, values_of, word_of}
-use Rattle.gl_top_words.proofs.Named.{is_one}
+use Rattle.gl_top_forms.specs.declared.command.Command.{Command}
+use Rattle.gl_top_forms.specs.declared.command.Command.TheVariants.{Compile, Figures, Explain, Run, Sim, Load, Vcd, Undump, Many, ManyFigures, ManyRun, Version}
+use Rattle.gl_top_forms.specs.Forms.{IsCommand, extra_at, extra_in, extra_of, first_word, is_command, is_dashed, load_at, load_in, load_of, many_names, name_of, names_in, names_of, option_word, start_at, start_in, start_of, takes_values, values_in, values_of, word_of}
+use Rattle.gl_top_forms.proofs.Named.{is_one}
 use Rattle.gl_top_matches.specs.Apps.{Tells, app_for, two_names}
-use Rattle.gl_top_words.specs.Said.{IsSaid, extra_by, start_by}
+use Rattle.gl_top_forms.specs.Said.{IsSaid, extra_by, start_by}
 use Rattle.gl_top_matches.proofs.Ends.{Given}
 use Rattle.gl_top_matches.proofs.Laid.{AreNames, bare, placed, three}
 use Rattle.gl_top_matches.proofs.Names.{load_names, query_names, version_names}

@@ -2,13 +2,13 @@
 
 ghost use Rattle.std.specs.Prelude.{◌≡◌, IfOk};
 ghost use Rattle.clap.specs.Words.{app_of, with_rule};
-ghost use Rattle.gl_top_words.specs.Forms.{IsCommand};
+ghost use Rattle.gl_top_forms.specs.Forms.{IsCommand};
 ghost use Rattle.gl_top_matches.specs.Apps.{Tells, app_for, name_rule, no_name, one_name, option_rule, three_names, two_names};
 
 use clap::error::ErrorKind;
 use clap::{Arg, ArgMatches};
 use gl_outside::{Memory, Words};
-use gl_top_words::Command;
+use gl_top_forms::Command;
 use std::alloc::{AllocError, Global};
 
 // The command with a name more.

@@ -1,6 +1,6 @@
 //! The words of an accepted command line, taken apart by clap.
 //!
-//! Which words are accepted belongs to gl_top_words. Here belong the commands as clap has them, and
+//! Which words are accepted belongs to gl_top_forms. Here belong the commands as clap has them, and
 //! what it finds in words that are accepted.
 #![tactic(auto)]
 

@@ -2,12 +2,12 @@
 
 ghost use Rattle.std.specs.Prelude.{◌≡◌, [], IfOk, unwrap_or};
 ghost use Rattle.clap.specs.Words.{first_value, found_of};
-ghost use Rattle.gl_top_words.specs.Forms.{IsCommand};
+ghost use Rattle.gl_top_forms.specs.Forms.{IsCommand};
 
 use crate::commands::matches_of;
 use clap::ArgMatches;
 use gl_outside::{Memory, Words};
-use gl_top_words::{Command, Taken};
+use gl_top_forms::{Command, Taken};
 use std::alloc::Global;
 
 // The text that clap has for a name; no byte where it has none.

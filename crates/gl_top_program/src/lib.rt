@@ -4,18 +4,20 @@
 //! the code that the process ends with to `gl_top::run`. What is done stands there.
 #![tactic(auto)]
 
+pub mod arguments;
+
 ghost use Rattle.std.specs.Prelude.{◌≡◌, [], IfOk};
 ghost use Rattle.std.specs.Process.{exit_status};
 ghost use Rattle.gl_top.specs.Calls.{call_of};
-ghost use Rattle.gl_top_notes.specs.Statuses.{code_of};
-ghost use Rattle.gl_top_notes.specs.declared.status.Status.{Status};
+ghost use Rattle.gl_top_status.specs.Statuses.{code_of};
+ghost use Rattle.gl_top_status.specs.declared.status.Status.{Status};
 ghost use Rattle.gl_top_program.specs.Exits.{EndsAs};
 
+pub use arguments::words_in;
 use gl_outside::{FileShelf, Memory, Shelf, Sink, StreamSink, Words};
 use gl_top::{Desk, run};
-use gl_top_arguments::words_in;
-use gl_top_notes::{Status, exit_code};
-use gl_top_words::copied;
+use gl_top_forms::copied;
+use gl_top_status::{Status, exit_code};
 use std::alloc::Global;
 use std::env;
 use std::process::ExitCode;

@@ -23,7 +23,7 @@ ghost use Rattle.std.specs.Prelude.{◌≡◌, IfOk};
 
 use gl_outside::{Memory, MemoryShelf, MemorySink, Words};
 use gl_top::{Desk, run};
-use gl_top_words::copied;
+use gl_top_forms::copied;
 use std::alloc::Global;
 use std::io;
 

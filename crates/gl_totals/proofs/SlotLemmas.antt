@@ -12,7 +12,7 @@ use Rattle.gl_totals.specs.declared.rows.Keep.TheVariants.{Slots}
 use Rattle.gl_wire.specs.Gates.{same_at}
 use Rattle.gl_wire.specs.Wire.{line_at}
 use Rattle.gl_wire_lanes.proofs.FoldLemmas.{ahead_is_kept}
-use Rattle.gl_wire_memories.specs.Memories.{IsHeld}
+use Rattle.gl_wire_lanes.specs.Memories.{IsHeld}
 
 -- what is stored where a line is 1
 stored_line : (run : Run) (write : Bit) (address value k word t : ℕ) (w : Bool) → line_at run write (suc t) ≡ w

@@ -14,7 +14,7 @@ use gl_divide::digit::shift;
 use gl_net::{BinaryOp, Bit, Bus, NetBuilder};
 use gl_rows::operation::put_operator;
 use gl_wire::{both, but_not, either, same};
-use gl_wire_memories::put_memory;
+use gl_wire_lanes::put_memory;
 
 /// An end of the order.
 #[derive(Clone, Copy, PartialEq, Eq, Debug)]

@@ -30,7 +30,7 @@ pub fn line_into(cycle: u64, row: &Row, kinds: &[Kind], into: &mut [u8; 1024]) -
 
 /// Writes the values of a row at a place of a buffer, each behind a comma, and a line feed, as
 /// `line_into` does, and answers the place behind them, at most 680 further on.
-#[tactic(auto, using(crate::proofs::Lines::line_steps))]
+#[tactic(auto, using(crate::proofs::LineLemmas::line_steps))]
 pub fn values_into(row: &Row, kinds: &[Kind], into: &mut [u8; 1024], at: usize) -> usize
     requires room { at ≤ 200 }
     requires many { length kinds.now ≤ 32 }
@@ -150,7 +150,7 @@ pub(crate) fn small(word: Word) -> u64
 }
 
 /// Writes a text of at most this many bytes without its padding.
-#[tactic(auto, using(crate::proofs::Lines::line_steps))]
+#[tactic(auto, using(crate::proofs::LineLemmas::line_steps))]
 fn put_text(into: &mut [u8; 1024], at: usize, bits: u64, bytes: usize) -> usize
     requires room { at ≤ 1000 }
     requires short { bytes ≤ 8 }
@@ -163,7 +163,7 @@ fn put_text(into: &mut [u8; 1024], at: usize, bits: u64, bytes: usize) -> usize
 }
 
 /// Writes a text, in double quotes where it has a comma or a double quote.
-#[tactic(auto, using(crate::proofs::Lines::line_steps))]
+#[tactic(auto, using(crate::proofs::LineLemmas::line_steps))]
 fn put_quoted(into: &mut [u8; 1024], at: usize, text: &[u8]) -> usize
     requires room { at ≤ 1000 }
     requires short { length text.now ≤ 8 }
@@ -188,7 +188,7 @@ fn needs_quotes(text: &[u8]) -> bool
 }
 
 /// The bytes without the zero bytes at their end.
-#[tactic(auto, using(crate::proofs::Lines::line_steps))]
+#[tactic(auto, using(crate::proofs::LineLemmas::line_steps))]
 fn unpadded(bytes: &[u8]) -> &[u8]
     ensures short { length result.now ≤ length bytes.now }
     ensures text { result.now ≡ seen.unpadded bytes.now }
@@ -201,7 +201,7 @@ fn unpadded(bytes: &[u8]) -> &[u8]
 }
 
 /// Writes bytes with each double quote twice.
-#[tactic(auto, using(crate::proofs::Lines::line_steps))]
+#[tactic(auto, using(crate::proofs::LineLemmas::line_steps))]
 fn put_doubled(into: &mut [u8; 1024], at: usize, bytes: &[u8]) -> usize
     requires { at + 2 * length bytes.now ≤ 1024 }
     ensures end { result ≤ at + 2 * length bytes.now }

@@ -3,8 +3,7 @@
 ghost use Rattle.std.specs.Prelude.{◌≡◌, true, false, IfOk};
 ghost use Rattle.gl_verilog.specs.View.{declaration_of, statement_of, module_of, expr_of};
 ghost use Rattle.gl_verilog.specs.Runnable.{IsRunnable};
-ghost use Rattle.gl_verilog_check.specs.Kept.{driver_there, all_driven, all_sized, all_kept, test_kept, statement_kept, blocks_kept};
-ghost use Rattle.gl_verilog_check.specs.Kept.{scope_of, statements_of, CanRun};
+ghost use Rattle.gl_verilog_check.specs.Kept.{driver_there, all_driven, all_sized, all_kept, test_kept, statement_kept, blocks_kept, scope_of, statements_of, CanRun};
 ghost use Rattle.gl_verilog_check.specs.Orders.{meant};
 
 use crate::order::{mark_targets, no_marks, order_marked};

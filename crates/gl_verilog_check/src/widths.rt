@@ -3,8 +3,7 @@
 ghost use Rattle.std.specs.Prelude.{◌≡◌, slice_get, option_map, unwrap_or, true};
 ghost use Rattle.gl_verilog.specs.View.{declaration_of, expr_of, assignment_of, kind_of, op_of};
 ghost use Rattle.gl_verilog.specs.Widths.{width_after};
-ghost use Rattle.gl_verilog_check.specs.Kept.{scope_of};
-ghost use Rattle.gl_verilog_check.specs.Kept.{is_memory, net_width, part_width, word_width, kept, has_address, is_driven, is_register, assigned_width, clock_test, literal_width, both_width, choose_width, join_width, only_taken, put_width, write_width, memory_fits, has_size, reads};
+ghost use Rattle.gl_verilog_check.specs.Kept.{scope_of, is_memory, net_width, part_width, word_width, kept, has_address, is_driven, is_register, assigned_width, clock_test, literal_width, both_width, choose_width, join_width, only_taken, put_width, write_width, memory_fits, has_size, reads};
 
 use gl_verilog::{Assignment, BinaryOp, Declaration, Expr, Kind};
 

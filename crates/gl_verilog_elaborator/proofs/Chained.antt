@@ -11,9 +11,9 @@ use Rattle.gl_verilog.specs.declared.module.Statement as stmt
 use Rattle.gl_verilog.specs.View as meant
 use Rattle.gl_verilog.specs.View.{chained}
 use Rattle.gl_verilog.proofs.Chains as chains
-use Rattle.gl_verilog_syntax.specs.declared.written.WrittenStatement as code
-use Rattle.gl_verilog_syntax.specs.declared.written.WrittenStatement.{WrittenStatement, IfThen', IfElse', Block'}
-use Rattle.gl_verilog_syntax.specs.View.{statement_of}
+use Rattle.gl_verilog_tokens.specs.declared.written.WrittenStatement as code
+use Rattle.gl_verilog_tokens.specs.declared.written.WrittenStatement.{WrittenStatement, IfThen', IfElse', Block'}
+use Rattle.gl_verilog_tokens.specs.View.{statement_of}
 use Rattle.gl_verilog_faults.specs.Demands.{is_among}
 use Rattle.gl_verilog_elaborator.specs.Judged.{Broken, then', Typed, judged_expr, Drivers, with_name, driven, passed_by, left_list, Stated, stated, put_target, judged_put, write_target, judged_write, judged_test, judged_in}
 use Rattle.gl_verilog_elaborator.proofs.Steps.{left_at}

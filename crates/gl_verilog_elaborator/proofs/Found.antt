@@ -12,10 +12,10 @@ use Rattle.gl_verilog.specs.Resolve.{decimal_number, declare, declare_port, port
 use Rattle.gl_verilog.specs.View.{declaration_of, kind_of}
 use Rattle.gl_verilog.specs.declared.module.Declaration as code
 use Rattle.gl_verilog_faults.specs.Demands.{Rule, NeverDriven, TwiceDeclared, TooWide, is_among, name_token}
-use Rattle.gl_verilog_syntax.specs.declared.token.Word.{Word}
-use Rattle.gl_verilog_syntax.specs.declared.written.WrittenPort.{WrittenPort}
-use Rattle.gl_verilog_syntax.specs.View.{name_of, range_of, direction_of, port_of}
-use Rattle.gl_verilog_syntax.proofs.Views.{port-is}
+use Rattle.gl_verilog_tokens.specs.declared.token.Word.{Word}
+use Rattle.gl_verilog_tokens.specs.declared.written.WrittenPort.{WrittenPort}
+use Rattle.gl_verilog_tokens.specs.View.{name_of, range_of, direction_of, port_of}
+use Rattle.gl_verilog_tokens.proofs.Views.{port-is}
 use Rattle.gl_verilog_elaborator.specs.declared.scope.Declared.{Declared}
 use Rattle.gl_verilog_elaborator.specs.Judged.{Broken, asks, known, known_as, known_at, with_name}
 use Rattle.gl_verilog_elaborator.specs.Elaborated.{Scope, scope, with_declaration, is_new, declared, new_width, port_token, Elaborated, driven_kind, all_driven}

@@ -5,7 +5,7 @@ use Rattle.std.proofs.lemmas.List.{map-append}
 use Rattle.gl_verilog.specs.Module.{Declaration, Net}
 use Rattle.gl_verilog.specs.Written as written
 use Rattle.gl_verilog_faults.specs.Demands.{TooWide}
-use Rattle.gl_verilog_syntax.specs.View.{parts_list}
+use Rattle.gl_verilog_tokens.specs.View.{parts_list}
 use Rattle.gl_verilog_elaborator.specs.Judged.{Broken, then', asks, closed, Typed, typed, joined, joined_on, widths_of, judged_expr, judged_parts, judged_braces}
 use Rattle.gl_verilog_elaborator.proofs.Steps.{left_at}
 

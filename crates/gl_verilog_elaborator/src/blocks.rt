@@ -4,14 +4,14 @@ ghost use Rattle.std.specs.Prelude.{map};
 ghost use Rattle.gl_verilog.specs.Written.{listed, IfThen, IfElse, Block};
 ghost use Rattle.gl_verilog_elaborator.specs.Judged as judged;
 ghost use Rattle.gl_verilog_elaborator.specs.View.{Gives, declarations_of, drivers_of, stated_of};
-ghost use Rattle.gl_verilog_syntax.specs.View.{expr_of, statement_of};
+ghost use Rattle.gl_verilog_tokens.specs.View.{expr_of, statement_of};
 
 use crate::drivers::{Drivers, leave_list, pass_by};
 use crate::scope::{Scope, further};
 use crate::statements::{Stated, choice, test_typed, update, update_word};
 use crate::stop::Stop;
 use gl_verilog::Statement;
-use gl_verilog_syntax::{WrittenExpr, WrittenStatement};
+use gl_verilog_tokens::{WrittenExpr, WrittenStatement};
 use std::alloc::Global;
 
 // A `begin`, which is the token k, with its list of statements.
@@ -96,7 +96,7 @@ fn if_else_made<'a>(
 
 /// What a statement means whose first token is k.
 #[cycle(statement)]
-#[tactic(auto, using(gl_verilog_syntax::proofs::Views::statements, gl_verilog_syntax::proofs::Views::block_is))]
+#[tactic(auto, using(gl_verilog_tokens::proofs::Views::statements, gl_verilog_tokens::proofs::Views::block_is))]
 pub(crate) fn statement_made<'a>(
     alloc: Global,
     scope: &Scope,

@@ -5,12 +5,12 @@ ghost use Rattle.gl_verilog.specs.Resolve as resolve;
 ghost use Rattle.gl_verilog.specs.View.{kind_of};
 ghost use Rattle.gl_verilog_elaborator.specs.Elaborated as made;
 ghost use Rattle.gl_verilog_elaborator.specs.View.{Gives, scope_of};
-ghost use Rattle.gl_verilog_syntax.specs.View.{name_of, names_of, range_of, port_of, direction_of};
+ghost use Rattle.gl_verilog_tokens.specs.View.{name_of, names_of, range_of, port_of, direction_of};
 
 use crate::scope::{Declared, Scope, add, further, is_new};
 use crate::stop::{Rule, Stop};
 use gl_verilog::Kind;
-use gl_verilog_syntax::{Direction, Word, WrittenPort, small_number, tokens_before};
+use gl_verilog_tokens::{Direction, Word, WrittenPort, small_number, tokens_before};
 
 // The bits of a range, or the one bit without a range, where they are at most 128.
 fn width_in(range: Option<Word>) -> Option<u8>

@@ -6,10 +6,10 @@ ghost use Rattle.gl_verilog_elaborator.specs.Judged as judged;
 ghost use Rattle.gl_verilog_elaborator.specs.Judged.{with_name};
 ghost use Rattle.gl_verilog_elaborator.specs.Elaborated as made;
 ghost use Rattle.gl_verilog_elaborator.specs.View.{is_broken, names_in, drivers_of};
-ghost use Rattle.gl_verilog_syntax.specs.View.{name_of};
+ghost use Rattle.gl_verilog_tokens.specs.View.{name_of};
 
 use crate::stop::Stop;
-use gl_verilog_syntax::Word;
+use gl_verilog_tokens::Word;
 use indexmap::IndexSet;
 
 /// The names that have a driver: of earlier items, of this block too, of earlier statements of the

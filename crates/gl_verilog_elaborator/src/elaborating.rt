@@ -8,7 +8,7 @@ ghost use Rattle.gl_verilog_elaborator.specs.Judged.{no_drivers};
 ghost use Rattle.gl_verilog_elaborator.specs.Elaborated as made;
 ghost use Rattle.gl_verilog_elaborator.specs.Meant.{IsElaboration, looped_at};
 ghost use Rattle.gl_verilog_elaborator.specs.View.{Gives, is_broken, broken_of, names_in, declarations_of, tokens_of, scope_of, drivers_of, elaborated_of};
-ghost use Rattle.gl_verilog_syntax.specs.View.{module_of, name_of};
+ghost use Rattle.gl_verilog_tokens.specs.View.{module_of, name_of};
 
 use crate::declarations::declare_ports;
 use crate::drivers::{Drivers, has};
@@ -18,7 +18,7 @@ use crate::stop::{Rule, Stop};
 use gl_bits::Listed;
 use gl_verilog::{Declaration, Kind, Module};
 use gl_verilog_loops::first_looped;
-use gl_verilog_syntax::{Word, WrittenModule};
+use gl_verilog_tokens::{Word, WrittenModule};
 use indexmap::{IndexMap, IndexSet};
 use std::alloc::Global;
 

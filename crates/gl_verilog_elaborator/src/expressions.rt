@@ -7,13 +7,13 @@ ghost use Rattle.gl_verilog.specs.View.{kind_of, op_of};
 ghost use Rattle.gl_verilog_faults.specs.Demands.{address_kind, gives_bit, takes_bits, takes_prefix};
 ghost use Rattle.gl_verilog_elaborator.specs.Judged as judged;
 ghost use Rattle.gl_verilog_elaborator.specs.View.{Gives, declarations_of, known_of, typed_of};
-ghost use Rattle.gl_verilog_syntax.specs.View.{name_of, prefix_of, infix_of};
+ghost use Rattle.gl_verilog_tokens.specs.View.{name_of, prefix_of, infix_of};
 
 use crate::numbers::{big_number, literal_fits, narrow, part_of};
 use crate::scope::{Known, Scope, further, read};
 use crate::stop::{Rule, Stop};
 use gl_verilog::{BinaryOp, Expr, Kind};
-use gl_verilog_syntax::{InfixOp, PrefixOp, Word};
+use gl_verilog_tokens::{InfixOp, PrefixOp, Word};
 use std::alloc::Global;
 
 /// What an expression means, its width, and the number of the token behind it.

@@ -5,7 +5,7 @@ ghost use Rattle.gl_verilog.specs.View.{kind_of};
 ghost use Rattle.gl_verilog_faults.specs.Demands.{is_wire_kind};
 ghost use Rattle.gl_verilog_elaborator.specs.Elaborated as made;
 ghost use Rattle.gl_verilog_elaborator.specs.View.{Gives, declarations_of, drivers_of, typed_of, elaborated_of};
-ghost use Rattle.gl_verilog_syntax.specs.View.{name_of, names_of, range_of, expr_of, statement_of, item_of};
+ghost use Rattle.gl_verilog_tokens.specs.View.{name_of, names_of, range_of, expr_of, statement_of, item_of};
 
 use crate::blocks::statement_made;
 use crate::declarations::{declare_all, declare_memory};
@@ -15,7 +15,7 @@ use crate::scope::{Scope, further, named};
 use crate::stop::{Rule, Stop};
 use crate::trees::expr_typed;
 use gl_verilog::{Assignment, Kind, Statement};
-use gl_verilog_syntax::{Word, WrittenExpr, WrittenItem, WrittenStatement, tokens_of_range};
+use gl_verilog_tokens::{Word, WrittenExpr, WrittenItem, WrittenStatement, tokens_of_range};
 use std::alloc::Global;
 
 /// What was elaborated so far: declarations, assignments with the tokens of their targets, blocks,
@@ -206,7 +206,7 @@ fn take_block<'a>(
 }
 
 // An item.
-#[tactic(auto, using(gl_verilog_syntax::proofs::Views::items))]
+#[tactic(auto, using(gl_verilog_tokens::proofs::Views::items))]
 fn take_item<'a>(alloc: Global, e: &mut Elaborated<'a>, item: &WrittenItem<'a>) -> Result<(), Stop>
     ensures { Gives (λ _. elaborated_of e.new) (made.elaborated_item (elaborated_of e.old)
         (item_of item.now)) result }

@@ -8,7 +8,7 @@ ghost use Rattle.gl_verilog_elaborator.specs.Numbers.{value_of, grown};
 ghost use Rattle.gl_verilog_elaborator.specs.View.{is_broken};
 
 use crate::stop::Stop;
-use gl_verilog_syntax::{digit_of, small_number};
+use gl_verilog_tokens::{digit_of, small_number};
 use std::alloc::{AllocError, Global};
 
 // The number so far, and one more digit, where it is below 2^128.

@@ -5,11 +5,11 @@ ghost use Rattle.gl_verilog_faults.specs.Demands.{is_among};
 ghost use Rattle.gl_verilog_elaborator.specs.Judged as judged;
 ghost use Rattle.gl_verilog_elaborator.specs.Elaborated as made;
 ghost use Rattle.gl_verilog_elaborator.specs.View.{Gives, is_broken, declared_as, declarations_of, scope_of, known_of};
-ghost use Rattle.gl_verilog_syntax.specs.View.{name_of};
+ghost use Rattle.gl_verilog_tokens.specs.View.{name_of};
 
 use crate::stop::{Rule, Stop};
 use gl_verilog::Kind;
-use gl_verilog_syntax::Word;
+use gl_verilog_tokens::Word;
 use indexmap::IndexMap;
 
 /// A declaration without its name, and the number of the token of the name.

@@ -7,7 +7,7 @@ ghost use Rattle.gl_verilog.specs.View.{kind_of, statement_of as meant_of, expr_
 ghost use Rattle.gl_verilog_faults.specs.Demands.{is_clocked_kind};
 ghost use Rattle.gl_verilog_elaborator.specs.Judged as judged;
 ghost use Rattle.gl_verilog_elaborator.specs.View.{Gives, declarations_of, typed_of, drivers_of, stated_of};
-ghost use Rattle.gl_verilog_syntax.specs.View.{name_of, expr_of};
+ghost use Rattle.gl_verilog_tokens.specs.View.{name_of, expr_of};
 
 use crate::drivers::{Drivers, drive, has};
 use crate::expressions::{Typed, address_bits, is_memory};
@@ -15,7 +15,7 @@ use crate::scope::{Scope, further, named};
 use crate::stop::{Rule, Stop};
 use crate::trees::expr_typed;
 use gl_verilog::{Expr, Kind, Statement};
-use gl_verilog_syntax::{Word, WrittenExpr};
+use gl_verilog_tokens::{Word, WrittenExpr};
 use std::alloc::Global;
 
 /// What a statement means, and the number of the token behind it.

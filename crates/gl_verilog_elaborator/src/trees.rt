@@ -4,7 +4,7 @@ ghost use Rattle.std.specs.Prelude.{◌≡◌, ◌≤◌, ◌+◌, [], map, nat_
 ghost use Rattle.gl_verilog.specs.Written.{BitOf, PartOf, WordOf, Braces, Parens, Prefix, Infix, Conditional};
 ghost use Rattle.gl_verilog_elaborator.specs.Judged as judged;
 ghost use Rattle.gl_verilog_elaborator.specs.View.{Gives, declarations_of, typed_of};
-ghost use Rattle.gl_verilog_syntax.specs.View.{name_of, prefix_of, infix_of, expr_of, parts_list};
+ghost use Rattle.gl_verilog_tokens.specs.View.{name_of, prefix_of, infix_of, expr_of, parts_list};
 
 use crate::expressions::{
     Typed, choice, closed, infix, literal, memory, net, prefix, select, word,
@@ -12,7 +12,7 @@ use crate::expressions::{
 use crate::scope::{Scope, further};
 use crate::stop::{Rule, Stop};
 use gl_verilog::Expr;
-use gl_verilog_syntax::{InfixOp, PrefixOp, Word, WrittenExpr};
+use gl_verilog_tokens::{InfixOp, PrefixOp, Word, WrittenExpr};
 use std::alloc::Global;
 
 // Whether parts have at most 128 bits together with a last one.
@@ -243,7 +243,7 @@ fn choice_typed(
 
 /// What an expression means whose first token is k.
 #[cycle(tree)]
-#[tactic(auto, using(gl_verilog_syntax::proofs::Views::expressions))]
+#[tactic(auto, using(gl_verilog_tokens::proofs::Views::expressions))]
 pub(crate) fn expr_typed(
     alloc: Global,
     scope: &Scope,

@@ -9,8 +9,8 @@ use Rattle.gl_verilog.specs.Resolve.{resolve, resolve_items, module_from, declar
 use Rattle.gl_verilog.specs.Tokens.{IsPlaceOf}
 use Rattle.gl_verilog.specs.View.{module_of}
 use Rattle.gl_verilog.specs.Written.{WrittenPort, WrittenModule, spell_port}
-use Rattle.gl_verilog_syntax.specs.declared.fault.VerilogFault.{VerilogFault}
-use Rattle.gl_verilog_syntax.specs.declared.fault.VerilogFault.TheVariants.{BadPort}
+use Rattle.gl_verilog_tokens.specs.declared.fault.VerilogFault.{VerilogFault}
+use Rattle.gl_verilog_tokens.specs.declared.fault.VerilogFault.TheVariants.{BadPort}
 use Rattle.gl_verilog_reader.specs.declared.source.Source.{Source}
 use Rattle.gl_verilog_reader.specs.Sources.{IsSource, port_tokens}
 use Rattle.gl_verilog_ports.specs.declared.fitting.Ports.{Ports}

@@ -1,8 +1,8 @@
 -- What is owed where the ports of a module that was read do not fit.
 use Rattle.std.specs.Prelude.{◌≡◌, ℕ, List, Err}
 use Rattle.gl_schema.specs.declared.schema.Schema.{Schema}
-use Rattle.gl_verilog_syntax.specs.declared.fault.VerilogFault.{VerilogFault}
-use Rattle.gl_verilog_syntax.specs.declared.fault.VerilogFault.TheVariants.{BadPort}
+use Rattle.gl_verilog_tokens.specs.declared.fault.VerilogFault.{VerilogFault}
+use Rattle.gl_verilog_tokens.specs.declared.fault.VerilogFault.TheVariants.{BadPort}
 use Rattle.gl_verilog_reader.specs.declared.source.Source.{Source}
 use Rattle.gl_verilog_reader.specs.Sources.{IsSource}
 use Rattle.gl_verilog_fit.specs.Places.{fit_at, IsPortFault}

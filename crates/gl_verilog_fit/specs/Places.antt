@@ -8,8 +8,8 @@ use Rattle.gl_verilog.specs.Limits.{IsWithinLimits}
 use Rattle.gl_verilog.specs.Resolve.{resolve}
 use Rattle.gl_verilog.specs.Valid.{IsValid}
 use Rattle.gl_verilog.specs.View.{module_of}
-use Rattle.gl_verilog_syntax.specs.declared.fault.VerilogFault.{VerilogFault}
-use Rattle.gl_verilog_syntax.specs.declared.fault.VerilogFault.TheVariants.{BadPort}
+use Rattle.gl_verilog_tokens.specs.declared.fault.VerilogFault.{VerilogFault}
+use Rattle.gl_verilog_tokens.specs.declared.fault.VerilogFault.TheVariants.{BadPort}
 use Rattle.gl_verilog_reader.specs.declared.source.Source.{Source}
 use Rattle.gl_verilog_reader.specs.Sources.{port_tokens}
 use Rattle.gl_verilog_ports.specs.declared.fitting.Ports.{Ports}

@@ -6,7 +6,7 @@ ghost use Rattle.gl_verilog_fit.specs.Places as places;
 use gl_schema::Schema;
 use gl_verilog_ports::{Misfit, Ports, find_ports};
 use gl_verilog_reader::Source;
-use gl_verilog_syntax::VerilogFault;
+use gl_verilog_tokens::VerilogFault;
 
 // The place of what shows a misfit.
 fn place_of(source: &Source, misfit: Misfit) -> u64

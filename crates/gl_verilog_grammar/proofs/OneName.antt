@@ -1,7 +1,7 @@
 -- A list of one name.
 use Rattle.std.proofs.Common.{◌≡◌, ◌<◌, ◌≤◌, List, [], ◌∷◌, length, get_or, Option, Some, sym, ap, arith}
-use Rattle.gl_verilog_syntax.specs.declared.token.Word.{Word}
-use Rattle.gl_verilog_syntax.specs.View.{range_of, names_of}
+use Rattle.gl_verilog_tokens.specs.declared.token.Word.{Word}
+use Rattle.gl_verilog_tokens.specs.View.{range_of, names_of}
 use Rattle.gl_verilog_grammar.specs.declared.stage.Sort.{Sort}
 use Rattle.gl_verilog_grammar.specs.declared.stage.Sort.TheVariants as sort_is
 use Rattle.gl_verilog_grammar.specs.declared.stage.Plain.TheVariants as plain_is

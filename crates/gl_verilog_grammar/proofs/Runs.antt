@@ -6,11 +6,11 @@ use Rattle.gl_verilog.specs.Tokens.{Token}
 use Rattle.gl_verilog.specs.Written.{WrittenModule}
 use Rattle.gl_verilog_faults.specs.Counts.{Counts, after, is_past}
 use Rattle.gl_verilog_faults.specs.Marks.{State as Place, role_at, next}
-use Rattle.gl_verilog_syntax.specs.declared.token.Lexeme.{Lexeme}
-use Rattle.gl_verilog_syntax.specs.declared.fault.VerilogFault.{VerilogFault}
-use Rattle.gl_verilog_syntax.specs.declared.fault.VerilogFault.TheVariants as fault
-use Rattle.gl_verilog_syntax.specs.declared.written.WrittenModule as code
-use Rattle.gl_verilog_syntax.specs.View.{module_of, token_of, tokens_in}
+use Rattle.gl_verilog_tokens.specs.declared.token.Lexeme.{Lexeme}
+use Rattle.gl_verilog_tokens.specs.declared.fault.VerilogFault.{VerilogFault}
+use Rattle.gl_verilog_tokens.specs.declared.fault.VerilogFault.TheVariants as fault
+use Rattle.gl_verilog_tokens.specs.declared.written.WrittenModule as code
+use Rattle.gl_verilog_tokens.specs.View.{module_of, token_of, tokens_in}
 use Rattle.gl_verilog_grammar.specs.Machine.{State, step, finish}
 use Rattle.gl_verilog_grammar.specs.Reading.{Fault, Syntax, TooDeep, or_fault, read_from}
 use Rattle.gl_verilog_grammar.specs.Answers.{place_in, Stand, read_on, Goes, IsGiven, StopsAt, IsRead}

@@ -9,11 +9,11 @@ use Rattle.gl_verilog_faults.specs.Counts.{none_counted, keeps_limits}
 use Rattle.gl_verilog_faults.specs.Marks.{Header, marks}
 use Rattle.gl_verilog_faults.specs.Faults.{KeepsFront, Stops}
 use Rattle.gl_verilog_faults.proofs.Exact.{keeps_tokens, spelled_keeps}
-use Rattle.gl_verilog_syntax.specs.declared.token.Lexeme.{Lexeme}
-use Rattle.gl_verilog_syntax.specs.declared.fault.VerilogFault.{VerilogFault}
-use Rattle.gl_verilog_syntax.specs.declared.fault.VerilogFault.TheVariants as fault
-use Rattle.gl_verilog_syntax.specs.declared.written.WrittenModule as code
-use Rattle.gl_verilog_syntax.specs.View.{tokens_in, module_of}
+use Rattle.gl_verilog_tokens.specs.declared.token.Lexeme.{Lexeme}
+use Rattle.gl_verilog_tokens.specs.declared.fault.VerilogFault.{VerilogFault}
+use Rattle.gl_verilog_tokens.specs.declared.fault.VerilogFault.TheVariants as fault
+use Rattle.gl_verilog_tokens.specs.declared.written.WrittenModule as code
+use Rattle.gl_verilog_tokens.specs.View.{tokens_in, module_of}
 use Rattle.gl_verilog_grammar.specs.Reading.{Fault, Syntax, TooDeep}
 use Rattle.gl_verilog_grammar.specs.Answers.{IsSyntaxAt, IsDeepAt, IsFaultOf, IsAnswer, IsOnly, IsGiven, IsRead, read_all, place_in}
 use Rattle.gl_verilog_grammar.proofs.ReadModules.{one_spelt}

@@ -4,10 +4,10 @@ use Rattle.std.specs.Prelude.{map}
 use Rattle.std.proofs.lemmas.List.{reverse-append, map-append}
 use Rattle.gl_verilog.specs.Written as written
 use Rattle.gl_verilog_grammar.specs.Stages as machine
-use Rattle.gl_verilog_syntax.specs.declared.written.WrittenExpr.{WrittenExpr}
+use Rattle.gl_verilog_tokens.specs.declared.written.WrittenExpr.{WrittenExpr}
 use Rattle.gl_verilog_grammar.specs.declared.frames.Frame.{Frame}
-use Rattle.gl_verilog_syntax.proofs.Views.{braces_are, block_is}
-use Rattle.gl_verilog_syntax.specs.View.{parts_list}
+use Rattle.gl_verilog_tokens.proofs.Views.{braces_are, block_is}
+use Rattle.gl_verilog_tokens.specs.View.{parts_list}
 use Rattle.gl_verilog_grammar.specs.View.{frame_of, frames_of}
 
 pub frames-push : (frames : List Frame) (x : Frame) → frames_of (frames ++ x ∷ []) ≡ frame_of x ∷ frames_of frames

@@ -2,18 +2,18 @@
 use Rattle.std.proofs.Common.{◌≡◌, ℕ, Option, Vec, Box, Global, refl}
 use Rattle.std.specs.Prelude.{map}
 use Rattle.gl_verilog_grammar.specs.Machine as machine
-use Rattle.gl_verilog_syntax.specs.declared.token.Word.{Word}
-use Rattle.gl_verilog_syntax.specs.declared.written.PrefixOp.{PrefixOp}
-use Rattle.gl_verilog_syntax.specs.declared.written.InfixOp.{InfixOp}
-use Rattle.gl_verilog_syntax.specs.declared.written.WrittenExpr.{WrittenExpr}
-use Rattle.gl_verilog_syntax.specs.declared.written.WrittenStatement.{WrittenStatement}
+use Rattle.gl_verilog_tokens.specs.declared.token.Word.{Word}
+use Rattle.gl_verilog_tokens.specs.declared.written.PrefixOp.{PrefixOp}
+use Rattle.gl_verilog_tokens.specs.declared.written.InfixOp.{InfixOp}
+use Rattle.gl_verilog_tokens.specs.declared.written.WrittenExpr.{WrittenExpr}
+use Rattle.gl_verilog_tokens.specs.declared.written.WrittenStatement.{WrittenStatement}
 use Rattle.gl_verilog_grammar.specs.declared.frames.Frame.TheVariants as frame_is
 use Rattle.gl_verilog_grammar.specs.declared.stage.Sort.{Sort}
 use Rattle.gl_verilog_grammar.specs.declared.stage.Owner.{Owner}
 use Rattle.gl_verilog_grammar.specs.declared.stage.Plain.{Plain}
 use Rattle.gl_verilog_grammar.specs.declared.stage.Plain.TheVariants as plain_is
 use Rattle.gl_verilog_grammar.specs.declared.stage.Stage.TheVariants as stage_is
-use Rattle.gl_verilog_syntax.specs.View.{prefix_of, infix_of, expr_of, statement_of, name_of, names_of, range_of}
+use Rattle.gl_verilog_tokens.specs.View.{prefix_of, infix_of, expr_of, statement_of, name_of, names_of, range_of}
 use Rattle.gl_verilog_grammar.specs.View.{frame_of, sort_of, owner_of, plain_of, stage_of}
 
 pub plain-WantModule : plain_of plain_is.WantModule ≡ machine.WantModule

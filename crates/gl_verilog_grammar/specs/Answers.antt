@@ -6,11 +6,11 @@ use Rattle.gl_verilog.specs.Text.{IsSpelling}
 use Rattle.gl_verilog_faults.specs.Counts.{Counts, none_counted, keeps_limits}
 use Rattle.gl_verilog_faults.specs.Marks.{State as Place, Header, marks}
 use Rattle.gl_verilog_faults.specs.Faults.{CanBegin, KeepsFront, Stops}
-use Rattle.gl_verilog_syntax.specs.declared.token.Lexeme.{Lexeme}
-use Rattle.gl_verilog_syntax.specs.declared.fault.VerilogFault.{VerilogFault}
-use Rattle.gl_verilog_syntax.specs.declared.fault.VerilogFault.TheVariants as fault
-use Rattle.gl_verilog_syntax.specs.declared.written.WrittenModule as code
-use Rattle.gl_verilog_syntax.specs.View.{module_of, tokens_in}
+use Rattle.gl_verilog_tokens.specs.declared.token.Lexeme.{Lexeme}
+use Rattle.gl_verilog_tokens.specs.declared.fault.VerilogFault.{VerilogFault}
+use Rattle.gl_verilog_tokens.specs.declared.fault.VerilogFault.TheVariants as fault
+use Rattle.gl_verilog_tokens.specs.declared.written.WrittenModule as code
+use Rattle.gl_verilog_tokens.specs.View.{module_of, tokens_in}
 use Rattle.gl_verilog_grammar.specs.declared.reading.Reading.{Reading}
 use Rattle.gl_verilog_grammar.specs.declared.counting.Counter.{Counter}
 use Rattle.gl_verilog_grammar.specs.Machine.{State, start}

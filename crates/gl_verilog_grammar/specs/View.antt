@@ -19,7 +19,7 @@ use Rattle.gl_verilog_grammar.specs.declared.stage.Stage.TheVariants as stage_is
 use Rattle.gl_verilog_grammar.specs.declared.stage.Role.{Role}
 use Rattle.gl_verilog_grammar.specs.declared.stage.Role.TheVariants as role_name
 use Rattle.gl_verilog_grammar.specs.declared.reading.Reading.{Reading}
-use Rattle.gl_verilog_syntax.specs.View.{prefix_of, infix_of, expr_of, statement_of, name_of, names_of, range_of, direction_of, port_of, item_of}
+use Rattle.gl_verilog_tokens.specs.View.{prefix_of, infix_of, expr_of, statement_of, name_of, names_of, range_of, direction_of, port_of, item_of}
 
 -- what a sign does behind an operand, from the code's value
 abbrev pub role_is : Role → machine.Role

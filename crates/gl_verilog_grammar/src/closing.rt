@@ -2,13 +2,13 @@
 
 ghost use Rattle.std.specs.Prelude.{◌≡◌, true, map, option_map, IfOk};
 ghost use Rattle.gl_verilog_grammar.specs.Stages as machine;
-ghost use Rattle.gl_verilog_syntax.specs.View.{expr_of, name_of};
+ghost use Rattle.gl_verilog_tokens.specs.View.{expr_of, name_of};
 ghost use Rattle.gl_verilog_grammar.specs.View.{frame_of, frames_of, role_is, closed_of};
 
 use crate::frames::{Frame, reduce};
 use crate::stacks::{boxed, with_last};
 use crate::stage::Role;
-use gl_verilog_syntax::{Word, WrittenExpr};
+use gl_verilog_tokens::{Word, WrittenExpr};
 use std::alloc::{AllocError, Global};
 use std::mem;
 
@@ -69,7 +69,7 @@ fn further<'a>(
     Ok(Closed::FurtherParts { at, parts })
 }
 
-#[tactic(auto, using(gl_verilog_syntax::proofs::Views::exprs, crate::proofs::Stack::pushes), unfolding(crate::specs::View::closed_of))]
+#[tactic(auto, using(gl_verilog_tokens::proofs::Views::exprs, crate::proofs::Stack::pushes), unfolding(crate::specs::View::closed_of))]
 fn whole<'a>(
     alloc: Global,
     at: usize,
@@ -84,7 +84,7 @@ fn whole<'a>(
     Ok(Closed::AnOperand(braces))
 }
 
-#[tactic(auto, using(gl_verilog_syntax::proofs::Views::exprs), unfolding(crate::specs::View::closed_of))]
+#[tactic(auto, using(gl_verilog_tokens::proofs::Views::exprs), unfolding(crate::specs::View::closed_of))]
 fn in_parens<'a>(alloc: Global, operand: Box<WrittenExpr<'a>>) -> Result<Closed<'a>, AllocError>
     ensures { IfOk result (λ c. closed_of c ≡ machine.closed machine.IsParen machine.InParens
         (expr_of operand.entry.value)) }
@@ -93,7 +93,7 @@ fn in_parens<'a>(alloc: Global, operand: Box<WrittenExpr<'a>>) -> Result<Closed<
     Ok(Closed::AnOperand(parens))
 }
 
-#[tactic(auto, using(gl_verilog_syntax::proofs::Views::exprs), unfolding(crate::specs::View::frame_of, crate::specs::View::closed_of))]
+#[tactic(auto, using(gl_verilog_tokens::proofs::Views::exprs), unfolding(crate::specs::View::frame_of, crate::specs::View::closed_of))]
 fn at_paren<'a>(
     alloc: Global,
     frame: &Frame<'a>,
@@ -112,7 +112,7 @@ fn at_paren<'a>(
     }
 }
 
-#[tactic(auto, using(gl_verilog_syntax::proofs::Views::exprs), unfolding(crate::specs::View::closed_of))]
+#[tactic(auto, using(gl_verilog_tokens::proofs::Views::exprs), unfolding(crate::specs::View::closed_of))]
 fn word_of<'a>(
     alloc: Global,
     name: Word<'a>,
@@ -126,7 +126,7 @@ fn word_of<'a>(
     Ok(Closed::AnOperand(word))
 }
 
-#[tactic(auto, using(gl_verilog_syntax::proofs::Views::exprs), unfolding(crate::specs::View::frame_of, crate::specs::View::closed_of))]
+#[tactic(auto, using(gl_verilog_tokens::proofs::Views::exprs), unfolding(crate::specs::View::frame_of, crate::specs::View::closed_of))]
 fn at_bracket<'a>(
     alloc: Global,
     frame: &Frame<'a>,
@@ -302,7 +302,7 @@ pub(crate) fn close_top<'a>(
 }
 
 // A name alone may be indexed.
-#[tactic(auto, unfolding(gl_verilog_syntax::specs::View::expr_of))]
+#[tactic(auto, unfolding(gl_verilog_tokens::specs::View::expr_of))]
 pub(crate) fn alone<'a>(operand: &WrittenExpr<'a>) -> Option<Word<'a>>
     ensures { option_map name_of result ≡ machine.alone (expr_of operand.now) }
 {

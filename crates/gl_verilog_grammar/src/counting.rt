@@ -3,10 +3,10 @@
 ghost use Rattle.std.specs.Prelude.{◌≡◌, ◌≤◌, false};
 ghost use Rattle.gl_verilog_faults.specs.Counts as counts;
 ghost use Rattle.gl_verilog_faults.specs.Marks as marks;
-ghost use Rattle.gl_verilog_syntax.specs.View.{keyword_of, sign_of, token_of};
+ghost use Rattle.gl_verilog_tokens.specs.View.{keyword_of, sign_of, token_of};
 ghost use Rattle.gl_verilog_grammar.specs.Counting.{place_of, turn_of, weight_of, depth_at, counts_of, IsWithin};
 
-use gl_verilog_syntax::{Keyword, Sign, Token};
+use gl_verilog_tokens::{Keyword, Sign, Token};
 
 /// The most brackets and `begin` of an item that are open at once.
 pub const MOST_BRACKETS: usize = 64;

@@ -2,7 +2,7 @@
 ghost use Rattle.std.specs.Prelude.{Some};
 ghost use Rattle.gl_verilog.specs.Written.{looseness, Assign, Update, UpdateWord};
 ghost use Rattle.gl_verilog_grammar.specs.Machine as machine;
-ghost use Rattle.gl_verilog_syntax.specs.View.{token_of, infix_of, expr_of, name_of};
+ghost use Rattle.gl_verilog_tokens.specs.View.{token_of, infix_of, expr_of, name_of};
 ghost use Rattle.gl_verilog_grammar.specs.View.{frames_of, view, closed_of, role_is, Moves};
 
 use crate::closing::{Closed, alone, close_top};
@@ -11,7 +11,7 @@ use crate::matching::is_mark;
 use crate::reading::Reading;
 use crate::stacks::{boxed, put};
 use crate::stage::{Plain, Role, Stage, role_of};
-use gl_verilog_syntax::{
+use gl_verilog_tokens::{
     InfixOp, PrefixOp, Sign, Token, Word, WrittenExpr, WrittenItem, WrittenStatement,
 };
 use std::alloc::AllocError;
@@ -42,7 +42,7 @@ impl<'a> Reading<'a> {
         Ok(false)
     }
 
-    #[tactic(auto, using(crate::proofs::Views::stages, gl_verilog_syntax::proofs::Views::exprs))]
+    #[tactic(auto, using(crate::proofs::Views::stages, gl_verilog_tokens::proofs::Views::exprs))]
     pub(crate) fn want_operand(&mut self, at: usize, token: Token<'a>) -> Result<bool, AllocError>
         ensures { Moves result (machine.want_operand (view self.old) (token_of token.entry))
             (view self.new) }
@@ -99,7 +99,7 @@ impl<'a> Reading<'a> {
     }
 
     // An assignment is complete.
-    #[tactic(auto, using(gl_verilog_syntax::proofs::Views::items))]
+    #[tactic(auto, using(gl_verilog_tokens::proofs::Views::items))]
     fn assign(&mut self, target: Word<'a>, value: Box<WrittenExpr<'a>>) -> Result<bool, AllocError>
         ensures { Moves result (Some (machine.with_item (view self.old)
             (Assign (name_of target.entry) (expr_of value.entry.value)))) (view self.new) }
@@ -109,7 +109,7 @@ impl<'a> Reading<'a> {
     }
 
     // A register takes a value.
-    #[tactic(auto, using(crate::proofs::Views::stages, gl_verilog_syntax::proofs::Views::exprs))]
+    #[tactic(auto, using(crate::proofs::Views::stages, gl_verilog_tokens::proofs::Views::exprs))]
     fn update(&mut self, target: Word<'a>, value: Box<WrittenExpr<'a>>) -> Result<bool, AllocError>
         ensures { Moves result (machine.goto (view self.old) (machine.HaveStatement
             (Update (name_of target.entry) (expr_of value.entry.value)))) (view self.new) }
@@ -120,7 +120,7 @@ impl<'a> Reading<'a> {
     }
 
     // A word of a memory takes a value.
-    #[tactic(auto, using(crate::proofs::Views::stages, gl_verilog_syntax::proofs::Views::exprs))]
+    #[tactic(auto, using(crate::proofs::Views::stages, gl_verilog_tokens::proofs::Views::exprs))]
     fn update_word(
         &mut self,
         target: Word<'a>,
@@ -260,7 +260,7 @@ impl<'a> Reading<'a> {
         }
     }
 
-    #[tactic(auto, using(crate::proofs::Views::stages, gl_verilog_syntax::proofs::Views::exprs))]
+    #[tactic(auto, using(crate::proofs::Views::stages, gl_verilog_tokens::proofs::Views::exprs))]
     pub(crate) fn at_place(
         &mut self,
         name: Word<'a>,

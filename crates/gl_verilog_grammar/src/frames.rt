@@ -3,12 +3,12 @@
 ghost use Rattle.std.specs.Prelude.{◌≡◌, ◌<◌, length, map, true, false, vec_len, IfOk, MatchBool, Some, None};
 ghost use Rattle.gl_verilog_grammar.specs.Stages as machine;
 ghost use Rattle.gl_verilog.specs.Written.{looseness};
-ghost use Rattle.gl_verilog_syntax.specs.View.{infix_of, expr_of, statement_of};
+ghost use Rattle.gl_verilog_tokens.specs.View.{infix_of, expr_of, statement_of};
 ghost use Rattle.gl_verilog_grammar.specs.View.{frame_of, frames_of, stated_of};
 
 use crate::stacks::{put, with_last};
 use crate::trees::{chosen, else_of, infixed, prefixed, then_of};
-use gl_verilog_syntax::{InfixOp, PrefixOp, Word, WrittenExpr, WrittenStatement};
+use gl_verilog_tokens::{InfixOp, PrefixOp, Word, WrittenExpr, WrittenStatement};
 use std::alloc::{AllocError, Global};
 use std::mem;
 

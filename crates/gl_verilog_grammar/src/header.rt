@@ -3,7 +3,7 @@
 ghost use Rattle.std.specs.Prelude.{option_and_then};
 ghost use Rattle.gl_verilog.specs.Tokens.{OpenBracket};
 ghost use Rattle.gl_verilog_grammar.specs.Machine as machine;
-ghost use Rattle.gl_verilog_syntax.specs.View.{token_of, name_of, names_of, range_of};
+ghost use Rattle.gl_verilog_tokens.specs.View.{token_of, name_of, names_of, range_of};
 ghost use Rattle.gl_verilog_grammar.specs.View.{sort_of, owner_of, view, Moves};
 
 use crate::matching::{is_mark, name_in};
@@ -11,7 +11,7 @@ use crate::next::{expect, memory_stage, word_stage};
 use crate::reading::Reading;
 use crate::stacks::{put, with_last};
 use crate::stage::{Owner, Plain, Sort, Stage, item_of_names};
-use gl_verilog_syntax::{Sign, Token, Word, WrittenPort};
+use gl_verilog_tokens::{Sign, Token, Word, WrittenPort};
 use std::alloc::AllocError;
 use std::mem;
 
@@ -30,7 +30,7 @@ impl<'a> Reading<'a> {
         }
     }
 
-    #[tactic(auto, using(crate::proofs::Views::stages, gl_verilog_syntax::proofs::Views::items, crate::proofs::Stack::pushes), unfolding(crate::specs::View::view))]
+    #[tactic(auto, using(crate::proofs::Views::stages, gl_verilog_tokens::proofs::Views::items, crate::proofs::Stack::pushes), unfolding(crate::specs::View::view))]
     pub(crate) fn named(
         &mut self,
         owner: Owner,

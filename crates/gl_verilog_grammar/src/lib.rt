@@ -2,7 +2,7 @@
 //! become tokens, and what names mean, does not belong here.
 #![tactic(auto)]
 
-ghost use Rattle.gl_verilog_syntax.specs.View.{tokens_in};
+ghost use Rattle.gl_verilog_tokens.specs.View.{tokens_in};
 ghost use Rattle.gl_verilog_grammar.specs.Answers.{IsAnswer, IsOnly};
 
 pub mod closing;
@@ -19,7 +19,7 @@ pub mod stage;
 pub mod statements;
 pub mod trees;
 
-use gl_verilog_syntax::{Lexeme, VerilogFault, WrittenModule};
+use gl_verilog_tokens::{Lexeme, VerilogFault, WrittenModule};
 use std::alloc::Global;
 
 /// The module that these tokens spell as it is written, or the first token that cannot stand there

@@ -2,9 +2,9 @@
 
 ghost use Rattle.std.specs.Prelude.{◌≡◌, option_map};
 ghost use Rattle.gl_verilog_grammar.specs.Stages as machine;
-ghost use Rattle.gl_verilog_syntax.specs.View.{keyword_of, sign_of, token_of, name_of};
+ghost use Rattle.gl_verilog_tokens.specs.View.{keyword_of, sign_of, token_of, name_of};
 
-use gl_verilog_syntax::{Keyword, Sign, Token, Word};
+use gl_verilog_tokens::{Keyword, Sign, Token, Word};
 
 // The number of a sign in the order of their declaration.
 fn sign_number(sign: Sign) -> u8

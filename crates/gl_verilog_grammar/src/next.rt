@@ -2,12 +2,12 @@
 
 ghost use Rattle.std.specs.Prelude.{◌≡◌, option_map};
 ghost use Rattle.gl_verilog_grammar.specs.Stages as machine;
-ghost use Rattle.gl_verilog_syntax.specs.View.{keyword_of, token_of, name_of, names_of, range_of};
+ghost use Rattle.gl_verilog_tokens.specs.View.{keyword_of, token_of, name_of, names_of, range_of};
 ghost use Rattle.gl_verilog_grammar.specs.View.{sort_of, owner_of, plain_of};
 
 use crate::matching::{digits_in, is_mark, is_word, is_zero, name_in};
 use crate::stage::{Owner, Plain, Sort, with_word};
-use gl_verilog_syntax::{Direction, Keyword, Sign, Token, Word};
+use gl_verilog_tokens::{Direction, Keyword, Sign, Token, Word};
 
 // The stage behind `wire` or `reg`, where one may stand behind a direction.
 #[tactic(auto, using(crate::proofs::Views::plains))]

@@ -2,7 +2,7 @@
 
 ghost use Rattle.std.specs.Prelude.{◌≡◌, ◌<◌, option_map, IfOk, IfErr, MatchResult, Some, None};
 ghost use Rattle.gl_verilog_grammar.specs.Machine as machine;
-ghost use Rattle.gl_verilog_syntax.specs.View.{token_of, tokens_in, expr_of, name_of, range_of, item_of, module_of};
+ghost use Rattle.gl_verilog_tokens.specs.View.{token_of, tokens_in, expr_of, name_of, range_of, item_of, module_of};
 ghost use Rattle.gl_verilog_grammar.specs.Counting.{IsWithin};
 ghost use Rattle.gl_verilog_grammar.specs.Answers.{Goes, StopsAt, IsRead, stand, read_all};
 ghost use Rattle.gl_verilog_grammar.specs.View.{frame_of, plain_of, stage_of, view, Moves};
@@ -13,7 +13,7 @@ use crate::matching::is_mark;
 use crate::next::next_stage;
 use crate::stacks::{boxed, put};
 use crate::stage::{Plain, Stage};
-use gl_verilog_syntax::{
+use gl_verilog_tokens::{
     Lexeme, Sign, Token, VerilogFault, Word, WrittenExpr, WrittenItem, WrittenModule, WrittenPort,
 };
 use std::alloc::{AllocError, Global};
@@ -125,7 +125,7 @@ impl<'a> Reading<'a> {
 }
 
 impl<'a> Reading<'a> {
-    #[tactic(auto, using(gl_verilog_syntax::proofs::Views::items))]
+    #[tactic(auto, using(gl_verilog_tokens::proofs::Views::items))]
     fn memory_end(
         &mut self,
         range: Option<Word<'a>>,
@@ -144,7 +144,7 @@ impl<'a> Reading<'a> {
         }
     }
 
-    #[tactic(auto, using(gl_verilog_syntax::proofs::Views::exprs))]
+    #[tactic(auto, using(gl_verilog_tokens::proofs::Views::exprs))]
     fn part_end(
         &mut self,
         name: Word<'a>,

@@ -2,10 +2,10 @@
 
 ghost use Rattle.std.specs.Prelude.{◌≡◌, option_map};
 ghost use Rattle.gl_verilog_grammar.specs.Stages as machine;
-ghost use Rattle.gl_verilog_syntax.specs.View.{keyword_of, sign_of, names_of, range_of, item_of};
+ghost use Rattle.gl_verilog_tokens.specs.View.{keyword_of, sign_of, names_of, range_of, item_of};
 ghost use Rattle.gl_verilog_grammar.specs.View.{sort_of, owner_of, role_is};
 
-use gl_verilog_syntax::{
+use gl_verilog_tokens::{
     Direction, InfixOp, Keyword, Sign, Word, WrittenExpr, WrittenItem, WrittenStatement,
 };
 
@@ -172,7 +172,7 @@ pub(crate) fn role_of(sign: Sign) -> Role
     }
 }
 
-#[tactic(auto, unfolding(gl_verilog_syntax::specs::View::item_of))]
+#[tactic(auto, unfolding(gl_verilog_tokens::specs::View::item_of))]
 pub(crate) fn item_of_names<'a>(
     sort: Sort,
     range: Option<Word<'a>>,

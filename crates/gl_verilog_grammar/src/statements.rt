@@ -2,7 +2,7 @@
 ghost use Rattle.std.specs.Prelude.{map};
 ghost use Rattle.gl_verilog.specs.Written.{Always, Block, listed};
 ghost use Rattle.gl_verilog_grammar.specs.Machine as machine;
-ghost use Rattle.gl_verilog_syntax.specs.View.{token_of, statement_of, name_of};
+ghost use Rattle.gl_verilog_tokens.specs.View.{token_of, statement_of, name_of};
 ghost use Rattle.gl_verilog_grammar.specs.View.{frames_of, view, Moves};
 
 use crate::frames::{Frame, Stated, end_ifs, end_statement, take_else};
@@ -11,7 +11,7 @@ use crate::next::item_stage;
 use crate::reading::Reading;
 use crate::stacks::{boxed, put};
 use crate::stage::{Plain, Stage};
-use gl_verilog_syntax::{Keyword, Sign, Token, Word, WrittenItem, WrittenStatement};
+use gl_verilog_tokens::{Keyword, Sign, Token, Word, WrittenItem, WrittenStatement};
 use std::alloc::AllocError;
 use std::mem;
 
@@ -29,7 +29,7 @@ impl<'a> Reading<'a> {
     }
 
     // A block of these statements is complete.
-    #[tactic(auto, using(crate::proofs::Views::stages, gl_verilog_syntax::proofs::Views::exprs, crate::proofs::Stack::pushes))]
+    #[tactic(auto, using(crate::proofs::Views::stages, gl_verilog_tokens::proofs::Views::exprs, crate::proofs::Stack::pushes))]
     fn end_list(&mut self, done: Vec<WrittenStatement<'a>>) -> Result<bool, AllocError>
         ensures { Moves result (machine.goto (view self.old) (machine.HaveStatement
             (Block (listed (map statement_of done.entry.items))))) (view self.new) }
@@ -105,7 +105,7 @@ impl<'a> Reading<'a> {
     }
 
     // An item with a body is complete, and the token begins what follows it.
-    #[tactic(auto, using(crate::proofs::Stack::pushes, gl_verilog_syntax::proofs::Views::items), unfolding(crate::specs::View::view))]
+    #[tactic(auto, using(crate::proofs::Stack::pushes, gl_verilog_tokens::proofs::Views::items), unfolding(crate::specs::View::view))]
     fn end_always(
         &mut self,
         clock: Word<'a>,

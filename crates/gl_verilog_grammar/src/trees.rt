@@ -2,13 +2,13 @@
 
 ghost use Rattle.std.specs.Prelude.{◌≡◌, IfOk};
 ghost use Rattle.gl_verilog_grammar.specs.Stages as machine;
-ghost use Rattle.gl_verilog_syntax.specs.View.{infix_of, prefix_of, expr_of, statement_of};
+ghost use Rattle.gl_verilog_tokens.specs.View.{infix_of, prefix_of, expr_of, statement_of};
 
 use crate::stacks::boxed;
-use gl_verilog_syntax::{InfixOp, PrefixOp, WrittenExpr, WrittenStatement};
+use gl_verilog_tokens::{InfixOp, PrefixOp, WrittenExpr, WrittenStatement};
 use std::alloc::{AllocError, Global};
 
-#[tactic(auto, unfolding(gl_verilog_syntax::specs::View::expr_of))]
+#[tactic(auto, unfolding(gl_verilog_tokens::specs::View::expr_of))]
 pub(crate) fn prefixed<'a>(
     alloc: Global,
     op: PrefixOp,
@@ -22,7 +22,7 @@ pub(crate) fn prefixed<'a>(
     boxed(alloc, WrittenExpr::Prefix { op, at, arg })
 }
 
-#[tactic(auto, unfolding(gl_verilog_syntax::specs::View::expr_of))]
+#[tactic(auto, unfolding(gl_verilog_tokens::specs::View::expr_of))]
 pub(crate) fn infixed<'a>(
     alloc: Global,
     op: InfixOp,
@@ -45,7 +45,7 @@ pub(crate) fn infixed<'a>(
     )
 }
 
-#[tactic(auto, unfolding(gl_verilog_syntax::specs::View::expr_of))]
+#[tactic(auto, unfolding(gl_verilog_tokens::specs::View::expr_of))]
 pub(crate) fn chosen<'a>(
     alloc: Global,
     at: usize,
@@ -61,7 +61,7 @@ pub(crate) fn chosen<'a>(
     boxed(alloc, WrittenExpr::Conditional { at, test, yes, no })
 }
 
-#[tactic(auto, unfolding(gl_verilog_syntax::specs::View::statement_of))]
+#[tactic(auto, unfolding(gl_verilog_tokens::specs::View::statement_of))]
 pub(crate) fn then_of<'a>(
     alloc: Global,
     at: usize,
@@ -76,7 +76,7 @@ pub(crate) fn then_of<'a>(
     boxed(alloc, WrittenStatement::IfThen { at, test, yes })
 }
 
-#[tactic(auto, unfolding(gl_verilog_syntax::specs::View::statement_of))]
+#[tactic(auto, unfolding(gl_verilog_tokens::specs::View::statement_of))]
 pub(crate) fn else_of<'a>(
     alloc: Global,
     at: usize,

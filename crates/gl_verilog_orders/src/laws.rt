@@ -2,8 +2,7 @@
 
 ghost use Rattle.gl_verilog.specs.Module.{Module as Design};
 ghost use Rattle.gl_verilog.specs.Valid.{IsValid};
-ghost use Rattle.gl_verilog_orders.specs.Laws.{ComesToRest, CyclesAreTwoPhase, Ends};
-ghost use Rattle.gl_verilog_orders.specs.Laws.{EventRunsAreRuns, HasEventRuns, HasEventRunsOf, RunsAreSeen};
+ghost use Rattle.gl_verilog_orders.specs.Laws.{ComesToRest, CyclesAreTwoPhase, Ends, EventRunsAreRuns, HasEventRuns, HasEventRunsOf, RunsAreSeen};
 ghost use Rattle.gl_verilog_orders.specs.Races.{Races, twice_assigned};
 
 /// Every list of steps can be continued to rest, and none goes on for ever.

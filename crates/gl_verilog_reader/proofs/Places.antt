@@ -11,10 +11,10 @@ use Rattle.gl_verilog.specs.Text.{IsSpelling, HasModule}
 use Rattle.gl_verilog.specs.View as meant
 use Rattle.gl_verilog_faults.specs.Demands.{Rule, Undeclared, TwiceDeclared, TwiceDriven, NeverDriven, WidthsDiffer, Loop, BadMemory, ClockRead, TooWide, BadTarget}
 use Rattle.gl_verilog_faults.specs.Faults.{IsSyntaxFault, IsDepthFault, IsJudgedFault, Verdict, IsModule, IsSyntax, IsTooDeep, Breaks, IsVerdict}
-use Rattle.gl_verilog_syntax.specs.declared.token.Lexeme.{Lexeme}
-use Rattle.gl_verilog_syntax.specs.declared.fault.VerilogFault.{VerilogFault}
-use Rattle.gl_verilog_syntax.specs.declared.fault.VerilogFault.TheVariants as fault
-use Rattle.gl_verilog_syntax.specs.View.{tokens_in}
+use Rattle.gl_verilog_tokens.specs.declared.token.Lexeme.{Lexeme}
+use Rattle.gl_verilog_tokens.specs.declared.fault.VerilogFault.{VerilogFault}
+use Rattle.gl_verilog_tokens.specs.declared.fault.VerilogFault.TheVariants as fault
+use Rattle.gl_verilog_tokens.specs.View.{tokens_in}
 use Rattle.gl_verilog_tokens.specs.Placed.{places_in, ArePlaces}
 use Rattle.gl_verilog_grammar.specs.Answers.{place_in, IsSyntaxAt, IsDeepAt, IsFaultOf}
 use Rattle.gl_verilog_grammar.proofs.Verdicts.{one_only}

@@ -5,8 +5,8 @@ use Rattle.gl_verilog.specs.View.{module_of}
 use Rattle.gl_verilog.specs.declared.module.Module.{Module}
 use Rattle.gl_verilog_faults.specs.Demands.{Rule, Undeclared, TwiceDeclared, TwiceDriven, NeverDriven, WidthsDiffer, Loop, BadMemory, ClockRead, TooWide, BadTarget}
 use Rattle.gl_verilog_faults.specs.Faults.{IsSyntaxFault, IsDepthFault, IsJudgedFault, IsBroken}
-use Rattle.gl_verilog_syntax.specs.declared.fault.VerilogFault.{VerilogFault}
-use Rattle.gl_verilog_syntax.specs.declared.fault.VerilogFault.TheVariants as fault
+use Rattle.gl_verilog_tokens.specs.declared.fault.VerilogFault.{VerilogFault}
+use Rattle.gl_verilog_tokens.specs.declared.fault.VerilogFault.TheVariants as fault
 use Rattle.gl_verilog_elaborator.specs.Meant.{IsMeant}
 
 -- the fault of a rule at a place

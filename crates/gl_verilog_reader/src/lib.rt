@@ -11,7 +11,7 @@ ghost use Rattle.gl_verilog_faults.specs.Faults.{IsBroken};
 ghost use Rattle.gl_verilog_reader.specs.Reading.{fault_as, ByRules, Shows, IsFaultIn, IsJudged};
 ghost use Rattle.gl_verilog_reader.specs.Sources.{IsSource};
 ghost use Rattle.gl_verilog_tokens.specs.Placed.{places_in};
-ghost use Rattle.gl_verilog_syntax.specs.View.{module_of, tokens_in};
+ghost use Rattle.gl_verilog_tokens.specs.View.{module_of, tokens_in};
 
 pub mod source;
 
@@ -19,9 +19,8 @@ use gl_bits::Memory;
 use gl_verilog::Module;
 use gl_verilog_elaborator::{Rule, Stop, elaborate};
 use gl_verilog_grammar::read_tokens;
-pub use gl_verilog_syntax::VerilogFault;
-use gl_verilog_syntax::{Lexeme, WrittenModule};
-use gl_verilog_tokens::lexemes;
+pub use gl_verilog_tokens::VerilogFault;
+use gl_verilog_tokens::{Lexeme, WrittenModule, lexemes};
 pub use source::Source;
 use source::{located, place_of};
 use std::alloc::Global;

@@ -6,11 +6,11 @@ ghost use Rattle.gl_verilog.specs.Text.{IsSpelling};
 ghost use Rattle.gl_verilog.specs.Written.{spell_ports};
 ghost use Rattle.gl_verilog_reader.specs.Sources.{IsAt, IsLocated, port_tokens};
 ghost use Rattle.gl_verilog_tokens.specs.Placed.{places_in};
-ghost use Rattle.gl_verilog_syntax.specs.View.{module_of, port_of, tokens_in};
+ghost use Rattle.gl_verilog_tokens.specs.View.{module_of, port_of, tokens_in};
 
 use gl_bits::Listed;
 use gl_verilog::Module;
-use gl_verilog_syntax::{Lexeme, WrittenModule, WrittenPort, tokens_before};
+use gl_verilog_tokens::{Lexeme, WrittenModule, WrittenPort, tokens_before};
 use std::alloc::{AllocError, Global};
 
 /// A module that was read, and where in its text its name and its ports stand: the bytes, from 0.

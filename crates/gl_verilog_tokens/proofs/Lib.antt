@@ -1,2 +1,4 @@
+pub mod NumberSteps
+pub mod Views
 pub mod LexSteps
 pub mod Places

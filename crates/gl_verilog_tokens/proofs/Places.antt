@@ -5,8 +5,8 @@ use Rattle.std.proofs.Math.Seq.{take-append_seam, take-length}
 use Rattle.std.proofs.lemmas.List.{append-nil}
 use Rattle.std.proofs.lemmas.Bool.{cases_eq, cases_order}
 use Rattle.gl_verilog.specs.Tokens.{Token, Between, to, scan, last_of}
-use Rattle.gl_verilog_syntax.specs.declared.token.Lexeme.{Lexeme}
-use Rattle.gl_verilog_syntax.specs.View.{tokens_in}
+use Rattle.gl_verilog_tokens.specs.declared.token.Lexeme.{Lexeme}
+use Rattle.gl_verilog_tokens.specs.View.{tokens_in}
 use Rattle.gl_verilog_tokens.specs.declared.standing.Standing.{Standing}
 use Rattle.gl_verilog_tokens.specs.declared.standing.Standing.TheVariants as standing_is
 use Rattle.gl_verilog_tokens.specs.Lexed.{mode_of}

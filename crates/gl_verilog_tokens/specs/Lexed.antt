@@ -7,7 +7,7 @@ use Rattle.gl_verilog_tokens.specs.declared.classes.Class.{Class}
 use Rattle.gl_verilog_tokens.specs.declared.classes.Class.TheVariants as class_name
 use Rattle.gl_verilog_tokens.specs.declared.classes.Follow.{Follow}
 use Rattle.gl_verilog_tokens.specs.declared.classes.Follow.TheVariants as follow_name
-use Rattle.gl_verilog_syntax.specs.View.{token_of}
+use Rattle.gl_verilog_tokens.specs.View.{token_of}
 
 -- the class of a byte, from the code's value
 abbrev pub class_is : Class → tokens.Class

@@ -1,7 +1,7 @@
 -- Where the tokens of a text begin, told of each front of the text.
 use Rattle.std.specs.Prelude.{◌≡◌, ℕ, ◌<◌, ◌≤◌, List, [], ◌∷◌, ◌++◌, map, take, length, Some, slice_get}
 use Rattle.gl_verilog.specs.Tokens.{tokens_of, IsPlaceOf}
-use Rattle.gl_verilog_syntax.specs.declared.token.Lexeme.{Lexeme}
+use Rattle.gl_verilog_tokens.specs.declared.token.Lexeme.{Lexeme}
 use Rattle.gl_verilog_tokens.specs.declared.standing.Standing.{Standing}
 use Rattle.gl_verilog_tokens.specs.declared.standing.Standing.TheVariants as standing_is
 

@@ -3,10 +3,10 @@
 ghost use Rattle.std.specs.Prelude.{◌≡◌, option_map};
 ghost use Rattle.std.specs.Str.{bytes_eq};
 ghost use Rattle.gl_verilog.specs.Tokens as tokens;
-ghost use Rattle.gl_verilog_syntax.specs.View.{keyword_of, token_of};
+ghost use Rattle.gl_verilog_tokens.specs.View.{keyword_of, token_of};
 ghost use Rattle.gl_verilog_tokens.specs.Lexed.{class_is, follow_is};
 
-use gl_verilog_syntax::{Keyword, Sign, Token, digit_of};
+use crate::{Keyword, Sign, Token, digit_of};
 
 /// What a byte is between tokens.
 #[derive(Clone, Copy)]

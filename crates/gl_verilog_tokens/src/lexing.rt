@@ -2,7 +2,7 @@
 
 ghost use Rattle.std.specs.Prelude.{◌≡◌, ◌≤◌, ◌<◌, ◌+◌, ◌++◌, ◌∷◌, [], length, slice_index, IfOk, OnOk};
 ghost use Rattle.gl_verilog.specs.Tokens as tokens;
-ghost use Rattle.gl_verilog_syntax.specs.View.{tokens_in, name_of};
+ghost use Rattle.gl_verilog_tokens.specs.View.{tokens_in, name_of};
 ghost use Rattle.gl_verilog_tokens.specs.Lexed.{piece, mode_of, IsInside};
 ghost use Rattle.gl_verilog_tokens.specs.Placed.{places_in, ArePlaces, IsNext, opened};
 
@@ -11,7 +11,7 @@ use crate::classes::{
 };
 use crate::pieces::{number_token, put, put_quoted, sized_token, word_at, word_token};
 use crate::standing::Standing;
-use gl_verilog_syntax::{Lexeme, Token, Word};
+use crate::{Lexeme, Token, Word};
 use std::alloc::{AllocError, Global};
 
 // A byte between tokens.

@@ -2,12 +2,12 @@
 
 ghost use Rattle.std.specs.Prelude.{◌≡◌, ◌≤◌, ◌++◌, ◌∷◌, [], length, OnOk};
 ghost use Rattle.gl_verilog.specs.Tokens as tokens;
-ghost use Rattle.gl_verilog_syntax.specs.View.{token_of, tokens_in, name_of};
+ghost use Rattle.gl_verilog_tokens.specs.View.{token_of, tokens_in, name_of};
 ghost use Rattle.gl_verilog_tokens.specs.Lexed.{piece};
 ghost use Rattle.gl_verilog_tokens.specs.Placed.{places_in};
 
 use crate::classes::reserved;
-use gl_verilog_syntax::{Lexeme, Token, Word, small_number};
+use crate::{Lexeme, Token, Word, small_number};
 use std::alloc::AllocError;
 
 pub(crate) fn word_at<'a>(text: &'a [u8], from: usize, to: usize) -> Word<'a>

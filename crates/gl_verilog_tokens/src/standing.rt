@@ -1,6 +1,6 @@
 //! Where the reader of tokens stands.
 
-use gl_verilog_syntax::Word;
+use crate::Word;
 
 /// Where the reader stands. A place in it is that of a token's first byte.
 #[derive(Clone, Copy)]

@@ -7,11 +7,11 @@ use Rattle.std.proofs.Math.Nat.{add-mod_right}
 use Rattle.std.proofs.lemmas.Nat.{mod_below}
 use Rattle.gl_bits.specs.Results.{Row}
 use Rattle.gl_wire.specs.Wire.{pending, stream}
-use Rattle.gl_wire_copies.specs.Lift.{Visits, visits}
+use Rattle.gl_wire.specs.Lift.{Visits, visits}
 use Rattle.gl_windows.specs.Front.{Front, opening, one_opened, closing, taken, closed_by, states, mid, who_ends}
 use Rattle.gl_windows.proofs.Setting.{Setting}
 use Rattle.gl_windows.proofs.SliceLemmas.{mod_apart}
-use Rattle.gl_wire_copies.proofs.VisitLemmas.{did_none as visits_same, did_one as visits_with}
+use Rattle.gl_wire.proofs.VisitLemmas.{did_none as visits_same, did_one as visits_with}
 
 -- the stream of a visit
 abbrev pub of_visit : ℕ × List Row → List Row

@@ -6,12 +6,12 @@ use Rattle.std.proofs.lemmas.List.{take_all, drop-append-le, append-nil}
 use Rattle.gl_bits.specs.Lists.{part}
 use Rattle.gl_bits.specs.Results.{Row}
 use Rattle.gl_wire.specs.Wire.{pending, stream}
-use Rattle.gl_wire_copies.specs.Lift.{Visits}
+use Rattle.gl_wire.specs.Lift.{Visits}
 use Rattle.gl_windows.specs.Front.{Front, opening, one_opened, one_nearer, closing, closed_by, counted, next, who_ends}
 use Rattle.gl_windows.specs.Firsts.{firsts}
 use Rattle.gl_windows.proofs.Setting.{Setting}
 use Rattle.gl_windows.proofs.SliceLemmas.{firsts-grown}
-use Rattle.gl_wire_copies.proofs.NumberLemmas.{mul_below}
+use Rattle.gl_wire.proofs.NumberLemmas.{mul_below}
 use Rattle.gl_windows.proofs.CopyLemmas.{Step, Copies, copies_opened, within, copies_next, ended_stream, did, did_none, did_one}
 
 module _ (front : Setting) where

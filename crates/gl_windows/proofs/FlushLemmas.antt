@@ -7,12 +7,12 @@ use Rattle.gl_bits.specs.Lists.{part}
 use Rattle.gl_bits.specs.Results.{Row}
 use Rattle.gl_wire.specs.Apart.{Carries, a_tuple, an_end}
 use Rattle.gl_wire.specs.Wire.{pending, stream}
-use Rattle.gl_wire_copies.specs.Lift.{Visits}
+use Rattle.gl_wire.specs.Lift.{Visits}
 use Rattle.gl_windows.specs.Front.{Front, opening, closing, closed_by, counted, next, mid, who_ends}
 use Rattle.gl_windows.specs.Firsts.{firsts}
 use Rattle.gl_windows.proofs.Setting.{Setting}
 use Rattle.gl_windows.proofs.SliceLemmas.{mod_apart, firsts-grown}
-use Rattle.gl_wire_copies.proofs.VisitLemmas.{visits_none}
+use Rattle.gl_wire.proofs.VisitLemmas.{visits_none}
 use Rattle.gl_windows.proofs.CopyLemmas.{Step, Copies, within, copies_next, ended_stream, of_visit, did, did_none, did_one}
 use Rattle.gl_windows.proofs.FlowLemmas.{Flow, Mid, flow_mid}
 

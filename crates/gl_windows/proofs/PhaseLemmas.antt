@@ -8,14 +8,14 @@ use Rattle.gl_bits.specs.Results.{Row}
 use Rattle.gl_wire.specs.Apart.{Carries, a_tuple, an_end}
 use Rattle.gl_wire.specs.Wire.{pending, stream, rows}
 use Rattle.gl_wire.proofs.RowsLemmas.{rows-split, pending-rows}
-use Rattle.gl_wire_copies.specs.Lift.{Visits, visits}
-use Rattle.gl_wire_copies.specs.Timed.{Begins, at_first, after_end, NoEnd, Rested}
+use Rattle.gl_wire.specs.Lift.{Visits, visits}
+use Rattle.gl_wire.specs.Timed.{Begins, at_first, after_end, NoEnd, Rested}
 use Rattle.gl_windows.specs.Front.{Front, start, opening, one_opened, one_nearer, closed_by, counted, next, states, mid, closes, who_ends}
 use Rattle.gl_windows.specs.Firsts.{firsts}
 use Rattle.gl_windows.proofs.Setting.{Setting}
 use Rattle.gl_windows.proofs.SliceLemmas.{mod_hits, firsts-slices}
-use Rattle.gl_wire_copies.proofs.NumberLemmas.{mul_below}
-use Rattle.gl_wire_copies.proofs.VisitLemmas.{begins_more}
+use Rattle.gl_wire.proofs.NumberLemmas.{mul_below}
+use Rattle.gl_wire.proofs.VisitLemmas.{begins_more}
 use Rattle.gl_windows.proofs.CopyLemmas.{Step, step_at, within, of_visit}
 use Rattle.gl_windows.proofs.FlowLemmas.{Flowing, flow_mid, flow_tuple, flow_idle}
 use Rattle.gl_windows.proofs.FlushLemmas.{Flushing, flow_end, flush_idle, flush_done, fresh}

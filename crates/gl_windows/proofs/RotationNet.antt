@@ -13,8 +13,8 @@ use Rattle.gl_wire.specs.Shapes.{IsDelayed}
 use Rattle.gl_wire.specs.Wire.{IsWire, carried, line_at}
 use Rattle.gl_wire.proofs.ColumnLemmas.{wire_kept}
 use Rattle.gl_wire.proofs.FaultLemmas.{lines_kept}
-use Rattle.gl_wire_copies.specs.Lift.{tuple_of_any}
-use Rattle.gl_wire_copies.specs.Rotates.{flush_of}
+use Rattle.gl_wire.specs.Lift.{tuple_of_any}
+use Rattle.gl_wire.specs.Rotates.{flush_of}
 use Rattle.gl_wire_registers.specs.declared.front.Front.{Front}
 use Rattle.gl_wire_registers.specs.Fronts.{Fronts, IsBacked, IsFronted}
 use Rattle.gl_wire_registers.specs.Lines.{carried_of}

@@ -2,13 +2,13 @@
 use Rattle.std.proofs.Common.{◌≡◌, ℕ, suc, ◌+◌, ◌-◌, ◌*◌, ◌%◌, ◌<◌, ◌≤◌, false, refl, sym, ap, ◌∙◌, arith, inl, inr, mul-le-mul_right}
 use Rattle.std.proofs.lemmas.Bool.{cases_lt}
 use Rattle.gl_wire.specs.Apart.{Carries, a_tuple, an_end}
-use Rattle.gl_wire_copies.specs.Lift.{Visits, Schedules}
+use Rattle.gl_wire.specs.Lift.{Visits, Schedules}
 use Rattle.gl_windows.specs.Front.{mid, closes, oldest, who_ends}
 use Rattle.gl_windows.proofs.Setting.{Setting, Spacing}
 use Rattle.gl_windows.proofs.SliceLemmas.{mod_apart}
-use Rattle.gl_wire_copies.proofs.NumberLemmas.{mul_below}
+use Rattle.gl_wire.proofs.NumberLemmas.{mul_below}
 use Rattle.gl_algebra.specs.declared.figures.Figures.{Figures}
-use Rattle.gl_wire_copies.proofs.TurnLemmas.{turns_schedule}
+use Rattle.gl_wire.proofs.TurnLemmas.{turns_schedule}
 use Rattle.gl_windows.proofs.CopyLemmas.{within}
 use Rattle.gl_windows.proofs.SourceLemmas.{Turn, Source, comes, in_turn, source, tuple_source}
 

@@ -2,8 +2,8 @@
 use Rattle.std.specs.Prelude.{◌≡◌, ℕ, ◌+◌, ◌-◌, ◌*◌, ◌<◌, ◌≤◌, true}
 use Rattle.gl_wire.specs.Apart.{Carries}
 use Rattle.gl_wire.specs.Wire.{Carried}
-use Rattle.gl_wire_copies.specs.Coming.{by_tuples}
-use Rattle.gl_wire_copies.specs.Timed.{Timed}
+use Rattle.gl_wire.specs.Coming.{by_tuples}
+use Rattle.gl_wire.specs.Timed.{Timed}
 use Rattle.gl_windows.specs.Front.{IsFront}
 
 -- the machine, over at least as many copies as windows can be open at once, and nothing in the flush of an end

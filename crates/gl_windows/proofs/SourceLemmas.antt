@@ -5,9 +5,9 @@ use Rattle.std.proofs.lemmas.Bool.{cases_lt, eqb-true, and_parts}
 use Rattle.gl_bits.specs.Results.{Row}
 use Rattle.gl_wire.specs.Apart.{Carries, a_tuple, an_end}
 use Rattle.gl_wire.specs.Wire.{rows}
-use Rattle.gl_wire_copies.specs.Lift.{Visits, visits}
-use Rattle.gl_wire_copies.specs.Timed.{NoEnd, Rested}
-use Rattle.gl_wire_copies.proofs.TurnLemmas.{turn_of}
+use Rattle.gl_wire.specs.Lift.{Visits, visits}
+use Rattle.gl_wire.specs.Timed.{NoEnd, Rested}
+use Rattle.gl_wire.proofs.TurnLemmas.{turn_of}
 use Rattle.gl_windows.specs.Front.{Front, opening, closing, taken, states, mid, closes, oldest, who_ends}
 use Rattle.gl_windows.proofs.Setting.{Setting}
 use Rattle.gl_windows.proofs.CopyLemmas.{Step, step_at}

@@ -8,7 +8,7 @@ use Rattle.gl_wire.specs.Beats.{Beats, last, most}
 use Rattle.gl_wire.specs.Serves.{Caused, Fits}
 use Rattle.gl_wire.specs.Wire.{Carried}
 use Rattle.gl_wire.proofs.ApartLemmas.{carried_beat}
-use Rattle.gl_wire_copies.specs.Coming.{KeepsBeats}
+use Rattle.gl_wire.specs.Coming.{KeepsBeats}
 use Rattle.gl_wire.specs.Ticks.{TicksFit, ticks_in}
 use Rattle.gl_windows.specs.Ticks.{by_ticks}
 

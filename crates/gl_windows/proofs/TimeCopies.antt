@@ -8,7 +8,7 @@ use Rattle.std.proofs.lemmas.Nat.{mod_below}
 use Rattle.gl_bits.specs.Results.{Row}
 use Rattle.gl_bits.proofs.Bools.{same_test}
 use Rattle.gl_wire.specs.Wire.{Carried, pending, stream}
-use Rattle.gl_wire_copies.proofs.VisitLemmas.{did, did_none, did_one}
+use Rattle.gl_wire.proofs.VisitLemmas.{did, did_none, did_one}
 use Rattle.gl_windows.specs.Taking.{content, visited}
 use Rattle.gl_windows.specs.TimeFront.{TimeMachine, IsTimeFront, states, opened_by, closes_at, copy_for, last_row, open_row, turns_in, who_closes}
 use Rattle.gl_windows.proofs.TimeSetting.{IsTimed}

@@ -4,7 +4,7 @@ use Rattle.gl_algebra.specs.FigureTable.{stride_of}
 use Rattle.gl_algebra.specs.Views.{copies_of_time}
 use Rattle.gl_algebra.proofs.FigureLemmas.{one_in_time}
 use Rattle.gl_wire.proofs.CountLemmas.{narrow_sum}
-use Rattle.gl_wire_copies.proofs.NumberLemmas.{all_turns}
+use Rattle.gl_wire.proofs.NumberLemmas.{all_turns}
 use Rattle.gl_windows.specs.Costs.{TimesAreCounted}
 use Rattle.gl_windows.specs.TimeRotations.{TimesRotate}
 

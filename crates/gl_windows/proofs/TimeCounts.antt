@@ -3,7 +3,7 @@ use Rattle.std.proofs.Common.{◌≡◌, ℕ, zero, suc, ◌+◌, ◌-◌, ◌*�
 use Rattle.std.specs.Prelude.{if◌then◌else◌, nat_eq}
 use Rattle.std.proofs.lemmas.Bool.{ne_eqb}
 use Rattle.gl_wire_registers.specs.Held.{counted_down}
-use Rattle.gl_wire_copies.proofs.NumberLemmas.{mul_below}
+use Rattle.gl_wire.proofs.NumberLemmas.{mul_below}
 
 abbrev pub with_tick : Bool → ℕ → ℕ
 with_tick b n = if b then suc n else n

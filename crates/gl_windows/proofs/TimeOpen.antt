@@ -2,7 +2,7 @@
 use Rattle.std.proofs.Common.{◌≡◌, ℕ, suc, ◌+◌, ◌*◌, ◌<◌, ◌≤◌, false, ◌&&◌, sym, ◌∙◌, arith, inl, inr, mul-le-mul_right}
 use Rattle.std.specs.Prelude.{nat_le, nat_lt}
 use Rattle.std.proofs.lemmas.Bool.{cases_lt, lt-ltb, le-ltb, le-leb, lt-leb, and_from, and_left, and_right}
-use Rattle.gl_wire_copies.proofs.NumberLemmas.{mul_below}
+use Rattle.gl_wire.proofs.NumberLemmas.{mul_below}
 
 -- with n ticks so far: q windows are opened and d closed, and so many ticks lack to the next opening and the next closing
 module _ (size advance q d n until left : ℕ) (step_some : 1 ≤ advance) (to_open : n + until + 1 ≡ q * advance) (less : until < advance)

@@ -7,10 +7,10 @@ use Rattle.gl_bits.specs.Results.{Row}
 use Rattle.gl_bits.specs.Times.{tslices}
 use Rattle.gl_wire.specs.Apart.{an_end}
 use Rattle.gl_wire.specs.Wire.{Carried, stream}
-use Rattle.gl_wire_copies.specs.Lift.{Visits, visits, with_visit}
-use Rattle.gl_wire_copies.specs.Timed.{Begins, at_first, after_end}
-use Rattle.gl_wire_copies.proofs.NumberLemmas.{all_turns}
-use Rattle.gl_wire_copies.proofs.VisitLemmas.{begins_more}
+use Rattle.gl_wire.specs.Lift.{Visits, visits, with_visit}
+use Rattle.gl_wire.specs.Timed.{Begins, at_first, after_end}
+use Rattle.gl_wire.proofs.NumberLemmas.{all_turns}
+use Rattle.gl_wire.proofs.VisitLemmas.{begins_more}
 use Rattle.gl_windows.specs.Taking.{content, visited, parts_before}
 use Rattle.gl_windows.specs.Ticks.{by_ticks}
 use Rattle.gl_windows.specs.TimeFront.{TimeMachine, IsTimeFront, states, closes_at, turns_in, who_closes}

@@ -16,8 +16,8 @@ use Rattle.gl_wire.specs.Shapes.{IsDelayed}
 use Rattle.gl_wire.specs.Wire.{IsWire, carried, line_at, widths}
 use Rattle.gl_wire.proofs.ColumnLemmas.{wire_kept, bit_kept}
 use Rattle.gl_wire.proofs.FaultLemmas.{lines_kept}
-use Rattle.gl_wire_copies.specs.Lift.{tuple_of_any}
-use Rattle.gl_wire_copies.specs.Rotates.{flush_of, turns_of}
+use Rattle.gl_wire.specs.Lift.{tuple_of_any}
+use Rattle.gl_wire.specs.Rotates.{flush_of, turns_of}
 use Rattle.gl_wire_registers.specs.Counters.{IsPointer}
 use Rattle.gl_wire_registers.specs.declared.front.Front.{Front}
 use Rattle.gl_wire_registers.specs.Fronts.{Fronts, IsBacked, IsFronted}

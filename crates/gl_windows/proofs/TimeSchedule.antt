@@ -5,10 +5,10 @@ use Rattle.gl_algebra.specs.declared.figures.Figures.{Figures}
 use Rattle.gl_bits.specs.Results.{Row}
 use Rattle.gl_wire.specs.Apart.{Carries, a_tuple, an_end}
 use Rattle.gl_wire.specs.Wire.{Carried}
-use Rattle.gl_wire_copies.specs.Lift.{Schedules}
-use Rattle.gl_wire_copies.specs.Timed.{Origin, Timed}
-use Rattle.gl_wire_copies.proofs.NumberLemmas.{mul_below}
-use Rattle.gl_wire_copies.proofs.TurnLemmas.{turn_of, turns_schedule}
+use Rattle.gl_wire.specs.Lift.{Schedules}
+use Rattle.gl_wire.specs.Timed.{Origin, Timed}
+use Rattle.gl_wire.proofs.NumberLemmas.{mul_below}
+use Rattle.gl_wire.proofs.TurnLemmas.{turn_of, turns_schedule}
 use Rattle.gl_windows.specs.Ticks.{by_ticks}
 use Rattle.gl_windows.specs.TimeFront.{TimeMachine, IsTimeFront, states, closes_at, copy_for, turns_in, who_closes}
 use Rattle.gl_windows.proofs.TimeSetting.{IsTimed}

@@ -13,15 +13,15 @@ use Rattle.gl_wire.specs.Shapes.{IsDelayed}
 use Rattle.gl_wire.specs.Spills.{Lines}
 use Rattle.gl_wire.specs.Wire.{Carried, stream}
 use Rattle.gl_wire.proofs.FurtherLemmas.{end_of, has_end_of}
-use Rattle.gl_wire_copies.specs.Bodies.{OfBody}
-use Rattle.gl_wire_copies.specs.Coming.{KeepsBeats}
-use Rattle.gl_wire_copies.specs.Lift.{Visits, tuple_of_any}
-use Rattle.gl_wire_copies.specs.Rotates.{Rotates, flush_of, turns_of}
-use Rattle.gl_wire_copies.specs.Timed.{Timed}
-use Rattle.gl_wire_copies.proofs.LiftSpillLemmas.{lift_spills}
-use Rattle.gl_wire_copies.proofs.NumberLemmas.{all_turns}
-use Rattle.gl_wire_copies.proofs.TimeLemmas.{timed_for}
-use Rattle.gl_wire_copies.proofs.WholeServes.{whole_serving}
+use Rattle.gl_wire.specs.Bodies.{OfBody}
+use Rattle.gl_wire.specs.Coming.{KeepsBeats}
+use Rattle.gl_wire.specs.Lift.{Visits, tuple_of_any}
+use Rattle.gl_wire.specs.Rotates.{Rotates, flush_of, turns_of}
+use Rattle.gl_wire.specs.Timed.{Timed}
+use Rattle.gl_wire.proofs.LiftSpillLemmas.{lift_spills}
+use Rattle.gl_wire.proofs.NumberLemmas.{all_turns}
+use Rattle.gl_wire.proofs.TimeLemmas.{timed_for}
+use Rattle.gl_wire.proofs.WholeServes.{whole_serving}
 use Rattle.gl_wire_registers.specs.Timers.{IsClose}
 use Rattle.gl_windows.specs.declared.times.TimeRotation.{TimeRotation}
 use Rattle.gl_wire.specs.Ticks.{TicksFit, ticks_at, times_at}

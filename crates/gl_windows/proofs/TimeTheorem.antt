@@ -7,9 +7,9 @@ use Rattle.gl_algebra.proofs.FigureLemmas.{one_in_time}
 use Rattle.gl_bits.specs.Times.{tslices}
 use Rattle.gl_wire.specs.Ticks.{ticks_at, times_at}
 use Rattle.gl_wire.specs.Wire.{Carried, stream}
-use Rattle.gl_wire_copies.specs.Rotates.{Rotates}
-use Rattle.gl_wire_copies.specs.Timed.{Timed}
-use Rattle.gl_wire_copies.proofs.NumberLemmas.{all_turns}
+use Rattle.gl_wire.specs.Rotates.{Rotates}
+use Rattle.gl_wire.specs.Timed.{Timed}
+use Rattle.gl_wire.proofs.NumberLemmas.{all_turns}
 use Rattle.gl_windows.specs.declared.times.TimeRotation.{TimeRotation}
 use Rattle.gl_windows.specs.Ticks.{by_ticks}
 use Rattle.gl_windows.specs.TimeFront.{TimeMachine, IsTimeFront, who_closes}

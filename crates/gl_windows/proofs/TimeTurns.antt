@@ -8,7 +8,7 @@ use Rattle.std.proofs.lemmas.List.{append-nil, append_assoc}
 use Rattle.gl_bits.specs.Results.{Row}
 use Rattle.gl_wire.specs.Apart.{a_tuple, an_end}
 use Rattle.gl_wire.specs.Wire.{pending}
-use Rattle.gl_wire_copies.proofs.NumberLemmas.{all_turns, mul_below}
+use Rattle.gl_wire.proofs.NumberLemmas.{all_turns, mul_below}
 use Rattle.gl_windows.specs.Taking.{content, visited, parts_before}
 use Rattle.gl_windows.specs.Ticks.{by_ticks}
 use Rattle.gl_windows.specs.TimeFront.{TimeFront, TimeMachine, states, closes, closes_at, taken, reopens, turns_in}

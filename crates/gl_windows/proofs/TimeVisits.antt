@@ -7,9 +7,9 @@ use Rattle.gl_bits.specs.Words.{bit}
 use Rattle.gl_wire.specs.Apart.{an_end}
 use Rattle.gl_wire.specs.Ticks.{ticks_in}
 use Rattle.gl_wire.specs.Wire.{Carried}
-use Rattle.gl_wire_copies.specs.Lift.{Visits, visits}
-use Rattle.gl_wire_copies.specs.Timed.{NoEnd, Rested}
-use Rattle.gl_wire_copies.proofs.NumberLemmas.{all_turns, mul_below}
+use Rattle.gl_wire.specs.Lift.{Visits, visits}
+use Rattle.gl_wire.specs.Timed.{NoEnd, Rested}
+use Rattle.gl_wire.proofs.NumberLemmas.{all_turns, mul_below}
 use Rattle.gl_windows.specs.Ticks.{by_ticks}
 use Rattle.gl_windows.specs.TimeFront.{TimeMachine, states, closes_at, copy_for, reopens, who_closes}
 use Rattle.gl_windows.proofs.TimeSetting.{IsTimed, ticks_before, ticks_at}

@@ -18,18 +18,18 @@ use Rattle.gl_wire.specs.Serving.{Serving}
 use Rattle.gl_wire.specs.Shapes.{IsDelayed}
 use Rattle.gl_wire.specs.Spills.{Relation, Lines, ServedWithLines, both_lines}
 use Rattle.gl_wire.proofs.ServingLemmas.{serving_then, serving_as}
-use Rattle.gl_wire_copies.specs.Lift.{tuple_of_any}
-use Rattle.gl_wire_copies.specs.Coming.{by_tuples}
-use Rattle.gl_wire_copies.specs.Timed.{Origin, Timed}
-use Rattle.gl_wire_copies.specs.Rotates.{Rotates, OverCopies, lines_of_all, flush_of, turns_of}
-use Rattle.gl_wire_copies.proofs.LiftSpillLemmas.{lift_spills}
-use Rattle.gl_wire_copies.proofs.TimeLemmas.{timed_by}
-use Rattle.gl_wire_copies.proofs.WholeServes.{whole_lines}
+use Rattle.gl_wire.specs.Lift.{tuple_of_any}
+use Rattle.gl_wire.specs.Coming.{by_tuples}
+use Rattle.gl_wire.specs.Timed.{Origin, Timed}
+use Rattle.gl_wire.specs.Rotates.{Rotates, OverCopies, lines_of_all, flush_of, turns_of}
+use Rattle.gl_wire.proofs.LiftSpillLemmas.{lift_spills}
+use Rattle.gl_wire.proofs.TimeLemmas.{timed_by}
+use Rattle.gl_wire.proofs.WholeServes.{whole_lines}
 use Rattle.gl_wire_registers.specs.Timers.{IsClose}
 use Rattle.gl_windows.specs.Front.{IsFront, who_ends}
 use Rattle.gl_windows.specs.Laws.{RotationsServe, WindowsRotate}
-use Rattle.gl_wire_copies.specs.Bodies.{OfBody}
-use Rattle.gl_wire_copies.proofs.NumberLemmas.{all_turns}
+use Rattle.gl_wire.specs.Bodies.{OfBody}
+use Rattle.gl_wire.proofs.NumberLemmas.{all_turns}
 use Rattle.gl_windows.proofs.Setting.{Setting, Spacing}
 use Rattle.gl_windows.proofs.PhaseLemmas.{many_windows, empty_copies, from_by, from_begins, from_parted}
 use Rattle.gl_windows.proofs.SourceLemmas.{Source, comes, in_turn, source, few_windows, visit_source, tuple_source}

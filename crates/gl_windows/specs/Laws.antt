@@ -7,8 +7,8 @@ use Rattle.gl_algebra.specs.Views.{copies_of_window}
 use Rattle.gl_wire.specs.Shapes.{IsDelayed}
 use Rattle.gl_wire.specs.Spills.{Lines}
 use Rattle.gl_wire.specs.Wire.{Carried}
-use Rattle.gl_wire_copies.specs.Lift.{tuple_of_any}
-use Rattle.gl_wire_copies.specs.Rotates.{flush_of}
+use Rattle.gl_wire.specs.Lift.{tuple_of_any}
+use Rattle.gl_wire.specs.Rotates.{flush_of}
 use Rattle.gl_wire_registers.specs.Timers.{IsClose}
 use Rattle.gl_windows.specs.declared.rotation.Rotation.{Rotation}
 use Rattle.gl_windows.specs.Front.{IsFront}

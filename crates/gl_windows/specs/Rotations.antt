@@ -16,14 +16,14 @@ use Rattle.gl_wire.specs.Serves.{Fits}
 use Rattle.gl_wire.specs.Serving.{Serving}
 use Rattle.gl_wire.specs.Spills.{Lines, ServedWithLines}
 use Rattle.gl_wire.specs.Wire.{Carried, IsWire, carried, stream, widths}
-use Rattle.gl_wire_copies.specs.Rotates.{flush_of, lines_of_all}
+use Rattle.gl_wire.specs.Rotates.{flush_of, lines_of_all}
 use Rattle.gl_wire_registers.specs.Fronts.{Fed, Machine, keyless}
 use Rattle.gl_wire_registers.specs.Held.{with_registers}
 use Rattle.gl_wire_registers.specs.Lines.{carried_of}
 use Rattle.gl_wire_registers.specs.Timers.{IsClose}
 use Rattle.gl_windows.specs.declared.rotation.Rotation.{Rotation}
 use Rattle.gl_windows.specs.Costs.{cost_of_front}
-use Rattle.gl_wire_copies.specs.Bodies.{OfBody}
+use Rattle.gl_wire.specs.Bodies.{OfBody}
 use Rattle.gl_windows.specs.Front.{IsFront}
 
 -- numbers of a rotation: there are copies for all windows that can be open at once, the body waits for the end, and a

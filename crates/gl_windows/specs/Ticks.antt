@@ -3,7 +3,7 @@ use Rattle.std.specs.Prelude.{◌≡◌, ◌⊎◌, ℕ, Bool, true}
 use Rattle.gl_wire.specs.Apart.{Carries}
 use Rattle.gl_wire.specs.Ticks.{ticks_in}
 use Rattle.gl_wire.specs.Wire.{Carried}
-use Rattle.gl_wire_copies.specs.Coming.{Coming}
+use Rattle.gl_wire.specs.Coming.{Coming}
 
 -- ticks come beside a wire's tuples and ends, and they are the units
 abbrev pub by_ticks : (ℕ → Bool) → Carried → Coming

@@ -3,7 +3,7 @@
 use Rattle.std.specs.Prelude.{◌≡◌, ℕ, zero, suc, ◌+◌, ◌-◌, ◌*◌, ◌%◌, ◌<◌, ◌≤◌, Option, Some, None, Bool, true, false, not, ◌&&◌, ◌||◌, if◌then◌else◌, is_some, nat_eq, nat_le, nat_lt}
 use Rattle.gl_bits.specs.Results.{Row}
 use Rattle.gl_wire.specs.Wire.{Carried}
-use Rattle.gl_wire_copies.specs.Lift.{Visits}
+use Rattle.gl_wire.specs.Lift.{Visits}
 use Rattle.gl_wire_registers.specs.Held.{counted_down}
 use Rattle.gl_wire_registers.specs.Timers.{Timer, fires, ticked}
 

@@ -19,9 +19,9 @@ use Rattle.gl_wire.specs.Serving.{Serving}
 use Rattle.gl_wire.specs.Shapes.{IsDelayed}
 use Rattle.gl_wire.specs.Spills.{Lines}
 use Rattle.gl_wire.specs.Wire.{Carried, IsWire, carried, line_at, stream, widths}
-use Rattle.gl_wire_copies.specs.Bodies.{OfBody}
-use Rattle.gl_wire_copies.specs.Lift.{tuple_of_any}
-use Rattle.gl_wire_copies.specs.Rotates.{flush_of, lines_of_all}
+use Rattle.gl_wire.specs.Bodies.{OfBody}
+use Rattle.gl_wire.specs.Lift.{tuple_of_any}
+use Rattle.gl_wire.specs.Rotates.{flush_of, lines_of_all}
 use Rattle.gl_wire_registers.specs.Fronts.{Fed, Machine, keyless}
 use Rattle.gl_wire_registers.specs.Held.{with_registers}
 use Rattle.gl_wire_registers.specs.Lines.{carried_of}

@@ -2,7 +2,7 @@
 use Rattle.std.specs.Prelude.{◌≡◌, ℕ, zero, suc, List, [], ◌∷◌, Option, Some, None, Bool, false, ◌&&◌, ◌||◌, nat_eq}
 use Rattle.gl_bits.specs.Results.{Row}
 use Rattle.gl_wire.specs.Wire.{Carried}
-use Rattle.gl_wire_copies.specs.Lift.{visits}
+use Rattle.gl_wire.specs.Lift.{visits}
 use Rattle.gl_windows.specs.Front.{closes, mid, oldest, taken, who_ends}
 
 -- the tuples of these cycles, from cycle 0 on, each of one number

@@ -1,7 +1,7 @@
 //! Windows by rotation: the front before the copies of a body, and the back behind them.
 
 ghost use Rattle.std.specs.Prelude.{◌≡◌};
-ghost use Rattle.gl_wire_copies.specs.Rotates.{flush_of};
+ghost use Rattle.gl_wire.specs.Rotates.{flush_of};
 ghost use Rattle.gl_windows.specs.Rotations.{IsRotation, rotation_machine};
 
 use crate::front::{Numbers, put_front};

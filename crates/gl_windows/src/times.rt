@@ -3,7 +3,7 @@
 ghost use Rattle.std.specs.Prelude.{◌≡◌, IfOk};
 ghost use Rattle.gl_net.specs.Net.{IsBit};
 ghost use Rattle.gl_wire.specs.Wire.{IsWire};
-ghost use Rattle.gl_wire_copies.specs.Rotates.{flush_of, turns_of};
+ghost use Rattle.gl_wire.specs.Rotates.{flush_of, turns_of};
 ghost use Rattle.gl_windows.specs.TimeRotations.{AreTimeFronts, IsTimeRotation, copies_of, ticked_machine};
 
 use crate::parts::{count_flush, count_left, count_openings, keep_tail, take_rows};

@@ -16,3 +16,14 @@ pub mod ApartLemmas
 pub mod SideLemmas
 pub mod OnceLemmas
 pub mod PadLemmas
+pub mod LiftLemmas
+pub mod LiftSpillLemmas
+pub mod AnyLemmas
+pub mod SpillLemmas
+pub mod TimeLemmas
+pub mod WholeTime
+pub mod WholeFits
+pub mod WholeServes
+pub mod NumberLemmas
+pub mod VisitLemmas
+pub mod TurnLemmas

@@ -17,3 +17,9 @@ pub mod Faults
 pub mod Blocks
 pub mod Laws
 pub mod Operators
+pub mod Lift
+pub mod Coming
+pub mod Timed
+pub mod Rotates
+pub mod CopyLaws
+pub mod Bodies

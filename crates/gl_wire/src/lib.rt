@@ -1,8 +1,9 @@
 //! Wires: what they carry, when a block between wires serves a meaning, and the laws by which blocks are put together. Here belongs
-//! what holds of every wire and every block: registers behind wires, gates on lines, the shapes of blocks. What an operator does with
-//! rows does not, nor do the copies of a body.
+//! what holds of every wire and every block: registers behind wires, gates on lines, the shapes of blocks; and what copies of a body
+//! between a front and a back serve, whatever the body. What an operator does with rows does not, nor what a window or a group is.
 #![tactic(auto)]
 
+pub mod copy_laws;
 pub mod emitted;
 pub mod faults;
 pub mod figures;

@@ -12,7 +12,7 @@ use Rattle.gl_net.proofs.Determined.{keeps_then}
 use Rattle.gl_net.proofs.Growth.{same_keeps}
 use Rattle.gl_wire.specs.declared.wire.Wire.{Wire}
 use Rattle.gl_wire.specs.Wire.{AreBuses, Carried, carried, line_at, row_at, tuple_at, widths, wire_of}
-use Rattle.gl_wire_copies.specs.Lift.{first_of, tuple_of_any}
+use Rattle.gl_wire.specs.Lift.{first_of, tuple_of_any}
 use Rattle.gl_wire.specs.Costs.{Costs, nodes_alone}
 use Rattle.gl_wire.specs.Gates.{IsGate}
 use Rattle.gl_wire.specs.Stages.{IsPad}
@@ -20,7 +20,7 @@ use Rattle.gl_wire.specs.Shapes.{IsDelayed}
 use Rattle.gl_wire.proofs.ColumnLemmas.{AreBuses-push, buses_kept, widths-push, wire_kept, row_at-push}
 use Rattle.gl_wire.proofs.StageLemmas.{delayed_same}
 use Rattle.gl_wire.proofs.GateLemmas.{choose_line}
-use Rattle.gl_wire_copies.proofs.LiftLemmas.{first_of-none}
+use Rattle.gl_wire.proofs.LiftLemmas.{first_of-none}
 use Rattle.gl_wire_registers.specs.Lines.{carried_of}
 use Rattle.gl_wire_registers.specs.declared.back.Merged.{Merged}
 use Rattle.gl_wire_registers.specs.Backs.{AreWires, ChoosesRow, JoinsCopies, Merges, MergesTwo, nodes_of_merge}

@@ -11,8 +11,8 @@ use Rattle.gl_wire.specs.Spills.{SameLines, both_lines}
 use Rattle.gl_wire.specs.Wire.{carried, line_at}
 use Rattle.gl_wire.proofs.ColumnLemmas.{bit_kept, bus_kept, wire_kept}
 use Rattle.gl_wire.proofs.FaultLemmas.{line_kept, lines_kept}
-use Rattle.gl_wire_copies.specs.Lift.{tuple_of_any}
-use Rattle.gl_wire_copies.specs.Rotates.{lines_of_all}
+use Rattle.gl_wire.specs.Lift.{tuple_of_any}
+use Rattle.gl_wire.specs.Rotates.{lines_of_all}
 use Rattle.gl_wire_registers.specs.declared.front.Front.{Front}
 use Rattle.gl_wire_registers.specs.Fronts.{Feeding, Fronts, Giving, IsBacked, KeysFit, Machine, feed_of, keyless}
 use Rattle.gl_wire_registers.specs.Joins.{JoinsAll, columns_of, cost_of_back, gives_of, told_of}

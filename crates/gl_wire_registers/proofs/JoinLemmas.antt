@@ -17,8 +17,8 @@ use Rattle.gl_wire.specs.Spills.{Lines}
 use Rattle.gl_wire.specs.Wire.{AreBuses, IsWire, carried, line_at, widths}
 use Rattle.gl_wire.proofs.ColumnLemmas.{buses_kept, wire_kept}
 use Rattle.gl_wire.proofs.FaultLemmas.{lines_kept}
-use Rattle.gl_wire_copies.specs.Lift.{tuple_of_any}
-use Rattle.gl_wire_copies.specs.Rotates.{any_of}
+use Rattle.gl_wire.specs.Lift.{tuple_of_any}
+use Rattle.gl_wire.specs.Rotates.{any_of}
 use Rattle.gl_wire_registers.specs.Backs.{AreWires, JoinsCopies}
 use Rattle.gl_wire_registers.specs.Joins.{AreCopies, HaveLines, JoinsAll, JoinsAlone, JoinsLines, columns_of, faults_of, gives_of, told_of, wires_of}
 use Rattle.gl_wire_registers.proofs.BackLemmas.{merge_within}

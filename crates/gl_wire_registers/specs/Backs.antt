@@ -8,7 +8,7 @@ use Rattle.gl_wire.specs.declared.wire.Wire.{Wire}
 use Rattle.gl_wire.specs.Costs.{Costs, nodes_alone}
 use Rattle.gl_wire.specs.Shapes.{IsDelayed}
 use Rattle.gl_wire.specs.Wire.{AreBuses, IsWire, carried, line_at, row_at, tuple_at, widths}
-use Rattle.gl_wire_copies.specs.Lift.{first_of, tuple_of_any}
+use Rattle.gl_wire.specs.Lift.{first_of, tuple_of_any}
 use Rattle.gl_wire_registers.specs.declared.back.Merged.{Merged}
 use Rattle.gl_wire_registers.specs.Held.{with_registers}
 use Rattle.gl_wire_registers.specs.Lines.{carried_of}

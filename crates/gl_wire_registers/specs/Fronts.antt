@@ -11,7 +11,7 @@ use Rattle.gl_wire.specs.Faults.{AreLines, IsLine, line_of, lines_of}
 use Rattle.gl_wire.specs.Spills.{Lines, SameLines, both_lines}
 use Rattle.gl_wire.specs.Wire.{Carried, IsWire, carried, line_at, widths}
 use Rattle.gl_wire_registers.specs.declared.front.Front.{Front}
-use Rattle.gl_wire_copies.specs.Rotates.{lines_of_all}
+use Rattle.gl_wire.specs.Rotates.{lines_of_all}
 use Rattle.gl_wire_registers.specs.Joins.{columns_of, cost_of_back, gives_of, told_of}
 use Rattle.gl_wire_registers.specs.Lines.{carried_of, held_of}
 

@@ -11,8 +11,8 @@ use Rattle.gl_wire.specs.Faults.{AreLines, lines_of, no_faults}
 use Rattle.gl_wire.specs.Shapes.{IsDelayed}
 use Rattle.gl_wire.specs.Spills.{Lines, SameLines, both_lines, no_lines}
 use Rattle.gl_wire.specs.Wire.{Carried, IsWire, carried, line_at, widths}
-use Rattle.gl_wire_copies.specs.Lift.{tuple_of_any}
-use Rattle.gl_wire_copies.specs.Rotates.{lines_of_all}
+use Rattle.gl_wire.specs.Lift.{tuple_of_any}
+use Rattle.gl_wire.specs.Rotates.{lines_of_all}
 use Rattle.gl_wire_registers.specs.Lines.{carried_of}
 
 -- a back of so many copies, which give these columns, and the lines of all copies

@@ -11,7 +11,7 @@ use Rattle.gl_algebra.proofs.ReadLemmas.{body_reads}
 use Rattle.gl_net.specs.declared.node.Bit.{Bit}
 use Rattle.gl_net.specs.Net.{Net, Run, IsRun, Keeps}
 use Rattle.gl_net.proofs.Determined.{keeps_then}
-use Rattle.gl_wire_copies.specs.Bodies.{OfBody, alone}
+use Rattle.gl_wire.specs.Bodies.{OfBody, alone}
 use Rattle.gl_wire_registers.specs.Joins.{gives_of, told_by, told_of, wires_of}
 use Rattle.gl_wire_registers.specs.Lines.{carried_of}
 use Rattle.gl_wire_registers.proofs.RowLemmas.{carried_of-get}

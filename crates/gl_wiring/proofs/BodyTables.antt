@@ -20,7 +20,7 @@ use Rattle.gl_wire.specs.declared.wire.Wire.{Wire}
 use Rattle.gl_wire.specs.Costs.{CostsAtMost}
 use Rattle.gl_wire.specs.Shapes.{AtEnds}
 use Rattle.gl_wire.specs.Wire.{Carried, carried, widths}
-use Rattle.gl_wire_copies.specs.Bodies.{alone}
+use Rattle.gl_wire.specs.Bodies.{alone}
 use Rattle.gl_wire_lanes.specs.declared.table.TableOut.{TableOut}
 use Rattle.gl_wire_lanes.specs.Shares.{share, slot_of}
 use Rattle.gl_wiring.specs.declared.rows.LaneRows.{LaneRows}

@@ -5,7 +5,7 @@ use Rattle.std.proofs.lemmas.List.{length-map}
 use Rattle.gl_bits.specs.Kinds.{IsKind, width_of}
 use Rattle.gl_bits.specs.declared.kind.Kind.{Kind}
 use Rattle.gl_algebra.specs.declared.node.PlanNode.{PlanNode}
-use Rattle.gl_reach.specs.Reach.{keys_part, lean_part, store_part, weight_part}
+use Rattle.gl_figures.specs.Reach.{keys_part, lean_part, store_part, weight_part}
 use Rattle.gl_net.specs.Net.{Net}
 use Rattle.gl_wire.specs.Counted.{IsCounted}
 use Rattle.gl_rows.specs.Costs.{cost_of_items, cost_of_rows}

@@ -23,8 +23,8 @@ use Rattle.gl_net.specs.declared.node.Bit.{Bit}
 use Rattle.gl_net.specs.declared.node.Bus.{Bus}
 use Rattle.gl_net.specs.Net.{Net}
 use Rattle.gl_rows.proofs.MadeLemmas.{as_many}
-use Rattle.gl_wire_copies.specs.Bodies.{OfBody, alone}
-use Rattle.gl_wire_copies.specs.Rotates.{lines_of_all}
+use Rattle.gl_wire.specs.Bodies.{OfBody, alone}
+use Rattle.gl_wire.specs.Rotates.{lines_of_all}
 use Rattle.gl_groups.specs.Costs.{cost_of_back}
 use Rattle.gl_groups.specs.Grouped.{grouping_machine}
 use Rattle.gl_groups.specs.Groupings.{IsGrouping, key_of, line_of_further}

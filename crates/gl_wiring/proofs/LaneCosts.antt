@@ -22,8 +22,8 @@ use Rattle.gl_algebra.specs.Shapes.{kinds_of}
 use Rattle.gl_algebra.specs.Weights.{weight_of, weight_of_agg, weight_of_copies}
 use Rattle.gl_algebra.proofs.TableLemmas.{nodes_follow_tables}
 use Rattle.gl_net.specs.Net.{Net}
-use Rattle.gl_reach.specs.Reach.{keys_part, lean_part, store_part, weight_part}
-use Rattle.gl_reach.proofs.PartLemmas.{HasParts, parts_at}
+use Rattle.gl_figures.specs.Reach.{keys_part, lean_part, store_part, weight_part}
+use Rattle.gl_figures.proofs.PartLemmas.{HasParts, parts_at}
 use Rattle.gl_groups.specs.declared.laning.Lane.{Lane}
 use Rattle.gl_groups.specs.Joins.{width_of_keys}
 use Rattle.gl_groups.specs.Laned.{words_of_keys}

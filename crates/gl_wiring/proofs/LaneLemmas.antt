@@ -54,8 +54,8 @@ use Rattle.gl_wire.proofs.DelayLemmas.{spaced_closer}
 use Rattle.gl_wire.proofs.FaultLemmas.{lines_kept}
 use Rattle.gl_wire.proofs.ServingLemmas.{serving_as, serving_lines}
 use Rattle.gl_wire.proofs.StageLemmas.{line_first, tuple_by}
-use Rattle.gl_wire_copies.specs.Bodies.{OfBody, alone}
-use Rattle.gl_wire_copies.specs.Rotates.{any_of, lines_of_all, turns_of}
+use Rattle.gl_wire.specs.Bodies.{OfBody, alone}
+use Rattle.gl_wire.specs.Rotates.{any_of, lines_of_all, turns_of}
 use Rattle.gl_wire_lanes.specs.declared.table.TableOut.{TableOut}
 use Rattle.gl_wire_lanes.specs.Lanes.{Begins}
 use Rattle.gl_wire_lanes.specs.Shares.{lane_of, share, slot_of}

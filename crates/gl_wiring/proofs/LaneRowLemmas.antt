@@ -36,7 +36,7 @@ use Rattle.gl_wire.specs.Stages.{IsLaterBus, IsLaterLine}
 use Rattle.gl_wire.specs.Wire.{carried, line_at, row_at, tuple_at}
 use Rattle.gl_wire.proofs.ColumnLemmas.{bit_kept, bus_kept}
 use Rattle.gl_wire.proofs.StageLemmas.{line_first, no_line, tuple_by}
-use Rattle.gl_wire_copies.specs.Bodies.{OfBody, alone}
+use Rattle.gl_wire.specs.Bodies.{OfBody, alone}
 use Rattle.gl_wire_lanes.specs.Lanes.{Begins}
 use Rattle.gl_wire_lanes.specs.Shares.{lane_of}
 use Rattle.gl_wire_lanes.proofs.BehindLemmas.{begins_behind}

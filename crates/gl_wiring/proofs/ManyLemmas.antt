@@ -21,7 +21,7 @@ use Rattle.gl_net.specs.Net.{Net, memory_bits_of, register_bits_of, size_of}
 use Rattle.gl_net.specs.PortValues.{PortShape, port_shapes}
 use Rattle.gl_net.specs.declared.node.Bit.{Bit}
 use Rattle.gl_net.specs.declared.node.Direction.TheVariants.{Out}
-use Rattle.gl_reach.specs.Reach.{keys_of_reached, lean_of_reached, store_of_reached, weight_of_reached}
+use Rattle.gl_figures.specs.Reach.{keys_of_reached, lean_of_reached, store_of_reached, weight_of_reached}
 use Rattle.gl_schema.specs.Ports.{rst, eos, out_valid, out_eos, fault_group, fault_queue}
 use Rattle.gl_schema.specs.declared.schema.Schema.{Schema}
 use Rattle.gl_wire.specs.Costs.{CostsAtMost}

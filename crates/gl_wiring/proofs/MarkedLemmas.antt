@@ -15,10 +15,10 @@ use Rattle.gl_algebra.proofs.PlanLemmas.{in_order}
 use Rattle.gl_net.specs.declared.node.Bit.{Bit}
 use Rattle.gl_net.specs.Net.{Net, Keeps}
 use Rattle.gl_net.proofs.Growth.{same_keeps}
-use Rattle.gl_reach.specs.Marks.{AreMarks}
-use Rattle.gl_reach.specs.Reach.{lies_below, reaches}
-use Rattle.gl_reach.proofs.MarkLemmas.{all_of, any_of, any_with, child-reached}
-use Rattle.gl_reach.proofs.ReachLemmas.{below-node, children_all}
+use Rattle.gl_figures.specs.Marks.{AreMarks}
+use Rattle.gl_figures.specs.Reach.{lies_below, reaches}
+use Rattle.gl_figures.proofs.MarkLemmas.{all_of, any_of, any_with, child-reached}
+use Rattle.gl_figures.proofs.ReachLemmas.{below-node, children_all}
 use Rattle.gl_wire.specs.declared.wire.Wire.{Wire}
 use Rattle.gl_wire.proofs.FaultLemmas.{line_kept}
 use Rattle.gl_wiring.specs.Put.{CanPut}

@@ -22,7 +22,7 @@ use Rattle.gl_net.specs.Net.{Net}
 use Rattle.gl_queue.specs.Joiners.{IsJoinerOf, cost_of_joiner, joined_pace, joins_when}
 use Rattle.gl_queue.specs.Unions.{IsUnionOf, cost_of_union}
 use Rattle.gl_queue.proofs.CountLemmas.{joiners_are_counted, unions_are_counted}
-use Rattle.gl_reach.proofs.PartLemmas.{parts_at}
+use Rattle.gl_figures.proofs.PartLemmas.{parts_at}
 use Rattle.gl_wire.specs.declared.emitted.Emitted.{Emitted}
 use Rattle.gl_wire.specs.declared.wire.Wire.{Wire}
 use Rattle.gl_wire.specs.Blocks.{any_pace}

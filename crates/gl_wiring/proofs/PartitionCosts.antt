@@ -14,11 +14,11 @@ use Rattle.gl_algebra.specs.Shapes.{kinds_of}
 use Rattle.gl_algebra.specs.Views.{copies_of_partition, copies_of_window}
 use Rattle.gl_algebra.specs.Weights.{weight_of, weight_of_copies}
 use Rattle.gl_net.specs.Net.{Net}
-use Rattle.gl_reach.specs.Reach.{keys_part, lean_part, store_part, weight_part}
-use Rattle.gl_reach.proofs.PartLemmas.{HasParts, parts_at}
+use Rattle.gl_figures.specs.Reach.{keys_part, lean_part, store_part, weight_part}
+use Rattle.gl_figures.proofs.PartLemmas.{HasParts, parts_at}
 use Rattle.gl_groups.specs.Costs.{IsCounted, cost_of_back}
-use Rattle.gl_partitions.specs.Costs.{cost_of_front, cost_of_partitioning, counted_for}
-use Rattle.gl_partitions.proofs.CostLemmas.{partitionings_are_counted}
+use Rattle.gl_partition.specs.Costs.{cost_of_front, cost_of_partitioning, counted_for}
+use Rattle.gl_partition.proofs.CostLemmas.{partitionings_are_counted}
 use Rattle.gl_wire.specs.Costs.{Cost, CostsAtMost}
 use Rattle.gl_wire.proofs.CountLemmas.{narrow_kinds}
 use Rattle.gl_wiring.specs.declared.partitions.PartitionOf.{PartitionOf}

@@ -26,14 +26,14 @@ use Rattle.gl_algebra.proofs.SoundLemmas.{spaced_sound}
 use Rattle.gl_algebra.proofs.TableLemmas.{nodes_follow_tables}
 use Rattle.gl_net.specs.declared.node.Bit.{Bit}
 use Rattle.gl_net.specs.Net.{Net}
-use Rattle.gl_wire_copies.specs.Bodies.{OfBody, alone}
-use Rattle.gl_wire_copies.specs.Rotates.{lines_of_all}
+use Rattle.gl_wire.specs.Bodies.{OfBody, alone}
+use Rattle.gl_wire.specs.Rotates.{lines_of_all}
 use Rattle.gl_groups.specs.Costs.{cost_of_back}
 use Rattle.gl_groups.specs.Groupings.{line_of_further}
-use Rattle.gl_partitions.specs.declared.partitioning.Partitioning.{Partitioning}
-use Rattle.gl_partitions.specs.Partitioned.{partitioning_machine}
-use Rattle.gl_partitions.specs.Partitionings.{IsPartitioning, OfPartitions, key_of}
-use Rattle.gl_partitions.proofs.PartLemmas.{partitions_partition}
+use Rattle.gl_partition.specs.declared.partitioning.Partitioning.{Partitioning}
+use Rattle.gl_partition.specs.Partitioned.{partitioning_machine}
+use Rattle.gl_partition.specs.Partitionings.{IsPartitioning, OfPartitions, key_of}
+use Rattle.gl_partition.proofs.PartLemmas.{partitions_partition}
 use Rattle.gl_wire_registers.specs.Fronts.{columns_over}
 use Rattle.gl_wire_registers.specs.Joins.{columns_of, told_of}
 use Rattle.gl_wire.specs.declared.emitted.Emitted.{Emitted}

@@ -12,11 +12,11 @@ use Rattle.gl_algebra.specs.Fits.{IsPlan}
 use Rattle.gl_algebra.specs.Weights.{weight_of}
 use Rattle.gl_net.specs.declared.node.Bit.{Bit}
 use Rattle.gl_net.specs.Net.{Net}
-use Rattle.gl_reach.specs.Marks.{AreMarks}
-use Rattle.gl_reach.specs.Reach.{keys_part, lean_part, lies_below, reached, reaches, store_part, weight_part}
-use Rattle.gl_reach.proofs.MarkLemmas.{all_of, any_with}
-use Rattle.gl_reach.proofs.ReachLemmas.{once_is_less, one_sum}
-use Rattle.gl_reach.proofs.SumLemmas.{sum-same}
+use Rattle.gl_figures.specs.Marks.{AreMarks}
+use Rattle.gl_figures.specs.Reach.{keys_part, lean_part, lies_below, reached, reaches, store_part, weight_part}
+use Rattle.gl_figures.proofs.MarkLemmas.{all_of, any_with}
+use Rattle.gl_figures.proofs.ReachLemmas.{once_is_less, one_sum}
+use Rattle.gl_figures.proofs.SumLemmas.{sum-same}
 use Rattle.gl_wire.specs.declared.emitted.Emitted.{Emitted}
 use Rattle.gl_wire.specs.declared.wire.Wire.{Wire}
 use Rattle.gl_wiring.specs.Put.{CanPut, IsPut}

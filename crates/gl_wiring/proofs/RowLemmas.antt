@@ -24,7 +24,7 @@ use Rattle.gl_algebra.proofs.SoundLemmas.{delayed_sound}
 use Rattle.gl_algebra.proofs.TableLemmas.{nodes_follow_tables}
 use Rattle.gl_net.specs.declared.node.Bit.{Bit}
 use Rattle.gl_net.specs.Net.{Net}
-use Rattle.gl_reach.proofs.PartLemmas.{parts_at}
+use Rattle.gl_figures.proofs.PartLemmas.{parts_at}
 use Rattle.gl_rows.specs.Costs.{computed_widths, cost_of_items, cost_of_rows, projected_widths}
 use Rattle.gl_totals.specs.Costs.{cost_of_aggs}
 use Rattle.gl_totals.specs.Totals.{total_row, total_widths}

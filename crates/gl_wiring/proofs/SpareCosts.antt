@@ -18,8 +18,8 @@ use Rattle.gl_figures.proofs.PrintedLemmas.{enough}
 use Rattle.gl_figures.proofs.RootLemmas.{further_there}
 use Rattle.gl_net.specs.Net.{Net}
 use Rattle.gl_windows.specs.Costs.{IsCounted, counted_for}
-use Rattle.gl_windows_spare.specs.Costs.{cost_of_front, cost_of_rotation}
-use Rattle.gl_windows_spare.proofs.CostLemmas.{spares_are_counted}
+use Rattle.gl_spare.specs.Costs.{cost_of_front, cost_of_rotation}
+use Rattle.gl_spare.proofs.CostLemmas.{spares_are_counted}
 use Rattle.gl_wire_registers.specs.Joins.{cost_of_back}
 use Rattle.gl_wire.specs.Costs.{CostsAtMost}
 use Rattle.gl_wire.proofs.CountLemmas.{narrow_kinds}

@@ -20,12 +20,12 @@ use Rattle.gl_figures.proofs.RootLemmas.{figures_there, spare_there}
 use Rattle.gl_net.specs.declared.node.Bit.{Bit}
 use Rattle.gl_net.specs.Net.{Net}
 use Rattle.gl_net.proofs.Determined.{keeps_then}
-use Rattle.gl_windows_spare.specs.declared.rotation.SpareRotation.{SpareRotation}
-use Rattle.gl_windows_spare.specs.Costs.{cost_of_front}
-use Rattle.gl_windows_spare.specs.Rotations.{IsRotation, Suits, figures_over, spare_machine}
-use Rattle.gl_windows_spare.proofs.NumberLemmas.{spares_rotate}
-use Rattle.gl_wire_copies.specs.Bodies.{OfBody, alone}
-use Rattle.gl_wire_copies.specs.Rotates.{lines_of_all}
+use Rattle.gl_spare.specs.declared.rotation.SpareRotation.{SpareRotation}
+use Rattle.gl_spare.specs.Costs.{cost_of_front}
+use Rattle.gl_spare.specs.Rotations.{IsRotation, Suits, figures_over, spare_machine}
+use Rattle.gl_spare.proofs.NumberLemmas.{spares_rotate}
+use Rattle.gl_wire.specs.Bodies.{OfBody, alone}
+use Rattle.gl_wire.specs.Rotates.{lines_of_all}
 use Rattle.gl_wire_registers.specs.Joins.{columns_of, cost_of_back, told_of}
 use Rattle.gl_wire.specs.declared.emitted.Emitted.{Emitted}
 use Rattle.gl_wire.specs.declared.wire.Wire.{Wire}

@@ -22,11 +22,11 @@ use Rattle.gl_net.specs.declared.node.Bit.{Bit}
 use Rattle.gl_net.specs.Net.{Net, Keeps}
 use Rattle.gl_net.proofs.Determined.{keeps_then}
 use Rattle.gl_net.proofs.Growth.{same_keeps}
-use Rattle.gl_reach.specs.Marks.{AreMarks}
-use Rattle.gl_reach.specs.Reach.{keys_part, lean_part, lies_below, reached, store_part, weight_part}
-use Rattle.gl_reach.proofs.MarkLemmas.{all_of}
-use Rattle.gl_reach.proofs.ReachLemmas.{children_all, once_below, one_sum}
-use Rattle.gl_reach.proofs.SumLemmas.{sum-same}
+use Rattle.gl_figures.specs.Marks.{AreMarks}
+use Rattle.gl_figures.specs.Reach.{keys_part, lean_part, lies_below, reached, store_part, weight_part}
+use Rattle.gl_figures.proofs.MarkLemmas.{all_of}
+use Rattle.gl_figures.proofs.ReachLemmas.{children_all, once_below, one_sum}
+use Rattle.gl_figures.proofs.SumLemmas.{sum-same}
 use Rattle.gl_wire.specs.declared.emitted.Emitted.{Emitted}
 use Rattle.gl_wire.specs.declared.wire.Wire.{Wire}
 use Rattle.gl_wire.specs.Costs.{CostsAtMost}

@@ -28,8 +28,8 @@ use Rattle.gl_windows.specs.declared.times.TimeRotation.{TimeRotation}
 use Rattle.gl_windows.specs.Costs.{cost_of_time_front}
 use Rattle.gl_windows.specs.TimeRotations.{IsTimeRotation, ticked_machine, time_figures}
 use Rattle.gl_windows.proofs.TimeCosts.{times_rotate}
-use Rattle.gl_wire_copies.specs.Bodies.{OfBody, alone}
-use Rattle.gl_wire_copies.specs.Rotates.{lines_of_all}
+use Rattle.gl_wire.specs.Bodies.{OfBody, alone}
+use Rattle.gl_wire.specs.Rotates.{lines_of_all}
 use Rattle.gl_wire_registers.specs.Joins.{columns_of, cost_of_back, told_of}
 use Rattle.gl_wire.specs.declared.emitted.Emitted.{Emitted}
 use Rattle.gl_wire.specs.declared.wire.Wire.{Wire}

@@ -14,8 +14,8 @@ use Rattle.gl_algebra.specs.Shapes.{kinds_of}
 use Rattle.gl_algebra.specs.Weights.{weight_of, weight_of_copies}
 use Rattle.gl_algebra.proofs.TableLemmas.{nodes_follow_tables}
 use Rattle.gl_net.specs.Net.{Net}
-use Rattle.gl_reach.specs.Reach.{keys_part, lean_part, store_part, weight_part}
-use Rattle.gl_reach.proofs.PartLemmas.{HasParts, parts_at}
+use Rattle.gl_figures.specs.Reach.{keys_part, lean_part, store_part, weight_part}
+use Rattle.gl_figures.proofs.PartLemmas.{HasParts, parts_at}
 use Rattle.gl_windows.specs.Costs.{IsCounted, cost_of_front, cost_of_rotation, counted_for}
 use Rattle.gl_wire_registers.specs.Joins.{cost_of_back}
 use Rattle.gl_windows.proofs.CostLemmas.{rotations_are_counted}

@@ -21,8 +21,8 @@ use Rattle.gl_net.specs.declared.node.Bit.{Bit}
 use Rattle.gl_net.specs.Net.{Net}
 use Rattle.gl_windows.specs.Rotations.{IsRotation, rotation_machine}
 use Rattle.gl_windows.proofs.WindowLemmas.{windows_rotate}
-use Rattle.gl_wire_copies.specs.Bodies.{OfBody, alone}
-use Rattle.gl_wire_copies.specs.Rotates.{lines_of_all}
+use Rattle.gl_wire.specs.Bodies.{OfBody, alone}
+use Rattle.gl_wire.specs.Rotates.{lines_of_all}
 use Rattle.gl_wire_registers.specs.Joins.{columns_of, cost_of_back, told_of}
 use Rattle.gl_wire.specs.declared.emitted.Emitted.{Emitted}
 use Rattle.gl_wire.specs.declared.wire.Wire.{Wire}

@@ -18,7 +18,7 @@ use Rattle.gl_wire.specs.Shapes.{AtEnds, Steady}
 use Rattle.gl_wire.specs.Wire.{Carried, IsWire, carried, line_at, widths}
 use Rattle.gl_groups.specs.declared.laning.Lane.{Lane}
 use Rattle.gl_groups.specs.LaneLaws.{direct_figures}
-use Rattle.gl_wire_copies.specs.Bodies.{OfBody}
+use Rattle.gl_wire.specs.Bodies.{OfBody}
 use Rattle.gl_wire_lanes.specs.declared.table.TableOut.{TableOut}
 use Rattle.gl_wire_lanes.specs.Lanes.{Begins}
 use Rattle.gl_wire_lanes.specs.Shares.{lane_of, share, slot_of}

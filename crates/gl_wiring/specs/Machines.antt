@@ -1,11 +1,11 @@
 -- The machines over copies of a body, by the nodes that they are for.
 use Rattle.gl_groups.specs.Grouped.{grouping_machine}
 use Rattle.gl_groups.specs.Groupings.{IsGrouping}
-use Rattle.gl_partitions.specs.Partitioned.{partitioning_machine}
-use Rattle.gl_partitions.specs.Partitionings.{IsPartitioning}
+use Rattle.gl_partition.specs.Partitioned.{partitioning_machine}
+use Rattle.gl_partition.specs.Partitionings.{IsPartitioning}
 use Rattle.gl_windows.specs.Rotations.{IsRotation, rotation_machine}
 use Rattle.gl_windows.specs.TimeRotations.{IsTimeRotation, ticked_machine}
-use Rattle.gl_windows_spare.specs.Rotations as spare
+use Rattle.gl_spare.specs.Rotations as spare
 use Rattle.gl_wire_registers.specs.Fronts.{Machine}
 use Rattle.gl_wiring.specs.declared.machines.CopyMachine.{CopyMachine}
 use Rattle.gl_wiring.specs.declared.machines.CopyMachine.TheVariants.{Windows, Times, Groups, Partitions, Spare}

@@ -10,7 +10,7 @@ use Rattle.gl_algebra.specs.declared.node.PlanNode.{PlanNode}
 use Rattle.gl_algebra.specs.Roots.{output_part}
 use Rattle.gl_net.specs.Net.{Net, memory_bits_of, register_bits_of, size_of}
 use Rattle.gl_net.specs.PortValues.{PortShape, port_shapes}
-use Rattle.gl_reach.specs.Reach.{keys_of_reached, lean_of_reached, store_of_reached, weight_of_reached}
+use Rattle.gl_figures.specs.Reach.{keys_of_reached, lean_of_reached, store_of_reached, weight_of_reached}
 use Rattle.gl_schema.specs.Ports.{out_column}
 use Rattle.gl_schema.specs.Right.{IsRight}
 use Rattle.gl_schema.specs.Schemas.{IsSchema}

@@ -9,7 +9,7 @@ use Rattle.gl_algebra.specs.Roots.{output_part}
 use Rattle.gl_net.specs.Finished.{HasReset}
 use Rattle.gl_net.specs.Net.{Net, memory_bits_of, register_bits_of, size_of}
 use Rattle.gl_net.specs.PortValues.{port_shapes}
-use Rattle.gl_reach.specs.Reach.{keys_of_reached, lean_of_reached, store_of_reached, weight_of_reached}
+use Rattle.gl_figures.specs.Reach.{keys_of_reached, lean_of_reached, store_of_reached, weight_of_reached}
 use Rattle.gl_schema.specs.declared.schema.Schema.{Schema}
 use Rattle.gl_wire.specs.Costs.{Cost, CostsAtMost}
 use Rattle.gl_wire.specs.declared.emitted.Emitted.{Emitted}

@@ -7,8 +7,8 @@ use Rattle.gl_algebra.specs.declared.node.PlanNode.TheVariants.{Partition}
 use Rattle.gl_algebra.specs.FigureTable.{figures_of, partition_figures, spaced, window_gap}
 use Rattle.gl_algebra.specs.Shapes.{kinds_of}
 use Rattle.gl_algebra.specs.Views.{copies_of_partition, copies_of_window}
-use Rattle.gl_partitions.specs.declared.partitioning.Partitioning.{Partitioning}
-use Rattle.gl_partitions.specs.Costs.{cost_of_front}
+use Rattle.gl_partition.specs.declared.partitioning.Partitioning.{Partitioning}
+use Rattle.gl_partition.specs.Costs.{cost_of_front}
 use Rattle.gl_wire.specs.Costs.{Cost}
 use Rattle.gl_wiring.specs.declared.partitions.PartitionOf.{PartitionOf}
 use Rattle.gl_wiring.specs.Leaves.{widths_of}

@@ -5,7 +5,7 @@ use Rattle.gl_algebra.specs.declared.figures.Figures.{Figures}
 use Rattle.gl_algebra.specs.declared.node.PlanNode.{PlanNode}
 use Rattle.gl_net.specs.declared.node.Bit.{Bit}
 use Rattle.gl_net.specs.Net.{Net, Keeps}
-use Rattle.gl_reach.specs.Reach.{keys_of_reached, lean_of_reached, store_of_reached, weight_of_reached}
+use Rattle.gl_figures.specs.Reach.{keys_of_reached, lean_of_reached, store_of_reached, weight_of_reached}
 use Rattle.gl_wire.specs.declared.emitted.Emitted.{Emitted}
 use Rattle.gl_wire.specs.declared.wire.Wire.{Wire}
 use Rattle.gl_wire.specs.Costs.{Cost, CostsAtMost}

@@ -5,8 +5,8 @@ use Rattle.gl_algebra.specs.declared.node.PlanNode.{PlanNode}
 use Rattle.gl_algebra.specs.FigureTable.{figures_of}
 use Rattle.gl_algebra.specs.Roots.{spare_at}
 use Rattle.gl_algebra.specs.Shapes.{kinds_of}
-use Rattle.gl_windows_spare.specs.declared.rotation.SpareRotation.{SpareRotation}
-use Rattle.gl_windows_spare.specs.Costs.{cost_of_front}
+use Rattle.gl_spare.specs.declared.rotation.SpareRotation.{SpareRotation}
+use Rattle.gl_spare.specs.Costs.{cost_of_front}
 use Rattle.gl_wire.specs.Costs.{Cost}
 use Rattle.gl_wiring.specs.declared.spare_windows.SpareWindowOf.{SpareWindowOf}
 use Rattle.gl_wiring.specs.Leaves.{widths_of}

@@ -6,7 +6,7 @@ use Rattle.gl_algebra.specs.declared.node.PlanNode.{PlanNode}
 use Rattle.gl_algebra.specs.Views.{children_of}
 use Rattle.gl_net.specs.declared.node.Bit.{Bit}
 use Rattle.gl_net.specs.Net.{Net, Keeps}
-use Rattle.gl_reach.specs.Reach.{keys_part, lean_part, store_part, sum_where, weight_part}
+use Rattle.gl_figures.specs.Reach.{keys_part, lean_part, store_part, sum_where, weight_part}
 use Rattle.gl_wire.specs.declared.emitted.Emitted.{Emitted}
 use Rattle.gl_wire.specs.declared.wire.Wire.{Wire}
 use Rattle.gl_wire.specs.Costs.{Cost, CostsAtMost}

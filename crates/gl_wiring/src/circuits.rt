@@ -9,8 +9,8 @@ use crate::site::Site;
 use crate::tables::{Table, circuit_at};
 use gl_algebra::PlanId;
 use gl_bits::Memory;
+use gl_figures::marks_of;
 use gl_net::NetBuilder;
-use gl_reach::marks_of;
 use gl_wire::Emitted;
 use std::slice::from_ref;
 

@@ -3,9 +3,9 @@
 use gl_bits::Memory;
 use gl_groups::Grouping;
 use gl_net::NetBuilder;
-use gl_partitions::Partitioning;
+use gl_partition::Partitioning;
+use gl_spare::SpareRotation;
 use gl_windows::{Rotation, Ticked};
-use gl_windows_spare::SpareRotation;
 use gl_wire::Emitted;
 use gl_wire_registers::{Front, OverCopies};
 use std::alloc::Global;

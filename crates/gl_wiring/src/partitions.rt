@@ -1,12 +1,12 @@
 //! Windows of each group of a plan, and the numbers of their machine.
 
 ghost use Rattle.std.specs.Prelude.{◌≡◌};
-ghost use Rattle.gl_partitions.specs.Partitionings.{IsPartitioning};
+ghost use Rattle.gl_partition.specs.Partitionings.{IsPartitioning};
 ghost use Rattle.gl_wiring.specs.Partitions.{HasPartition, IsPartitionNode, partitioning_of};
 
 use crate::site::Site;
 use gl_algebra::{Plan, PlanId, PlanNode, table};
-use gl_partitions::Partitioning;
+use gl_partition::Partitioning;
 
 /// Windows of each group of a plan: their number, those of the source and the body, the key's column, how many groups there are, and the
 /// rows of a window.

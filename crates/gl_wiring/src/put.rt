@@ -1,7 +1,7 @@
 //! The circuits of all nodes that are reached, each once, and of copies of bodies.
 
 ghost use Rattle.std.specs.Prelude.{◌≡◌, ◌<◌, ◌≤◌, ◌∷◌, [], IfOk, Some, length, true};
-ghost use Rattle.gl_reach.specs.Marks.{AreMarks};
+ghost use Rattle.gl_figures.specs.Marks.{AreMarks};
 ghost use Rattle.gl_wiring.specs.Put.{CanPut, IsPut, IsPutBehind};
 ghost use Rattle.gl_wiring.specs.Tables.{ArePutTo, CanPutMarked, HaveChildren, IsSlot};
 ghost use Rattle.gl_wiring.specs.Groups.{IsGroupNode};

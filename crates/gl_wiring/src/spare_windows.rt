@@ -1,13 +1,13 @@
 //! Windows with spare copies at the root of a plan, and the numbers of their machine.
 
 ghost use Rattle.std.specs.Prelude.{◌≡◌};
-ghost use Rattle.gl_windows_spare.specs.Rotations.{IsRotation};
+ghost use Rattle.gl_spare.specs.Rotations.{IsRotation};
 ghost use Rattle.gl_wiring.specs.SpareWindows.{IsSpareWindow, rotation_with};
 
 use crate::site::Site;
 use crate::windows::WindowOf;
 use gl_algebra::Spare;
-use gl_windows_spare::SpareRotation;
+use gl_spare::SpareRotation;
 
 /// Windows at the root of a plan, with spare copies of their body.
 #[derive(Clone, Copy)]

@@ -1,13 +1,13 @@
 //! Tables of circuits.
 
 ghost use Rattle.std.specs.Prelude.{◌≡◌, ◌<◌, ◌∷◌, [], Some, length, slice_get, IfOk};
-ghost use Rattle.gl_reach.specs.Marks.{AreMarks};
+ghost use Rattle.gl_figures.specs.Marks.{AreMarks};
 ghost use Rattle.gl_wire.specs.declared.emitted.Emitted.{Emitted as EmittedOf};
 
 use gl_algebra::{Plan, PlanId};
 use gl_bits::Memory;
+use gl_figures::marks_of;
 use gl_net::Buses;
-use gl_reach::marks_of;
 use gl_wire::{Emitted, Wire};
 use std::alloc::Global;
 use std::slice::from_ref;

@@ -4,8 +4,8 @@ use Rattle.gl_bits.proofs.AllLists.{length_map}
 use Rattle.gl_verilog_faults.specs.Faults.{IsBroken}
 use Rattle.gl_verilog_elaborator.specs.declared.stop.Stop.{Stop}
 use Rattle.gl_verilog_elaborator.specs.View.{rule_of, is_broken, broken_of}
-use Rattle.gl_verilog_syntax.specs.declared.token.Lexeme.{Lexeme}
-use Rattle.gl_verilog_syntax.specs.View.{token_of, module_of}
+use Rattle.gl_verilog_tokens.specs.declared.token.Lexeme.{Lexeme}
+use Rattle.gl_verilog_tokens.specs.View.{token_of, module_of}
 use Rattle.gl_verilog_reader.proofs.Tokens.{token_before}
 use Rattle.gl_verilog_reader.proofs.judge.Goals as goal
 

@@ -4,8 +4,8 @@ use Rattle.gl_verilog.specs.Text.{IsSpelling}
 use Rattle.gl_verilog.specs.View as meant
 use Rattle.gl_verilog.specs.declared.module.Module.{Module}
 use Rattle.gl_verilog_elaborator.specs.Meant.{IsMeant}
-use Rattle.gl_verilog_syntax.specs.declared.token.Lexeme.{Lexeme}
-use Rattle.gl_verilog_syntax.specs.View.{tokens_in, module_of}
+use Rattle.gl_verilog_tokens.specs.declared.token.Lexeme.{Lexeme}
+use Rattle.gl_verilog_tokens.specs.View.{tokens_in, module_of}
 use Rattle.gl_verilog_tokens.specs.Placed.{places_in, ArePlaces}
 use Rattle.gl_verilog_reader.specs.Reading.{ByRules, Shows}
 use Rattle.gl_verilog_reader.specs.Sources.{IsLocated}

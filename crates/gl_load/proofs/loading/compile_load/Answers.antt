@@ -1,5 +1,5 @@
 use Rattle.std.proofs.Common.{ℕ, List, subst}
-use Rattle.gl_query_compiler.specs.Texts.{IsCompiledText, IsTextRefused}
+use Rattle.gl_compiler.specs.Texts.{IsCompiledText, IsTextRefused}
 use Rattle.gl_load.specs.Query.{query_text, schema_text}
 use Rattle.gl_load.proofs.Compiling.{compiled_load, uncompiled}
 use Rattle.gl_load.proofs.loading.compile_load.Goals as goal

@@ -4,7 +4,7 @@ use Rattle.gl_schema.specs.Schemas.{kinds_of}
 use Rattle.gl_schema.specs.Beats.{AreBeats, KeepsGap}
 use Rattle.gl_tuples.specs.Gaps.{plain_beats}
 use Rattle.gl_verilog_orders.specs.declared.start.Start.TheVariants.{Zero}
-use Rattle.gl_compiler_text.specs.Meets.{result_columns}
+use Rattle.gl_compiler.specs.Meets.{result_columns}
 use Rattle.gl_runner.specs.declared.executing.Outcome.{Outcome}
 use Rattle.gl_runner.specs.Prints.{OfEachRun, Ran}
 use Rattle.gl_compiler.proofs.Runs.{runnable}

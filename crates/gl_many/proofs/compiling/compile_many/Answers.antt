@@ -1,8 +1,8 @@
 use Rattle.std.proofs.Common.{List, refl, sym, subst}
 use Rattle.std.proofs.lemmas.Result.{err_from_is_err_and}
 use Rattle.gl_query_check.specs.declared.checking.Checked.{Checked}
-use Rattle.gl_query_list.specs.Lists.{HasStatements}
-use Rattle.gl_several_plan.specs.Together.{ArePlanned, statements_of}
+use Rattle.gl_query_texts.specs.Lists.{HasStatements}
+use Rattle.gl_plan.specs.Together.{ArePlanned, statements_of}
 use Rattle.gl_many.specs.declared.compiling.Many.{Many}
 use Rattle.gl_many.specs.Meets.{MeetTogether, shared_gap}
 use Rattle.gl_many.specs.Queries.{trees_of}

@@ -1,7 +1,7 @@
 use Rattle.std.proofs.Common.{◌≡◌, List, ap, subst, ◌∙◌}
 use Rattle.gl_query.specs.Laws.{AcceptedHaveRealColumns}
 use Rattle.gl_elaborate.specs.Laws.{PlansAreRight, PlansTellTime, SeveralAreRight}
-use Rattle.gl_several_plan.specs.Together.{statements_of}
+use Rattle.gl_plan.specs.Together.{statements_of}
 use Rattle.gl_wiring.specs.Many.{AreWired}
 use Rattle.gl_wiring.specs.declared.many.Root.{Root}
 use Rattle.gl_many.specs.Roots.{roots_of}

@@ -2,7 +2,7 @@ use Rattle.std.proofs.Common.{◌≤◌, arith, length, sym, subst}
 use Rattle.std.specs.List.{AllByRecursion}
 use Rattle.gl_bits.proofs.AllLists.{length_map}
 use Rattle.gl_tuples.specs.Gaps.{plain_beats}
-use Rattle.gl_dumps.specs.Written.{ports_of}
+use Rattle.gl_vcd.specs.Written.{ports_of}
 use Rattle.gl_verilog.specs.Module.{Module}
 use Rattle.gl_verilog.specs.View.{declaration_of, module_of}
 use Rattle.gl_verilog.specs.Widths.{HasSize}

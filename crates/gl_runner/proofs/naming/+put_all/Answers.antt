@@ -1,6 +1,6 @@
 use Rattle.gl_runner.specs.Naming.{StandsNamed}
 use Rattle.gl_runner.proofs.Named.{first_broke, others_wrote, zip_parts}
-use Rattle.gl_lines.proofs.Puts.{failed}
+use Rattle.gl_tuples.proofs.Puts.{failed}
 use Rattle.gl_runner.proofs.naming.+put_all.Goals as goal
 
 pub returns-in_err-put-clause-wrote : goal.returns-in_err-put-clause-wrote

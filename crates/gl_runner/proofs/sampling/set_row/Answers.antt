@@ -1,7 +1,7 @@
 use Rattle.std.proofs.Common.{◌≡◌, ◌∙◌, ◌<◌, length, sym, arith}
 use Rattle.std.specs.Prelude.{slice_index}
 use Rattle.gl_bits.specs.Words.{widths_of}
-use Rattle.gl_lines.proofs.Rows.{row_more, widths_length}
+use Rattle.gl_tuples.proofs.Rows.{row_more, widths_length}
 use Rattle.gl_runner.proofs.sampling.set_row.Goals as goal
 
 pub loop-place-preserved : goal.loop-place-preserved

@@ -2,7 +2,7 @@ use Rattle.std.proofs.Common.{refl, sym}
 use Rattle.gl_outside.proofs.Takes.{took_none}
 use Rattle.gl_runner.specs.declared.executing.Outcome.TheVariants as outcome
 use Rattle.gl_top.specs.Verdicts.{RanWhole, RanCut, Refused}
-use Rattle.gl_top_notes.specs.declared.refusal.Refusal.TheVariants as refusal
+use Rattle.gl_top_status.specs.declared.refusal.Refusal.TheVariants as refusal
 use Rattle.gl_top.proofs.Ended.{nothing_written, run_left, run_of_kept}
 use Rattle.gl_top.proofs.chain.finish.Goals as goal
 

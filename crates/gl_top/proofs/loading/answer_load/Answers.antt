@@ -1,8 +1,8 @@
 use Rattle.std.proofs.Common.{◌≡◌, ℕ, Option, None, Some, sym, ◌∙◌, subst}
 use Rattle.gl_outside.specs.States.{IsCalm, ShelfState}
 use Rattle.gl_outside.proofs.Counting.{calm_none}
-use Rattle.gl_top_words.proofs.Named.{load_given}
-use Rattle.gl_top_judging.specs.Causes.{change}
+use Rattle.gl_top_forms.proofs.Named.{load_given}
+use Rattle.gl_top_inputs.specs.Causes.{change}
 use Rattle.gl_top.proofs.loading.answer_load.Goals as goal
 
 pub load_many-requires-clause-many : goal.load_many-requires-clause-many

@@ -1,7 +1,7 @@
 use Rattle.std.proofs.Common.{List, ℕ, inl, sym, subst}
 use Rattle.gl_outside.proofs.Takes.{took_none}
 use Rattle.gl_load.specs.Loads.{IsLoad}
-use Rattle.gl_top_notes.specs.declared.refusal.Refusal.TheVariants as refusal
+use Rattle.gl_top_status.specs.declared.refusal.Refusal.TheVariants as refusal
 use Rattle.gl_top.specs.Verdicts.{IsGiven, Refused, OfLoad}
 use Rattle.gl_top.proofs.loading.load_many.Goals as goal
 

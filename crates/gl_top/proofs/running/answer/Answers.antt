@@ -1,9 +1,9 @@
 use Rattle.std.proofs.Common.{inl, sym, ◌∙◌}
 use Rattle.gl_outside.proofs.Counting.{calm_none}
 use Rattle.gl_outside.proofs.Takes.{took_none}
-use Rattle.gl_top_notes.specs.declared.refusal.Refusal.TheVariants as refusal
+use Rattle.gl_top_status.specs.declared.refusal.Refusal.TheVariants as refusal
 use Rattle.gl_top.specs.Verdicts.{Refused}
-use Rattle.gl_top_judging.proofs.Texts.{no_form}
+use Rattle.gl_top_inputs.proofs.Texts.{no_form}
 use Rattle.gl_top.proofs.running.answer.Goals as goal
 
 pub returns-in-None : goal.returns-in-None

@@ -1,9 +1,9 @@
 use Rattle.std.proofs.Common.{refl, sym, subst}
 use Rattle.gl_outside.specs.States.{IsCalm, ShelfState}
 use Rattle.gl_outside.proofs.Counting.{calm_none}
-use Rattle.gl_top_words.specs.declared.command.Command.{Command}
-use Rattle.gl_top_words.specs.Forms.{IsCommand}
-use Rattle.gl_top_judging.specs.Causes.{change}
+use Rattle.gl_top_forms.specs.declared.command.Command.{Command}
+use Rattle.gl_top_forms.specs.Forms.{IsCommand}
+use Rattle.gl_top_inputs.specs.Causes.{change}
 use Rattle.gl_top.specs.Verdicts.{OfVersion}
 use Rattle.gl_top.proofs.Answering.{answer_text}
 use Rattle.gl_top.proofs.Explained.{explain_answer}

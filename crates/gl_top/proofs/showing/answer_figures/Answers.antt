@@ -1,7 +1,7 @@
 use Rattle.std.proofs.Common.{inl, inr, sym, subst}
 use Rattle.gl_outside.specs.States.{IsCalm, ShelfState}
 use Rattle.gl_outside.proofs.Takes.{took_none}
-use Rattle.gl_top_judging.specs.Causes.{change}
+use Rattle.gl_top_inputs.specs.Causes.{change}
 use Rattle.gl_top.specs.Verdicts.{Refused}
 use Rattle.gl_top.proofs.showing.answer_figures.Goals as goal
 

@@ -1,7 +1,7 @@
 use Rattle.std.proofs.Common.{List, ℕ, inl, sym, subst}
 use Rattle.gl_outside.specs.States.{IsCalm, ShelfState}
 use Rattle.gl_outside.proofs.Takes.{took_none}
-use Rattle.gl_top_judging.specs.Causes.{change}
+use Rattle.gl_top_inputs.specs.Causes.{change}
 use Rattle.gl_top.specs.Verdicts.{IsGiven, Refused}
 use Rattle.gl_top.proofs.showing.answer_text.Goals as goal
 

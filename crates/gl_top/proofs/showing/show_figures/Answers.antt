@@ -1,6 +1,6 @@
 use Rattle.std.proofs.Common.{List, ℕ, inl, sym, subst}
 use Rattle.gl_outside.proofs.Takes.{took_none}
-use Rattle.gl_top_notes.specs.declared.refusal.Refusal.TheVariants as refusal
+use Rattle.gl_top_status.specs.declared.refusal.Refusal.TheVariants as refusal
 use Rattle.gl_top.specs.Verdicts.{IsGiven, Refused}
 use Rattle.gl_top.proofs.showing.show_figures.Goals as goal
 

@@ -1,7 +1,7 @@
 use Rattle.std.proofs.Common.{inl, refl, ◌∙◌}
 use Rattle.gl_outside.proofs.Takes.{took_none}
 use Rattle.gl_top.specs.Verdicts.{Refused}
-use Rattle.gl_top_notes.specs.declared.refusal.Refusal.TheVariants as refusal
+use Rattle.gl_top_status.specs.declared.refusal.Refusal.TheVariants as refusal
 use Rattle.gl_top.proofs.Answering.{answer_text, kept_text, written}
 use Rattle.gl_top.proofs.showing.show_text.Goals as goal
 

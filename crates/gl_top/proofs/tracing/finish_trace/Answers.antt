@@ -7,7 +7,7 @@ use Rattle.gl_verilog.specs.View.{module_of}
 use Rattle.gl_runner.specs.declared.tracing.Ending.TheVariants as end
 use Rattle.gl_runner.specs.Traces.{OfRunsOf, decimal_kinds}
 use Rattle.gl_runner.specs.Traces as traces
-use Rattle.gl_top_notes.specs.declared.refusal.Refusal.TheVariants as refusal
+use Rattle.gl_top_status.specs.declared.refusal.Refusal.TheVariants as refusal
 use Rattle.gl_top.specs.Verdicts.{Traced, Refused}
 use Rattle.gl_top.proofs.tracing.finish_trace.Goals as goal
 

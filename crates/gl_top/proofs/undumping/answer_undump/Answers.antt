@@ -1,10 +1,10 @@
 use Rattle.std.proofs.Common.{◌≡◌, ℕ, List, inl, sym, subst}
 use Rattle.gl_outside.specs.States.{IsCalm, ShelfState}
 use Rattle.gl_outside.proofs.Takes.{took_none}
-use Rattle.gl_top_words.specs.declared.command.Part.TheVariants as part
-use Rattle.gl_top_texts.specs.Texts.{HasText}
-use Rattle.gl_top_judging.specs.Causes.{change}
-use Rattle.gl_top_judging.proofs.Texts.{unfetched_cause}
+use Rattle.gl_top_forms.specs.declared.command.Part.TheVariants as part
+use Rattle.gl_top_status.specs.Texts.{HasText}
+use Rattle.gl_top_inputs.specs.Causes.{change}
+use Rattle.gl_top_inputs.proofs.Texts.{unfetched_cause}
 use Rattle.gl_top.specs.Verdicts.{Refused}
 use Rattle.gl_top.proofs.Dumps.{undump_names}
 use Rattle.gl_top.proofs.undumping.answer_undump.Goals as goal

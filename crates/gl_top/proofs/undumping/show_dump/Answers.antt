@@ -1,11 +1,11 @@
 use Rattle.std.proofs.Common.{◌≡◌, [], Err, inl, refl, sym, subst}
 use Rattle.gl_outside.specs.States.{SinkState, Took}
 use Rattle.gl_outside.proofs.Takes.{took_none}
-use Rattle.gl_dumps.specs.Reading.{dump_of}
-use Rattle.gl_dumps.specs.Signals.{lines_of}
-use Rattle.gl_top_words.specs.declared.command.Part.TheVariants as part
-use Rattle.gl_top_notes.specs.declared.refusal.Refusal.TheVariants as refusal
-use Rattle.gl_top_texts.proofs.Fetched.{has_text}
+use Rattle.gl_vcd.specs.Reading.{dump_of}
+use Rattle.gl_vcd.specs.Signals.{lines_of}
+use Rattle.gl_top_forms.specs.declared.command.Part.TheVariants as part
+use Rattle.gl_top_status.specs.declared.refusal.Refusal.TheVariants as refusal
+use Rattle.gl_top_status.proofs.Fetched.{has_text}
 use Rattle.gl_top.specs.Verdicts.{OfDump, Refused, Wrote, WroteCut}
 use Rattle.gl_top.proofs.Dumps.{undump_names, undumped}
 use Rattle.gl_top.proofs.undumping.show_dump.Goals as goal

@@ -1,7 +1,7 @@
 use Rattle.std.proofs.Common.{refl}
 use Rattle.std.proofs.lemmas.Result.{err_from_is_err_and}
-use Rattle.gl_top_words.specs.declared.command.Part.TheVariants.{Query}
-use Rattle.gl_top_words.proofs.Named.{schema_named}
+use Rattle.gl_top_forms.specs.declared.command.Part.TheVariants.{Query}
+use Rattle.gl_top_forms.proofs.Named.{schema_named}
 use Rattle.gl_top_explain.specs.Ending.{AtSchema}
 use Rattle.gl_top_explain.proofs.Plans.{plan_leaves}
 use Rattle.gl_top_explain.proofs.answering.explain_texts.Goals as goal

@@ -1,6 +1,6 @@
 use Rattle.std.proofs.Common.{ℕ, ◌-◌, List, ◌++◌, take, drop, ap, ◌∙◌}
 use Rattle.gl_schema.specs.Seen.{quoted, unpadded}
-use Rattle.gl_tuples.proofs.Lines.{low_part}
+use Rattle.gl_tuples.proofs.LineLemmas.{low_part}
 use Rattle.gl_tuples.proofs.line.put_text.Goals as goal
 
 pub returns-clause-written : goal.returns-clause-written

@@ -7,7 +7,7 @@ use Rattle.gl_verilog.specs.Module.{Nothing}
 use Rattle.gl_verilog.specs.Written.{listed}
 use Rattle.gl_verilog.specs.View as meant
 use Rattle.gl_verilog.specs.declared.module.Statement as stmt
-use Rattle.gl_verilog_syntax.specs.View.{statement_of}
+use Rattle.gl_verilog_tokens.specs.View.{statement_of}
 use Rattle.gl_verilog_elaborator.specs.Judged.{Drivers, stated, judged_in, passed_by, left_list, with_name}
 use Rattle.gl_verilog_elaborator.specs.View.{declarations_of, drivers_of, stated_of, names_in}
 use Rattle.gl_verilog_elaborator.proofs.Chained.{before, block_means, listed_on, listed_begin, list_next, list_stop, list_end, block_stop, block_found, statement_below, fold_front, fold_longer, take_own, beside_kept, code_single}

@@ -1,7 +1,7 @@
 use Rattle.std.proofs.Common.{◌≡◌, ◌≤◌, ◌+◌, drop, take, length, map}
 use Rattle.gl_verilog.specs.Written.{listed}
 use Rattle.gl_verilog.specs.View as meant
-use Rattle.gl_verilog_syntax.specs.View.{statement_of}
+use Rattle.gl_verilog_tokens.specs.View.{statement_of}
 use Rattle.gl_verilog_elaborator.specs.Judged.{judged_in}
 use Rattle.gl_verilog_elaborator.specs.View.{declarations_of, drivers_of, names_in}
 use Rattle.gl_verilog_elaborator.proofs.Chained.{listed_on}

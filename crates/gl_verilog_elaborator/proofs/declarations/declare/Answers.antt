@@ -1,6 +1,6 @@
 use Rattle.std.proofs.Common.{◌∙◌}
 use Rattle.gl_verilog.specs.View.{kind_of}
-use Rattle.gl_verilog_syntax.specs.View.{name_of, range_of}
+use Rattle.gl_verilog_tokens.specs.View.{name_of, range_of}
 use Rattle.gl_verilog_elaborator.specs.View.{scope_of}
 use Rattle.gl_verilog_elaborator.proofs.Found.{new_stop, new_added, ranged}
 use Rattle.gl_verilog_elaborator.proofs.Steps.{refused}

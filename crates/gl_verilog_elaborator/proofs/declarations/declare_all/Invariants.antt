@@ -1,6 +1,6 @@
 use Rattle.std.proofs.Common.{◌≡◌, drop}
 use Rattle.gl_verilog.specs.View.{kind_of}
-use Rattle.gl_verilog_syntax.specs.View.{names_of, range_of}
+use Rattle.gl_verilog_tokens.specs.View.{names_of, range_of}
 use Rattle.gl_verilog_elaborator.specs.Elaborated.{declared_all}
 use Rattle.gl_verilog_elaborator.specs.View.{scope_of}
 use Rattle.gl_verilog_elaborator.proofs.declarations.declare_all.Given as goal

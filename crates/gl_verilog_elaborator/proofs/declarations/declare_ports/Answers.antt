@@ -1,6 +1,6 @@
 use Rattle.std.proofs.Common.{◌≡◌, ◌∙◌, ◌+◌, ap, subst, sym, map, drop, ℕ}
 use Rattle.gl_verilog.specs.Module.{Declaration}
-use Rattle.gl_verilog_syntax.specs.View.{port_of}
+use Rattle.gl_verilog_tokens.specs.View.{port_of}
 use Rattle.gl_verilog_elaborator.specs.Elaborated.{declared, declared_ports}
 use Rattle.gl_verilog_elaborator.specs.View.{scope_of}
 use Rattle.gl_verilog_elaborator.proofs.Found.{port_declared, port_named}

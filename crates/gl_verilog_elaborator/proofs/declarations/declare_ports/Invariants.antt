@@ -1,5 +1,5 @@
 use Rattle.std.proofs.Common.{◌≡◌, drop, map}
-use Rattle.gl_verilog_syntax.specs.View.{port_of}
+use Rattle.gl_verilog_tokens.specs.View.{port_of}
 use Rattle.gl_verilog_elaborator.specs.Elaborated.{declared_ports}
 use Rattle.gl_verilog_elaborator.specs.View.{scope_of}
 use Rattle.gl_verilog_elaborator.proofs.declarations.declare_ports.Given as goal

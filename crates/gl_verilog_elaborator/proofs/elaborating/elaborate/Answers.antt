@@ -1,4 +1,4 @@
-use Rattle.gl_verilog_syntax.specs.View.{module_of}
+use Rattle.gl_verilog_tokens.specs.View.{module_of}
 use Rattle.gl_verilog_elaborator.proofs.Wholly.{refused_whole}
 use Rattle.gl_verilog_elaborator.proofs.elaborating.elaborate.Goals as goal
 

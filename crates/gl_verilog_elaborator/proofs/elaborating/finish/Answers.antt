@@ -1,7 +1,7 @@
 use Rattle.std.proofs.Common.{◌≡◌, List, ℕ, Some, None, subst, map, length, arith}
 use Rattle.std.specs.Prelude.{option_map, slice_get}
 use Rattle.gl_verilog.specs.View.{assignment_of}
-use Rattle.gl_verilog_syntax.specs.View.{module_of, port_of}
+use Rattle.gl_verilog_tokens.specs.View.{module_of, port_of}
 use Rattle.gl_verilog_loops.specs.Looping.{IsFirstOf}
 use Rattle.gl_verilog_elaborator.specs.Meant.{looped_at}
 use Rattle.gl_verilog_elaborator.specs.View.{elaborated_of, broken_of}

@@ -1,5 +1,5 @@
 use Rattle.std.proofs.Common.{◌≡◌, drop, map}
-use Rattle.gl_verilog_syntax.specs.View.{item_of}
+use Rattle.gl_verilog_tokens.specs.View.{item_of}
 use Rattle.gl_verilog_elaborator.specs.Elaborated.{elaborated_items}
 use Rattle.gl_verilog_elaborator.specs.View.{elaborated_of}
 use Rattle.gl_verilog_elaborator.proofs.items.take_items.Given as goal

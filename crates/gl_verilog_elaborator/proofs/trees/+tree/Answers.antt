@@ -3,7 +3,7 @@ use Rattle.std.proofs.Common.{◌≡◌, ◌∙◌, ◌+◌, ◌<◌, ◌++◌, 
 use Rattle.std.specs.Prelude.{Result, Ok}
 use Rattle.std.proofs.lemmas.List.{map-append}
 use Rattle.gl_verilog.specs.Written as written
-use Rattle.gl_verilog_syntax.specs.View.{expr_of, parts_list}
+use Rattle.gl_verilog_tokens.specs.View.{expr_of, parts_list}
 use Rattle.gl_verilog_elaborator.specs.Judged.{Broken, Typed, judged_expr, judged_parts}
 use Rattle.gl_verilog_elaborator.specs.View.{declarations_of, typed_of, Gives}
 use Rattle.gl_verilog_elaborator.proofs.Parts.{parts_in, sum_of_list, part_below, braces_stop, braces_found, no_parts}

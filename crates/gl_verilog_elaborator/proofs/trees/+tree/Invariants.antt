@@ -1,5 +1,5 @@
 use Rattle.std.proofs.Common.{◌≡◌, ◌+◌, ◌≤◌, drop, map}
-use Rattle.gl_verilog_syntax.specs.View.{expr_of, parts_list}
+use Rattle.gl_verilog_tokens.specs.View.{expr_of, parts_list}
 use Rattle.gl_verilog_elaborator.specs.Judged.{judged_parts}
 use Rattle.gl_verilog_elaborator.specs.View.{declarations_of, typed_of}
 use Rattle.gl_verilog_elaborator.proofs.Parts.{parts_in, parts_sum}

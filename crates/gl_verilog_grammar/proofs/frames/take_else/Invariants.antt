@@ -1,6 +1,6 @@
 use Rattle.std.proofs.Common.{◌≡◌, vec_len}
 use Rattle.gl_verilog_grammar.specs.Machine as machine
-use Rattle.gl_verilog_syntax.specs.View.{statement_of}
+use Rattle.gl_verilog_tokens.specs.View.{statement_of}
 use Rattle.gl_verilog_grammar.specs.View.{frames_of}
 use Rattle.gl_verilog_grammar.proofs.frames.take_else.Given as goal
 

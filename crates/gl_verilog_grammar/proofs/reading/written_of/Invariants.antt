@@ -1,5 +1,5 @@
 use Rattle.std.proofs.Common.{◌≡◌, drop}
-use Rattle.gl_verilog_syntax.specs.View.{tokens_in}
+use Rattle.gl_verilog_tokens.specs.View.{tokens_in}
 use Rattle.gl_verilog_grammar.specs.Counting.{IsWithin}
 use Rattle.gl_verilog_grammar.specs.Answers.{read_on, read_all, stand}
 use Rattle.gl_verilog_grammar.proofs.reading.written_of.Given as goal

@@ -1,8 +1,8 @@
 use Rattle.std.proofs.Common.{List, [], map, sym, subst, arith}
 use Rattle.std.specs.List.{AllZip}
 use Rattle.std.proofs.lemmas.List.{append-nil, drop_all}
-use Rattle.gl_verilog_syntax.specs.declared.written.WrittenPort.{WrittenPort}
-use Rattle.gl_verilog_syntax.specs.View.{port_of}
+use Rattle.gl_verilog_tokens.specs.declared.written.WrittenPort.{WrittenPort}
+use Rattle.gl_verilog_tokens.specs.View.{port_of}
 use Rattle.gl_verilog_tokens.specs.Placed.{places_in}
 use Rattle.gl_verilog_reader.specs.Sources.{IsAt, port_tokens}
 use Rattle.gl_verilog_reader.proofs.source.ports_at.Goals as goal

@@ -1,7 +1,7 @@
 use Rattle.std.proofs.Common.{ℕ, ◌+◌, ◌≤◌, List, ◌++◌, length, drop, map}
 use Rattle.std.specs.List.{AllZip}
 use Rattle.gl_verilog.specs.Written.{spell_more_ports}
-use Rattle.gl_verilog_syntax.specs.View.{port_of}
+use Rattle.gl_verilog_tokens.specs.View.{port_of}
 use Rattle.gl_verilog_tokens.specs.Placed.{places_in}
 use Rattle.gl_verilog_reader.specs.Sources.{port_tokens, IsAt}
 use Rattle.gl_verilog_reader.proofs.source.ports_at.Given as goal

@@ -1,7 +1,7 @@
 -- A byte more, and the end of the text, which completes the tokens.
 use Rattle.std.proofs.Common.{◌≡◌, ℕ, ◌+◌, ◌++◌, length, take, sym, subst, arith}
 use Rattle.gl_verilog.specs.Tokens.{to, scan, Between}
-use Rattle.gl_verilog_syntax.specs.View.{tokens_in}
+use Rattle.gl_verilog_tokens.specs.View.{tokens_in}
 use Rattle.gl_verilog_tokens.specs.Lexed.{mode_of}
 use Rattle.gl_verilog_tokens.specs.Placed.{places_in, opened, ArePlaces, AreSoFar}
 use Rattle.gl_verilog_tokens.proofs.LexSteps.{scan_next, scan_ends}

@@ -1,6 +1,6 @@
 use Rattle.std.proofs.Common.{◌≡◌, take, ◌++◌}
 use Rattle.gl_verilog.specs.Tokens.{to, scan, Between}
-use Rattle.gl_verilog_syntax.specs.View.{tokens_in}
+use Rattle.gl_verilog_tokens.specs.View.{tokens_in}
 use Rattle.gl_verilog_tokens.specs.Lexed.{mode_of, IsInside}
 use Rattle.gl_verilog_tokens.specs.Placed.{places_in, AreSoFar, opened}
 use Rattle.gl_verilog_tokens.proofs.lexing.lexemes.Given as goal

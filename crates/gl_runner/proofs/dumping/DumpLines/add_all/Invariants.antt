@@ -1,7 +1,7 @@
 use Rattle.std.proofs.Common.{◌≡◌, ◌++◌, map, drop}
 use Rattle.gl_bits.specs.Words.{widths_of}
 use Rattle.gl_verilog.specs.View.{declaration_of}
-use Rattle.gl_dumps.specs.Written.{ports_among}
+use Rattle.gl_vcd.specs.Written.{ports_among}
 use Rattle.gl_runner.specs.Dumping.{numbers_from}
 use Rattle.gl_runner.proofs.dumping.DumpLines.add_all.Given as goal
 

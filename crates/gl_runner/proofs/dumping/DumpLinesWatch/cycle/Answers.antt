@@ -3,9 +3,9 @@ use Rattle.std.specs.List.{AllByRecursion}
 use Rattle.gl_bits.specs.Words.{widths_of}
 use Rattle.gl_outside.specs.States.{Broke, Took}
 use Rattle.gl_runner.proofs.Probing.{end_had}
-use Rattle.gl_lines.proofs.Puts.{failed}
+use Rattle.gl_tuples.proofs.Puts.{failed}
 use Rattle.gl_runner.proofs.Running.{ended_kept}
-use Rattle.gl_dumps.specs.Written.{ports_of}
+use Rattle.gl_vcd.specs.Written.{ports_of}
 use Rattle.gl_schema.specs.Ports.{out_eos}
 use Rattle.gl_testbench.proofs.Outputs.{line_inside}
 use Rattle.gl_runner.specs.Dumping.{end_in, numbers_of, widths_in}

@@ -6,7 +6,7 @@ use Rattle.gl_verilog_ports.specs.Profile.{result_names}
 use Rattle.gl_runner.specs.Probes.{plain_names}
 use Rattle.gl_runner.specs.Watches.{module_in}
 use Rattle.gl_runner.proofs.Probing.{columns_in, columns_many, end_seen, group_seen, lines_inside, seen_plain}
-use Rattle.gl_lines.proofs.Puts.{failed}
+use Rattle.gl_tuples.proofs.Puts.{failed}
 use Rattle.gl_runner.proofs.Running.{lines_told, told_behind}
 use Rattle.gl_runner.proofs.following.ResultLinesWatch.cycle.Goals as goal
 

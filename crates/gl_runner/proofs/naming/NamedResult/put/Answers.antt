@@ -1,15 +1,15 @@
 use Rattle.std.proofs.Common.{◌∙◌, ◌<◌, ℕ, List, ap, length, refl, subst, suc, sym}
 use Rattle.std.specs.List.{AllByRecursion}
 use Rattle.gl_bits.specs.Words.{bits_of}
-use Rattle.gl_emission.specs.Views.{seen_as}
+use Rattle.gl_testbench.specs.Views.{seen_as}
 use Rattle.gl_outside.specs.States.{Broke, Took}
 use Rattle.gl_runner.specs.Naming.{names_of}
 use Rattle.gl_runner.specs.Several.{outs_of}
 use Rattle.gl_runner.specs.Watches.{module_in}
 use Rattle.gl_runner.proofs.Named.{lines_as_named, lines_named, seen_named, stands_behind}
 use Rattle.gl_runner.proofs.Probing.{columns_in, columns_many, end_seen, group_seen, lines_inside}
-use Rattle.gl_lines.specs.Pieces.{sampled}
-use Rattle.gl_lines.proofs.Puts.{failed}
+use Rattle.gl_tuples.specs.Pieces.{sampled}
+use Rattle.gl_tuples.proofs.Puts.{failed}
 use Rattle.gl_runner.proofs.naming.NamedResult.put.Goals as goal
 
 pub sample_of-sample-requires : goal.sample_of-sample-requires

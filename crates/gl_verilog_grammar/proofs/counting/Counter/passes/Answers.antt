@@ -1,7 +1,7 @@
 -- Where no limit is passed, the counter stays within them.
 use Rattle.std.proofs.Common.{◌∙◌, sym, ap}
 use Rattle.gl_verilog_faults.specs.Counts.{after}
-use Rattle.gl_verilog_syntax.specs.View.{token_of}
+use Rattle.gl_verilog_tokens.specs.View.{token_of}
 use Rattle.gl_verilog_grammar.specs.Counting.{place_of, counts_of}
 use Rattle.gl_verilog_grammar.proofs.Counters.{stays_within}
 use Rattle.gl_verilog_grammar.proofs.counting.Counter.passes.Goals as goal

@@ -1,7 +1,7 @@
 -- A token that cannot stand there, one that passes a limit, and one that is taken.
 use Rattle.std.proofs.Common.{refl, sym, ◌∙◌}
 use Rattle.std.proofs.lemmas.Bool.{MatchBool-at_true, MatchBool-at_false}
-use Rattle.gl_verilog_syntax.specs.View.{token_of}
+use Rattle.gl_verilog_tokens.specs.View.{token_of}
 use Rattle.gl_verilog_grammar.specs.View.{view}
 use Rattle.gl_verilog_grammar.specs.Counting.{counts_of}
 use Rattle.gl_verilog_grammar.specs.Answers.{stand}

@@ -1,6 +1,6 @@
 -- The stage is taken out, and every step puts another in its place.
 use Rattle.std.proofs.Common.{Option, ap, subst, ◌∙◌}
-use Rattle.gl_verilog_syntax.specs.View.{token_of}
+use Rattle.gl_verilog_tokens.specs.View.{token_of}
 use Rattle.gl_verilog_grammar.specs.declared.stage.Stage.{Stage}
 use Rattle.gl_verilog_grammar.specs.Machine as machine
 use Rattle.gl_verilog_grammar.specs.View.{view, stage_of, Moves}

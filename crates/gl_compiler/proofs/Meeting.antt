@@ -1,0 +1,123 @@
+-- The text of a plan's netlist meets its statement.
+use Rattle.std.proofs.Common.{◌≡◌, ℕ, ◌+◌, ◌≤◌, Bool, List, ◌∷◌, ◌++◌, map, Some, sym, ap, subst, ◌∙◌, codes}
+use Rattle.gl_bits.proofs.Options.{some_same}
+use Rattle.gl_schema.specs.declared.schema.Column.{Column}
+use Rattle.gl_schema.specs.declared.schema.Schema.{Schema}
+use Rattle.gl_schema.specs.Schemas.{column_names}
+use Rattle.gl_schema.specs.Beats.{Beat}
+use Rattle.gl_schema.specs.Ports.{PortValues, out_column}
+use Rattle.gl_schema.specs.Profile.{ProfilePort, clk, input, output_ports}
+use Rattle.gl_schema.specs.Right.{IsRight, Meaning}
+use Rattle.gl_query.specs.declared.tree.Statement.{Statement}
+use Rattle.gl_query.specs.Checked.{IsChecked}
+use Rattle.gl_query.specs.Results.{IsResult}
+use Rattle.gl_algebra.specs.Roots as roots
+use Rattle.gl_algebra.specs.Roots.{most_memory, most_registers}
+use Rattle.gl_algebra.specs.Shapes.{Shape, kinds_of as kinds_of_node}
+use Rattle.gl_algebra.specs.Views.{reads_time}
+use Rattle.gl_algebra.specs.declared.figures.Figures.{Figures}
+use Rattle.gl_net.specs.Net.{Net, memory_bits_of, register_bits_of}
+use Rattle.gl_net.specs.PortValues.{port_shapes}
+use Rattle.gl_verilog.specs.Run.{port_of}
+use Rattle.gl_verilog_ports.specs.Profile.{HasProfile, declared}
+use Rattle.gl_verilog_ports.proofs.Profiled.{names_shown}
+use Rattle.gl_elaborate.specs.Laws.{PlansTellTime}
+use Rattle.gl_elaborate.specs.Plans.{plan_of}
+use Rattle.gl_elaborate.specs.Whole.{RootsAreRight}
+use Rattle.gl_wiring.specs.Output.{plan_ports}
+use Rattle.gl_wiring.specs.Wired.{KeepsGroup, OverBeats, plan_means}
+use Rattle.gl_testbench.specs.declared.emitting.Emitted.{Emitted}
+use Rattle.gl_testbench.specs.Driven.{OverRuns}
+use Rattle.gl_testbench.specs.Emission.{IsEmission, TakesBeats}
+use Rattle.gl_testbench.specs.Emitted.{IsEmitted}
+use Rattle.gl_testbench.specs.Overflow.{TellsGroup}
+use Rattle.gl_testbench.proofs.Emissions.{holds_of_runs}
+use Rattle.gl_testbench.proofs.OverflowRuns.{KeepsLine, keeps_past, tells_group}
+use Rattle.gl_testbench.proofs.PinLemmas.{outs_other}
+use Rattle.gl_testbench.proofs.Showing.{NoClock, right_past, right_wider}
+use Rattle.gl_compiler.specs.Meets.{Meets, WhereDriven, result_columns, takes_ticks}
+use Rattle.gl_compiler.specs.Built.{gap_of, latency_of}
+use Rattle.gl_compiler.specs.Compiles.{HasCost}
+use Rattle.gl_compiler.proofs.Faces.{takes_beats}
+use Rattle.gl_compiler.proofs.KnownOf.{Known}
+use Rattle.gl_compiler.proofs.PlanResults.{plan_result}
+
+module _ (time : PlansTellTime) (schema : Schema) (statement : Statement) (net : Net) (made : Emitted) (k : Known schema statement) (is : IsChecked schema statement) (t : IsEmitted net made)
+    (ports : port_shapes net ≡ plan_ports (reads_time (plan_of schema statement).nodes) schema (kinds_of_node (plan_of schema statement).nodes (plan_of schema statement).root) (column_names (result_columns schema statement))) where
+  abbrev columns : List Column
+  columns = result_columns schema statement
+
+  abbrev outs : List (List ℕ)
+  outs = map out_column (column_names columns)
+
+  none : NoClock outs
+  none = outs_other (column_names columns)
+
+  -- the figures and the results of the plan
+  abbrev latency : ℕ
+  latency = roots.latency_of (plan_of schema statement).nodes (plan_of schema statement).root
+
+  abbrev gap : ℕ
+  gap = roots.gap_of (plan_of schema statement).nodes (plan_of schema statement).root
+
+  abbrev means : Meaning
+  means = plan_means (plan_of schema statement).nodes (plan_of schema statement).root
+
+  abbrev ticks : Bool
+  ticks = takes_ticks statement
+
+  takes : TakesBeats ticks schema (output_ports columns) net
+  takes = takes_beats ticks net schema columns (ports
+      ∙ ap (λ (b : Bool). plan_ports b schema (kinds_of_node (plan_of schema statement).nodes (plan_of schema statement).root) (column_names columns)) (time schema statement)
+      ∙ ap (λ (x : Shape). plan_ports ticks schema x.kinds (column_names columns)) k.right.shape)
+
+  text : IsEmission net schema made.text.items
+  text = t.text ticks schema (output_ports columns) is.of_schema takes
+
+  face : HasProfile ticks text.design schema columns
+  face = text.face ∙ ap (λ (ps : List ProfilePort). map declared (input clk 1 ∷ ps)) takes.ports
+
+  -- the columns of the result are found on the module
+  named : (Q : List Beat → List (List ℕ) → PortValues → Type 0) → OverRuns text.design schema gap (λ beats port. Q beats outs port) → WhereDriven text.design schema gap Q
+  named Q over = λ beats value word driven.
+      subst (λ (names : List (List ℕ)). Q beats names (port_of text.design value)) (sym (names_shown ticks text.design schema columns text.has.valid.names face)) (over beats value word driven)
+
+  -- what holds of the plan's netlist holds of the text: that it is right
+  text_right : OverBeats schema gap (λ all port. IsRight means latency all outs port) net → OverRuns text.design schema gap (λ all port. IsRight (IsResult schema statement) latency all outs port)
+  text_right right = λ beats value word driven.
+      right_wider means (IsResult schema statement) latency beats outs (plan_result schema statement beats driven.are k.right) (port_of text.design value)
+      (holds_of_runs net schema made.text.items text gap (λ all port. IsRight means latency all outs port) (right_past means latency outs none) right beats value word driven)
+
+  -- and that the overflow line is kept
+  text_keeps : OverBeats schema gap (λ all port. KeepsGroup outs port) net → OverRuns text.design schema gap (λ all port. KeepsLine outs port)
+  text_keeps keeps = holds_of_runs net schema made.text.items text gap (λ all port. KeepsLine outs port) (keeps_past outs none)
+      (λ run all trace are gaps stimulus. let h = keeps run all trace are gaps stimulus in record { lasts = h.lasts; stays = h.stays })
+
+  -- a text of the plan's netlist meets the statement
+  pub text_meets : RootsAreRight → net.name ≡ Some (codes "q__" ++ statement.name.text) → OverBeats schema gap (λ all port. IsRight means latency all outs port) net → OverBeats schema gap (λ all port. KeepsGroup outs port) net
+      → Meets schema statement (latency_of schema statement) (gap_of schema statement) made.text.items
+  text_meets tops called right keeps =
+      subst (λ (f : Figures). Meets schema statement (f.le + 1) f.gt made.text.items) (tops schema statement is).figures
+      (record {
+        accepted = is.accepted;
+        design = text.design;
+        has = text.has;
+        name = some_same text.design.name (codes "q__" ++ statement.name.text) (text.name' ∙ called);
+        face = face;
+        runs = text.runs;
+        right = named (IsRight (IsResult schema statement) latency) (text_right right);
+        group = named (TellsGroup (IsResult schema statement))
+            (tells_group net schema made.text.items text (λ port. port) (λ t port port' same. same) outs none (IsResult schema statement) latency gap (text_right right) (text_keeps keeps));
+      })
+
+  -- and has the bits of the netlist
+  pub text_costs : register_bits_of net ≤ most_registers (plan_of schema statement).nodes (plan_of schema statement).root → memory_bits_of net ≤ most_memory (plan_of schema statement).nodes (plan_of schema statement).root
+      → HasCost schema statement made.text.items made.cost
+  text_costs registers memories = record {
+    design = text.design;
+    has = text.has;
+    registers = t.registers ∙ sym text.registers;
+    memories = t.memories ∙ sym text.memories;
+    few_registers = subst (λ n. n ≤ most_registers (plan_of schema statement).nodes (plan_of schema statement).root) (sym t.registers) registers;
+    few_memories = subst (λ n. n ≤ most_memory (plan_of schema statement).nodes (plan_of schema statement).root) (sym t.memories) memories;
+  }

@@ -1,0 +1,49 @@
+-- What a compiled text is: a module of the statement's name with the ports of the schema and of the result, every run
+-- of which, in any order of events, over any beats that keep the gap and from any start, is right for the statement,
+-- and whose overflow line says what has come by each cycle.
+use Rattle.std.specs.Prelude.{◌≡◌, ℕ, ◌++◌, Bool, List, codes}
+use Rattle.gl_schema.specs.declared.schema.Column.{Column}
+use Rattle.gl_schema.specs.declared.schema.Schema.{Schema}
+use Rattle.gl_schema.specs.Beats.{Beat}
+use Rattle.gl_schema.specs.Ports.{PortValues}
+use Rattle.gl_schema.specs.Right.{IsRight}
+use Rattle.gl_query.specs.declared.tree.Statement.{Statement}
+use Rattle.gl_query.specs.Shapes.{query_shape}
+use Rattle.gl_query.specs.Columns.{columns_of}
+use Rattle.gl_query.specs.Windows.{has_time}
+use Rattle.gl_query.specs.Accepted.{IsAccepted}
+use Rattle.gl_query.specs.Results.{IsResult}
+use Rattle.gl_verilog.specs.Module.{Module, Nets, Memories}
+use Rattle.gl_verilog.specs.Run.{port_of}
+use Rattle.gl_verilog.specs.Text.{HasModule}
+use Rattle.gl_verilog_ports.specs.Profile.{HasProfile, result_names}
+use Rattle.gl_testbench.specs.Runs.{HasRunsOver}
+use Rattle.gl_testbench.specs.Driven.{Drives}
+use Rattle.gl_testbench.specs.Overflow.{TellsGroup}
+
+-- the columns of a statement's result
+abbrev pub result_columns : Schema → Statement → List Column
+result_columns schema statement = columns_of schema.streams (query_shape statement.query)
+
+-- the circuit of a statement takes ticks where the statement has a window of time
+abbrev pub takes_ticks : Statement → Bool
+takes_ticks statement = has_time (query_shape statement.query)
+
+-- a fact holds of the beats and of what is seen on the result's columns, whatever drives the module
+abbrev pub WhereDriven : Module → Schema → ℕ → (List Beat → List (List ℕ) → PortValues → Type 0) → Type 0
+WhereDriven m schema gap P = (beats : List Beat) (value : ℕ → Nets) (word : ℕ → Memories)
+    → Drives m schema gap beats value word → P beats (result_names m) (port_of m value)
+
+-- the text has a module of the statement's name, whose ports are in order the clock, the inputs of the schema, the tick
+-- where the statement has a window of time, and the outputs of the result; there is a run of it from any start over any
+-- beats of the schema, and whatever drives it, what is seen is right for the statement, within the latency, and the
+-- overflow line never falls, and is 1 only where what has come has a result that spills
+pub record Meets (schema : Schema) (statement : Statement) (latency gap : ℕ) (text : List ℕ) : Type 0 where
+  pub accepted : IsAccepted schema statement
+  pub design : Module
+  pub has : HasModule text design
+  pub name : design.name ≡ codes "q__" ++ statement.name.text
+  pub face : HasProfile (takes_ticks statement) design schema (result_columns schema statement)
+  pub runs : HasRunsOver design schema
+  pub right : WhereDriven design schema gap (IsRight (IsResult schema statement) latency)
+  pub group : WhereDriven design schema gap (TellsGroup (IsResult schema statement))

@@ -1,9 +1,0 @@
-pub mod ResultNames
-pub mod Planning
-pub mod PlanLeaves
-pub mod KnownOf
-pub mod PlanResults
-pub mod Faces
-pub mod Meeting
-pub mod Ports
-pub mod Shaped

@@ -1,5 +1,0 @@
-use Rattle.gl_compiler_text.proofs.Planning.{no_farther}
-use Rattle.gl_compiler_text.proofs.laws.gaps_are_no_farther.Goals as goal
-
-pub returns : goal.returns
-returns c = no_farther c.plans_are_right.ensures c.roots_are_right.ensures c.roots_come_closer.ensures

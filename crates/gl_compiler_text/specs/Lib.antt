@@ -1,3 +1,0 @@
-pub mod Meets
-pub mod Compiles
-pub mod Built

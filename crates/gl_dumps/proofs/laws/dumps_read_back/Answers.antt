@@ -1,5 +1,0 @@
-use Rattle.gl_dumps.proofs.RoundTrip.{reads_back}
-use Rattle.gl_dumps.proofs.laws.dumps_read_back.Goals as goal
-
-pub returns : goal.returns
-returns c = reads_back

@@ -1,9 +1,0 @@
-pub mod Pins
-pub mod Found
-pub mod Unbound
-pub mod Faces
-pub mod Showing
-pub mod Views
-pub mod Emissions
-pub mod OverflowBeats
-pub mod OverflowRuns

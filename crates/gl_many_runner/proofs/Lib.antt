@@ -1,3 +1,0 @@
-mod Shown
-pub mod Runs
-mod Each

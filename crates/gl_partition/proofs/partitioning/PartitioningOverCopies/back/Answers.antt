@@ -1,0 +1,18 @@
+use Rattle.std.proofs.Common.{ℕ, ◌*◌, ◌≤◌, ◌∙◌, subst, sym}
+use Rattle.gl_groups.proofs.GroupedNet.{keys_are}
+use Rattle.gl_partition.proofs.PartitionNet.{is_backed, some_copies}
+use Rattle.gl_partition.proofs.partitioning.PartitioningOverCopies.back.Goals as goal
+
+pub join_all-requires-clause-keys : goal.join_all-requires-clause-keys
+join_all-requires-clause-keys c =
+    keys_are c.args.net.now (c.args.self.now.slots * c.args.self.now.copies) c.args.self.now.key _ c.args.front.now.keys (some_copies c.args.self.now c.requires.numbers) c.requires.front.keys
+
+pub join_all-requires-clause-keys_count : goal.join_all-requires-clause-keys_count
+join_all-requires-clause-keys_count c = c.requires.front.keys.as_many ∙ sym c.requires.count
+
+pub join_all-requires-clause-some_copy : goal.join_all-requires-clause-some_copy
+join_all-requires-clause-some_copy c = subst (λ (n : ℕ). 1 ≤ n) (sym c.requires.count) (some_copies c.args.self.now c.requires.numbers)
+
+pub returns : goal.returns
+returns c =
+    is_backed c.args.net.now c.join_all.new.net c.args.self.now c.args.front.now c.args.copies.now c.in_ok-whole.whole c.requires.numbers c.requires.front c.requires.count c.in_ok-whole.ensures

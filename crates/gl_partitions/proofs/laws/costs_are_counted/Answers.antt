@@ -1,5 +1,0 @@
-use Rattle.gl_partitions.proofs.CostLemmas.{partitionings_are_counted}
-use Rattle.gl_partitions.proofs.laws.costs_are_counted.Goals as goal
-
-pub returns : goal.returns
-returns c = partitionings_are_counted

@@ -1,5 +1,0 @@
-use Rattle.gl_query_judge.proofs.Judged.{one_faults}
-use Rattle.gl_query_judge.proofs.laws.texts_have_one_fault.Goals as goal
-
-pub returns : goal.returns
-returns c = one_faults

@@ -1,6 +1,0 @@
-pub mod Steps
-pub mod Naming
-pub mod Coming
-pub mod Verdicts
-pub mod Listing
-pub mod Rows

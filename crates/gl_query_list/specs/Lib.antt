@@ -1,4 +1,0 @@
-pub mod Pieces
-pub mod Lists
-pub mod Laws
-pub mod Reading

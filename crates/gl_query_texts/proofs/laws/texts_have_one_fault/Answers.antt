@@ -1,0 +1,5 @@
+use Rattle.gl_query_texts.proofs.Judged.{one_faults}
+use Rattle.gl_query_texts.proofs.laws.texts_have_one_fault.Goals as goal
+
+pub returns : goal.returns
+returns c = one_faults

@@ -1,4 +1,0 @@
-pub mod SumLemmas
-pub mod ReachLemmas
-pub mod PartLemmas
-pub mod MarkLemmas

@@ -1,3 +1,0 @@
-pub mod Reach
-pub mod Marks
-pub mod Worked

@@ -1,7 +1,0 @@
-use Rattle.gl_rows_tests.proofs.CircuitLemmas.{can_finish}
-use Rattle.gl_rows_tests.proofs.circuit.padded_of.Goals as goal
-
-pub finish-requires : goal.finish-requires
-finish-requires c =
-    can_finish c.put_source.new.net c.pad.new.net c.module.new.self c.args.first c.args.second c.in_ok-source.source c.in_ok-source.ensures
-    c.in_ok-later.ensures.keeps c.in_ok-module.ensures.ports c.in_ok-module.ensures.module_name c.in_ok-module.ensures.undriven c.in_ok-module.ensures.grows.shapes

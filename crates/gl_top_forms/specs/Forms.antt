@@ -1,0 +1,244 @@
+-- The forms of command lines: a command, names, and options, which may stand anywhere behind the command. The names are
+-- those of texts, but for one command the number of tuples. The words of the version have neither.
+use Rattle.std.specs.Prelude.{◌≡◌, ◌⊎◌, ℕ, zero, suc, ◌^◌, Bool, true, false, ◌&&◌, ◌==◌, nat_le, nat_lt, List, [], ◌∷◌, ◌++◌, length, codes, bytes_eq, slice_get, unwrap_or, drop, Contains, Option, Some, None, is_some, IsTrue, if◌then◌else◌}
+use Rattle.std.specs.List.{starts_with}
+use Rattle.gl_verilog_orders.specs.declared.start.Start.{Start}
+use Rattle.gl_verilog_orders.specs.declared.start.Start.TheVariants.{Zero, Drawn}
+use Rattle.gl_tuples.specs.Values.{number_of}
+use Rattle.gl_top_forms.specs.declared.command.Command.{Command}
+use Rattle.gl_top_forms.specs.declared.command.Command.TheVariants.{Compile, Figures, Explain, Run, Sim, Load, Vcd, Undump, Many, ManyFigures, ManyRun, Version}
+use Rattle.gl_top_forms.specs.declared.command.Part.{Part}
+use Rattle.gl_top_forms.specs.declared.command.Part.TheVariants.{Schema, Query, Module, Tuples, Dump, Queries}
+
+-- ---- words behind the command
+
+-- the first word of a command line, which names the command; empty where there is none
+abbrev pub first_word : List (List ℕ) → List ℕ
+first_word [] = []
+first_word (w ∷ ws) = w
+
+-- the option of some words: `--extra` behind `sim`, else `--start`
+unfoldable pub option_word : List (List ℕ) → List ℕ
+option_word words = if bytes_eq (first_word words) (codes "sim") then codes "--extra" else codes "--start"
+
+-- what stands before its value, where both are one word
+abbrev pub option_front : List ℕ → List ℕ
+option_front option = option ++ codes "="
+
+-- a word that begins with `-` is no name
+abbrev pub is_dashed : List ℕ → Bool
+is_dashed [] = false
+is_dashed (b ∷ bs) = b == 45
+
+-- the words that are names, in order; whether the first word is the value of the option is known from the one before it
+abbrev pub names_in : List ℕ → Bool → List (List ℕ) → List (List ℕ)
+names_in option valued [] = []
+names_in option true (w ∷ ws) = names_in option false ws
+names_in option false (w ∷ ws) =
+    if bytes_eq w option then names_in option true ws
+    else if is_dashed w then names_in option false ws
+    else w ∷ names_in option false ws
+
+-- the values that the option is given, in order; None for a dashed word that is no option, and where no word follows
+-- the option
+abbrev pub values_in : List ℕ → Bool → List (List ℕ) → List (Option (List ℕ))
+values_in option true [] = None ∷ []
+values_in option false [] = []
+values_in option true (w ∷ ws) = Some w ∷ values_in option false ws
+values_in option false (w ∷ ws) =
+    if bytes_eq w option then values_in option true ws
+    else if starts_with ◌==◌ w (option_front option)
+    then Some (drop (length (option_front option)) w) ∷ values_in option false ws
+    else if is_dashed w then None ∷ values_in option false ws
+    else values_in option false ws
+
+-- the names behind the command, options and their values left out
+unfoldable pub names_of : List (List ℕ) → List (List ℕ)
+names_of words = names_in (option_word words) false (drop 1 words)
+
+-- the values that the option is given, in order; None for a dashed word that is no option and for a missing value
+unfoldable pub values_of : List (List ℕ) → List (Option (List ℕ))
+values_of words = values_in (option_word words) false (drop 1 words)
+
+-- ---- the start of registers and memories
+
+-- registers and memories start from 0, or from what another number draws
+abbrev pub start_from : ℕ → Start
+start_from zero = Zero
+start_from (suc n) = Drawn (suc n)
+
+-- a number below 2^64
+abbrev pub start_at : Option ℕ → Option Start
+start_at None = None
+start_at (Some n) = if nat_lt n (2 ^ 64) then Some (start_from n) else None
+
+-- no value is that of zero, and one is the number that its digits spell
+abbrev pub start_in : List (Option (List ℕ)) → Option Start
+start_in [] = Some Zero
+start_in (None ∷ vs) = None
+start_in (Some v ∷ []) = start_at (number_of v)
+start_in (Some v ∷ v' ∷ vs) = None
+
+-- what the run of a command line starts from
+unfoldable pub start_of : List (List ℕ) → Start
+start_of words = unwrap_or (start_in (values_of words)) Zero
+
+-- ---- the cycles that are waited for the end
+
+-- 0 to 1,000,000
+abbrev pub extra_at : Option ℕ → Option ℕ
+extra_at None = None
+extra_at (Some n) = if nat_le n 1000000 then Some n else None
+
+-- as many cycles as the digits of the one value spell
+abbrev pub extra_in : List (Option (List ℕ)) → Option ℕ
+extra_in [] = None
+extra_in (None ∷ vs) = None
+extra_in (Some v ∷ []) = extra_at (number_of v)
+extra_in (Some v ∷ v' ∷ vs) = None
+
+-- behind the last beat's cycle; none where the words say no number
+unfoldable pub extra_of : List (List ℕ) → ℕ
+extra_of words = unwrap_or (extra_in (values_of words)) 0
+
+-- ---- the tuples of a load
+
+-- 1 to 1,000,000
+abbrev pub load_at : Option ℕ → Option ℕ
+load_at None = None
+load_at (Some n) = if nat_le 1 n && nat_le n 1000000 then Some n else None
+
+-- as many tuples as the digits of the first name spell
+abbrev pub load_in : List (List ℕ) → Option ℕ
+load_in [] = None
+load_in (name ∷ names) = load_at (number_of name)
+
+-- how many tuples a load has, where its name is a number in range
+unfoldable pub load_of : List (List ℕ) → Option ℕ
+load_of words = load_in (names_of words)
+
+-- ---- commands
+
+-- the word of a command
+abbrev pub word_of : Command → List ℕ
+word_of Compile = codes "compile"
+word_of Figures = codes "figures"
+word_of Explain = codes "explain"
+word_of Run = codes "run"
+word_of Sim = codes "sim"
+word_of Load = codes "load"
+word_of Vcd = codes "vcd"
+word_of Undump = codes "undump"
+word_of Many = codes "many"
+word_of ManyFigures = codes "manyfigures"
+word_of ManyRun = codes "manyrun"
+word_of Version = codes "--version"
+
+-- how many names stand behind a command: those of its texts, or the number of tuples
+abbrev pub many_names : Command → ℕ
+many_names Compile = 2
+many_names Figures = 2
+many_names Explain = 2
+many_names Run = 3
+many_names Sim = 3
+many_names Load = 1
+many_names Vcd = 3
+many_names Undump = 1
+many_names Many = 2
+many_names ManyFigures = 2
+many_names ManyRun = 3
+many_names Version = 0
+
+-- the values that its option may have: a start, to run or to dump, or none; to simulate, the cycles that are waited; else none
+abbrev pub takes_values : Command → List (Option (List ℕ)) → Bool
+takes_values Run values = is_some (start_in values)
+takes_values Vcd values = is_some (start_in values)
+takes_values ManyRun values = is_some (start_in values)
+takes_values Sim values = is_some (extra_in values)
+takes_values c [] = true
+takes_values c (v ∷ vs) = false
+
+-- a load's name is a number in range; the names of any other command may be any
+abbrev pub takes_names : Command → List (List ℕ) → Bool
+takes_names Load names = is_some (load_in names)
+takes_names c names = true
+
+-- the words have the form of a command: its word, its number of names, and an option that it takes
+unfoldable pub is_command : List (List ℕ) → Command → Bool
+is_command words c =
+    bytes_eq (first_word words) (word_of c) && (length (names_of words) == many_names c) && takes_names c
+    (names_of words) && takes_values c (values_of words)
+
+-- the command of some words: one of several queries or that of the version, where they are none of the others
+abbrev pub later_command_of : List (List ℕ) → Option Command
+later_command_of words =
+    if is_command words Many then Some Many
+    else if is_command words ManyFigures then Some ManyFigures
+    else if is_command words ManyRun then Some ManyRun
+    else if is_command words Version then Some Version
+    else None
+
+unfoldable pub command_of : List (List ℕ) → Option Command
+command_of words =
+    if is_command words Compile then Some Compile
+    else if is_command words Figures then Some Figures
+    else if is_command words Explain then Some Explain
+    else if is_command words Run then Some Run
+    else if is_command words Sim then Some Sim
+    else if is_command words Load then Some Load
+    else if is_command words Vcd then Some Vcd
+    else if is_command words Undump then Some Undump
+    else later_command_of words
+
+-- the words are those of this command
+abbrev pub IsCommand : List (List ℕ) → Command → Type 0
+IsCommand words c = command_of words ≡ Some c
+
+-- the words run the text of a query over a tuple file: to its lines, or to a dump
+abbrev pub IsOfRun : List (List ℕ) → Type 0
+IsOfRun words = IsCommand words Run ⊎ IsCommand words Vcd
+
+-- the words are of a form
+abbrev pub IsForm : List (List ℕ) → Type 0
+IsForm words = IsTrue (is_some (command_of words))
+
+-- the words load so many tuples
+pub record IsLoadOf (words : List (List ℕ)) (n : ℕ) : Type 0 where
+  pub loads : IsCommand words Load
+  pub many : load_of words ≡ Some n
+
+-- ---- the texts
+
+-- the texts that a command names, in their order; a load and the version name none
+abbrev pub parts_of : Command → List Part
+parts_of Compile = Schema ∷ Query ∷ []
+parts_of Figures = Schema ∷ Query ∷ []
+parts_of Explain = Schema ∷ Query ∷ []
+parts_of Run = Schema ∷ Query ∷ Tuples ∷ []
+parts_of Sim = Schema ∷ Module ∷ Tuples ∷ []
+parts_of Load = []
+parts_of Vcd = Schema ∷ Query ∷ Tuples ∷ []
+parts_of Undump = Dump ∷ []
+parts_of Many = Schema ∷ Queries ∷ []
+parts_of ManyFigures = Schema ∷ Queries ∷ []
+parts_of ManyRun = Schema ∷ Queries ∷ Tuples ∷ []
+parts_of Version = []
+
+-- at which place among the names a command names this text
+abbrev pub place_of : Part → ℕ
+place_of Schema = 0
+place_of Query = 1
+place_of Module = 1
+place_of Tuples = 2
+place_of Dump = 0
+place_of Queries = 1
+
+-- the name of a text, and no byte where the words name none
+unfoldable pub name_of : List (List ℕ) → Part → List ℕ
+name_of words part = unwrap_or (slice_get (names_of words) (place_of part)) []
+
+-- the words are a command that names this text
+pub record IsNamed (words : List (List ℕ)) (part : Part) : Type 0 where
+  pub command : Command
+  pub is : IsCommand words command
+  pub names : Contains (parts_of command) part

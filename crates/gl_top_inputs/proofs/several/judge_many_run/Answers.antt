@@ -1,0 +1,16 @@
+use Rattle.gl_top_forms.proofs.Named.{many_run_names_schema}
+use Rattle.gl_top_inputs.specs.Causes.{change}
+use Rattle.gl_top_inputs.proofs.Changes.{handed_on, leaves_later}
+use Rattle.gl_top_inputs.proofs.Texts.{no_schema_cause}
+use Rattle.gl_top_inputs.proofs.several.judge_many_run.Goals as goal
+
+pub fetch_schema-requires-clause-named : goal.fetch_schema-requires-clause-named
+fetch_schema-requires-clause-named g c = many_run_names_schema c.args.words.now c.requires.runs
+
+pub returns-in_err-schema-clause-leaves : goal.returns-in_err-schema-clause-leaves
+returns-in_err-schema-clause-leaves g c =
+    handed_on c.args.words.now _ _ c.from_residual.result _ c.from_residual.ensures.1
+    (no_schema_cause c.args.words.now (change (g.S.Shelf.state c.args.shelf.now) (g.S.Shelf.state c.fetch_schema.new.shelf)) _ (many_run_names_schema c.args.words.now c.requires.runs) c.in_err-schema.ensures.leaves)
+
+pub returns-clause-leaves : goal.returns-clause-leaves
+returns-clause-leaves g c = leaves_later _ _ _ _ c.judge_behind_schema.result c.fetch_schema.ensures.stays c.in_ok-schema.ensures.leaves c.judge_behind_schema.ensures.leaves

@@ -1,0 +1,169 @@
+//! Judging the texts: each is read and judged before the next is read.
+
+ghost use Rattle.std.specs.Prelude.{◌≡◌, IfOk, Ok};
+ghost use Rattle.gl_schema.specs.Schemas.{IsSchema};
+ghost use Rattle.gl_schema.specs.Beats.{KeepsGap};
+ghost use Rattle.gl_tuple_reader.specs.Entries.{Gives};
+ghost use Rattle.gl_tuples.specs.Gaps.{AreFileBeats, plain_beats};
+ghost use Rattle.gl_top_forms.specs.Forms.{IsNamed, IsOfRun};
+ghost use Rattle.gl_top_inputs.specs.Causes as causes;
+ghost use Rattle.gl_top_inputs.specs.Causes.{Leaves};
+ghost use Rattle.gl_outside.specs.States.{Stays};
+ghost use Rattle.gl_top_inputs.specs.Passing.{AsksGap, QueryPasses, IsCompiled, IsReady, kept_beats};
+ghost use Rattle.gl_top_status.specs.Texts.{HasText, SchemaPasses};
+
+use gl_compiler::{CompileFault, Compiled, compile_query};
+use gl_outside::Shelf;
+use gl_schema::Schema;
+use gl_top_forms::{Part, Taken};
+use gl_top_status::{Refusal, fetch, fetch_schema};
+use gl_tuple_reader::read_tuples;
+use gl_tuples::{Beats, TupleFault};
+use std::alloc::Global;
+
+/// What the three texts give: the compiled query, and the beats of the tuple file.
+#[derive(Drop)]
+pub struct Job {
+    /// The compiled query.
+    pub compiled: Compiled,
+    /// The beats.
+    pub beats: Beats,
+}
+
+// Why a query is not compiled, as a refusal. (A `From` would stand in gl_top_status, which is to stand
+// on no compiler, or in gl_compiler, which knows of no refusal.)
+pub(crate) fn compile_refusal(fault: CompileFault) -> Refusal
+    ensures { result ≡ causes.compile_refusal fault }
+{
+    match fault {
+        CompileFault::Memory => Refusal::Memory,
+        CompileFault::Query(fault) => Refusal::Query(fault),
+        CompileFault::Limit(limit) => Refusal::Limit(limit),
+        CompileFault::Schema(fault) => Refusal::Schema(fault),
+    }
+}
+
+// Reads and judges the query.
+fn judge_query<S: Shelf>(
+    alloc: Global,
+    shelf: &mut S,
+    words: &Taken<'_>,
+    schema: Schema,
+) -> Result<Compiled, Refusal>
+    requires named { IsNamed words.now Part.Query }
+    requires passes { SchemaPasses (S.state shelf.old).told words.now schema }
+    requires names { (S.state shelf.old).names ≡ words.now }
+    ensures stays { Stays (S.state shelf.old) (S.state shelf.new) }
+    ensures passes { let told = (S.state shelf.old).told in
+        IfOk result (λ c. QueryPasses told words.now c.schema c.statement) }
+    ensures compiled { IfOk result IsCompiled }
+    ensures leaves { Leaves words.now (S.state shelf.old) (S.state shelf.new) result }
+{
+    let text = fetch(alloc, shelf, words, Part::Query)?;
+    match compile_query(alloc, schema, &text) {
+        Ok(compiled) => Ok(compiled),
+        Err(fault) => Err(compile_refusal(fault)),
+    }
+}
+
+// The beats of a text, if they keep the gap.
+fn beats_of(alloc: Global, schema: &Schema, gap: u32, text: &[u8]) -> Result<Beats, TupleFault>
+    requires { IsSchema schema.now }
+    ensures exact { Gives result (kept_beats schema.now gap text.now) }
+    ensures fine { IfOk result (λ beats. AreFileBeats schema.now beats) }
+    ensures gap { IfOk result (λ beats. KeepsGap gap (plain_beats beats)) }
+{
+    let beats = read_tuples(alloc, schema, text)?;
+    beats.keep(gap)?;
+    Ok(beats)
+}
+
+// Reads and judges the tuple file, whose beats are to keep this gap.
+pub(crate) fn judge_tuples<S: Shelf>(
+    alloc: Global,
+    shelf: &mut S,
+    words: &Taken<'_>,
+    schema: &Schema,
+    gap: u32,
+) -> Result<Beats, Refusal>
+    requires asks { AsksGap (S.state shelf.old).told words.now schema.now gap }
+    requires names { (S.state shelf.old).names ≡ words.now }
+    ensures fine { IfOk result (λ beats. AreFileBeats schema.now beats) }
+    ensures gap { IfOk result (λ beats. KeepsGap gap (plain_beats beats)) }
+    ensures text { IfOk result (λ beats. HasText (S.state shelf.old).told words.now Part.Tuples
+        (λ text. kept_beats schema.now gap text ≡ Ok beats)) }
+    ensures leaves { Leaves words.now (S.state shelf.old) (S.state shelf.new) result }
+{
+    let text = fetch(alloc, shelf, words, Part::Tuples)?;
+    Ok(beats_of(alloc, schema, gap, &text)?)
+}
+
+// Judges the tuple file, behind the schema and the query.
+fn judge_file<S: Shelf>(
+    alloc: Global,
+    shelf: &mut S,
+    words: &Taken<'_>,
+    compiled: Compiled,
+) -> Result<Job, Refusal>
+    requires runs { IsOfRun words.now }
+    requires passes { let told = (S.state shelf.old).told in
+        QueryPasses told words.now compiled.schema compiled.statement }
+    requires compiled { IsCompiled compiled }
+    requires names { (S.state shelf.old).names ≡ words.now }
+    ensures ready { IfOk result (λ job. IsReady (S.state shelf.old).told words.now job) }
+    ensures leaves { Leaves words.now (S.state shelf.old) (S.state shelf.new) result }
+{
+    let beats = judge_tuples(
+        alloc,
+        shelf,
+        words,
+        compiled.schema(),
+        compiled.printed().gap,
+    )?;
+    Ok(Job { compiled, beats })
+}
+
+// Judges the query and the tuple file, behind the schema.
+fn judge_rest<S: Shelf>(
+    alloc: Global,
+    shelf: &mut S,
+    words: &Taken<'_>,
+    schema: Schema,
+) -> Result<Job, Refusal>
+    requires runs { IsOfRun words.now }
+    requires passes { SchemaPasses (S.state shelf.old).told words.now schema }
+    requires names { (S.state shelf.old).names ≡ words.now }
+    ensures ready { IfOk result (λ job. IsReady (S.state shelf.old).told words.now job) }
+    ensures leaves { Leaves words.now (S.state shelf.old) (S.state shelf.new) result }
+{
+    let compiled = judge_query(alloc, shelf, words, schema)?;
+    judge_file(alloc, shelf, words, compiled)
+}
+
+/// Judges the three texts of `run S Q T` and of `vcd S Q T`.
+pub fn judge_run<S: Shelf>(alloc: Global, shelf: &mut S, words: &Taken<'_>) -> Result<Job, Refusal>
+    requires runs { IsOfRun words.now }
+    requires names { (S.state shelf.old).names ≡ words.now }
+    ensures ready { IfOk result (λ job. IsReady (S.state shelf.old).told words.now job) }
+    ensures leaves { Leaves words.now (S.state shelf.old) (S.state shelf.new) result }
+{
+    let schema = fetch_schema(alloc, shelf, words)?;
+    judge_rest(alloc, shelf, words, schema)
+}
+
+/// Judges the two texts of a command that compiles.
+pub fn judge_compile<S: Shelf>(
+    alloc: Global,
+    shelf: &mut S,
+    words: &Taken<'_>,
+) -> Result<Compiled, Refusal>
+    requires named { IsNamed words.now Part.Query }
+    requires names { (S.state shelf.old).names ≡ words.now }
+    ensures passes { let told = (S.state shelf.old).told in
+        IfOk result (λ c. QueryPasses told words.now c.schema c.statement) }
+    ensures compiled { IfOk result IsCompiled }
+    ensures leaves { Leaves words.now (S.state shelf.old) (S.state shelf.new) result }
+{
+    let schema = fetch_schema(alloc, shelf, words)?;
+    judge_query(alloc, shelf, words, schema)
+}

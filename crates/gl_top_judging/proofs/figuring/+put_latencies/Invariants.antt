@@ -1,5 +1,0 @@
-use Rattle.std.proofs.Common.{length}
-use Rattle.gl_top_judging.proofs.figuring.+put_latencies.Given as goal
-
-abbrev pub decreases-put_latencies : goal.decreases-put_latencies
-decreases-put_latencies l = length l.statements.now

@@ -1,0 +1,4 @@
+pub mod Statuses
+pub mod Refusals
+pub mod Written
+pub mod Texts

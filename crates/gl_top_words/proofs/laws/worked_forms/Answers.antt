@@ -1,5 +1,0 @@
-use Rattle.gl_top_words.proofs.Rows.{worked_forms}
-use Rattle.gl_top_words.proofs.laws.worked_forms.Goals as goal
-
-pub returns : goal.returns
-returns c = worked_forms

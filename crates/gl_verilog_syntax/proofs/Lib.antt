@@ -1,2 +1,0 @@
-pub mod NumberSteps
-pub mod Views

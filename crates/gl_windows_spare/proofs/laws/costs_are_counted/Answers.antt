@@ -1,5 +1,0 @@
-use Rattle.gl_windows_spare.proofs.CostLemmas.{spares_are_counted}
-use Rattle.gl_windows_spare.proofs.laws.costs_are_counted.Goals as goal
-
-pub returns : goal.returns
-returns c = spares_are_counted

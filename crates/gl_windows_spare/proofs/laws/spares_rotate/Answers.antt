@@ -1,5 +1,0 @@
-use Rattle.gl_windows_spare.proofs.NumberLemmas.{spares_rotate}
-use Rattle.gl_windows_spare.proofs.laws.spares_rotate.Goals as goal
-
-pub returns : goal.returns
-returns c = spares_rotate
