@@ -149,8 +149,7 @@ filter_fault columns (Some e) =
 -- ---- what is under a name
 
 -- the rules for one, in order: it is no 33rd, it breaks no rule of its own, and no earlier one has its name
-abbrev pub rules_under_name : {A : Type 0} → (A → Name) → (A → Option QueryFault) → List A → A
-    → List (Option QueryFault)
+abbrev pub rules_under_name : {A : Type 0} → (A → Name) → (A → Option QueryFault) → List A → A → List (Option QueryFault)
 rules_under_name name own earlier i =
     unless (nat_lt (length earlier) most_columns) (OutOfRange (name i).at)
     ∷ own i
