@@ -12,6 +12,7 @@ use Rattle.gl_query_reader.specs.Grammar.{HasStatement, IsOrMemory, IsFault, IsV
 use Rattle.gl_query_reader.specs.Meaning.{statement_meaning}
 use Rattle.gl_query_reader.proofs.ReadQueries.{one_statement}
 use Rattle.gl_query_reader.proofs.Verdicts.{verdicts}
+use Rattle.gl_query.proofs.FirstFaults.{exact}
 use Rattle.gl_query_check.proofs.Accepting.{accepted_none}
 use Rattle.gl_query_texts.specs.Judged.{IsAcceptedText, HasNoStatement, BreaksRule, IsQueryFault, IsFaultOrMemory, TextsHaveOneFault}
 
@@ -70,7 +71,7 @@ accepted_goes schema text f fine is s accepted = by is.found
     by (inl h) = h.none (statement_tree s) accepted.has
     by (inr h) =
         let same : h.statement ≡ statement_tree s = one_meaning text h.statement (statement_tree s) h.has accepted.has in
-        let none : first_fault schema h.statement ≡ None = subst (λ (m : StatementTree). first_fault schema m ≡ None) (sym same) (accepted_none schema s fine accepted.accepted) in
+        let none : first_fault schema h.statement ≡ None = subst (λ (m : StatementTree). first_fault schema m ≡ None) (sym same) (accepted_none exact schema s fine accepted.accepted) in
         absurd (let e : ◌≡◌ {A = Option QueryFault} None (Some f) = sym none ∙ h.first in cc)
 
 same_verdict : (text : List ℕ) (f g : QueryFault) → IsReal f → IsReal g → IsFault text f → IsFault text g → f ≡ g

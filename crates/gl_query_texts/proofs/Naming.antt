@@ -9,6 +9,7 @@ use Rattle.gl_query.specs.Checked.{IsChecked}
 use Rattle.gl_query.specs.Faults.{first_fault}
 use Rattle.gl_query.specs.Trees.{statement_tree}
 use Rattle.gl_query_check.specs.declared.checking.Checked.{Checked}
+use Rattle.gl_query.proofs.FirstFaults.{exact}
 use Rattle.gl_query_check.proofs.Accepting.{accepted_none}
 use Rattle.gl_query_reader.specs.Grammar.{HaveStatement}
 use Rattle.gl_query_texts.specs.Pieces.{Piece}
@@ -27,7 +28,7 @@ read_is schema p s c h same over is = record {
 }
 
 none_first : (schema : Schema) (p : Piece) (c : Checked) → IsSchema schema → IsRead schema p c → first_fault schema (tree_of c) ≡ None
-none_first schema p c fine h = accepted_none schema c.statement fine (rw h.over.over at h.over.checked.accepted)
+none_first schema p c fine h = accepted_none exact schema c.statement fine (rw h.over.over at h.over.checked.accepted)
 
 pub named_is : (schema : Schema) (names : List (List ℕ)) (p : Piece) (c : Checked) (r : Result Checked QueryFault) → IsSchema schema → IsRead schema p c → IsNamed names c r → IfOk r (λ d. IsPiece schema names p (tree_of d))
 named_is schema names p c (Err f) fine h n = tt

@@ -1,6 +1,7 @@
 -- What holds of all texts of several queries.
 use Rattle.std.specs.Prelude.{◌≡◌, ◌≤◌, ℕ, List, length, bytes_eq, Result, Ok, Err}
 use Rattle.std.specs.List.{AllByRecursion, IsDistinct}
+use Rattle.gl_bits.specs.Limits.{most_statements}
 use Rattle.gl_schema.specs.declared.schema.Schema.{Schema}
 use Rattle.gl_query.specs.declared.fault.QueryFault.{QueryFault}
 use Rattle.gl_query.specs.Alike.{statement_alike}
