@@ -3,15 +3,15 @@ use Rattle.std.proofs.Common.{◌≡◌, ℕ, max, List, [], ◌∷◌, Ok, Err,
 use Rattle.gl_schema.specs.declared.schema.Schema.{Schema}
 use Rattle.gl_query.specs.declared.fault.QueryFault.{QueryFault}
 use Rattle.gl_query.specs.declared.tree.Statement.{Statement}
+use Rattle.gl_query.specs.Shapes.{QueryShape, query_shape}
 use Rattle.gl_query.specs.Trees.{statement_tree}
 use Rattle.gl_query_texts.specs.Lists.{HasStatements}
 use Rattle.gl_query_texts.specs.ListLaws.{IsVerdict, Verdict}
 use Rattle.gl_query_texts.proofs.Verdicts.{verdicts}
-use Rattle.gl_algebra.specs.Added.{Placed}
-use Rattle.gl_algebra.specs.FigureTable.{figures_of}
 use Rattle.gl_figures.specs.declared.Limit.{Limit}
-use Rattle.gl_elaborate.specs.Plans.{Several, plan_of, plans_of}
-use Rattle.gl_compiler.proofs.Shaped.{plans_alike}
+use Rattle.gl_elaborate.specs.Figures.{query_figures}
+use Rattle.gl_elaborate.specs.Plans.{Several, plans_of}
+use Rattle.gl_compiler.proofs.Shaped.{shapes_alike}
 use Rattle.gl_plan.specs.Together.{AreWithinLimits, PassLimit}
 use Rattle.gl_plan.proofs.TogetherLemmas.{several-one-limit}
 use Rattle.gl_many.specs.Meets.{shared_gap}
@@ -38,8 +38,8 @@ no_list schema text f ss h k =
 
 -- ---- statements of the same trees
 
-abbrev gap_at : Placed → ℕ
-gap_at at = (figures_of at.nodes at.root).gt
+abbrev gap_at : Schema → QueryShape → ℕ
+gap_at schema q = (query_figures schema.streams q).gt
 
 -- they have one gap
 pub gaps_alike : (schema : Schema) (ss ts : List Statement) → trees_of ss ≡ trees_of ts → shared_gap schema ss ≡ shared_gap schema ts
@@ -49,8 +49,8 @@ gaps_alike schema (s ∷ ss) [] e = absurd cc
 gaps_alike schema (s ∷ ss) (t ∷ ts) e =
     let first : statement_tree s ≡ statement_tree t = cc in
     let others : trees_of ss ≡ trees_of ts = cc in
-    ap (λ (at : Placed). max (gap_at at) (shared_gap schema ss)) (plans_alike schema s t first)
-    ∙ ap (max (gap_at (plan_of schema t))) (gaps_alike schema ss ts others)
+    ap (λ (q : QueryShape). max (gap_at schema q) (shared_gap schema ss)) (shapes_alike s t first)
+    ∙ ap (max (gap_at schema (query_shape t.query))) (gaps_alike schema ss ts others)
 
 -- ---- what a text's statements have
 
