@@ -23,9 +23,9 @@ names_queries words (inl is) = record { command = command.Many; is = is; names =
 names_queries words (inr is) = record { command = command.ManyFigures; is = is; names = (1, omega arith, refl) }
 
 -- two facts about what was made, if it was
-pub both : {A E : Type 0} {P Q : A → Type 0} (r : Result A E) → IfOk r P → IfOk r Q → IfOk r (λ x. P x × Q x)
-both (Ok x) p q = (p, q)
-both (Err e) p q = tt
+pub both : {A E : Type 0} (P Q : A → Type 0) (r : Result A E) → IfOk r P → IfOk r Q → IfOk r (λ x. P x × Q x)
+both P Q (Ok x) p q = (p, q)
+both P Q (Err e) p q = tt
 
 -- ---- what is given
 

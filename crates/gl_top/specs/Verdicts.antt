@@ -92,7 +92,7 @@ pub record AreEmitted (told : List ℕ → Told) (words : List (List ℕ)) (sche
 -- each result of `manyrun`, with its statement's name, or the dump of `vcd`, which tells the run
 pub data IsRun (told : List ℕ → Told) (words : List (List ℕ)) (text : List ℕ) (old new : SinkState) (outcome : Outcome)
     : Type 0 where
-  OfLines : (is : IsCommand words Run) (schema : Schema) (statement : Statement) (beats : List Beat)
+  OfResult : (is : IsCommand words Run) (schema : Schema) (statement : Statement) (beats : List Beat)
       (emitted : IsEmitted told words schema statement beats text)
       (wrote : RanLines schema statement beats (start_of words) text old new outcome)
       → IsRun told words text old new outcome

@@ -13,7 +13,7 @@ use crate::desk::Desk;
 use gl_outside::{Shelf, Sink};
 use gl_top_forms::{Part, Taken};
 use gl_top_status::{Refusal, Status, fetch, tell, tell_write_fault};
-use gl_vcd::{Undump, undump};
+use gl_vcd as vcd;
 use std::alloc::Global;
 
 // Writes the lines that a dump shows, and notes how that failed.
@@ -31,11 +31,11 @@ fn show_dump<S: Shelf, K: Sink, N: Sink>(
         → IsCalm c.old c.new
         → IsAnswer (call_over K.state N.state words.now c desk.old desk.new result) }
 {
-    match undump(alloc, dump, &mut desk.out) {
-        Undump::Done => Status::Done,
-        Undump::Fault(fault) => tell(&mut desk.notes, words, &Refusal::Dump(fault)),
-        Undump::WriteFault => tell_write_fault(&mut desk.notes),
-        Undump::Memory => tell(&mut desk.notes, words, &Refusal::Memory),
+    match vcd::undump(alloc, dump, &mut desk.out) {
+        vcd::Undump::Done => Status::Done,
+        vcd::Undump::Fault(fault) => tell(&mut desk.notes, words, &Refusal::Dump(fault)),
+        vcd::Undump::WriteFault => tell_write_fault(&mut desk.notes),
+        vcd::Undump::Memory => tell(&mut desk.notes, words, &Refusal::Memory),
     }
 }
 

@@ -2,7 +2,7 @@ use Rattle.std.proofs.Common.{ℕ, sym, subst}
 use Rattle.gl_schema.specs.Beats.{KeepsGap}
 use Rattle.gl_tuples.specs.Gaps.{plain_beats}
 use Rattle.gl_verilog_orders.specs.declared.start.Start.{Start}
-use Rattle.gl_top.specs.Verdicts.{OfLines, RanLines}
+use Rattle.gl_top.specs.Verdicts.{OfResult, RanLines}
 use Rattle.gl_top.proofs.Runs.{runnable_of}
 use Rattle.gl_top.proofs.writing.LinesRuns.write.Goals as goal
 
@@ -22,4 +22,4 @@ returns g c = λ told ready.
     let job = c.args.self.now.job in
     let q = job.compiled in
     let of_start : Start → Type 0 = λ start. RanLines q.schema q.statement job.beats start q.text.items (g.K.Sink.state c.args.out.now) (g.K.Sink.state c.run_compiled.new.out) c.run_compiled.result in
-    OfLines c.requires.wants q.schema q.statement job.beats (record { passes = ready.passes; meets = ready.compiled.meets }) (subst of_start c.start.ensures c.run_compiled.ensures)
+    OfResult c.requires.wants q.schema q.statement job.beats (record { passes = ready.passes; meets = ready.compiled.meets }) (subst of_start c.start.ensures c.run_compiled.ensures)
