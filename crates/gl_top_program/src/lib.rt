@@ -52,7 +52,15 @@ fn ended(rt: HostRuntime) -> Result<ExitCode, Memory>
         notes,
         text: Vec::new(alloc),
     };
-    Ok(run_over(alloc, &words, &mut desk))
+    let code = run_over(alloc, &words, &mut desk);
+    // A desk is taken apart, and its parts are let go.
+    let Desk {
+        shelf: _shelf,
+        out: _out,
+        notes: _notes,
+        text: _text,
+    } = desk;
+    Ok(code)
 }
 
 /// The whole program. The process ends with the number of a status: of which one `run_over` says.
