@@ -17,6 +17,7 @@ mod registers;
 
 use crate::netlist::Netlist;
 use crate::node::{Bus, Node, Port};
+use crate::note::{Note, Noted};
 use gl_bits::{Listed, Memory};
 use std::alloc::Global;
 use std::marker::Model;
@@ -27,6 +28,7 @@ pub struct NetBuilder {
     alloc: Global,
     nodes: Vec<Node>,
     ports: Vec<Port>,
+    notes: Vec<Noted>,
     name: Option<Listed<u8>>,
 }
 
@@ -55,6 +57,7 @@ impl NetBuilder {
             alloc,
             nodes: Vec::new(alloc),
             ports: Vec::new(alloc),
+            notes: Vec::new(alloc),
             name: None,
         }
     }
@@ -64,6 +67,17 @@ impl NetBuilder {
         ensures { result ≡ length self.now.nodes }
     {
         self.nodes.len()
+    }
+
+    /// Keeps a note about nodes for readers, and changes nothing of the netlist.
+    pub fn note(&mut self, note: Note) -> Result<(), Memory>
+        ensures { self.new ≡ self.old }
+    {
+        let at = self.nodes.len();
+        match self.notes.push(Noted { at, note }) {
+            Ok(()) => Ok(()),
+            Err(_) => Err(Memory),
+        }
     }
 
     /// Whether some register has a reset value, so that the module needs an input `rst`.
@@ -85,10 +99,16 @@ impl NetBuilder {
             alloc: _,
             nodes,
             ports,
+            notes,
             name,
         } = self;
         match name {
-            Some(name) => Netlist { nodes, ports, name },
+            Some(name) => Netlist {
+                nodes,
+                ports,
+                notes,
+                name,
+            },
             None => unreachable!(),
         }
     }

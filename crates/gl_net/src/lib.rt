@@ -10,8 +10,10 @@ pub mod counting;
 pub mod laws;
 pub mod netlist;
 pub mod node;
+pub mod note;
 
 pub use builder::NetBuilder;
 pub use counting::{Cost, cost_of};
 pub use netlist::Netlist;
 pub use node::{BinaryOp, Bit, Bus, Buses, Direction, MemoryDrive, Node, Port, Store};
+pub use note::{Note, Noted};

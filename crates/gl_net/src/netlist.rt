@@ -3,6 +3,7 @@
 ghost use Rattle.std.specs.Prelude.{◌≡◌, Some};
 
 use crate::node::{Node, Port};
+use crate::note::Noted;
 use gl_bits::Listed;
 use std::marker::Model;
 
@@ -11,6 +12,7 @@ use std::marker::Model;
 pub struct Netlist {
     pub(crate) nodes: Vec<Node>,
     pub(crate) ports: Vec<Port>,
+    pub(crate) notes: Vec<Noted>,
     pub(crate) name: Listed<u8>,
 }
 
@@ -43,6 +45,13 @@ impl Netlist {
         ensures netlist { IsNetlist self.now }
     {
         self.ports.as_slice()
+    }
+
+    /// What was told of nodes, in the order of the calls.
+    pub fn notes(&self) -> &[Noted]
+        ensures { IsNetlist self.now }
+    {
+        self.notes.as_slice()
     }
 
     /// The module's name.

@@ -4,8 +4,10 @@
 //! `gl_verilog`, what a netlist means in `gl_net`; no query and no file is known here.
 #![tactic(auto)]
 
+pub mod label;
 pub mod nodes;
 pub mod pieces;
 pub mod text;
 
+pub use label::{Label, Labels};
 pub use text::write_module;
