@@ -36,8 +36,9 @@ mode_of text at standing_is.Between = tokens.Between
 mode_of text at (standing_is.InWord from) = tokens.InWord (piece text from at)
 mode_of text at (standing_is.InNumber from) = tokens.InNumber (piece text from at)
 mode_of text at (standing_is.AtQuote size quote) = tokens.AtQuote size.bytes.now
-mode_of text at (standing_is.AtBase size quote base radix from) = tokens.AtBase size.bytes.now base radix
-mode_of text at (standing_is.InDigits size radix from) = tokens.InDigits size.bytes.now radix (piece text from at)
+mode_of text at (standing_is.AtBase base) = tokens.AtBase base.size.bytes.now base.letter base.radix
+mode_of text at (standing_is.InDigits literal) =
+    tokens.InDigits literal.size.bytes.now literal.radix (piece text literal.from at)
 mode_of text at (standing_is.Half b from) = tokens.Half b
 mode_of text at standing_is.InLine = tokens.InLine
 mode_of text at (standing_is.InBlock from) = tokens.InBlock
@@ -47,6 +48,6 @@ mode_of text at (standing_is.AtStar from) = tokens.AtStar
 abbrev pub IsInside : List ℕ → ℕ → Standing → Type 0
 IsInside text at (standing_is.InWord from) = from ≤ at
 IsInside text at (standing_is.InNumber from) = from ≤ at
-IsInside text at (standing_is.AtBase size quote base radix from) = (from ≤ at) × (piece text from at ≡ base ∷ [])
-IsInside text at (standing_is.InDigits size radix from) = from ≤ at
+IsInside text at (standing_is.AtBase base) = (base.from ≤ at) × (piece text base.from at ≡ base.letter ∷ [])
+IsInside text at (standing_is.InDigits literal) = literal.from ≤ at
 IsInside text at s = Unit {0}

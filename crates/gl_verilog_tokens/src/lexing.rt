@@ -10,7 +10,7 @@ use crate::classes::{
     Class, Follow, class_of, follow_of, goes_on, is_digit_of, radix_of, sign_token,
 };
 use crate::pieces::{number_token, put, put_quoted, sized_token, word_at, word_token};
-use crate::standing::Standing;
+use crate::standing::{Base, Literal, Standing};
 use crate::{Lexeme, Token, Word};
 use std::alloc::{AllocError, Global};
 
@@ -130,13 +130,13 @@ fn at_quote<'a>(
         ∷ quote ∷ []) (places_in out.new.items ++ opened s)) }
 {
     match radix_of(b) {
-        Some(radix) => Ok(Standing::AtBase {
+        Some(radix) => Ok(Standing::AtBase(Base {
             size,
             quote,
-            base: b,
+            letter: b,
             radix,
             from: at,
-        }),
+        })),
         None => {
             put_quoted(size, quote, out)?;
             begin(text, at, b, out)
@@ -144,73 +144,70 @@ fn at_quote<'a>(
     }
 }
 
-// A byte behind a base letter, which stands at `from`.
+// A byte behind a base letter.
 #[tactic(auto, using(crate::proofs::LexSteps::steps, crate::proofs::Places::fronts))]
 fn at_base<'a>(
     text: &'a [u8],
-    size: Word<'a>,
-    quote: usize,
-    base: u8,
-    radix: u8,
-    from: usize,
+    base: Base<'a>,
     at: usize,
     b: u8,
     out: &mut Vec<Lexeme<'a>>,
 ) -> Result<Standing<'a>, AllocError>
-    requires order { from ≤ at }
-    requires letter { piece text.now from at ≡ base ∷ [] }
+    requires order { base.from ≤ at }
+    requires letter { piece text.now base.from at ≡ base.letter ∷ [] }
     requires here { at < length text.now }
     requires byte { b ≡ slice_index text.now at }
     ensures inside { IfOk result (λ s. IsInside text.now (at + 1) s) }
-    ensures mode { IfOk result (λ s. mode_of text.now (at + 1) s
-        ≡ (tokens.at_base (tokens.is_digit_of radix b) (name_of size.entry) base radix b).mode) }
-    ensures tokens { OnOk result (tokens_in out.new.items ≡ tokens_in out.old.items
-        ++ (tokens.at_base (tokens.is_digit_of radix b) (name_of size.entry) base radix b).tokens) }
-    ensures places { IfOk result (λ s. IsNext at (places_in out.old.items ++ size.entry.at
-        ∷ quote ∷ from ∷ []) (places_in out.new.items ++ opened s)) }
+    ensures mode { let next = tokens.at_base (tokens.is_digit_of base.entry.radix b)
+        (name_of base.entry.size) base.entry.letter base.entry.radix b in
+        IfOk result (λ s. mode_of text.now (at + 1) s ≡ next.mode) }
+    ensures tokens { let next = tokens.at_base (tokens.is_digit_of base.entry.radix b)
+        (name_of base.entry.size) base.entry.letter base.entry.radix b in
+        OnOk result (tokens_in out.new.items ≡ tokens_in out.old.items ++ next.tokens) }
+    ensures places { IfOk result (λ s. IsNext at (places_in out.old.items ++ base.entry.size.at
+        ∷ base.entry.quote ∷ base.entry.from ∷ []) (places_in out.new.items ++ opened s)) }
 {
-    if is_digit_of(radix, b) {
-        return Ok(Standing::InDigits {
-            size,
-            radix,
+    if is_digit_of(base.radix, b) {
+        return Ok(Standing::InDigits(Literal {
+            size: base.size,
+            radix: base.radix,
             from: at,
-        });
+        }));
     }
-    put_quoted(size, quote, out)?;
-    in_word(text, from, at, b, out)
+    put_quoted(base.size, base.quote, out)?;
+    in_word(text, base.from, at, b, out)
 }
 
 // A byte behind a literal's digits.
 #[tactic(auto, using(crate::proofs::LexSteps::steps, crate::proofs::Places::fronts))]
 fn in_digits<'a>(
     text: &'a [u8],
-    size: Word<'a>,
-    radix: u8,
-    from: usize,
+    literal: Literal<'a>,
     at: usize,
     b: u8,
     out: &mut Vec<Lexeme<'a>>,
 ) -> Result<Standing<'a>, AllocError>
-    requires order { from ≤ at }
+    requires order { literal.from ≤ at }
     requires here { at < length text.now }
     requires byte { b ≡ slice_index text.now at }
     ensures inside { IfOk result (λ s. IsInside text.now (at + 1) s) }
-    ensures mode { IfOk result (λ s. mode_of text.now (at + 1) s
-        ≡ (tokens.in_digits (tokens.goes_on radix b) (name_of size.entry) radix
-        (piece text.now from at) b).mode) }
-    ensures tokens { OnOk result (tokens_in out.new.items ≡ tokens_in out.old.items
-        ++ (tokens.in_digits (tokens.goes_on radix b) (name_of size.entry) radix
-        (piece text.now from at) b).tokens) }
-    ensures places { IfOk result (λ s. IsNext at (places_in out.old.items ++ size.entry.at ∷ [])
-        (places_in out.new.items ++ opened s)) }
+    ensures mode { let next = tokens.in_digits (tokens.goes_on literal.entry.radix b)
+        (name_of literal.entry.size) literal.entry.radix (piece text.now literal.entry.from at) b in
+        IfOk result (λ s. mode_of text.now (at + 1) s ≡ next.mode) }
+    ensures tokens { let next = tokens.in_digits (tokens.goes_on literal.entry.radix b)
+        (name_of literal.entry.size) literal.entry.radix (piece text.now literal.entry.from at) b in
+        OnOk result (tokens_in out.new.items ≡ tokens_in out.old.items ++ next.tokens) }
+    ensures places { IfOk result (λ s. IsNext at (places_in out.old.items
+        ++ literal.entry.size.at ∷ []) (places_in out.new.items ++ opened s)) }
 {
-    if goes_on(radix, b) {
-        return Ok(Standing::InDigits { size, radix, from });
+    if goes_on(literal.radix, b) {
+        return Ok(Standing::InDigits(literal));
     }
+    let digits = word_at(text, literal.from, at);
     put(
         out,
-        sized_token(size, radix, word_at(text, from, at)),
-        size.at,
+        sized_token(literal.size, literal.radix, digits),
+        literal.size.at,
     )?;
     begin(text, at, b, out)
 }
@@ -274,14 +271,8 @@ fn advance<'a>(
         Standing::InWord(from) => in_word(text, from, at, b, out),
         Standing::InNumber(from) => in_number(text, from, at, b, out),
         Standing::AtQuote { size, quote } => at_quote(text, size, quote, at, b, out),
-        Standing::AtBase {
-            size,
-            quote,
-            base,
-            radix,
-            from,
-        } => at_base(text, size, quote, base, radix, from, at, b, out),
-        Standing::InDigits { size, radix, from } => in_digits(text, size, radix, from, at, b, out),
+        Standing::AtBase(base) => at_base(text, base, at, b, out),
+        Standing::InDigits(literal) => in_digits(text, literal, at, b, out),
         Standing::Half { first, from } => after_half(text, first, from, at, b, out),
         Standing::InLine => Ok(if b == b'\n' {
             Standing::Between
@@ -320,20 +311,16 @@ fn end<'a>(
         Standing::InWord(from) => put(out, word_token(word_at(text, from, at)), from),
         Standing::InNumber(from) => put(out, number_token(word_at(text, from, at)), from),
         Standing::AtQuote { size, quote } => put_quoted(size, quote, out),
-        Standing::AtBase {
-            size,
-            quote,
-            from,
-            ..
-        } => {
-            put_quoted(size, quote, out)?;
-            put(out, word_token(word_at(text, from, at)), from)
+        Standing::AtBase(base) => {
+            put_quoted(base.size, base.quote, out)?;
+            put(out, word_token(word_at(text, base.from, at)), base.from)
         }
-        Standing::InDigits { size, radix, from } => {
+        Standing::InDigits(literal) => {
+            let digits = word_at(text, literal.from, at);
             put(
                 out,
-                sized_token(size, radix, word_at(text, from, at)),
-                size.at,
+                sized_token(literal.size, literal.radix, digits),
+                literal.size.at,
             )
         }
         Standing::Half { first, from } => put(out, sign_token(first), from),
