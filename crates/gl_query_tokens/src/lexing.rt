@@ -43,8 +43,8 @@ pub enum Standing {
     Between,
     /// A word that begins at a place.
     InWord(usize),
-    /// A text literal: the place of its quote and that of its first byte.
-    InText(usize, usize),
+    /// A text literal, whose quote stands at a place.
+    InText(usize),
     /// The first byte of a sign or a comment: its place and the byte.
     AfterHalf(usize, u8),
     /// A comment, up to the end of its line.
@@ -155,7 +155,7 @@ fn begin(text: &[u8], at: usize, b: u8, out: &mut Vec<Lexeme>) -> Result<Standin
     match class_of(b) {
         Class::Letter => Ok(Standing::InWord(at)),
         Class::Blank => Ok(Standing::Between),
-        Class::Quote => Ok(Standing::InText(at, at + 1)),
+        Class::Quote => Ok(Standing::InText(at)),
         Class::Half => Ok(Standing::AfterHalf(at, b)),
         Class::Alone => {
             put(out, sign_token(b, at as u64), at)?;
@@ -198,27 +198,26 @@ fn go_on_text(
     alloc: Global,
     text: &[u8],
     quote: usize,
-    from: usize,
     at: usize,
     b: u8,
     out: &mut Vec<Lexeme>,
 ) -> Result<Standing, AllocError>
-    requires order { from ≤ at }
+    requires order { quote < at }
     requires here { at < length text.now }
     requires byte { b ≡ slice_index text.now at }
     ensures inside { IfOk result (λ s. IsInside (at + 1) s) }
     ensures mode { IfOk result (λ s. mode_of text.now (at + 1) s
-        ≡ (move (InText quote (part text.now from at)) at b).mode) }
+        ≡ (move (InText quote (part text.now (quote + 1) at)) at b).mode) }
     ensures tokens { OnOk result (out.new.items ≡ out.old.items
-        ++ (move (InText quote (part text.now from at)) at b).tokens) }
+        ++ (move (InText quote (part text.now (quote + 1) at)) at b).tokens) }
 {
     if b == b'\'' {
-        let token = text_token(alloc, &text[from..at], quote as u64)?;
+        let token = text_token(alloc, &text[quote + 1..at], quote as u64)?;
         put(out, token, quote)?;
         return Ok(Standing::Between);
     }
     if b' ' <= b && b <= b'~' {
-        return Ok(Standing::InText(quote, from));
+        return Ok(Standing::InText(quote));
     }
     put(out, Token::Stray, quote)?;
     Ok(Standing::Between)
@@ -284,7 +283,7 @@ fn advance(
     match standing {
         Standing::Between => begin(text, at, b, out),
         Standing::InWord(from) => go_on(alloc, text, from, at, b, out),
-        Standing::InText(quote, from) => go_on_text(alloc, text, quote, from, at, b, out),
+        Standing::InText(quote) => go_on_text(alloc, text, quote, at, b, out),
         Standing::AfterHalf(from, first) => go_on_half(text, from, first, at, b, out),
         Standing::InComment => Ok(if b == b'\n' {
             Standing::Between
@@ -308,7 +307,7 @@ fn complete(
     match standing {
         Standing::Between | Standing::InComment => Ok(()),
         Standing::InWord(from) => put_word(alloc, text, from, text.len(), out),
-        Standing::InText(quote, _) => put(out, Token::Stray, quote),
+        Standing::InText(quote) => put(out, Token::Stray, quote),
         Standing::AfterHalf(from, first) => put(out, sign_token(first, from as u64), from),
     }
 }
