@@ -47,26 +47,33 @@ fn completed<T>(size: usize, advance: usize, rows: &[T]) -> Option<&[T]>
     }
 }
 
-// Adds the window that the last of the rows seen completes, if it does.
-fn push_full(
-    alloc: Global,
-    out: &mut Listed<Group>,
+// The windows of `size` rows of a key, one from each `advance`-th one on, for the first `most` keys
+// in a column.
+#[derive(Clone, Copy)]
+struct Windows {
     most: usize,
     column: usize,
     size: usize,
     advance: usize,
+}
+
+// Adds the window that the last of the rows seen completes, if it does.
+fn push_full(
+    alloc: Global,
+    out: &mut Listed<Group>,
+    windows: Windows,
     seen: &[Listed<u128>],
     key: u128,
 ) -> Result<(), Memory>
-    requires { 1 ≤ advance }
-    ensures { OnOk result (out.new ≡ out.old
-        ++ table_windows most column size advance seen.now key) }
+    requires { 1 ≤ windows.advance }
+    ensures { let w = windows in OnOk result (out.new ≡ out.old
+        ++ table_windows w.most w.column w.size w.advance seen.now key) }
 {
-    if !has_key(alloc, most, column, seen, key)? {
+    if !has_key(alloc, windows.most, windows.column, seen, key)? {
         return Ok(());
     }
-    let own = rows_with_key(alloc, column, seen, key)?;
-    match completed(size, advance, own.as_slice()) {
+    let own = rows_with_key(alloc, windows.column, seen, key)?;
+    match completed(windows.size, windows.advance, own.as_slice()) {
         Some(window) => {
             let rows = copy_of_table(alloc, window)?;
             out.push(Group { key, rows })
@@ -76,30 +83,15 @@ fn push_full(
 }
 
 // The windows that rows complete, in the order of these rows.
-fn fulls_of(
-    alloc: Global,
-    most: usize,
-    column: usize,
-    size: usize,
-    advance: usize,
-    rows: &[Listed<u128>],
-) -> Result<Listed<Group>, Memory>
-    requires { 1 ≤ advance }
-    ensures { IfOk result (λ v. v ≡ table_fulls most column size advance rows.now) }
+fn fulls_of(alloc: Global, windows: Windows, rows: &[Listed<u128>]) -> Result<Listed<Group>, Memory>
+    requires { 1 ≤ windows.advance }
+    ensures { let w = windows in
+        IfOk result (λ v. v ≡ table_fulls w.most w.column w.size w.advance rows.now) }
 {
     let mut out = Listed::new(alloc);
     for (i, row) in rows.iter().enumerate() {
-        let key = number_at(row.as_slice(), column);
-        push_full(
-            alloc,
-            &mut out,
-            most,
-            column,
-            size,
-            advance,
-            &rows[..i + 1],
-            key,
-        )?;
+        let key = number_at(row.as_slice(), windows.column);
+        push_full(alloc, &mut out, windows, &rows[..i + 1], key)?;
     }
     Ok(out)
 }
@@ -176,7 +168,13 @@ pub fn partitions_of(
     }
     let size = size as usize;
     let advance = advance as usize;
-    let mut out = fulls_of(alloc, most, column, size, advance, rows)?;
+    let windows = Windows {
+        most,
+        column,
+        size,
+        advance,
+    };
+    let mut out = fulls_of(alloc, windows, rows)?;
     let groups = groups_of(alloc, most, column, rows)?;
     push_all_shorts(alloc, &mut out, size, advance, groups.as_slice())?;
     Ok(out)
