@@ -51,32 +51,40 @@ fn is_silent(sample: Sample, told: bool) -> bool
     !(sample.valid || sample.end || (sample.group && !told))
 }
 
+// What a result shows in a cycle.
+#[derive(Drop)]
+struct Shown<'r> {
+    sample: Sample,
+    row: &'r Row,
+}
+
 // Writes the lines of the cycles from one time to another that all show this.
 fn put_cycles<K: Sink>(
     out: &mut K,
     kinds: &[Kind],
-    row: &Row,
-    sample: Sample,
+    shown: Shown<'_>,
     from: u64,
     to: u64,
     told: &mut bool,
 ) -> Result<(), WriteFault>
     requires many { length kinds.now ≤ 32 }
     requires kinds { AllByRecursion IsKind kinds.now }
-    requires widths { widths_of row.now ≡ map width_of kinds.now }
+    requires widths { widths_of shown.row.now ≡ map width_of kinds.now }
     requires order { from ≤ to }
-    ensures wrote { let all = cycles_of sample (bits_of row.now) from (to - from) in
+    ensures wrote { let row = bits_of shown.entry.row.now in
+        let all = cycles_of shown.entry.sample row from (to - from) in
         Wrote (K.state out.old) (K.state out.new) (lines_after told.old kinds.now all) result }
-    ensures told { let all = cycles_of sample (bits_of row.now) from (to - from) in
+    ensures told { let row = bits_of shown.entry.row.now in
+        let all = cycles_of shown.entry.sample row from (to - from) in
         OnOk result (told.new ≡ told_after told.old all) }
 {
     for cycle in from..to {
         // Where a cycle shows nothing, those behind it show nothing either.
-        if is_silent(sample, *told) {
+        if is_silent(shown.sample, *told) {
             return Ok(());
         }
-        put_cycle(out, cycle, kinds, row, *told, sample)?;
-        *told |= sample.group;
+        put_cycle(out, cycle, kinds, shown.row, *told, shown.sample)?;
+        *told |= shown.sample.group;
     }
     Ok(())
 }
@@ -131,6 +139,10 @@ impl<'s, 'a> Showing<'s, 'a> {
         };
         fill(&mut self.row, self.columns.numbers.as_slice(), values);
         let kinds = self.columns.kinds.as_slice();
-        put_cycles(out, kinds, &self.row, sample, from, to, &mut self.told)
+        let shown = Shown {
+            sample,
+            row: &self.row,
+        };
+        put_cycles(out, kinds, shown, from, to, &mut self.told)
     }
 }
