@@ -132,37 +132,43 @@ fn weight_of_children(plan: &Plan, weights: &[u64], number: usize, node: &PlanNo
     }
 }
 
-// The own part of windows that have so many copies of this body over this source, as the node of this number, which has so many
-// lines.
+// Windows that have so many copies of this body over this source.
+#[derive(Drop)]
+struct Windows {
+    source: PlanId,
+    body: PlanId,
+    copies: u32,
+}
+
+// The own part of windows, as the node of this number, which has so many lines.
 fn weight_of_windows(
     plan: &Plan,
     figures: &[Figures],
     weights: &[u64],
     number: usize,
     own: u128,
-    source: PlanId,
-    body: PlanId,
-    copies: u32,
+    windows: Windows,
 ) -> u128
     requires within { number < length plan.now }
-    requires source { source < number }
-    requires body { body < number }
+    requires source { windows.source < number }
+    requires body { windows.body < number }
     requires figured { HasFigures plan.now figures.now number }
     requires known { HasValues (weight_of plan.now) weights.now number }
     requires own { own < 2 ^ 65 }
-    ensures value { result
-        ≡ weight_of_copies copies (capped (weight_of plan.now body)) (lines_of (shape_of plan.now source)) own
-        + 4 * (figures_of plan.now body).a
-        + weight_of_spacer (window_gap (figures_of plan.now body)) (figures_of plan.now source)
-        (lines_of (shape_of plan.now source)) }
+    ensures value { let inside = figures_of plan.now windows.body in
+        let lines = lines_of (shape_of plan.now windows.source) in
+        result
+        ≡ weight_of_copies windows.copies (capped (weight_of plan.now windows.body)) lines own
+        + 4 * inside.a
+        + weight_of_spacer (window_gap inside) (figures_of plan.now windows.source) lines }
     ensures below { result < 2 ^ 113 }
 {
-    let inside = figures_at(plan, figures, number, body);
-    let around = figures_at(plan, figures, number, source);
-    let lines = lines_of(plan, source);
+    let inside = figures_at(plan, figures, number, windows.body);
+    let around = figures_at(plan, figures, number, windows.source);
+    let lines = lines_of(plan, windows.source);
     let spacer = weight_of_spacer(inside.gt.max(inside.ge), &around, lines);
-    let weight = weight_at(plan, weights, number, body);
-    weight_of_copies(copies, weight, lines, own) + 4 * inside.a as u128 + spacer
+    let weight = weight_at(plan, weights, number, windows.body);
+    weight_of_copies(windows.copies, weight, lines, own) + 4 * inside.a as u128 + spacer
 }
 
 // The own part of the node of this number, which has so many lines.
@@ -212,8 +218,12 @@ fn own_weight(
             size,
             advance,
         } => {
-            let copies = copies_of_window(*size, *advance);
-            weight_of_windows(plan, figures, weights, number, own, *source, *body, copies)
+            let windows = Windows {
+                source: *source,
+                body: *body,
+                copies: copies_of_window(*size, *advance),
+            };
+            weight_of_windows(plan, figures, weights, number, own, windows)
         }
         PlanNode::TimeWindow {
             source,
@@ -221,8 +231,12 @@ fn own_weight(
             size,
             advance,
         } => {
-            let copies = copies_of_time(*size, *advance);
-            weight_of_windows(plan, figures, weights, number, own, *source, *body, copies)
+            let windows = Windows {
+                source: *source,
+                body: *body,
+                copies: copies_of_time(*size, *advance),
+            };
+            weight_of_windows(plan, figures, weights, number, own, windows)
         }
         PlanNode::Group {
             source,
