@@ -7,13 +7,13 @@ use Rattle.gl_algebra.specs.declared.node.PlanNode.{PlanNode}
 use Rattle.gl_algebra.specs.declared.node.PlanNode.TheVariants.{Stream, Body, Compute, Select, Project, Aggregate, Union, Beside, Window, TimeWindow, Group, Partition}
 use Rattle.gl_algebra.specs.FigureTable.{figures_of}
 use Rattle.gl_algebra.specs.Fits.{IsPlan, Suits}
+use Rattle.gl_algebra.specs.Laws.{NodesFollowTables}
 use Rattle.gl_algebra.specs.Nodewise.{named_by}
 use Rattle.gl_algebra.specs.Views.{copies_of_partition, copies_of_time, copies_of_window}
 use Rattle.gl_algebra.specs.Shapes.{Shape, shape_of}
 use Rattle.gl_algebra.specs.Weights.{sum_over_children, own_weight, weight_from, weight_of, copies_from, copies_of, lines_of}
 use Rattle.gl_algebra.proofs.FigureLemmas.{one_copy, some_copies, one_in_time}
 use Rattle.gl_algebra.proofs.PlanLemmas.{by_nodes}
-use Rattle.gl_algebra.proofs.TableLemmas.{nodes_follow_tables}
 use Rattle.gl_figures.specs.Answered.{capped}
 use Rattle.gl_figures.specs.Known.{capped_at}
 
@@ -153,11 +153,12 @@ row_light s f v w (Partition source body key groups size advance) light =
     omega arith
 
 -- a node has no more copies than it weighs
-pub copies_light : (nodes : List PlanNode) (number : ℕ) → IsPlan nodes → number < length nodes → copies_of nodes number ≤ weight_of nodes number
-copies_light nodes number plan within =
+pub copies_light : NodesFollowTables → (nodes : List PlanNode) (number : ℕ) → IsPlan nodes → number < length nodes
+    → copies_of nodes number ≤ weight_of nodes number
+copies_light follow nodes number plan within =
     by_nodes nodes plan (λ n. copies_of nodes n ≤ weight_of nodes n)
     (λ n node is fits before.
-    let follows = nodes_follow_tables nodes n node plan is in
+    let follows = follow nodes n node plan is in
     rw (follows.copies, follows.weight)
     (row_light (shape_of nodes) (figures_of nodes) (copies_of nodes) (weight_of nodes) node (λ k d h. before _ (fits.before k d h))))
     number within

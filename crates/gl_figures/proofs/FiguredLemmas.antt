@@ -10,11 +10,11 @@ use Rattle.gl_algebra.specs.declared.figures.Figures.{Figures}
 use Rattle.gl_algebra.specs.declared.node.PlanNode.{PlanNode}
 use Rattle.gl_algebra.specs.FigureTable.{input_figures, figures_from, figures_of}
 use Rattle.gl_algebra.specs.Fits.{IsPlan}
+use Rattle.gl_algebra.specs.Laws.{NodesFollowTables}
 use Rattle.gl_algebra.specs.Nodewise.{named_by}
 use Rattle.gl_algebra.specs.Shapes.{shape_of}
 use Rattle.gl_algebra.specs.Small.{are_small, small_of}
 use Rattle.gl_algebra.proofs.SmallLemmas.{small-is, small-not}
-use Rattle.gl_algebra.proofs.TableLemmas.{nodes_follow_tables}
 use Rattle.gl_figures.specs.Answered.{AreSmallBefore, IsLate}
 use Rattle.gl_figures.specs.declared.Limit.TheVariants.{Latency}
 use Rattle.gl_figures.specs.Known.{HasFigures}
@@ -30,13 +30,15 @@ pub record IsFigured (nodes : List PlanNode) (old new : List Figures) (number : 
   pub small : AreSmallBefore nodes number
   pub behind : (k : ℕ) → number ≤ k → slice_get new k ≡ slice_get old k
 
-module _ (nodes : List PlanNode) (number : ℕ) (node : PlanNode) (plan : IsPlan nodes) (is : slice_get nodes number ≡ Some node) where
-  pub names_before : AllByRecursion (λ child. child < number) (named_by node)
-  names_before = recursion_from_All (λ child. child < number) (named_by node) (plan.fits number node is).before
+pub names_before : (nodes : List PlanNode) (number : ℕ) (node : PlanNode) → IsPlan nodes → slice_get nodes number ≡ Some node
+    → AllByRecursion (λ child. child < number) (named_by node)
+names_before nodes number node plan is = recursion_from_All (λ child. child < number) (named_by node) (plan.fits number node is).before
 
+module _ (follow : NodesFollowTables) (nodes : List PlanNode) (number : ℕ) (node : PlanNode) (plan : IsPlan nodes)
+    (is : slice_get nodes number ≡ Some node) where
   -- the node's own figures
   pub own_figures : figures_of nodes number ≡ figures_from (shape_of nodes) (figures_of nodes) node
-  own_figures = (nodes_follow_tables nodes number node plan is).figures
+  own_figures = (follow nodes number node plan is).figures
 
   pub figured_next : (old new : List Figures) (own : Figures) → IsFigured nodes old new number → number < length new
       → small_of (figures_from (shape_of nodes) (figures_of nodes) node) ≡ Some own → IsFigured nodes old (set new number own) (number + 1)

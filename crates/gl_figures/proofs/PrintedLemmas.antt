@@ -9,6 +9,7 @@ use Rattle.gl_algebra.specs.declared.node.PlanNode.{PlanNode}
 use Rattle.gl_algebra.specs.declared.node.PlanNode.TheVariants.{Stream, Body, Compute, Select, Project, Aggregate, Union, Beside, Window, TimeWindow, Group, Partition}
 use Rattle.gl_algebra.specs.FigureTable.{AreSmall, figures_of, stride_of}
 use Rattle.gl_algebra.specs.Fits.{IsPlan}
+use Rattle.gl_algebra.specs.Laws.{NodesFollowTables}
 use Rattle.gl_algebra.specs.Nodewise.{value_at_node}
 use Rattle.gl_algebra.specs.Roots.{figures_with, part_of_copy, root_figures, spare_at}
 use Rattle.gl_algebra.specs.Shapes.{shape_of}
@@ -47,15 +48,15 @@ none_inside nodes root node at not = sym (inside_there nodes root node at ∙ by
     by (Partition source body key groups size advance) not = refl
 
 -- without spare copies
-pub printed_alone : (nodes : List PlanNode) (root : ℕ) (own : Figures) (copies : ℕ) → IsPlan nodes → root < length nodes → own ≡ figures_of nodes root
+pub printed_alone : NodesFollowTables → (nodes : List PlanNode) (root : ℕ) (own : Figures) (copies : ℕ) → IsPlan nodes → root < length nodes → own ≡ figures_of nodes root
     → copies ≡ capped (copies_of nodes root) → weight_alone nodes root ≤ most_weight → spare_at nodes root ≡ None
     → IsPrinted nodes root (record { latency = own.le + 1; gap = own.gt; copies = copies })
-printed_alone nodes root own copies plan within figured copied light h =
+printed_alone follow nodes root own copies plan within figured copied light h =
     let here = get_there nodes root within in
     let same : root_figures nodes root ≡ figures_of nodes root = figures_there nodes root here.0 None here.1 h in
     let no_copies = none_further (λ node. 1 + of_body (copies_of nodes) node) nodes root within h in
     let no_weight = none_further (part_of_copy (shape_of nodes) (weight_of nodes) (lines_of (shape_of nodes root))) nodes root within h in
-    let fewer = copies_light nodes root plan within in
+    let fewer = copies_light follow nodes root plan within in
     record {
       latency = ap (λ (f : Figures). f.le + 1) (figured ∙ sym same);
       gap = ap (λ (f : Figures). f.gt) (figured ∙ sym same);
@@ -90,18 +91,18 @@ module _ (nodes : List PlanNode) (root : ℕ) {source body size advance : ℕ} (
       let late = ap (λ (y : Spare). y.shift) x.0 in
       omega (arith, late, x.1.soon)
 
-  pub printed_with : (last copies inside : ℕ) → last ≡ f.le + s.le + it.shift + (turns - 1) * stride_of s + 3 → copies ≡ capped (copies_of nodes root)
+  pub printed_with : NodesFollowTables → (last copies inside : ℕ) → last ≡ f.le + s.le + it.shift + (turns - 1) * stride_of s + 3 → copies ≡ capped (copies_of nodes root)
       → inside ≡ copies_inside nodes root
       → IsPrinted nodes root (record { latency = capped (last + 1); gap = it.gap; copies = capped (copies + (it.copies - turns) * (1 + inside)) })
-  printed_with last copies inside ended copied within =
+  printed_with follow last copies inside ended copied within =
       let figures : root_figures nodes root ≡ spare_over turns it.gap it.shift f s = figures_there nodes root (Window source body size advance) (Some it) at h in
       let le = ap (λ (y : Figures). y.le) figures in
       let part = part_of_copy (shape_of nodes) (weight_of nodes) (lines_of (shape_of nodes root)) in
       let weight = further_there part nodes root (Window source body size advance) (Some it) at h in
       let more = further_there (λ node. 1 + of_body (copies_of nodes) node) nodes root (Window source body size advance) (Some it) at h in
       let inside_is : inside ≡ capped (copies_of nodes body) = within ∙ inside_there nodes root (Window source body size advance) at in
-      let fewer = copies_light nodes root plan (slice_get_within nodes root _ at) in
-      let fewer_inside = copies_light nodes body plan (body_within nodes root plan at) in
+      let fewer = copies_light follow nodes root plan (slice_get_within nodes root _ at) in
+      let fewer_inside = copies_light follow nodes body plan (body_within nodes root plan at) in
       let each : (it.copies - turns) * (1 + copies_of nodes body) ≤ (it.copies - turns) * part (Window source body size advance) =
       mul-le-mul_left (it.copies - turns) (omega (arith, fewer_inside)) in
       let light = is.light in

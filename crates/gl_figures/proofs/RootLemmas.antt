@@ -12,12 +12,11 @@ use Rattle.gl_algebra.specs.declared.node.PlanNode.{PlanNode}
 use Rattle.gl_algebra.specs.declared.node.PlanNode.TheVariants.{Stream, Body, Compute, Select, Project, Aggregate, Union, Beside, Window, TimeWindow, Group, Partition}
 use Rattle.gl_algebra.specs.FigureTable.{IsSound, figures_of}
 use Rattle.gl_algebra.specs.Fits.{IsPlan, IsWithin}
+use Rattle.gl_algebra.specs.Laws.{FiguresAreSound, NodesFollowTables}
 use Rattle.gl_algebra.specs.Nodewise.{value_at_node}
 use Rattle.gl_algebra.specs.Roots.{RootsComeCloser, figures_with, further_copies, gap_of, of_further, output_part, part_of_copy, root_figures, spare_at, spare_in, weight_with_further, weight_with_output, where_light}
 use Rattle.gl_algebra.specs.Shapes.{shape_of}
 use Rattle.gl_algebra.specs.Weights.{lines_of, weight_of}
-use Rattle.gl_algebra.proofs.FigureLemmas.{figures_are_sound}
-use Rattle.gl_algebra.proofs.TableLemmas.{nodes_follow_tables}
 use Rattle.gl_figures.specs.Answered.{capped, IsHeavy}
 use Rattle.gl_figures.specs.declared.Limit.TheVariants.{Nodes}
 use Rattle.gl_figures.specs.Known.{weight_alone}
@@ -145,11 +144,11 @@ module _ (nodes : List PlanNode) (root : ℕ) {source body size advance : ℕ} (
       let before = (plan.fits root (Window source body size advance) at).before 1 0 (lit< tt) in
       omega (arith, before, slice_get_within nodes root _ at)
 
-  pub source_sound : IsSound (figures_of nodes source)
-  source_sound = figures_are_sound nodes source plan source_within
+  pub source_sound : FiguresAreSound → IsSound (figures_of nodes source)
+  source_sound sound = sound nodes source plan source_within
 
-  pub body_sound : IsSound (figures_of nodes body)
-  body_sound = figures_are_sound nodes body plan body_within
+  pub body_sound : FiguresAreSound → IsSound (figures_of nodes body)
+  body_sound sound = sound nodes body plan body_within
 
   pub rows : IsWithin most_rows size
   rows = (plan.fits root (Window source body size advance) at).suits.1
@@ -166,12 +165,12 @@ module _ (nodes : List PlanNode) (root : ℕ) {source body size advance : ℕ} (
   pub step : IsWithin most_rows advance
   step = (plan.fits root (Window source body size advance) at).suits.2
 
-module _ (nodes : List PlanNode) (root : ℕ) (plan : IsPlan nodes) (within : root < length nodes) where
+module _ (follow : NodesFollowTables) (nodes : List PlanNode) (root : ℕ) (plan : IsPlan nodes) (within : root < length nodes) where
   closer : (node : PlanNode) (it : Spare) → slice_get nodes root ≡ Some node → spare_in (figures_of nodes) node ≡ Some it
       → (figures_with nodes root (Some it) node).gt < (figures_of nodes root).gt
   closer (Window source body size advance) it at h =
       let x = spare_is size advance (figures_of nodes source) (figures_of nodes body) it h in
-      let own = ap (λ (f : Figures). f.gt) (nodes_follow_tables nodes root (Window source body size advance) plan at).figures in
+      let own = ap (λ (f : Figures). f.gt) (follow nodes root (Window source body size advance) plan at).figures in
       let gap = ap (λ (s : Spare). s.gap) x.0 in
       omega (arith, x.1.closer, own, gap)
   closer (Stream number kinds) it at h = absurd (cc (h))
@@ -204,5 +203,6 @@ module _ (nodes : List PlanNode) (root : ℕ) (plan : IsPlan nodes) (within : ro
           omega (arith, f)
       by (Some it) h = let z = with_spare it h in omega (arith, z)
 
-pub roots_come_closer : RootsComeCloser
-roots_come_closer nodes root plan within = record { never_farther = never_farther nodes root plan within; with_spare = with_spare nodes root plan within }
+pub roots_come_closer : NodesFollowTables → RootsComeCloser
+roots_come_closer follow nodes root plan within =
+    record { never_farther = never_farther follow nodes root plan within; with_spare = with_spare follow nodes root plan within }

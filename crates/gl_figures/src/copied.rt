@@ -8,6 +8,7 @@ ghost use Rattle.gl_algebra.specs.Weights.{copies_from, copies_of};
 ghost use Rattle.gl_figures.specs.Answered.{capped};
 ghost use Rattle.gl_figures.specs.Known.{capped_at, HasValues};
 
+use gl_algebra::laws::nodes_follow_tables;
 use gl_algebra::table::{copies_of_partition, copies_of_time, copies_of_window};
 use gl_algebra::{Plan, PlanId, PlanNode};
 
@@ -34,6 +35,7 @@ pub(crate) fn count_copies(plan: &Plan, into: &mut [u64])
     requires { length into.old ≡ length plan.now }
     ensures { HasValues (copies_of plan.now) into.new (length plan.now) }
 {
+    nodes_follow_tables();
     for number in 0..plan.len() {
         into[number] = copies_over(plan, into, number, plan.node(plan.id(number)));
     }

@@ -10,6 +10,7 @@ ghost use Rattle.gl_figures.specs.Answered.{AreSmallBefore, IsLate};
 ghost use Rattle.gl_figures.specs.Known.{small_over, HasFigures};
 
 use crate::Limit;
+use gl_algebra::laws::nodes_follow_tables;
 use gl_algebra::table::{
     aggregate_figures, beside_figures, copies_of_partition, copies_of_time, copies_of_window,
     delay_of_aggs, group_figures, input_figures, partition_figures, picked_figures, row_figures,
@@ -33,6 +34,7 @@ pub fn figures(plan: &Plan, into: &mut [Figures]) -> Result<(), Limit>
     ensures small { OnOk result (AreSmallBefore plan.now (length plan.now)) }
     ensures err { IfErr result (λ limit. IsLate plan.now into.old into.new limit) }
 {
+    nodes_follow_tables();
     for number in 0..plan.len() {
         match figures_over(plan, into, number, plan.node(plan.id(number))) {
             Some(own) => into[number] = own,

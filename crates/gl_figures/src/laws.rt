@@ -4,6 +4,8 @@ ghost use Rattle.gl_algebra.specs.Roots.{RootsComeCloser};
 ghost use Rattle.gl_algebra.specs.Spares.{SparesSuffice};
 ghost use Rattle.gl_figures.specs.WorkedSpares.{WorkedSpares};
 
+use gl_algebra::laws::nodes_follow_tables;
+
 /// Spare copies are enough, no fewer are, and beats come closer than without them.
 pub fn spares_suffice()
     ensures { SparesSuffice }
@@ -17,4 +19,6 @@ pub fn worked_spares()
 /// Beats of a plan may come as close as its root's own figures say, and closer where its root has spare copies.
 pub fn roots_come_closer()
     ensures { RootsComeCloser }
-{}
+{
+    nodes_follow_tables();
+}

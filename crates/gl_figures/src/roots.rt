@@ -13,6 +13,7 @@ use crate::Printed;
 use crate::copied::{cap, copies_at, times};
 use crate::spares::{last_with_spare, spare};
 use crate::weights::lines_of;
+use gl_algebra::laws::{figures_are_sound, nodes_follow_tables};
 use gl_algebra::table::copies_of_window;
 use gl_algebra::{Figures, Plan, PlanId, PlanNode, Spare};
 use gl_bits::limits::MOST_WEIGHT;
@@ -58,6 +59,7 @@ pub fn root_spare(plan: &Plan, root: PlanId, figures: &[Figures], weights: &[u64
     requires weights { AreWeights plan.now weights.now }
     ensures { result ≡ spare_at plan.now root }
 {
+    figures_are_sound();
     match plan.node(root) {
         PlanNode::Window {
             source,
@@ -104,6 +106,7 @@ pub(crate) fn printed_alone(plan: &Plan, root: PlanId, figures: &[Figures], copi
     requires spare { spare_at plan.now root ≡ None }
     ensures { IsPrinted plan.now root result }
 {
+    nodes_follow_tables();
     // What `len` ensures of it is what the goals below ask for.
     let _ = plan.len();
     let own = figures_at(plan, figures, root);
@@ -130,6 +133,7 @@ pub(crate) fn printed_with(
     requires spare { spare_at plan.now root ≡ Some it }
     ensures { IsPrinted plan.now root result }
 {
+    nodes_follow_tables();
     match plan.node(root) {
         PlanNode::Window {
             source,

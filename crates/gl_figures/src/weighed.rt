@@ -10,6 +10,7 @@ use crate::copied::{cap, count_copies};
 use crate::roots::{copies_inside, printed_alone, printed_with, root_spare};
 use crate::weights::{lines_of, weight_over};
 use crate::{Limit, Printed};
+use gl_algebra::laws::nodes_follow_tables;
 use gl_algebra::{Figures, Plan, PlanId};
 use gl_bits::Memory;
 use gl_bits::limits::MOST_WEIGHT;
@@ -60,6 +61,7 @@ fn weigh_nodes(plan: &Plan, figures: &[Figures], into: &mut [u64])
     requires into { length into.old ≡ length plan.now }
     ensures { HasValues (weight_of plan.now) into.new (length plan.now) }
 {
+    nodes_follow_tables();
     for number in 0..plan.len() {
         let id = plan.id(number);
         let lines = lines_of(plan, id);

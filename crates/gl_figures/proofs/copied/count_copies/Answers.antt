@@ -16,5 +16,5 @@ copies_over-requires-clause-fits c =
 pub loop-number-preserved : goal.loop-number-preserved
 loop-number-preserved c =
     let is = subst (λ (n : ℕ). slice_get c.args.plan.now n ≡ Some c.node.result.now) c.id.ensures.number c.node.ensures.node in
-    copied_next c.args.plan.now c.loop-number.number c.node.result.now c.node.ensures.plan is
+    copied_next c.nodes_follow_tables.ensures c.args.plan.now c.loop-number.number c.node.result.now c.node.ensures.plan is
     c.loop-number.into c.copies_over.result (omega arith) c.loop-number.invariant c.copies_over.ensures

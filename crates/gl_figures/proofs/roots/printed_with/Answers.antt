@@ -19,7 +19,7 @@ pub returns : goal.returns
 returns c =
     let last = rw (c.figures_at-around.ensures, c.figures_at-within.ensures, c.copies_of_window-turns.ensures) at c.last_with_spare-last.ensures in
     rw (c.cap.ensures, c.cap-in-Window.ensures, c.times-further.ensures.turned, c.copies_of_window-turns.ensures)
-    (printed_with c.args.plan.now c.args.root c.args.it c.node.ensures.plan (c.node.ensures.node ∙ ap Some c.in-Window.is) c.requires.spare c.last_with_spare-last.result c.args.copies c.args.inside last
+    (printed_with c.args.plan.now c.args.root c.args.it c.node.ensures.plan (c.node.ensures.node ∙ ap Some c.in-Window.is) c.requires.spare c.nodes_follow_tables.ensures c.last_with_spare-last.result c.args.copies c.args.inside last
     c.requires.copies c.requires.inside)
 
 pub unreachable-requires : goal.unreachable-requires

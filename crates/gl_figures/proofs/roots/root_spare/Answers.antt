@@ -10,10 +10,10 @@ pub figures_at-inside-requires-clause-within : goal.figures_at-inside-requires-c
 figures_at-inside-requires-clause-within c = body_within c.args.plan.now c.args.root c.node.ensures.plan (c.node.ensures.node ∙ ap Some c.in-Window.is)
 
 pub spare-requires-clause-source : goal.spare-requires-clause-source
-spare-requires-clause-source c = rw c.figures_at-around.ensures (source_sound c.args.plan.now c.args.root c.node.ensures.plan (c.node.ensures.node ∙ ap Some c.in-Window.is))
+spare-requires-clause-source c = rw c.figures_at-around.ensures (source_sound c.args.plan.now c.args.root c.node.ensures.plan (c.node.ensures.node ∙ ap Some c.in-Window.is) c.figures_are_sound.ensures)
 
 pub spare-requires-clause-body : goal.spare-requires-clause-body
-spare-requires-clause-body c = rw c.figures_at-inside.ensures (body_sound c.args.plan.now c.args.root c.node.ensures.plan (c.node.ensures.node ∙ ap Some c.in-Window.is))
+spare-requires-clause-body c = rw c.figures_at-inside.ensures (body_sound c.args.plan.now c.args.root c.node.ensures.plan (c.node.ensures.node ∙ ap Some c.in-Window.is) c.figures_are_sound.ensures)
 
 pub spare-requires-clause-size : goal.spare-requires-clause-size
 spare-requires-clause-size c = rows c.args.plan.now c.args.root c.node.ensures.plan (c.node.ensures.node ∙ ap Some c.in-Window.is)

@@ -19,5 +19,5 @@ pub loop-number-preserved : goal.loop-number-preserved
 loop-number-preserved c =
     let is = subst (λ (n : ℕ). slice_get c.args.plan.now n ≡ Some c.node.result.now) c.id-id.ensures.number c.node.ensures.node in
     let lined = c.lines_of-lines.ensures.value ∙ ap (λ (n : ℕ). lines_of (shape_of c.args.plan.now n)) c.id-id.ensures.number in
-    weighed_next c.args.plan.now c.loop-number.number c.node.result.now c.node.ensures.plan is
+    weighed_next c.nodes_follow_tables.ensures c.args.plan.now c.loop-number.number c.node.result.now c.node.ensures.plan is
     c.loop-number.into c.weight_over.result (omega arith) c.lines_of-lines.result lined c.loop-number.invariant c.weight_over.ensures
