@@ -4,9 +4,9 @@ use Rattle.std.specs.Prelude.{unwrap_or}
 use Rattle.gl_net.specs.Net.{Net}
 use Rattle.gl_net.specs.Finished.{IsNetlist, IsName}
 use Rattle.gl_verilog_writer.specs.Meaning.{IsTextOf}
-use Rattle.gl_verilog_writer.specs.Design.{family_of, module_text}
+use Rattle.gl_verilog_writer.specs.Design.{naming, module_text}
 use Rattle.gl_verilog_writer.proofs.Model.{Named, module_in}
-use Rattle.gl_verilog_writer.proofs.Family.{family-small, family-free}
+use Rattle.gl_verilog_writer.proofs.Family.{family-naming}
 use Rattle.gl_verilog_writer.proofs.Resolved.{resolves}
 use Rattle.gl_verilog_writer.proofs.Spelled.{written_as, module-spelled-as, module-written, module-limited}
 use Rattle.gl_verilog_writer.proofs.Driven.{module-valid, assignments-ordered}
@@ -20,22 +20,22 @@ name-back (Some w) h = refl
 pub text-means : (net : Net) → IsNetlist net → length net.nodes < 2 ^ 64 → length net.ports < 2 ^ 64 → IsTextOf net (module_text net)
 unfolding module_text module_in
 text-means net h nodes ports =
-    let family = family_of net.ports in
-    let c : Named net family = record { netlist = h; few = nodes; small = family-small net.ports (2 ^ 64) ports; free = family-free net.ports ports } in
+    let names = naming net in
+    let c : Named net names = record { netlist = h; naming = family-naming net nodes ports } in
     record {
-      design = module_in net family;
+      design = module_in net names;
       has = record {
-        written = written_as net family c;
-        spelled = module-spelled-as net family c;
-        grammar = module-written net family c;
-        limits = module-limited net family c;
-        resolved = resolves net family c;
-        valid = module-valid net family c;
+        written = written_as net names c;
+        spelled = module-spelled-as net names c;
+        grammar = module-written net names c;
+        limits = module-limited net names c;
+        resolved = resolves net names c;
+        valid = module-valid net names c;
       };
       name' = name-back net.name h.finished.module_name;
-      declared = ports-declared net family;
-      ordered = assignments-ordered net family c;
-      registers = registers-same net family;
-      memories = memories-same net family;
-      runs = λ value word r. runs-same net family c value word r;
+      declared = ports-declared net names;
+      ordered = assignments-ordered net names c;
+      registers = registers-same net names;
+      memories = memories-same net names;
+      runs = λ value word r. runs-same net names c value word r;
     }

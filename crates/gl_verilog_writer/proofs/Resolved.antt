@@ -28,7 +28,6 @@ use Rattle.gl_verilog.specs.Module.{Declaration, Expr, Statement, Assignment, nu
 use Rattle.gl_verilog.specs.Widths.{width_of}
 use Rattle.gl_verilog.specs.Resolve.{number_read, both, three, prefixed, decimal_number, resolve_expr, resolve_statement, declare, port_kind, declare_port, address_bits_to, address_bits_of, Resolved, clocked, resolve_items, module_from, resolve}
 use Rattle.gl_verilog_writer.specs.Meaning.{declaration_of, clock, kind_of}
-use Rattle.gl_verilog_writer.specs.Pieces.{net_name}
 use Rattle.gl_verilog_writer.specs.Design.{port_name, binary_expr, named, literal, vector, last_word, declares, takes, does, with_option, numbered, declaring, assigning, shows, showing, clocking, leads, written_port, clock_port, items_of}
 use Rattle.gl_verilog_writer.proofs.Digits.{number_in-decimal}
 use Rattle.gl_verilog_writer.proofs.Model.{Named, at_node, net_of, binary_meaning, declaration_for, expression_of, assigned_to, assignment_for, shown_by, output_for, block_for, counted, declarations_in, line_in, module_in}
@@ -72,31 +71,31 @@ bits-back b h =
     ap (λ (k : ℕ). address_bits_to 32 k) (ap (λ (k : ℕ). k + 1) e ∙ w) ∙ bits_to 32 b h.some' h.most
 
 -- the declaration of one node
-declare-wire : (ds : List Declaration) (family n : ℕ) (w : ℕ) (is : List WrittenItem) → IsWidth w → resolve_items ds (Wires (vector w) (net_name family n ∷ []) ∷ is) ≡ resolve_items (ds ++ (record { name = net_name family n; width = w; is_vector = true; kind = verilog.Wire }) ∷ []) is
-declare-wire ds family n w is h = ap (λ (k : ℕ). resolve_items (ds ++ (record { name = net_name family n; width = k; is_vector = true; kind = verilog.Wire }) ∷ []) is) (width-back w h)
+declare-wire : (ds : List Declaration) (names : ℕ → List ℕ) (n : ℕ) (w : ℕ) (is : List WrittenItem) → IsWidth w → resolve_items ds (Wires (vector w) (names n ∷ []) ∷ is) ≡ resolve_items (ds ++ (record { name = names n; width = w; is_vector = true; kind = verilog.Wire }) ∷ []) is
+declare-wire ds names n w is h = ap (λ (k : ℕ). resolve_items (ds ++ (record { name = names n; width = k; is_vector = true; kind = verilog.Wire }) ∷ []) is) (width-back w h)
 
-declare-node : (ds : List Declaration) (net : Net) (family n : ℕ) (x : Node) (is : List WrittenItem) → NodeFits net n x → resolve_items ds (declares family n x ∷ is) ≡ resolve_items (ds ++ declaration_for family n x ∷ []) is
-declare-node ds net family n (Input place w) is h = declare-wire ds family n _ is (width-fits net n (Input place w) h)
-declare-node ds net family n (Constant word) is h = declare-wire ds family n _ is (width-fits net n (Constant word) h)
-declare-node ds net family n (Not x) is h = declare-wire ds family n _ is (width-fits net n (Not x) h)
-declare-node ds net family n (Binary o x y) is h = declare-wire ds family n _ is (width-fits net n (Binary o x y) h)
-declare-node ds net family n (Choose test x y) is h = declare-wire ds family n _ is (width-fits net n (Choose test x y) h)
-declare-node ds net family n (Join x y) is h = declare-wire ds family n _ is (width-fits net n (Join x y) h)
-declare-node ds net family n (Cut x high low) is h = declare-wire ds family n _ is (width-fits net n (Cut x high low) h)
-declare-node ds net family n (MemoryRead store x) is h = declare-wire ds family n _ is (width-fits net n (MemoryRead store x) h)
-declare-node ds net family n (Register w reset next) is h = ap (λ (k : ℕ). resolve_items (ds ++ (record { name = net_name family n; width = k; is_vector = true; kind = verilog.Register }) ∷ []) is) (width-back w h.0)
-declare-node ds net family n (Memory bits w drive) is h =
-    ap (option_and_then (λ (j : ℕ). resolve_items (ds ++ (record { name = net_name family n; width = decimal_number (decimal (w - 1)) + 1; is_vector = true; kind = verilog.Memory j }) ∷ []) is)) (bits-back bits h.0)
-    ∙ ap (λ (k : ℕ). resolve_items (ds ++ (record { name = net_name family n; width = k; is_vector = true; kind = verilog.Memory bits }) ∷ []) is) (width-back w h.1)
+declare-node : (ds : List Declaration) (net : Net) (names : ℕ → List ℕ) (n : ℕ) (x : Node) (is : List WrittenItem) → NodeFits net n x → resolve_items ds (declares names n x ∷ is) ≡ resolve_items (ds ++ declaration_for names n x ∷ []) is
+declare-node ds net names n (Input place w) is h = declare-wire ds names n _ is (width-fits net n (Input place w) h)
+declare-node ds net names n (Constant word) is h = declare-wire ds names n _ is (width-fits net n (Constant word) h)
+declare-node ds net names n (Not x) is h = declare-wire ds names n _ is (width-fits net n (Not x) h)
+declare-node ds net names n (Binary o x y) is h = declare-wire ds names n _ is (width-fits net n (Binary o x y) h)
+declare-node ds net names n (Choose test x y) is h = declare-wire ds names n _ is (width-fits net n (Choose test x y) h)
+declare-node ds net names n (Join x y) is h = declare-wire ds names n _ is (width-fits net n (Join x y) h)
+declare-node ds net names n (Cut x high low) is h = declare-wire ds names n _ is (width-fits net n (Cut x high low) h)
+declare-node ds net names n (MemoryRead store x) is h = declare-wire ds names n _ is (width-fits net n (MemoryRead store x) h)
+declare-node ds net names n (Register w reset next) is h = ap (λ (k : ℕ). resolve_items (ds ++ (record { name = names n; width = k; is_vector = true; kind = verilog.Register }) ∷ []) is) (width-back w h.0)
+declare-node ds net names n (Memory bits w drive) is h =
+    ap (option_and_then (λ (j : ℕ). resolve_items (ds ++ (record { name = names n; width = decimal_number (decimal (w - 1)) + 1; is_vector = true; kind = verilog.Memory j }) ∷ []) is)) (bits-back bits h.0)
+    ∙ ap (λ (k : ℕ). resolve_items (ds ++ (record { name = names n; width = k; is_vector = true; kind = verilog.Memory bits }) ∷ []) is) (width-back w h.1)
 
 -- the declarations of all nodes
-declare-all : (net : Net) (family n : ℕ) (xs : List Node) (ds : List Declaration) (is : List WrittenItem) → ((k : ℕ) (x : Node) → slice_get xs k ≡ Some x → NodeFits net (n + k) x) → resolve_items ds (numbered (declaring family) n xs ++ is) ≡ resolve_items (ds ++ counted (declaration_for family) n xs) is
-declare-all net family n [] ds is h = ap (λ (d : List Declaration). resolve_items d is) (sym (append-nil ds))
-declare-all net family n (x ∷ xs) ds is h =
+declare-all : (net : Net) (names : ℕ → List ℕ) (n : ℕ) (xs : List Node) (ds : List Declaration) (is : List WrittenItem) → ((k : ℕ) (x : Node) → slice_get xs k ≡ Some x → NodeFits net (n + k) x) → resolve_items ds (numbered (declaring names) n xs ++ is) ≡ resolve_items (ds ++ counted (declaration_for names) n xs) is
+declare-all net names n [] ds is h = ap (λ (d : List Declaration). resolve_items d is) (sym (append-nil ds))
+declare-all net names n (x ∷ xs) ds is h =
     let f : NodeFits net n x = subst (λ (m : ℕ). NodeFits net m x) (let q : n + 0 ≡ n = omega arith in q) (h 0 x refl) in
-    declare-node ds net family n x (numbered (declaring family) (n + 1) xs ++ is) f
-    ∙ declare-all net family (n + 1) xs (ds ++ declaration_for family n x ∷ []) is (λ k y e. subst (λ (m : ℕ). NodeFits net m y) (let q : n + suc k ≡ n + 1 + k = omega arith in q) (h (suc k) y e))
-    ∙ ap (λ (d : List Declaration). resolve_items d is) (append_assoc ds (declaration_for family n x ∷ []) (counted (declaration_for family) (n + 1) xs))
+    declare-node ds net names n x (numbered (declaring names) (n + 1) xs ++ is) f
+    ∙ declare-all net names (n + 1) xs (ds ++ declaration_for names n x ∷ []) is (λ k y e. subst (λ (m : ℕ). NodeFits net m y) (let q : n + suc k ≡ n + 1 + k = omega arith in q) (h (suc k) y e))
+    ∙ ap (λ (d : List Declaration). resolve_items d is) (append_assoc ds (declaration_for names n x ∷ []) (counted (declaration_for names) (n + 1) xs))
 
 -- ---- assignments and blocks
 
@@ -167,97 +166,97 @@ some-any p [] k x e t = absurd (not_some x e)
 some-any p (z ∷ xs) zero x e t = let f : p z ≡ true = ap p (some_same z x e) ∙ t in rw f refl
 some-any p (z ∷ xs) (suc k) x e t = or_right (p z) (list_any p xs) (some-any p xs k x e t)
 
-module _ (net : Net) (family : ℕ) (c : Named net family) where
+module _ (net : Net) (names : ℕ → List ℕ) (c : Named net names) where
   abbrev ds : List Declaration
-  ds = declarations_in net family
+  ds = declarations_in net names
 
   abbrev p : ℕ
   p = length net.ports
 
-  net-means : (n w : ℕ) → IsCarried net family n w → resolve_expr ds (named family n) ≡ Some (net_of p n)
-  net-means n w h = ap (option_map verilog.Net) (node-read net family c n h.node h.there)
+  net-means : (n w : ℕ) → IsCarried net names n w → resolve_expr ds (named names n) ≡ Some (net_of p n)
+  net-means n w h = ap (option_map verilog.Net) (node-read net names c n h.node h.there)
 
   -- what is assigned to a node's net means its expression
-  pub value-means : (n : ℕ) (x : Node) → NodeFits net n x → option_and_then (resolve_expr ds) (takes family net.ports x) ≡ expression_of p x
+  pub value-means : (n : ℕ) (x : Node) → NodeFits net n x → option_and_then (resolve_expr ds) (takes names net.ports x) ≡ expression_of p x
   unfolding end_at
   value-means n (Input place w) h =
       let q = port_end (slice_get net.ports place) (In, n) h.1 in
       let a : port_name net.ports place ≡ q.0.name = ap (λ (o : Option Port). option_map_or (λ (r : Port). r.name) o []) q.1 in
-      let f = port_no_clock net family c place q.0 q.1 in
-      let g = port_found net family c place q.0 q.1 in
+      let f = port_no_clock net names c place q.0 q.1 in
+      let g = port_found net names c place q.0 q.1 in
       let k : number_read ds q.0.name ≡ Some (suc place) = rw (f, g) refl in
       ap (λ (m : List ℕ). option_map verilog.Net (number_read ds m)) a ∙ ap (option_map verilog.Net) k
   value-means n (Constant word) h = literal-means ds word.bits word.width h.width h.fits
   value-means n (Not x) h =
-      let i = bus net family c x h.bus in
-      ap (option_map (prefixed ds BitNot)) (net-means x.node x.width i) ∙ ap (λ (w : ℕ). Some (verilog.Invert w (net_of p x.node))) (carried-width net family c x.node x.width i)
+      let i = bus net names c x h.bus in
+      ap (option_map (prefixed ds BitNot)) (net-means x.node x.width i) ∙ ap (λ (w : ℕ). Some (verilog.Invert w (net_of p x.node))) (carried-width net names c x.node x.width i)
   value-means n (Binary o x y) h =
-      let i = bus net family c x h.0.bus in
-      let j = bus net family c y h.1.bus in
-      binary-means ds o (named family x.node) (named family y.node) (net_of p x.node) (net_of p y.node) x.width (net-means x.node x.width i) (net-means y.node y.width j) (carried-width net family c x.node x.width i)
+      let i = bus net names c x h.0.bus in
+      let j = bus net names c y h.1.bus in
+      binary-means ds o (named names x.node) (named names y.node) (net_of p x.node) (net_of p y.node) x.width (net-means x.node x.width i) (net-means y.node y.width j) (carried-width net names c x.node x.width i)
   value-means n (Choose test x y) h =
-      let t = net-means test.node 1 (bit net family c test h.0.bit) in
-      let a = net-means x.node x.width (bus net family c x h.1.bus) in
-      let b = net-means y.node y.width (bus net family c y h.2.bus) in
+      let t = net-means test.node 1 (bit net names c test h.0.bit) in
+      let a = net-means x.node x.width (bus net names c x h.1.bus) in
+      let b = net-means y.node y.width (bus net names c y h.2.bus) in
       rw (t, a, b) refl
   value-means n (Join x y) h =
-      let j = bus net family c y h.1.bus in
-      let a = net-means x.node x.width (bus net family c x h.0.bus) in
+      let j = bus net names c y h.1.bus in
+      let a = net-means x.node x.width (bus net names c x h.0.bus) in
       let b = net-means y.node y.width j in
-      rw (a, b) (ap (λ (w : ℕ). Some (verilog.Join w (net_of p x.node) (net_of p y.node))) (carried-width net family c y.node y.width j))
+      rw (a, b) (ap (λ (w : ℕ). Some (verilog.Join w (net_of p x.node) (net_of p y.node))) (carried-width net names c y.node y.width j))
   value-means n (Cut x high low) h =
-      let i = bus net family c x h.0.bus in
+      let i = bus net names c x h.0.bus in
       let most = h.0.bus.width.most in let below = h.2 in let order = h.1 in
       let f : number_in 10 (decimal high) ≡ high = number_in-decimal high (omega (arith, most, below)) in
       let g : number_in 10 (decimal low) ≡ low = number_in-decimal low (omega (arith, most, below, order)) in
-      ap (option_map (verilog.Select (number_in 10 (decimal high)) (number_in 10 (decimal low)))) (node-read net family c x.node i.node i.there)
+      ap (option_map (verilog.Select (number_in 10 (decimal high)) (number_in 10 (decimal low)))) (node-read net names c x.node i.node i.there)
       ∙ ap (λ (a : ℕ). Some (verilog.Select a (number_in 10 (decimal low)) (at_node p x.node))) f ∙ ap (λ (b : ℕ). Some (verilog.Select high b (at_node p x.node))) g
   value-means n (MemoryRead store x) h =
-      let s = stored net family c store h.0.store in
-      let a = node-read net family c store.node s.node s.there in
-      let b = net-means x.node x.width (bus net family c x h.1.bus) in
+      let s = stored net names c store h.0.store in
+      let a = node-read net names c store.node s.node s.there in
+      let b = net-means x.node x.width (bus net names c x h.1.bus) in
       rw (a, b) refl
   value-means n (Register w reset next) h = refl
   value-means n (Memory bits w drive) h = refl
 
   -- the reset line
-  pub line-found : (n : ℕ) (x : Node) → slice_get net.nodes n ≡ Some x → has_reset_value x ≡ true → number_of ds (codes "rst") ≡ Some (line_in net family)
+  pub line-found : (n : ℕ) (x : Node) → slice_get net.nodes n ≡ Some x → has_reset_value x ≡ true → number_of ds (codes "rst") ≡ Some (line_in net names)
   unfolding needs_reset
   line-found n x e t =
       let r = c.netlist.finished.reset (some-any has_reset_value net.nodes n x e t) in
-      let f = port_found net family c r.port.place _ r.port.there in
+      let f = port_found net names c r.port.place _ r.port.there in
       f ∙ ap Some (sym (ap (λ (o : Option ℕ). unwrap_or o 0) f))
 
-  line-read : (n : ℕ) (x : Node) → slice_get net.nodes n ≡ Some x → has_reset_value x ≡ true → resolve_expr ds (written.Named (codes "rst")) ≡ Some (verilog.Net (line_in net family))
+  line-read : (n : ℕ) (x : Node) → slice_get net.nodes n ≡ Some x → has_reset_value x ≡ true → resolve_expr ds (written.Named (codes "rst")) ≡ Some (verilog.Net (line_in net names))
   line-read n x e t = ap (option_map verilog.Net) (line-found n x e t)
 
-  update-means : (n m w : ℕ) (x : Node) → slice_get net.nodes n ≡ Some x → IsCarried net family m w → resolve_statement ds (written.Update (net_name family n) (named family m)) ≡ Some (verilog.Put (at_node p n) (net_of p m))
-  update-means n m w x e i = let a = node_found net family c n x e in let b = net-means m w i in rw (a, b) refl
+  update-means : (n m w : ℕ) (x : Node) → slice_get net.nodes n ≡ Some x → IsCarried net names m w → resolve_statement ds (written.Update (names n) (named names m)) ≡ Some (verilog.Put (at_node p n) (net_of p m))
+  update-means n m w x e i = let a = node_found net names c n x e in let b = net-means m w i in rw (a, b) refl
 
-  reset-means : (n v w : ℕ) (x : Node) → slice_get net.nodes n ≡ Some x → IsWidth w → v < 2 ^ w → resolve_statement ds (written.Update (net_name family n) (literal v w)) ≡ Some (verilog.Put (at_node p n) (verilog.Literal v w))
+  reset-means : (n v w : ℕ) (x : Node) → slice_get net.nodes n ≡ Some x → IsWidth w → v < 2 ^ w → resolve_statement ds (written.Update (names n) (literal v w)) ≡ Some (verilog.Put (at_node p n) (verilog.Literal v w))
   reset-means n v w x e i h =
-      ap (λ (o : Option ℕ). both verilog.Put o (resolve_expr ds (literal v w))) (node_found net family c n x e)
+      ap (λ (o : Option ℕ). both verilog.Put o (resolve_expr ds (literal v w))) (node_found net names c n x e)
       ∙ ap (both verilog.Put (Some (at_node p n))) (literal-means ds v w i h)
 
-  block-means : (n : ℕ) (x : Node) → slice_get net.nodes n ≡ Some x → NodeFits net n x → option_and_then (resolve_statement ds) (does family n x) ≡ block_for p (line_in net family) n x
+  block-means : (n : ℕ) (x : Node) → slice_get net.nodes n ≡ Some x → NodeFits net n x → option_and_then (resolve_statement ds) (does names n x) ≡ block_for p (line_in net names) n x
   block-means n (Register w None None) e h = refl
   block-means n (Register w (Some value) None) e h = refl
-  block-means n (Register w None (Some next)) e h = update-means n next.node next.width _ e (bus net family c next h.2.0)
+  block-means n (Register w None (Some next)) e h = update-means n next.node next.width _ e (bus net names c next h.2.0)
   block-means n (Register w (Some value) (Some next)) e h =
       let r = line-read n _ e refl in
       let a = reset-means n value w _ e h.0 h.1 in
-      let b = update-means n next.node next.width _ e (bus net family c next h.2.0) in
-      let set = resolve_statement ds (written.Update (net_name family n) (literal value w)) in
-      let go = resolve_statement ds (written.Update (net_name family n) (named family next.node)) in
+      let b = update-means n next.node next.width _ e (bus net names c next h.2.0) in
+      let set = resolve_statement ds (written.Update (names n) (literal value w)) in
+      let go = resolve_statement ds (written.Update (names n) (named names next.node)) in
       ap (λ (o : Option Expr). three verilog.If o set go) r
-      ∙ ap (λ (o : Option Statement). three verilog.If (Some (verilog.Net (line_in net family))) o go) a
-      ∙ ap (three verilog.If (Some (verilog.Net (line_in net family))) (Some (verilog.Put (at_node p n) (verilog.Literal value w)))) b
+      ∙ ap (λ (o : Option Statement). three verilog.If (Some (verilog.Net (line_in net names))) o go) a
+      ∙ ap (three verilog.If (Some (verilog.Net (line_in net names))) (Some (verilog.Put (at_node p n) (verilog.Literal value w)))) b
   block-means n (Memory bits w None) e h = refl
   block-means n (Memory bits w (Some drive)) e h =
-      let t = net-means drive.write.node 1 (bit net family c drive.write h.2.write) in
-      let a = net-means drive.address.node drive.address.width (bus net family c drive.address h.2.address) in
-      let b = net-means drive.value.node drive.value.width (bus net family c drive.value h.2.value) in
-      let m = node_found net family c n _ e in
+      let t = net-means drive.write.node 1 (bit net names c drive.write h.2.write) in
+      let a = net-means drive.address.node drive.address.width (bus net names c drive.address h.2.address) in
+      let b = net-means drive.value.node drive.value.width (bus net names c drive.value h.2.value) in
+      let m = node_found net names c n _ e in
       rw (t, m, a, b) refl
   block-means n (Input place w) e h = refl
   block-means n (Constant word) e h = refl
@@ -268,13 +267,13 @@ module _ (net : Net) (family : ℕ) (c : Named net family) where
   block-means n (Cut x high low) e h = refl
   block-means n (MemoryRead store x) e h = refl
 
-  assign-by : (n : ℕ) (x : Node) → slice_get net.nodes n ≡ Some x → (o : Option WrittenExpr) (e : Option Expr) → is_some o ≡ is_some e → option_and_then (resolve_expr ds) o ≡ e → MeansAssignment ds (option_map (Assign (net_name family n)) o) (option_map (assigned_to (at_node p n)) e)
+  assign-by : (n : ℕ) (x : Node) → slice_get net.nodes n ≡ Some x → (o : Option WrittenExpr) (e : Option Expr) → is_some o ≡ is_some e → option_and_then (resolve_expr ds) o ≡ e → MeansAssignment ds (option_map (Assign (names n)) o) (option_map (assigned_to (at_node p n)) e)
   assign-by n x t None None g f = λ is r h. h
   assign-by n x t None (Some e) g f = absurd (cc)
   assign-by n x t (Some o) None g f = absurd (cc)
-  assign-by n x t (Some o) (Some e) g f = means-assignment ds (net_name family n) o (at_node p n) e (node_found net family c n x t) f
+  assign-by n x t (Some o) (Some e) g f = means-assignment ds (names n) o (at_node p n) e (node_found net names c n x t) f
 
-  assigned-both : (x : Node) → is_some (takes family net.ports x) ≡ is_some (expression_of p x)
+  assigned-both : (x : Node) → is_some (takes names net.ports x) ≡ is_some (expression_of p x)
   assigned-both (Input place w) = refl
   assigned-both (Constant word) = refl
   assigned-both (Not x) = refl
@@ -292,7 +291,7 @@ module _ (net : Net) (family : ℕ) (c : Named net family) where
   clock-by (Some o) None g f = absurd (cc)
   clock-by (Some o) (Some b) g f = means-block ds o b refl f
 
-  clocked-both : (n : ℕ) (x : Node) → is_some (does family n x) ≡ is_some (block_for p (line_in net family) n x)
+  clocked-both : (n : ℕ) (x : Node) → is_some (does names n x) ≡ is_some (block_for p (line_in net names) n x)
   clocked-both n (Register w None None) = refl
   clocked-both n (Register w (Some value) None) = refl
   clocked-both n (Register w None (Some next)) = refl
@@ -309,9 +308,9 @@ module _ (net : Net) (family : ℕ) (c : Named net family) where
   clocked-both n (MemoryRead store x) = refl
 
   -- an output port shows its node
-  show-by : (place : ℕ) (q : Port) → slice_get net.ports place ≡ Some q → (d : Direction) → EndFits net place d q.node → MeansAssignment ds (shows family d q.name q.node) (shown_by p place d q.node)
+  show-by : (place : ℕ) (q : Port) → slice_get net.ports place ≡ Some q → (d : Direction) → EndFits net place d q.node → MeansAssignment ds (shows names d q.name q.node) (shown_by p place d q.node)
   show-by place q t In f = λ is r h. h
-  show-by place q t Out f = means-assignment ds q.name (named family q.node) (suc place) (net_of p q.node) (port_found net family c place q t) (net-means q.node f.0 (shown net family c q.node f.0 f.1))
+  show-by place q t Out f = means-assignment ds q.name (named names q.node) (suc place) (net_of p q.node) (port_found net names c place q t) (net-means q.node f.0 (shown net names c q.node f.0 f.1))
 
   fits : (n : ℕ) (x : Node) → slice_get net.nodes n ≡ Some x → NodeFits net n x
   fits n x e = c.netlist.formed.nodes n x e
@@ -329,7 +328,7 @@ module _ (net : Net) (family : ℕ) (c : Named net family) where
     where
       by : (d : Direction) → EndFits net place d q.node → IsWidth (bits_of (shape_in net.nodes q.node))
       by In f = rw f.1 (c.netlist.formed.nodes q.node (Input place f.0) f.1).0
-      by Out f = (let i = shown net family c q.node f.0 f.1 in let g = i.there in let h = width-fits net q.node i.node (c.netlist.formed.nodes q.node i.node i.there) in subst (λ (o : Option Node). IsWidth (bits_of (option_map shape_of o))) (sym g) h)
+      by Out f = (let i = shown net names c q.node f.0 f.1 in let g = i.there in let h = width-fits net q.node i.node (c.netlist.formed.nodes q.node i.node i.there) in subst (λ (o : Option Node). IsWidth (bits_of (option_map shape_of o))) (sym g) h)
 
   declare-port : (place : ℕ) (q : Port) → slice_get net.ports place ≡ Some q → declare_port (written_port net.nodes q) ≡ declaration_of net q
   declare-port place q t = range-back q.name q.direction (bits_of (shape_in net.nodes q.node)) (port-width place q t) (bits_of (shape_in net.nodes q.node) == 1) refl
@@ -342,35 +341,35 @@ module _ (net : Net) (family : ℕ) (c : Named net family) where
       ap (λ (d : Declaration). d ∷ map declare_port (map (written_port net.nodes) qs)) a ∙ ap (λ (l : List Declaration). declaration_of net q ∷ l) b
 
   -- all of it
-  pub items-mean : resolve_items (clock ∷ map declare_port (map (written_port net.nodes) net.ports)) (items_of family net.nodes net.ports)
-      ≡ Some (record { declarations = ds; assignments = numbered (assignment_for p) 0 net.nodes ++ numbered (output_for p) 0 net.ports; blocks = numbered (block_for p (line_in net family)) 0 net.nodes })
+  pub items-mean : resolve_items (clock ∷ map declare_port (map (written_port net.nodes) net.ports)) (items_of names net.nodes net.ports)
+      ≡ Some (record { declarations = ds; assignments = numbered (assignment_for p) 0 net.nodes ++ numbered (output_for p) 0 net.ports; blocks = numbered (block_for p (line_in net names)) 0 net.nodes })
   items-mean =
-      let d = numbered (declaring family) 0 net.nodes in
-      let a = numbered (assigning family net.ports) 0 net.nodes in
-      let o = numbered (showing family) 0 net.ports in
-      let b = numbered (clocking family) 0 net.nodes in
+      let d = numbered (declaring names) 0 net.nodes in
+      let a = numbered (assigning names net.ports) 0 net.nodes in
+      let o = numbered (showing names) 0 net.ports in
+      let b = numbered (clocking names) 0 net.nodes in
       let ports : map declare_port (map (written_port net.nodes) net.ports) ≡ map (declaration_of net) net.ports = declare-ports 0 net.ports (λ k q e. get-from_zero net.ports k q e) in
       let order : d ++ a ++ o ++ b ≡ d ++ (a ++ (o ++ (b ++ []))) = ap (λ (z : List WrittenItem). d ++ a ++ o ++ z) (sym (append-nil b)) ∙ append_assoc (d ++ a) o (b ++ []) ∙ append_assoc d a (o ++ (b ++ [])) in
       let r0 : Resolved = record { declarations = ds; assignments = []; blocks = [] } in
-      let r1 : Resolved = record { declarations = ds; assignments = []; blocks = numbered (block_for p (line_in net family)) 0 net.nodes ++ [] } in
+      let r1 : Resolved = record { declarations = ds; assignments = []; blocks = numbered (block_for p (line_in net names)) 0 net.nodes ++ [] } in
       let r2 : Resolved = record r1 { assignments = numbered (output_for p) 0 net.ports ++ [] } in
-      let blocks = all-blocks ds (clocking family) (block_for p (line_in net family)) 0 net.nodes
-      (λ k x e. clock-by (does family (0 + k) x) (block_for p (line_in net family) (0 + k) x) (clocked-both (0 + k) x) (let z = get-from_zero net.nodes k x e in block-means (0 + k) x z (fits (0 + k) x z))) [] r0 refl in
-      let outputs = all-assignments ds (showing family) (output_for p) 0 net.ports
+      let blocks = all-blocks ds (clocking names) (block_for p (line_in net names)) 0 net.nodes
+      (λ k x e. clock-by (does names (0 + k) x) (block_for p (line_in net names) (0 + k) x) (clocked-both (0 + k) x) (let z = get-from_zero net.nodes k x e in block-means (0 + k) x z (fits (0 + k) x z))) [] r0 refl in
+      let outputs = all-assignments ds (showing names) (output_for p) 0 net.ports
       (λ k q e. (let z = get-from_zero net.ports k q e in show-by (0 + k) q z q.direction (c.netlist.formed.ends (0 + k) q z))) (b ++ []) r1 blocks in
-      let values = all-assignments ds (assigning family net.ports) (assignment_for p) 0 net.nodes
-      (λ k x e. (let z = get-from_zero net.nodes k x e in assign-by (0 + k) x z (takes family net.ports x) (expression_of p x) (assigned-both x) (value-means (0 + k) x (fits (0 + k) x z)))) (o ++ (b ++ [])) r2 outputs in
+      let values = all-assignments ds (assigning names net.ports) (assignment_for p) 0 net.nodes
+      (λ k x e. (let z = get-from_zero net.nodes k x e in assign-by (0 + k) x z (takes names net.ports x) (expression_of p x) (assigned-both x) (value-means (0 + k) x (fits (0 + k) x z)))) (o ++ (b ++ [])) r2 outputs in
       ap (λ (l : List Declaration). resolve_items (clock ∷ l) (d ++ a ++ o ++ b)) ports
       ∙ ap (resolve_items (clock ∷ map (declaration_of net) net.ports)) order
-      ∙ declare-all net family 0 net.nodes (clock ∷ map (declaration_of net) net.ports) (a ++ (o ++ (b ++ []))) (λ k x e. fits (0 + k) x (get-from_zero net.nodes k x e))
+      ∙ declare-all net names 0 net.nodes (clock ∷ map (declaration_of net) net.ports) (a ++ (o ++ (b ++ []))) (λ k x e. fits (0 + k) x (get-from_zero net.nodes k x e))
       ∙ values
-      ∙ ap (λ (z : List Statement). Some (record { declarations = ds; assignments = numbered (assignment_for p) 0 net.nodes ++ (numbered (output_for p) 0 net.ports ++ []); blocks = z })) (append-nil (numbered (block_for p (line_in net family)) 0 net.nodes))
-      ∙ ap (λ (z : List Assignment). Some (record { declarations = ds; assignments = numbered (assignment_for p) 0 net.nodes ++ z; blocks = numbered (block_for p (line_in net family)) 0 net.nodes })) (append-nil (numbered (output_for p) 0 net.ports))
+      ∙ ap (λ (z : List Statement). Some (record { declarations = ds; assignments = numbered (assignment_for p) 0 net.nodes ++ (numbered (output_for p) 0 net.ports ++ []); blocks = z })) (append-nil (numbered (block_for p (line_in net names)) 0 net.nodes))
+      ∙ ap (λ (z : List Assignment). Some (record { declarations = ds; assignments = numbered (assignment_for p) 0 net.nodes ++ z; blocks = numbered (block_for p (line_in net names)) 0 net.nodes })) (append-nil (numbered (output_for p) 0 net.ports))
 
   -- the written module resolves to the module
-  pub resolves : resolve (record { name = unwrap_or net.name []; ports = clock_port ∷ map (written_port net.nodes) net.ports; items = items_of family net.nodes net.ports }) ≡ Some (module_in net family)
+  pub resolves : resolve (record { name = unwrap_or net.name []; ports = clock_port ∷ map (written_port net.nodes) net.ports; items = items_of names net.nodes net.ports }) ≡ Some (module_in net names)
   unfolding module_in
   resolves =
-      let w : WrittenModule = record { name = unwrap_or net.name []; ports = clock_port ∷ map (written_port net.nodes) net.ports; items = items_of family net.nodes net.ports } in
+      let w : WrittenModule = record { name = unwrap_or net.name []; ports = clock_port ∷ map (written_port net.nodes) net.ports; items = items_of names net.nodes net.ports } in
       ap (option_map (module_from w)) items-mean
-      ∙ ap (λ (n : ℕ). Some (record { name = unwrap_or net.name []; ports = suc n; declarations = ds; assignments = numbered (assignment_for p) 0 net.nodes ++ numbered (output_for p) 0 net.ports; blocks = numbered (block_for p (line_in net family)) 0 net.nodes })) (length-map net.ports (written_port net.nodes))
+      ∙ ap (λ (n : ℕ). Some (record { name = unwrap_or net.name []; ports = suc n; declarations = ds; assignments = numbered (assignment_for p) 0 net.nodes ++ numbered (output_for p) 0 net.ports; blocks = numbered (block_for p (line_in net names)) 0 net.nodes })) (length-map net.ports (written_port net.nodes))

@@ -23,13 +23,13 @@ use Rattle.gl_net.specs.Finished.{IsNetlist}
 use Rattle.gl_verilog.specs.Written.{WrittenItem, WrittenPort, WrittenExpr, BitNot, BitAnd, BitOr, Below, AtMost, Prefix, Infix}
 use Rattle.gl_verilog_writer.specs.Pieces.{family_text, net_name}
 use Rattle.gl_verilog_writer.specs.Printed.{expr_text, infix_text, range_text, direction_text, port_text, more_ports_text, always_text, item_text, items_text, head_text}
-use Rattle.gl_verilog_writer.specs.Design.{node_width, named, infix_of, binary_expr, port_name, last_word, vector, leads, shows, declares, with_option, numbered, declaring, assigning, showing, clocking, written_port, clock_port, items_of, family_of, module_text}
+use Rattle.gl_verilog_writer.specs.Design.{node_width, named, infix_of, binary_expr, port_name, last_word, vector, leads, shows, declares, with_option, numbered, declaring, assigning, showing, clocking, written_port, clock_port, items_of, family_of, naming, module_text}
 use Rattle.gl_verilog_writer.specs.Size.{port_bytes, most_bytes}
 use Rattle.gl_verilog_writer.proofs.Model.{Named}
 use Rattle.gl_verilog_writer.proofs.Loops.{item-first, items-parts}
 use Rattle.gl_verilog_writer.proofs.Fitted.{width-fits, port_end, bus, bit, shown, stored}
 use Rattle.gl_verilog_writer.proofs.Resolved.{port-width, last-small}
-use Rattle.gl_verilog_writer.proofs.Family.{family-small, family-free}
+use Rattle.gl_verilog_writer.proofs.Family.{family-small, family-naming}
 use Rattle.gl_verilog_writer.proofs.Lists.{get-from_zero}
 
 -- the text has at most so many bytes
@@ -164,30 +164,30 @@ abbrev option_bytes : Option WrittenItem → ℕ
 option_bytes o = length (option_map_or item_text o [])
 
 -- the bytes of a node's declaration, of its assignment and of its block
-abbrev node_bytes : ℕ → List Port → ℕ → Node → ℕ
-node_bytes family ports n x = length (item_text (declares family n x)) + option_bytes (assigning family ports n x) + option_bytes (clocking family n x)
+abbrev node_bytes : (ℕ → List ℕ) → List Port → ℕ → Node → ℕ
+node_bytes names ports n x = length (item_text (declares names n x)) + option_bytes (assigning names ports n x) + option_bytes (clocking names n x)
 
-module _ (net : Net) (family : ℕ) (c : Named net family) (few_nodes : length net.nodes < 2 ^ 32) (low_family : family < 2 ^ 32) where
+module _ (net : Net) (names : ℕ → List ℕ) (c : Named net names) (short : (n : ℕ) → n < length net.nodes → Within 22 (names n)) where
   -- a node's name
-  named-within : (n : ℕ) (x : Node) → slice_get net.nodes n ≡ Some x → Within 22 (net_name family n)
-  named-within n x e = let l = slice_get_within net.nodes n x e in name-within family n low_family (let q : n < 2 ^ 32 = omega (arith, l, few_nodes) in q)
+  named-within : (n : ℕ) (x : Node) → slice_get net.nodes n ≡ Some x → Within 22 (names n)
+  named-within n x e = short n (slice_get_within net.nodes n x e)
 
-  bus-within : (b : Bus) → IsBus net b → Within 22 (net_name family b.node)
-  bus-within b h = let i = bus net family c b h in named-within b.node i.node i.there
+  bus-within : (b : Bus) → IsBus net b → Within 22 (names b.node)
+  bus-within b h = let i = bus net names c b h in named-within b.node i.node i.there
 
-  bit-within : (b : Bit) → IsBit net b → Within 22 (net_name family b.node)
-  bit-within b h = let i = bit net family c b h in named-within b.node i.node i.there
+  bit-within : (b : Bit) → IsBit net b → Within 22 (names b.node)
+  bit-within b h = let i = bit net names c b h in named-within b.node i.node i.there
 
-  stored-within : (s : Store) → IsStore net s → Within 22 (net_name family s.node)
-  stored-within s h = let i = stored net family c s h in named-within s.node i.node i.there
+  stored-within : (s : Store) → IsStore net s → Within 22 (names s.node)
+  stored-within s h = let i = stored net names c s h in named-within s.node i.node i.there
 
   port-within : (place : ℕ) (q : Port) → slice_get net.ports place ≡ Some q → Within 128 (port_name net.ports place)
   port-within place q e = record { is = rw e (c.netlist.finished.port_names place q e).short }
 
-  declared-within : (n : ℕ) (x : Node) → slice_get net.nodes n ≡ Some x → NodeFits net n x → Within 37 (codes "wire " ++ range_text (vector (node_width x)) ++ net_name family n ++ codes ";\n")
+  declared-within : (n : ℕ) (x : Node) → slice_get net.nodes n ≡ Some x → NodeFits net n x → Within 37 (codes "wire " ++ range_text (vector (node_width x)) ++ names n ++ codes ";\n")
   declared-within n x e h = wire-within _ _ (range-within (node_width x) (width-fits net n x h).most) (named-within n x e)
 
-  node-within : (n : ℕ) (x : Node) → slice_get net.nodes n ≡ Some x → NodeFits net n x → node_bytes family net.ports n x ≤ 200
+  node-within : (n : ℕ) (x : Node) → slice_get net.nodes n ≡ Some x → NodeFits net n x → node_bytes names net.ports n x ≤ 200
   unfolding end_at
   node-within n (Input place w) e h =
       let q = port_end (slice_get net.ports place) (In, n) h.1 in
@@ -197,7 +197,7 @@ module _ (net : Net) (family : ℕ) (c : Named net family) (few_nodes : length n
   node-within n (Not x) e h =
       three (declared-within n _ e h) (assigned-within 23 _ _ (named-within n _ e) (both (word (codes "~")) (bus-within x h.bus))) none (omega arith)
   node-within n (Binary o x y) e h =
-      three (declared-within n _ e h) (assigned-within 48 _ _ (named-within n _ e) (binary-within o x.width (named family x.node) (named family y.node) (bus-within x h.0.bus) (bus-within y h.1.bus))) none (omega arith)
+      three (declared-within n _ e h) (assigned-within 48 _ _ (named-within n _ e) (binary-within o x.width (named names x.node) (named names y.node) (bus-within x h.0.bus) (bus-within y h.1.bus))) none (omega arith)
   node-within n (Choose test x y) e h =
       three (declared-within n _ e h) (assigned-within 72 _ _ (named-within n _ e) (choose-within _ _ _ (bit-within test h.0.bit) (bus-within x h.1.bus) (bus-within y h.2.bus))) none (omega arith)
   node-within n (Join x y) e h =
@@ -236,21 +236,21 @@ module _ (net : Net) (family : ℕ) (c : Named net family) (few_nodes : length n
 
   line-within : (place : ℕ) (q : Port) → slice_get net.ports place ≡ Some q → Within (26 + length q.name) (codes "," ++ port_text (written_port net.nodes q))
   line-within place q e =
-      let w = port-width net family c place q e in
+      let w = port-width net names c place q e in
       let l = both (word (codes ",")) (both (both (direction-within q.direction) (port-range (bits_of (shape_in net.nodes q.node)) w.most (bits_of (shape_in net.nodes q.node) == 1))) (word q.name)) in
       record { is = (let i = l.is in omega (arith, i)) }
 
-  end-within : (place n : ℕ) (d : Direction) → EndFits net place d n → Within 22 (net_name family n)
+  end-within : (place n : ℕ) (d : Direction) → EndFits net place d n → Within 22 (names n)
   end-within place n In f = named-within n _ f.1
-  end-within place n Out f = let i = shown net family c n f.0 f.1 in named-within n i.node i.there
+  end-within place n Out f = let i = shown net names c n f.0 f.1 in named-within n i.node i.there
 
-  output-within : (d : Direction) (name : List ℕ) (n : ℕ) → Within 22 (net_name family n) → option_bytes (shows family d name n) ≤ 34 + length name
+  output-within : (d : Direction) (name : List ℕ) (n : ℕ) → Within 22 (names n) → option_bytes (shows names d name n) ≤ 34 + length name
   output-within In name n h = omega arith
   output-within Out name n h =
       let l = both (both (both (both (word (codes "assign ")) (word name)) (word (codes " = "))) h) (word (codes ";\n")) in
       let i = l.is in omega (arith, i)
 
-  port-short : (place : ℕ) (q : Port) → slice_get net.ports place ≡ Some q → length (codes "," ++ port_text (written_port net.nodes q)) + option_bytes (shows family q.direction q.name q.node) ≤ port_bytes q
+  port-short : (place : ℕ) (q : Port) → slice_get net.ports place ≡ Some q → length (codes "," ++ port_text (written_port net.nodes q)) + option_bytes (shows names q.direction q.name q.node) ≤ port_bytes q
   port-short place q e =
       let l = (line-within place q e).is in
       let o = output-within q.direction q.name q.node (end-within place q.node q.direction (c.netlist.formed.ends place q e)) in
@@ -261,28 +261,28 @@ module _ (net : Net) (family : ℕ) (c : Named net family) (few_nodes : length n
 items-longer : (o : Option WrittenItem) (is : List WrittenItem) → length (items_text (with_option o is)) ≡ option_bytes o + length (items_text is)
 items-longer o is = ap length (item-first o is) ∙ length-append (option_map_or item_text o []) (items_text is)
 
-nodes-within : (family : ℕ) (ports : List Port) (n : ℕ) (xs : List Node) → ((k : ℕ) (x : Node) → slice_get xs k ≡ Some x → node_bytes family ports (n + k) x ≤ 200) → length (items_text (numbered (declaring family) n xs)) + length (items_text (numbered (assigning family ports) n xs)) + length (items_text (numbered (clocking family) n xs)) ≤ 200 * length xs
-nodes-within family ports n [] h = omega arith
-nodes-within family ports n (x ∷ xs) h =
-    let a = items-longer (declaring family n x) (numbered (declaring family) (n + 1) xs) in
-    let b = items-longer (assigning family ports n x) (numbered (assigning family ports) (n + 1) xs) in
-    let d = items-longer (clocking family n x) (numbered (clocking family) (n + 1) xs) in
+nodes-within : (names : ℕ → List ℕ) (ports : List Port) (n : ℕ) (xs : List Node) → ((k : ℕ) (x : Node) → slice_get xs k ≡ Some x → node_bytes names ports (n + k) x ≤ 200) → length (items_text (numbered (declaring names) n xs)) + length (items_text (numbered (assigning names ports) n xs)) + length (items_text (numbered (clocking names) n xs)) ≤ 200 * length xs
+nodes-within names ports n [] h = omega arith
+nodes-within names ports n (x ∷ xs) h =
+    let a = items-longer (declaring names n x) (numbered (declaring names) (n + 1) xs) in
+    let b = items-longer (assigning names ports n x) (numbered (assigning names ports) (n + 1) xs) in
+    let d = items-longer (clocking names n x) (numbered (clocking names) (n + 1) xs) in
     let z : n + 0 ≡ n = omega arith in
-    let one : node_bytes family ports n x ≤ 200 = subst (λ (m : ℕ). node_bytes family ports m x ≤ 200) z (h 0 x refl) in
-    let more = nodes-within family ports (n + 1) xs (λ k y e. (let q : n + suc k ≡ n + 1 + k = omega arith in subst (λ (m : ℕ). node_bytes family ports m y ≤ 200) q (h (suc k) y e))) in
+    let one : node_bytes names ports n x ≤ 200 = subst (λ (m : ℕ). node_bytes names ports m x ≤ 200) z (h 0 x refl) in
+    let more = nodes-within names ports (n + 1) xs (λ k y e. (let q : n + suc k ≡ n + 1 + k = omega arith in subst (λ (m : ℕ). node_bytes names ports m y ≤ 200) q (h (suc k) y e))) in
     omega (arith, a, b, d, one, more)
 
-abbrev line_bytes : List Node → ℕ → Port → ℕ
-line_bytes nodes family q = length (codes "," ++ port_text (written_port nodes q)) + option_bytes (shows family q.direction q.name q.node)
+abbrev line_bytes : List Node → (ℕ → List ℕ) → Port → ℕ
+line_bytes nodes names q = length (codes "," ++ port_text (written_port nodes q)) + option_bytes (shows names q.direction q.name q.node)
 
-ports-within : (nodes : List Node) (family n : ℕ) (qs : List Port) → ((k : ℕ) (q : Port) → slice_get qs k ≡ Some q → line_bytes nodes family q ≤ port_bytes q) → length (more_ports_text (map (written_port nodes) qs)) + length (items_text (numbered (showing family) n qs)) ≤ sum_by port_bytes qs
-ports-within nodes family n [] h = omega arith
-ports-within nodes family n (q ∷ qs) h =
+ports-within : (nodes : List Node) (names : ℕ → List ℕ) (n : ℕ) (qs : List Port) → ((k : ℕ) (q : Port) → slice_get qs k ≡ Some q → line_bytes nodes names q ≤ port_bytes q) → length (more_ports_text (map (written_port nodes) qs)) + length (items_text (numbered (showing names) n qs)) ≤ sum_by port_bytes qs
+ports-within nodes names n [] h = omega arith
+ports-within nodes names n (q ∷ qs) h =
     let a = length-append (codes "," ++ port_text (written_port nodes q)) (more_ports_text (map (written_port nodes) qs)) in
-    let b = items-longer (showing family n q) (numbered (showing family) (n + 1) qs) in
+    let b = items-longer (showing names n q) (numbered (showing names) (n + 1) qs) in
     let s = sum_by-cons port_bytes q qs in
     let one = h 0 q refl in
-    let more = ports-within nodes family (n + 1) qs (λ k r e. h (suc k) r e) in
+    let more = ports-within nodes names (n + 1) qs (λ k r e. h (suc k) r e) in
     omega (arith, a, b, s, one, more)
 
 -- ---- the module
@@ -296,26 +296,26 @@ head-within name ps items =
 four : (a b d e : List ℕ) → length (a ++ b ++ d ++ e) ≡ length a + length b + length d + length e
 four a b d e = let x = length-append (a ++ b ++ d) e in let y = length-append (a ++ b) d in let z = length-append a b in omega (arith, x, y, z)
 
-items-within : (net : Net) (family : ℕ) → Named net family → length net.nodes < 2 ^ 32 → family < 2 ^ 32 → length (more_ports_text (map (written_port net.nodes) net.ports)) + length (items_text (items_of family net.nodes net.ports)) ≤ 200 * length net.nodes + sum_by port_bytes net.ports
-items-within net family c few low =
-    let n = nodes-within family net.ports 0 net.nodes (λ k x e. node-within net family c few low (0 + k) x (get-from_zero net.nodes k x e) (c.netlist.formed.nodes (0 + k) x (get-from_zero net.nodes k x e))) in
-    let p = ports-within net.nodes family 0 net.ports (λ k q e. port-short net family c few low k q e) in
-    let t = ap length (items-parts family net.nodes net.ports) in
-    let f = four (items_text (numbered (declaring family) 0 net.nodes)) (items_text (numbered (assigning family net.ports) 0 net.nodes)) (items_text (numbered (showing family) 0 net.ports)) (items_text (numbered (clocking family) 0 net.nodes)) in
+items-within : (net : Net) (names : ℕ → List ℕ) → Named net names → ((n : ℕ) → n < length net.nodes → Within 22 (names n)) → length (more_ports_text (map (written_port net.nodes) net.ports)) + length (items_text (items_of names net.nodes net.ports)) ≤ 200 * length net.nodes + sum_by port_bytes net.ports
+items-within net names c short =
+    let n = nodes-within names net.ports 0 net.nodes (λ k x e. node-within net names c short (0 + k) x (get-from_zero net.nodes k x e) (c.netlist.formed.nodes (0 + k) x (get-from_zero net.nodes k x e))) in
+    let p = ports-within net.nodes names 0 net.ports (λ k q e. port-short net names c short k q e) in
+    let t = ap length (items-parts names net.nodes net.ports) in
+    let f = four (items_text (numbered (declaring names) 0 net.nodes)) (items_text (numbered (assigning names net.ports) 0 net.nodes)) (items_text (numbered (showing names) 0 net.ports)) (items_text (numbered (clocking names) 0 net.nodes)) in
     omega (arith, n, p, t, f)
 
 pub text-short : (net : Net) → IsNetlist net → length net.nodes < 2 ^ 32 → length net.ports < 2 ^ 32 → length (module_text net) ≤ most_bytes net
 unfolding module_text most_bytes
 text-short net h nodes ports =
-    let family = family_of net.ports in
+    let names = naming net in
     let wide : length net.ports < 2 ^ 64 = omega (arith, ports) in
     let many : length net.nodes < 2 ^ 64 = omega (arith, nodes) in
     let low = family-small net.ports (2 ^ 32) ports in
-    let c : Named net family = record { netlist = h; few = many; small = family-small net.ports (2 ^ 64) wide; free = family-free net.ports wide } in
-    let i = items-within net family c nodes low in
+    let c : Named net names = record { netlist = h; naming = family-naming net many wide } in
+    let i = items-within net names c (λ n l. name-within (family_of net.ports) n low (let q : n < 2 ^ 32 = omega (arith, l, nodes) in q)) in
     let name = unwrap_or net.name [] in
     let ps = map (written_port net.nodes) net.ports in
-    let items = items_of family net.nodes net.ports in
+    let items = items_of names net.nodes net.ports in
     let head = head_text (record { name = name; ports = clock_port ∷ ps; items = items }) in
     let l = (head-within name ps items).is in
     let a = length-append (head ++ items_text items) (codes "endmodule\n") in

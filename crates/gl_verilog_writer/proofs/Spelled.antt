@@ -20,7 +20,6 @@ use Rattle.gl_verilog.specs.Tokens.{tokens_of}
 use Rattle.gl_verilog.specs.Written as written
 use Rattle.gl_verilog.specs.Written.{WrittenExpr, BitNot, BitAnd, BitOr, Below, AtMost, Prefix, Infix, WrittenStatement, Update, WrittenItem, Assign, Always, WrittenModule, IsExpr, IsStatement, IsItem, IsWritten, spell}
 use Rattle.gl_verilog.specs.Limits.{IsShort, depth_of, depth_in, ifs_in, AreShort, KeepsLimits, IsWithinLimits}
-use Rattle.gl_verilog_writer.specs.Pieces.{net_name}
 use Rattle.gl_verilog_writer.specs.Printed.{text_of}
 use Rattle.gl_verilog_writer.specs.Design.{port_name, binary_expr, named, literal, vector, last_word, declares, takes, does, numbered, declaring, assigning, shows, showing, clocking, range_of, written_port, clock_port, items_of}
 use Rattle.gl_verilog_writer.proofs.Digits.{IsPlain, IsSize, name-plain, clock-plain, reset-plain, size-decimal, numeral-decimal}
@@ -91,50 +90,50 @@ binary-flat Le w a b p q = by (w == 1)
     by true = record { prints = (p, q); grammar = (omega arith, (omega arith, omega arith, (omega arith, tt), tt)); depth = omega arith; short = omega arith }
     by false = record { prints = (p, q); grammar = (omega arith, (omega arith, omega arith, tt, tt)); depth = omega arith; short = omega arith }
 
-module _ (net : Net) (family : ℕ) (c : Named net family) where
+module _ (net : Net) (names : ℕ → List ℕ) (c : Named net names) where
   plain-port : (place : ℕ) (q : Port) → slice_get net.ports place ≡ Some q → IsPlain q.name
   plain-port place q e = name-plain q.name (c.netlist.finished.port_names place q e)
 
   -- what is assigned to a node's net
-  value-flat : (n : ℕ) (x : Node) → NodeFits net n x → IfSome (takes family net.ports x) IsFlat
+  value-flat : (n : ℕ) (x : Node) → NodeFits net n x → IfSome (takes names net.ports x) IsFlat
   unfolding end_at
   value-flat n (Input place w) h =
       let q = port_end (slice_get net.ports place) (In, n) h.1 in
       let a : port_name net.ports place ≡ q.0.name = ap (λ (o : Option Port). option_map_or (λ (r : Port). r.name) o []) q.1 in
       subst (λ (m : List ℕ). IsFlat (written.Named m)) (sym a) (name-flat q.0.name (plain-port place q.0 q.1))
   value-flat n (Constant word) h = literal-flat word.bits word.width h.width h.fits
-  value-flat n (Not x) h = let i = bus net family c x h.bus in record { prints = node-plain net family c x.node i.node i.there; grammar = (omega arith, (omega arith, tt)); depth = omega arith; short = omega arith }
+  value-flat n (Not x) h = let i = bus net names c x h.bus in record { prints = node-plain net names c x.node i.node i.there; grammar = (omega arith, (omega arith, tt)); depth = omega arith; short = omega arith }
   value-flat n (Binary o x y) h =
-      let i = bus net family c x h.0.bus in
-      let j = bus net family c y h.1.bus in
-      binary-flat o x.width (net_name family x.node) (net_name family y.node) (node-plain net family c x.node i.node i.there) (node-plain net family c y.node j.node j.there)
+      let i = bus net names c x h.0.bus in
+      let j = bus net names c y h.1.bus in
+      binary-flat o x.width (names x.node) (names y.node) (node-plain net names c x.node i.node i.there) (node-plain net names c y.node j.node j.there)
   value-flat n (Choose test x y) h =
-      let t = bit net family c test h.0.bit in
-      let i = bus net family c x h.1.bus in
-      let j = bus net family c y h.2.bus in
+      let t = bit net names c test h.0.bit in
+      let i = bus net names c x h.1.bus in
+      let j = bus net names c y h.2.bus in
       record {
-        prints = (node-plain net family c test.node t.node t.there, node-plain net family c x.node i.node i.there, node-plain net family c y.node j.node j.there);
+        prints = (node-plain net names c test.node t.node t.there, node-plain net names c x.node i.node i.there, node-plain net names c y.node j.node j.there);
         grammar = (omega arith, (omega arith, omega arith, omega arith, tt, tt, tt));
         depth = omega arith;
         short = omega arith;
       }
   value-flat n (Join x y) h =
-      let i = bus net family c x h.0.bus in
-      let j = bus net family c y h.1.bus in
-      record { prints = (node-plain net family c x.node i.node i.there, node-plain net family c y.node j.node j.there); grammar = (omega arith, (omega arith, tt, tt)); depth = omega arith; short = omega arith }
+      let i = bus net names c x h.0.bus in
+      let j = bus net names c y h.1.bus in
+      record { prints = (node-plain net names c x.node i.node i.there, node-plain net names c y.node j.node j.there); grammar = (omega arith, (omega arith, tt, tt)); depth = omega arith; short = omega arith }
   value-flat n (Cut x high low) h =
-      let i = bus net family c x h.0.bus in
+      let i = bus net names c x h.0.bus in
       let most = h.0.bus.width.most in let below = h.2 in let order = h.1 in
       record {
-        prints = (node-plain net family c x.node i.node i.there, size-decimal high (omega (arith, most, below)), size-decimal low (omega (arith, most, below, order)));
+        prints = (node-plain net names c x.node i.node i.there, size-decimal high (omega (arith, most, below)), size-decimal low (omega (arith, most, below, order)));
         grammar = (omega arith, tt);
         depth = omega arith;
         short = omega arith;
       }
   value-flat n (MemoryRead store x) h =
-      let s = stored net family c store h.0.store in
-      let i = bus net family c x h.1.bus in
-      record { prints = (node-plain net family c store.node s.node s.there, node-plain net family c x.node i.node i.there); grammar = (omega arith, (omega arith, tt)); depth = omega arith; short = omega arith }
+      let s = stored net names c store h.0.store in
+      let i = bus net names c x h.1.bus in
+      record { prints = (node-plain net names c store.node s.node s.there, node-plain net names c x.node i.node i.there); grammar = (omega arith, (omega arith, tt)); depth = omega arith; short = omega arith }
   value-flat n (Register w reset next) h = tt
   value-flat n (Memory bits w drive) h = tt
 
@@ -142,17 +141,17 @@ module _ (net : Net) (family : ℕ) (c : Named net family) where
   update-flat target e p h = record { prints = (p, h.prints); grammar = h.grammar; depth = h.depth; ifs = omega arith; short = h.short }
 
   -- what a register or a memory does at the edge
-  block-flat : (n : ℕ) (x : Node) → slice_get net.nodes n ≡ Some x → NodeFits net n x → IfSome (does family n x) IsFlatStatement
+  block-flat : (n : ℕ) (x : Node) → slice_get net.nodes n ≡ Some x → NodeFits net n x → IfSome (does names n x) IsFlatStatement
   block-flat n (Register w None None) e h = tt
   block-flat n (Register w (Some value) None) e h = tt
   block-flat n (Register w None (Some next)) e h =
-      let i = bus net family c next h.2.0 in
-      update-flat (net_name family n) (named family next.node) (node-plain net family c n _ e) (name-flat (net_name family next.node) (node-plain net family c next.node i.node i.there))
+      let i = bus net names c next h.2.0 in
+      update-flat (names n) (named names next.node) (node-plain net names c n _ e) (name-flat (names next.node) (node-plain net names c next.node i.node i.there))
   block-flat n (Register w (Some value) (Some next)) e h =
-      let i = bus net family c next h.2.0 in
+      let i = bus net names c next h.2.0 in
       let v = literal-flat value w h.0 h.1 in
-      let m = node-plain net family c n _ e in
-      let k = node-plain net family c next.node i.node i.there in
+      let m = node-plain net names c n _ e in
+      let k = node-plain net names c next.node i.node i.there in
       record {
         prints = (reset-plain, (m, v.prints), (m, k));
         grammar = ((omega arith, tt), refl, v.grammar, (omega arith, tt));
@@ -162,11 +161,11 @@ module _ (net : Net) (family : ℕ) (c : Named net family) where
       }
   block-flat n (Memory bits w None) e h = tt
   block-flat n (Memory bits w (Some drive)) e h =
-      let t = bit net family c drive.write h.2.write in
-      let a = bus net family c drive.address h.2.address in
-      let v = bus net family c drive.value h.2.value in
+      let t = bit net names c drive.write h.2.write in
+      let a = bus net names c drive.address h.2.address in
+      let v = bus net names c drive.value h.2.value in
       record {
-        prints = (node-plain net family c drive.write.node t.node t.there, (node-plain net family c n _ e, node-plain net family c drive.address.node a.node a.there, node-plain net family c drive.value.node v.node v.there));
+        prints = (node-plain net names c drive.write.node t.node t.there, (node-plain net names c n _ e, node-plain net names c drive.address.node a.node a.there, node-plain net names c drive.value.node v.node v.there));
         grammar = ((omega arith, tt), ((omega arith, tt), (omega arith, tt)));
         depth = omega arith;
         ifs = omega arith;
@@ -181,20 +180,20 @@ module _ (net : Net) (family : ℕ) (c : Named net family) where
   block-flat n (Cut x high low) e h = tt
   block-flat n (MemoryRead store x) e h = tt
 
-  wires-flat : (n w : ℕ) → IsPlain (net_name family n) → IsWidth w → IsFlatItem (written.Wires (vector w) (net_name family n ∷ []))
+  wires-flat : (n w : ℕ) → IsPlain (names n) → IsWidth w → IsFlatItem (written.Wires (vector w) (names n ∷ []))
   wires-flat n w p i = record { prints = (vector-size w i.most, (p, tt)); grammar = tt; limits = tt }
 
-  declaration-flat : (n : ℕ) (x : Node) → slice_get net.nodes n ≡ Some x → NodeFits net n x → IsFlatItem (declares family n x)
-  declaration-flat n (Input place w) e h = wires-flat n _ (node-plain net family c n _ e) (width-fits net n (Input place w) h)
-  declaration-flat n (Constant word) e h = wires-flat n _ (node-plain net family c n _ e) (width-fits net n (Constant word) h)
-  declaration-flat n (Not x) e h = wires-flat n _ (node-plain net family c n _ e) (width-fits net n (Not x) h)
-  declaration-flat n (Binary o x y) e h = wires-flat n _ (node-plain net family c n _ e) (width-fits net n (Binary o x y) h)
-  declaration-flat n (Choose test x y) e h = wires-flat n _ (node-plain net family c n _ e) (width-fits net n (Choose test x y) h)
-  declaration-flat n (Join x y) e h = wires-flat n _ (node-plain net family c n _ e) (width-fits net n (Join x y) h)
-  declaration-flat n (Cut x high low) e h = wires-flat n _ (node-plain net family c n _ e) (width-fits net n (Cut x high low) h)
-  declaration-flat n (MemoryRead store x) e h = wires-flat n _ (node-plain net family c n _ e) (width-fits net n (MemoryRead store x) h)
-  declaration-flat n (Register w reset next) e h = record { prints = (vector-size w h.0.most, (node-plain net family c n _ e, tt)); grammar = tt; limits = tt }
-  declaration-flat n (Memory bits w drive) e h = record { prints = (vector-size w h.1.most, node-plain net family c n _ e, size-decimal (last_word bits) (last-small bits h.0)); grammar = tt; limits = tt }
+  declaration-flat : (n : ℕ) (x : Node) → slice_get net.nodes n ≡ Some x → NodeFits net n x → IsFlatItem (declares names n x)
+  declaration-flat n (Input place w) e h = wires-flat n _ (node-plain net names c n _ e) (width-fits net n (Input place w) h)
+  declaration-flat n (Constant word) e h = wires-flat n _ (node-plain net names c n _ e) (width-fits net n (Constant word) h)
+  declaration-flat n (Not x) e h = wires-flat n _ (node-plain net names c n _ e) (width-fits net n (Not x) h)
+  declaration-flat n (Binary o x y) e h = wires-flat n _ (node-plain net names c n _ e) (width-fits net n (Binary o x y) h)
+  declaration-flat n (Choose test x y) e h = wires-flat n _ (node-plain net names c n _ e) (width-fits net n (Choose test x y) h)
+  declaration-flat n (Join x y) e h = wires-flat n _ (node-plain net names c n _ e) (width-fits net n (Join x y) h)
+  declaration-flat n (Cut x high low) e h = wires-flat n _ (node-plain net names c n _ e) (width-fits net n (Cut x high low) h)
+  declaration-flat n (MemoryRead store x) e h = wires-flat n _ (node-plain net names c n _ e) (width-fits net n (MemoryRead store x) h)
+  declaration-flat n (Register w reset next) e h = record { prints = (vector-size w h.0.most, (node-plain net names c n _ e, tt)); grammar = tt; limits = tt }
+  declaration-flat n (Memory bits w drive) e h = record { prints = (vector-size w h.1.most, node-plain net names c n _ e, size-decimal (last_word bits) (last-small bits h.0)); grammar = tt; limits = tt }
 
   assign-flat : (name : List ℕ) (o : Option WrittenExpr) → IsPlain name → IfSome o IsFlat → IfSome (option_map (Assign name) o) IsFlatItem
   assign-flat name None p h = tt
@@ -204,23 +203,23 @@ module _ (net : Net) (family : ℕ) (c : Named net family) where
   always-flat None h = tt
   always-flat (Some s) h = record { prints = (clock-plain, h.prints); grammar = h.grammar; limits = (h.depth, h.ifs, h.short) }
 
-  show-flat : (place : ℕ) (q : Port) → slice_get net.ports place ≡ Some q → (d : Direction) → EndFits net place d q.node → IfSome (shows family d q.name q.node) IsFlatItem
+  show-flat : (place : ℕ) (q : Port) → slice_get net.ports place ≡ Some q → (d : Direction) → EndFits net place d q.node → IfSome (shows names d q.name q.node) IsFlatItem
   show-flat place q t In f = tt
   show-flat place q t Out f =
-      let i = shown net family c q.node f.0 f.1 in
-      record { prints = (plain-port place q t, node-plain net family c q.node i.node i.there); grammar = (omega arith, tt); limits = (omega arith, omega arith) }
+      let i = shown net names c q.node f.0 f.1 in
+      record { prints = (plain-port place q t, node-plain net names c q.node i.node i.there); grammar = (omega arith, tt); limits = (omega arith, omega arith) }
 
-  items-flat : AllByRecursion IsFlatItem (items_of family net.nodes net.ports)
+  items-flat : AllByRecursion IsFlatItem (items_of names net.nodes net.ports)
   items-flat =
-      let d = numbered (declaring family) 0 net.nodes in
-      let a = numbered (assigning family net.ports) 0 net.nodes in
-      let o = numbered (showing family) 0 net.ports in
-      let b = numbered (clocking family) 0 net.nodes in
+      let d = numbered (declaring names) 0 net.nodes in
+      let a = numbered (assigning names net.ports) 0 net.nodes in
+      let o = numbered (showing names) 0 net.ports in
+      let b = numbered (clocking names) 0 net.nodes in
       let fits = c.netlist.formed.nodes in
-      let hd = numbered-all IsFlatItem (declaring family) 0 net.nodes (λ k x e. declaration-flat (0 + k) x (get-from_zero net.nodes k x e) (fits (0 + k) x (get-from_zero net.nodes k x e))) in
-      let ha = numbered-all IsFlatItem (assigning family net.ports) 0 net.nodes (λ k x e. assign-flat (net_name family (0 + k)) (takes family net.ports x) (node-plain net family c (0 + k) x (get-from_zero net.nodes k x e)) (value-flat (0 + k) x (fits (0 + k) x (get-from_zero net.nodes k x e)))) in
-      let ho = numbered-all IsFlatItem (showing family) 0 net.ports (λ k q e. show-flat (0 + k) q (get-from_zero net.ports k q e) q.direction (c.netlist.formed.ends (0 + k) q (get-from_zero net.ports k q e))) in
-      let hb = numbered-all IsFlatItem (clocking family) 0 net.nodes (λ k x e. always-flat (does family (0 + k) x) (block-flat (0 + k) x (get-from_zero net.nodes k x e) (fits (0 + k) x (get-from_zero net.nodes k x e)))) in
+      let hd = numbered-all IsFlatItem (declaring names) 0 net.nodes (λ k x e. declaration-flat (0 + k) x (get-from_zero net.nodes k x e) (fits (0 + k) x (get-from_zero net.nodes k x e))) in
+      let ha = numbered-all IsFlatItem (assigning names net.ports) 0 net.nodes (λ k x e. assign-flat (names (0 + k)) (takes names net.ports x) (node-plain net names c (0 + k) x (get-from_zero net.nodes k x e)) (value-flat (0 + k) x (fits (0 + k) x (get-from_zero net.nodes k x e)))) in
+      let ho = numbered-all IsFlatItem (showing names) 0 net.ports (λ k q e. show-flat (0 + k) q (get-from_zero net.ports k q e) q.direction (c.netlist.formed.ends (0 + k) q (get-from_zero net.ports k q e))) in
+      let hb = numbered-all IsFlatItem (clocking names) 0 net.nodes (λ k x e. always-flat (does names (0 + k) x) (block-flat (0 + k) x (get-from_zero net.nodes k x e) (fits (0 + k) x (get-from_zero net.nodes k x e)))) in
       all_append IsFlatItem (d ++ a ++ o) b (all_append IsFlatItem (d ++ a) o (all_append IsFlatItem d a hd ha) ho) hb
 
   each-item : (P : WrittenItem → Type 0) → ((i : WrittenItem) → IsFlatItem i → P i) → (is : List WrittenItem) → AllByRecursion IsFlatItem is → AllByRecursion P is
@@ -230,7 +229,7 @@ module _ (net : Net) (family : ℕ) (c : Named net family) where
   ports-printed : (n : ℕ) (qs : List Port) → ((k : ℕ) (q : Port) → slice_get qs k ≡ Some q → slice_get net.ports (n + k) ≡ Some q) → AllByRecursion IsPrintedPort (map (written_port net.nodes) qs)
   ports-printed n [] h = tt
   ports-printed n (q ∷ qs) h = (
-    record { range = range-size (bits_of (shape_in net.nodes q.node)) (port-width net family c (n + 0) q (h 0 q refl)).most; name = plain-port (n + 0) q (h 0 q refl) },
+    record { range = range-size (bits_of (shape_in net.nodes q.node)) (port-width net names c (n + 0) q (h 0 q refl)).most; name = plain-port (n + 0) q (h 0 q refl) },
     ports-printed (n + 1) qs (λ k r e. ap (λ (m : ℕ). slice_get net.ports m) (let z : n + 1 + k ≡ n + suc k = omega arith in z) ∙ h (suc k) r e),
   )
 
@@ -239,20 +238,20 @@ module _ (net : Net) (family : ℕ) (c : Named net family) where
   name-there (Some w) h = name-plain w h
 
   abbrev pub written_as : WrittenModule
-  written_as = record { name = unwrap_or net.name []; ports = clock_port ∷ map (written_port net.nodes) net.ports; items = items_of family net.nodes net.ports }
+  written_as = record { name = unwrap_or net.name []; ports = clock_port ∷ map (written_port net.nodes) net.ports; items = items_of names net.nodes net.ports }
 
   pub module-printed : IsPrintedModule written_as
   module-printed = record {
     name = name-there net.name c.netlist.finished.module_name;
     ports = (record { range = tt; name = clock-plain }, ports-printed 0 net.ports (get-from_zero net.ports));
-    items = each-item IsPrinted (λ i h. h.prints) (items_of family net.nodes net.ports) items-flat;
+    items = each-item IsPrinted (λ i h. h.prints) (items_of names net.nodes net.ports) items-flat;
   }
 
   pub module-spelled-as : tokens_of (text_of written_as) ≡ spell written_as
   module-spelled-as = module-spelled written_as module-printed
 
   pub module-written : IsWritten written_as
-  module-written = record { ports = tt; items = each-item IsItem (λ i h. h.grammar) (items_of family net.nodes net.ports) items-flat }
+  module-written = record { ports = tt; items = each-item IsItem (λ i h. h.grammar) (items_of names net.nodes net.ports) items-flat }
 
   pub module-limited : IsWithinLimits written_as
-  module-limited = each-item KeepsLimits (λ i h. h.limits) (items_of family net.nodes net.ports) items-flat
+  module-limited = each-item KeepsLimits (λ i h. h.limits) (items_of names net.nodes net.ports) items-flat

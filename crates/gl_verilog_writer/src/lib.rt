@@ -5,6 +5,7 @@
 #![tactic(auto)]
 
 pub mod label;
+mod names;
 pub mod nodes;
 pub mod pieces;
 pub mod text;

@@ -37,7 +37,7 @@ pub(crate) fn put_family(out: &mut Vec<u8>, family: usize) -> Result<(), Memory>
 /// Appends the name of a node's net, `nFAMILY_NODE`. The family keeps it apart from the ports'
 /// names.
 #[tactic(auto, unfolding(crate::specs::Pieces::net_name))]
-pub(crate) fn put_net(out: &mut Vec<u8>, family: usize, node: usize) -> Result<(), Memory>
+pub(crate) fn put_name(out: &mut Vec<u8>, family: usize, node: usize) -> Result<(), Memory>
     ensures { OnOk result (out.new.items ≡ out.old.items ++ net_name family node) }
 {
     put_family(out, family)?;

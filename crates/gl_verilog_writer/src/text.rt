@@ -10,8 +10,9 @@ ghost use Rattle.gl_verilog_writer.specs.Texts.{next_port_text, next_ports_text,
 ghost use Rattle.gl_verilog_writer.specs.Size.{most_bytes};
 ghost use Rattle.gl_verilog_writer.specs.Design.{begins_port, family_of, leads, range_of, clock_port, module_text};
 
+use crate::names::{Names, put_net};
 use crate::nodes::{put_assignment, put_block, put_declaration, width_of};
-use crate::pieces::{put, put_family, put_net, put_range};
+use crate::pieces::{put, put_family, put_range};
 use gl_bits::Memory;
 use gl_net::{Direction, Netlist, Node, Port};
 
@@ -115,11 +116,11 @@ fn put_head(out: &mut Vec<u8>, name: &[u8], nodes: &[Node], ports: &[Port]) -> R
 }
 
 #[tactic(auto, using(crate::proofs::Loops::loop_steps))]
-fn put_declarations(out: &mut Vec<u8>, family: usize, nodes: &[Node]) -> Result<(), Memory>
-    ensures { OnOk result (out.new.items ≡ out.old.items ++ declarations_text family nodes.now) }
+fn put_declarations(out: &mut Vec<u8>, names: &Names, nodes: &[Node]) -> Result<(), Memory>
+    ensures { OnOk result (out.new.items ≡ out.old.items ++ declarations_text names.now nodes.now) }
 {
     for (number, node) in nodes.iter().enumerate() {
-        put_declaration(out, family, number, node)?;
+        put_declaration(out, names, number, node)?;
     }
     Ok(())
 }
@@ -127,21 +128,21 @@ fn put_declarations(out: &mut Vec<u8>, family: usize, nodes: &[Node]) -> Result<
 #[tactic(auto, using(crate::proofs::Loops::loop_steps))]
 fn put_assignments(
     out: &mut Vec<u8>,
-    family: usize,
+    names: &Names,
     nodes: &[Node],
     ports: &[Port],
 ) -> Result<(), Memory>
-    ensures { OnOk result (out.new.items ≡ out.old.items ++ sets_text family nodes.now ports.now) }
+    ensures { OnOk result (out.new.items ≡ out.old.items ++ sets_text names.now nodes.now ports.now) }
 {
     for (number, node) in nodes.iter().enumerate() {
-        put_assignment(out, family, ports, number, node)?;
+        put_assignment(out, names, ports, number, node)?;
     }
     Ok(())
 }
 
 // An output port shows its node.
-fn put_output(out: &mut Vec<u8>, family: usize, port: &Port) -> Result<(), Memory>
-    ensures { OnOk result (out.new.items ≡ out.old.items ++ shown_text family port.now) }
+fn put_output(out: &mut Vec<u8>, names: &Names, port: &Port) -> Result<(), Memory>
+    ensures { OnOk result (out.new.items ≡ out.old.items ++ shown_text names.now port.now) }
 {
     match port.direction {
         Direction::In => Ok(()),
@@ -149,47 +150,47 @@ fn put_output(out: &mut Vec<u8>, family: usize, port: &Port) -> Result<(), Memor
             put(out, b"assign ")?;
             put(out, port.name.as_slice())?;
             put(out, b" = ")?;
-            put_net(out, family, port.node)?;
+            put_net(out, names, port.node)?;
             put(out, b";\n")
         }
     }
 }
 
 #[tactic(auto, using(crate::proofs::Loops::loop_steps))]
-fn put_outputs(out: &mut Vec<u8>, family: usize, ports: &[Port]) -> Result<(), Memory>
-    ensures { OnOk result (out.new.items ≡ out.old.items ++ shows_text family ports.now) }
+fn put_outputs(out: &mut Vec<u8>, names: &Names, ports: &[Port]) -> Result<(), Memory>
+    ensures { OnOk result (out.new.items ≡ out.old.items ++ shows_text names.now ports.now) }
 {
     for port in ports {
-        put_output(out, family, port)?;
+        put_output(out, names, port)?;
     }
     Ok(())
 }
 
 #[tactic(auto, using(crate::proofs::Loops::loop_steps))]
-fn put_blocks(out: &mut Vec<u8>, family: usize, nodes: &[Node]) -> Result<(), Memory>
-    ensures { OnOk result (out.new.items ≡ out.old.items ++ blocks_text family nodes.now) }
+fn put_blocks(out: &mut Vec<u8>, names: &Names, nodes: &[Node]) -> Result<(), Memory>
+    ensures { OnOk result (out.new.items ≡ out.old.items ++ blocks_text names.now nodes.now) }
 {
     for (number, node) in nodes.iter().enumerate() {
-        put_block(out, family, number, node)?;
+        put_block(out, names, number, node)?;
     }
     Ok(())
 }
 
 // The items, one part after the other.
-fn put_parts(out: &mut Vec<u8>, family: usize, nodes: &[Node], ports: &[Port]) -> Result<(), Memory>
-    ensures { OnOk result (out.new.items ≡ out.old.items ++ parts_text family nodes.now ports.now) }
+fn put_parts(out: &mut Vec<u8>, names: &Names, nodes: &[Node], ports: &[Port]) -> Result<(), Memory>
+    ensures { OnOk result (out.new.items ≡ out.old.items ++ parts_text names.now nodes.now ports.now) }
 {
-    put_declarations(out, family, nodes)?;
-    put_assignments(out, family, nodes, ports)?;
-    put_outputs(out, family, ports)?;
-    put_blocks(out, family, nodes)
+    put_declarations(out, names, nodes)?;
+    put_assignments(out, names, nodes, ports)?;
+    put_outputs(out, names, ports)?;
+    put_blocks(out, names, nodes)
 }
 
 // All items.
-fn put_items(out: &mut Vec<u8>, family: usize, nodes: &[Node], ports: &[Port]) -> Result<(), Memory>
-    ensures { OnOk result (out.new.items ≡ out.old.items ++ body_text family nodes.now ports.now) }
+fn put_items(out: &mut Vec<u8>, names: &Names, nodes: &[Node], ports: &[Port]) -> Result<(), Memory>
+    ensures { OnOk result (out.new.items ≡ out.old.items ++ body_text names.now nodes.now ports.now) }
 {
-    put_parts(out, family, nodes, ports)
+    put_parts(out, names, nodes, ports)
 }
 
 // So many nodes or ports are refused as want of memory: their numbers have at most ten digits.
@@ -211,9 +212,9 @@ fn put_module(out: &mut Vec<u8>, net: &Netlist) -> Result<(), Memory>
         return Err(Memory);
     }
     let mut scratch = Vec::new(*out.allocator());
-    let family = free_family(&mut scratch, ports)?;
+    let names = Names::Family(free_family(&mut scratch, ports)?);
     put_head(out, net.name(), nodes, ports)?;
-    put_items(out, family, nodes, ports)?;
+    put_items(out, &names, nodes, ports)?;
     put(out, b"endmodule\n")
 }
 
