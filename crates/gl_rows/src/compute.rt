@@ -17,6 +17,7 @@ use crate::operation::put_operations;
 use gl_algebra::{ColOp, Figures};
 use gl_bits::{Kind, Memory};
 use gl_net::{Bus, Buses, NetBuilder};
+use gl_wire::laws::steady_serves;
 use gl_wire::{Emitted, Operator, stage};
 use std::alloc::Global;
 
@@ -95,6 +96,7 @@ impl Operator for ComputeRow<'_> {
     }
 
     fn emit(&self, alloc: Global, net: &mut NetBuilder, below: Emitted) -> Result<Emitted, Memory> {
+        steady_serves();
         // Named, since a goal speaks of the value.
         let put = put_compute(alloc, net, below, self.kinds, self.ops)?;
         Ok(put)

@@ -14,6 +14,7 @@ use crate::operand::{Source, put_operands};
 use gl_algebra::{Figures, Operand};
 use gl_bits::{Kind, Memory};
 use gl_net::NetBuilder;
+use gl_wire::laws::steady_serves;
 use gl_wire::{Emitted, Operator, Wire, settled_figures};
 use std::alloc::Global;
 
@@ -74,6 +75,7 @@ impl Operator for ProjectRow<'_> {
     }
 
     fn emit(&self, alloc: Global, net: &mut NetBuilder, below: Emitted) -> Result<Emitted, Memory> {
+        steady_serves();
         // Named, since a goal speaks of the value.
         let put = put_project(alloc, net, below, self.kinds, self.items)?;
         Ok(put)

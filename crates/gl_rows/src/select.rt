@@ -11,6 +11,7 @@ use crate::figures::later_figures;
 use gl_algebra::Figures;
 use gl_bits::Memory;
 use gl_net::NetBuilder;
+use gl_wire::laws::steady_serves;
 use gl_wire::{Emitted, Operator, both, stage};
 use std::alloc::Global;
 
@@ -66,6 +67,7 @@ impl Operator for SelectRow {
     }
 
     fn emit(&self, alloc: Global, net: &mut NetBuilder, below: Emitted) -> Result<Emitted, Memory> {
+        steady_serves();
         // Named, since a goal speaks of the value.
         let put = put_select(alloc, net, below, self.column)?;
         Ok(put)

@@ -6,7 +6,6 @@ use Rattle.gl_bits.specs.Results.{Row}
 use Rattle.gl_wire.specs.Wire.{carried}
 use Rattle.gl_wire.specs.Shapes.{Mapped}
 use Rattle.gl_wire.proofs.SettledLemmas.{settled_serves}
-use Rattle.gl_wire.proofs.SteadyLemmas.{steady_serves}
 use Rattle.gl_rows.proofs.compute.ComputeRowOperator.emit.Goals as goal
 
 pub returns-clause-serves : goal.returns-clause-serves
@@ -16,4 +15,4 @@ returns-clause-serves c = λ run r f sound.
     let a = carried run c.args.below.wire in
     let b = carried run c.in_ok-put.put.wire in
     settled_serves f (delayed 1 f) (Mapped (λ (row : Row). Some (computed kinds ops row))) a b (delayed_sound 1 f sound)
-    (steady_serves 1 (λ (row : Row). Some (computed kinds ops row)) a b f (c.in_ok-put.ensures.shape run r))
+    (c.steady_serves.ensures 1 (λ (row : Row). Some (computed kinds ops row)) a b f (c.in_ok-put.ensures.shape run r))

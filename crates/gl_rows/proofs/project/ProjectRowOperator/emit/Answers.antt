@@ -7,7 +7,6 @@ use Rattle.gl_wire.specs.Wire.{carried}
 use Rattle.gl_wire.specs.Serves.{Serves}
 use Rattle.gl_wire.specs.Shapes.{Mapped}
 use Rattle.gl_wire.proofs.SettledLemmas.{settled_serves}
-use Rattle.gl_wire.proofs.SteadyLemmas.{steady_serves}
 use Rattle.gl_rows.proofs.project.ProjectRowOperator.emit.Goals as goal
 
 pub returns-clause-serves : goal.returns-clause-serves
@@ -17,4 +16,4 @@ returns-clause-serves c = λ run r f sound.
     let b = carried run c.in_ok-put.put.wire in
     settled_serves f f (Mapped (λ (row : Row). Some (projected items row))) a b sound
     (subst (λ (g : Figures). Serves f g (Mapped (λ (row : Row). Some (projected items row))) a b) (delayed_by_none f)
-    (steady_serves 0 (λ (row : Row). Some (projected items row)) a b f (c.in_ok-put.ensures.shape run r)))
+    (c.steady_serves.ensures 0 (λ (row : Row). Some (projected items row)) a b f (c.in_ok-put.ensures.shape run r)))
