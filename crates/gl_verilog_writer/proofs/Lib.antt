@@ -1,5 +1,7 @@
 pub mod Loops
 pub mod Digits
+pub mod Quiet
+pub mod Starts
 pub mod Texts
 pub mod Model
 pub mod Lists
@@ -11,7 +13,9 @@ pub mod Checked
 pub mod Ordered
 pub mod Driven
 pub mod Family
+pub mod Labelled
 pub mod Sizes
+pub mod Room
 pub mod Costs
 pub mod Running
 pub mod Means

@@ -28,7 +28,7 @@ use Rattle.gl_verilog.specs.Module.{Declaration, Expr, Statement, Assignment, nu
 use Rattle.gl_verilog.specs.Widths.{width_of}
 use Rattle.gl_verilog.specs.Resolve.{number_read, both, three, prefixed, decimal_number, resolve_expr, resolve_statement, declare, port_kind, declare_port, address_bits_to, address_bits_of, Resolved, clocked, resolve_items, module_from, resolve}
 use Rattle.gl_verilog_writer.specs.Meaning.{declaration_of, clock, kind_of}
-use Rattle.gl_verilog_writer.specs.Design.{port_name, binary_expr, named, literal, vector, last_word, declares, takes, does, with_option, numbered, declaring, assigning, shows, showing, clocking, leads, written_port, clock_port, items_of}
+use Rattle.gl_verilog_writer.specs.Design.{port_name, binary_expr, named, literal, vector, last_word, declares, takes, does, with_option, numbered, declaring, assigning, shows, showing, clocking, driving, leads, written_port, clock_port, items_of, written_as}
 use Rattle.gl_verilog_writer.proofs.Digits.{number_in-decimal}
 use Rattle.gl_verilog_writer.proofs.Model.{Named, at_node, net_of, binary_meaning, declaration_for, expression_of, assigned_to, assignment_for, shown_by, output_for, block_for, counted, declarations_in, line_in, module_in}
 use Rattle.gl_verilog_writer.proofs.Lists.{with-append, get-from_zero}
@@ -106,6 +106,10 @@ MeansAssignment ds i a = (is : List WrittenItem) (r : Resolved) → resolve_item
 abbrev pub MeansBlock : List Declaration → Option WrittenItem → Option Statement → Type 0
 MeansBlock ds i b = (is : List WrittenItem) (r : Resolved) → resolve_items ds is ≡ Some r → resolve_items ds (with_option i is) ≡ Some (record r { blocks = with_option b r.blocks })
 
+-- an item means an assignment or a block
+abbrev pub MeansDriver : List Declaration → Option WrittenItem → Option Assignment → Option Statement → Type 0
+MeansDriver ds i a b = (is : List WrittenItem) (r : Resolved) → resolve_items ds is ≡ Some r → resolve_items ds (with_option i is) ≡ Some (record r { assignments = with_option a r.assignments; blocks = with_option b r.blocks })
+
 means-assignment : (ds : List Declaration) (name : List ℕ) (e : WrittenExpr) (target : ℕ) (value : Expr) → number_of ds name ≡ Some target → resolve_expr ds e ≡ Some value → MeansAssignment ds (Some (Assign name e)) (Some (assigned_to target value))
 means-assignment ds name e target value f g = λ is r h. rw (f, g, h) refl
 
@@ -124,14 +128,15 @@ all-assignments ds f g n (x ∷ xs) h is r e =
     ∙ m (numbered f (n + 1) xs ++ is) (record r { assignments = numbered g (n + 1) xs ++ r.assignments }) rest
     ∙ ap (λ (as' : List Assignment). Some (record r { assignments = as' })) (sym (with-append (g n x) (numbered g (n + 1) xs) r.assignments))
 
-all-blocks : {A : Type 0} (ds : List Declaration) (f : ℕ → A → Option WrittenItem) (g : ℕ → A → Option Statement) (n : ℕ) (xs : List A) → ((k : ℕ) (x : A) → slice_get xs k ≡ Some x → MeansBlock ds (f (n + k) x) (g (n + k) x)) → (is : List WrittenItem) (r : Resolved) → resolve_items ds is ≡ Some r → resolve_items ds (numbered f n xs ++ is) ≡ Some (record r { blocks = numbered g n xs ++ r.blocks })
-all-blocks ds f g n [] h is r e = e
-all-blocks ds f g n (x ∷ xs) h is r e =
-    let m : MeansBlock ds (f n x) (g n x) = subst (λ (k : ℕ). MeansBlock ds (f k x) (g k x)) (let q : n + 0 ≡ n = omega arith in q) (h 0 x refl) in
-    let rest = all-blocks ds f g (n + 1) xs (λ k y p. subst (λ (k : ℕ). MeansBlock ds (f k y) (g k y)) (up n k) (h (suc k) y p)) is r e in
+all-drivers : {A : Type 0} (ds : List Declaration) (f : ℕ → A → Option WrittenItem) (g : ℕ → A → Option Assignment) (b : ℕ → A → Option Statement) (n : ℕ) (xs : List A) → ((k : ℕ) (x : A) → slice_get xs k ≡ Some x → MeansDriver ds (f (n + k) x) (g (n + k) x) (b (n + k) x)) → (is : List WrittenItem) (r : Resolved) → resolve_items ds is ≡ Some r → resolve_items ds (numbered f n xs ++ is) ≡ Some (record r { assignments = numbered g n xs ++ r.assignments; blocks = numbered b n xs ++ r.blocks })
+all-drivers ds f g b n [] h is r e = e
+all-drivers ds f g b n (x ∷ xs) h is r e =
+    let m : MeansDriver ds (f n x) (g n x) (b n x) = subst (λ (k : ℕ). MeansDriver ds (f k x) (g k x) (b k x)) (let q : n + 0 ≡ n = omega arith in q) (h 0 x refl) in
+    let rest = all-drivers ds f g b (n + 1) xs (λ k y p. subst (λ (k : ℕ). MeansDriver ds (f k y) (g k y) (b k y)) (up n k) (h (suc k) y p)) is r e in
     ap (resolve_items ds) (with-append (f n x) (numbered f (n + 1) xs) is)
-    ∙ m (numbered f (n + 1) xs ++ is) (record r { blocks = numbered g (n + 1) xs ++ r.blocks }) rest
-    ∙ ap (λ (bs : List Statement). Some (record r { blocks = bs })) (sym (with-append (g n x) (numbered g (n + 1) xs) r.blocks))
+    ∙ m (numbered f (n + 1) xs ++ is) (record r { assignments = numbered g (n + 1) xs ++ r.assignments; blocks = numbered b (n + 1) xs ++ r.blocks }) rest
+    ∙ ap (λ (as' : List Assignment). Some (record r { assignments = as'; blocks = with_option (b n x) (numbered b (n + 1) xs ++ r.blocks) })) (sym (with-append (g n x) (numbered g (n + 1) xs) r.assignments))
+    ∙ ap (λ (bs : List Statement). Some (record r { assignments = with_option (g n x) (numbered g (n + 1) xs) ++ r.assignments; blocks = bs })) (sym (with-append (b n x) (numbered b (n + 1) xs) r.blocks))
 
 -- what is written of two values under an operation means that operation
 binary-means : (ds : List Declaration) (o : BinaryOp) (a b : WrittenExpr) (x y : Expr) (w : ℕ) → resolve_expr ds a ≡ Some x → resolve_expr ds b ≡ Some y → width_of ds x ≡ w → resolve_expr ds (binary_expr o w a b) ≡ Some (binary_meaning o w x y)
@@ -307,6 +312,22 @@ module _ (net : Net) (names : ℕ → List ℕ) (c : Named net names) where
   clocked-both n (Cut x high low) = refl
   clocked-both n (MemoryRead store x) = refl
 
+  -- what drives a node means its assignment or its block
+  drive-means : (n : ℕ) (x : Node) → slice_get net.nodes n ≡ Some x → NodeFits net n x → MeansDriver ds (driving names net.ports n x) (assignment_for p n x) (block_for p (line_in net names) n x)
+  drive-means n x e f = by x (assign-by n x e (takes names net.ports x) (expression_of p x) (assigned-both x) (value-means n x f)) (clock-by (does names n x) (block_for p (line_in net names) n x) (clocked-both n x) (block-means n x e f))
+    where
+      by : (x : Node) → MeansAssignment ds (assigning names net.ports n x) (assignment_for p n x) → MeansBlock ds (clocking names n x) (block_for p (line_in net names) n x) → MeansDriver ds (driving names net.ports n x) (assignment_for p n x) (block_for p (line_in net names) n x)
+      by (Input place w) a b = a
+      by (Constant word) a b = a
+      by (Not x) a b = a
+      by (Binary o x y) a b = a
+      by (Choose test x y) a b = a
+      by (Join x y) a b = a
+      by (Cut x high low) a b = a
+      by (MemoryRead store x) a b = a
+      by (Register w reset next) a b = b
+      by (Memory bits w drive) a b = b
+
   -- an output port shows its node
   show-by : (place : ℕ) (q : Port) → slice_get net.ports place ≡ Some q → (d : Direction) → EndFits net place d q.node → MeansAssignment ds (shows names d q.name q.node) (shown_by p place d q.node)
   show-by place q t In f = λ is r h. h
@@ -345,31 +366,26 @@ module _ (net : Net) (names : ℕ → List ℕ) (c : Named net names) where
       ≡ Some (record { declarations = ds; assignments = numbered (assignment_for p) 0 net.nodes ++ numbered (output_for p) 0 net.ports; blocks = numbered (block_for p (line_in net names)) 0 net.nodes })
   items-mean =
       let d = numbered (declaring names) 0 net.nodes in
-      let a = numbered (assigning names net.ports) 0 net.nodes in
+      let s = numbered (driving names net.ports) 0 net.nodes in
       let o = numbered (showing names) 0 net.ports in
-      let b = numbered (clocking names) 0 net.nodes in
       let ports : map declare_port (map (written_port net.nodes) net.ports) ≡ map (declaration_of net) net.ports = declare-ports 0 net.ports (λ k q e. get-from_zero net.ports k q e) in
-      let order : d ++ a ++ o ++ b ≡ d ++ (a ++ (o ++ (b ++ []))) = ap (λ (z : List WrittenItem). d ++ a ++ o ++ z) (sym (append-nil b)) ∙ append_assoc (d ++ a) o (b ++ []) ∙ append_assoc d a (o ++ (b ++ [])) in
+      let order : d ++ s ++ o ≡ d ++ (s ++ (o ++ [])) = ap (λ (z : List WrittenItem). d ++ s ++ z) (sym (append-nil o)) ∙ append_assoc d s (o ++ []) in
       let r0 : Resolved = record { declarations = ds; assignments = []; blocks = [] } in
-      let r1 : Resolved = record { declarations = ds; assignments = []; blocks = numbered (block_for p (line_in net names)) 0 net.nodes ++ [] } in
-      let r2 : Resolved = record r1 { assignments = numbered (output_for p) 0 net.ports ++ [] } in
-      let blocks = all-blocks ds (clocking names) (block_for p (line_in net names)) 0 net.nodes
-      (λ k x e. clock-by (does names (0 + k) x) (block_for p (line_in net names) (0 + k) x) (clocked-both (0 + k) x) (let z = get-from_zero net.nodes k x e in block-means (0 + k) x z (fits (0 + k) x z))) [] r0 refl in
+      let r1 : Resolved = record r0 { assignments = numbered (output_for p) 0 net.ports ++ [] } in
       let outputs = all-assignments ds (showing names) (output_for p) 0 net.ports
-      (λ k q e. (let z = get-from_zero net.ports k q e in show-by (0 + k) q z q.direction (c.netlist.formed.ends (0 + k) q z))) (b ++ []) r1 blocks in
-      let values = all-assignments ds (assigning names net.ports) (assignment_for p) 0 net.nodes
-      (λ k x e. (let z = get-from_zero net.nodes k x e in assign-by (0 + k) x z (takes names net.ports x) (expression_of p x) (assigned-both x) (value-means (0 + k) x (fits (0 + k) x z)))) (o ++ (b ++ [])) r2 outputs in
-      ap (λ (l : List Declaration). resolve_items (clock ∷ l) (d ++ a ++ o ++ b)) ports
+      (λ k q e. (let z = get-from_zero net.ports k q e in show-by (0 + k) q z q.direction (c.netlist.formed.ends (0 + k) q z))) [] r0 refl in
+      let drivers = all-drivers ds (driving names net.ports) (assignment_for p) (block_for p (line_in net names)) 0 net.nodes
+      (λ k x e. (let z = get-from_zero net.nodes k x e in drive-means (0 + k) x z (fits (0 + k) x z))) (o ++ []) r1 outputs in
+      ap (λ (l : List Declaration). resolve_items (clock ∷ l) (d ++ s ++ o)) ports
       ∙ ap (resolve_items (clock ∷ map (declaration_of net) net.ports)) order
-      ∙ declare-all net names 0 net.nodes (clock ∷ map (declaration_of net) net.ports) (a ++ (o ++ (b ++ []))) (λ k x e. fits (0 + k) x (get-from_zero net.nodes k x e))
-      ∙ values
+      ∙ declare-all net names 0 net.nodes (clock ∷ map (declaration_of net) net.ports) (s ++ (o ++ [])) (λ k x e. fits (0 + k) x (get-from_zero net.nodes k x e))
+      ∙ drivers
       ∙ ap (λ (z : List Statement). Some (record { declarations = ds; assignments = numbered (assignment_for p) 0 net.nodes ++ (numbered (output_for p) 0 net.ports ++ []); blocks = z })) (append-nil (numbered (block_for p (line_in net names)) 0 net.nodes))
       ∙ ap (λ (z : List Assignment). Some (record { declarations = ds; assignments = numbered (assignment_for p) 0 net.nodes ++ z; blocks = numbered (block_for p (line_in net names)) 0 net.nodes })) (append-nil (numbered (output_for p) 0 net.ports))
 
   -- the written module resolves to the module
-  pub resolves : resolve (record { name = unwrap_or net.name []; ports = clock_port ∷ map (written_port net.nodes) net.ports; items = items_of names net.nodes net.ports }) ≡ Some (module_in net names)
+  pub resolves : resolve (written_as names net) ≡ Some (module_in net names)
   unfolding module_in
   resolves =
-      let w : WrittenModule = record { name = unwrap_or net.name []; ports = clock_port ∷ map (written_port net.nodes) net.ports; items = items_of names net.nodes net.ports } in
-      ap (option_map (module_from w)) items-mean
+      ap (option_map (module_from (written_as names net))) items-mean
       ∙ ap (λ (n : ℕ). Some (record { name = unwrap_or net.name []; ports = suc n; declarations = ds; assignments = numbered (assignment_for p) 0 net.nodes ++ numbered (output_for p) 0 net.ports; blocks = numbered (block_for p (line_in net names)) 0 net.nodes })) (length-map net.ports (written_port net.nodes))
