@@ -1,5 +1,5 @@
 -- Labels with the numbers of their nodes are names, whatever they say.
-use Rattle.std.proofs.Common.{◌≡◌, ℕ, ◌+◌, ◌-◌, ◌<◌, ◌≤◌, ◌^◌, Bool, true, false, not, ◌||◌, ◌&&◌, List, [], ◌∷◌, ◌++◌, length, length-append, drop, Some, refl, sym, ap, subst, ◌∙◌, arith, append_assoc, leb-true, ltb-true}
+use Rattle.std.proofs.Common.{◌≡◌, ℕ, ◌-◌, ◌<◌, ◌≤◌, ◌^◌, Bool, true, false, not, ◌||◌, ◌&&◌, List, [], ◌∷◌, ◌++◌, length, length-append, drop, Some, refl, sym, ap, subst, ◌∙◌, arith, append_assoc, leb-true, ltb-true}
 use Rattle.std.specs.Prelude.{codes, decimal, slice_get, nat_eq, nat_lt, nat_le, bytes_eq, if◌then◌else◌}
 use Rattle.std.specs.List.{list_any, list_all}
 use Rattle.std.specs.Str.Parse.{AllDigits}
@@ -11,7 +11,7 @@ use Rattle.gl_net.specs.Net.{Net}
 use Rattle.gl_net.specs.Finished.{IsName}
 use Rattle.gl_verilog_writer.specs.declared.label.Labels.{Labels}
 use Rattle.gl_verilog_writer.specs.Naming.{IsNaming}
-use Rattle.gl_verilog_writer.specs.Labelled.{begins_port, family_of, is_name_byte, kept_byte, room_left, clean, label_name, name_at, are_shown, ByFamily, ByLabels, name_in, scheme_of, naming}
+use Rattle.gl_verilog_writer.specs.Labelled.{begins_port, family_of, is_name_byte, clean, label_name, name_at, are_shown, ByFamily, ByLabels, name_in, naming}
 use Rattle.gl_verilog_writer.proofs.Digits.{numeral-decimal, all-append, digits-name}
 use Rattle.gl_verilog_writer.proofs.Family.{not-port, family-naming}
 

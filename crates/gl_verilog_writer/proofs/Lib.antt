@@ -1,12 +1,12 @@
 pub mod Loops
 pub mod Digits
 pub mod Quiet
-pub mod Starts
 pub mod Texts
 pub mod Model
 pub mod Lists
 pub mod Named
 pub mod Fitted
+pub mod Ranges
 pub mod Resolved
 pub mod Spelled
 pub mod Checked
@@ -19,3 +19,4 @@ pub mod Room
 pub mod Costs
 pub mod Running
 pub mod Means
+pub mod Starts

@@ -21,21 +21,23 @@ use Rattle.gl_net.specs.Net.{Net, shape_in, IsBus, IsBit, IsStore}
 use Rattle.gl_net.specs.PortValues.{bits_of}
 use Rattle.gl_net.specs.WellFormed.{NodeFits, EndFits, end_at}
 use Rattle.gl_net.specs.Finished.{IsNetlist}
-use Rattle.gl_verilog.specs.Written.{WrittenItem, WrittenPort, WrittenExpr, BitNot, BitAnd, BitOr, Below, AtMost, Prefix, Infix}
+use Rattle.gl_verilog.specs.Written as written
+use Rattle.gl_verilog.specs.Written.{WrittenItem, WrittenPort, WrittenExpr, PartOf, BitNot, BitAnd, BitOr, Below, AtMost, Prefix, Infix}
 use Rattle.gl_verilog_writer.specs.Pieces.{family_text, net_name}
 use Rattle.gl_verilog_writer.specs.declared.label.Labels.{Labels}
 use Rattle.gl_verilog_writer.specs.Comments.{heading_text, title_text, header_text}
-use Rattle.gl_verilog_writer.specs.Labelled.{Scheme, ByFamily, ByLabels, name_in, above_in, above_at, head_lines, are_shown, family_of, naming}
+use Rattle.gl_verilog_writer.specs.Labelled.{Scheme, ByFamily, ByLabels, name_in, above_in, above_at, head_lines, are_shown, family_of}
 use Rattle.gl_verilog_writer.specs.Printed.{Line, expr_text, infix_text, range_text, direction_text, port_text, more_ports_text, always_text, item_text, line_text, lines_text, head_text, end_text}
-use Rattle.gl_verilog_writer.specs.Design.{node_width, named, infix_of, binary_expr, port_name, last_word, vector, leads, shows, declares, with_option, numbered, driving, under, declared_line, driven_line, shown_line, parts_text, written_port, written_as, clock_port, items_of, text_by, module_text}
+use Rattle.gl_verilog_writer.specs.Design.{node_width, named, infix_of, binary_expr, port_name, last_word, vector, range_of, cut_expr, leads, shows, declares, with_option, numbered, driving, under, declared_line, driven_line, shown_line, parts_text, written_port, written_as, clock_port, items_of, text_by, module_text}
 use Rattle.gl_verilog_writer.specs.Size.{port_bytes, node_bytes, most_bytes}
 use Rattle.gl_verilog_writer.proofs.Model.{Named}
 use Rattle.gl_verilog_writer.proofs.Loops.{lines-first}
 use Rattle.gl_verilog_writer.proofs.Fitted.{width-fits, port_end, bus, bit, shown, stored}
-use Rattle.gl_verilog_writer.proofs.Resolved.{port-width, last-small}
+use Rattle.gl_verilog_writer.proofs.Ranges.{last-small}
+use Rattle.gl_verilog_writer.proofs.Resolved.{port-width}
 use Rattle.gl_verilog_writer.proofs.Family.{family-small, family-naming}
 use Rattle.gl_verilog_writer.proofs.Quiet.{heading-long, header-within}
-use Rattle.gl_verilog_writer.proofs.Labelled.{IsShown, shown-parts, labels-naming}
+use Rattle.gl_verilog_writer.proofs.Labelled.{shown-parts, labels-naming}
 use Rattle.gl_verilog_writer.proofs.Lists.{get-from_zero}
 
 -- the text has at most so many bytes
@@ -65,8 +67,12 @@ name-within : (family n : ℕ) → family < 2 ^ 32 → n < 2 ^ 32 → Within 22 
 unfolding net_name family_text
 name-within family n f h = both (both (both (word (codes "n")) (number-digits family f)) (word (codes "_"))) (number-digits n h)
 
-range-within : (w : ℕ) → w ≤ 128 → Within 8 (range_text (vector w))
-range-within w h = both (both (word (codes "[")) (small-digits (w - 1) (omega (arith, h)))) (word (codes ":0] "))
+range-within : (w : ℕ) → w ≤ 128 → Within 8 (range_text (range_of w))
+range-within w h = by (w == 1)
+  where
+    by : (b : Bool) → Within 8 (range_text (if b then None else vector w))
+    by true = record { is = omega arith }
+    by false = both (both (word (codes "[")) (small-digits (w - 1) (omega (arith, h)))) (word (codes ":0] "))
 
 -- ---- declarations, where a name has at most k bytes
 
@@ -133,8 +139,12 @@ choose-within k t a b p q r = both (both (both (both p (word (codes " ? "))) q) 
 join-within : (k : ℕ) (a b : List ℕ) → Within k a → Within k b → Within (1 + (k + 2 + k) + 1) (codes "{" ++ (a ++ codes ", " ++ b) ++ codes "}")
 join-within k a b p q = both (both (word (codes "{")) (both (both p (word (codes ", "))) q)) (word (codes "}"))
 
-cut-within : (k : ℕ) (a : List ℕ) (high low : ℕ) → Within k a → high < 1000 → low < 1000 → Within (k + 1 + 3 + 1 + 3 + 1) (a ++ codes "[" ++ decimal high ++ codes ":" ++ decimal low ++ codes "]")
-cut-within k a high low p h l = both (both (both (both (both p (word (codes "["))) (small-digits high h)) (word (codes ":"))) (small-digits low l)) (word (codes "]"))
+cut-within : (k w : ℕ) (a : List ℕ) (high low : ℕ) → Within k a → high < 1000 → low < 1000 → Within (k + 1 + 3 + 1 + 3 + 1) (expr_text (cut_expr w a high low))
+cut-within k w a high low p h l = by (w == 1)
+  where
+    by : (b : Bool) → Within (k + 1 + 3 + 1 + 3 + 1) (expr_text (if b then written.Named a else PartOf a (decimal high) (decimal low)))
+    by true = record { is = (let i = p.is in omega (arith, i)) }
+    by false = both (both (both (both (both p (word (codes "["))) (small-digits high h)) (word (codes ":"))) (small-digits low l)) (word (codes "]"))
 
 read-within : (k : ℕ) (a b : List ℕ) → Within k a → Within k b → Within (k + 1 + k + 1) (a ++ codes "[" ++ b ++ codes "]")
 read-within k a b p q = both (both (both p (word (codes "["))) q) (word (codes "]"))
@@ -203,7 +213,7 @@ module _ (net : Net) (scheme : Scheme) (c : Named net (name_in scheme)) (k h : �
   port-within : (place : ℕ) (q : Port) → slice_get net.ports place ≡ Some q → Within 128 (port_name net.ports place)
   port-within place q e = record { is = rw e (c.netlist.finished.port_names place q e).short }
 
-  declared-within : (n : ℕ) (x : Node) → slice_get net.nodes n ≡ Some x → NodeFits net n x → Within (9 + 8 + k + 2) (codes "    wire " ++ range_text (vector (node_width x)) ++ names n ++ codes ";\n")
+  declared-within : (n : ℕ) (x : Node) → slice_get net.nodes n ≡ Some x → NodeFits net n x → Within (9 + 8 + k + 2) (codes "    wire " ++ range_text (range_of (node_width x)) ++ names n ++ codes ";\n")
   declared-within n x e h = wire-within k _ _ (range-within (node_width x) (width-fits net n x h).most) (named-within n x e)
 
   items-within : (n : ℕ) (x : Node) → slice_get net.nodes n ≡ Some x → NodeFits net n x → length (item_text (declares names n x)) + option_bytes (driving names net.ports n x) ≤ 5 * k + 110
@@ -223,7 +233,7 @@ module _ (net : Net) (scheme : Scheme) (c : Named net (name_in scheme)) (k h : �
       two k (declared-within n _ e f) (assigned-within k (1 + (k + 2 + k) + 1) _ _ (named-within n _ e) (join-within k _ _ (bus-within x f.0.bus) (bus-within y f.1.bus))) (omega (arith, s.some'))
   items-within n (Cut x high low) e f =
       let m = f.0.bus.width.most in let a = f.1 in let b = f.2 in
-      two k (declared-within n _ e f) (assigned-within k (k + 1 + 3 + 1 + 3 + 1) _ _ (named-within n _ e) (cut-within k _ high low (bus-within x f.0.bus) (omega (arith, b, m)) (omega (arith, a, b, m)))) (omega (arith, s.some'))
+      two k (declared-within n _ e f) (assigned-within k (k + 1 + 3 + 1 + 3 + 1) _ _ (named-within n _ e) (cut-within k x.width _ high low (bus-within x f.0.bus) (omega (arith, b, m)) (omega (arith, a, b, m)))) (omega (arith, s.some'))
   items-within n (MemoryRead store x) e f =
       two k (declared-within n _ e f) (assigned-within k (k + 1 + k + 1) _ _ (named-within n _ e) (read-within k _ _ (stored-within store f.0.store) (bus-within x f.1.bus))) (omega (arith, s.some'))
   items-within n (Register w None None) e f = two k (register-within k _ _ (range-within w f.0.most) (named-within n _ e)) none (omega (arith, s.some'))
@@ -252,10 +262,6 @@ module _ (net : Net) (scheme : Scheme) (c : Named net (name_in scheme)) (k h : �
 
   -- ---- ports
 
-  port-range : (w : ℕ) → w ≤ 128 → (b : Bool) → Within 8 (range_text (if b then None else vector w))
-  port-range w h true = record { is = omega arith }
-  port-range w h false = range-within w h
-
   direction-within : (d : Direction) → Within 17 (direction_text (leads d))
   unfolding direction_text
   direction-within In = record { is = omega arith }
@@ -264,7 +270,7 @@ module _ (net : Net) (scheme : Scheme) (c : Named net (name_in scheme)) (k h : �
   line-within : (place : ℕ) (q : Port) → slice_get net.ports place ≡ Some q → Within (26 + length q.name) (codes "," ++ port_text (written_port net.nodes q))
   line-within place q e =
       let w = port-width net names c place q e in
-      let l = both (word (codes ",")) (both (both (direction-within q.direction) (port-range (bits_of (shape_in net.nodes q.node)) w.most (bits_of (shape_in net.nodes q.node) == 1))) (word q.name)) in
+      let l = both (word (codes ",")) (both (both (direction-within q.direction) (range-within (bits_of (shape_in net.nodes q.node)) w.most)) (word q.name)) in
       record { is = (let i = l.is in omega (arith, i)) }
 
   end-within : (place n : ℕ) (d : Direction) → EndFits net place d n → Within k (names n)

@@ -19,19 +19,20 @@ use Rattle.gl_net.specs.Finished.{IsName}
 use Rattle.gl_verilog.specs.Tokens.{Token, Reads, tokens_of}
 use Rattle.gl_verilog.proofs.Pieces.{reads_on}
 use Rattle.gl_verilog.specs.Written as written
-use Rattle.gl_verilog.specs.Written.{WrittenExpr, BitNot, BitAnd, BitOr, Below, AtMost, Prefix, Infix, WrittenStatement, Update, WrittenItem, Assign, Always, WrittenModule, IsExpr, IsStatement, IsItem, IsWritten, spell_item, spell_items, spell}
+use Rattle.gl_verilog.specs.Written.{WrittenExpr, BitNot, BitAnd, BitOr, Below, AtMost, Prefix, Infix, WrittenStatement, Update, WrittenItem, Assign, Always, IsExpr, IsStatement, IsItem, IsWritten, spell_item, spell_items, spell}
 use Rattle.gl_verilog.specs.Limits.{IsShort, depth_of, depth_in, ifs_in, AreShort, KeepsLimits, IsWithinLimits}
 use Rattle.gl_verilog_writer.specs.Comments.{header_text, title_text}
 use Rattle.gl_verilog_writer.specs.Labelled.{Scheme, name_in, above_in}
 use Rattle.gl_verilog_writer.specs.Printed.{Line, lines_text, head_text, end_text}
 use Rattle.gl_verilog_writer.proofs.Quiet.{header-reads}
-use Rattle.gl_verilog_writer.specs.Design.{port_name, binary_expr, named, literal, vector, last_word, declares, takes, does, numbered, declaring, assigning, shows, showing, clocking, range_of, written_port, clock_port, items_of, with_option, either, driving, written_as, under, declared_line, driven_line, shown_line, parts_text}
+use Rattle.gl_verilog_writer.specs.Design.{port_name, binary_expr, named, literal, vector, last_word, declares, takes, does, numbered, declaring, assigning, shows, showing, clocking, range_of, written_port, items_of, with_option, either, driving, written_as, under, declared_line, driven_line, shown_line, parts_text}
 use Rattle.gl_verilog_writer.proofs.Digits.{IsPlain, IsSize, name-plain, clock-plain, reset-plain, size-decimal, numeral-decimal}
 use Rattle.gl_verilog_writer.proofs.Texts.{IsPrintable, CanPrint, IsRange, IsPrinted, IsPrintedPort, IsPrintedModule, items_in, lines-read, moved, module-spelled}
 use Rattle.gl_verilog_writer.proofs.Model.{Named}
 use Rattle.gl_verilog_writer.proofs.Lists.{numbered-all, get-from_zero}
 use Rattle.gl_verilog_writer.proofs.Fitted.{width-fits, port_end, bus, bit, shown, stored, node-plain, word-small}
-use Rattle.gl_verilog_writer.proofs.Resolved.{last-small, port-width}
+use Rattle.gl_verilog_writer.proofs.Ranges.{last-small}
+use Rattle.gl_verilog_writer.proofs.Resolved.{port-width}
 
 -- an expression is grouped, short and not deep
 pub record IsFlat (e : WrittenExpr) : Type 0 where
@@ -72,6 +73,11 @@ literal-flat v w i h = let m = i.most in record {
   depth = omega arith;
   short = omega arith;
 }
+
+-- some bits of a net
+cut-flat : (name : List ℕ) (high low : ℕ) → IsPlain name → high < 2 ^ 32 → low < 2 ^ 32 → (b : Bool) → IsFlat (if b then written.Named name else written.PartOf name (decimal high) (decimal low))
+cut-flat name high low p h l true = name-flat name p
+cut-flat name high low p h l false = record { prints = (p, size-decimal high h, size-decimal low l); grammar = (omega arith, tt); depth = omega arith; short = omega arith }
 
 -- two names under an operation
 binary-flat : (o : BinaryOp) (w : ℕ) (a b : List ℕ) → IsPlain a → IsPlain b → IsFlat (binary_expr o w (written.Named a) (written.Named b))
@@ -128,12 +134,7 @@ module _ (net : Net) (names : ℕ → List ℕ) (c : Named net names) where
   value-flat n (Cut x high low) h =
       let i = bus net names c x h.0.bus in
       let most = h.0.bus.width.most in let below = h.2 in let order = h.1 in
-      record {
-        prints = (node-plain net names c x.node i.node i.there, size-decimal high (omega (arith, most, below)), size-decimal low (omega (arith, most, below, order)));
-        grammar = (omega arith, tt);
-        depth = omega arith;
-        short = omega arith;
-      }
+      cut-flat (names x.node) high low (node-plain net names c x.node i.node i.there) (omega (arith, most, below)) (omega (arith, most, below, order)) (x.width == 1)
   value-flat n (MemoryRead store x) h =
       let s = stored net names c store h.0.store in
       let i = bus net names c x h.1.bus in
@@ -184,8 +185,8 @@ module _ (net : Net) (names : ℕ → List ℕ) (c : Named net names) where
   block-flat n (Cut x high low) e h = tt
   block-flat n (MemoryRead store x) e h = tt
 
-  wires-flat : (n w : ℕ) → IsPlain (names n) → IsWidth w → IsFlatItem (written.Wires (vector w) (names n ∷ []))
-  wires-flat n w p i = record { prints = (vector-size w i.most, (p, tt)); grammar = tt; limits = tt }
+  wires-flat : (n w : ℕ) → IsPlain (names n) → IsWidth w → IsFlatItem (written.Wires (range_of w) (names n ∷ []))
+  wires-flat n w p i = record { prints = (range-size w i.most, (p, tt)); grammar = tt; limits = tt }
 
   declaration-flat : (n : ℕ) (x : Node) → slice_get net.nodes n ≡ Some x → NodeFits net n x → IsFlatItem (declares names n x)
   declaration-flat n (Input place w) e h = wires-flat n _ (node-plain net names c n _ e) (width-fits net n (Input place w) h)
@@ -196,8 +197,8 @@ module _ (net : Net) (names : ℕ → List ℕ) (c : Named net names) where
   declaration-flat n (Join x y) e h = wires-flat n _ (node-plain net names c n _ e) (width-fits net n (Join x y) h)
   declaration-flat n (Cut x high low) e h = wires-flat n _ (node-plain net names c n _ e) (width-fits net n (Cut x high low) h)
   declaration-flat n (MemoryRead store x) e h = wires-flat n _ (node-plain net names c n _ e) (width-fits net n (MemoryRead store x) h)
-  declaration-flat n (Register w reset next) e h = record { prints = (vector-size w h.0.most, (node-plain net names c n _ e, tt)); grammar = tt; limits = tt }
-  declaration-flat n (Memory bits w drive) e h = record { prints = (vector-size w h.1.most, node-plain net names c n _ e, size-decimal (last_word bits) (last-small bits h.0)); grammar = tt; limits = tt }
+  declaration-flat n (Register w reset next) e h = record { prints = (range-size w h.0.most, (node-plain net names c n _ e, tt)); grammar = tt; limits = tt }
+  declaration-flat n (Memory bits w drive) e h = record { prints = (range-size w h.1.most, node-plain net names c n _ e, size-decimal (last_word bits) (last-small bits h.0)); grammar = tt; limits = tt }
 
   assign-flat : (name : List ℕ) (o : Option WrittenExpr) → IsPlain name → IfSome o IsFlat → IfSome (option_map (Assign name) o) IsFlatItem
   assign-flat name None p h = tt

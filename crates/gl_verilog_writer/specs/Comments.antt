@@ -1,5 +1,5 @@
 -- Comments of one line, which carry any bytes: what is not printable ASCII is shown as a question mark.
-use Rattle.std.specs.Prelude.{◌≡◌, ℕ, suc, ◌-◌, ◌+◌, nat_eq, nat_le, ◌&&◌, if◌then◌else◌, List, [], ◌∷◌, ◌++◌, length, take, codes}
+use Rattle.std.specs.Prelude.{ℕ, ◌-◌, nat_eq, nat_le, ◌&&◌, if◌then◌else◌, List, [], ◌∷◌, ◌++◌, length, take, codes}
 
 -- a byte as it is shown
 abbrev pub shown_byte : ℕ → ℕ
@@ -34,10 +34,6 @@ heading_text (b ∷ w) = codes "\n    " ++ comment_text (codes "    ") (take 200
 -- the title of a part of a module
 unfoldable pub title_text : List ℕ → List ℕ
 title_text w = codes "\n    //| " ++ w ++ codes "\n"
-
--- a text that begins with another
-abbrev pub StartsWith : (front text : List ℕ) → Type 0
-StartsWith front text = (rest : List ℕ) × (text ≡ front ++ rest)
 
 -- the end of a header that was cut
 abbrev pub cut_note : List ℕ

@@ -1,5 +1,5 @@
 -- The written module of a netlist: a net for each node, which is driven once.
-use Rattle.std.specs.Prelude.{ℕ, zero, suc, ◌+◌, ◌-◌, ◌^◌, ◌==◌, nat_le, Bool, if◌then◌else◌, List, [], ◌∷◌, ◌++◌, map, length, Option, Some, None, slice_get, option_map, unwrap_or, codes, decimal}
+use Rattle.std.specs.Prelude.{ℕ, ◌+◌, ◌-◌, ◌^◌, ◌==◌, nat_le, if◌then◌else◌, List, [], ◌∷◌, ◌++◌, map, Option, Some, None, slice_get, option_map, unwrap_or, codes, decimal}
 use Rattle.std.specs.Option.{option_map_or}
 use Rattle.gl_net.specs.declared.node.BinaryOp.{BinaryOp}
 use Rattle.gl_net.specs.declared.node.BinaryOp.TheVariants.{Add, Sub, Mul, And, Xor, Or, Eq, Ne, Lt, Le}
@@ -61,15 +61,23 @@ literal value width = written.Constant (decimal width) 10 (decimal value)
 abbrev pub vector : ℕ → Range
 vector width = Some (decimal (width - 1))
 
+-- one bit is no vector
+abbrev pub range_of : ℕ → Range
+range_of width = if width == 1 then None else vector width
+
+-- some bits of a net; a net of one bit is no vector, and what is cut of it is all of it
+abbrev pub cut_expr : ℕ → List ℕ → ℕ → ℕ → WrittenExpr
+cut_expr width name high low = if width == 1 then Named name else PartOf name (decimal high) (decimal low)
+
 -- the number of a memory's last word; addresses have at most 32 bits
 unfoldable pub last_word : ℕ → ℕ
 last_word address_bits = if nat_le address_bits 32 then 2 ^ address_bits - 1 else 0
 
--- the declaration of a node's net, which is a vector, even one of a single bit
+-- the declaration of a node's net
 abbrev pub declares : (ℕ → List ℕ) → ℕ → Node → WrittenItem
-declares names n (Register w reset next) = Registers (vector w) (names n ∷ [])
-declares names n (Memory bits w drive) = MemoryOf (vector w) (names n) (decimal (last_word bits))
-declares names n x = Wires (vector (node_width x)) (names n ∷ [])
+declares names n (Register w reset next) = Registers (range_of w) (names n ∷ [])
+declares names n (Memory bits w drive) = MemoryOf (range_of w) (names n) (decimal (last_word bits))
+declares names n x = Wires (range_of (node_width x)) (names n ∷ [])
 
 -- what is assigned to a node's net; a register and a memory take theirs at the clock's edge
 abbrev pub takes : (ℕ → List ℕ) → List Port → Node → Option WrittenExpr
@@ -80,7 +88,7 @@ takes names ports (Binary op x y) = Some (binary_expr op x.width (named names x.
 takes names ports (Choose test x y) =
     Some (Conditional (named names test.node) (named names x.node) (named names y.node))
 takes names ports (Join x y) = Some (Braces (Parts (named names x.node) (named names y.node)))
-takes names ports (Cut x high low) = Some (PartOf (names x.node) (decimal high) (decimal low))
+takes names ports (Cut x high low) = Some (cut_expr x.width (names x.node) high low)
 takes names ports (MemoryRead store x) = Some (WordOf (names store.node) (named names x.node))
 takes names ports (Register w reset next) = None
 takes names ports (Memory bits w drive) = None
@@ -133,10 +141,6 @@ clocking names n x = option_map (Always (codes "clk")) (does names n x)
 abbrev pub leads : Direction → written.Direction
 leads In = written.InWire
 leads Out = written.OutWire
-
--- one bit is no vector
-abbrev pub range_of : ℕ → Range
-range_of width = if width == 1 then None else vector width
 
 -- a port of a netlist as it is written, with its node's width
 abbrev pub written_port : List Node → Port → WrittenPort

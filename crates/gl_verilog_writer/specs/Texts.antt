@@ -1,19 +1,18 @@
 -- The texts of a module's parts, each under the name by which the clauses of what writes it cite it.
-use Rattle.std.specs.Prelude.{◌≡◌, ℕ, List, [], ◌∷◌, ◌++◌, map, codes, decimal}
+use Rattle.std.specs.Prelude.{◌≡◌, ℕ, List, [], ◌∷◌, ◌++◌, map, codes}
 use Rattle.std.specs.Option.{option_map_or}
 use Rattle.gl_net.specs.declared.node.BinaryOp.{BinaryOp}
 use Rattle.gl_net.specs.declared.node.Bus.{Bus}
 use Rattle.gl_net.specs.declared.node.Node.{Node}
 use Rattle.gl_net.specs.declared.node.Port.{Port}
 use Rattle.gl_net.specs.declared.node.MemoryDrive.{MemoryDrive}
-use Rattle.gl_net.specs.Net.{Net}
 use Rattle.gl_verilog.specs.Written.{WrittenItem, Update, UpdateWord, IfThen}
 use Rattle.gl_verilog_writer.specs.declared.names.Names.{Names}
 use Rattle.gl_verilog_writer.specs.declared.names.Names.TheVariants.{Family, Labelled}
 use Rattle.gl_verilog_writer.specs.Comments.{heading_text}
 use Rattle.gl_verilog_writer.specs.Labelled.{Scheme, ByFamily, ByLabels, name_in, above_in}
 use Rattle.gl_verilog_writer.specs.Printed.{range_text, port_text, more_ports_text, head_text, expr_text, statement_text, item_text, line_text, lines_text}
-use Rattle.gl_verilog_writer.specs.Design.{vector, binary_expr, named, literal, declares, takes, assigning, clocking, driving, clock_port, written_port, numbered, declared_line, driven_line, shown_line, parts_text}
+use Rattle.gl_verilog_writer.specs.Design.{range_of, cut_expr, binary_expr, named, literal, declares, takes, assigning, clocking, driving, clock_port, written_port, numbered, declared_line, driven_line, shown_line, parts_text}
 
 -- ---- of one node
 
@@ -26,13 +25,13 @@ scheme_in (Labelled labels) = ByLabels labels.now
 abbrev pub named_by : Names → ℕ → List ℕ
 named_by names = name_in (scheme_in names)
 
--- a word, a vector's range and a net
+-- a word, a range and a net
 abbrev pub net_text : List ℕ → Names → ℕ → ℕ → List ℕ
-net_text word names number width = word ++ range_text (vector width) ++ named_by names number
+net_text word names number width = word ++ range_text (range_of width) ++ named_by names number
 
 -- the name of a node's net
-abbrev pub called_text : Names → ℕ → List ℕ
-called_text names node = named_by names node
+abbrev pub name_text : Names → ℕ → List ℕ
+name_text names node = named_by names node
 
 -- two nets with a sign between them
 abbrev pub pair_text : Names → ℕ → List ℕ → ℕ → List ℕ
@@ -43,8 +42,8 @@ abbrev pub binary_text : Names → BinaryOp → Bus → Bus → List ℕ
 binary_text names op x y = expr_text (binary_expr op x.width (named (named_by names) x.node) (named (named_by names) y.node))
 
 -- the text of some bits of a node's net
-abbrev pub cut_text : Names → ℕ → ℕ → ℕ → List ℕ
-cut_text names arg high low = named_by names arg ++ codes "[" ++ decimal high ++ codes ":" ++ decimal low ++ codes "]"
+abbrev pub cut_text : Names → Bus → ℕ → ℕ → List ℕ
+cut_text names x high low = expr_text (cut_expr x.width (named_by names x.node) high low)
 
 -- the text of a node's declaration
 abbrev pub declares_text : Names → ℕ → Node → List ℕ
@@ -85,12 +84,12 @@ abbrev pub block_text : Names → ℕ → Node → List ℕ
 block_text names number node = option_map_or item_text (clocking (named_by names) number node) []
 
 -- the text of what drives a node
-abbrev pub drive_text : Names → List Port → ℕ → Node → List ℕ
-drive_text names ports number node = option_map_or item_text (driving (named_by names) ports number node) []
+abbrev pub does_text : Names → List Port → ℕ → Node → List ℕ
+does_text names ports number node = option_map_or item_text (driving (named_by names) ports number node) []
 
 -- the same under the node's heading
-abbrev pub driven_text : Names → List Port → ℕ → Node → List ℕ
-driven_text names ports number node = option_map_or line_text (driven_line (scheme_in names) ports number node) []
+abbrev pub node_text : Names → List Port → ℕ → Node → List ℕ
+node_text names ports number node = option_map_or line_text (driven_line (scheme_in names) ports number node) []
 
 -- ---- of ports
 
@@ -119,8 +118,8 @@ abbrev pub declarations_text : Names → List Node → List ℕ
 declarations_text names nodes = lines_text (numbered (declared_line (scheme_in names)) 0 nodes)
 
 -- the text of all that drives nodes
-abbrev pub drivers_text : Names → List Node → List Port → List ℕ
-drivers_text names nodes ports = lines_text (numbered (driven_line (scheme_in names) ports) 0 nodes)
+abbrev pub nodes_text : Names → List Node → List Port → List ℕ
+nodes_text names nodes ports = lines_text (numbered (driven_line (scheme_in names) ports) 0 nodes)
 
 -- the text of all assignments that show values on ports
 abbrev pub shows_text : Names → List Port → List ℕ

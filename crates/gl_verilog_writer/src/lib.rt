@@ -7,7 +7,7 @@
 mod comments;
 pub mod label;
 mod lines;
-pub mod names;
+mod names;
 pub mod nodes;
 pub mod pieces;
 pub mod text;

@@ -1,7 +1,7 @@
 //! What is written of a node, under the heading of its section.
 
 ghost use Rattle.std.specs.Prelude.{◌≡◌, ◌++◌, OnOk};
-ghost use Rattle.gl_verilog_writer.specs.Texts.{declared_text, drive_text, driven_text};
+ghost use Rattle.gl_verilog_writer.specs.Texts.{declared_text, does_text, node_text};
 
 use crate::names::{Names, put_above};
 use crate::nodes::{put_assignment, put_block, put_item};
@@ -12,13 +12,13 @@ use gl_net::{Node, Port};
 pub(crate) fn put_declaration(
     out: &mut Vec<u8>,
     by: &Names<'_>,
-    at: usize,
+    n: usize,
     node: &Node,
 ) -> Result<(), Memory>
-    ensures { OnOk result (out.new.items ≡ out.old.items ++ declared_text by.now at node.now) }
+    ensures { OnOk result (out.new.items ≡ out.old.items ++ declared_text by.now n node.now) }
 {
-    put_above(out, by, at)?;
-    put_item(out, by, at, node)
+    put_above(out, by, n)?;
+    put_item(out, by, n, node)
 }
 
 // The assignment or the clocked block of a node.
@@ -26,13 +26,13 @@ fn put_drive(
     out: &mut Vec<u8>,
     by: &Names<'_>,
     ports: &[Port],
-    at: usize,
+    n: usize,
     node: &Node,
 ) -> Result<(), Memory>
-    ensures { OnOk result (out.new.items ≡ out.old.items ++ drive_text by.now ports.now at node.now) }
+    ensures { OnOk result (out.new.items ≡ out.old.items ++ does_text by.now ports.now n node.now) }
 {
     match *node {
-        Node::Register(_, _, _) | Node::Memory(_, _, _) => put_block(out, by, at, node),
+        Node::Register(_, _, _) | Node::Memory(_, _, _) => put_block(out, by, n, node),
         Node::Input(_, _)
         | Node::Constant(_)
         | Node::Not(_)
@@ -40,7 +40,7 @@ fn put_drive(
         | Node::Choose(_, _, _)
         | Node::Join(_, _)
         | Node::Cut(_, _, _)
-        | Node::MemoryRead(_, _) => put_assignment(out, by, ports, at, node),
+        | Node::MemoryRead(_, _) => put_assignment(out, by, ports, n, node),
     }
 }
 
@@ -49,10 +49,10 @@ pub(crate) fn put_driver(
     out: &mut Vec<u8>,
     by: &Names<'_>,
     ports: &[Port],
-    at: usize,
+    n: usize,
     node: &Node,
 ) -> Result<(), Memory>
-    ensures { OnOk result (out.new.items ≡ out.old.items ++ driven_text by.now ports.now at node.now) }
+    ensures { OnOk result (out.new.items ≡ out.old.items ++ node_text by.now ports.now n node.now) }
 {
     match *node {
         Node::Register(_, _, None) | Node::Memory(_, _, None) => Ok(()),
@@ -67,8 +67,8 @@ pub(crate) fn put_driver(
         | Node::Join(_, _)
         | Node::Cut(_, _, _)
         | Node::MemoryRead(_, _) => {
-            put_above(out, by, at)?;
-            put_drive(out, by, ports, at, node)
+            put_above(out, by, n)?;
+            put_drive(out, by, ports, n, node)
         }
     }
 }

@@ -2,7 +2,7 @@
 
 ghost use Rattle.std.specs.Prelude.{◌≡◌, ◌++◌, OnOk, IfOk};
 ghost use Rattle.gl_verilog_writer.specs.Labelled.{begins_port, family_of, is_name_byte, kept_byte, room_left, clean, label_name, name_at, above_at, scheme_of};
-ghost use Rattle.gl_verilog_writer.specs.Texts.{called_text, above_text, scheme_in};
+ghost use Rattle.gl_verilog_writer.specs.Texts.{name_text, above_text, scheme_in};
 
 use crate::comments::put_heading;
 use crate::label::Labels;
@@ -12,7 +12,7 @@ use gl_net::{Netlist, Port};
 
 /// How the nets of nodes are called.
 #[derive(Clone, Copy)]
-pub enum Names<'a> {
+pub(crate) enum Names<'a> {
     /// By a family that keeps them apart from the ports' names, and the node's number.
     Family(usize),
     /// After labels, and with the node's number.
@@ -86,7 +86,7 @@ fn above_at(labels: &Labels, node: usize) -> &[u8]
 
 /// Appends the name of a node's net.
 pub(crate) fn put_net(out: &mut Vec<u8>, names: &Names<'_>, node: usize) -> Result<(), Memory>
-    ensures { OnOk result (out.new.items ≡ out.old.items ++ called_text names.now node) }
+    ensures { OnOk result (out.new.items ≡ out.old.items ++ name_text names.now node) }
 {
     match *names {
         Names::Family(family) => put_name(out, family, node),

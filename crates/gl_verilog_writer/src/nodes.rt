@@ -3,7 +3,7 @@
 ghost use Rattle.std.specs.Prelude.{◌≡◌, ◌++◌, ◌+◌, ◌-◌, OnOk, codes};
 ghost use Rattle.gl_verilog_writer.specs.Printed.{infix_text, always_text};
 ghost use Rattle.gl_verilog_writer.specs.Design.{node_width, port_name, infix_of, last_word};
-ghost use Rattle.gl_verilog_writer.specs.Texts.{called_text, net_text, pair_text, binary_text, cut_text, declares_text, value_text, set_text, update_text, reset_text, write_text, block_text};
+ghost use Rattle.gl_verilog_writer.specs.Texts.{name_text, net_text, pair_text, binary_text, cut_text, declares_text, value_text, set_text, update_text, reset_text, write_text, block_text};
 
 use crate::names::{Names, put_net};
 use crate::pieces::{put, put_literal, put_number, put_range};
@@ -42,7 +42,7 @@ pub(crate) fn width_of(node: &Node) -> u16
     }
 }
 
-// A word, a vector's range and the name of a node's net.
+// A word, a range and the name of a node's net.
 fn put_vector(
     out: &mut Vec<u8>,
     word: &[u8],
@@ -136,11 +136,14 @@ fn put_pair(
     put_net(out, by, right)
 }
 
-// The bits from `low` to `high` of a net.
-fn put_cut(out: &mut Vec<u8>, by: &Names<'_>, arg: usize, high: u8, low: u8) -> Result<(), Memory>
+// The bits from `low` to `high` of a net; of one bit it is all.
+fn put_cut(out: &mut Vec<u8>, by: &Names<'_>, arg: Bus, high: u8, low: u8) -> Result<(), Memory>
     ensures { OnOk result (out.new.items ≡ out.old.items ++ cut_text by.now arg high low) }
 {
-    put_net(out, by, arg)?;
+    put_net(out, by, arg.node)?;
+    if arg.width == 1 {
+        return Ok(());
+    }
     put(out, b"[")?;
     put_number(out, u128::from(high))?;
     put(out, b":")?;
@@ -203,7 +206,7 @@ fn put_value(out: &mut Vec<u8>, by: &Names<'_>, ports: &[Port], node: &Node) -> 
             put_pair(out, by, high.node, b", ", low.node)?;
             put(out, b"}")
         }
-        Node::Cut(arg, high, low) => put_cut(out, by, arg.node, high, low),
+        Node::Cut(arg, high, low) => put_cut(out, by, arg, high, low),
         Node::MemoryRead(store, address) => {
             put_pair(out, by, store.node, b"[", address.node)?;
             put(out, b"]")
@@ -279,7 +282,7 @@ fn put_write(out: &mut Vec<u8>, by: &Names<'_>, at: usize, drive: MemoryDrive) -
 
 // A net and the end of its statement.
 fn put_last(out: &mut Vec<u8>, by: &Names<'_>, node: usize) -> Result<(), Memory>
-    ensures { OnOk result (out.new.items ≡ out.old.items ++ called_text by.now node ++ codes ";\n") }
+    ensures { OnOk result (out.new.items ≡ out.old.items ++ name_text by.now node ++ codes ";\n") }
 {
     put_net(out, by, node)?;
     put(out, b";\n")

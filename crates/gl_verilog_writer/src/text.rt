@@ -5,12 +5,11 @@ ghost use Rattle.gl_net.specs.Finished.{IsNetlist};
 ghost use Rattle.gl_net.specs.Net.{shape_in};
 ghost use Rattle.gl_net.specs.PortValues.{bits_of};
 ghost use Rattle.gl_verilog_writer.specs.Meaning.{IsTextOf};
-ghost use Rattle.gl_verilog_writer.specs.Printed.{range_text, direction_text, port_text};
-ghost use Rattle.gl_verilog_writer.specs.Texts.{next_port_text, next_ports_text, PutsHead, declarations_text, drivers_text, shown_text, shows_text, body_text, scheme_in};
-ghost use Rattle.gl_verilog_writer.specs.Comments.{header_text, StartsWith};
-ghost use Rattle.gl_verilog_writer.specs.Labelled.{head_lines};
+ghost use Rattle.gl_verilog_writer.specs.Printed.{direction_text, port_text};
+ghost use Rattle.gl_verilog_writer.specs.Texts.{next_port_text, next_ports_text, PutsHead, declarations_text, nodes_text, shown_text, shows_text, body_text, scheme_in};
+ghost use Rattle.gl_verilog_writer.specs.Meaning.{HasHeader};
 ghost use Rattle.gl_verilog_writer.specs.Size.{most_bytes};
-ghost use Rattle.gl_verilog_writer.specs.Design.{leads, range_of, clock_port, text_by, module_text};
+ghost use Rattle.gl_verilog_writer.specs.Design.{leads, clock_port, text_by, module_text};
 
 use crate::comments::{put_header, put_title};
 use crate::label::Labels;
@@ -43,23 +42,13 @@ fn put_direction(out: &mut Vec<u8>, direction: Direction) -> Result<(), Memory>
     }
 }
 
-// The range of a port, where it is a vector.
-fn put_port_range(out: &mut Vec<u8>, width: u16) -> Result<(), Memory>
-    ensures { OnOk result (out.new.items ≡ out.old.items ++ range_text (range_of width)) }
-{
-    if width == 1 {
-        return Ok(());
-    }
-    put_range(out, width)
-}
-
 // One port behind the clock.
 fn put_port(out: &mut Vec<u8>, nodes: &[Node], port: &Port) -> Result<(), Memory>
     ensures { OnOk result (out.new.items ≡ out.old.items ++ next_port_text nodes.now port.now) }
 {
     put(out, b",")?;
     put_direction(out, port.direction)?;
-    put_port_range(out, port_width(nodes, port))?;
+    put_range(out, port_width(nodes, port))?;
     put(out, port.name.as_slice())
 }
 
@@ -112,7 +101,7 @@ fn put_drivers(
     nodes: &[Node],
     ports: &[Port],
 ) -> Result<(), Memory>
-    ensures { OnOk result (out.new.items ≡ out.old.items ++ drivers_text by.now nodes.now ports.now) }
+    ensures { OnOk result (out.new.items ≡ out.old.items ++ nodes_text by.now nodes.now ports.now) }
 {
     for (number, node) in nodes.iter().enumerate() {
         put_driver(out, by, ports, number, node)?;
@@ -213,7 +202,7 @@ fn put_module(out: &mut Vec<u8>, labels: &Labels, net: &Netlist) -> Result<(), M
 pub fn write_module(net: &Netlist, labels: &Labels, into: &mut Vec<u8>) -> Result<(), Memory>
     ensures text { OnOk result (into.new.items ≡ into.old.items ++ module_text labels.now net.now) }
     ensures meaning { IsTextOf net.now (module_text labels.now net.now) }
-    ensures starts { StartsWith (header_text (head_lines labels.now)) (module_text labels.now net.now) }
+    ensures starts { HasHeader labels.now (module_text labels.now net.now) }
     ensures few { OnOk result ((length net.now.nodes < 2 ^ 32) × (length net.now.ports < 2 ^ 32)) }
     ensures length { OnOk result (length (module_text labels.now net.now) ≤ most_bytes net.now) }
     ensures nothing { OnErr result (into.new.items ≡ into.old.items) }
