@@ -39,7 +39,8 @@ pair_text names left sign right = named_by names left ++ sign ++ named_by names 
 
 -- two values under an operation
 abbrev pub binary_text : Names → BinaryOp → Bus → Bus → List ℕ
-binary_text names op x y = expr_text (binary_expr op x.width (named (named_by names) x.node) (named (named_by names) y.node))
+binary_text names op x y =
+    expr_text (binary_expr op x.width (named (named_by names) x.node) (named (named_by names) y.node))
 
 -- the text of some bits of a node's net
 abbrev pub cut_text : Names → Bus → ℕ → ℕ → List ℕ
@@ -69,7 +70,8 @@ reset_text names number value width = statement_text (Update (named_by names num
 abbrev pub write_text : Names → ℕ → MemoryDrive → List ℕ
 write_text names number drive =
     statement_text (IfThen (named (named_by names) drive.write.node)
-    (UpdateWord (named_by names number) (named (named_by names) drive.address.node) (named (named_by names) drive.value.node)))
+    (UpdateWord (named_by names number) (named (named_by names) drive.address.node)
+    (named (named_by names) drive.value.node)))
 
 -- the heading above a node, where it has one
 abbrev pub above_text : Names → ℕ → List ℕ
