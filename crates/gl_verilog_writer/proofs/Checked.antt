@@ -1,6 +1,6 @@
 -- The module of a netlist keeps widths: every assignment and every block.
-use Rattle.std.proofs.Common.{◌≡◌, ℕ, suc, ◌+◌, ◌<◌, ◌≤◌, ◌==◌, Bool, true, false, List, ◌++◌, length, Option, Some, None, IfSome, IsSomeAnd, IsTrue, refl, sym, ap, subst, ◌∙◌, arith, inl, inr, eqb-true}
-use Rattle.std.specs.Prelude.{slice_get, option_map, if◌then◌else◌}
+use Rattle.std.proofs.Common.{◌≡◌, ℕ, suc, ◌+◌, ◌-◌, ◌<◌, ◌≤◌, ◌==◌, Bool, true, false, List, ◌++◌, length, Option, Some, None, IfSome, IsSomeAnd, IsTrue, refl, sym, ap, subst, ◌∙◌, arith, inl, inr, eqb-true}
+use Rattle.std.specs.Prelude.{slice_get, option_map, not, if◌then◌else◌}
 use Rattle.std.specs.List.{AllByRecursion}
 use Rattle.gl_bits.proofs.AllLists.{all_by_place, all_append}
 use Rattle.gl_bits.proofs.Options.{some_same}
@@ -8,6 +8,7 @@ use Rattle.gl_net.specs.declared.node.BinaryOp.{BinaryOp}
 use Rattle.gl_net.specs.declared.node.BinaryOp.TheVariants.{Add, Sub, Mul, And, Xor, Or, Eq, Ne, Lt, Le}
 use Rattle.gl_net.specs.declared.node.Node.{Node}
 use Rattle.gl_net.specs.declared.node.Node.TheVariants.{Input, Constant, Not, Binary, Choose, Join, Cut, Register, Memory, MemoryRead}
+use Rattle.gl_net.specs.declared.node.Bus.{Bus}
 use Rattle.gl_net.specs.declared.node.Port.{Port}
 use Rattle.gl_net.specs.declared.node.Direction.{Direction}
 use Rattle.gl_net.specs.declared.node.Direction.TheVariants.{In, Out}
@@ -94,6 +95,21 @@ module _ (net : Net) (names : ℕ → List ℕ) (c : Named net names) where
   keeps-at : (n : ℕ) (x : Node) → slice_get net.nodes n ≡ Some x → (v : Expr) → IsDriven (kind_for x) → width_of ds v ≡ node_width x → KeepsWidths ds v → KeepsWidth ds (assigned_to (at_node p n) v)
   keeps-at n x e v k w h = (subst (λ (o : Option Declaration). IsSomeAnd o (λ d. IsDriven d.kind × (width_of ds v ≡ d.width))) (sym (node_there net names c n x e)) (k, w), h)
 
+  -- some bits of a net, of which one of a single bit is taken whole
+  cut-keeps : (n : ℕ) (x : Bus) (high low : ℕ) → slice_get net.nodes n ≡ Some (Cut x high low) → NodeFits net n (Cut x high low) → (b : Bool) → (x.width == 1) ≡ b → KeepsWidth ds (assigned_to (at_node p n) (if b then verilog.Net (at_node p x.node) else verilog.Select high low (at_node p x.node)))
+  cut-keeps n x high low e h true f =
+      let i = bus net names c x h.0.bus in
+      let one = eqb-true x.width 1 f in let a = h.1 in let b = h.2 in
+      keeps-at n _ e (verilog.Net (at_node p x.node)) tt (carried-width net names c x.node x.width i ∙ (let q : x.width ≡ high + 1 - low = omega (arith, one, a, b) in q)) (carried-keeps net names c x.node x.width i)
+  cut-keeps n x high low e h false f =
+      let i = bus net names c x h.0.bus in
+      let v : IsTrue (not (x.width == 1)) = rw f refl in
+      keeps-at n _ e (verilog.Select high low (at_node p x.node)) tt refl (
+        subst (λ (o : Option Declaration). IsSomeAnd o (λ d. IsReadable d × IsTrue d.is_vector × (high < d.width))) (sym (node_there net names c x.node i.node i.there))
+            ((i.net_kind, c.naming.no_clock x.node), subst (λ (w : ℕ). IsTrue (not (w == 1))) (sym i.width) v, subst (λ (w : ℕ). high < w) (sym i.width) h.2),
+        h.1,
+      )
+
   value-keeps : (n : ℕ) (x : Node) → slice_get net.nodes n ≡ Some x → NodeFits net n x → IfSome (assignment_for p n x) (KeepsWidth ds)
   unfolding end_at
   value-keeps n (Input place w) e h =
@@ -125,13 +141,7 @@ module _ (net : Net) (names : ℕ → List ℕ) (c : Named net names) where
       let a = carried-width net names c x.node x.width i in
       keeps-at n _ e (verilog.Join y.width (net_of p x.node) (net_of p y.node)) tt (ap (λ (w : ℕ). w + y.width) a)
       (carried-width net names c y.node y.width j, subst (λ (w : ℕ). w + y.width ≤ 128) (sym a) h.2, carried-keeps net names c x.node x.width i, carried-keeps net names c y.node y.width j)
-  value-keeps n (Cut x high low) e h =
-      let i = bus net names c x h.0.bus in
-      keeps-at n _ e (verilog.Select high low (at_node p x.node)) tt refl (
-        subst (λ (o : Option Declaration). IsSomeAnd o (λ d. IsReadable d × IsTrue d.is_vector × (high < d.width))) (sym (node_there net names c x.node i.node i.there))
-            ((i.net_kind, c.naming.no_clock x.node), refl, subst (λ (w : ℕ). high < w) (sym i.width) h.2),
-        h.1,
-      )
+  value-keeps n (Cut x high low) e h = cut-keeps n x high low e h (x.width == 1) refl
   value-keeps n (MemoryRead store x) e h =
       let s = stored net names c store h.0.store in
       let i = bus net names c x h.1.bus in

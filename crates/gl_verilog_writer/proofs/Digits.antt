@@ -199,7 +199,7 @@ word_is w r s = ap (λ (k : Option Keyword). word_by k w) r ∙ (let e : nat_le 
 pub name-plain : (w : List ℕ) → IsName w → IsPlain w
 name-plain w h = record { word = name_word w h.first h.each; token = word_is w (not_reserved w (none_of (bytes_eq w) keywords h.free)) h.short }
 
-all-append : (p : ℕ → Bool) (a b : List ℕ) → list_all p a ≡ true → list_all p b ≡ true → list_all p (a ++ b) ≡ true
+pub all-append : (p : ℕ → Bool) (a b : List ℕ) → list_all p a ≡ true → list_all p b ≡ true → list_all p (a ++ b) ≡ true
 all-append p [] b h k = k
 all-append p (c ∷ a) b h k = let q = and_parts (p c) (list_all p a) h in and_both (p c) (list_all p (a ++ b)) q.0 (all-append p a b q.1 k)
 

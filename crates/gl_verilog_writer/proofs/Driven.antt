@@ -23,7 +23,7 @@ use Rattle.gl_verilog.specs.Order.{IsOrdered}
 use Rattle.gl_verilog.specs.Valid.{drivers_of, assigns, AssignsOnce, blocks_of, writes_in, writes_of, HasDriver, mentions, depends, IsChain, HasNoLoop, IsValid}
 use Rattle.gl_verilog_writer.specs.Meaning.{kind_of}
 use Rattle.gl_verilog_writer.specs.Design.{numbered}
-use Rattle.gl_verilog_writer.proofs.Model.{Named, at_node, binary_meaning, kind_for, expression_of, assigned_to, assignment_for, shown_by, output_for, block_for, declarations_in, line_in, module_in}
+use Rattle.gl_verilog_writer.proofs.Model.{Named, at_node, binary_meaning, cut_meaning, kind_for, expression_of, assigned_to, assignment_for, shown_by, output_for, block_for, declarations_in, line_in, module_in}
 use Rattle.gl_verilog_writer.proofs.Ordered.{Descends, Above, if_some, in-order, rises-append, rises-numbered}
 use Rattle.gl_verilog_writer.proofs.Lists.{numbered-all, total, count, total-append, total-none, total-one, get-from_zero}
 use Rattle.gl_verilog_writer.proofs.Named.{sorted, distinct, apart}
@@ -48,6 +48,14 @@ binary-mentions Lt w a b m = by (w == 1)
 binary-mentions Le w a b m = by (w == 1)
   where
     by : (t : Bool) → mentions (if t then verilog.Binary verilog.Or 1 (verilog.Invert 1 (verilog.Net a)) (verilog.Net b) else verilog.Binary verilog.Le w (verilog.Net a) (verilog.Net b)) m ≡ (nat_eq a m || nat_eq b m)
+    by true = refl
+    by false = refl
+
+-- a cut mentions its net
+cut-mentions : (w high low k m : ℕ) → mentions (cut_meaning w high low k) m ≡ nat_eq k m
+cut-mentions w high low k m = by (w == 1)
+  where
+    by : (t : Bool) → mentions (if t then verilog.Net k else verilog.Select high low k) m ≡ nat_eq k m
     by true = refl
     by false = refl
 
@@ -301,7 +309,7 @@ module _ (net : Net) (names : ℕ → List ℕ) (c : Named net names) where
     | inr f ↦ elim (or_cases (nat_eq (at_node p x.node) m) (nat_eq (at_node p y.node) m) f) [ inl g ↦ reads x.node n m h.1.before g | inr g ↦ reads y.node n m h.2.before g ]
   ]
   value-descends n (Join x y) e h = λ m t. elim (or_cases (nat_eq (at_node p x.node) m) (nat_eq (at_node p y.node) m) t) [ inl f ↦ reads x.node n m h.0.before f | inr f ↦ reads y.node n m h.1.before f ]
-  value-descends n (Cut x high low) e h = λ m t. reads x.node n m h.0.before t
+  value-descends n (Cut x high low) e h = λ m t. reads x.node n m h.0.before (sym (cut-mentions x.width high low (at_node p x.node) m) ∙ t)
   value-descends n (MemoryRead store x) e h = λ m t. reads x.node n m h.1.before t
   value-descends n (Register w reset next) e h = tt
   value-descends n (Memory bits w drive) e h = tt

@@ -10,7 +10,7 @@ use Rattle.gl_net.specs.declared.node.Port.{Port}
 use Rattle.gl_net.specs.Net.{Net}
 use Rattle.gl_verilog_writer.specs.Pieces.{family_text, net_name}
 use Rattle.gl_verilog_writer.specs.Naming.{IsNaming}
-use Rattle.gl_verilog_writer.specs.Design.{begins_port, family_from, family_of}
+use Rattle.gl_verilog_writer.specs.Labelled.{begins_port, family_from, family_of, ByFamily, name_in}
 use Rattle.gl_verilog_writer.proofs.Digits.{numeral-decimal, family-name}
 use Rattle.gl_bits.proofs.Bools.{bytes_same, true_or_false, not_both, neither_left, neither_right}
 use Rattle.gl_bits.proofs.Options.{some_same, not_some}
@@ -173,7 +173,7 @@ names-short family n f h =
     let lb = length-decimal-le 20 n (omega arith) (omega arith) h in
     let q : length (codes "n" ++ decimal family ++ codes "_" ++ decimal n) ≤ 77 = omega (arith, la, lb, length-append (decimal family ++ codes "_") (decimal n), length-append (decimal family) (codes "_")) in q
 
-pub family-naming : (net : Net) → length net.nodes < 2 ^ 64 → length net.ports < 2 ^ 64 → IsNaming net (net_name (family_of net.ports))
+pub family-naming : (net : Net) → length net.nodes < 2 ^ 64 → length net.ports < 2 ^ 64 → IsNaming net (name_in (ByFamily (family_of net.ports)))
 family-naming net nodes ports =
     let f = family-small net.ports (2 ^ 64) ports in
     let free = family-free net.ports ports in

@@ -1,6 +1,6 @@
 -- The module that a netlist's text means: declaration 0 is the clock, then come the ports, then the nodes.
-use Rattle.std.proofs.Common.{◌≡◌, ℕ, suc, ◌+◌, ◌==◌, if◌then◌else◌, true, false, List, [], ◌∷◌, ◌++◌, length, Option, Some, None, map}
-use Rattle.std.specs.Prelude.{codes, option_map, unwrap_or}
+use Rattle.std.proofs.Common.{ℕ, suc, ◌+◌, ◌==◌, if◌then◌else◌, List, [], ◌∷◌, ◌++◌, length, Option, Some, None, map}
+use Rattle.std.specs.Prelude.{codes, option_map, unwrap_or, not}
 use Rattle.gl_net.specs.declared.node.BinaryOp.{BinaryOp}
 use Rattle.gl_net.specs.declared.node.BinaryOp.TheVariants as op
 use Rattle.gl_net.specs.declared.node.Node.{Node}
@@ -54,7 +54,11 @@ kind_for (node.Memory bits w drive) = verilog.Memory bits
 kind_for x = verilog.Wire
 
 abbrev pub declaration_for : (ℕ → List ℕ) → ℕ → Node → Declaration
-declaration_for names n x = record { name = names n; width = node_width x; is_vector = true; kind = kind_for x }
+declaration_for names n x = record { name = names n; width = node_width x; is_vector = not (node_width x == 1); kind = kind_for x }
+
+-- some bits of a net; of one bit it is all
+abbrev pub cut_meaning : ℕ → ℕ → ℕ → ℕ → Expr
+cut_meaning w high low n = if w == 1 then verilog.Net n else Select high low n
 
 -- what is assigned to a node's net
 abbrev pub expression_of : ℕ → Node → Option Expr
@@ -64,7 +68,7 @@ expression_of p (node.Not x) = Some (Invert x.width (net_of p x.node))
 expression_of p (node.Binary o x y) = Some (binary_meaning o x.width (net_of p x.node) (net_of p y.node))
 expression_of p (node.Choose test x y) = Some (verilog.Choose (net_of p test.node) (net_of p x.node) (net_of p y.node))
 expression_of p (node.Join x y) = Some (verilog.Join y.width (net_of p x.node) (net_of p y.node))
-expression_of p (node.Cut x high low) = Some (Select high low (at_node p x.node))
+expression_of p (node.Cut x high low) = Some (cut_meaning x.width high low (at_node p x.node))
 expression_of p (node.MemoryRead store x) = Some (Read (at_node p store.node) (net_of p x.node))
 expression_of p (node.Register w reset next) = None
 expression_of p (node.Memory bits w drive) = None

@@ -5,7 +5,7 @@ use Rattle.gl_bits.proofs.Bools.{bytes_other, bytes_own, not_both}
 use Rattle.std.proofs.lemmas.List.{length-map}
 use Rattle.std.proofs.lemmas.Option.{slice_get_within}
 use Rattle.gl_bits.proofs.AllLists.{get_front, get_mapped, get_unmapped}
-use Rattle.gl_bits.proofs.Options.{some_same, not_some}
+use Rattle.gl_bits.proofs.Options.{some_same}
 use Rattle.gl_net.specs.declared.node.Node.{Node}
 use Rattle.gl_net.specs.declared.node.Port.{Port}
 use Rattle.gl_net.specs.Net.{Net}

@@ -1,12 +1,13 @@
 -- Each run of a netlist's module is one of the netlist.
-use Rattle.std.proofs.Common.{◌≡◌, ℕ, zero, suc, ◌+◌, ◌<◌, ◌^◌, Bool, true, false, ◌&&◌, List, [], ◌∷◌, ◌++◌, length, take, map, Option, Some, None, refl, sym, ap, ◌∙◌, arith, add-one, eq-eqb, eqb-true, ne_eqb, subst, take_at}
+use Rattle.std.proofs.Common.{◌≡◌, ℕ, zero, suc, ◌+◌, ◌-◌, ◌/◌, ◌%◌, ◌<◌, ◌≤◌, ◌^◌, Bool, true, false, ◌&&◌, List, [], ◌∷◌, ◌++◌, length, take, map, Option, Some, None, refl, sym, ap, ◌∙◌, arith, add-one, eq-eqb, eqb-true, ne_eqb, subst, take_at}
 use Rattle.std.specs.Prelude.{slice_get, codes, option_map, option_and_then, unwrap_or, nat_eq, ◌==◌, bit_and, bit_or, if◌then◌else◌, find, bytes_eq}
 use Rattle.std.proofs.lemmas.List.{length-map}
+use Rattle.std.proofs.Math.Nat.{div-one, mod-eq_of_lt}
 use Rattle.std.specs.Option.{option_map_or}
 use Rattle.gl_bits.proofs.AllLists.{all_front, all_back}
 use Rattle.gl_bits.proofs.Options.{some_same, not_some}
 use Rattle.gl_bits.proofs.Bools.{bytes_other, not_both}
-use Rattle.gl_bits.specs.Words.{not_of, lt_of, le_of}
+use Rattle.gl_bits.specs.Words.{not_of, lt_of, le_of, cut_of}
 use Rattle.gl_net.specs.declared.node.BinaryOp.{BinaryOp}
 use Rattle.gl_net.specs.declared.node.BinaryOp.TheVariants.{Add, Sub, Mul, And, Xor, Or, Eq, Ne, Lt, Le}
 use Rattle.gl_net.specs.declared.node.Node.{Node}
@@ -187,6 +188,17 @@ port-lookup net name v shows (q ∷ qs) h = by (bytes_eq q.name name) (port-look
     by false e = moved-up v (number_of (map (declaration_of net) qs) name) ∙ e
 
 -- a port is an input in the module where it is one in the netlist
+-- one bit is all of its net
+cut-same : (v : Nets) (word : Memories) (w high low n : ℕ) → low ≤ high → high < w → v n < 2 ^ w → (b : Bool) → (w == 1) ≡ b → value_of v word (if b then verilog.Net n else verilog.Select high low n) ≡ cut_of high low (v n)
+unfolding cut_of
+cut-same v word w high low n l h f true e =
+    let one = eqb-true w 1 e in
+    let a : low ≡ 0 = omega (arith, one, l, h) in
+    let b : high ≡ 0 = omega (arith, one, h) in
+    let g : v n < 2 ^ 1 = subst (λ (k : ℕ). v n < 2 ^ k) one f in
+    rw (a, b) (let q : v n ≡ (v n / 2 ^ 0) % 2 ^ (0 + 1 - 0) = sym (mod-eq_of_lt (let z : v n / 1 < 2 = omega (arith, g, div-one (v n)) in z) ∙ div-one (v n)) in q)
+cut-same v word w high low n l h f false e = refl
+
 kind-same : (d : Direction) → is_input (kind_of d) ≡ leads_in d
 kind-same In = refl
 kind-same Out = refl
@@ -274,7 +286,9 @@ module _ (net : Net) (names : ℕ → List ℕ) (c : Named net names) (value : �
       value-at t n _ _ e refl ∙ binary-same (value t) (word t) o x.width (at_node p x.node) (at_node p y.node) (carried-small t x.node x.width (bus net names c x h.0.bus)) k
   holds n (Choose test x y) e = λ t. value-at t n _ _ e refl
   holds n (Join x y) e = λ t. value-at t n _ _ e refl
-  holds n (Cut x high low) e = λ t. value-at t n _ _ e refl
+  holds n (Cut x high low) e = λ t.
+      let h = c.netlist.formed.nodes n (Cut x high low) e in
+      value-at t n _ _ e refl ∙ cut-same (value t) (word t) x.width high low (at_node p x.node) h.1 h.2 (carried-small t x.node x.width (bus net names c x h.0.bus)) (x.width == 1) refl
   holds n (MemoryRead store x) e = λ t. value-at t n _ _ e refl
   holds n (Register w None None) e = tt
   holds n (Register w (Some value') None) e = λ t h. (let f : None ≡ Some (Value w) = sym (c.netlist.finished.driven n) ∙ ap (option_and_then open_shape) e in absurd (not_some (Value w) f))
