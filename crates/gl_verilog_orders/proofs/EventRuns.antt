@@ -7,12 +7,11 @@ use Rattle.gl_verilog.specs.Module.{Module, Declaration, Input, Nets, Memories, 
 use Rattle.gl_verilog.specs.Run.{Fit, IsRun}
 use Rattle.gl_verilog.specs.Widths.{is_clock, width_at}
 use Rattle.gl_verilog.specs.Valid.{IsValid}
-use Rattle.gl_verilog.specs.Runnable.{is_input, inputs_from, inputs_of, FitInputs, HasInputs, SameState}
+use Rattle.gl_verilog.specs.Runnable.{IsRunnable, RunsAgree, is_input, inputs_from, inputs_of, FitInputs, HasInputs, SameState}
 use Rattle.gl_verilog.proofs.Fits.{found_in, width_at-found}
 use Rattle.gl_verilog_orders.specs.Events.{State, evaluations, at_edge, inputs_take, IsStart, StandsBefore, IsEventRun}
 use Rattle.gl_verilog_orders.specs.Laws.{Rests, IsTwoPhase, EventRunsAreRuns, EventRunsOf, HasEventRunsOf, HasEventRuns, RunsAreSeen}
-use Rattle.gl_verilog.proofs.Acyclic.{runnable, chosen}
-use Rattle.gl_verilog.proofs.Runs.{runs_agree}
+use Rattle.gl_verilog.proofs.Acyclic.{chosen}
 use Rattle.gl_verilog_orders.proofs.Rests.{rests}
 use Rattle.gl_verilog_orders.proofs.Cycle.{IsPort, ports, cycles_are_two_phase}
 
@@ -133,8 +132,9 @@ has_event_runs m v = λ start words inputs fit fits.
 
 -- ---- and the two-phase run is seen in some order
 
-pub runs_are_seen : (m : Module) → IsValid m → RunsAreSeen m
-runs_are_seen m v = λ value word run.
+pub runs_are_seen : ((m : Module) → IsValid m → IsRunnable m) → ((m : Module) → IsRunnable m → RunsAgree m)
+    → (m : Module) → IsValid m → RunsAreSeen m
+runs_are_seen runnable runs_agree m v = λ value word run.
     let other = has_event_runs m v (value 0) (word 0) value (run.fits 0) (λ t n d e. ((run.fits t n d e).0, (run.fits 0 n d e).1)) in
     record {
       value' = other.value;

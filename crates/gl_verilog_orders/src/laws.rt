@@ -5,6 +5,8 @@ ghost use Rattle.gl_verilog.specs.Valid.{IsValid};
 ghost use Rattle.gl_verilog_orders.specs.Laws.{ComesToRest, CyclesAreTwoPhase, Ends, EventRunsAreRuns, HasEventRuns, HasEventRunsOf, RunsAreSeen};
 ghost use Rattle.gl_verilog_orders.specs.Races.{Races, twice_assigned};
 
+use gl_verilog::laws::{runs_agree, valid_modules_run};
+
 /// Every list of steps can be continued to rest, and none goes on for ever.
 pub fn comes_to_rest()
     ensures continued { (m : Design) → IsValid m → ComesToRest m }
@@ -20,7 +22,10 @@ pub fn cycles_are_two_phase()
 pub fn event_runs_are_runs()
     ensures runs { (m : Design) → IsValid m → EventRunsAreRuns m }
     ensures seen { (m : Design) → IsValid m → RunsAreSeen m }
-{}
+{
+    valid_modules_run();
+    runs_agree();
+}
 
 /// There is a run in some order of events from any start and any inputs.
 pub fn has_event_runs()
