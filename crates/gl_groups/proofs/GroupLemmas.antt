@@ -21,7 +21,8 @@ use Rattle.gl_wire.specs.Lift.{Visits, tuple_of_any}
 use Rattle.gl_wire.specs.Rotates.{OverCopies, Rotates, delay_of_whole, lines_of_all, turns_of}
 use Rattle.gl_wire.specs.Timed.{Origin, Timed}
 use Rattle.gl_wire.proofs.LiftSpillLemmas.{lift_spills}
-use Rattle.gl_wire.proofs.TimeLemmas.{next_stream, timed_by}
+use Rattle.gl_wire.specs.CopyLaws.{FitsIsTimed}
+use Rattle.gl_wire.proofs.TimeLemmas.{next_stream}
 use Rattle.gl_wire.proofs.WholeServes.{whole_lines}
 use Rattle.gl_wire_registers.specs.Timers.{IsClose}
 use Rattle.gl_groups.specs.Groupings.{AreKeys, AwaitsTurns, OfGroups, key_of, line_of_further, with_keys}
@@ -159,7 +160,7 @@ groups_then f h means count key Body Like to before own beats a b source whole =
     }) (serving_then f h means (OfGroups count key Body) before own beats a b source whole)
 
 -- over spaced beats whatever comes finds the flush of each end before it over
-module _ (f s : Figures) (sound_f : IsSound f) (sound_s : IsSound s) (count : ℕ) (some : 1 ≤ count) (a : Carried) (beats : Beats) (spaced : Spaced (groups_over count f s) beats) (fits : Fits f beats a)
+module _ (timed_by : FitsIsTimed) (f s : Figures) (sound_f : IsSound f) (sound_s : IsSound s) (count : ℕ) (some : 1 ≤ count) (a : Carried) (beats : Beats) (spaced : Spaced (groups_over count f s) beats) (fits : Fits f beats a)
     (near : CarriesApart (group_gap s) a) where
   pub in_time : Timed (group_gap s) (rest_gap count s) a (by_tuples a)
   in_time = timed_by f (groups_over count f s) (group_gap s) (rest_gap count s) beats a sound_f (omega (arith, sound_s.tuples_gap)) (omega arith) (omega arith) spaced fits near
@@ -169,7 +170,7 @@ module _ (f s : Figures) (sound_f : IsSound f) (sound_s : IsSound s) (count : �
 
 -- ---- the theorem, over beats in which the source is carried far enough apart
 
-module _ (f s : Figures) (sound_f : IsSound f) (sound_s : IsSound s) (closing : s.nt ≡ 0) (count : ℕ) (key : Row → ℕ) (some : 1 ≤ count)
+module _ (timed_by : FitsIsTimed) (f s : Figures) (sound_f : IsSound f) (sound_s : IsSound s) (closing : s.nt ≡ 0) (count : ℕ) (key : Row → ℕ) (some : 1 ≤ count)
     (a : Carried) (ins outs : ℕ → Carried) (law : AreSlots count key (stride_of s) a ins) (cycles : ℕ) (in_body : cycles ≤ s.a) (keys : ℕ → ℕ → ℕ) (are : AreKeys count key (stride_of s) cycles a keys)
     (further : ℕ → Bool) (tells : AwaitsTurns count (stride_of s) a → (c : ℕ) → further c ≡ came_further count key a c) (Body : List Row → Results) (lines : ℕ → Lines)
     (b : Carried) (close : ℕ → Bool) (back : IsDelayed 1 (record { tuple = tuple_of_any (with_keys keys outs) count; ends = close }) b)
@@ -219,7 +220,7 @@ module _ (f s : Figures) (sound_f : IsSound f) (sound_s : IsSound s) (closing : 
       → ((k : ℕ) → k < count → Spaced s (beats_of (ins k)) → Serving s (λ t. Body (stream (ins k) t)) (lines k) (beats_of (ins k)) (outs k))
       → ServedWithLines f h (λ xs ys p. AreJoined (IsOfGroup Body) (groups count key xs) ys p) (lines_of_all lines count) beats a b
   groups_joined beats spaced fits near served =
-      let timed = in_time f s sound_f sound_s count some a beats spaced fits near in
+      let timed = in_time timed_by f s sound_f sound_s count some a beats spaced fits near in
       let rot = rotates s sound_s count key a ins law some timed in
       let lifted = lift_spills s (λ u xs. IsOfGroup Body (visit_group s sound_s count key a ins law some timed (u, xs))) count (who_slots count key (stride_of s) a) lines ins (with_keys keys outs) sound_s closing rot.schedules
       (λ k l. shown timed k l (rot.schedules.spaced k l) (served k l (rot.schedules.spaced k l)))
@@ -236,10 +237,10 @@ module _ (f s : Figures) (sound_f : IsSound f) (sound_s : IsSound s) (closing : 
       (groups_joined beats spaced fits near served)
     where
       timed : Timed (group_gap s) (rest_gap count s) a (by_tuples a)
-      timed = in_time f s sound_f sound_s count some a beats spaced fits near
+      timed = in_time timed_by f s sound_f sound_s count some a beats spaced fits near
 
       line : (c : ℕ) → further c ≡ came_further count key a c
-      line = tells (flush_awaited f s sound_f sound_s count some a beats spaced fits near)
+      line = tells (flush_awaited timed_by f s sound_f sound_s count some a beats spaced fits near)
 
       told : Ends beats → (d : ℕ) → a.ends d ≡ true → has_further count key (stream a d) ≡ true → (c : ℕ) × (further c ≡ true)
       told en d p e = let x = further_told count key a d e in (x.0, line x.0 ∙ x.1)
@@ -278,9 +279,9 @@ module _ (f s : Figures) (sound_f : IsSound f) (sound_s : IsSound s) (closing : 
       (groups_served beats spaced x.fits near served)
 
 -- for a body of a plan
-pub groupings_serve : GroupingsServe
-groupings_serve r f a b keys ins outs close further lines is sound_f front are tells closes back nodes body beats spaced fits near served =
-    groups_served f r.body sound_f is.sound is.closing r.slots (key_of r) is.some' a ins outs front 0 (omega arith) keys are further tells (OfBody nodes body) lines b close back closes
+pub groupings_serve : FitsIsTimed → GroupingsServe
+groupings_serve timed_by r f a b keys ins outs close further lines is sound_f front are tells closes back nodes body beats spaced fits near served =
+    groups_served timed_by f r.body sound_f is.sound is.closing r.slots (key_of r) is.some' a ins outs front 0 (omega arith) keys are further tells (OfBody nodes body) lines b close back closes
     beats spaced fits near served
 
 pub groups_group : GroupsGroup

@@ -33,7 +33,7 @@ use Rattle.gl_wire_registers.specs.Joins.{columns_of, gives_of, told_of}
 use Rattle.gl_groups.specs.Slots.{AreSlots}
 use Rattle.gl_groups.proofs.Setting.{Setting, awaited}
 use Rattle.gl_groups.proofs.FurtherLemmas.{further_came}
-use Rattle.gl_groups.proofs.GroupLemmas.{groupings_serve}
+use Rattle.gl_groups.specs.Laws.{GroupingsServe}
 
 -- what is given behind a source that awaits each flush
 abbrev pub setting_of : (r : Grouping) (a : Carried) (ins : ℕ → Carried) → IsGrouping r → AreSlots r.slots (key_of r) (stride_of r.body) a ins → AwaitsFlush r a → Setting
@@ -112,9 +112,9 @@ keyed_backed old new count key front_cost feeds serves f copies e some h many j 
     }
 
 -- a back behind copies of a front
-pub is_backed : (old new : Net) (r : Grouping) (f : Front) (copies : List Emitted) (e : Emitted) → IsGrouping r → Fronts old (grouping_machine r) f → length copies ≡ r.slots
+pub is_backed : GroupingsServe → (old new : Net) (r : Grouping) (f : Front) (copies : List Emitted) (e : Emitted) → IsGrouping r → Fronts old (grouping_machine r) f → length copies ≡ r.slots
     → JoinsAll old new f.source.faults f.further f.close f.keys copies e → IsBacked old new (grouping_machine r) f copies e
-is_backed old new r f copies e is h many j = keyed_backed old new r.slots r.key _ _ _ f copies e is.some' h many j serving
+is_backed groupings_serve old new r f copies e is h many j = keyed_backed old new r.slots r.key _ _ _ f copies e is.some' h many j serving
   where
     serving : (run : Run) → IsRun new run → IsDelayed 1 (record { tuple = tuple_of_any (with_keys (held_of run f.keys) (gives_of run copies)) r.slots; ends = line_at run f.close }) (carried run e.wire)
         → (source : Figures) → IsSound source

@@ -13,19 +13,18 @@ use Rattle.gl_groups.proofs.LaneShares.{share_steady, tuple_of_all}
 use Rattle.gl_wire_lanes.specs.Shares.{share}
 use Rattle.gl_wire.specs.Apart.{CarriesApart}
 use Rattle.gl_wire.specs.Beats.{Spaced, beats_of, gap}
+use Rattle.gl_wire.specs.CopyLaws.{FitsIsTimed}
+use Rattle.gl_wire.specs.Laws.{EndsServe, OwnBeatsFit, SteadyServes}
 use Rattle.gl_wire.specs.Serves.{Fits}
 use Rattle.gl_wire.specs.Serving.{Serving, through}
 use Rattle.gl_wire.specs.Shapes.{AtEnds, IsDelayed, Mapped, Steady, Totalled}
 use Rattle.gl_wire.specs.Spills.{no_lines}
 use Rattle.gl_wire.specs.Wire.{Carried, stream}
-use Rattle.gl_wire.proofs.ClosingLemmas.{own_fits}
-use Rattle.gl_wire.proofs.EndLemmas.{ends_serve}
 use Rattle.gl_wire.proofs.ServingLemmas.{leaf_serving, serving_as, serving_through}
 use Rattle.gl_wire.proofs.StageLemmas.{delayed_same}
-use Rattle.gl_wire.proofs.SteadyLemmas.{steady_serves}
 
 -- one share serves the body
-module _ (d m : ℕ) (step : Row → Option Row) (total : List Row → Row) (Body : List Row → Results)
+module _ (steady_serves : SteadyServes) (ends_serve : EndsServe) (d m : ℕ) (step : Row → Option Row) (total : List Row → Row) (Body : List Row → Results)
     (makes : (xs : List Row) → Body xs (total (filter_map step xs) ∷ []) false) (a mid out : Carried) (rows : Steady d step a mid) (ends : AtEnds m total mid out)
     (own : Fits input_figures (beats_of a) a) (spaced : Spaced (direct_figures d m) (beats_of a)) where
   abbrev mid_figures : Figures
@@ -66,16 +65,16 @@ direct_sound d m = record {
   gaps = omega arith;
 }
 
-pub lanes_serve : LanesServe
-lanes_serve f count d m key step total a lane mid out b slot slot_mid slot_out keys further close nodes body sound some laned makes beats spaced fits =
-    groups_served f (direct_figures d m) sound (direct_sound d m) refl count key some a (λ k. share slot k lane) (λ k. share slot_out k out) h.front 1 in_body keys h.shown further (λ awaits. h.tells) (OfBody nodes body) (λ k. no_lines) b close
+pub lanes_serve : FitsIsTimed → OwnBeatsFit → SteadyServes → EndsServe → LanesServe
+lanes_serve timed_by own_fits steady_serves ends_serve f count d m key step total a lane mid out b slot slot_mid slot_out keys further close nodes body sound some laned makes beats spaced fits =
+    groups_served timed_by f (direct_figures d m) sound (direct_sound d m) refl count key some a (λ k. share slot k lane) (λ k. share slot_out k out) h.front 1 in_body keys h.shown further (λ awaits. h.tells) (OfBody nodes body) (λ k. no_lines) b close
     back h.closes beats spaced fits near serves
   where
     near : CarriesApart (group_gap (direct_figures d m)) a
     near c e p q l = omega (arith, l)
 
     h : Laned count d m key step total a lane mid out b slot slot_mid slot_out keys further close
-    h = laned (flush_awaited f (direct_figures d m) sound (direct_sound d m) count some a beats spaced fits near)
+    h = laned (flush_awaited timed_by f (direct_figures d m) sound (direct_sound d m) count some a beats spaced fits near)
 
     in_body : 1 ≤ (direct_figures d m).a
     in_body = omega (arith, h.delay)
@@ -89,5 +88,5 @@ lanes_serve f count d m key step total a lane mid out b slot slot_mid slot_out k
     serves : (k : ℕ) → k < count → Spaced (direct_figures d m) (beats_of (share slot k lane))
         → Serving (direct_figures d m) (λ t. OfBody nodes body (stream (share slot k lane) t)) no_lines (beats_of (share slot k lane)) (share slot_out k out)
     serves k l apart =
-        share_serves d m step total (OfBody nodes body) makes (share slot k lane) (share slot_mid k mid) (share slot_out k out)
+        share_serves steady_serves ends_serve d m step total (OfBody nodes body) makes (share slot k lane) (share slot_mid k mid) (share slot_out k out)
         (share_steady d step lane mid slot slot_mid h.rows h.no_row h.no_end h.slots k) (h.table k) (own_fits (share slot k lane)) apart

@@ -7,6 +7,7 @@ ghost use Rattle.gl_groups.specs.Groupings.{IsGrouping, close_cycles};
 use crate::front::{Numbers, put_front};
 use crate::homes::mark_bits;
 use crate::joins::join_all;
+use crate::laws::groupings_serve;
 use gl_algebra::Figures;
 use gl_bits::Memory;
 use gl_net::NetBuilder;
@@ -66,6 +67,7 @@ impl OverCopies for Grouping {
         front: &Front,
         copies: &[Emitted],
     ) -> Result<Emitted, Memory> {
+        groupings_serve();
         // Named, since a goal speaks of the value.
         let whole = join_all(alloc, net, front, copies)?;
         Ok(whole)

@@ -23,7 +23,8 @@ use Rattle.gl_wire.specs.Lift.{Visits, tuple_of_any, visits}
 use Rattle.gl_wire.specs.Rotates.{OverCopies, Rotates, delay_of_whole, flush_of, lines_of_all, turns_of}
 use Rattle.gl_wire.specs.Timed.{Origin, Timed}
 use Rattle.gl_wire.proofs.LiftSpillLemmas.{lift_spills}
-use Rattle.gl_wire.proofs.TimeLemmas.{next_stream, timed_by}
+use Rattle.gl_wire.specs.CopyLaws.{FitsIsTimed}
+use Rattle.gl_wire.proofs.TimeLemmas.{next_stream}
 use Rattle.gl_wire.proofs.VisitLemmas.{beat_of}
 use Rattle.gl_wire.proofs.WholeServes.{whole_lines}
 use Rattle.gl_wire_registers.specs.Timers.{IsClose}
@@ -148,7 +149,7 @@ partition_table copies f s sound = record {
 
 -- ---- the theorem, over beats in which the source is carried far enough apart
 
-module _ (r : Partitioning) (is : IsPartitioning r) (f : Figures) (sound_f : IsSound f) (a b : Carried) (keys : ℕ → ℕ → ℕ) (ins outs : ℕ → Carried) (close further : ℕ → Bool) (lines : ℕ → Lines)
+module _ (timed_by : FitsIsTimed) (r : Partitioning) (is : IsPartitioning r) (f : Figures) (sound_f : IsSound f) (a b : Carried) (keys : ℕ → ℕ → ℕ) (ins outs : ℕ → Carried) (close further : ℕ → Bool) (lines : ℕ → Lines)
     (law : ArePartitions (numbers_of r) a ins) (are : AreKeys r a keys) (tells : AwaitsFlush r a → (c : ℕ) → further c ≡ came_further r.slots (key_of r) a c)
     (closes : IsClose (close_cycles r) (close_delay r) a.ends close) (back : IsDelayed 1 (record { tuple = tuple_of_any (with_keys keys outs) (all_copies r); ends = close }) b) (Body : List Row → Results) where
   abbrev s : Figures
@@ -259,6 +260,6 @@ module _ (r : Partitioning) (is : IsPartitioning r) (f : Figures) (sound_f : IsS
       last en (suc c) e = let d = carried c e en in (d.0 + delay_of_whole (all_turns r) s, omega (arith, d.1), whole_end d.0 ∙ d.2)
 
 -- for a body of a plan
-pub partitionings_serve : PartitioningsServe
-partitionings_serve r f a b keys ins outs close further lines is sound_f law are tells closes back nodes body beats spaced fits near served =
-    parts_served r is f sound_f a b keys ins outs close further lines law are tells closes back (OfBody nodes body) beats spaced fits near served
+pub partitionings_serve : FitsIsTimed → PartitioningsServe
+partitionings_serve timed_by r f a b keys ins outs close further lines is sound_f law are tells closes back nodes body beats spaced fits near served =
+    parts_served timed_by r is f sound_f a b keys ins outs close further lines law are tells closes back (OfBody nodes body) beats spaced fits near served

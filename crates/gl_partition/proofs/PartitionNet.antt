@@ -33,7 +33,7 @@ use Rattle.gl_partition.specs.declared.partitioning.Partitioning.{Partitioning}
 use Rattle.gl_partition.specs.Fronts.{AddsFront, IsFront}
 use Rattle.gl_partition.specs.Partitioned.{partitioning_machine}
 use Rattle.gl_partition.specs.Partitionings.{AwaitsFlush, IsPartitioning, ServesPartitions, all_copies, all_turns, close_cycles, close_delay, key_of, numbers_of}
-use Rattle.gl_partition.proofs.PartitionLemmas.{partitionings_serve}
+use Rattle.gl_partition.specs.Laws.{PartitioningsServe}
 
 -- what a slot would take of a source, and when it would end, if it had one copy
 abbrev slot_tuple : Partitioning → Carried → ℕ → ℕ → Option Row
@@ -115,9 +115,9 @@ pub some_copies : (r : Partitioning) → IsPartitioning r → 1 ≤ all_copies r
 some_copies r is = mul-pos is.some_slot is.some_copy
 
 -- a back behind copies of a front
-pub is_backed : (old new : Net) (r : Partitioning) (f : Front) (copies : List Emitted) (e : Emitted) → IsPartitioning r → Fronts old (partitioning_machine r) f → length copies ≡ all_copies r
+pub is_backed : PartitioningsServe → (old new : Net) (r : Partitioning) (f : Front) (copies : List Emitted) (e : Emitted) → IsPartitioning r → Fronts old (partitioning_machine r) f → length copies ≡ all_copies r
     → JoinsAll old new f.source.faults f.further f.close f.keys copies e → IsBacked old new (partitioning_machine r) f copies e
-is_backed old new r f copies e is h many j = keyed_backed old new (all_copies r) r.key _ _ _ f copies e (some_copies r is) h many j serving
+is_backed partitionings_serve old new r f copies e is h many j = keyed_backed old new (all_copies r) r.key _ _ _ f copies e (some_copies r is) h many j serving
   where
     serving : (run : Run) → IsRun new run → IsDelayed 1 (record { tuple = tuple_of_any (with_keys (held_of run f.keys) (gives_of run copies)) (all_copies r); ends = line_at run f.close }) (carried run e.wire)
         → (source : Figures) → IsSound source

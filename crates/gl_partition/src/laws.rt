@@ -4,10 +4,14 @@ ghost use Rattle.gl_partition.specs.Costs.{PartitioningsAreCounted};
 ghost use Rattle.gl_partition.specs.Laws.{PartitioningsServe, PartitionsPartition};
 ghost use Rattle.gl_partition.specs.Worked.{WorkedPartitions};
 
+use gl_wire::copy_laws::fits_is_timed;
+
 /// A front, copies that serve a body, and a back serve what the body makes of each window of each key, joined.
 pub fn partitionings_serve()
     ensures { PartitioningsServe }
-{}
+{
+    fits_is_timed();
+}
 
 /// Windows of each key in a plan have numbers that a circuit can have.
 pub fn partitions_partition()

@@ -5,6 +5,7 @@ ghost use Rattle.gl_partition.specs.Partitioned.{partitioning_machine};
 ghost use Rattle.gl_partition.specs.Partitionings.{IsPartitioning, close_cycles};
 
 use crate::front::{Numbers, put_front};
+use crate::laws::partitionings_serve;
 use crate::slot::Sizes;
 use gl_algebra::Figures;
 use gl_bits::Memory;
@@ -79,6 +80,7 @@ impl OverCopies for Partitioning {
         front: &Front,
         copies: &[Emitted],
     ) -> Result<Emitted, Memory> {
+        partitionings_serve();
         // Named, since a goal speaks of the value.
         let whole = join_all(alloc, net, front, copies)?;
         Ok(whole)

@@ -24,7 +24,7 @@ use Rattle.gl_windows.specs.Front.{IsFront}
 use Rattle.gl_windows.specs.Rotations.{AreFronts, IsRotation, ServesWindows, rotation_machine}
 use Rattle.gl_wire_registers.specs.Joins.{gives_of, JoinsAll, told_of}
 use Rattle.gl_wire_registers.proofs.FrontLemmas.{keyless_backed}
-use Rattle.gl_windows.proofs.WindowLemmas.{rotations_serve}
+use Rattle.gl_windows.specs.Laws.{RotationsServe}
 
 -- wires of a front and a line of ends behind it
 pub is_fronted : (old mid new : Net) (r : Rotation) (source : Emitted) (ws : List Wire) (keys : List Bus) (close : Bit) (stride flush : ℕ) → stride ≡ stride_of r.body → flush ≡ flush_of r.copies r.body
@@ -56,9 +56,9 @@ is_fronted old mid new r source ws keys close stride flush is_stride is_flush wi
 }
 
 -- a back behind copies of a front
-pub is_backed : (old new : Net) (r : Rotation) (f : Front) (copies : List Emitted) (e : Emitted) → IsRotation r → Fronts old (rotation_machine r) f → length copies ≡ r.copies
+pub is_backed : RotationsServe → (old new : Net) (r : Rotation) (f : Front) (copies : List Emitted) (e : Emitted) → IsRotation r → Fronts old (rotation_machine r) f → length copies ≡ r.copies
     → JoinsAll old new f.source.faults f.close copies e → IsBacked old new (rotation_machine r) f copies e
-is_backed old new r f copies e is h many j = keyless_backed old new r.copies None _ _ _ f copies e many j serving
+is_backed rotations_serve old new r f copies e is h many j = keyless_backed old new r.copies None _ _ _ f copies e many j serving
   where
     serving : (run : Run) → IsRun new run → IsDelayed 1 (record { tuple = tuple_of_any (gives_of run copies) r.copies; ends = line_at run f.close }) (carried run e.wire)
         → (source : Figures) → IsSound source → ServesWindows r source (carried run f.source.wire) (carried_of run f.wires) (gives_of run copies) (told_of run copies) (carried run e.wire)

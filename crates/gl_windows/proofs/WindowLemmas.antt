@@ -23,7 +23,7 @@ use Rattle.gl_wire.specs.Coming.{by_tuples}
 use Rattle.gl_wire.specs.Timed.{Origin, Timed}
 use Rattle.gl_wire.specs.Rotates.{Rotates, OverCopies, lines_of_all, flush_of, turns_of}
 use Rattle.gl_wire.proofs.LiftSpillLemmas.{lift_spills}
-use Rattle.gl_wire.proofs.TimeLemmas.{timed_by}
+use Rattle.gl_wire.specs.CopyLaws.{FitsIsTimed}
 use Rattle.gl_wire.proofs.WholeServes.{whole_lines}
 use Rattle.gl_wire_registers.specs.Timers.{IsClose}
 use Rattle.gl_windows.specs.Front.{IsFront, who_ends}
@@ -142,7 +142,7 @@ window_table count f s some sound = record {
 
 -- ---- the theorem, over beats in which the source is carried far enough apart
 
-module _ (f s : Figures) (sound_f : IsSound f) (sound_s : IsSound s) (closing : s.nt ≡ 0) (size advance count : ℕ) (rows_some : 1 ≤ size) (step_some : 1 ≤ advance) (copies_some : 1 ≤ count) (cover : size ≤ count * advance)
+module _ (timed_by : FitsIsTimed) (f s : Figures) (sound_f : IsSound f) (sound_s : IsSound s) (closing : s.nt ≡ 0) (size advance count : ℕ) (rows_some : 1 ≤ size) (step_some : 1 ≤ advance) (copies_some : 1 ≤ count) (cover : size ≤ count * advance)
     (a : Carried) (ins outs : ℕ → Carried) (law : IsFront size advance count (stride_of s) a ins) (m : Relation) (lines : ℕ → Lines)
     (b : Carried) (close : ℕ → Bool) (back : IsDelayed 1 (record { tuple = tuple_of_any outs count; ends = close }) b)
     (closes : IsClose (flush_of count s) (flush_of count s + 1 + s.a) a.ends close) where
@@ -186,9 +186,9 @@ module _ (f s : Figures) (sound_f : IsSound f) (sound_s : IsSound s) (closing : 
       }) (serving_then f h means (λ xs ys p. AreJoined m (slices size advance xs) ys p) before (lines_of_all lines count) beats a b x y)
 
 -- for a body of a plan
-pub rotations_serve : RotationsServe
-rotations_serve r f a b ins outs close lines is sound_f front closes back nodes body beats spaced fits near served =
-    windows_served f r.body sound_f is.sound is.closing r.size r.advance r.copies is.rows is.step is.some' is.cover a ins outs front (OfBody nodes body) lines b close back closes
+pub rotations_serve : FitsIsTimed → RotationsServe
+rotations_serve timed_by r f a b ins outs close lines is sound_f front closes back nodes body beats spaced fits near served =
+    windows_served timed_by f r.body sound_f is.sound is.closing r.size r.advance r.copies is.rows is.step is.some' is.cover a ins outs front (OfBody nodes body) lines b close back closes
     beats spaced fits near served
 
 pub windows_rotate : WindowsRotate

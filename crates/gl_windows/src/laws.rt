@@ -6,10 +6,14 @@ ghost use Rattle.gl_windows.specs.TimeRotations.{TimesRotate};
 ghost use Rattle.gl_windows.specs.Worked.{WorkedWindows};
 ghost use Rattle.gl_windows.specs.WorkedTimes.{WorkedTimes};
 
+use gl_wire::copy_laws::fits_is_timed;
+
 /// A front, copies that serve a body, and a back serve what the body makes of each window, joined.
 pub fn rotations_serve()
     ensures { RotationsServe }
-{}
+{
+    fits_is_timed();
+}
 
 /// What a rotation costs is within what a plan counts for it.
 pub fn costs_are_counted()

@@ -5,6 +5,7 @@ ghost use Rattle.gl_wire.specs.Rotates.{flush_of};
 ghost use Rattle.gl_windows.specs.Rotations.{IsRotation, rotation_machine};
 
 use crate::front::{Numbers, put_front};
+use crate::laws::rotations_serve;
 use gl_algebra::Figures;
 use gl_bits::Memory;
 use gl_net::{Buses, NetBuilder};
@@ -66,6 +67,7 @@ impl OverCopies for Rotation {
         front: &Front,
         copies: &[Emitted],
     ) -> Result<Emitted, Memory> {
+        rotations_serve();
         // Named, since a goal speaks of the value.
         let whole = join_all(alloc, net, front.source.faults, front.close, copies)?;
         Ok(whole)

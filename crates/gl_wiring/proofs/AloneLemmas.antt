@@ -7,7 +7,6 @@ use Rattle.gl_algebra.specs.FigureTable.{figures_of}
 use Rattle.gl_algebra.specs.Fits.{IsPlan}
 use Rattle.gl_algebra.specs.Results.{IsPlanResult}
 use Rattle.gl_algebra.specs.Roots.{root_figures, spare_at}
-use Rattle.gl_algebra.proofs.FigureLemmas.{figures_are_sound}
 use Rattle.gl_figures.proofs.RootLemmas.{figures_there}
 use Rattle.gl_net.specs.declared.node.Bit.{Bit}
 use Rattle.gl_net.specs.Net.{Net, Run, IsRun}
@@ -19,6 +18,7 @@ use Rattle.gl_wire.specs.Wire.{carried}
 use Rattle.gl_algebra.specs.Cost.{keys_of, lean_of}
 use Rattle.gl_algebra.specs.Roots.{further_keys, further_lean}
 use Rattle.gl_wire.proofs.OnceLemmas.{serving_once}
+use Rattle.gl_wiring.specs.Below.{LawsBelow}
 use Rattle.gl_wiring.specs.Leaves.{leaf}
 use Rattle.gl_wiring.specs.Put.{Gives, IsPut}
 use Rattle.gl_wiring.specs.Roots.{IsRootPut, ServesOnceBy, ServesOnceIn}
@@ -32,15 +32,15 @@ bits_behind : (new old own further keys more : ℕ) → new ≤ old + (64 * own 
 bits_behind new old own further keys more h = omega (arith, h)
 
 -- what gives a node's results over all beats does so over one stream
-pub once_by : (nodes : List PlanNode) (id : ℕ) (net : Net) (tick : Option Bit) (leaves : List Wire) (e : Emitted) → IsPlan nodes → id < length nodes
+pub once_by : LawsBelow → (nodes : List PlanNode) (id : ℕ) (net : Net) (tick : Option Bit) (leaves : List Wire) (e : Emitted) → IsPlan nodes → id < length nodes
     → Gives nodes id net tick leaves e → (run : Run) → IsRun net run → ServesOnceBy (figures_of nodes id) nodes id tick leaves e run
-once_by nodes id net tick leaves e plan within gives run is beats last one spaced has =
+once_by laws nodes id net tick leaves e plan within gives run is beats last one spaced has =
     serving_once (figures_of nodes id) (λ t. IsPlanResult nodes id (inputs_at (line_of run tick) (leaf run leaves) (leaf run leaves 0) t)) (lines_of run e.faults)
-    beats (carried run e.wire) last (figures_are_sound nodes id plan within) spaced one (gives.serving run is beats spaced has)
+    beats (carried run e.wire) last (laws.figures_are_sound nodes id plan within) spaced one (gives.serving run is beats spaced has)
 
-pub root_alone : (nodes : List PlanNode) (root : ℕ) (old new : Net) (tick : Option Bit) (leaves : List Wire) (e : Emitted) → IsPlan nodes → root < length nodes
+pub root_alone : LawsBelow → (nodes : List PlanNode) (root : ℕ) (old new : Net) (tick : Option Bit) (leaves : List Wire) (e : Emitted) → IsPlan nodes → root < length nodes
     → spare_at nodes root ≡ None → IsPut nodes root old new tick leaves e → IsRootPut nodes root old new tick leaves e
-root_alone nodes root old new tick leaves e plan within none put =
+root_alone laws nodes root old new tick leaves e plan within none put =
     record {
       keeps = put.keeps;
       cost = record {
@@ -57,4 +57,4 @@ root_alone nodes root old new tick leaves e plan within none put =
 
     once : (run : Run) → IsRun new run → ServesOnceIn nodes root tick leaves e run
     once run is =
-        subst (λ (g : Figures). ServesOnceBy g nodes root tick leaves e run) (sym same) (once_by nodes root new tick leaves e plan within put.gives run is)
+        subst (λ (g : Figures). ServesOnceBy g nodes root tick leaves e run) (sym same) (once_by laws nodes root new tick leaves e plan within put.gives run is)

@@ -7,7 +7,6 @@ use Rattle.gl_algebra.specs.FigureTable.{figures_of, spaced}
 use Rattle.gl_algebra.specs.Fits.{IsBodyFor, IsPlan}
 use Rattle.gl_algebra.specs.Results.{IsPlanResult}
 use Rattle.gl_algebra.specs.Shapes.{kinds_of, shape_of}
-use Rattle.gl_algebra.proofs.ReadLemmas.{body_reads}
 use Rattle.gl_net.specs.declared.node.Bit.{Bit}
 use Rattle.gl_net.specs.Net.{Net, Run, IsRun, Keeps}
 use Rattle.gl_net.proofs.Determined.{keeps_then}
@@ -26,6 +25,7 @@ use Rattle.gl_wire.specs.Spills.{Lines}
 use Rattle.gl_wire.specs.Wire.{Carried, carried, stream, widths}
 use Rattle.gl_wire.proofs.DelayLemmas.{spaced_closer}
 use Rattle.gl_wire.proofs.ServingLemmas.{serving_as}
+use Rattle.gl_wiring.specs.Below.{LawsBelow}
 use Rattle.gl_wiring.specs.Copies.{AreBodies, IsSpacedFor, LeavesRoom, cost_from, cost_of_spaced, paceless}
 use Rattle.gl_wiring.specs.Leaves.{LeavesFit, leaf, widths_of}
 use Rattle.gl_wiring.specs.Put.{Gives, GivesAs}
@@ -85,7 +85,7 @@ module _ (nodes : List PlanNode) (source gap : ℕ) (g : Figures) (room : Leaves
 abbrev pub CopyServes : List PlanNode → ℕ → Figures → Carried → Lines → Carried → Type 0
 CopyServes nodes body s a lines b = Serving s (λ u. OfBody nodes body (stream a u)) lines (beats_of a) b
 
-module _ (nodes : List PlanNode) (source body : ℕ) (plan : IsPlan nodes) (in_body : body < length nodes) (for : IsBodyFor (shape_of nodes source) (shape_of nodes body)) where
+module _ (laws : LawsBelow) (nodes : List PlanNode) (source body : ℕ) (plan : IsPlan nodes) (in_body : body < length nodes) (for : IsBodyFor (shape_of nodes source) (shape_of nodes body)) where
   abbrev s : Figures
   s = figures_of nodes body
 
@@ -96,8 +96,8 @@ module _ (nodes : List PlanNode) (source body : ℕ) (plan : IsPlan nodes) (in_b
       let ls : ℕ → Carried = leaf run (wire ∷ []) in
       serving_as s (λ t. IsPlanResult nodes body (inputs_at (line_of run None) ls (ls 0) t)) (λ u. OfBody nodes body (stream (carried run wire) u)) (lines_of run x.faults)
       (beats_of (carried run wire)) (carried run x.wire)
-      (λ t ys p h. body_reads nodes body plan in_body (kinds_of nodes source) for.leaves (inputs_at (line_of run None) ls (ls 0) t) (alone (stream (carried run wire) t)) refl ys p h)
-      ((are.gives k wire x at_wire at_copy).serving run r (beats_of (carried run wire)) spaced_beats (copy_fits run wire))
+      (λ t ys p h. laws.bodies_read_their_input nodes body plan in_body (kinds_of nodes source) for.leaves (inputs_at (line_of run None) ls (ls 0) t) (alone (stream (carried run wire) t)) refl ys p h)
+      ((are.gives k wire x at_wire at_copy).serving run r (beats_of (carried run wire)) spaced_beats (copy_fits laws run wire))
 
   pub copies_serve : (mid net : Net) (run : Run) (wires : List Wire) (c : ℕ) (copies : List Emitted) → IsRun net run → AreBodies nodes body mid net wires c copies
       → length wires ≡ c → (k : ℕ) → k < c → Spaced s (beats_of (carried_of run wires k))

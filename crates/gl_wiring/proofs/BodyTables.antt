@@ -9,7 +9,6 @@ use Rattle.gl_algebra.specs.Columns.{kind_of_agg}
 use Rattle.gl_algebra.specs.FigureTable.{aggregate_figures, delay_of_aggs}
 use Rattle.gl_algebra.specs.Fits.{IsPlan}
 use Rattle.gl_algebra.specs.Shapes.{Shape, kinds_of}
-use Rattle.gl_algebra.proofs.TableLemmas.{nodes_follow_tables}
 use Rattle.gl_net.specs.Net.{Net, Run, IsRun}
 use Rattle.gl_net.proofs.Determined.{keeps_then}
 use Rattle.gl_totals.specs.Costs.{cost_of_table}
@@ -25,11 +24,12 @@ use Rattle.gl_wire_lanes.specs.declared.table.TableOut.{TableOut}
 use Rattle.gl_wire_lanes.specs.Shares.{share, slot_of}
 use Rattle.gl_wiring.specs.declared.rows.LaneRows.{LaneRows}
 use Rattle.gl_wiring.specs.declared.rows.Place.{Place}
+use Rattle.gl_wiring.specs.Below.{LawsBelow}
 use Rattle.gl_wiring.specs.Lanes.{AreRows, IsBodyTable, IsDirectBehind}
 use Rattle.gl_wiring.specs.Leaves.{widths_of}
 use Rattle.gl_wiring.proofs.LaneRowLemmas.{rows_begin}
 
-module _ (nodes : List PlanNode) (body child : ℕ) (aggs : List PlanAgg) (plan : IsPlan nodes) (at : slice_get nodes body ≡ Some (Aggregate child aggs))
+module _ (laws : LawsBelow) (nodes : List PlanNode) (body child : ℕ) (aggs : List PlanAgg) (plan : IsPlan nodes) (at : slice_get nodes body ≡ Some (Aggregate child aggs))
     (old mid new : Net) (lane : Wire) (place : Place) (below : LaneRows) (h : AreRows nodes child old mid lane place below) (table : Table)
     (kinds_are : table.kinds.now ≡ kinds_of nodes child) (aggs_are : table.aggs.now ≡ aggs) (out : TableOut)
     (t : IsTable mid new table below.rows.wire below.place.slot below.place.first out) where
@@ -58,12 +58,12 @@ module _ (nodes : List PlanNode) (body child : ℕ) (aggs : List PlanAgg) (plan 
             let b : Carried = share (slot_of run out.slot) k (carried run out.wire) in
             subst (λ (l : List PlanAgg). AtEnds (delay_of_aggs kinds l) (total_row kinds l) a b) aggs_are
             (subst (λ (l : List Kind). AtEnds (delay_of_aggs l table.aggs.now) (total_row l table.aggs.now) a b) kinds_are
-            (t.shares run r (rows_begin nodes child old mid lane place below h run at_mid begins) k));
+            (t.shares run r (rows_begin laws nodes child old mid lane place below h run at_mid begins) k));
       }
 
   pub table_put : IsBodyTable nodes body old new lane place out
   table_put =
-      let follows = nodes_follow_tables nodes body (Aggregate child aggs) plan at in
+      let follows = laws.nodes_follow_tables nodes body (Aggregate child aggs) plan at in
       let own : kinds_of nodes body ≡ map (kind_of_agg kinds) aggs = ap (λ (x : Shape). x.kinds) follows.shape in
       record {
         child = child;

@@ -11,7 +11,6 @@ use Rattle.gl_algebra.specs.Fits.{IsPlan}
 use Rattle.gl_algebra.specs.Nodewise.{named_by}
 use Rattle.gl_algebra.specs.Shapes.{shape_of, shape_from}
 use Rattle.gl_algebra.specs.Views.{reads_time}
-use Rattle.gl_algebra.proofs.TableLemmas.{nodes_follow_tables}
 use Rattle.gl_net.specs.declared.node.Bit.{Bit}
 use Rattle.gl_net.specs.Net.{Net, Keeps}
 use Rattle.gl_wire.specs.declared.emitted.Emitted.{Emitted}
@@ -19,6 +18,7 @@ use Rattle.gl_wire.specs.declared.wire.Wire.{Wire}
 use Rattle.gl_wire.proofs.ColumnLemmas.{wire_kept}
 use Rattle.gl_wire.specs.Faults.{IsLine}
 use Rattle.gl_wire.proofs.FaultLemmas.{line_kept, lines_kept}
+use Rattle.gl_wiring.specs.Below.{LawsBelow}
 use Rattle.gl_wiring.specs.Leaves.{HasLine, HaveLeaves, HaveLine}
 use Rattle.gl_wiring.specs.Put.{CanPut, HasColumns, IsPut}
 
@@ -68,10 +68,10 @@ no_line reads tick kinds (x ∷ xs) h = (
   no_line reads tick kinds xs (All-tail (λ leaf. leaf ≡ Body kinds) x xs h),
 )
 
-module _ (nodes : List PlanNode) (figures : List Figures) (id : ℕ) (node : PlanNode) (net : Net) (tick : Option Bit) (leaves : List Wire)
+module _ (laws : LawsBelow) (nodes : List PlanNode) (figures : List Figures) (id : ℕ) (node : PlanNode) (net : Net) (tick : Option Bit) (leaves : List Wire)
     (plan : IsPlan nodes) (at : slice_get nodes id ≡ Some node) (can : CanPut nodes figures id net tick leaves) where
   of_node : HasAll nodes net tick leaves (shape_from (shape_of nodes) node).leaves
-  of_node = subst (λ s. HasAll nodes net tick leaves s.leaves) (nodes_follow_tables nodes id node plan at).shape (can.leaved, can.timed)
+  of_node = subst (λ s. HasAll nodes net tick leaves s.leaves) (laws.nodes_follow_tables nodes id node plan at).shape (can.leaved, can.timed)
 
   can_first : (child : ℕ) (rest : List ℕ) → named_by node ≡ child ∷ rest → HasAll nodes net tick leaves (shape_of nodes child).leaves
       → CanPutChild nodes figures id child net tick leaves

@@ -23,7 +23,7 @@ use Rattle.gl_wire.specs.declared.wire.Wire.{Wire}
 use Rattle.gl_wire.specs.Beats.{beats_of}
 use Rattle.gl_wire.specs.Serves.{Fits}
 use Rattle.gl_wire.specs.Wire.{IsWire, carried, widths}
-use Rattle.gl_wire.proofs.ClosingLemmas.{own_fits}
+use Rattle.gl_wiring.specs.Below.{LawsBelow}
 use Rattle.gl_wiring.specs.Leaves.{HaveLeaves, LeavesFit, widths_of}
 use Rattle.gl_wiring.specs.Put.{CanPut, HasColumns, IsPut, plan_cost}
 use Rattle.gl_wiring.specs.Copies.{AreBodies, CanCopy, CanStandBehind}
@@ -40,21 +40,21 @@ body_leaves net w kinds is columns (x ∷ xs) h = (
 )
 
 -- the one leaf of a copy fits the beats of its own wire
-pub copy_fits : (run : Run) (w : Wire) → LeavesFit run None (w ∷ []) (beats_of (carried run w))
-copy_fits run w = record { each = each; ticks = record { each = λ c h. absurd (cc) } }
+pub copy_fits : LawsBelow → (run : Run) (w : Wire) → LeavesFit run None (w ∷ []) (beats_of (carried run w))
+copy_fits laws run w = record { each = each; ticks = record { each = λ c h. absurd (cc) } }
   where
     each : (place : ℕ) (wire : Wire) → slice_get (w ∷ []) place ≡ Some wire → Fits input_figures (beats_of (carried run w)) (carried run wire)
-    each zero wire h = let same : w ≡ wire = cc in subst (λ (x : Wire). Fits input_figures (beats_of (carried run w)) (carried run x)) same (own_fits (carried run w))
+    each zero wire h = let same : w ≡ wire = cc in subst (λ (x : Wire). Fits input_figures (beats_of (carried run w)) (carried run x)) same (laws.own_beats_fit (carried run w))
     each (suc place) wire h = absurd (cc)
 
 -- behind a wire with the columns of its source a body can be put
-pub can_stand : (nodes : List PlanNode) (figures : List Figures) (id source body : ℕ) (node : PlanNode) (net : Net) (tick : Option Bit) (leaves : List Wire) (columns : List ℕ)
+pub can_stand : LawsBelow → (nodes : List PlanNode) (figures : List Figures) (id source body : ℕ) (node : PlanNode) (net : Net) (tick : Option Bit) (leaves : List Wire) (columns : List ℕ)
     → IsPlan nodes → slice_get nodes id ≡ Some node → named_by node ≡ source ∷ body ∷ [] → IsBodyFor (shape_of nodes source) (shape_of nodes body)
     → CanPut nodes figures id net tick leaves → columns ≡ widths_of (kinds_of nodes source) → CanStandBehind nodes figures body columns
-can_stand nodes figures id source body node net tick leaves columns plan at named for can same = record {
+can_stand laws nodes figures id source body node net tick leaves columns plan at named for can same = record {
   within = second_within nodes id node plan at source body named;
   each = λ other wire is own.
-      (can_body nodes figures id node net tick leaves plan at can source body wire (kinds_of nodes source) other named
+      (can_body laws nodes figures id node net tick leaves plan at can source body wire (kinds_of nodes source) other named
       (body_leaves other wire (kinds_of nodes source) is (own ∙ same) (shape_of nodes body).leaves for.leaves) for.leaves).can;
 }
 

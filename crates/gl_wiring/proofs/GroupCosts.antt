@@ -18,10 +18,10 @@ use Rattle.gl_net.specs.Net.{Net}
 use Rattle.gl_figures.specs.Reach.{keys_part, lean_part, store_part, weight_part}
 use Rattle.gl_figures.proofs.PartLemmas.{HasParts, parts_at}
 use Rattle.gl_groups.specs.Costs.{IsCounted, cost_of_back, cost_of_front, cost_of_grouping, counted_for}
-use Rattle.gl_groups.proofs.CostLemmas.{groupings_are_counted}
 use Rattle.gl_wire.specs.Costs.{Cost, CostsAtMost}
 use Rattle.gl_wire.proofs.CountLemmas.{narrow_kinds}
 use Rattle.gl_wiring.specs.declared.groups.GroupOf.{GroupOf}
+use Rattle.gl_wiring.specs.Below.{LawsBelow}
 use Rattle.gl_wiring.specs.Copies.{cost_of_spaced, times}
 use Rattle.gl_wiring.specs.Groups.{IsGroupNode, cost_to_slots}
 use Rattle.gl_wiring.specs.Leaves.{widths_of}
@@ -65,7 +65,7 @@ key_width_is (kind ∷ kinds) zero within = refl
 key_width_is (kind ∷ kinds) (suc k) within = key_width_is kinds k (omega (arith, within))
 
 -- all parts
-module _ (nodes : List PlanNode) (g : GroupOf) (plan : IsPlan nodes) (at : IsGroupNode nodes g) (kinds_source : All IsKind (kinds_of nodes g.source))
+module _ (laws : LawsBelow) (nodes : List PlanNode) (g : GroupOf) (plan : IsPlan nodes) (at : IsGroupNode nodes g) (kinds_source : All IsKind (kinds_of nodes g.source))
     (kinds_own : All IsKind (kind_of_column (kinds_of nodes g.source) g.key ∷ kinds_of nodes g.body)) (copies : is_direct (form_of nodes g.body) ≡ false) where
   abbrev source : List ℕ
   source = widths_of (kinds_of nodes g.source)
@@ -92,7 +92,7 @@ module _ (nodes : List PlanNode) (g : GroupOf) (plan : IsPlan nodes) (at : IsGro
   parts = parts_at nodes g.id (Group g.source g.body g.key g.groups) at
 
   grouping : IsCounted (cost_of_grouping g.groups g.key source own) (counted_for g.groups source own)
-  grouping = groupings_are_counted g.groups g.key source own (narrow_kinds (kinds_of nodes g.source) kinds_source) (narrow_kinds own_kinds kinds_own)
+  grouping = laws.groupings_are_counted g.groups g.key source own (narrow_kinds (kinds_of nodes g.source) kinds_source) (narrow_kinds own_kinds kinds_own)
 
   weight : weight_part nodes g.id ≡ lines (weight_of nodes g.body) + spacer.nodes
   weight = rw (source_lines, own_lines) parts.weight

@@ -14,11 +14,7 @@ use Rattle.gl_algebra.specs.Fits.{Fits as FitsPlan, IsPlan}
 use Rattle.gl_algebra.specs.Laws.{FollowsTables}
 use Rattle.gl_algebra.specs.Results.{Inputs, IsPlanResult, given}
 use Rattle.gl_algebra.specs.Shapes.{Shape, kinds_of}
-use Rattle.gl_algebra.proofs.FigureLemmas.{closing_nodes_wait, figures_are_sound}
-use Rattle.gl_algebra.proofs.KindLemmas.{columns_have_kinds}
-use Rattle.gl_algebra.proofs.ReadLemmas.{body_reads}
 use Rattle.gl_algebra.proofs.SoundLemmas.{spaced_sound}
-use Rattle.gl_algebra.proofs.TableLemmas.{nodes_follow_tables}
 use Rattle.gl_net.specs.declared.node.Bit.{Bit}
 use Rattle.gl_net.specs.declared.node.Bus.{Bus}
 use Rattle.gl_net.specs.Net.{Net}
@@ -28,7 +24,7 @@ use Rattle.gl_wire.specs.Rotates.{lines_of_all}
 use Rattle.gl_groups.specs.Costs.{cost_of_back}
 use Rattle.gl_groups.specs.Grouped.{grouping_machine}
 use Rattle.gl_groups.specs.Groupings.{IsGrouping, key_of, line_of_further}
-use Rattle.gl_groups.proofs.GroupLemmas.{groups_group, groups_then}
+use Rattle.gl_groups.proofs.GroupLemmas.{groups_then}
 use Rattle.gl_wire_registers.specs.Fronts.{columns_over}
 use Rattle.gl_wire_registers.specs.Joins.{columns_of, told_of}
 use Rattle.gl_wire.specs.declared.emitted.Emitted.{Emitted}
@@ -40,6 +36,7 @@ use Rattle.gl_wire.specs.Spills.{Lines, both_lines}
 use Rattle.gl_wire.specs.Wire.{carried, widths}
 use Rattle.gl_wire.proofs.ServingLemmas.{serving_as, serving_lines}
 use Rattle.gl_wiring.specs.declared.groups.GroupOf.{GroupOf}
+use Rattle.gl_wiring.specs.Below.{LawsBelow}
 use Rattle.gl_wiring.specs.Copies.{CanStandBehind, IsPutOver, IsSpacedSource, LeavesRoom}
 use Rattle.gl_wiring.specs.Groups.{IsGroupNode, group_whole, grouping_of, spaced_source}
 use Rattle.gl_wiring.specs.Leaves.{leaf, widths_of}
@@ -57,7 +54,7 @@ room_for count f body sound = record {
   after_end = omega (arith, sound.gaps);
 }
 
-module _ (nodes : List PlanNode) (g : GroupOf) (plan : IsPlan nodes) (at : IsGroupNode nodes g) where
+module _ (laws : LawsBelow) (nodes : List PlanNode) (g : GroupOf) (plan : IsPlan nodes) (at : IsGroupNode nodes g) where
   abbrev node : PlanNode
   node = Group g.source g.body g.key g.groups
 
@@ -71,7 +68,7 @@ module _ (nodes : List PlanNode) (g : GroupOf) (plan : IsPlan nodes) (at : IsGro
   in_body = second_within nodes g.id node plan at g.source g.body refl
 
   pub follows : FollowsTables nodes g.id node
-  follows = nodes_follow_tables nodes g.id node plan at
+  follows = laws.nodes_follow_tables nodes g.id node plan at
 
   abbrev s : Figures
   s = figures_of nodes g.body
@@ -83,14 +80,14 @@ module _ (nodes : List PlanNode) (g : GroupOf) (plan : IsPlan nodes) (at : IsGro
   h = group_whole nodes g
 
   pub sound_body : IsSound s
-  sound_body = figures_are_sound nodes g.body plan in_body
+  sound_body = laws.figures_are_sound nodes g.body plan in_body
 
   -- what a spacer asks for
   pub some_gap : 1 ≤ group_gap s
   some_gap = omega (arith, sound_body.tuples_gap)
 
   pub sound_source : IsSound f
-  sound_source = spaced_sound (group_gap s) (figures_of nodes g.source) (figures_are_sound nodes g.source plan in_source)
+  sound_source = spaced_sound (group_gap s) (figures_of nodes g.source) (laws.figures_are_sound nodes g.source plan in_source)
 
   pub room : LeavesRoom (group_gap s) f h
   room = room_for g.groups f s sound_body
@@ -98,7 +95,7 @@ module _ (nodes : List PlanNode) (g : GroupOf) (plan : IsPlan nodes) (at : IsGro
   -- the numbers of its circuit
   pub grouping_is : AreSmall (figures_of nodes g.id) → IsGrouping (grouping_of nodes g)
   grouping_is small =
-      groups_group g.key g.groups f s fits.suits.2.least sound_body (closing_nodes_wait nodes g.body plan in_body fits.suits.0.closing)
+      laws.groups_group g.key g.groups f s fits.suits.2.least sound_body (laws.closing_nodes_wait nodes g.body plan in_body fits.suits.0.closing)
       (subst AreSmall follows.figures small)
 
   -- the key is one of the source's columns
@@ -112,7 +109,7 @@ module _ (nodes : List PlanNode) (g : GroupOf) (plan : IsPlan nodes) (at : IsGro
   pub group_stands : (figures : List Figures) (net : Net) (tick : Option Bit) (leaves : List Wire) (columns : List ℕ) → CanPut nodes figures g.id net tick leaves
       → columns ≡ widths_of (kinds_of nodes g.source) → CanStandBehind nodes figures g.body columns
   group_stands figures net tick leaves columns can same =
-      can_stand nodes figures g.id g.source g.body node net tick leaves columns plan at refl fits.suits.0 can same
+      can_stand laws nodes figures g.id g.source g.body node net tick leaves columns plan at refl fits.suits.0 can same
 
   -- the machine behind the source
   pub group_put : (old mid new : Net) (tick : Option Bit) (leaves : List Wire) (between e : Emitted) → IsSpacedSource nodes g.source (group_gap s) old mid tick leaves between
@@ -120,7 +117,7 @@ module _ (nodes : List PlanNode) (g : GroupOf) (plan : IsPlan nodes) (at : IsGro
       → IsPutBehind nodes g.id old new tick leaves e
   group_put old mid new tick leaves between e sp o copied =
       let m = grouping_machine (grouping_of nodes g) in
-      let x = around nodes g.source g.body (group_gap s) h m between old mid new tick leaves e plan in_body fits.suits.0 room sp o in
+      let x = around laws nodes g.source g.body (group_gap s) h m between old mid new tick leaves e plan in_body fits.suits.0 room sp o in
       let b = o.backed in
       let columns : columns_of o.copies ≡ widths_of (kinds_of nodes g.body) = over_columns nodes g.body m between mid new e o fits.suits.2.least in
       let own : columns_over m o.front o.copies ≡ widths_of (kind_of_column (kinds_of nodes g.source) g.key ∷ kinds_of nodes g.body) =
@@ -129,8 +126,8 @@ module _ (nodes : List PlanNode) (g : GroupOf) (plan : IsPlan nodes) (at : IsGro
       subst (λ (cs : List ℕ). CostsAtMost o.behind new (cost_of_back g.groups cs)) own b.cost in
       record {
         keeps = x.keeps;
-        cost = group_cost nodes g plan at (columns_have_kinds nodes g.source plan in_source)
-            (subst (λ (x : Shape). All IsKind x.kinds) follows.shape (columns_have_kinds nodes g.id plan (slice_get_within nodes g.id node at)))
+        cost = group_cost laws nodes g plan at (laws.columns_have_kinds nodes g.source plan in_source)
+            (subst (λ (x : Shape). All IsKind x.kinds) follows.shape (laws.columns_have_kinds nodes g.id plan (slice_get_within nodes g.id node at)))
             copied old o.mid o.behind new x.cost o.bodies.cost rear;
         gives = rw (follows.shape, follows.figures) (record {
           wire = b.wire;
@@ -148,7 +145,7 @@ module _ (nodes : List PlanNode) (g : GroupOf) (plan : IsPlan nodes) (at : IsGro
               (λ t ys p v. (follows.results (ins t) ys p).1 v)
               (groups_then f h (λ t. IsPlanResult nodes g.source (ins t)) g.groups (key_of (grouping_of nodes g)) (OfBody nodes g.body)
               (λ t rows. IsPlanResult nodes g.body (given (ins t) rows))
-              (λ t rows zs q y. body_reads nodes g.body plan in_body (kinds_of nodes g.source) fits.suits.0.leaves (alone rows) (given (ins t) rows) refl zs q y)
+              (λ t rows zs q y. laws.bodies_read_their_input nodes g.body plan in_body (kinds_of nodes g.source) fits.suits.0.leaves (alone rows) (given (ins t) rows) refl zs q y)
               (lines_of run o.front.source.faults) told beats (carried run o.front.source.wire) (carried run e.wire) y.source' whole));
         });
       }

@@ -20,7 +20,6 @@ use Rattle.gl_algebra.specs.Fits.{IsPlan}
 use Rattle.gl_algebra.specs.Laws.{FollowsTables}
 use Rattle.gl_algebra.specs.Shapes.{kinds_of}
 use Rattle.gl_algebra.specs.Weights.{weight_of, weight_of_agg, weight_of_copies}
-use Rattle.gl_algebra.proofs.TableLemmas.{nodes_follow_tables}
 use Rattle.gl_net.specs.Net.{Net}
 use Rattle.gl_figures.specs.Reach.{keys_part, lean_part, store_part, weight_part}
 use Rattle.gl_figures.proofs.PartLemmas.{HasParts, parts_at}
@@ -32,6 +31,7 @@ use Rattle.gl_totals.proofs.TableLemmas.{agg_kept, table_words}
 use Rattle.gl_totals.specs.Costs.{kept_of_agg}
 use Rattle.gl_wire.specs.Costs.{Cost, CostsAtMost, nodes_alone}
 use Rattle.gl_wiring.specs.declared.groups.GroupOf.{GroupOf}
+use Rattle.gl_wiring.specs.Below.{LawsBelow}
 use Rattle.gl_wiring.specs.Copies.{cost_of_spaced}
 use Rattle.gl_wiring.specs.Groups.{IsGroupNode}
 use Rattle.gl_wiring.specs.LaneGroups.{cost_to_lane}
@@ -99,7 +99,7 @@ words_fit kinds all aggs fit true slots key l is fits =
     omega (arith, all_in, own, parts, most)
 
 -- all parts
-module _ (nodes : List PlanNode) (g : GroupOf) (plan : IsPlan nodes) (at : IsGroupNode nodes g) (kinds_source : All IsKind (kinds_of nodes g.source))
+module _ (laws : LawsBelow) (nodes : List PlanNode) (g : GroupOf) (plan : IsPlan nodes) (at : IsGroupNode nodes g) (kinds_source : All IsKind (kinds_of nodes g.source))
     (kinds_own : All IsKind (kind_of_column (kinds_of nodes g.source) g.key ∷ kinds_of nodes g.body)) (child : ℕ) (aggs : List PlanAgg)
     (at_body : slice_get nodes g.body ≡ Some (Aggregate child aggs)) (some : 1 ≤ g.groups) (many : 1 ≤ length aggs)
     (within : g.key < length (kinds_of nodes g.source)) (few : bits_of_slots g.groups ≤ 8) (fast : delay_of_aggs (kinds_of nodes child) aggs ≤ 98)
@@ -133,7 +133,7 @@ module _ (nodes : List PlanNode) (g : GroupOf) (plan : IsPlan nodes) (at : IsGro
   own_parts = parts_at nodes g.id (Group g.source g.body g.key g.groups) at
 
   below : FollowsTables nodes g.body (Aggregate child aggs)
-  below = nodes_follow_tables nodes g.body (Aggregate child aggs) plan at_body
+  below = laws.nodes_follow_tables nodes g.body (Aggregate child aggs) plan at_body
 
   totals : kinds_of nodes g.body ≡ map (kind_of_agg (kinds_of nodes child)) aggs
   totals = ap (λ x. x.kinds) below.shape

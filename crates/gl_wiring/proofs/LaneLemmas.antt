@@ -21,9 +21,6 @@ use Rattle.gl_algebra.specs.Fits.{IsPlan}
 use Rattle.gl_algebra.specs.Laws.{FollowsTables}
 use Rattle.gl_algebra.specs.Results.{Inputs, IsPlanResult, given}
 use Rattle.gl_algebra.specs.Shapes.{Shape, kinds_of, shape_of}
-use Rattle.gl_algebra.proofs.KindLemmas.{columns_have_kinds}
-use Rattle.gl_algebra.proofs.ReadLemmas.{body_reads}
-use Rattle.gl_algebra.proofs.TableLemmas.{nodes_follow_tables}
 use Rattle.gl_net.specs.declared.node.Bit.{Bit}
 use Rattle.gl_net.specs.declared.node.Bus.{Bus}
 use Rattle.gl_net.specs.Net.{Net, Run, IsRun, Keeps}
@@ -33,12 +30,11 @@ use Rattle.gl_groups.specs.Fronts.{KeysCome}
 use Rattle.gl_groups.specs.Groupings.{AreKeys, AwaitsFlush, AwaitsTurns, OfGroups, key_of, line_of_further}
 use Rattle.gl_groups.specs.Joins.{width_of_keys}
 use Rattle.gl_groups.specs.Laned.{IsGathered, IsLaned, cost_of_lane, words_of_keys}
-use Rattle.gl_groups.specs.LaneLaws as laws
+use Rattle.gl_groups.specs.LaneLaws as lane_laws
 use Rattle.gl_groups.specs.Picks.{bits_of_slots}
 use Rattle.gl_groups.specs.Slots.{AreSlots}
 use Rattle.gl_groups.proofs.GroupLemmas.{groups_then}
 use Rattle.gl_groups.proofs.GroupedNet.{width_first}
-use Rattle.gl_groups.proofs.LaneServes.{lanes_serve}
 use Rattle.gl_wire.specs.declared.emitted.Emitted.{Emitted}
 use Rattle.gl_wire.specs.declared.emitted.Faults.{Faults}
 use Rattle.gl_wire.specs.declared.wire.Wire.{Wire}
@@ -63,6 +59,7 @@ use Rattle.gl_wire_registers.specs.Timers.{IsClose}
 use Rattle.gl_wire_registers.proofs.LineLemmas.{bits_kept}
 use Rattle.gl_wiring.specs.declared.groups.GroupOf.{GroupOf}
 use Rattle.gl_wiring.specs.declared.lanes.Laned.{Laned}
+use Rattle.gl_wiring.specs.Below.{LawsBelow}
 use Rattle.gl_wiring.specs.Copies.{IsSpacedFor}
 use Rattle.gl_wiring.specs.Groups.{IsGroupNode, group_whole, grouping_of, spaced_source}
 use Rattle.gl_wiring.specs.LaneGroups.{HasLane, IsGroupLane}
@@ -132,7 +129,7 @@ same_then p q r h i = record { passed = λ c. h.passed c ∙ i.passed c; further
 
 -- ---- the lane
 
-module _ (nodes : List PlanNode) (g : GroupOf) (plan : IsPlan nodes) (at : IsGroupNode nodes g) where
+module _ (laws : LawsBelow) (nodes : List PlanNode) (g : GroupOf) (plan : IsPlan nodes) (at : IsGroupNode nodes g) where
   abbrev s : Figures
   s = figures_of nodes g.body
 
@@ -148,7 +145,7 @@ module _ (nodes : List PlanNode) (g : GroupOf) (plan : IsPlan nodes) (at : IsGro
       → IsGroupLane nodes g old new tick leaves (record { source = between; lane = l })
   lane_behind old net new tick leaves below between l put sp is =
       let gap = group_gap s in
-      let apart = room nodes g plan at in
+      let apart = room laws nodes g plan at in
       let columns = columns_between nodes g.source gap h apart old net new tick leaves below between put sp is.keeps in
       let fore : CostsAtMost net new (cost_of_lane g.groups g.key (widths_of (kinds_of nodes g.source))) =
       subst (λ (cs : List ℕ). CostsAtMost net new (cost_of_lane g.groups g.key cs)) columns is.cost in
@@ -165,10 +162,10 @@ module _ (nodes : List PlanNode) (g : GroupOf) (plan : IsPlan nodes) (at : IsGro
       → HaveLeaves new (l.lane.wire ∷ []) (shape_of nodes g.body).leaves
   lane_leaves old new tick leaves l is =
       body_leaves new l.lane.wire (kinds_of nodes g.source) is.lane.wire (is.lane.same_widths ∙ is.gives.same_widths) (shape_of nodes g.body).leaves
-      (fits nodes g plan at).suits.0.leaves
+      (fits laws nodes g plan at).suits.0.leaves
 
   pub few_slots : (old new : Net) (tick : Option Bit) (leaves : List Wire) (l : Laned) → IsGroupLane nodes g old new tick leaves l → l.lane.slot.width ≤ 8
-  few_slots old new tick leaves l is = let few = few_bits g.groups (fits nodes g plan at).suits.2.most in omega (arith, is.lane.slot_width, few)
+  few_slots old new tick leaves l is = let few = few_bits g.groups (fits laws nodes g plan at).suits.2.most in omega (arith, is.lane.slot_width, few)
 
   pub some_slots : (old new : Net) (tick : Option Bit) (leaves : List Wire) (l : Laned) → IsGroupLane nodes g old new tick leaves l → 1 ≤ l.lane.slot.width
   some_slots old new tick leaves l is = let some = some_bits g.groups in omega (arith, is.lane.slot_width, some)
@@ -176,7 +173,7 @@ module _ (nodes : List PlanNode) (g : GroupOf) (plan : IsPlan nodes) (at : IsGro
   -- the slots' keys are as wide as the one that comes
   keys_here : (old new : Net) (tick : Option Bit) (leaves : List Wire) (l : Laned) → IsGroupLane nodes g old new tick leaves l → width_of_keys l.lane.keys ≡ l.lane.here.width
   keys_here old new tick leaves l is =
-      width_first l.lane.keys (slice_index (widths l.source.wire.columns) g.key) (omega (arith, is.lane.keys_count, (fits nodes g plan at).suits.2.least)) (λ k b e. (is.lane.keys k b e).1)
+      width_first l.lane.keys (slice_index (widths l.source.wire.columns) g.key) (omega (arith, is.lane.keys_count, (fits laws nodes g plan at).suits.2.least)) (λ k b e. (is.lane.keys k b e).1)
       ∙ sym is.lane.here_width
 
   -- also once the body is put
@@ -211,10 +208,10 @@ module _ (nodes : List PlanNode) (g : GroupOf) (plan : IsPlan nodes) (at : IsGro
     some_delay : 1 ≤ delay
     some_delay =
         let in_child = first_within nodes g.body (Aggregate t.child t.aggs) plan t.at t.child [] refl in
-        delay_some (kinds_of nodes t.child) (columns_have_kinds nodes t.child plan in_child) t.aggs
+        delay_some (kinds_of nodes t.child) (laws.columns_have_kinds nodes t.child plan in_child) t.aggs
 
     below : FollowsTables nodes g.body (Aggregate t.child t.aggs)
-    below = nodes_follow_tables nodes g.body (Aggregate t.child t.aggs) plan t.at
+    below = laws.nodes_follow_tables nodes g.body (Aggregate t.child t.aggs) plan t.at
 
     is_totals : IsDirect (form_of nodes t.child) (kinds_of nodes t.child) t.aggs
     is_totals = direct_is (form_of nodes t.child) (kinds_of nodes t.child) t.aggs (sym (ap is_direct below.form) ∙ direct)
@@ -223,7 +220,7 @@ module _ (nodes : List PlanNode) (g : GroupOf) (plan : IsPlan nodes) (at : IsGro
     key_width = keys_here old mid tick leaves l is
 
     key : width_of_keys l.lane.keys ≡ width_of (kind_of_column (kinds_of nodes g.source) g.key)
-    key = key_width ∙ is.lane.here_width ∙ ap (λ (ws : List ℕ). slice_index ws g.key) is.gives.same_widths ∙ key_width_is (kinds_of nodes g.source) g.key (fits nodes g plan at).suits.1
+    key = key_width ∙ is.lane.here_width ∙ ap (λ (ws : List ℕ). slice_index ws g.key) is.gives.same_widths ∙ key_width_is (kinds_of nodes g.source) g.key (fits laws nodes g plan at).suits.1
 
     own : width_of_keys l.lane.keys ∷ widths out.wire.columns ≡ widths_of own_kinds
     own = ap (λ w. w ∷ widths out.wire.columns) key ∙ ap (λ (ws : List ℕ). width_of (kind_of_column (kinds_of nodes g.source) g.key) ∷ ws) t.same_widths
@@ -250,12 +247,12 @@ module _ (nodes : List PlanNode) (g : GroupOf) (plan : IsPlan nodes) (at : IsGro
         let kinds = kinds_of nodes t.child in
         let in_child = first_within nodes g.body (Aggregate t.child t.aggs) plan t.at t.child [] refl in
         let suits = (plan.fits g.body (Aggregate t.child t.aggs) t.at).suits in
-        lane_cost nodes g plan at (columns_have_kinds nodes g.source plan (in_source nodes g plan at))
-        (subst (λ (x : Shape). All IsKind x.kinds) (follows nodes g plan at).shape (columns_have_kinds nodes g.id plan (slice_get_within nodes g.id _ at)))
-        t.child t.aggs t.at (fits nodes g plan at).suits.2.least is_totals.some' (fits nodes g plan at).suits.1 (few_bits g.groups (fits nodes g plan at).suits.2.most)
-        (delays_within kinds (columns_have_kinds nodes t.child plan in_child) t.aggs suits) some_delay
+        lane_cost laws nodes g plan at (laws.columns_have_kinds nodes g.source plan (in_source laws nodes g plan at))
+        (subst (λ (x : Shape). All IsKind x.kinds) (follows laws nodes g plan at).shape (laws.columns_have_kinds nodes g.id plan (slice_get_within nodes g.id _ at)))
+        t.child t.aggs t.at (fits laws nodes g plan at).suits.2.least is_totals.some' (fits laws nodes g plan at).suits.1 (few_bits g.groups (fits laws nodes g plan at).suits.2.most)
+        (delays_within kinds (laws.columns_have_kinds nodes t.child plan in_child) t.aggs suits) some_delay
         (below.form ∙ is_totals.is) old mid net last new is.cost tables (words_of_keys stored g.groups l.lane)
-        (words_fit kinds (columns_have_kinds nodes t.child plan in_child) t.aggs suits stored g.groups l.lane.here.width l.lane key_width stores) gathered both.cost
+        (words_fit kinds (laws.columns_have_kinds nodes t.child plan in_child) t.aggs suits stored g.groups l.lane.here.width l.lane key_width stores) gathered both.cost
 
     module _ (run : Run) (r : IsRun new run) where
       run_last : IsRun last run
@@ -313,7 +310,7 @@ module _ (nodes : List PlanNode) (g : GroupOf) (plan : IsPlan nodes) (at : IsGro
           ]
 
       abbrev d : Figures
-      d = laws.direct_figures t.depth delay
+      d = lane_laws.direct_figures t.depth delay
 
       no_row : (carried run l.lane.wire).tuple 0 ≡ None
       no_row = tuple_by run l.lane.wire.valid l.lane.wire.columns 0
@@ -328,7 +325,7 @@ module _ (nodes : List PlanNode) (g : GroupOf) (plan : IsPlan nodes) (at : IsGro
       words_shown : AreKeys g.groups (key_of (grouping_of nodes g)) (stride_of (figures_of nodes g.body)) 1 (carried run l.source.wire) words
       words_shown = come.words words (ga.take run run_last come.one come.registers)
 
-      laned : AwaitsTurns g.groups (stride_of d) (carried run l.source.wire) → laws.Laned g.groups t.depth delay (key_of (grouping_of nodes g)) t.step t.total (carried run l.source.wire) (carried run l.lane.wire) behind.mid
+      laned : AwaitsTurns g.groups (stride_of d) (carried run l.source.wire) → lane_laws.Laned g.groups t.depth delay (key_of (grouping_of nodes g)) t.step t.total (carried run l.source.wire) (carried run l.lane.wire) behind.mid
           (carried run out.wire) (carried run wire) (slot_of run l.lane.slot) behind.slot_mid (slot_of run out.slot) words
           (line_at run l.lane.further) (line_at run l.lane.close)
       laned awaits =
@@ -359,22 +356,22 @@ module _ (nodes : List PlanNode) (g : GroupOf) (plan : IsPlan nodes) (at : IsGro
           subst (λ (z : Figures). ServedWithLines f (groups_over g.groups f z) (OfGroups g.groups (key_of (grouping_of nodes g)) (OfBody nodes g.body))
           (both_lines (lines_of_all (λ k. no_lines) g.groups) (line_of_further (line_at run l.lane.further))) beats (carried run l.source.wire) (carried run wire))
           (sym t.figures)
-          (lanes_serve f g.groups t.depth delay (key_of (grouping_of nodes g)) t.step t.total (carried run l.source.wire) (carried run l.lane.wire) behind.mid
+          (laws.lanes_serve f g.groups t.depth delay (key_of (grouping_of nodes g)) t.step t.total (carried run l.source.wire) (carried run l.lane.wire) behind.mid
           (carried run out.wire) (carried run wire) (slot_of run l.lane.slot) behind.slot_mid (slot_of run out.slot) words
-          (line_at run l.lane.further) (line_at run l.lane.close) nodes g.body (sound_source nodes g plan at) (fits nodes g plan at).suits.2.least laned t.means beats
+          (line_at run l.lane.further) (line_at run l.lane.close) nodes g.body (sound_source laws nodes g plan at) (fits laws nodes g plan at).suits.2.least laned t.means beats
           (subst (λ (z : Figures). Spaced (groups_over g.groups f z) beats) t.figures spaced_beats) fitting)
 
     pub gathered_put : IsPutBehind nodes g.id old new tick leaves (record { wire = wire; faults = faults })
     gathered_put = record {
       keeps = keeps_then old mid new is.keeps (keeps_then mid net new t.keeps (keeps_then net last new ga.keeps both.keeps));
       cost = cost;
-      gives = rw ((follows nodes g plan at).shape, (follows nodes g plan at).figures) (record {
+      gives = rw ((follows laws nodes g plan at).shape, (follows laws nodes g plan at).figures) (record {
         wire = wire_kept last new wire both.keeps ga.wire;
         same_widths = ga.same_widths ∙ own;
         lines = both.are;
         paced = λ run r. tt;
         serving = λ run r beats spaced_beats has.
-            let source = is.gives.serving run (run_mid run r) beats (spaced_closer f h beats (room nodes g plan at).closer spaced_beats) has in
+            let source = is.gives.serving run (run_mid run r) beats (spaced_closer f h beats (room laws nodes g plan at).closer spaced_beats) has in
             let whole = served run r beats spaced_beats source.fits in
             let ins : ℕ → Inputs = inputs_at (line_of run tick) (leaf run leaves) (leaf run leaves 0) in
             let further : Lines = line_of_further (line_at run l.lane.further) in
@@ -384,10 +381,10 @@ module _ (nodes : List PlanNode) (g : GroupOf) (plan : IsPlan nodes) (at : IsGro
             (same_then (lines_of run faults) (both_lines (lines_of run l.source.faults) further) lines (both.lines run r)
             (own_lines g.groups (lines_of run l.source.faults) further))
             (serving_as h _ (λ t. IsPlanResult nodes g.id (ins t)) lines beats (carried run wire)
-            (λ t ys p v. ((follows nodes g plan at).results (ins t) ys p).1 v)
+            (λ t ys p v. ((follows laws nodes g plan at).results (ins t) ys p).1 v)
             (groups_then f h (λ t. IsPlanResult nodes g.source (ins t)) g.groups (key_of (grouping_of nodes g)) (OfBody nodes g.body)
             (λ t rows. IsPlanResult nodes g.body (given (ins t) rows))
-            (λ t rows zs q y. body_reads nodes g.body plan (in_body nodes g plan at) (kinds_of nodes g.source) (fits nodes g plan at).suits.0.leaves (alone rows) (given (ins t) rows) refl zs q y)
+            (λ t rows zs q y. laws.bodies_read_their_input nodes g.body plan (in_body laws nodes g plan at) (kinds_of nodes g.source) (fits laws nodes g plan at).suits.0.leaves (alone rows) (given (ins t) rows) refl zs q y)
             (lines_of run l.source.faults) told beats (carried run l.source.wire) (carried run wire) source whole));
       });
     }

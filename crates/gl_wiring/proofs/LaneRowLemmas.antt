@@ -18,8 +18,6 @@ use Rattle.gl_algebra.specs.Fits.{IsPlan}
 use Rattle.gl_algebra.specs.Results.{computed, projected}
 use Rattle.gl_algebra.specs.Shapes.{Shape, kinds_of, shape_of}
 use Rattle.gl_algebra.specs.Weights.{weight_of}
-use Rattle.gl_algebra.proofs.KindLemmas.{columns_have_kinds}
-use Rattle.gl_algebra.proofs.TableLemmas.{nodes_follow_tables}
 use Rattle.gl_net.specs.declared.node.Bit.{Bit}
 use Rattle.gl_net.specs.declared.node.Bus.{Bus}
 use Rattle.gl_net.specs.Net.{Net, Run, IsRun, IsBit, IsBus}
@@ -39,9 +37,9 @@ use Rattle.gl_wire.proofs.StageLemmas.{line_first, no_line, tuple_by}
 use Rattle.gl_wire.specs.Bodies.{OfBody, alone}
 use Rattle.gl_wire_lanes.specs.Lanes.{Begins}
 use Rattle.gl_wire_lanes.specs.Shares.{lane_of}
-use Rattle.gl_wire_lanes.proofs.BehindLemmas.{begins_behind}
 use Rattle.gl_wiring.specs.declared.rows.LaneRows.{LaneRows}
 use Rattle.gl_wiring.specs.declared.rows.Place.{Place}
+use Rattle.gl_wiring.specs.Below.{LawsBelow}
 use Rattle.gl_wiring.specs.Lanes.{AreRows, HasRows, IsPlaceLater}
 use Rattle.gl_wiring.specs.Leaves.{HaveLeaves, widths_of}
 use Rattle.gl_wiring.proofs.CostLemmas.{bits_within}
@@ -69,11 +67,11 @@ place_later old mid new place slot first s f = record {
 }
 
 -- a body's input is the lane itself
-pub body_rows : (nodes : List PlanNode) (id : ℕ) (net : Net) (lane : Wire) (place : Place) (kinds : List Kind) (e : Emitted) → IsPlan nodes
+pub body_rows : LawsBelow → (nodes : List PlanNode) (id : ℕ) (net : Net) (lane : Wire) (place : Place) (kinds : List Kind) (e : Emitted) → IsPlan nodes
     → slice_get nodes id ≡ Some (Body kinds) → HaveLeaves net (lane ∷ []) (shape_of nodes id).leaves → IsBus net place.slot → place.slot.width ≤ 8 → IsBit net place.first
     → slice_get (lane ∷ []) 0 ≡ Some e.wire → e.faults ≡ no_faults → AreRows nodes id net net lane place (record { rows = e; place = place })
-body_rows nodes id net lane place kinds e plan at leaved slot few first there none =
-    let follows = nodes_follow_tables nodes id (Body kinds) plan at in
+body_rows laws nodes id net lane place kinds e plan at leaved slot few first there none =
+    let follows = laws.nodes_follow_tables nodes id (Body kinds) plan at in
     let leaf = leaf_wire net (lane ∷ []) (Body kinds) e.wire (rw follows.shape at leaved).0 there in
     let same : lane ≡ e.wire = cc in
     record {
@@ -186,9 +184,9 @@ module _ (nodes : List PlanNode) (id child : ℕ) (old mid new : Net) (lane : Wi
 
 -- ---- each operator
 
-module _ (nodes : List PlanNode) (id : ℕ) (old mid net new : Net) (lane : Wire) (place later : Place) (below : LaneRows) (e : Emitted) (plan : IsPlan nodes) where
+module _ (laws : LawsBelow) (nodes : List PlanNode) (id : ℕ) (old mid net new : Net) (lane : Wire) (place later : Place) (below : LaneRows) (e : Emitted) (plan : IsPlan nodes) where
   own_kinds : (node : PlanNode) → slice_get nodes id ≡ Some node → All IsKind (kinds_of nodes id)
-  own_kinds node at = columns_have_kinds nodes id plan (slice_get_within nodes id node at)
+  own_kinds node at = laws.columns_have_kinds nodes id plan (slice_get_within nodes id node at)
 
   pub compute_rows : (child : ℕ) (ops : List ColOp) → slice_get nodes id ≡ Some (Compute child ops) → AreRows nodes child old mid lane place below
       → IsPlaceLater mid net below.place later
@@ -196,7 +194,7 @@ module _ (nodes : List PlanNode) (id : ℕ) (old mid net new : Net) (lane : Wire
       (cost_of_rows (computed_widths kinds ops) (length ops)) below.rows e)
       → AreRows nodes id old new lane place (record { rows = e; place = later })
   compute_rows child ops at h s b =
-      let follows = nodes_follow_tables nodes id (Compute child ops) plan at in
+      let follows = laws.nodes_follow_tables nodes id (Compute child ops) plan at in
       let kinds = kinds_of nodes child in
       let all = kinds ++ map (kind_of_op kinds) ops in
       let own : kinds_of nodes id ≡ all = ap (λ (x : Shape). x.kinds) follows.shape in
@@ -215,7 +213,7 @@ module _ (nodes : List PlanNode) (id : ℕ) (old mid net new : Net) (lane : Wire
       → IsBehind net new (Steady 1 (keep_where column)) (widths_of (kinds_of nodes child)) (cost_of_rows (widths_of (kinds_of nodes child)) 0) below.rows e
       → AreRows nodes id old new lane place (record { rows = e; place = later })
   select_rows child column at h s b =
-      let follows = nodes_follow_tables nodes id (Select child column) plan at in
+      let follows = laws.nodes_follow_tables nodes id (Select child column) plan at in
       let kinds = kinds_of nodes child in
       let own : kinds_of nodes id ≡ kinds = ap (λ (x : Shape). x.kinds) follows.shape in
       let n : length (widths_of kinds) ≡ length kinds = length-map kinds width_of in
@@ -233,7 +231,7 @@ module _ (nodes : List PlanNode) (id : ℕ) (old mid net new : Net) (lane : Wire
       (cost_of_items (projected_widths kinds items)) below.rows e)
       → AreRows nodes id old new lane place (record { rows = e; place = below.place })
   project_rows child items at h b =
-      let follows = nodes_follow_tables nodes id (Project child items) plan at in
+      let follows = laws.nodes_follow_tables nodes id (Project child items) plan at in
       let kinds = kinds_of nodes child in
       let all = map (kind_of_operand kinds) items in
       let own : kinds_of nodes id ≡ all = ap (λ (x : Shape). x.kinds) follows.shape in
@@ -248,7 +246,7 @@ module _ (nodes : List PlanNode) (id : ℕ) (old mid net new : Net) (lane : Wire
 
 -- ---- where a lane tells where streams begin, what is behind the operators does too
 
-module _ (nodes : List PlanNode) (id : ℕ) (old new : Net) (lane : Wire) (place : Place) (r : LaneRows) (h : AreRows nodes id old new lane place r) (run : Run) (is : IsRun new run) where
+module _ (laws : LawsBelow) (nodes : List PlanNode) (id : ℕ) (old new : Net) (lane : Wire) (place : Place) (r : LaneRows) (h : AreRows nodes id old new lane place r) (run : Run) (is : IsRun new run) where
   came : (c : ℕ) → line_at run r.rows.wire.valid (c + h.depth) ≡ true → line_at run lane.valid c ≡ true
   came c p = by (line_at run lane.valid c) (tuple_by run lane.valid lane.columns c)
     where
@@ -258,7 +256,7 @@ module _ (nodes : List PlanNode) (id : ℕ) (old new : Net) (lane : Wire) (place
           absurd (let z = no_line run r.rows.wire.valid r.rows.wire.columns (c + h.depth) ((h.steady run is).tuples c ∙ ap (option_and_then h.step) e) in cc (z, p))
 
   pub rows_begin : Begins (lane_of run lane place.slot place.first) → Begins (lane_of run r.rows.wire r.place.slot r.place.first)
-  rows_begin b = begins_behind h.depth _ _ b (record {
+  rows_begin b = laws.begins_behind h.depth _ _ b (record {
     no_row = λ c l. no_line run r.rows.wire.valid r.rows.wire.columns c ((h.steady run is).before c l);
     no_end = (h.steady run is).no_end;
     no_first = h.no_first run is;

@@ -10,7 +10,6 @@ use Rattle.gl_algebra.specs.FigureTable.{input_figures}
 use Rattle.gl_algebra.specs.Fits.{IsPlan}
 use Rattle.gl_algebra.specs.Results.{Meaning, IsPlanResult}
 use Rattle.gl_algebra.specs.Shapes.{Shape, shape_of}
-use Rattle.gl_algebra.proofs.TableLemmas.{nodes_follow_tables}
 use Rattle.gl_net.specs.declared.node.Bit.{Bit}
 use Rattle.gl_net.specs.Net.{Net}
 use Rattle.gl_net.proofs.Growth.{same_keeps}
@@ -23,6 +22,7 @@ use Rattle.gl_wire.specs.Pace.{InStep, KeepsPace}
 use Rattle.gl_wire.specs.Serving.{inputs_at}
 use Rattle.gl_wire.specs.Wire.{Carried, IsWire, carried, stream, widths}
 use Rattle.gl_wire.proofs.ServingLemmas.{leaf_serving, serving_as}
+use Rattle.gl_wiring.specs.Below.{LawsBelow}
 use Rattle.gl_wiring.specs.Leaves.{HasLeaf, HaveLeaves, carried_by, leaf, leaf_kinds, leaf_place, widths_of}
 use Rattle.gl_wiring.specs.Put.{GivesAs, IsPutBehind, own_cost}
 
@@ -62,21 +62,21 @@ leaf_wire net leaves node w h at = let same : h.wire ≡ w = let z = h.there in 
 no_cost : (nodes : List PlanNode) (id : ℕ) (net : Net) → CostsAtMost net net (own_cost nodes id)
 no_cost nodes id net = record { nodes = omega arith; registers = omega arith; memories = omega arith }
 
-module _ (nodes : List PlanNode) (id : ℕ) (net : Net) (tick : Option Bit) (leaves : List Wire) (plan : IsPlan nodes) (has : HaveLeaves net leaves (shape_of nodes id).leaves) where
+module _ (laws : LawsBelow) (nodes : List PlanNode) (id : ℕ) (net : Net) (tick : Option Bit) (leaves : List Wire) (plan : IsPlan nodes) (has : HaveLeaves net leaves (shape_of nodes id).leaves) where
   pub stream_there : (number : ℕ) (kinds : List Kind) → slice_get nodes id ≡ Some (Stream number kinds) → number < length leaves
   stream_there number kinds at =
-      let follows = nodes_follow_tables nodes id (Stream number kinds) plan at in
+      let follows = laws.nodes_follow_tables nodes id (Stream number kinds) plan at in
       let h = (rw follows.shape at has).0 in slice_get_within leaves number h.wire h.there
 
   pub body_there : (kinds : List Kind) → slice_get nodes id ≡ Some (Body kinds) → 0 < length leaves
   body_there kinds at =
-      let follows = nodes_follow_tables nodes id (Body kinds) plan at in
+      let follows = laws.nodes_follow_tables nodes id (Body kinds) plan at in
       let h = (rw follows.shape at has).0 in slice_get_within leaves 0 h.wire h.there
 
   pub stream_put : (e : Emitted) (number : ℕ) (kinds : List Kind) → slice_get nodes id ≡ Some (Stream number kinds)
       → slice_get leaves number ≡ Some e.wire → e.faults ≡ no_faults → IsPutBehind nodes id net net tick leaves e
   stream_put e number kinds at there none =
-      let follows = nodes_follow_tables nodes id (Stream number kinds) plan at in
+      let follows = laws.nodes_follow_tables nodes id (Stream number kinds) plan at in
       let h = leaf_wire net leaves (Stream number kinds) e.wire (rw follows.shape at has).0 there in
       record {
         keeps = same_keeps net;
@@ -88,7 +88,7 @@ module _ (nodes : List PlanNode) (id : ℕ) (net : Net) (tick : Option Bit) (lea
   pub body_put : (e : Emitted) (kinds : List Kind) → slice_get nodes id ≡ Some (Body kinds)
       → slice_get leaves 0 ≡ Some e.wire → e.faults ≡ no_faults → IsPutBehind nodes id net net tick leaves e
   body_put e kinds at there none =
-      let follows = nodes_follow_tables nodes id (Body kinds) plan at in
+      let follows = laws.nodes_follow_tables nodes id (Body kinds) plan at in
       let h = leaf_wire net leaves (Body kinds) e.wire (rw follows.shape at has).0 there in
       record {
         keeps = same_keeps net;

@@ -12,7 +12,6 @@ use Rattle.gl_algebra.specs.Views.{reads_time}
 use Rattle.gl_algebra.specs.declared.figures.Figures.{Figures}
 use Rattle.gl_algebra.specs.declared.node.PlanNode.{PlanNode}
 use Rattle.gl_algebra.specs.Roots.{output_part}
-use Rattle.gl_algebra.proofs.KindLemmas.{columns_have_kinds}
 use Rattle.gl_bits.proofs.AllLists.{all_of_mapped, length_map}
 use Rattle.gl_bits.proofs.Options.{some_same}
 use Rattle.gl_bits.specs.Kinds.{width_of}
@@ -29,6 +28,7 @@ use Rattle.gl_wire.specs.Faults.{IsLine}
 use Rattle.gl_wire.specs.Wire.{widths}
 use Rattle.gl_wire.specs.declared.emitted.Emitted.{Emitted}
 use Rattle.gl_wire.specs.declared.wire.Wire.{Wire}
+use Rattle.gl_wiring.specs.Below.{LawsBelow}
 use Rattle.gl_wiring.specs.Emitted.{CostsNothing, Extends, Puts, names_of}
 use Rattle.gl_wiring.specs.EmittedPorts.{input, streams_inputs}
 use Rattle.gl_wiring.specs.Leaves.{widths_of}
@@ -113,12 +113,12 @@ add_bits : (old mid new own rest all : ℕ) → mid ≤ old + 64 * own → new �
 add_bits old mid new own rest all h k e = omega (arith, h, k, e)
 
 -- one output
-one_cost : (nodes : List PlanNode) (id : ℕ) (old new : Net) (columns : List ℕ) → IsPlan nodes → id < length nodes → columns ≡ widths_of (kinds_of nodes id)
+one_cost : LawsBelow → (nodes : List PlanNode) (id : ℕ) (old new : Net) (columns : List ℕ) → IsPlan nodes → id < length nodes → columns ≡ widths_of (kinds_of nodes id)
     → CostsAtMost old new (output_cost columns) → CostsAtMost old new (outputs_cost nodes (id ∷ []))
-one_cost nodes id old new columns plan within same own =
+one_cost laws nodes id old new columns plan within same own =
     let kinds = kinds_of nodes id in
     let long : length columns ≡ length kinds = ap length same ∙ length_map width_of kinds in
-    let bits : sum (widths_of kinds) ≤ 64 * length kinds = bits_within kinds (columns_have_kinds nodes id plan within) in
+    let bits : sum (widths_of kinds) ≤ 64 * length kinds = bits_within kinds (laws.columns_have_kinds nodes id plan within) in
     let wide : sum columns ≡ sum (widths_of kinds) = ap sum same in
     record {
       nodes = omega (arith, own.nodes, long);
@@ -166,17 +166,17 @@ are_within nodes ids n0 n1 n2 n3 empty none put out = record {
 
 -- ---- outputs one after the other
 
-pub one_shown : (nodes : List PlanNode) (table : List (Option Emitted)) (old new : Net) (r : Root) (e : Emitted) → IsPlan nodes → r.id < length nodes
+pub one_shown : LawsBelow → (nodes : List PlanNode) (table : List (Option Emitted)) (old new : Net) (r : Root) (e : Emitted) → IsPlan nodes → r.id < length nodes
     → CanShow nodes old table r → slice_get table r.id ≡ Some (Some e) → Extends old new → Puts old new (result_outputs (naming_at r) (widths e.wire.columns) r.names.columns)
     → CostsAtMost old new (output_cost (widths e.wire.columns)) → IsOutput (naming_at r) new r.names.columns e → AreShownBy nodes table old new (r ∷ [])
-one_shown nodes table old new r e plan within can there x ports cost output =
+one_shown laws nodes table old new r e plan within can there x ports cost output =
     let same : can.e ≡ e = some_same can.e e (some_same (Some can.e) (Some e) (sym can.there ∙ there)) in
     let wide : widths e.wire.columns ≡ widths_of (kinds_of nodes r.id) = ap (λ (d : Emitted). widths d.wire.columns) (sym same) ∙ can.columns.same_widths in
     let own : Puts old new (root_outputs nodes r) = subst (λ (ws : List ℕ). Puts old new (result_outputs (naming_at r) ws r.names.columns)) wide ports in
     record {
       extends = x;
       ports = subst (λ (shapes : List PortShape). Puts old new shapes) (sym (append-nil (root_outputs nodes r))) own;
-      cost = one_cost nodes r.id old new (widths e.wire.columns) plan within wide cost;
+      cost = one_cost laws nodes r.id old new (widths e.wire.columns) plan within wide cost;
       shown = (record { e = e; there = there; output = output }, tt);
     }
 
@@ -272,7 +272,7 @@ all_can schema nodes net tick leaves table (r ∷ rs) all have = (
   all_can schema nodes net tick leaves table rs all.1 have.1,
 )
 
-module _ (schema : Schema) (nodes : List PlanNode) (plan : IsPlan nodes) (tick : Option Bit) (leaves : List Wire) (table : List (Option Emitted)) (mid net : Net)
+module _ (laws : LawsBelow) (schema : Schema) (nodes : List PlanNode) (plan : IsPlan nodes) (tick : Option Bit) (leaves : List Wire) (table : List (Option Emitted)) (mid net : Net)
     (x : Extends mid net) (wires : AreStreamWires net schema.streams leaves) (line : IsTickLine net (reads_time nodes) tick) (reset : HasReset net) where
   one_net : (r : Root) → r.id < length nodes → HasCircuit nodes mid tick leaves table r.id → IsShown net table r
       → IsRootNet schema nodes r.id (figures_of nodes r.id) (naming_at r) r.names.columns net
@@ -284,7 +284,7 @@ module _ (schema : Schema) (nodes : List PlanNode) (plan : IsPlan nodes) (tick :
     e = shown.e;
     wires = wires;
     line = line;
-    serves = λ run is. once_by nodes r.id mid tick leaves shown.e plan within (taken_gives has shown.there) run (x.runs run is);
+    serves = λ run is. once_by laws nodes r.id mid tick leaves shown.e plan within (taken_gives has shown.there) run (x.runs run is);
     output = shown.output;
     reset = reset;
   }
@@ -312,14 +312,14 @@ all_close nodes (r ∷ rs) gap h =
     let rest = widest_gap nodes (ids_of rs) in
     (max_left own rest gap h, all_close nodes rs gap (max_right own rest gap h))
 
-pub all_right : (schema : Schema) (nodes : List PlanNode) (gap : ℕ) (net : Net) → AreApart net → (roots : List Root)
+pub all_right : LawsBelow → (schema : Schema) (nodes : List PlanNode) (gap : ℕ) (net : Net) → AreApart net → (roots : List Root)
     → AllByRecursion (λ (r : Root). IsRootNet schema nodes r.id (figures_of nodes r.id) (naming_at r) r.names.columns net) roots
     → AllByRecursion (λ (r : Root). (figures_of nodes r.id).gt ≤ gap) roots → AllByRecursion (IsRightFor schema nodes gap net) roots
-all_right schema nodes gap net apart [] all close = tt
-all_right schema nodes gap net apart (r ∷ rs) all close = (
+all_right laws schema nodes gap net apart [] all close = tt
+all_right laws schema nodes gap net apart (r ∷ rs) all close = (
   record {
-    right = root_runs_right schema nodes r.id (figures_of nodes r.id) (naming_at r) r.names.columns net all.0 apart gap close.0;
-    group = root_group_kept schema nodes r.id (figures_of nodes r.id) (naming_at r) r.names.columns net all.0 apart gap close.0;
+    right = root_runs_right laws schema nodes r.id (figures_of nodes r.id) (naming_at r) r.names.columns net all.0 apart gap close.0;
+    group = root_group_kept laws schema nodes r.id (figures_of nodes r.id) (naming_at r) r.names.columns net all.0 apart gap close.0;
   },
-  all_right schema nodes gap net apart rs all.1 close.1,
+  all_right laws schema nodes gap net apart rs all.1 close.1,
 )

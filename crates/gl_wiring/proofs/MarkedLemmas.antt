@@ -21,6 +21,7 @@ use Rattle.gl_figures.proofs.MarkLemmas.{all_of, any_of, any_with, child-reached
 use Rattle.gl_figures.proofs.ReachLemmas.{below-node, children_all}
 use Rattle.gl_wire.specs.declared.wire.Wire.{Wire}
 use Rattle.gl_wire.proofs.FaultLemmas.{line_kept}
+use Rattle.gl_wiring.specs.Below.{LawsBelow}
 use Rattle.gl_wiring.specs.Put.{CanPut}
 use Rattle.gl_wiring.specs.Tables.{CanPutMarked}
 use Rattle.gl_wiring.proofs.CanLemmas.{can_child, can_left, can_right, leaves_kept}
@@ -52,7 +53,7 @@ marked_kept nodes figures marks old new tick leaves keeps can = record {
   can = λ id marked. can_kept nodes figures id old new tick leaves keeps (can.can id marked);
 }
 
-module _ (nodes : List PlanNode) (figures : List Figures) (net : Net) (tick : Option Bit) (leaves : List Wire) (plan : IsPlan nodes) where
+module _ (laws : LawsBelow) (nodes : List PlanNode) (figures : List Figures) (net : Net) (tick : Option Bit) (leaves : List Wire) (plan : IsPlan nodes) where
   abbrev Can : ℕ → Type 0
   Can id = CanPut nodes figures id net tick leaves
 
@@ -60,26 +61,26 @@ module _ (nodes : List PlanNode) (figures : List Figures) (net : Net) (tick : Op
   can_children : (id : ℕ) (node : PlanNode) → slice_get nodes id ≡ Some node → Can id → AllByRecursion Can (children_of node)
   can_children id (Stream number kinds) at can = tt
   can_children id (Body kinds) at can = tt
-  can_children id (Compute child ops) at can = ((can_child nodes figures id (Compute child ops) net tick leaves plan at can child [] refl refl).can, tt)
-  can_children id (Select child column) at can = ((can_child nodes figures id (Select child column) net tick leaves plan at can child [] refl refl).can, tt)
-  can_children id (Project child items) at can = ((can_child nodes figures id (Project child items) net tick leaves plan at can child [] refl refl).can, tt)
-  can_children id (Aggregate child aggs) at can = ((can_child nodes figures id (Aggregate child aggs) net tick leaves plan at can child [] refl refl).can, tt)
+  can_children id (Compute child ops) at can = ((can_child laws nodes figures id (Compute child ops) net tick leaves plan at can child [] refl refl).can, tt)
+  can_children id (Select child column) at can = ((can_child laws nodes figures id (Select child column) net tick leaves plan at can child [] refl refl).can, tt)
+  can_children id (Project child items) at can = ((can_child laws nodes figures id (Project child items) net tick leaves plan at can child [] refl refl).can, tt)
+  can_children id (Aggregate child aggs) at can = ((can_child laws nodes figures id (Aggregate child aggs) net tick leaves plan at can child [] refl refl).can, tt)
   can_children id (Union left right) at can = (
-    (can_left nodes figures id (Union left right) net tick leaves plan at can left right refl refl).can,
-    ((can_right nodes figures id (Union left right) net tick leaves plan at can net left right refl refl (same_keeps net)).can, tt),
+    (can_left laws nodes figures id (Union left right) net tick leaves plan at can left right refl refl).can,
+    ((can_right laws nodes figures id (Union left right) net tick leaves plan at can net left right refl refl (same_keeps net)).can, tt),
   )
   can_children id (Beside left right) at can = (
-    (can_left nodes figures id (Beside left right) net tick leaves plan at can left right refl refl).can,
-    ((can_right nodes figures id (Beside left right) net tick leaves plan at can net left right refl refl (same_keeps net)).can, tt),
+    (can_left laws nodes figures id (Beside left right) net tick leaves plan at can left right refl refl).can,
+    ((can_right laws nodes figures id (Beside left right) net tick leaves plan at can net left right refl refl (same_keeps net)).can, tt),
   )
   can_children id (Window source body size advance) at can =
-      ((can_child nodes figures id (Window source body size advance) net tick leaves plan at can source (body ∷ []) refl refl).can, tt)
+      ((can_child laws nodes figures id (Window source body size advance) net tick leaves plan at can source (body ∷ []) refl refl).can, tt)
   can_children id (TimeWindow source body size advance) at can =
-      ((can_child nodes figures id (TimeWindow source body size advance) net tick leaves plan at can source (body ∷ []) refl refl).can, tt)
+      ((can_child laws nodes figures id (TimeWindow source body size advance) net tick leaves plan at can source (body ∷ []) refl refl).can, tt)
   can_children id (Group source body key groups) at can =
-      ((can_child nodes figures id (Group source body key groups) net tick leaves plan at can source (body ∷ []) refl refl).can, tt)
+      ((can_child laws nodes figures id (Group source body key groups) net tick leaves plan at can source (body ∷ []) refl refl).can, tt)
   can_children id (Partition source body key groups size advance) at can =
-      ((can_child nodes figures id (Partition source body key groups size advance) net tick leaves plan at can source (body ∷ []) refl refl).can, tt)
+      ((can_child laws nodes figures id (Partition source body key groups size advance) net tick leaves plan at can source (body ∷ []) refl refl).can, tt)
 
   -- and all that it reaches
   can_reached : (bound root : ℕ) → root < bound → Can root → (id : ℕ) → reaches nodes root id ≡ true → Can id

@@ -26,6 +26,7 @@ use Rattle.gl_wire.proofs.DelayLemmas.{spaced_closer}
 use Rattle.gl_wire_registers.specs.Fronts.{Machine}
 use Rattle.gl_wire_registers.specs.Joins.{columns_of, gives_of, told_of}
 use Rattle.gl_wire_registers.specs.Lines.{carried_of}
+use Rattle.gl_wiring.specs.Below.{LawsBelow}
 use Rattle.gl_wiring.specs.Copies.{AreBodies, IsPutOver, IsSpacedSource, LeavesRoom, cost_from, paceless}
 use Rattle.gl_wiring.specs.Leaves.{LeavesFit, leaf, widths_of}
 use Rattle.gl_wiring.specs.Put.{GivesAs}
@@ -68,11 +69,11 @@ pub record Around (nodes : List PlanNode) (source body gap : ℕ) (g : Figures) 
   pub in_run : (run : Run) → IsRun new run → (beats : Beats) → Spaced g beats → LeavesFit run tick leaves beats
       → InRun nodes source body gap m between mid new tick leaves e o run beats
 
-pub around : (nodes : List PlanNode) (source body gap : ℕ) (g : Figures) (m : Machine) (between : Emitted) (old mid new : Net) (tick : Option Bit) (leaves : List Wire) (e : Emitted)
+pub around : LawsBelow → (nodes : List PlanNode) (source body gap : ℕ) (g : Figures) (m : Machine) (between : Emitted) (old mid new : Net) (tick : Option Bit) (leaves : List Wire) (e : Emitted)
     → IsPlan nodes → body < length nodes → IsBodyFor (shape_of nodes source) (shape_of nodes body) → LeavesRoom gap (spaced gap (figures_of nodes source)) g
     → IsSpacedSource nodes source gap old mid tick leaves between → (o : IsPutOver nodes body m between mid new e)
     → Around nodes source body gap g m between old mid new tick leaves e o
-around nodes source body gap g m between old mid new tick leaves e plan in_body for room sp o =
+around laws nodes source body gap g m between old mid new tick leaves e plan in_body for room sp o =
     let f : Figures = spaced gap (figures_of nodes source) in
     let columns = columns_between nodes source gap g room old mid o.mid tick leaves sp.below between sp.gives sp.spaced' o.fronted.keeps in
     let fore : CostsAtMost mid o.mid (m.front_cost (widths_of (kinds_of nodes source))) =
@@ -93,6 +94,6 @@ around nodes source body gap g m between old mid new tick leaves e plan in_body 
             apart = subst (λ (x : Emitted). CarriesApart gap (carried run x.wire)) (sym o.fronted.same)
                 (source_apart nodes source gap g room old mid o.mid tick leaves sp.below between sp.gives sp.spaced' o.fronted.keeps run run_mid beats spaced_beats has);
             copies = λ k l own.
-                copies_serve nodes source body plan in_body for o.mid o.behind run o.front.wires m.count o.copies run_behind o.bodies o.fronted.fronts.as_many k l own;
+                copies_serve laws nodes source body plan in_body for o.mid o.behind run o.front.wires m.count o.copies run_behind o.bodies o.fronted.fronts.as_many k l own;
           };
     }

@@ -18,10 +18,10 @@ use Rattle.gl_figures.specs.Reach.{keys_part, lean_part, store_part, weight_part
 use Rattle.gl_figures.proofs.PartLemmas.{HasParts, parts_at}
 use Rattle.gl_groups.specs.Costs.{IsCounted, cost_of_back}
 use Rattle.gl_partition.specs.Costs.{cost_of_front, cost_of_partitioning, counted_for}
-use Rattle.gl_partition.proofs.CostLemmas.{partitionings_are_counted}
 use Rattle.gl_wire.specs.Costs.{Cost, CostsAtMost}
 use Rattle.gl_wire.proofs.CountLemmas.{narrow_kinds}
 use Rattle.gl_wiring.specs.declared.partitions.PartitionOf.{PartitionOf}
+use Rattle.gl_wiring.specs.Below.{LawsBelow}
 use Rattle.gl_wiring.specs.Copies.{cost_of_spaced, times}
 use Rattle.gl_wiring.specs.Leaves.{widths_of}
 use Rattle.gl_wiring.specs.Partitions.{IsPartitionNode, cost_to_partitions}
@@ -29,7 +29,7 @@ use Rattle.gl_wiring.specs.Put.{plan_cost, own_cost}
 use Rattle.gl_wiring.proofs.CostLemmas.{at_most, costs_then, stored_within}
 use Rattle.gl_wiring.proofs.WindowCosts.{bits_within, nodes_within}
 
-module _ (nodes : List PlanNode) (p : PartitionOf) (plan : IsPlan nodes) (at : IsPartitionNode nodes p) (some : 1 ≤ copies_of_window p.size p.advance)
+module _ (laws : LawsBelow) (nodes : List PlanNode) (p : PartitionOf) (plan : IsPlan nodes) (at : IsPartitionNode nodes p) (some : 1 ≤ copies_of_window p.size p.advance)
     (kinds_source : All IsKind (kinds_of nodes p.source)) (kinds_own : All IsKind (kind_of_column (kinds_of nodes p.source) p.key ∷ kinds_of nodes p.body)) where
   abbrev copies : ℕ
   copies = copies_of_window p.size p.advance
@@ -69,7 +69,7 @@ module _ (nodes : List PlanNode) (p : PartitionOf) (plan : IsPlan nodes) (at : I
 
   partitioning : IsCounted (cost_of_partitioning p.groups copies p.key source own) (counted_for p.groups copies source own)
   partitioning =
-      partitionings_are_counted p.groups copies p.key source own some (omega arith)
+      laws.partitionings_are_counted p.groups copies p.key source own some (omega arith)
       (narrow_kinds (kinds_of nodes p.source) kinds_source) (narrow_kinds own_kinds kinds_own)
 
   weight : weight_part nodes p.id ≡ lines (weight_of nodes p.body) + 16 * p.groups + spacer.nodes

@@ -19,11 +19,8 @@ use Rattle.gl_algebra.specs.Laws.{FollowsTables}
 use Rattle.gl_algebra.specs.Results.{Inputs, IsPlanResult, given}
 use Rattle.gl_algebra.specs.Shapes.{Shape, kinds_of}
 use Rattle.gl_algebra.specs.Views.{copies_of_partition, copies_of_window}
-use Rattle.gl_algebra.proofs.FigureLemmas.{closing_nodes_wait, figures_are_sound, one_copy}
-use Rattle.gl_algebra.proofs.KindLemmas.{columns_have_kinds}
-use Rattle.gl_algebra.proofs.ReadLemmas.{body_reads}
+use Rattle.gl_algebra.proofs.FigureLemmas.{one_copy}
 use Rattle.gl_algebra.proofs.SoundLemmas.{spaced_sound}
-use Rattle.gl_algebra.proofs.TableLemmas.{nodes_follow_tables}
 use Rattle.gl_net.specs.declared.node.Bit.{Bit}
 use Rattle.gl_net.specs.Net.{Net}
 use Rattle.gl_wire.specs.Bodies.{OfBody, alone}
@@ -33,7 +30,6 @@ use Rattle.gl_groups.specs.Groupings.{line_of_further}
 use Rattle.gl_partition.specs.declared.partitioning.Partitioning.{Partitioning}
 use Rattle.gl_partition.specs.Partitioned.{partitioning_machine}
 use Rattle.gl_partition.specs.Partitionings.{IsPartitioning, OfPartitions, key_of}
-use Rattle.gl_partition.proofs.PartLemmas.{partitions_partition}
 use Rattle.gl_wire_registers.specs.Fronts.{columns_over}
 use Rattle.gl_wire_registers.specs.Joins.{columns_of, told_of}
 use Rattle.gl_wire.specs.declared.emitted.Emitted.{Emitted}
@@ -46,6 +42,7 @@ use Rattle.gl_wire.specs.Spills.{Lines, ServedWithLines, both_lines}
 use Rattle.gl_wire.specs.Wire.{Carried, carried}
 use Rattle.gl_wire.proofs.ServingLemmas.{serving_as, serving_lines, serving_then}
 use Rattle.gl_wiring.specs.declared.partitions.PartitionOf.{PartitionOf}
+use Rattle.gl_wiring.specs.Below.{LawsBelow}
 use Rattle.gl_wiring.specs.Copies.{CanStandBehind, IsPutOver, IsSpacedSource, LeavesRoom}
 use Rattle.gl_wiring.specs.Leaves.{leaf, widths_of}
 use Rattle.gl_wiring.specs.Partitions.{IsPartitionNode, parted_whole, partitioning_of, spaced_parted}
@@ -81,7 +78,7 @@ parts_then f h means r Body Like to before own beats a b source whole =
       any = q.5 ∙ ap (λ z. q.1 || z) q.4.2 ∙ sym (or_join q.1 q.4.0 (has_further r.slots (key_of r) q.0));
     }) (serving_then f h means (OfPartitions r Body) before own beats a b source whole)
 
-module _ (nodes : List PlanNode) (p : PartitionOf) (plan : IsPlan nodes) (at : IsPartitionNode nodes p) where
+module _ (laws : LawsBelow) (nodes : List PlanNode) (p : PartitionOf) (plan : IsPlan nodes) (at : IsPartitionNode nodes p) where
   abbrev node : PlanNode
   node = Partition p.source p.body p.key p.groups p.size p.advance
 
@@ -95,7 +92,7 @@ module _ (nodes : List PlanNode) (p : PartitionOf) (plan : IsPlan nodes) (at : I
   in_body = second_within nodes p.id node plan at p.source p.body refl
 
   follows : FollowsTables nodes p.id node
-  follows = nodes_follow_tables nodes p.id node plan at
+  follows = laws.nodes_follow_tables nodes p.id node plan at
 
   abbrev s : Figures
   s = figures_of nodes p.body
@@ -110,7 +107,7 @@ module _ (nodes : List PlanNode) (p : PartitionOf) (plan : IsPlan nodes) (at : I
   c = copies_of_partition p.groups p.size p.advance
 
   sound_body : IsSound s
-  sound_body = figures_are_sound nodes p.body plan in_body
+  sound_body = laws.figures_are_sound nodes p.body plan in_body
 
   -- what a spacer asks for
   pub some_gap : 1 ≤ window_gap s
@@ -127,7 +124,7 @@ module _ (nodes : List PlanNode) (p : PartitionOf) (plan : IsPlan nodes) (at : I
   some_copy = mul-pos fits.suits.2.least copy_of_slot
 
   sound_source : IsSound f
-  sound_source = spaced_sound (window_gap s) (figures_of nodes p.source) (figures_are_sound nodes p.source plan in_source)
+  sound_source = spaced_sound (window_gap s) (figures_of nodes p.source) (laws.figures_are_sound nodes p.source plan in_source)
 
   room : LeavesRoom (window_gap s) f h
   room = room_for c f s sound_body
@@ -135,8 +132,8 @@ module _ (nodes : List PlanNode) (p : PartitionOf) (plan : IsPlan nodes) (at : I
   -- the numbers of the circuit
   pub partitioning_is : AreSmall (figures_of nodes p.id) → IsPartitioning (partitioning_of nodes p)
   partitioning_is small =
-      partitions_partition p.key p.groups p.size p.advance f s fits.suits.2.least fits.suits.3.least fits.suits.4.least sound_body
-      (closing_nodes_wait nodes p.body plan in_body fits.suits.0.closing) (subst AreSmall follows.figures small)
+      laws.partitions_partition p.key p.groups p.size p.advance f s fits.suits.2.least fits.suits.3.least fits.suits.4.least sound_body
+      (laws.closing_nodes_wait nodes p.body plan in_body fits.suits.0.closing) (subst AreSmall follows.figures small)
 
   -- the key is a column of what stands behind the source's columns
   pub key_there : (columns : List ℕ) → columns ≡ widths_of (kinds_of nodes p.source) → p.key < length columns
@@ -146,14 +143,14 @@ module _ (nodes : List PlanNode) (p : PartitionOf) (plan : IsPlan nodes) (at : I
   pub partition_stands : (figures : List Figures) (net : Net) (tick : Option Bit) (leaves : List Wire) (columns : List ℕ) → CanPut nodes figures p.id net tick leaves
       → columns ≡ widths_of (kinds_of nodes p.source) → CanStandBehind nodes figures p.body columns
   partition_stands figures net tick leaves columns can same =
-      can_stand nodes figures p.id p.source p.body node net tick leaves columns plan at refl fits.suits.0 can same
+      can_stand laws nodes figures p.id p.source p.body node net tick leaves columns plan at refl fits.suits.0 can same
 
   -- the machine behind the source
   pub partition_put : (old mid new : Net) (tick : Option Bit) (leaves : List Wire) (between e : Emitted) → IsSpacedSource nodes p.source (window_gap s) old mid tick leaves between
       → IsPutOver nodes p.body (partitioning_machine (partitioning_of nodes p)) between mid new e → IsPutBehind nodes p.id old new tick leaves e
   partition_put old mid new tick leaves between e sp o =
       let m = partitioning_machine (partitioning_of nodes p) in
-      let x = around nodes p.source p.body (window_gap s) h m between old mid new tick leaves e plan in_body fits.suits.0 room sp o in
+      let x = around laws nodes p.source p.body (window_gap s) h m between old mid new tick leaves e plan in_body fits.suits.0 room sp o in
       let b = o.backed in
       let columns : columns_of o.copies ≡ widths_of (kinds_of nodes p.body) = over_columns nodes p.body m between mid new e o some_copy in
       let own : columns_over m o.front o.copies ≡ widths_of (kind_of_column (kinds_of nodes p.source) p.key ∷ kinds_of nodes p.body) =
@@ -162,8 +159,8 @@ module _ (nodes : List PlanNode) (p : PartitionOf) (plan : IsPlan nodes) (at : I
       subst (λ (cs : List ℕ). CostsAtMost o.behind new (cost_of_back c cs)) own b.cost in
       record {
         keeps = x.keeps;
-        cost = partition_cost nodes p plan at copy_of_slot (columns_have_kinds nodes p.source plan in_source)
-            (subst (λ (x : Shape). All IsKind x.kinds) follows.shape (columns_have_kinds nodes p.id plan (slice_get_within nodes p.id node at)))
+        cost = partition_cost laws nodes p plan at copy_of_slot (laws.columns_have_kinds nodes p.source plan in_source)
+            (subst (λ (x : Shape). All IsKind x.kinds) follows.shape (laws.columns_have_kinds nodes p.id plan (slice_get_within nodes p.id node at)))
             old o.mid o.behind new x.cost o.bodies.cost rear;
         gives = rw (follows.shape, follows.figures) (record {
           wire = b.wire;
@@ -181,7 +178,7 @@ module _ (nodes : List PlanNode) (p : PartitionOf) (plan : IsPlan nodes) (at : I
               (λ t ys x v. (follows.results (ins t) ys x).1 v)
               (parts_then f h (λ t. IsPlanResult nodes p.source (ins t)) (partitioning_of nodes p) (OfBody nodes p.body)
               (λ t rows. IsPlanResult nodes p.body (given (ins t) rows))
-              (λ t rows zs q y. body_reads nodes p.body plan in_body (kinds_of nodes p.source) fits.suits.0.leaves (alone rows) (given (ins t) rows) refl zs q y)
+              (λ t rows zs q y. laws.bodies_read_their_input nodes p.body plan in_body (kinds_of nodes p.source) fits.suits.0.leaves (alone rows) (given (ins t) rows) refl zs q y)
               (lines_of run o.front.source.faults) told beats (carried run o.front.source.wire) (carried run e.wire) y.source' whole));
         });
       }

@@ -10,12 +10,12 @@ use Rattle.gl_algebra.specs.Views.{reads_time}
 use Rattle.gl_algebra.specs.declared.figures.Figures.{Figures}
 use Rattle.gl_algebra.specs.declared.node.PlanNode.{PlanNode}
 use Rattle.gl_algebra.specs.Roots.{most_memory, most_registers, weight_with_output}
-use Rattle.gl_algebra.proofs.KindLemmas.{columns_have_kinds}
 use Rattle.gl_bits.proofs.AllLists.{length_map}
 use Rattle.gl_bits.proofs.Options.{some_same}
 use Rattle.gl_bits.specs.Kinds.{width_of}
 use Rattle.gl_net.specs.Net.{Net, Run, IsRun, IsTrace, memory_bits_of, register_bits_of, size_of}
 use Rattle.gl_net.specs.PortValues.{PortShape, input_values, port_shapes}
+use Rattle.gl_wiring.specs.Below.{LawsBelow}
 use Rattle.gl_wiring.specs.Leaves.{widths_of}
 use Rattle.gl_wiring.specs.Roots.{root_cost}
 use Rattle.gl_wiring.proofs.CostLemmas.{bits_within}
@@ -104,13 +104,13 @@ pub record IsWithin (nodes : List PlanNode) (root : ℕ) (net : Net) : Type 0 wh
   pub memories : memory_bits_of net ≤ most_memory nodes root
 
 -- the circuit of the root and an output are within what the plan counts with its output
-pub costs_within : (nodes : List PlanNode) (root : ℕ) (n0 n1 n2 n3 : Net) (columns : List ℕ) → IsPlan nodes → root < length nodes
+pub costs_within : LawsBelow → (nodes : List PlanNode) (root : ℕ) (n0 n1 n2 n3 : Net) (columns : List ℕ) → IsPlan nodes → root < length nodes
     → IsEmpty n0 → CostsNothing n0 n1 → CostsAtMost n1 n2 (root_cost nodes root) → CostsAtMost n2 n3 (output_cost columns)
     → columns ≡ widths_of (kinds_of nodes root) → IsWithin nodes root n3
-costs_within nodes root n0 n1 n2 n3 columns plan within empty none put out same =
+costs_within laws nodes root n0 n1 n2 n3 columns plan within empty none put out same =
     let kinds = kinds_of nodes root in
     let long : length columns ≡ length kinds = ap length same ∙ length_map width_of kinds in
-    let bits : sum (widths_of kinds) ≤ 64 * length kinds = bits_within kinds (columns_have_kinds nodes root plan within) in
+    let bits : sum (widths_of kinds) ≤ 64 * length kinds = bits_within kinds (laws.columns_have_kinds nodes root plan within) in
     let wide : sum columns ≡ sum (widths_of kinds) = ap sum same in
     record {
       size = omega (arith, empty.size, none.nodes, put.nodes, out.nodes, long);
@@ -120,7 +120,7 @@ costs_within nodes root n0 n1 n2 n3 columns plan within empty none put out same 
 
 -- ---- right runs
 
-module _ (schema : Schema) (nodes : List PlanNode) (root : ℕ) (f : Figures) (naming : Naming) (names : List (List ℕ)) (net : Net)
+module _ (laws : LawsBelow) (schema : Schema) (nodes : List PlanNode) (root : ℕ) (f : Figures) (naming : Naming) (names : List (List ℕ)) (net : Net)
     (is : IsRootNet schema nodes root f naming names net) (apart : AreApart net) (gap : ℕ) (close : f.gt ≤ gap) where
   module _ (run : Run) (beats : List Beat) (trace : IsTrace net run) (are : AreBeats schema beats) (keeps : KeepsGap gap beats)
       (stimulus : IsStimulus schema beats (input_values net run)) where
@@ -136,7 +136,7 @@ module _ (schema : Schema) (nodes : List PlanNode) (root : ℕ) (f : Figures) (n
 
     shows : ShowsRight f (IsPlanResult nodes root (plan_inputs (inputs_of beats))) (suc (last_cycle beats))
         (carried run is.output.wire) (line_at run is.output.group) (line_at run is.output.queue)
-    shows = plan_right run is.leaves beats are.order leaf_brings
+    shows = plan_right laws run is.leaves beats are.order leaf_brings
         (λ k e. no_input schema beats k are.each (no_stream net schema.streams is.leaves k is.wires e))
         nodes root is.tick is.plan is.within (ticks_come schema beats net run apart stimulus (reads_time nodes) is.tick is.line)
         f gap is.e (carried run is.output.wire) (line_at run is.output.group) (line_at run is.output.queue)

@@ -15,17 +15,18 @@ use Rattle.gl_net.specs.Net.{Net}
 use Rattle.gl_figures.specs.Marks.{AreMarks}
 use Rattle.gl_figures.specs.Reach.{keys_part, lean_part, lies_below, reached, reaches, store_part, weight_part}
 use Rattle.gl_figures.proofs.MarkLemmas.{all_of, any_with}
-use Rattle.gl_figures.proofs.ReachLemmas.{once_is_less, one_sum}
+use Rattle.gl_figures.proofs.ReachLemmas.{one_sum}
 use Rattle.gl_figures.proofs.SumLemmas.{sum-same}
 use Rattle.gl_wire.specs.declared.emitted.Emitted.{Emitted}
 use Rattle.gl_wire.specs.declared.wire.Wire.{Wire}
+use Rattle.gl_wiring.specs.Below.{LawsBelow}
 use Rattle.gl_wiring.specs.Put.{CanPut, IsPut}
 use Rattle.gl_wiring.specs.Reached.{AreReached, CanPutAll}
 use Rattle.gl_wiring.specs.Tables.{ArePutTo, CanPutMarked, is_marked}
 use Rattle.gl_wiring.proofs.MarkedLemmas.{all_by, can_marked}
 use Rattle.gl_wiring.proofs.TableLemmas.{is_there, taken_gives}
 
-module _ (nodes : List PlanNode) (figures : List Figures) (roots : List ℕ) (net : Net) (tick : Option Bit) (leaves : List Wire) (plan : IsPlan nodes)
+module _ (laws : LawsBelow) (nodes : List PlanNode) (figures : List Figures) (roots : List ℕ) (net : Net) (tick : Option Bit) (leaves : List Wire) (plan : IsPlan nodes)
     (can : CanPutAll nodes figures roots net tick leaves) where
   can_each : (root : ℕ) → list_any (λ r. nat_eq r root) roots ≡ true → CanPut nodes figures root net tick leaves
   can_each root is = all_of (λ r. CanPut nodes figures r net tick leaves) roots root (All-from_recursion _ roots can) is
@@ -34,7 +35,7 @@ module _ (nodes : List PlanNode) (figures : List Figures) (roots : List ℕ) (ne
   rooted = all_by (λ root. root < length nodes) roots (λ root is. (can_each root is).within)
 
   pub all_marked : (marks : List Bool) → AreMarks nodes roots marks → CanPutMarked nodes figures marks net tick leaves
-  all_marked marks are = can_marked nodes figures net tick leaves plan roots marks are can_each
+  all_marked marks are = can_marked laws nodes figures net tick leaves plan roots marks are can_each
 
 -- all marked nodes are all that is reached
 pub are_reached : (nodes : List PlanNode) (roots : List ℕ) → AllByRecursion (λ root. root < length nodes) roots → (marks : List Bool) → AreMarks nodes roots marks
@@ -59,7 +60,7 @@ are_reached nodes roots in_plan marks are limit same old new tick leaves table p
     }
 
 -- one root
-module _ (nodes : List PlanNode) (plan : IsPlan nodes) (root : ℕ) (within : root < length nodes) (old new : Net) (tick : Option Bit) (leaves : List Wire)
+module _ (laws : LawsBelow) (nodes : List PlanNode) (plan : IsPlan nodes) (root : ℕ) (within : root < length nodes) (old new : Net) (tick : Option Bit) (leaves : List Wire)
     (table : List (Option Emitted)) (h : AreReached nodes (root ∷ []) old new tick leaves table) where
   one : list_any (λ r. nat_eq r root) (root ∷ []) ≡ true
   one = or_left (nat_eq root root) false (eq-eqb root root refl)
@@ -71,7 +72,7 @@ module _ (nodes : List PlanNode) (plan : IsPlan nodes) (root : ℕ) (within : ro
   pub one_reached : (e : Emitted) → slice_get table root ≡ Some (Some e) → IsPut nodes root old new tick leaves e
   one_reached e at =
       let in_plan : All (λ r. r < length nodes) (root ∷ []) = All-cons (λ r. r < length nodes) root [] within (All-nil (λ r. r < length nodes)) in
-      let less = once_is_less nodes (root ∷ []) plan in_plan in
+      let less = laws.once_is_less nodes (root ∷ []) plan in_plan in
       record {
         keeps = h.keeps;
         cost = record {

@@ -18,10 +18,8 @@ use Rattle.gl_algebra.specs.FigureTable.{delayed, settled, aggregate_figures, de
 use Rattle.gl_algebra.specs.Fits.{IsPlan}
 use Rattle.gl_algebra.specs.Results.{IsPlanResult, computed, selected, projected}
 use Rattle.gl_algebra.specs.Shapes.{Shape, kinds_of, shape_of}
-use Rattle.gl_algebra.proofs.FigureLemmas.{figures_are_sound, delayed_by_none}
-use Rattle.gl_algebra.proofs.KindLemmas.{columns_have_kinds}
+use Rattle.gl_algebra.proofs.FigureLemmas.{delayed_by_none}
 use Rattle.gl_algebra.proofs.SoundLemmas.{delayed_sound}
-use Rattle.gl_algebra.proofs.TableLemmas.{nodes_follow_tables}
 use Rattle.gl_net.specs.declared.node.Bit.{Bit}
 use Rattle.gl_net.specs.Net.{Net}
 use Rattle.gl_figures.proofs.PartLemmas.{parts_at}
@@ -34,10 +32,9 @@ use Rattle.gl_wire.specs.Blocks.{IsBehind}
 use Rattle.gl_wire.specs.Pace.{KeepsPace}
 use Rattle.gl_wire.specs.Serves.{Serves}
 use Rattle.gl_wire.specs.Shapes.{Steady, AtEnds, Mapped, Totalled, keep_where}
-use Rattle.gl_wire.proofs.EndLemmas.{ends_serve}
-use Rattle.gl_wire.proofs.PaceLemmas.{steady_pace, ends_pace}
+use Rattle.gl_wire.proofs.PaceLemmas.{steady_pace}
 use Rattle.gl_wire.proofs.SettledLemmas.{settled_serves}
-use Rattle.gl_wire.proofs.SteadyLemmas.{steady_serves}
+use Rattle.gl_wiring.specs.Below.{LawsBelow}
 use Rattle.gl_wiring.specs.Leaves.{widths_of}
 use Rattle.gl_wiring.specs.Put.{Gives, IsPutBehind}
 use Rattle.gl_wiring.proofs.CanLemmas.{first_within}
@@ -66,21 +63,21 @@ width_at [] column kind at = absurd cc
 width_at (k ∷ kinds) zero kind at = ap (λ (x : Kind). Some (width_of x)) (some_same k kind at)
 width_at (k ∷ kinds) (suc column) kind at = width_at kinds column kind at
 
-module _ (nodes : List PlanNode) (id : ℕ) (old new : Net) (tick : Option Bit) (leaves : List Wire) (below e : Emitted) (plan : IsPlan nodes) where
+module _ (laws : LawsBelow) (nodes : List PlanNode) (id : ℕ) (old new : Net) (tick : Option Bit) (leaves : List Wire) (below e : Emitted) (plan : IsPlan nodes) where
   pub compute_put : (child : ℕ) (ops : List ColOp) → slice_get nodes id ≡ Some (Compute child ops) → Gives nodes child old tick leaves below
       → (let kinds = kinds_of nodes child in IsBehind old new (Steady 1 (λ row. Some (computed kinds ops row))) (computed_widths kinds ops)
       (cost_of_rows (computed_widths kinds ops) (length ops)) below e)
       → IsPutBehind nodes id old new tick leaves e
   compute_put child ops at h b =
-      let follows = nodes_follow_tables nodes id (Compute child ops) plan at in
+      let follows = laws.nodes_follow_tables nodes id (Compute child ops) plan at in
       let parts = parts_at nodes id (Compute child ops) at in
       let f : Figures = figures_of nodes child in
       let kinds = kinds_of nodes child in
       let step : Row → Option Row = λ row. Some (computed kinds ops row) in
       let within = first_within nodes id (Compute child ops) plan at child [] refl in
-      let sound = figures_are_sound nodes child plan within in
+      let sound = laws.figures_are_sound nodes child plan within in
       let own : All IsKind (kinds ++ map (kind_of_op kinds) ops) =
-      subst (λ (s : Shape). All IsKind s.kinds) follows.shape (columns_have_kinds nodes id plan (slice_get_within nodes id (Compute child ops) at)) in
+      subst (λ (s : Shape). All IsKind s.kinds) follows.shape (laws.columns_have_kinds nodes id plan (slice_get_within nodes id (Compute child ops) at)) in
       record {
         keeps = b.keeps;
         cost = cost_behind nodes id _ _ _ old new _
@@ -89,7 +86,7 @@ module _ (nodes : List PlanNode) (id : ℕ) (old new : Net) (tick : Option Bit) 
         gives = rw (follows.shape, follows.figures) (behind (shape_of nodes child) _ f (settled (delayed 1 f)) (IsPlanResult nodes child)
             (IsPlanResult nodes id) old new tick leaves below e _ _ _ (Mapped step)
             h b refl (record { gt = omega arith; ge = omega arith })
-            (λ x y s. settled_serves f (delayed 1 f) (Mapped step) x y (delayed_sound 1 f sound) (steady_serves 1 step x y f s))
+            (λ x y s. settled_serves f (delayed 1 f) (Mapped step) x y (delayed_sound 1 f sound) (laws.steady_serves 1 step x y f s))
             (λ x y ls s. steady_pace 1 (computed kinds ops) x y s (shape_of nodes child).pace f.a ls)
             (λ i xs ys p r m. (follows.results i ys p).1 (record { rows = xs; of_source = r; changed = m ∙ mapped_all (computed kinds ops) xs })));
       }
@@ -98,21 +95,21 @@ module _ (nodes : List PlanNode) (id : ℕ) (old new : Net) (tick : Option Bit) 
       → IsBehind old new (Steady 1 (keep_where column)) (widths_of (kinds_of nodes child)) (cost_of_rows (widths_of (kinds_of nodes child)) 0) below e
       → IsPutBehind nodes id old new tick leaves e
   select_put child column at h b =
-      let follows = nodes_follow_tables nodes id (Select child column) plan at in
+      let follows = laws.nodes_follow_tables nodes id (Select child column) plan at in
       let parts = parts_at nodes id (Select child column) at in
       let f : Figures = figures_of nodes child in
       let kinds = kinds_of nodes child in
       let within = first_within nodes id (Select child column) plan at child [] refl in
-      let sound = figures_are_sound nodes child plan within in
+      let sound = laws.figures_are_sound nodes child plan within in
       record {
         keeps = b.keeps;
         cost = cost_behind nodes id _ _ _ old new _
             (record { weight' = parts.weight; lean' = omega (arith, parts.lean, parts.keys); store' = parts.store })
-            b.cost (selected_counted kinds (columns_have_kinds nodes child plan within));
+            b.cost (selected_counted kinds (laws.columns_have_kinds nodes child plan within));
         gives = rw (follows.shape, follows.figures) (behind (shape_of nodes child) _ f (settled (delayed 1 f)) (IsPlanResult nodes child)
             (IsPlanResult nodes id) old new tick leaves below e _ _ _ (Mapped (keep_where column))
             h b refl (record { gt = omega arith; ge = omega arith })
-            (λ x y s. settled_serves f (delayed 1 f) (Mapped (keep_where column)) x y (delayed_sound 1 f sound) (steady_serves 1 (keep_where column) x y f s))
+            (λ x y s. settled_serves f (delayed 1 f) (Mapped (keep_where column)) x y (delayed_sound 1 f sound) (laws.steady_serves 1 (keep_where column) x y f s))
             (λ x y ls s p. tt)
             (λ i xs ys p r m. (follows.results i ys p).1 (record { rows = xs; of_source = r; changed = m ∙ kept_rows column xs })));
       }
@@ -122,13 +119,13 @@ module _ (nodes : List PlanNode) (id : ℕ) (old new : Net) (tick : Option Bit) 
       (cost_of_items (projected_widths kinds items)) below e)
       → IsPutBehind nodes id old new tick leaves e
   project_put child items at h b =
-      let follows = nodes_follow_tables nodes id (Project child items) plan at in
+      let follows = laws.nodes_follow_tables nodes id (Project child items) plan at in
       let parts = parts_at nodes id (Project child items) at in
       let f : Figures = figures_of nodes child in
       let kinds = kinds_of nodes child in
       let step : Row → Option Row = λ row. Some (projected items row) in
       let within = first_within nodes id (Project child items) plan at child [] refl in
-      let sound = figures_are_sound nodes child plan within in
+      let sound = laws.figures_are_sound nodes child plan within in
       record {
         keeps = b.keeps;
         cost = cost_behind nodes id _ _ _ old new _
@@ -138,7 +135,7 @@ module _ (nodes : List PlanNode) (id : ℕ) (old new : Net) (tick : Option Bit) 
             (IsPlanResult nodes id) old new tick leaves below e _ _ _ (Mapped step)
             h b refl (record { gt = omega arith; ge = omega arith })
             (λ x y s. settled_serves f f (Mapped step) x y sound
-            (subst (λ (g : Figures). Serves f g (Mapped step) x y) (delayed_by_none f) (steady_serves 0 step x y f s)))
+            (subst (λ (g : Figures). Serves f g (Mapped step) x y) (delayed_by_none f) (laws.steady_serves 0 step x y f s)))
             (λ x y ls s p. let n : f.a + 0 ≡ f.a = omega arith in
             subst (λ (a : ℕ). KeepsPace (shape_of nodes child).pace a ls y) n (steady_pace 0 (projected items) x y s (shape_of nodes child).pace f.a ls p))
             (λ i xs ys p r m. (follows.results i ys p).1 (record { rows = xs; of_source = r; changed = m ∙ mapped_all (projected items) xs })));
@@ -149,7 +146,7 @@ module _ (nodes : List PlanNode) (id : ℕ) (old new : Net) (tick : Option Bit) 
       (cost_of_aggs kinds aggs) below e)
       → IsPutBehind nodes id old new tick leaves e
   aggregate_put child aggs at h b =
-      let follows = nodes_follow_tables nodes id (Aggregate child aggs) plan at in
+      let follows = laws.nodes_follow_tables nodes id (Aggregate child aggs) plan at in
       let parts = parts_at nodes id (Aggregate child aggs) at in
       let f : Figures = figures_of nodes child in
       let kinds = kinds_of nodes child in
@@ -160,11 +157,11 @@ module _ (nodes : List PlanNode) (id : ℕ) (old new : Net) (tick : Option Bit) 
         keeps = b.keeps;
         cost = cost_behind nodes id _ _ _ old new _
             (record { weight' = parts.weight; lean' = omega (arith, parts.lean, parts.keys); store' = parts.store })
-            b.cost (aggs_counted kinds (columns_have_kinds nodes child plan within) aggs suits);
+            b.cost (aggs_counted kinds (laws.columns_have_kinds nodes child plan within) aggs suits);
         gives = rw (follows.shape, follows.figures) (behind (shape_of nodes child) _ f (aggregate_figures m f) (IsPlanResult nodes child)
             (IsPlanResult nodes id) old new tick leaves below e _ _ _ (Totalled (total_row kinds aggs))
             h b refl (record { gt = omega arith; ge = omega arith })
-            (λ x y s. ends_serve m (total_row kinds aggs) x y f s)
-            (λ x y ls s p. ends_pace m (total_row kinds aggs) x y s)
+            (λ x y s. laws.ends_serve m (total_row kinds aggs) x y f s)
+            (λ x y ls s p. laws.totals_come_with_ends m (total_row kinds aggs) x y s)
             (λ i xs ys p r t. (follows.results i ys p).1 (record { rows = xs; of_source = r; changed = t })));
       }

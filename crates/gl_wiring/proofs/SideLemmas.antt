@@ -14,7 +14,7 @@ use Rattle.gl_wire.specs.Beats.{Beats}
 use Rattle.gl_wire.specs.Pace.{InStep, KeepsPace, WithEnds}
 use Rattle.gl_wire.specs.Serves.{Fits}
 use Rattle.gl_wire.specs.Wire.{Carried}
-use Rattle.gl_wire.proofs.PaceLemmas.{follows_pace}
+use Rattle.gl_wiring.specs.Below.{LawsBelow}
 
 -- a beat with the end
 abbrev is_end : Option Bool → Bool
@@ -98,14 +98,14 @@ beside_first p q h h' =
     rw (is_fixed-is (delayed (wait_of p q) p) (delayed_fixed (wait_of p q) p h), is_fixed-is (delayed (wait_of q p) q) (delayed_fixed (wait_of q p) q h')) refl
 
 -- what a joiner gives keeps the pace of its sides
-pub joins_pace : (pace : Pace) (p q : Figures) → PaceFixes pace p → PaceFixes pace q → (leaves : ℕ → Carried) (x y o : Carried)
+pub joins_pace : LawsBelow → (pace : Pace) (p q : Figures) → PaceFixes pace p → PaceFixes pace q → (leaves : ℕ → Carried) (x y o : Carried)
     → (b : Bool) → (is_fixed p && is_fixed q) ≡ b → joined_pace p q b x y o → KeepsPace pace p.a leaves x → KeepsPace pace (beside_figures p q).a leaves o
-joins_pace unsteady p q fp fq leaves x y o b e j px = tt
-joins_pace once p q fp fq leaves x y o true e j px = follows_pace (wait_of p q) x o j once 0 leaves px
-joins_pace once p q fp fq leaves x y o false e j px = j
-joins_pace (with_stream k) p q fp fq leaves x y o true e j px =
-    subst (λ (a : ℕ). InStep a (leaves k) o) (sym (beside_first p q fp fq)) (follows_pace (wait_of p q) x o j (with_stream k) p.a leaves px)
-joins_pace (with_stream k) p q fp fq leaves x y o false e j px = absurd (let z = sym (both_fixed p q fp fq) ∙ e in cc)
-joins_pace with_body p q fp fq leaves x y o true e j px =
-    subst (λ (a : ℕ). InStep a (leaves 0) o) (sym (beside_first p q fp fq)) (follows_pace (wait_of p q) x o j with_body p.a leaves px)
-joins_pace with_body p q fp fq leaves x y o false e j px = absurd (let z = sym (both_fixed p q fp fq) ∙ e in cc)
+joins_pace laws unsteady p q fp fq leaves x y o b e j px = tt
+joins_pace laws once p q fp fq leaves x y o true e j px = laws.followers_keep_pace (wait_of p q) x o j once 0 leaves px
+joins_pace laws once p q fp fq leaves x y o false e j px = j
+joins_pace laws (with_stream k) p q fp fq leaves x y o true e j px =
+    subst (λ (a : ℕ). InStep a (leaves k) o) (sym (beside_first p q fp fq)) (laws.followers_keep_pace (wait_of p q) x o j (with_stream k) p.a leaves px)
+joins_pace laws (with_stream k) p q fp fq leaves x y o false e j px = absurd (let z = sym (both_fixed p q fp fq) ∙ e in cc)
+joins_pace laws with_body p q fp fq leaves x y o true e j px =
+    subst (λ (a : ℕ). InStep a (leaves 0) o) (sym (beside_first p q fp fq)) (laws.followers_keep_pace (wait_of p q) x o j with_body p.a leaves px)
+joins_pace laws with_body p q fp fq leaves x y o false e j px = absurd (let z = sym (both_fixed p q fp fq) ∙ e in cc)

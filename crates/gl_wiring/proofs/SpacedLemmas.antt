@@ -12,7 +12,6 @@ use Rattle.gl_net.specs.Net.{Net}
 use Rattle.gl_net.proofs.Growth.{same_keeps}
 use Rattle.gl_wire.specs.Counted.{AreNarrow}
 use Rattle.gl_queue.specs.Spacers.{IsSpacerOf}
-use Rattle.gl_queue.proofs.CountLemmas.{spacers_are_counted}
 use Rattle.gl_wire.specs.declared.emitted.Emitted.{Emitted}
 use Rattle.gl_wire.specs.declared.wire.Wire.{Wire}
 use Rattle.gl_wire.specs.Blocks.{IsBehindLines}
@@ -23,22 +22,22 @@ use Rattle.gl_wire.specs.Serving.{inputs_at}
 use Rattle.gl_wire.specs.Shapes.{Same}
 use Rattle.gl_wire.specs.Spills.{Lines, SameLines, ServesWithLines, both_lines, never, no_lines}
 use Rattle.gl_wire.specs.Wire.{Carried, IsWire, carried, stream, widths}
-use Rattle.gl_wire.proofs.ApartLemmas.{apart_unspaced}
 use Rattle.gl_wire.proofs.DelayLemmas.{spaced_closer}
 use Rattle.gl_wire.proofs.ServingLemmas.{serving_as, serving_lines, serving_then}
+use Rattle.gl_wiring.specs.Below.{LawsBelow}
 use Rattle.gl_wiring.specs.Leaves.{leaf, widths_of}
 use Rattle.gl_wiring.specs.Put.{GivesAs}
 use Rattle.gl_wiring.specs.Copies.{IsSpacedFor, LeavesRoom, cost_of_spaced, paceless}
 
 -- where one is needed, a spacer stands
-module _ (old new : Net) (gap : ℕ) (f : Figures) (a b : Emitted) (needed : needs_spacer gap f ≡ true) (narrow : AreNarrow (widths a.wire.columns))
+module _ (laws : LawsBelow) (old new : Net) (gap : ℕ) (f : Figures) (a b : Emitted) (needed : needs_spacer gap f ≡ true) (narrow : AreNarrow (widths a.wire.columns))
     (s : IsSpacerOf old new gap f a b) where
   with_spacer : spaced gap f ≡ spacer_figures gap f
   with_spacer = rw needed refl
 
   cost_within : CostsAtMost old new (cost_of_spaced gap f (widths a.wire.columns))
   cost_within =
-      let c = spacers_are_counted gap f (widths a.wire.columns) needed narrow in
+      let c = laws.spacers_are_counted gap f (widths a.wire.columns) needed narrow in
       record {
         nodes = omega (arith, s.behind.cost.nodes, c.nodes);
         registers = omega (arith, s.behind.cost.registers, c.registers);
@@ -84,9 +83,9 @@ same_lines : (p : Lines) → SameLines p (both_lines p no_lines)
 same_lines p = record { passed = λ c. sym (or_none (p.passed c)); further = λ c. sym (or_none (p.further c)) }
 
 -- and none elsewhere
-pub none_put : (net : Net) (gap : ℕ) (f : Figures) (a : Emitted) → needs_spacer gap f ≡ false → IsSound f → IsWire net a.wire → AreLines net a.faults
+pub none_put : LawsBelow → (net : Net) (gap : ℕ) (f : Figures) (a : Emitted) → needs_spacer gap f ≡ false → IsSound f → IsWire net a.wire → AreLines net a.faults
     → IsSpacedFor net net gap f a a
-none_put net gap f a none sound wire lines =
+none_put laws net gap f a none sound wire lines =
     let same : spaced gap f ≡ f = rw none refl in
     record {
       behind = record {
@@ -103,7 +102,7 @@ none_put net gap f a none sound wire lines =
       };
       apart = λ run r g room beats apart fits.
           let rests = subst (λ (h : Figures). LeavesRoom gap h g) same room in
-          apart_unspaced gap f g beats (carried run a.wire) sound rests.after rests.after_end none apart fits;
+          laws.unspaced_is_apart gap f g beats (carried run a.wire) sound rests.after rests.after_end none apart fits;
     }
 
 pub no_closer : (gap : ℕ) (f : Figures) → NoCloser f (spaced gap f)

@@ -13,17 +13,16 @@ use Rattle.gl_algebra.specs.Roots.{of_further, part_of_copy}
 use Rattle.gl_algebra.specs.Shapes.{Shape, kinds_of, shape_of}
 use Rattle.gl_algebra.specs.Views.{copies_of_window, of_body}
 use Rattle.gl_algebra.specs.Weights.{lines_of, weight_of, weight_of_copies}
-use Rattle.gl_algebra.proofs.TableLemmas.{nodes_follow_tables}
 use Rattle.gl_figures.proofs.PrintedLemmas.{enough}
 use Rattle.gl_figures.proofs.RootLemmas.{further_there}
 use Rattle.gl_net.specs.Net.{Net}
 use Rattle.gl_windows.specs.Costs.{IsCounted, counted_for}
 use Rattle.gl_spare.specs.Costs.{cost_of_front, cost_of_rotation}
-use Rattle.gl_spare.proofs.CostLemmas.{spares_are_counted}
 use Rattle.gl_wire_registers.specs.Joins.{cost_of_back}
 use Rattle.gl_wire.specs.Costs.{CostsAtMost}
 use Rattle.gl_wire.proofs.CountLemmas.{narrow_kinds}
 use Rattle.gl_wiring.specs.declared.spare_windows.SpareWindowOf.{SpareWindowOf}
+use Rattle.gl_wiring.specs.Below.{LawsBelow}
 use Rattle.gl_wiring.specs.Leaves.{widths_of}
 use Rattle.gl_wiring.specs.Put.{plan_cost}
 use Rattle.gl_wiring.specs.Roots.{root_cost}
@@ -70,7 +69,7 @@ stored_within source body spacer count most enough =
     omega (arith, bodies)
 
 -- all parts
-module _ (nodes : List PlanNode) (w : SpareWindowOf) (plan : IsPlan nodes) (is : IsSpareWindow nodes w) (kinds_source : All IsKind (kinds_of nodes w.window.source))
+module _ (laws : LawsBelow) (nodes : List PlanNode) (w : SpareWindowOf) (plan : IsPlan nodes) (is : IsSpareWindow nodes w) (kinds_source : All IsKind (kinds_of nodes w.window.source))
     (kinds_body : All IsKind (kinds_of nodes w.window.body)) where
   abbrev node : PlanNode
   node = Window w.window.source w.window.body w.window.size w.window.advance
@@ -94,14 +93,14 @@ module _ (nodes : List PlanNode) (w : SpareWindowOf) (plan : IsPlan nodes) (is :
   part body = body + 8 * (length source + 2 + (length own + 2) + 4)
 
   follows : FollowsTables nodes w.window.id node
-  follows = nodes_follow_tables nodes w.window.id node plan is.window'
+  follows = laws.nodes_follow_tables nodes w.window.id node plan is.window'
 
   all_there : count ≤ most
   all_there = enough nodes w.window.id w.spare plan is.window' is.spare'
 
   rotation : IsCounted (cost_of_rotation most delay source own) (counted_for most delay source own) (counted_for most delay source own)
   rotation =
-      spares_are_counted most delay source own
+      laws.spares_are_counted most delay source own
       (narrow_kinds (kinds_of nodes w.window.source) kinds_source) (narrow_kinds (kinds_of nodes w.window.body) kinds_body)
 
   more : (each : PlanNode → ℕ) → of_further each nodes w.window.id ≡ (most - count) * each node
@@ -110,7 +109,7 @@ module _ (nodes : List PlanNode) (w : SpareWindowOf) (plan : IsPlan nodes) (is :
   -- what a copy adds, by the lines of the columns
   part_is : (values : ℕ → ℕ) → part_of_copy (shape_of nodes) values (lines_of (shape_of nodes w.window.id)) node ≡ part (values w.window.body)
   part_is values =
-      rw (source_lines nodes w.window plan is.window' kinds_source kinds_body, own_lines nodes w.window plan is.window' kinds_source kinds_body)
+      rw (source_lines laws nodes w.window plan is.window' kinds_source kinds_body, own_lines laws nodes w.window plan is.window' kinds_source kinds_body)
       (ap (λ (s : Shape). part_of_copy (shape_of nodes) values (lines_of s) node) follows.shape)
 
   further_of : (values : ℕ → ℕ)
@@ -126,10 +125,10 @@ module _ (nodes : List PlanNode) (w : SpareWindowOf) (plan : IsPlan nodes) (is :
       let lean_spacer : ℕ = lean_of_spacer (window_gap (figures_of nodes w.window.body)) (figures_of nodes w.window.source) (length source + 2) in
       let fore = cost_of_front most delay source in
       let rear = cost_of_back most own in
-      let own_weight = weight nodes w.window plan is.window' kinds_source kinds_body in
-      let own_lean = lean nodes w.window plan is.window' kinds_source kinds_body in
-      let own_keys = keys nodes w.window plan is.window' kinds_source kinds_body in
-      let own_store = store nodes w.window plan is.window' kinds_source kinds_body in
+      let own_weight = weight laws nodes w.window plan is.window' kinds_source kinds_body in
+      let own_lean = lean laws nodes w.window plan is.window' kinds_source kinds_body in
+      let own_keys = keys laws nodes w.window plan is.window' kinds_source kinds_body in
+      let own_store = store laws nodes w.window plan is.window' kinds_source kinds_body in
       record {
         nodes = rw (own_weight, further_of (weight_of nodes)) (at_most _ _ _ _ all.nodes
             (nodes_within (weight_of nodes w.window.source) (weight_of nodes w.window.body) spacer.nodes fore.nodes rear.nodes count most

@@ -12,10 +12,6 @@ use Rattle.gl_algebra.specs.Results.{Inputs, IsPlanResult, given}
 use Rattle.gl_algebra.specs.Roots.{root_figures}
 use Rattle.gl_algebra.specs.Shapes.{Shape, kinds_of}
 use Rattle.std.specs.Prelude.{Some}
-use Rattle.gl_algebra.proofs.FigureLemmas.{closing_nodes_wait, figures_are_sound}
-use Rattle.gl_algebra.proofs.KindLemmas.{columns_have_kinds}
-use Rattle.gl_algebra.proofs.ReadLemmas.{body_reads}
-use Rattle.gl_algebra.proofs.TableLemmas.{nodes_follow_tables}
 use Rattle.gl_figures.proofs.RootLemmas.{figures_there, spare_there}
 use Rattle.gl_net.specs.declared.node.Bit.{Bit}
 use Rattle.gl_net.specs.Net.{Net}
@@ -23,7 +19,6 @@ use Rattle.gl_net.proofs.Determined.{keeps_then}
 use Rattle.gl_spare.specs.declared.rotation.SpareRotation.{SpareRotation}
 use Rattle.gl_spare.specs.Costs.{cost_of_front}
 use Rattle.gl_spare.specs.Rotations.{IsRotation, Suits, figures_over, spare_machine}
-use Rattle.gl_spare.proofs.NumberLemmas.{spares_rotate}
 use Rattle.gl_wire.specs.Bodies.{OfBody, alone}
 use Rattle.gl_wire.specs.Rotates.{lines_of_all}
 use Rattle.gl_wire_registers.specs.Joins.{columns_of, cost_of_back, told_of}
@@ -38,6 +33,7 @@ use Rattle.gl_wire.specs.Spills.{Lines, both_lines}
 use Rattle.gl_wire.specs.Wire.{carried}
 use Rattle.gl_wire.proofs.OnceLemmas.{once_as, once_lines, spaced_once}
 use Rattle.gl_wiring.specs.declared.spare_windows.SpareWindowOf.{SpareWindowOf}
+use Rattle.gl_wiring.specs.Below.{LawsBelow}
 use Rattle.gl_wiring.specs.Copies.{CanStandBehind, IsPutOver}
 use Rattle.gl_wiring.specs.Leaves.{leaf, widths_of}
 use Rattle.gl_wiring.specs.Put.{CanPut, Gives, IsPut}
@@ -52,7 +48,7 @@ use Rattle.gl_wiring.proofs.OverLemmas.{over_columns}
 use Rattle.gl_wiring.proofs.SpareCosts.{spare_cost}
 use Rattle.gl_wiring.proofs.WindowLemmas.{joined_as}
 
-module _ (nodes : List PlanNode) (w : SpareWindowOf) (plan : IsPlan nodes) (is : IsSpareWindow nodes w) where
+module _ (laws : LawsBelow) (nodes : List PlanNode) (w : SpareWindowOf) (plan : IsPlan nodes) (is : IsSpareWindow nodes w) where
   abbrev id : ℕ
   id = w.window.id
 
@@ -75,7 +71,7 @@ module _ (nodes : List PlanNode) (w : SpareWindowOf) (plan : IsPlan nodes) (is :
   in_body = second_within nodes id node plan is.window' of_source of_body refl
 
   follows : FollowsTables nodes id node
-  follows = nodes_follow_tables nodes id node plan is.window'
+  follows = laws.nodes_follow_tables nodes id node plan is.window'
 
   abbrev f : Figures
   f = figures_of nodes of_source
@@ -84,15 +80,15 @@ module _ (nodes : List PlanNode) (w : SpareWindowOf) (plan : IsPlan nodes) (is :
   r = rotation_with nodes w
 
   sound_source : IsSound f
-  sound_source = figures_are_sound nodes of_source plan in_source
+  sound_source = laws.figures_are_sound nodes of_source plan in_source
 
   sound_body : IsSound (figures_of nodes of_body)
-  sound_body = figures_are_sound nodes of_body plan in_body
+  sound_body = laws.figures_are_sound nodes of_body plan in_body
 
   -- the numbers of the rotation suit the source
   pub rotates : IsRotation r × Suits r f
   rotates =
-      spares_rotate r f sound_source sound_body (closing_nodes_wait nodes of_body plan in_body fits.suits.0.closing)
+      laws.spares_rotate r f sound_source sound_body (laws.closing_nodes_wait nodes of_body plan in_body fits.suits.0.closing)
       fits.suits.1.least fits.suits.2.least (spare_there nodes id node w.spare is.window' is.spare').of_node
 
   figures_are : root_figures nodes id ≡ figures_over r f
@@ -102,7 +98,7 @@ module _ (nodes : List PlanNode) (w : SpareWindowOf) (plan : IsPlan nodes) (is :
   pub spare_stands : (figures : List Figures) (net : Net) (tick : Option Bit) (leaves : List Wire) (columns : List ℕ) → CanPut nodes figures id net tick leaves
       → columns ≡ widths_of (kinds_of nodes of_source) → CanStandBehind nodes figures of_body columns
   spare_stands figures net tick leaves columns can same =
-      can_stand nodes figures id of_source of_body node net tick leaves columns plan is.window' refl fits.suits.0 can same
+      can_stand laws nodes figures id of_source of_body node net tick leaves columns plan is.window' refl fits.suits.0 can same
 
   -- the results of all windows are those of the root
   abbrev parts_of : Inputs → List Row → Bool → Type 0
@@ -116,7 +112,7 @@ module _ (nodes : List PlanNode) (w : SpareWindowOf) (plan : IsPlan nodes) (is :
         parts_spill = v.parts_spill;
         of_source = v.of_source;
         of_parts = joined_as (OfBody nodes of_body) (λ slice. IsPlanResult nodes of_body (given inputs slice))
-            (λ slice zs q y. body_reads nodes of_body plan in_body (kinds_of nodes of_source) fits.suits.0.leaves (alone slice) (given inputs slice) refl zs q y)
+            (λ slice zs q y. laws.bodies_read_their_input nodes of_body plan in_body (kinds_of nodes of_source) fits.suits.0.leaves (alone slice) (given inputs slice) refl zs q y)
             (slices w.window.size w.window.advance v.rows) ys v.parts_spill v.of_parts;
         any = v.any;
       })
@@ -136,7 +132,7 @@ module _ (nodes : List PlanNode) (w : SpareWindowOf) (plan : IsPlan nodes) (is :
       subst (λ (x : Emitted). Gives nodes of_source o.mid tick leaves x) (sym o.fronted.same) (gives_kept _ _ _ mid o.mid tick leaves below o.fronted.keeps h.gives) in
       record {
         keeps = keeps_then old mid new h.keeps (keeps_then mid o.mid new o.fronted.keeps (keeps_then o.mid o.behind new o.bodies.keeps b.keeps));
-        cost = spare_cost nodes w plan is (columns_have_kinds nodes of_source plan in_source) (columns_have_kinds nodes of_body plan in_body)
+        cost = spare_cost laws nodes w plan is (laws.columns_have_kinds nodes of_source plan in_source) (laws.columns_have_kinds nodes of_body plan in_body)
             old o.mid o.behind new (costs_then old mid o.mid _ _ h.cost fore) o.bodies.cost rear;
         columns = record {
           wire = b.wire;
@@ -150,7 +146,7 @@ module _ (nodes : List PlanNode) (w : SpareWindowOf) (plan : IsPlan nodes) (is :
             let here : Spaced (figures_over r f) beats = subst (λ (g : Figures). Spaced g beats) figures_are spaced in
             let source = given.serving run run_mid beats (spaced_once f (figures_over r f) beats last rotates.1.source_gap one here) has in
             let whole = b.serves run run_new f sound_source rotates.1 nodes of_source of_body ins (lines_of run o.front.source.faults) beats last one here source
-            (λ k l own. copies_serve nodes of_source of_body plan in_body fits.suits.0 o.mid o.behind run o.front.wires w.spare.copies o.copies run_behind o.bodies o.fronted.fronts.as_many k l own) in
+            (λ k l own. copies_serve laws nodes of_source of_body plan in_body fits.suits.0 o.mid o.behind run o.front.wires w.spare.copies o.copies run_behind o.bodies o.fronted.fronts.as_many k l own) in
             let lines : Lines = both_lines (lines_of run o.front.source.faults) (lines_of_all (told_of run o.copies) w.spare.copies) in
             subst (λ (g : Figures). ServingOnce g (IsPlanResult nodes id (ins last)) (lines_of run e.faults) last (carried run e.wire)) (sym figures_are)
             (once_lines (figures_over r f) (IsPlanResult nodes id (ins last)) (lines_of run e.faults) lines last (carried run e.wire) (b.told run run_new)

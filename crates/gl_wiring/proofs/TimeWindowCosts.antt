@@ -16,10 +16,10 @@ use Rattle.gl_figures.specs.Reach.{keys_part, lean_part, store_part, weight_part
 use Rattle.gl_figures.proofs.PartLemmas.{HasParts, parts_at}
 use Rattle.gl_windows.specs.Costs.{IsCounted, cost_of_time_front, cost_of_time_rotation, counted_for}
 use Rattle.gl_wire_registers.specs.Joins.{cost_of_back}
-use Rattle.gl_windows.proofs.TimeCosts.{times_are_counted}
 use Rattle.gl_wire.specs.Costs.{Cost, CostsAtMost}
 use Rattle.gl_wire.proofs.CountLemmas.{narrow_kinds}
 use Rattle.gl_wiring.specs.declared.time_windows.TimeWindowOf.{TimeWindowOf}
+use Rattle.gl_wiring.specs.Below.{LawsBelow}
 use Rattle.gl_wiring.specs.Leaves.{widths_of}
 use Rattle.gl_wiring.specs.Put.{plan_cost, own_cost}
 use Rattle.gl_wiring.specs.TimeWindows.{IsTimeWindow, cost_to_time_front}
@@ -35,7 +35,7 @@ stored_within : (bodies spacer : ℕ) → 0 + bodies + 0 ≤ bodies + spacer
 stored_within bodies spacer = omega arith
 
 -- all parts
-module _ (nodes : List PlanNode) (w : TimeWindowOf) (plan : IsPlan nodes) (at : IsTimeWindow nodes w) (kinds_source : All IsKind (kinds_of nodes w.source))
+module _ (laws : LawsBelow) (nodes : List PlanNode) (w : TimeWindowOf) (plan : IsPlan nodes) (at : IsTimeWindow nodes w) (kinds_source : All IsKind (kinds_of nodes w.source))
     (kinds_body : All IsKind (kinds_of nodes w.body)) where
   abbrev count : ℕ
   count = copies_of_time w.size w.advance
@@ -66,7 +66,7 @@ module _ (nodes : List PlanNode) (w : TimeWindowOf) (plan : IsPlan nodes) (at : 
 
   rotation : IsCounted (cost_of_time_rotation count delay source own) (counted_for count delay source own) (counted_for count delay source own)
   rotation =
-      times_are_counted count delay source own
+      laws.times_are_counted count delay source own
       (narrow_kinds (kinds_of nodes w.source) kinds_source) (narrow_kinds (kinds_of nodes w.body) kinds_body)
 
   weight : weight_part nodes w.id ≡ lines (weight_of nodes w.body) + 4 * delay + spacer.nodes

@@ -16,18 +16,14 @@ use Rattle.gl_algebra.specs.Views.{copies_of_time, is_time, reads_time}
 use Rattle.gl_algebra.specs.Laws.{FollowsTables}
 use Rattle.gl_algebra.specs.Results.{Inputs, IsPlanResult, given, times_with}
 use Rattle.gl_algebra.specs.Shapes.{Shape, kinds_of, shape_from, shape_of}
-use Rattle.gl_algebra.proofs.FigureLemmas.{closing_nodes_wait, figures_are_sound, one_in_time}
-use Rattle.gl_algebra.proofs.KindLemmas.{columns_have_kinds}
+use Rattle.gl_algebra.proofs.FigureLemmas.{one_in_time}
 use Rattle.gl_algebra.proofs.ListLemmas.{any_at}
-use Rattle.gl_algebra.proofs.ReadLemmas.{body_reads}
-use Rattle.gl_algebra.proofs.TableLemmas.{nodes_follow_tables}
 use Rattle.gl_net.specs.declared.node.Bit.{Bit}
 use Rattle.gl_net.specs.Net.{Net, Run, IsRun}
 use Rattle.gl_net.proofs.Determined.{keeps_then}
 use Rattle.gl_windows.specs.declared.times.TimeRotation.{TimeRotation}
 use Rattle.gl_windows.specs.Costs.{cost_of_time_front}
 use Rattle.gl_windows.specs.TimeRotations.{IsTimeRotation, ticked_machine, time_figures}
-use Rattle.gl_windows.proofs.TimeCosts.{times_rotate}
 use Rattle.gl_wire.specs.Bodies.{OfBody, alone}
 use Rattle.gl_wire.specs.Rotates.{lines_of_all}
 use Rattle.gl_wire_registers.specs.Joins.{columns_of, cost_of_back, told_of}
@@ -45,6 +41,7 @@ use Rattle.gl_wire.proofs.ColumnLemmas.{wire_kept}
 use Rattle.gl_wire.proofs.DelayLemmas.{spaced_closer}
 use Rattle.gl_wire.proofs.ServingLemmas.{serving_lines}
 use Rattle.gl_wiring.specs.declared.time_windows.TimeWindowOf.{TimeWindowOf}
+use Rattle.gl_wiring.specs.Below.{LawsBelow}
 use Rattle.gl_wiring.specs.Leaves.{HasLeaf, HaveLeaves, HaveLine, LeavesFit, carried_by, leaf, widths_of}
 use Rattle.gl_wiring.specs.Put.{CanPut, Gives, GivesAs, IsPutBehind}
 use Rattle.gl_wiring.specs.TimeWindows.{IsTimeWindow, time_rotation_of}
@@ -66,7 +63,7 @@ unspaced gap = by (nat_lt 1 gap)
     by true = refl
     by false = refl
 
-module _ (nodes : List PlanNode) (w : TimeWindowOf) (plan : IsPlan nodes) (at : IsTimeWindow nodes w) where
+module _ (laws : LawsBelow) (nodes : List PlanNode) (w : TimeWindowOf) (plan : IsPlan nodes) (at : IsTimeWindow nodes w) where
   abbrev node : PlanNode
   node = TimeWindow w.source w.body w.size w.advance
 
@@ -80,7 +77,7 @@ module _ (nodes : List PlanNode) (w : TimeWindowOf) (plan : IsPlan nodes) (at : 
   in_body = second_within nodes w.id node plan at w.source w.body refl
 
   follows : FollowsTables nodes w.id node
-  follows = nodes_follow_tables nodes w.id node plan at
+  follows = laws.nodes_follow_tables nodes w.id node plan at
 
   -- the stream
   abbrev number : ℕ
@@ -90,7 +87,7 @@ module _ (nodes : List PlanNode) (w : TimeWindowOf) (plan : IsPlan nodes) (at : 
   kinds = fits.timed.1
 
   of_stream : FollowsTables nodes w.source (Stream number kinds)
-  of_stream = nodes_follow_tables nodes w.source (Stream number kinds) plan fits.timed.2
+  of_stream = laws.nodes_follow_tables nodes w.source (Stream number kinds) plan fits.timed.2
 
   abbrev stream_shape : Shape
   stream_shape = shape_from (shape_of nodes) (Stream number kinds)
@@ -113,13 +110,13 @@ module _ (nodes : List PlanNode) (w : TimeWindowOf) (plan : IsPlan nodes) (at : 
       ∙ ap (λ (f : Figures). windows_over c f s) (unspaced (window_gap s))
 
   sound_body : IsSound s
-  sound_body = figures_are_sound nodes w.body plan in_body
+  sound_body = laws.figures_are_sound nodes w.body plan in_body
 
   -- the numbers of its rotation
   pub rotation_is : AreSmall (figures_of nodes w.id) → IsTimeRotation r
   rotation_is small =
-      times_rotate w.size w.advance s fits.suits.1.least fits.suits.1.most fits.suits.2.least sound_body
-      (closing_nodes_wait nodes w.body plan in_body fits.suits.0.closing) (subst AreSmall whole small)
+      laws.times_rotate w.size w.advance s fits.suits.1.least fits.suits.1.most fits.suits.2.least sound_body
+      (laws.closing_nodes_wait nodes w.body plan in_body fits.suits.0.closing) (subst AreSmall whole small)
 
   -- there is a line of ticks beside the stream
   pub line_is_there : (tick : Option Bit) → tick ≡ None → HaveLine (reads_time nodes) tick (shape_of nodes w.id).leaves → ⊥
@@ -131,7 +128,7 @@ module _ (nodes : List PlanNode) (w : TimeWindowOf) (plan : IsPlan nodes) (at : 
   pub time_stands : (figures : List Figures) (net : Net) (tick : Option Bit) (leaves : List Wire) (columns : List ℕ) → CanPut nodes figures w.id net tick leaves
       → columns ≡ widths_of (kinds_of nodes w.source) → CanStandBehind nodes figures w.body columns
   time_stands figures net tick leaves columns can same =
-      can_stand nodes figures w.id w.source w.body node net tick leaves columns plan at refl fits.suits.0 can same
+      can_stand laws nodes figures w.id w.source w.body node net tick leaves columns plan at refl fits.suits.0 can same
 
   module _ (net : Net) (run : Run) (is : IsRun net run) (tick : Bit) (leaves : List Wire) (e : Emitted) (gives : Gives nodes w.source net (Some tick) leaves e)
       (has : HasLeaf net leaves (Stream number kinds)) (beats : Beats) (spaced_beats : Spaced (time_figures r) beats) (fit : LeavesFit run (Some tick) leaves beats) where
@@ -188,7 +185,7 @@ module _ (nodes : List PlanNode) (w : TimeWindowOf) (plan : IsPlan nodes) (at : 
         → IsPlanResult nodes w.id (ins t) ys p
     joined t ys p q v =
         let as_given = joined_as (OfBody nodes w.body) (λ slice. IsPlanResult nodes w.body (given (ins t) slice))
-        (λ slice zs b y. body_reads nodes w.body plan in_body (kinds_of nodes w.source) fits.suits.0.leaves (alone slice) (given (ins t) slice) refl zs b y)
+        (λ slice zs b y. laws.bodies_read_their_input nodes w.body plan in_body (kinds_of nodes w.source) fits.suits.0.leaves (alone slice) (given (ins t) slice) refl zs b y)
         (tslices w.size w.advance (times_at line a t) (ticks_at line a t) (stream a t)) ys p v in
         (follows.results (ins t) ys p).1 (record {
           rows = stream a t;
@@ -220,7 +217,7 @@ module _ (nodes : List PlanNode) (w : TimeWindowOf) (plan : IsPlan nodes) (at : 
       let has : HasLeaf old leaves (Stream number kinds) = (subst (HaveLeaves old leaves) only_leaf leaved).0 in
       record {
         keeps = keeps_then old o.mid new o.fronted.keeps (keeps_then o.mid o.behind new o.bodies.keeps b.keeps);
-        cost = time_window_cost nodes w plan at (columns_have_kinds nodes w.source plan in_source) (columns_have_kinds nodes w.body plan in_body)
+        cost = time_window_cost laws nodes w plan at (laws.columns_have_kinds nodes w.source plan in_source) (laws.columns_have_kinds nodes w.body plan in_body)
             old o.mid o.behind new fore o.bodies.cost rear;
         gives = rw (follows.shape, whole) (record {
           wire = b.wire;
@@ -238,7 +235,7 @@ module _ (nodes : List PlanNode) (w : TimeWindowOf) (plan : IsPlan nodes) (at : 
               } in
               let of_stream = source o.mid run run_mid tick leaves o.front.source given here beats spaced_beats fit in
               let all = b.serves run is nodes w.body beats spaced_beats of_stream.fits fit.ticks
-              (λ k l own. copies_serve nodes w.source w.body plan in_body fits.suits.0 o.mid o.behind run o.front.wires c o.copies run_behind o.bodies o.fronted.fronts.as_many k l own) in
+              (λ k l own. copies_serve laws nodes w.source w.body plan in_body fits.suits.0 o.mid o.behind run o.front.wires c o.copies run_behind o.bodies o.fronted.fronts.as_many k l own) in
               let ins : ℕ → Inputs = inputs_at (line_of run (Some tick)) (leaf run leaves) (leaf run leaves 0) in
               let own : Lines = lines_of_all (told_of run o.copies) c in
               let lines : Lines = both_lines (lines_of run o.front.source.faults) own in

@@ -7,9 +7,9 @@ use Rattle.gl_algebra.specs.Views.{reads_time}
 use Rattle.gl_algebra.specs.declared.figures.Figures.{Figures}
 use Rattle.gl_algebra.specs.declared.node.PlanNode.{PlanNode}
 use Rattle.gl_bits.specs.Results.{Row, Results}
-use Rattle.gl_algebra.proofs.ReadLemmas.{results_are_untimed}
 use Rattle.gl_net.specs.declared.node.Bit.{Bit}
 use Rattle.gl_net.specs.Net.{Run}
+use Rattle.gl_wiring.specs.Below.{LawsBelow}
 use Rattle.gl_wiring.specs.Leaves.{LeavesFit, carried_by, leaf, silent}
 use Rattle.gl_schema.specs.Beats.{Beat, AreInOrder, KeepsGap, input_of, inputs_of, last_cycle, ticks_of, times_of}
 use Rattle.gl_wire.specs.Faults.{line_of, lines_of}
@@ -47,7 +47,7 @@ shows_as f m n last o group queue h s = record {
   stays = s.stays;
 }
 
-module _ (run : Run) (leaves : List Wire) (beats : List Beat) (order : AreInOrder beats)
+module _ (laws : LawsBelow) (run : Run) (leaves : List Wire) (beats : List Beat) (order : AreInOrder beats)
     (brings : (k : ℕ) (w : Wire) → slice_get leaves k ≡ Some w → Brings k beats (carried run w))
     (others : (k : ℕ) → slice_get leaves k ≡ None → input_of k beats ≡ []) where
   leaf_stream : (k : ℕ) → stream (leaf run leaves k) (suc (last_cycle beats)) ≡ input_of k beats
@@ -93,7 +93,7 @@ module _ (run : Run) (leaves : List Wire) (beats : List Beat) (order : AreInOrde
       where
         by : (b : Bool) → reads_time nodes ≡ b → IsPlanResult nodes root (plan_inputs (inputs_of beats)) out spill
         by true reads = subst (λ (i : Inputs). IsPlanResult nodes root i out spill) (same_inputs reads) r
-        by false reads = results_are_untimed nodes root plan within reads at_last (plan_inputs (inputs_of beats))
+        by false reads = laws.results_are_untimed nodes root plan within reads at_last (plan_inputs (inputs_of beats))
             (record { streams = leaf_stream; body = leaf_stream 0 }) out spill r
 
     pub plan_right : (f : Figures) (gap : ℕ) (e : Emitted) (o : Carried) (group queue : ℕ → Bool)

@@ -12,16 +12,15 @@ use Rattle.gl_algebra.specs.Views.{copies_of_window}
 use Rattle.gl_algebra.specs.Laws.{FollowsTables}
 use Rattle.gl_algebra.specs.Shapes.{kinds_of}
 use Rattle.gl_algebra.specs.Weights.{weight_of, weight_of_copies}
-use Rattle.gl_algebra.proofs.TableLemmas.{nodes_follow_tables}
 use Rattle.gl_net.specs.Net.{Net}
 use Rattle.gl_figures.specs.Reach.{keys_part, lean_part, store_part, weight_part}
 use Rattle.gl_figures.proofs.PartLemmas.{HasParts, parts_at}
 use Rattle.gl_windows.specs.Costs.{IsCounted, cost_of_front, cost_of_rotation, counted_for}
 use Rattle.gl_wire_registers.specs.Joins.{cost_of_back}
-use Rattle.gl_windows.proofs.CostLemmas.{rotations_are_counted}
 use Rattle.gl_wire.specs.Costs.{Cost, CostsAtMost}
 use Rattle.gl_wire.proofs.CountLemmas.{narrow_kinds}
 use Rattle.gl_wiring.specs.declared.windows.WindowOf.{WindowOf}
+use Rattle.gl_wiring.specs.Below.{LawsBelow}
 use Rattle.gl_wiring.specs.Leaves.{widths_of}
 use Rattle.gl_wiring.specs.Put.{plan_cost, own_cost}
 use Rattle.gl_wiring.specs.Windows.{IsWindow, cost_to_front}
@@ -43,7 +42,7 @@ bits_within body own spacer front back c s o more h =
     omega (arith, h, each, bits)
 
 -- all parts
-module _ (nodes : List PlanNode) (w : WindowOf) (plan : IsPlan nodes) (at : IsWindow nodes w) (kinds_source : All IsKind (kinds_of nodes w.source))
+module _ (laws : LawsBelow) (nodes : List PlanNode) (w : WindowOf) (plan : IsPlan nodes) (at : IsWindow nodes w) (kinds_source : All IsKind (kinds_of nodes w.source))
     (kinds_body : All IsKind (kinds_of nodes w.body)) where
   abbrev count : ℕ
   count = copies_of_window w.size w.advance
@@ -70,11 +69,11 @@ module _ (nodes : List PlanNode) (w : WindowOf) (plan : IsPlan nodes) (at : IsWi
   own_lines = length-map (kinds_of nodes w.body) width_of
 
   follows : FollowsTables nodes w.id (Window w.source w.body w.size w.advance)
-  follows = nodes_follow_tables nodes w.id (Window w.source w.body w.size w.advance) plan at
+  follows = laws.nodes_follow_tables nodes w.id (Window w.source w.body w.size w.advance) plan at
 
   rotation : IsCounted (cost_of_rotation count delay source own) (counted_for count delay source own) (counted_for count delay source own)
   rotation =
-      rotations_are_counted count delay source own
+      laws.rotations_are_counted count delay source own
       (narrow_kinds (kinds_of nodes w.source) kinds_source) (narrow_kinds (kinds_of nodes w.body) kinds_body)
 
   -- the whole of a window

@@ -12,15 +12,11 @@ use Rattle.gl_algebra.specs.Views.{copies_of_window}
 use Rattle.gl_algebra.specs.Laws.{FollowsTables}
 use Rattle.gl_algebra.specs.Results.{Inputs, IsPlanResult, given}
 use Rattle.gl_algebra.specs.Shapes.{kinds_of}
-use Rattle.gl_algebra.proofs.FigureLemmas.{closing_nodes_wait, figures_are_sound, one_copy}
-use Rattle.gl_algebra.proofs.KindLemmas.{columns_have_kinds}
-use Rattle.gl_algebra.proofs.ReadLemmas.{body_reads}
+use Rattle.gl_algebra.proofs.FigureLemmas.{one_copy}
 use Rattle.gl_algebra.proofs.SoundLemmas.{spaced_sound}
-use Rattle.gl_algebra.proofs.TableLemmas.{nodes_follow_tables}
 use Rattle.gl_net.specs.declared.node.Bit.{Bit}
 use Rattle.gl_net.specs.Net.{Net}
 use Rattle.gl_windows.specs.Rotations.{IsRotation, rotation_machine}
-use Rattle.gl_windows.proofs.WindowLemmas.{windows_rotate}
 use Rattle.gl_wire.specs.Bodies.{OfBody, alone}
 use Rattle.gl_wire.specs.Rotates.{lines_of_all}
 use Rattle.gl_wire_registers.specs.Joins.{columns_of, cost_of_back, told_of}
@@ -33,6 +29,7 @@ use Rattle.gl_wire.specs.Spills.{Lines, both_lines}
 use Rattle.gl_wire.specs.Wire.{carried}
 use Rattle.gl_wire.proofs.ServingLemmas.{serving_as, serving_lines, serving_then}
 use Rattle.gl_wiring.specs.declared.windows.WindowOf.{WindowOf}
+use Rattle.gl_wiring.specs.Below.{LawsBelow}
 use Rattle.gl_wiring.specs.Leaves.{leaf, widths_of}
 use Rattle.gl_wiring.specs.Put.{CanPut, IsPutBehind}
 use Rattle.gl_wiring.specs.Windows.{IsWindow, rotation_of, source_figures, whole_figures}
@@ -59,7 +56,7 @@ joined_as P Q h (part ∷ parts) ys p r = (r.0, r.1, r.2, r.3, h part r.0 r.2 r.
 no_further : (p q : Bool) → p ≡ q → p ≡ (q || false)
 no_further p q h = h ∙ sym (or_none q)
 
-module _ (nodes : List PlanNode) (w : WindowOf) (plan : IsPlan nodes) (at : IsWindow nodes w) where
+module _ (laws : LawsBelow) (nodes : List PlanNode) (w : WindowOf) (plan : IsPlan nodes) (at : IsWindow nodes w) where
   abbrev node : PlanNode
   node = Window w.source w.body w.size w.advance
 
@@ -73,7 +70,7 @@ module _ (nodes : List PlanNode) (w : WindowOf) (plan : IsPlan nodes) (at : IsWi
   in_body = second_within nodes w.id node plan at w.source w.body refl
 
   follows : FollowsTables nodes w.id node
-  follows = nodes_follow_tables nodes w.id node plan at
+  follows = laws.nodes_follow_tables nodes w.id node plan at
 
   abbrev s : Figures
   s = figures_of nodes w.body
@@ -88,7 +85,7 @@ module _ (nodes : List PlanNode) (w : WindowOf) (plan : IsPlan nodes) (at : IsWi
   c = copies_of_window w.size w.advance
 
   sound_body : IsSound s
-  sound_body = figures_are_sound nodes w.body plan in_body
+  sound_body = laws.figures_are_sound nodes w.body plan in_body
 
   -- what a spacer asks for
   pub some_gap : 1 ≤ window_gap s
@@ -98,7 +95,7 @@ module _ (nodes : List PlanNode) (w : WindowOf) (plan : IsPlan nodes) (at : IsWi
   some_step = fits.suits.2.least
 
   sound_source : IsSound f
-  sound_source = spaced_sound (window_gap s) (figures_of nodes w.source) (figures_are_sound nodes w.source plan in_source)
+  sound_source = spaced_sound (window_gap s) (figures_of nodes w.source) (laws.figures_are_sound nodes w.source plan in_source)
 
   room : LeavesRoom (window_gap s) f g
   room = room_for c f s sound_body
@@ -106,20 +103,20 @@ module _ (nodes : List PlanNode) (w : WindowOf) (plan : IsPlan nodes) (at : IsWi
   -- the numbers of a rotation
   pub rotation_is : AreSmall (figures_of nodes w.id) → IsRotation (rotation_of nodes w)
   rotation_is small =
-      windows_rotate w.size w.advance f s fits.suits.1.least fits.suits.2.least sound_body
-      (closing_nodes_wait nodes w.body plan in_body fits.suits.0.closing) (subst AreSmall follows.figures small)
+      laws.windows_rotate w.size w.advance f s fits.suits.1.least fits.suits.2.least sound_body
+      (laws.closing_nodes_wait nodes w.body plan in_body fits.suits.0.closing) (subst AreSmall follows.figures small)
 
   -- behind a wire with the source's columns the body can be put
   pub window_stands : (figures : List Figures) (net : Net) (tick : Option Bit) (leaves : List Wire) (columns : List ℕ) → CanPut nodes figures w.id net tick leaves
       → columns ≡ widths_of (kinds_of nodes w.source) → CanStandBehind nodes figures w.body columns
   window_stands figures net tick leaves columns can same =
-      can_stand nodes figures w.id w.source w.body node net tick leaves columns plan at refl fits.suits.0 can same
+      can_stand laws nodes figures w.id w.source w.body node net tick leaves columns plan at refl fits.suits.0 can same
 
   -- the machine behind the source
   pub window_put : (old mid new : Net) (tick : Option Bit) (leaves : List Wire) (between e : Emitted) → IsSpacedSource nodes w.source (window_gap s) old mid tick leaves between
       → IsPutOver nodes w.body (rotation_machine (rotation_of nodes w)) between mid new e → IsPutBehind nodes w.id old new tick leaves e
   window_put old mid new tick leaves between e sp o =
-      let x = around nodes w.source w.body (window_gap s) g (rotation_machine (rotation_of nodes w)) between old mid new tick leaves e plan in_body fits.suits.0 room sp o in
+      let x = around laws nodes w.source w.body (window_gap s) g (rotation_machine (rotation_of nodes w)) between old mid new tick leaves e plan in_body fits.suits.0 room sp o in
       let b = o.backed in
       let columns : columns_of o.copies ≡ widths_of (kinds_of nodes w.body) =
       over_columns nodes w.body (rotation_machine (rotation_of nodes w)) between mid new e o (one_copy w.size w.advance fits.suits.1.least fits.suits.2.least) in
@@ -127,7 +124,7 @@ module _ (nodes : List PlanNode) (w : WindowOf) (plan : IsPlan nodes) (at : IsWi
       subst (λ (cs : List ℕ). CostsAtMost o.behind new (cost_of_back c cs)) columns b.cost in
       record {
         keeps = x.keeps;
-        cost = window_cost nodes w plan at (columns_have_kinds nodes w.source plan in_source) (columns_have_kinds nodes w.body plan in_body)
+        cost = window_cost laws nodes w plan at (laws.columns_have_kinds nodes w.source plan in_source) (laws.columns_have_kinds nodes w.body plan in_body)
             old o.mid o.behind new x.cost o.bodies.cost rear;
         gives = rw (follows.shape, follows.figures) (record {
           wire = b.wire;
@@ -148,7 +145,7 @@ module _ (nodes : List PlanNode) (w : WindowOf) (plan : IsPlan nodes) (at : IsWi
                 parts_spill = v.2;
                 of_source = v.3;
                 of_parts = joined_as (OfBody nodes w.body) (λ slice. IsPlanResult nodes w.body (given (ins t) slice))
-                    (λ slice zs q y. body_reads nodes w.body plan in_body (kinds_of nodes w.source) fits.suits.0.leaves (alone slice) (given (ins t) slice) refl zs q y)
+                    (λ slice zs q y. laws.bodies_read_their_input nodes w.body plan in_body (kinds_of nodes w.source) fits.suits.0.leaves (alone slice) (given (ins t) slice) refl zs q y)
                     (slices w.size w.advance v.0) ys v.2 v.4;
                 any = no_further p (v.1 || v.2) v.5;
               }))

@@ -25,3 +25,4 @@ pub mod Windows
 pub mod Roots
 pub mod SpareWindows
 pub mod TimeWindows
+pub mod Below

@@ -8,6 +8,7 @@ ghost use Rattle.gl_wire.specs.Wire.{IsWire, widths};
 ghost use Rattle.gl_wiring.specs.Copies.{IsSpacedFor, IsSpacedSource};
 ghost use Rattle.gl_wiring.specs.Tables.{HasCircuit};
 
+use crate::below::laws_below;
 use crate::site::Site;
 use crate::tables::circuit_at;
 use gl_algebra::{Figures, PlanId};
@@ -39,6 +40,7 @@ pub(crate) fn put_apart(
     requires narrow { AreNarrow (widths below.wire.columns) }
     ensures { IfOk result (IsSpacedFor net.old net.new gap source below) }
 {
+    laws_below();
     if needs_spacer(gap, &source) {
         let spacer = Spacer { source, gap };
         let e = spacer.emit(alloc, net, below)?;
@@ -62,6 +64,7 @@ pub(crate) fn put_source(
     ensures { let s = site.entry in IfOk result (IsSpacedSource s.plan.now source gap
         net.old net.new s.tick s.leaves.now) }
 {
+    laws_below();
     let below = circuit_at(site.alloc, table, source)?;
     let e = put_apart(site.alloc, net, site.figures_at(source), gap, below)?;
     Ok(e)

@@ -6,6 +6,7 @@ ghost use Rattle.gl_wire.specs.Faults.{no_faults};
 ghost use Rattle.gl_wiring.specs.Put.{IsPutBehind};
 ghost use Rattle.gl_wiring.specs.Tables.{HasCircuit};
 
+use crate::below::laws_below;
 use crate::site::Site;
 use crate::tables::circuit_at;
 use gl_algebra::{Operands, Ops, PlanAggs, PlanId};
@@ -54,6 +55,7 @@ pub(crate) fn compute_node(
     ensures { let s = site.entry in
         IfOk result (λ e. IsPutBehind s.plan.now id net.old net.new s.tick s.leaves.now e) }
 {
+    laws_below();
     let below = circuit_at(site.alloc, table, child)?;
     let e = put_compute(
         site.alloc,
@@ -79,6 +81,7 @@ pub(crate) fn select_node(
     ensures { let s = site.entry in
         IfOk result (λ e. IsPutBehind s.plan.now id net.old net.new s.tick s.leaves.now e) }
 {
+    laws_below();
     let below = circuit_at(site.alloc, table, child)?;
     let e = put_select(site.alloc, net, below, usize::from(column))?;
     Ok(e)
@@ -98,6 +101,7 @@ pub(crate) fn project_node(
     ensures { let s = site.entry in
         IfOk result (λ e. IsPutBehind s.plan.now id net.old net.new s.tick s.leaves.now e) }
 {
+    laws_below();
     let below = circuit_at(site.alloc, table, child)?;
     let e = put_project(
         site.alloc,
@@ -123,6 +127,7 @@ pub(crate) fn aggregate_node(
     ensures { let s = site.entry in
         IfOk result (λ e. IsPutBehind s.plan.now id net.old net.new s.tick s.leaves.now e) }
 {
+    laws_below();
     let below = circuit_at(site.alloc, table, child)?;
     let e = put_totals(
         site.alloc,
@@ -149,6 +154,7 @@ pub(crate) fn union_node(
     ensures { let s = site.entry in
         IfOk result (λ e. IsPutBehind s.plan.now id net.old net.new s.tick s.leaves.now e) }
 {
+    laws_below();
     let first = circuit_at(site.alloc, table, left)?;
     let second = circuit_at(site.alloc, table, right)?;
     let sides = UnionOf {
@@ -174,6 +180,7 @@ pub(crate) fn beside_node(
     ensures { let s = site.entry in
         IfOk result (λ e. IsPutBehind s.plan.now id net.old net.new s.tick s.leaves.now e) }
 {
+    laws_below();
     let first = circuit_at(site.alloc, table, left)?;
     let second = circuit_at(site.alloc, table, right)?;
     let sides = Joiner {

@@ -8,6 +8,7 @@ ghost use Rattle.gl_wiring.specs.Tables.{HaveChildren};
 use crate::arms::{
     aggregate_node, beside_node, compute_node, leaf_of, project_node, select_node, union_node,
 };
+use crate::below::laws_below;
 use crate::site::Site;
 use gl_algebra::{PlanId, PlanNode};
 use gl_bits::Memory;
@@ -40,6 +41,7 @@ pub(crate) fn put_behind(
     ensures { let s = site.entry in
         IfOk result (λ e. IsPutBehind s.plan.now id net.old net.new s.tick s.leaves.now e) }
 {
+    laws_below();
     match site.plan.node(id) {
         PlanNode::Stream(number, _) => {
             let e = leaf_of(site.alloc, site.leaves, usize::from(*number))?;

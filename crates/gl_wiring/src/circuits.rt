@@ -4,6 +4,7 @@ ghost use Rattle.std.specs.Prelude.{IfOk};
 ghost use Rattle.gl_wiring.specs.Put.{CanPut, IsPut};
 ghost use Rattle.gl_wiring.specs.Reached.{AreReached, CanPutAll};
 
+use crate::below::laws_below;
 use crate::put::put_marked;
 use crate::site::Site;
 use crate::tables::{Table, circuit_at};
@@ -24,6 +25,7 @@ pub fn put_reached(net: &mut NetBuilder, site: Site<'_>, roots: &[PlanId]) -> Re
     ensures { let s = site.entry in IfOk result (λ table.
         AreReached s.plan.now roots.now net.old net.new s.tick s.leaves.now table.items) }
 {
+    laws_below();
     let limit = site.plan.len();
     let marks = marks_of(site.alloc, site.plan, roots)?;
     let table = put_marked(net, site, marks.as_slice(), limit)?;
@@ -36,6 +38,7 @@ pub fn put_circuit(net: &mut NetBuilder, site: Site<'_>, id: PlanId) -> Result<E
     ensures { let s = site.entry in
         IfOk result (λ e. IsPut s.plan.now id net.old net.new s.tick s.leaves.now e) }
 {
+    laws_below();
     let table = put_reached(net, site, from_ref(&id))?;
     let e = circuit_at(site.alloc, table.as_slice(), id)?;
     Ok(e)

@@ -4,6 +4,7 @@ ghost use Rattle.std.specs.Prelude.{◌≡◌};
 ghost use Rattle.gl_groups.specs.Groupings.{IsGrouping};
 ghost use Rattle.gl_wiring.specs.Groups.{HasGroup, IsGroupNode, grouping_of};
 
+use crate::below::laws_below;
 use crate::site::Site;
 use gl_algebra::{Plan, PlanId, PlanNode};
 use gl_groups::Grouping;
@@ -53,6 +54,7 @@ impl GroupOf {
         ensures value { let s = site.entry in result ≡ grouping_of s.plan.now self.now }
         ensures is { IsGrouping result }
     {
+        laws_below();
         let _ = site.figures_at(self.id);
         let body = site.figures_at(self.body);
         Grouping {

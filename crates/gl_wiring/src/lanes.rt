@@ -19,6 +19,7 @@ ghost use Rattle.gl_wiring.specs.Put.{CanPut, IsPutBehind};
 ghost use Rattle.gl_wiring.specs.Tables.{HasCircuit, HaveChildren};
 
 use crate::apart::put_source;
+use crate::below::laws_below;
 use crate::groups::GroupOf;
 use crate::rows::{Place, put_rows};
 use crate::site::Site;
@@ -71,6 +72,7 @@ pub(crate) fn put_table(
     ensures { let s = site.entry in
         IfOk result (IsBodyTable s.plan.now body net.old net.new lane.now place) }
 {
+    laws_below();
     match site.plan.node(body) {
         PlanNode::Aggregate { child, aggs } => {
             let below = put_rows(net, site, *child, lane, place)?;
@@ -117,6 +119,7 @@ impl GroupOf {
             → slice_get s.plan.now self.now.body ≡ Some (Aggregate child aggs)
             → result ≡ has_room (kinds_of s.plan.now child) aggs key }
     {
+        laws_below();
         match site.plan.node(self.body) {
             PlanNode::Aggregate { child, aggs } => {
                 has_room(site.plan.kinds(*child), aggs.as_slice(), u64::from(key))
@@ -138,6 +141,7 @@ impl GroupOf {
         ensures { let s = site.entry in IfOk result
             (IsGroupLane s.plan.now self.now net.old net.new s.tick s.leaves.now) }
     {
+        laws_below();
         let grouping = self.grouping(site);
         let source = put_source(net, site, self.source, grouping.body.gt, table)?;
         let lane = grouping.lane(site.alloc, net, &source.wire)?;
@@ -164,6 +168,7 @@ impl GroupOf {
             laned.now.lane.wire (place_of laned.now.lane) out.now
             → IfOk result (λ e. IsPutBehind s.plan.now self.now.id old net.new tick leaves e) }
     {
+        laws_below();
         let grouping = self.grouping(site);
         let stored = self.stores(site, laned.lane.here.width);
         let wire = grouping.gather(site.alloc, net, &laned.lane, out, stored)?;
@@ -193,6 +198,7 @@ pub(crate) fn put_on_lane(
     ensures { let s = site.entry in IfOk result (λ e.
         IsPutBehind s.plan.now group.id net.old net.new s.tick s.leaves.now e) }
 {
+    laws_below();
     let laned = group.lane(net, site, table)?;
     let place = laned.place();
     let out = put_table(net, site, group.body, &laned.lane.wire, place)?;

@@ -9,6 +9,7 @@
 mod apart;
 mod arms;
 mod behind;
+pub mod below;
 pub mod circuits;
 mod direct;
 pub mod groups;

@@ -8,6 +8,7 @@ ghost use Rattle.gl_wiring.specs.ManyNet.{AreShownBy, CanShow, IsManyNet};
 ghost use Rattle.gl_wiring.specs.PlanNet.{IsEmpty};
 ghost use Rattle.gl_wiring.specs.declared.names.Face.TheVariants.{Among};
 
+use crate::below::laws_below;
 use crate::circuits::put_reached;
 use crate::leaves::{put_leaves, put_tick};
 use crate::names::{Face, ResultNames};
@@ -63,6 +64,7 @@ fn put_root_result(
     ensures { let s = site.entry in
         OnOk result (AreShownBy s.plan.now table.now net.old net.new (root.now ∷ [])) }
 {
+    laws_below();
     let e = circuit_at(site.alloc, table, root.id)?;
     let face = face_of(site.alloc, &root.names)?;
     put_result(site.alloc, net, &e, &face, root.names.columns.as_slice())?;
@@ -103,6 +105,7 @@ fn put_many(
     ensures extends { OnOk result (Extends net.old net.new) }
     ensures plan { OnOk result (IsManyNet schema.now plan.now roots.now net.new) }
 {
+    laws_below();
     // That its nodes are a plan, which a site keeps.
     let _ = plan.len();
     let leaves = put_leaves(alloc, net, schema)?;
@@ -135,6 +138,7 @@ pub fn wire_roots(
     requires { CanWireAll schema.now plan.now figures.now roots.now }
     ensures { IfOk result (AreWired schema.now plan.now roots.now) }
 {
+    laws_below();
     let mut net = NetBuilder::new(alloc);
     net.module(b"q__many")?;
     put_many(alloc, &mut net, schema, plan, figures, roots)?;

@@ -4,6 +4,7 @@ ghost use Rattle.std.specs.Prelude.{◌≡◌};
 ghost use Rattle.gl_partition.specs.Partitionings.{IsPartitioning};
 ghost use Rattle.gl_wiring.specs.Partitions.{HasPartition, IsPartitionNode, partitioning_of};
 
+use crate::below::laws_below;
 use crate::site::Site;
 use gl_algebra::{Plan, PlanId, PlanNode, table};
 use gl_partition::Partitioning;
@@ -62,6 +63,7 @@ impl PartitionOf {
         ensures value { let s = site.entry in result ≡ partitioning_of s.plan.now self.now }
         ensures is { IsPartitioning result }
     {
+        laws_below();
         let _ = site.figures_at(self.id);
         let body = site.figures_at(self.body);
         let copies = table::copies_of_window(self.size, self.advance);

@@ -5,6 +5,7 @@ ghost use Rattle.gl_wiring.specs.Emitted.{Extends};
 ghost use Rattle.gl_wiring.specs.PlanNet.{IsEmpty, IsPlanNet};
 ghost use Rattle.gl_wiring.specs.Wired.{CanWire, IsWired};
 
+use crate::below::laws_below;
 use crate::leaves::{put_leaves, put_tick};
 use crate::many::Root;
 use crate::names::{Face, module_name};
@@ -32,6 +33,7 @@ fn put_plan(
     ensures plan { let s = bare.entry in OnOk result
         (IsPlanNet schema.now s.plan.now root.now.id root.now.names.columns net.new) }
 {
+    laws_below();
     let leaves = put_leaves(bare.alloc, net, schema)?;
     let tick = put_tick(net, bare.plan.reads_time())?;
     let site = Site {
@@ -63,6 +65,7 @@ pub fn wire_plan(
     requires { CanWire schema.now plan.now root.now.id figures.now spare root.now.names }
     ensures { IfOk result (IsWired schema.now plan.now root.now.id root.now.names) }
 {
+    laws_below();
     // That its nodes are a plan, which a site keeps.
     let _ = plan.len();
     let mut net = NetBuilder::new(alloc);

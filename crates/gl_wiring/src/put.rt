@@ -16,6 +16,7 @@ ghost use Rattle.gl_wiring.specs.Machines.{CanBe, machine_of};
 
 use crate::apart::put_source;
 use crate::behind::{is_over, put_behind};
+use crate::below::laws_below;
 use crate::direct::is_direct;
 use crate::groups::GroupOf;
 use crate::lanes::put_on_lane;
@@ -51,6 +52,7 @@ fn put_root_of(
     ensures { let s = site.entry in
         IfOk result (λ e. IsPut s.plan.now id net.old net.new s.tick s.leaves.now e) }
 {
+    laws_below();
     let limit = id.number() + 1;
     let table = put_marked(net, site, marks, limit)?;
     let e = circuit_at(site.alloc, table.as_slice(), id)?;
@@ -166,6 +168,7 @@ fn put_window(
     ensures { let s = site.entry in IfOk result (λ e.
         IsPutBehind s.plan.now window.id net.old net.new s.tick s.leaves.now e) }
 {
+    laws_below();
     let rotation = window.rotation(site);
     let gap = rotation.body.gt.max(rotation.body.ge);
     let source = put_source(net, site, window.source, gap, table)?;
@@ -191,6 +194,7 @@ fn put_time_window(
     ensures { let s = site.entry in IfOk result (λ e.
         IsPutBehind s.plan.now window.id net.old net.new s.tick s.leaves.now e) }
 {
+    laws_below();
     let Some(tick) = site.tick else {
         unreachable!()
     };
@@ -218,6 +222,7 @@ fn put_group(
     ensures { let s = site.entry in IfOk result (λ e.
         IsPutBehind s.plan.now group.id net.old net.new s.tick s.leaves.now e) }
 {
+    laws_below();
     if is_direct(site.plan, group.body) {
         return put_on_lane(net, site, group, table);
     }
@@ -245,6 +250,7 @@ fn put_partition(
     ensures { let s = site.entry in IfOk result (λ e.
         IsPutBehind s.plan.now partition.id net.old net.new s.tick s.leaves.now e) }
 {
+    laws_below();
     let partitioning = partition.partitioning(site);
     let gap = partitioning.body.gt.max(partitioning.body.ge);
     let source = put_source(net, site, partition.source, gap, table)?;

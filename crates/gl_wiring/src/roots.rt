@@ -6,6 +6,7 @@ ghost use Rattle.gl_wiring.specs.Put.{CanPut};
 ghost use Rattle.gl_wiring.specs.Roots.{IsRootPut};
 ghost use Rattle.gl_wiring.specs.SpareWindows.{IsSpareWindow};
 
+use crate::below::laws_below;
 use crate::circuits::put_circuit;
 use crate::machines::CopyMachine;
 use crate::put::put_over_copies;
@@ -31,6 +32,7 @@ pub(crate) fn put_root(
     ensures { let s = site.entry in
         IfOk result (λ e. IsRootPut s.plan.now root net.old net.new s.tick s.leaves.now e) }
 {
+    laws_below();
     let Some(spare) = spare else {
         let e = put_circuit(net, site, root)?;
         return Ok(e);
@@ -53,6 +55,7 @@ fn put_spare(net: &mut NetBuilder, site: Site<'_>, w: SpareWindowOf) -> Result<E
     ensures { let s = site.entry in IfOk result (λ e.
         IsRootPut s.plan.now w.window.id net.old net.new s.tick s.leaves.now e) }
 {
+    laws_below();
     let window = w.window;
     let source = put_circuit(net, site, window.source)?;
     let rotation = w.rotation(site);

@@ -11,6 +11,7 @@ ghost use Rattle.gl_wiring.specs.Leaves.{HaveLeaves};
 ghost use Rattle.gl_wiring.specs.declared.rows.Place.{Place as PlaceOf};
 
 use crate::arms::leaf_of;
+use crate::below::laws_below;
 use crate::site::Site;
 use gl_algebra::{Operands, Ops, PlanId, PlanNode};
 use gl_bits::Memory;
@@ -63,6 +64,7 @@ fn compute_rows(
         → AreRows s.plan.now child old net.old lane place below
         → IfOk result (AreRows s.plan.now id old net.new lane place) }
 {
+    laws_below();
     let place = later_place(net, below.place)?;
     let rows = put_compute(
         site.alloc,
@@ -89,6 +91,7 @@ fn select_rows(
         → AreRows s.plan.now child old net.old lane place below
         → IfOk result (AreRows s.plan.now id old net.new lane place) }
 {
+    laws_below();
     let place = later_place(net, below.place)?;
     let rows = put_select(site.alloc, net, below.rows, usize::from(column))?;
     Ok(LaneRows { rows, place })
@@ -109,6 +112,7 @@ fn project_rows(
         → AreRows s.plan.now child old net.old lane place below
         → IfOk result (AreRows s.plan.now id old net.new lane place) }
 {
+    laws_below();
     let rows = put_project(
         site.alloc,
         net,
@@ -140,6 +144,7 @@ pub(crate) fn put_rows(
     ensures { let s = site.entry in
         IfOk result (AreRows s.plan.now id net.old net.new lane.now place) }
 {
+    laws_below();
     match site.plan.node(id) {
         PlanNode::Body(_) => {
             let rows = leaf_of(site.alloc, from_ref(lane), 0)?;

@@ -4,6 +4,7 @@ ghost use Rattle.std.specs.Prelude.{◌≡◌};
 ghost use Rattle.gl_spare.specs.Rotations.{IsRotation};
 ghost use Rattle.gl_wiring.specs.SpareWindows.{IsSpareWindow, rotation_with};
 
+use crate::below::laws_below;
 use crate::site::Site;
 use crate::windows::WindowOf;
 use gl_algebra::Spare;
@@ -25,6 +26,7 @@ impl SpareWindowOf {
         ensures value { let s = site.entry in result ≡ rotation_with s.plan.now self.now }
         ensures is { IsRotation result }
     {
+        laws_below();
         SpareRotation {
             size: self.window.size,
             advance: self.window.advance,

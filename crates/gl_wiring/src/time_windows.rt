@@ -4,6 +4,7 @@ ghost use Rattle.std.specs.Prelude.{◌≡◌};
 ghost use Rattle.gl_windows.specs.TimeRotations.{IsTimeRotation};
 ghost use Rattle.gl_wiring.specs.TimeWindows.{HasTimeWindow, IsTimeWindow, time_rotation_of};
 
+use crate::below::laws_below;
 use crate::site::Site;
 use gl_algebra::{Plan, PlanId, PlanNode};
 use gl_windows::TimeRotation;
@@ -53,6 +54,7 @@ impl TimeWindowOf {
         ensures value { let s = site.entry in result ≡ time_rotation_of s.plan.now self.now }
         ensures is { IsTimeRotation result }
     {
+        laws_below();
         let _ = site.figures_at(self.id);
         let body = site.figures_at(self.body);
         TimeRotation {

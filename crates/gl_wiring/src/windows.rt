@@ -4,6 +4,7 @@ ghost use Rattle.std.specs.Prelude.{◌≡◌};
 ghost use Rattle.gl_windows.specs.Rotations.{IsRotation};
 ghost use Rattle.gl_wiring.specs.Windows.{HasWindow, IsWindow, rotation_of};
 
+use crate::below::laws_below;
 use crate::site::Site;
 use gl_algebra::{Plan, PlanId, PlanNode, table};
 use gl_windows::Rotation;
@@ -53,6 +54,7 @@ impl WindowOf {
         ensures value { let s = site.entry in result ≡ rotation_of s.plan.now self.now }
         ensures is { IsRotation result }
     {
+        laws_below();
         let _ = site.figures_at(self.id);
         let body = site.figures_at(self.body);
         let copies = table::copies_of_window(self.size, self.advance);

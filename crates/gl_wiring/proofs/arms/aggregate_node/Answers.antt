@@ -1,6 +1,5 @@
 use Rattle.std.proofs.Common.{[], refl}
 use Rattle.gl_algebra.specs.declared.node.PlanNode.TheVariants.{Aggregate}
-use Rattle.gl_algebra.proofs.KindLemmas.{columns_have_kinds}
 use Rattle.gl_wiring.proofs.CanLemmas.{first_within}
 use Rattle.gl_wiring.proofs.RowLemmas.{aggregate_put}
 use Rattle.gl_wiring.proofs.TableLemmas.{is_there, taken_gives}
@@ -21,7 +20,7 @@ kinds-requires c =
 
 pub put_totals-requires-clause-are_kinds : goal.put_totals-requires-clause-are_kinds
 put_totals-requires-clause-are_kinds c =
-    rw c.kinds.ensures.kinds (columns_have_kinds c.args.site.plan.now c.args.child c.args.site.planned
+    rw c.kinds.ensures.kinds (c.laws_below.ensures.columns_have_kinds c.args.site.plan.now c.args.child c.args.site.planned
     (first_within c.args.site.plan.now c.args.id (Aggregate c.args.child c.args.aggs.now) c.args.site.planned c.requires.node c.args.child [] refl))
 
 pub put_totals-requires-clause-aggs : goal.put_totals-requires-clause-aggs
@@ -29,6 +28,6 @@ put_totals-requires-clause-aggs c = rw (c.kinds.ensures.kinds, c.as_slice.ensure
 
 pub returns : goal.returns
 returns c =
-    aggregate_put c.args.site.plan.now c.args.id c.args.net.now c.put_totals.new.net c.args.site.tick c.args.site.leaves.now c.in_ok-below.below c.in_ok-e.e c.args.site.planned
+    aggregate_put c.laws_below.ensures c.args.site.plan.now c.args.id c.args.net.now c.put_totals.new.net c.args.site.tick c.args.site.leaves.now c.in_ok-below.below c.in_ok-e.e c.args.site.planned
     c.args.child c.args.aggs.now c.requires.node (taken_gives c.requires.there c.in_ok-below.ensures)
     (rw (c.kinds.ensures.kinds, c.as_slice.ensures) at c.in_ok-e.ensures)

@@ -22,6 +22,6 @@ put_project-requires-clause-items c = rw (c.kinds.ensures.kinds, c.as_slice.ensu
 
 pub returns : goal.returns
 returns c =
-    project_put c.args.site.plan.now c.args.id c.args.net.now c.put_project.new.net c.args.site.tick c.args.site.leaves.now c.in_ok-below.below c.in_ok-e.e c.args.site.planned
+    project_put c.laws_below.ensures c.args.site.plan.now c.args.id c.args.net.now c.put_project.new.net c.args.site.tick c.args.site.leaves.now c.in_ok-below.below c.in_ok-e.e c.args.site.planned
     c.args.child c.args.items.now c.requires.node (taken_gives c.requires.there c.in_ok-below.ensures)
     (rw (c.kinds.ensures.kinds, c.as_slice.ensures) at c.in_ok-e.ensures)

@@ -1,7 +1,6 @@
 use Rattle.std.proofs.Common.{List, [], ◌∷◌, refl, sym, ap, ◌∙◌}
 use Rattle.gl_bits.specs.declared.kind.Kind.{Kind}
 use Rattle.gl_algebra.specs.declared.node.PlanNode.TheVariants.{Union}
-use Rattle.gl_algebra.proofs.FigureLemmas.{figures_are_sound}
 use Rattle.gl_wiring.specs.Leaves.{widths_of}
 use Rattle.gl_wiring.proofs.CanLemmas.{first_within, second_within}
 use Rattle.gl_wiring.proofs.PairLemmas.{union_put}
@@ -36,12 +35,12 @@ figures_at-requires-2 c =
 
 pub emit-requires-clause-sound_left : goal.emit-requires-clause-sound_left
 emit-requires-clause-sound_left c =
-    rw c.figures_at.ensures.value (figures_are_sound c.args.site.plan.now c.args.left c.args.site.planned
+    rw c.figures_at.ensures.value (c.laws_below.ensures.figures_are_sound c.args.site.plan.now c.args.left c.args.site.planned
     (first_within c.args.site.plan.now c.args.id (Union c.args.left c.args.right) c.args.site.planned c.requires.node c.args.left (c.args.right ∷ []) refl))
 
 pub emit-requires-clause-sound_right : goal.emit-requires-clause-sound_right
 emit-requires-clause-sound_right c =
-    rw c.figures_at-2.ensures.value (figures_are_sound c.args.site.plan.now c.args.right c.args.site.planned
+    rw c.figures_at-2.ensures.value (c.laws_below.ensures.figures_are_sound c.args.site.plan.now c.args.right c.args.site.planned
     (second_within c.args.site.plan.now c.args.id (Union c.args.left c.args.right) c.args.site.planned c.requires.node c.args.left c.args.right refl))
 
 pub emit-requires-clause-widths : goal.emit-requires-clause-widths
@@ -52,6 +51,6 @@ emit-requires-clause-widths c =
 
 pub returns : goal.returns
 returns c =
-    union_put c.args.site.plan.now c.args.id c.args.net.now c.emit.new.net c.args.site.tick c.args.site.leaves.now c.in_ok-first.first c.in_ok-second.second c.in_ok-e.e c.args.site.planned
+    union_put c.laws_below.ensures c.args.site.plan.now c.args.id c.args.net.now c.emit.new.net c.args.site.tick c.args.site.leaves.now c.in_ok-first.first c.in_ok-second.second c.in_ok-e.e c.args.site.planned
     c.args.left c.args.right c.requires.node (taken_gives c.requires.first c.in_ok-first.ensures) (taken_gives c.requires.second c.in_ok-second.ensures)
     (rw (c.figures_at.ensures.value, c.figures_at-2.ensures.value) at c.in_ok-e.ensures)

@@ -5,23 +5,23 @@ use Rattle.gl_wiring.proofs.behind.put_behind.Goals as goal
 
 pub leaf_of-requires : goal.leaf_of-requires
 leaf_of-requires c =
-    rw c.from.ensures (stream_there c.args.site.plan.now c.args.id c.args.net.now c.args.site.tick c.args.site.leaves.now c.node.ensures.plan c.requires.can.leaved
+    rw c.from.ensures (stream_there c.laws_below.ensures c.args.site.plan.now c.args.id c.args.net.now c.args.site.tick c.args.site.leaves.now c.node.ensures.plan c.requires.can.leaved
     c.in-Stream.number c.in-Stream.field-1 (c.node.ensures.node ∙ ap Some c.in-Stream.is))
 
 pub leaf_of-requires-in-Body : goal.leaf_of-requires-in-Body
 leaf_of-requires-in-Body c =
-    body_there c.args.site.plan.now c.args.id c.args.net.now c.args.site.tick c.args.site.leaves.now c.node.ensures.plan c.requires.can.leaved
+    body_there c.laws_below.ensures c.args.site.plan.now c.args.id c.args.net.now c.args.site.tick c.args.site.leaves.now c.node.ensures.plan c.requires.can.leaved
     c.in-Body.field-0 (c.node.ensures.node ∙ ap Some c.in-Body.is)
 
 pub returns-in_ok-e-in-Stream : goal.returns-in_ok-e-in-Stream
 returns-in_ok-e-in-Stream c =
-    stream_put c.args.site.plan.now c.args.id c.args.net.now c.args.site.tick c.args.site.leaves.now c.node.ensures.plan c.requires.can.leaved c.in_ok-e-in-Stream.e
+    stream_put c.laws_below.ensures c.args.site.plan.now c.args.id c.args.net.now c.args.site.tick c.args.site.leaves.now c.node.ensures.plan c.requires.can.leaved c.in_ok-e-in-Stream.e
     c.in-Stream.number c.in-Stream.field-1 (c.node.ensures.node ∙ ap Some c.in-Stream.is)
     (ap (slice_get c.args.site.leaves.now) (sym c.from.ensures) ∙ c.in_ok-e-in-Stream.ensures.wire) c.in_ok-e-in-Stream.ensures.faults
 
 pub returns-in_ok-e-in-Body : goal.returns-in_ok-e-in-Body
 returns-in_ok-e-in-Body c =
-    body_put c.args.site.plan.now c.args.id c.args.net.now c.args.site.tick c.args.site.leaves.now c.node.ensures.plan c.requires.can.leaved c.in_ok-e-in-Body.e
+    body_put c.laws_below.ensures c.args.site.plan.now c.args.id c.args.net.now c.args.site.tick c.args.site.leaves.now c.node.ensures.plan c.requires.can.leaved c.in_ok-e-in-Body.e
     c.in-Body.field-0 (c.node.ensures.node ∙ ap Some c.in-Body.is) c.in_ok-e-in-Body.ensures.wire c.in_ok-e-in-Body.ensures.faults
 
 pub compute_node-requires-clause-there : goal.compute_node-requires-clause-there

@@ -14,7 +14,7 @@ put_table-requires-clause-within c =
 
 pub put_table-requires-clause-leaves : goal.put_table-requires-clause-leaves
 put_table-requires-clause-leaves c =
-    lane_leaves c.args.site.plan.now c.args.group c.args.site.planned c.requires.node c.args.net.now c.lane.new.net c.args.site.tick c.args.site.leaves.now c.in_ok-laned.laned
+    lane_leaves c.laws_below.ensures c.args.site.plan.now c.args.group c.args.site.planned c.requires.node c.args.net.now c.lane.new.net c.args.site.tick c.args.site.leaves.now c.in_ok-laned.laned
     c.in_ok-laned.ensures
 
 pub put_table-requires-clause-slot : goal.put_table-requires-clause-slot
@@ -23,12 +23,12 @@ put_table-requires-clause-slot c =
 
 pub put_table-requires-clause-bits : goal.put_table-requires-clause-bits
 put_table-requires-clause-bits c =
-    rw c.place-place.ensures (some_slots c.args.site.plan.now c.args.group c.args.site.planned c.requires.node c.args.net.now c.lane.new.net c.args.site.tick c.args.site.leaves.now
+    rw c.place-place.ensures (some_slots c.laws_below.ensures c.args.site.plan.now c.args.group c.args.site.planned c.requires.node c.args.net.now c.lane.new.net c.args.site.tick c.args.site.leaves.now
     c.in_ok-laned.laned c.in_ok-laned.ensures)
 
 pub put_table-requires-clause-few : goal.put_table-requires-clause-few
 put_table-requires-clause-few c =
-    rw c.place-place.ensures (few_slots c.args.site.plan.now c.args.group c.args.site.planned c.requires.node c.args.net.now c.lane.new.net c.args.site.tick c.args.site.leaves.now
+    rw c.place-place.ensures (few_slots c.laws_below.ensures c.args.site.plan.now c.args.group c.args.site.planned c.requires.node c.args.net.now c.lane.new.net c.args.site.tick c.args.site.leaves.now
     c.in_ok-laned.laned c.in_ok-laned.ensures)
 
 pub put_table-requires-clause-first : goal.put_table-requires-clause-first
@@ -37,7 +37,7 @@ put_table-requires-clause-first c =
 
 pub gather-requires-clause-lane : goal.gather-requires-clause-lane
 gather-requires-clause-lane c =
-    lane_there c.args.site.plan.now c.args.group c.args.site.planned c.requires.node c.args.net.now c.lane.new.net c.put_table.new.net c.args.site.tick c.args.site.leaves.now
+    lane_there c.laws_below.ensures c.args.site.plan.now c.args.group c.args.site.planned c.requires.node c.args.net.now c.lane.new.net c.put_table.new.net c.args.site.tick c.args.site.leaves.now
     c.in_ok-laned.laned c.in_ok-out.ensures.keeps c.in_ok-laned.ensures
 
 pub gather-requires-clause-slot_width : goal.gather-requires-clause-slot_width

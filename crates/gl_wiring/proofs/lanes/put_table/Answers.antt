@@ -1,8 +1,6 @@
 use Rattle.std.proofs.Common.{◌∷◌, [], Some, refl, sym, subst, ap, ◌∙◌}
 use Rattle.gl_algebra.specs.Direct.{form_of, is_direct}
 use Rattle.gl_algebra.specs.Shapes.{Shape, kinds_of, shape_of}
-use Rattle.gl_algebra.proofs.KindLemmas.{columns_have_kinds}
-use Rattle.gl_algebra.proofs.TableLemmas.{nodes_follow_tables}
 use Rattle.gl_wiring.specs.Leaves.{HaveLeaves}
 use Rattle.gl_wiring.proofs.BodyTables.{table_put}
 use Rattle.gl_wiring.proofs.CanLemmas.{first_within}
@@ -15,13 +13,13 @@ put_rows-requires-clause-within c =
 
 pub put_rows-requires-clause-form : goal.put_rows-requires-clause-form
 put_rows-requires-clause-form c =
-    let follows = nodes_follow_tables c.args.site.plan.now c.args.body _ c.node.ensures.plan (c.node.ensures.node ∙ ap Some c.in-Aggregate.is) in
+    let follows = c.laws_below.ensures.nodes_follow_tables c.args.site.plan.now c.args.body _ c.node.ensures.plan (c.node.ensures.node ∙ ap Some c.in-Aggregate.is) in
     (direct_is (form_of c.args.site.plan.now c.in-Aggregate.child) (kinds_of c.args.site.plan.now c.in-Aggregate.child) c.in-Aggregate.aggs
     (sym (ap is_direct follows.form) ∙ c.requires.direct)).rows
 
 pub put_rows-requires-clause-leaves : goal.put_rows-requires-clause-leaves
 put_rows-requires-clause-leaves c =
-    let follows = nodes_follow_tables c.args.site.plan.now c.args.body _ c.node.ensures.plan (c.node.ensures.node ∙ ap Some c.in-Aggregate.is) in
+    let follows = c.laws_below.ensures.nodes_follow_tables c.args.site.plan.now c.args.body _ c.node.ensures.plan (c.node.ensures.node ∙ ap Some c.in-Aggregate.is) in
     subst (λ (s : Shape). HaveLeaves c.args.net.now (c.args.lane.now ∷ []) s.leaves) follows.shape c.requires.leaves
 
 pub kinds-requires : goal.kinds-requires
@@ -30,7 +28,7 @@ kinds-requires c =
 
 pub emit-requires-clause-are_kinds : goal.emit-requires-clause-are_kinds
 emit-requires-clause-are_kinds c =
-    rw c.kinds.ensures.kinds (columns_have_kinds c.args.site.plan.now c.in-Aggregate.child c.node.ensures.plan
+    rw c.kinds.ensures.kinds (c.laws_below.ensures.columns_have_kinds c.args.site.plan.now c.in-Aggregate.child c.node.ensures.plan
     (first_within c.args.site.plan.now c.args.body _ c.node.ensures.plan (c.node.ensures.node ∙ ap Some c.in-Aggregate.is) c.in-Aggregate.child [] refl))
 
 pub emit-requires-clause-aggs : goal.emit-requires-clause-aggs
@@ -39,19 +37,19 @@ emit-requires-clause-aggs c =
 
 pub emit-requires-clause-some : goal.emit-requires-clause-some
 emit-requires-clause-some c =
-    let follows = nodes_follow_tables c.args.site.plan.now c.args.body _ c.node.ensures.plan (c.node.ensures.node ∙ ap Some c.in-Aggregate.is) in
+    let follows = c.laws_below.ensures.nodes_follow_tables c.args.site.plan.now c.args.body _ c.node.ensures.plan (c.node.ensures.node ∙ ap Some c.in-Aggregate.is) in
     rw c.as_slice.ensures (direct_is (form_of c.args.site.plan.now c.in-Aggregate.child) (kinds_of c.args.site.plan.now c.in-Aggregate.child) c.in-Aggregate.aggs
     (sym (ap is_direct follows.form) ∙ c.requires.direct)).some'
 
 pub unreachable-requires : goal.unreachable-requires
 unreachable-requires c =
-    let follows = nodes_follow_tables c.args.site.plan.now c.args.body c.node.result.now c.node.ensures.plan c.node.ensures.node in
+    let follows = c.laws_below.ensures.nodes_follow_tables c.args.site.plan.now c.args.body c.node.result.now c.node.ensures.plan c.node.ensures.node in
     never (others_not_direct (shape_of c.args.site.plan.now) (form_of c.args.site.plan.now) c.node.result.now c.in_default.not-Aggregate
     ∙ sym (ap is_direct follows.form) ∙ c.requires.direct)
 
 pub returns : goal.returns
 returns c =
-    table_put c.args.site.plan.now c.args.body c.in-Aggregate.child c.in-Aggregate.aggs c.node.ensures.plan (c.node.ensures.node ∙ ap Some c.in-Aggregate.is)
+    table_put c.laws_below.ensures c.args.site.plan.now c.args.body c.in-Aggregate.child c.in-Aggregate.aggs c.node.ensures.plan (c.node.ensures.node ∙ ap Some c.in-Aggregate.is)
     c.args.net.now c.put_rows.new.net c.emit.new.net c.args.lane.now c.args.place c.in_ok-below-in-Aggregate.below c.in_ok-below-in-Aggregate.ensures
     (record { kinds = c.kinds.result; aggs = c.as_slice.result }) c.kinds.ensures.kinds c.as_slice.ensures c.in_ok-out-in-Aggregate.out
     c.in_ok-out-in-Aggregate.ensures

@@ -94,7 +94,7 @@ returns-clause-plan c =
     let outputs = flat_map (root_outputs nodes) roots in
     let reset = reset_stays n1 n4 x c.in_ok-leaves.ensures.reset in
     record {
-      each = all_nets schema nodes c.len.ensures.plan tick ls table n3 n4 out.extends (wires_stay n1 n4 ss ls x wires) (line_stays n2 n4 ticks tick y line) reset roots
+      each = all_nets c.laws_below.ensures schema nodes c.len.ensures.plan tick ls table n3 n4 out.extends (wires_stay n1 n4 ss ls x wires) (line_stays n2 n4 ticks tick y line) reset roots
           (all_inside schema nodes roots can.each) (all_have nodes n2 n3 tick ls table roots reached) (rw c.deref-3.ensures.value at out.shown);
       reset = reset;
       ports = all_put n0 n4 (many_ports ticks schema nodes roots) c.requires.empty.ports

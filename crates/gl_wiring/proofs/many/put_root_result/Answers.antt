@@ -16,7 +16,7 @@ returns c =
     let out = c.in_ok-put_result.ensures in
     let ws = widths e.wire.columns in
     let face = c.in_ok-face.ensures in
-    one_shown c.args.site.plan.now c.args.table.now old new r e c.args.site.planned c.requires.within c.requires.can c.in_ok-e.ensures out.extends
+    one_shown c.laws_below.ensures c.args.site.plan.now c.args.table.now old new r e c.args.site.planned c.requires.within c.requires.can c.in_ok-e.ensures out.extends
     (subst (λ (f : Face). Puts old new (result_outputs (naming_of f) ws r.names.columns)) face
     (subst (λ (ns : List (List ℕ)). Puts old new (result_outputs (naming_of c.in_ok-face.face) ws ns)) c.as_slice.ensures out.ports))
     out.cost

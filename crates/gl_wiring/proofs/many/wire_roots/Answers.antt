@@ -48,6 +48,6 @@ returns c =
       size = is.size;
       registers = is.registers;
       memories = is.memories;
-      each = all_right s nodes gap net unlike roots is.each (all_close nodes roots gap self);
+      each = all_right c.laws_below.ensures s nodes gap net unlike roots is.each (all_close nodes roots gap self);
     } in
     subst (AreWired s nodes roots) (sym c.finish.ensures) wired

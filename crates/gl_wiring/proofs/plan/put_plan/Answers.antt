@@ -71,7 +71,7 @@ returns-clause-plan c =
     let line : IsTickLine n2 ticks tick = subst (λ (b : Bool). IsTickLine n2 b tick) c.reads_time.ensures c.in_ok-tick.ensures.line in
     let nothing : CostsNothing n0 n2 = nothing_then n0 n1 n2 c.in_ok-leaves.ensures.cost c.in_ok-tick.ensures.cost in
     let cost : IsWithin nodes root n4 =
-    costs_within nodes root n0 n2 n3 n4 ws plan can.within c.requires.empty nothing put.cost out.cost put.columns.same_widths in
+    costs_within c.laws_below.ensures nodes root n0 n2 n3 n4 ws plan can.within c.requires.empty nothing put.cost out.cost put.columns.same_widths in
     let shown : Puts n3 n4 (output_ports (widths_of (kinds_of nodes root)) names) =
     subst (λ (z : List ℕ). Puts n3 n4 (output_ports z names)) put.columns.same_widths
     (subst (λ (z : List (List ℕ)). Puts n3 n4 (output_ports ws z)) c.as_slice-names.ensures out.ports) in

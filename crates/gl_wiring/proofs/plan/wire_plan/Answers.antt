@@ -46,7 +46,7 @@ returns c =
       size = is.size;
       registers = is.registers;
       memories = is.memories;
-      right = root_runs_right s nodes root f plain names.columns net is.shown unlike f.gt (omega arith);
-      group = root_group_kept s nodes root f plain names.columns net is.shown unlike f.gt (omega arith);
+      right = root_runs_right c.laws_below.ensures s nodes root f plain names.columns net is.shown unlike f.gt (omega arith);
+      group = root_group_kept c.laws_below.ensures s nodes root f plain names.columns net is.shown unlike f.gt (omega arith);
     } in
     subst (IsWired s nodes root names) (sym c.finish.ensures) wired

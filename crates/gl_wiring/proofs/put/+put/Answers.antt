@@ -21,7 +21,7 @@ put_root_of-put_marked-requires t c = (
   omega (arith, c.number-limit.ensures),
   (
     omega (arith, c.number-limit.ensures, c.requires.can.within),
-    one_marked c.args.site.plan.now c.args.site.figures.now c.args.net.now c.args.site.tick c.args.site.leaves.now c.args.site.planned c.args.id c.args.marks.now
+    one_marked c.laws_below.ensures c.args.site.plan.now c.args.site.figures.now c.args.net.now c.args.site.tick c.args.site.leaves.now c.args.site.planned c.args.id c.args.marks.now
         c.requires.marks c.requires.can,
   ),
 )
@@ -62,10 +62,10 @@ put_marked-loop-number-preserved t c = record {
 }
 
 pub put_window-put_source-requires-clause-within : goal.put_window-put_source-requires-clause-within
-put_window-put_source-requires-clause-within t c = windows.in_source c.args.site.plan.now c.args.window c.args.site.planned c.requires.node
+put_window-put_source-requires-clause-within t c = windows.in_source c.laws_below.ensures c.args.site.plan.now c.args.window c.args.site.planned c.requires.node
 
 pub put_window-put_source-requires-clause-gap : goal.put_window-put_source-requires-clause-gap
-put_window-put_source-requires-clause-gap t c = rw (c.max-gap.ensures, c.rotation-rotation.ensures.value) (windows.some_gap c.args.site.plan.now c.args.window c.args.site.planned c.requires.node)
+put_window-put_source-requires-clause-gap t c = rw (c.max-gap.ensures, c.rotation-rotation.ensures.value) (windows.some_gap c.laws_below.ensures c.args.site.plan.now c.args.window c.args.site.planned c.requires.node)
 
 pub put_window-put_source-requires-clause-there : goal.put_window-put_source-requires-clause-there
 put_window-put_source-requires-clause-there t c = (c.requires.children _ c.requires.node).0
@@ -88,7 +88,7 @@ put_window-put_over_copies-requires t c =
               tt,
               (
                 tt,
-                windows.window_stands c.args.site.plan.now w c.args.site.planned c.requires.node c.args.site.figures.now c.args.net.now c.args.site.tick c.args.site.leaves.now
+                windows.window_stands c.laws_below.ensures c.args.site.plan.now w c.args.site.planned c.requires.node c.args.site.figures.now c.args.net.now c.args.site.tick c.args.site.leaves.now
                     (widths c.in_ok-source.source.wire.columns) c.requires.can same,
               ),
             ),
@@ -99,12 +99,12 @@ put_window-put_over_copies-requires t c =
 
 pub put_window-returns : goal.put_window-returns
 put_window-returns t c =
-    windows.window_put c.args.site.plan.now c.args.window c.args.site.planned c.requires.node c.args.net.now c.put_source.new.net c.put_over_copies.new.net c.args.site.tick
+    windows.window_put c.laws_below.ensures c.args.site.plan.now c.args.window c.args.site.planned c.requires.node c.args.net.now c.put_source.new.net c.put_over_copies.new.net c.args.site.tick
     c.args.site.leaves.now c.in_ok-source.source c.in_ok-e.e (rw (c.max-gap.ensures, c.rotation-rotation.ensures.value) at c.in_ok-source.ensures) (rw c.rotation-rotation.ensures.value at c.in_ok-e.ensures)
 
 pub put_time_window-unreachable-requires : goal.put_time_window-unreachable-requires
 put_time_window-unreachable-requires t c =
-    times.line_is_there c.args.site.plan.now c.args.window c.args.site.planned c.requires.node c.args.site.tick c.in_default.is c.requires.can.timed
+    times.line_is_there c.laws_below.ensures c.args.site.plan.now c.args.window c.args.site.planned c.requires.node c.args.site.tick c.in_default.is c.requires.can.timed
 
 pub put_time_window-circuit_at-requires : goal.put_time_window-circuit_at-requires
 put_time_window-circuit_at-requires t c = is_there (c.requires.children _ c.requires.node).0
@@ -126,7 +126,7 @@ put_time_window-put_over_copies-requires t c =
               tt,
               (
                 rw c.in-Some.is at c.requires.can.ticked,
-                times.time_stands c.args.site.plan.now w c.args.site.planned c.requires.node c.args.site.figures.now c.args.net.now c.args.site.tick c.args.site.leaves.now
+                times.time_stands c.laws_below.ensures c.args.site.plan.now w c.args.site.planned c.requires.node c.args.site.figures.now c.args.net.now c.args.site.tick c.args.site.leaves.now
                     (widths c.in_ok-source.source.wire.columns) c.requires.can x.same_widths,
               ),
             ),
@@ -137,7 +137,7 @@ put_time_window-put_over_copies-requires t c =
 
 pub put_time_window-returns : goal.put_time_window-returns
 put_time_window-returns t c =
-    rw c.in-Some.is (times.time_put c.args.site.plan.now c.args.window c.args.site.planned c.requires.node c.args.net.now c.put_over_copies.new.net c.in-Some.tick
+    rw c.in-Some.is (times.time_put c.laws_below.ensures c.args.site.plan.now c.args.window c.args.site.planned c.requires.node c.args.net.now c.put_over_copies.new.net c.in-Some.tick
     c.args.site.leaves.now c.in_ok-source.source c.in_ok-e.e c.requires.can.leaved
     (rw c.in-Some.is at (taken_gives (c.requires.children _ c.requires.node).0 c.in_ok-source.ensures)) (rw c.rotation-rotation.ensures.value at c.in_ok-e.ensures))
 
@@ -155,10 +155,10 @@ put_group-put_on_lane-requires t c = record {
 }
 
 pub put_group-put_source-requires-clause-within : goal.put_group-put_source-requires-clause-within
-put_group-put_source-requires-clause-within t c = groups.in_source c.args.site.plan.now c.args.group c.args.site.planned c.requires.node
+put_group-put_source-requires-clause-within t c = groups.in_source c.laws_below.ensures c.args.site.plan.now c.args.group c.args.site.planned c.requires.node
 
 pub put_group-put_source-requires-clause-gap : goal.put_group-put_source-requires-clause-gap
-put_group-put_source-requires-clause-gap t c = rw c.grouping-grouping.ensures.value (groups.some_gap c.args.site.plan.now c.args.group c.args.site.planned c.requires.node)
+put_group-put_source-requires-clause-gap t c = rw c.grouping-grouping.ensures.value (groups.some_gap c.laws_below.ensures c.args.site.plan.now c.args.group c.args.site.planned c.requires.node)
 
 pub put_group-put_source-requires-clause-there : goal.put_group-put_source-requires-clause-there
 put_group-put_source-requires-clause-there t c = (c.requires.children _ c.requires.node).0
@@ -178,10 +178,10 @@ put_group-put_over_copies-requires t c =
           (
             x.spaced'.behind.lines,
             (
-              rw c.grouping-grouping.ensures.value (groups.key_there c.args.site.plan.now g c.args.site.planned c.requires.node _ same),
+              rw c.grouping-grouping.ensures.value (groups.key_there c.laws_below.ensures c.args.site.plan.now g c.args.site.planned c.requires.node _ same),
               (
                 tt,
-                groups.group_stands c.args.site.plan.now g c.args.site.planned c.requires.node c.args.site.figures.now c.args.net.now c.args.site.tick c.args.site.leaves.now
+                groups.group_stands c.laws_below.ensures c.args.site.plan.now g c.args.site.planned c.requires.node c.args.site.figures.now c.args.net.now c.args.site.tick c.args.site.leaves.now
                     (widths c.in_ok-source.source.wire.columns) c.requires.can same,
               ),
             ),
@@ -192,15 +192,15 @@ put_group-put_over_copies-requires t c =
 
 pub put_group-returns : goal.put_group-returns
 put_group-returns t c =
-    groups.group_put c.args.site.plan.now c.args.group c.args.site.planned c.requires.node c.args.net.now c.put_source.new.net c.put_over_copies.new.net c.args.site.tick
+    groups.group_put c.laws_below.ensures c.args.site.plan.now c.args.group c.args.site.planned c.requires.node c.args.net.now c.put_source.new.net c.put_over_copies.new.net c.args.site.tick
     c.args.site.leaves.now c.in_ok-source.source c.in_ok-e.e (rw c.grouping-grouping.ensures.value at c.in_ok-source.ensures) (rw c.grouping-grouping.ensures.value at c.in_ok-e.ensures)
     (sym c.is_direct.ensures ∙ c.if-is_direct.false)
 
 pub put_partition-put_source-requires-clause-within : goal.put_partition-put_source-requires-clause-within
-put_partition-put_source-requires-clause-within t c = partitions.in_source c.args.site.plan.now c.args.partition c.args.site.planned c.requires.node
+put_partition-put_source-requires-clause-within t c = partitions.in_source c.laws_below.ensures c.args.site.plan.now c.args.partition c.args.site.planned c.requires.node
 
 pub put_partition-put_source-requires-clause-gap : goal.put_partition-put_source-requires-clause-gap
-put_partition-put_source-requires-clause-gap t c = rw (c.max-gap.ensures, c.partitioning-partitioning.ensures.value) (partitions.some_gap c.args.site.plan.now c.args.partition c.args.site.planned c.requires.node)
+put_partition-put_source-requires-clause-gap t c = rw (c.max-gap.ensures, c.partitioning-partitioning.ensures.value) (partitions.some_gap c.laws_below.ensures c.args.site.plan.now c.args.partition c.args.site.planned c.requires.node)
 
 pub put_partition-put_source-requires-clause-there : goal.put_partition-put_source-requires-clause-there
 put_partition-put_source-requires-clause-there t c = (c.requires.children _ c.requires.node).0
@@ -220,10 +220,10 @@ put_partition-put_over_copies-requires t c =
           (
             x.spaced'.behind.lines,
             (
-              rw c.partitioning-partitioning.ensures.value (partitions.key_there c.args.site.plan.now p c.args.site.planned c.requires.node _ same),
+              rw c.partitioning-partitioning.ensures.value (partitions.key_there c.laws_below.ensures c.args.site.plan.now p c.args.site.planned c.requires.node _ same),
               (
                 tt,
-                partitions.partition_stands c.args.site.plan.now p c.args.site.planned c.requires.node c.args.site.figures.now c.args.net.now c.args.site.tick c.args.site.leaves.now
+                partitions.partition_stands c.laws_below.ensures c.args.site.plan.now p c.args.site.planned c.requires.node c.args.site.figures.now c.args.net.now c.args.site.tick c.args.site.leaves.now
                     (widths c.in_ok-source.source.wire.columns) c.requires.can same,
               ),
             ),
@@ -234,7 +234,7 @@ put_partition-put_over_copies-requires t c =
 
 pub put_partition-returns : goal.put_partition-returns
 put_partition-returns t c =
-    partitions.partition_put c.args.site.plan.now c.args.partition c.args.site.planned c.requires.node c.args.net.now c.put_source.new.net c.put_over_copies.new.net c.args.site.tick
+    partitions.partition_put c.laws_below.ensures c.args.site.plan.now c.args.partition c.args.site.planned c.requires.node c.args.net.now c.put_source.new.net c.put_over_copies.new.net c.args.site.tick
     c.args.site.leaves.now c.in_ok-source.source c.in_ok-e.e (rw (c.max-gap.ensures, c.partitioning-partitioning.ensures.value) at c.in_ok-source.ensures) (rw c.partitioning-partitioning.ensures.value at c.in_ok-e.ensures)
 
 pub put_over_copies-put_copies-requires : goal.put_over_copies-put_copies-requires

@@ -5,7 +5,7 @@ use Rattle.gl_wiring.proofs.roots.put_root.Goals as goal
 
 pub returns-in_default : goal.returns-in_default
 returns-in_default c =
-    root_alone c.args.site.plan.now c.args.root c.args.net.now c.put_circuit.new.net c.args.site.tick c.args.site.leaves.now c.in_ok-e.e c.args.site.planned c.requires.can.within
+    root_alone c.laws_below.ensures c.args.site.plan.now c.args.root c.args.net.now c.put_circuit.new.net c.args.site.tick c.args.site.leaves.now c.in_ok-e.e c.args.site.planned c.requires.can.within
     (sym c.requires.spare ∙ c.in_default.is) c.in_ok-e.ensures
 
 pub at-window-requires : goal.at-window-requires

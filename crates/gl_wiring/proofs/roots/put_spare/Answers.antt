@@ -8,7 +8,7 @@ use Rattle.gl_wiring.proofs.roots.put_spare.Goals as goal
 pub put_circuit-requires : goal.put_circuit-requires
 put_circuit-requires c =
     let w = c.args.w.window in
-    (can_child c.args.site.plan.now c.args.site.figures.now w.id (Window w.source w.body w.size w.advance) c.args.net.now c.args.site.tick c.args.site.leaves.now
+    (can_child c.laws_below.ensures c.args.site.plan.now c.args.site.figures.now w.id (Window w.source w.body w.size w.advance) c.args.net.now c.args.site.tick c.args.site.leaves.now
     c.args.site.planned c.requires.node.window' c.requires.can w.source (w.body ∷ []) refl refl).can
 
 pub put_over_copies-requires : goal.put_over_copies-requires
@@ -20,11 +20,11 @@ put_over_copies-requires c =
       lines = x.lines;
       key = tt;
       tick = tt;
-      stands = spare_stands c.args.site.plan.now c.args.w c.args.site.planned c.requires.node c.args.site.figures.now c.args.net.now c.args.site.tick c.args.site.leaves.now
+      stands = spare_stands c.laws_below.ensures c.args.site.plan.now c.args.w c.args.site.planned c.requires.node c.args.site.figures.now c.args.net.now c.args.site.tick c.args.site.leaves.now
           (widths c.in_ok-source.source.wire.columns) c.requires.can x.same_widths;
     }
 
 pub returns : goal.returns
 returns c =
-    spare_put c.args.site.plan.now c.args.w c.args.site.planned c.requires.node c.args.net.now c.put_circuit.new.net c.put_over_copies.new.net c.args.site.tick
+    spare_put c.laws_below.ensures c.args.site.plan.now c.args.w c.args.site.planned c.requires.node c.args.net.now c.put_circuit.new.net c.put_over_copies.new.net c.args.site.tick
     c.args.site.leaves.now c.in_ok-source.source c.in_ok-e.e c.in_ok-source.ensures (rw c.rotation-rotation.ensures.value at c.in_ok-e.ensures)

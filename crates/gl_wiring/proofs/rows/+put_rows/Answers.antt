@@ -1,7 +1,6 @@
 use Rattle.std.proofs.Common.{◌∷◌, [], Some, refl, sym, ap, ◌∙◌, subst, arith}
 use Rattle.gl_algebra.specs.Direct.{form_of, is_rowwise}
 use Rattle.gl_algebra.specs.Shapes.{Shape, shape_of}
-use Rattle.gl_algebra.proofs.TableLemmas.{nodes_follow_tables}
 use Rattle.gl_wiring.specs.Leaves.{HaveLeaves}
 use Rattle.gl_wiring.proofs.CanLemmas.{first_before, first_within}
 use Rattle.gl_wiring.proofs.FormLemmas.{child_rowwise, never, others_no_rows}
@@ -12,7 +11,7 @@ pub put_rows-requires : goal.put_rows-requires
 put_rows-requires t c =
     let nodes = c.args.site.plan.now in
     let at = c.node.ensures.node ∙ ap Some c.in-Compute.is in
-    let follows = nodes_follow_tables nodes c.args.id _ c.node.ensures.plan at in
+    let follows = c.laws_below.ensures.nodes_follow_tables nodes c.args.id _ c.node.ensures.plan at in
     let before = first_before nodes c.args.id _ c.node.ensures.plan at c.in-Compute.child [] refl in (
       omega (arith, before),
       (
@@ -31,7 +30,7 @@ pub put_rows-requires-in-Select : goal.put_rows-requires-in-Select
 put_rows-requires-in-Select t c =
     let nodes = c.args.site.plan.now in
     let at = c.node.ensures.node ∙ ap Some c.in-Select.is in
-    let follows = nodes_follow_tables nodes c.args.id _ c.node.ensures.plan at in
+    let follows = c.laws_below.ensures.nodes_follow_tables nodes c.args.id _ c.node.ensures.plan at in
     let before = first_before nodes c.args.id _ c.node.ensures.plan at c.in-Select.child [] refl in (
       omega (arith, before),
       (
@@ -50,7 +49,7 @@ pub put_rows-requires-in-Project : goal.put_rows-requires-in-Project
 put_rows-requires-in-Project t c =
     let nodes = c.args.site.plan.now in
     let at = c.node.ensures.node ∙ ap Some c.in-Project.is in
-    let follows = nodes_follow_tables nodes c.args.id _ c.node.ensures.plan at in
+    let follows = c.laws_below.ensures.nodes_follow_tables nodes c.args.id _ c.node.ensures.plan at in
     let before = first_before nodes c.args.id _ c.node.ensures.plan at c.in-Project.child [] refl in (
       omega (arith, before),
       (
@@ -67,12 +66,12 @@ put_rows-requires-in-Project t c =
 
 pub unreachable-requires : goal.unreachable-requires
 unreachable-requires t c =
-    let follows = nodes_follow_tables c.args.site.plan.now c.args.id c.node.result.now c.node.ensures.plan c.node.ensures.node in
+    let follows = c.laws_below.ensures.nodes_follow_tables c.args.site.plan.now c.args.id c.node.result.now c.node.ensures.plan c.node.ensures.node in
     never (others_no_rows (shape_of c.args.site.plan.now) (form_of c.args.site.plan.now) c.node.result.now c.in_default.not-Body c.in_default.not-Compute
     c.in_default.not-Select c.in_default.not-Project ∙ sym (ap is_rowwise follows.form) ∙ ap is_rowwise c.requires.form)
 
 pub returns-in_ok-rows-in-Body : goal.returns-in_ok-rows-in-Body
 returns-in_ok-rows-in-Body t c =
-    body_rows c.args.site.plan.now c.args.id c.args.net.now c.args.lane.now c.args.place c.in-Body.field-0 c.in_ok-rows-in-Body.rows c.node.ensures.plan
+    body_rows c.laws_below.ensures c.args.site.plan.now c.args.id c.args.net.now c.args.lane.now c.args.place c.in-Body.field-0 c.in_ok-rows-in-Body.rows c.node.ensures.plan
     (c.node.ensures.node ∙ ap Some c.in-Body.is) c.requires.leaves c.requires.slot c.requires.few c.requires.first
     (rw c.from_ref.ensures.value at c.in_ok-rows-in-Body.ensures.wire) c.in_ok-rows-in-Body.ensures.faults

@@ -17,6 +17,6 @@ put_compute-requires-clause-ops c = rw (c.kinds.ensures.kinds, c.as_slice.ensure
 
 pub returns : goal.returns
 returns c = λ old lane place h.
-    compute_rows c.args.site.plan.now c.args.id old c.args.net.now c.later_place.new.net c.put_compute.new.net lane place c.in_ok-place.place c.args.below c.in_ok-rows.rows
+    compute_rows c.laws_below.ensures c.args.site.plan.now c.args.id old c.args.net.now c.later_place.new.net c.put_compute.new.net lane place c.in_ok-place.place c.args.below c.in_ok-rows.rows
     c.args.site.planned c.args.child c.args.ops.now c.requires.node h c.in_ok-place.ensures
     (rw (c.kinds.ensures.kinds, c.as_slice.ensures) at c.in_ok-rows.ensures)

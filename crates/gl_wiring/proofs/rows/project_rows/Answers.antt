@@ -12,6 +12,6 @@ put_project-requires-clause-items c = rw (c.kinds.ensures.kinds, c.as_slice.ensu
 
 pub returns : goal.returns
 returns c = λ old lane place h.
-    project_rows c.args.site.plan.now c.args.id old c.args.net.now c.args.net.now c.put_project.new.net lane place c.args.below.place c.args.below c.in_ok-rows.rows
+    project_rows c.laws_below.ensures c.args.site.plan.now c.args.id old c.args.net.now c.args.net.now c.put_project.new.net lane place c.args.below.place c.args.below c.in_ok-rows.rows
     c.args.site.planned c.args.child c.args.items.now c.requires.node h
     (rw (c.kinds.ensures.kinds, c.as_slice.ensures) at c.in_ok-rows.ensures)

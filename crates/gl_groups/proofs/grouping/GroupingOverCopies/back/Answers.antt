@@ -10,4 +10,4 @@ join_all-requires-clause-keys_count c = c.requires.front.keys.as_many ∙ sym c.
 
 pub returns : goal.returns
 returns c =
-    is_backed c.args.net.now c.join_all.new.net c.args.self.now c.args.front.now c.args.copies.now c.in_ok-whole.whole c.requires.numbers c.requires.front c.requires.count c.in_ok-whole.ensures
+    is_backed c.groupings_serve.ensures c.args.net.now c.join_all.new.net c.args.self.now c.args.front.now c.args.copies.now c.in_ok-whole.whole c.requires.numbers c.requires.front c.requires.count c.in_ok-whole.ensures

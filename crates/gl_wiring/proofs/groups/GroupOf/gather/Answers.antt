@@ -24,6 +24,6 @@ both_faults-requires-clause-right c = record {
 
 pub returns : goal.returns
 returns c = λ old mid tick leaves is direct t.
-    gathered_put c.args.site.plan.now c.args.self.now c.args.site.planned c.requires.node old mid c.args.net.now c.gather.new.net c.both_faults.new.net tick leaves
+    gathered_put c.laws_below.ensures c.args.site.plan.now c.args.self.now c.args.site.planned c.requires.node old mid c.args.net.now c.gather.new.net c.both_faults.new.net tick leaves
     c.args.laned.now c.args.out.now c.in_ok-wire.wire c.in_ok-faults.faults is direct t
     c.stores-stored.result (λ e. sym (c.stores-stored.ensures t.child t.aggs t.at) ∙ e) (rw c.grouping-grouping.ensures.value at c.in_ok-wire.ensures) c.in_ok-faults.ensures

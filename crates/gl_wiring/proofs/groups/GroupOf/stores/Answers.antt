@@ -7,7 +7,7 @@ use Rattle.gl_wiring.proofs.GroupLemmas.{in_body}
 use Rattle.gl_wiring.proofs.groups.GroupOf.stores.Goals as goal
 
 pub node-requires : goal.node-requires
-node-requires c = in_body c.args.site.plan.now c.args.self.now c.args.site.planned c.requires.node
+node-requires c = in_body c.laws_below.ensures c.args.site.plan.now c.args.self.now c.args.site.planned c.requires.node
 
 pub kinds-requires : goal.kinds-requires
 kinds-requires c =

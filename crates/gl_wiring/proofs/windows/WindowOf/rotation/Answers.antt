@@ -9,12 +9,12 @@ figures_at-requires c =
     slice_get_within c.args.site.plan.now w.id (Window w.source w.body w.size w.advance) c.requires.node
 
 pub figures_at-body-requires : goal.figures_at-body-requires
-figures_at-body-requires c = in_body c.args.site.plan.now c.args.self.now c.args.site.planned c.requires.node
+figures_at-body-requires c = in_body c.laws_below.ensures c.args.site.plan.now c.args.self.now c.args.site.planned c.requires.node
 
 pub copies_of_window-copies-requires : goal.copies_of_window-copies-requires
-copies_of_window-copies-requires c = some_step c.args.site.plan.now c.args.self.now c.args.site.planned c.requires.node
+copies_of_window-copies-requires c = some_step c.laws_below.ensures c.args.site.plan.now c.args.self.now c.args.site.planned c.requires.node
 
 pub returns-clause-is : goal.returns-clause-is
 returns-clause-is c =
-    rw (c.figures_at-body.ensures.value, c.copies_of_window-copies.ensures) (rotation_is c.args.site.plan.now c.args.self.now c.args.site.planned c.requires.node
+    rw (c.figures_at-body.ensures.value, c.copies_of_window-copies.ensures) (rotation_is c.laws_below.ensures c.args.site.plan.now c.args.self.now c.args.site.planned c.requires.node
     (rw c.figures_at.ensures.value at c.figures_at.ensures.small))
