@@ -12,7 +12,7 @@ use gl_algebra::Figures;
 use gl_bits::Memory;
 use gl_net::NetBuilder;
 use gl_wire::laws::steady_serves;
-use gl_wire::{Emitted, Operator, both, stage};
+use gl_wire::{Emitted, Operator, both, note_bit, stage};
 use std::alloc::Global;
 
 /// The rows whose column at this place, of one bit, is 1.
@@ -43,6 +43,7 @@ pub fn put_select(
         below.wire.eos,
         below.wire.columns.as_slice(),
     )?;
+    note_bit(net, b"keep", keep)?;
     Ok(Emitted {
         wire,
         faults: below.faults,
