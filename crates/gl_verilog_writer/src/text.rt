@@ -10,6 +10,7 @@ ghost use Rattle.gl_verilog_writer.specs.Texts.{next_port_text, next_ports_text,
 ghost use Rattle.gl_verilog_writer.specs.Size.{most_bytes};
 ghost use Rattle.gl_verilog_writer.specs.Design.{begins_port, family_of, leads, range_of, clock_port, module_text};
 
+use crate::label::Labels;
 use crate::nodes::{put_assignment, put_block, put_declaration, width_of};
 use crate::pieces::{put, put_family, put_net, put_range};
 use gl_bits::Memory;
@@ -222,13 +223,15 @@ fn put_module(out: &mut Vec<u8>, net: &Netlist) -> Result<(), Memory>
 ///
 /// On want of memory nothing was appended. A netlist of 2^32 nodes or ports, or more, is refused
 /// so.
-pub fn write_module(net: &Netlist, into: &mut Vec<u8>) -> Result<(), Memory>
+pub fn write_module(net: &Netlist, labels: &Labels, into: &mut Vec<u8>) -> Result<(), Memory>
     ensures text { OnOk result (into.new.items ≡ into.old.items ++ module_text net.now) }
     ensures meaning { IsTextOf net.now (module_text net.now) }
     ensures few { OnOk result ((length net.now.nodes < 2 ^ 32) × (length net.now.ports < 2 ^ 32)) }
     ensures length { OnOk result (length (module_text net.now) ≤ most_bytes net.now) }
     ensures nothing { OnErr result (into.new.items ≡ into.old.items) }
 {
+    // Nothing of them is written yet.
+    let _ = labels;
     let mut text = Vec::new(*into.allocator());
     put_module(&mut text, net)?;
     match into.extend_from_slice(&text) {
