@@ -35,11 +35,9 @@ fn take_notes(
     scopes: &mut Scopes,
     labels: &mut [Label],
 ) -> Result<(), Memory> {
-    let mut rest = notes;
-    while let Some((first, others)) = rest.split_first() {
-        scopes.fill(first.at.min(labels.len()))?;
-        take_note(alloc, naming, scopes, labels, first.note, others.first())?;
-        rest = others;
+    for (place, noted) in notes.iter().enumerate() {
+        scopes.fill(noted.at.min(labels.len()))?;
+        take_note(alloc, naming, scopes, labels, noted.note, notes.get(place + 1))?;
     }
     scopes.fill(labels.len())
 }
@@ -52,10 +50,10 @@ fn head_sections(
     labels: &mut [Label],
 ) -> Result<(), Memory> {
     let mut last = None;
-    for (number, label) in labels.iter_mut().enumerate() {
+    for number in 0..labels.len() {
         let section = scopes.section(scopes.of_node(number));
         if last != Some(section) {
-            label.above = heading_of(alloc, naming, scopes, section)?;
+            labels[number].above = heading_of(alloc, naming, scopes, section)?;
             last = Some(section);
         }
     }

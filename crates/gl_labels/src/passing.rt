@@ -172,7 +172,8 @@ pub(crate) fn pass_names(
         name_stream(plan.node(plan.id(number)), number, table);
     }
     name_results(subject, table);
-    for number in (0..plan.len()).rev() {
+    for step in 0..plan.len() {
+        let number = plan.len() - 1 - step;
         pass_down(plan.node(plan.id(number)), number, table);
     }
     for number in 0..plan.len() {
