@@ -8,7 +8,7 @@ ghost use Rattle.gl_divide.specs.Divider.{IsBehindDigits, IsStage, IsStep};
 use crate::digit::{highest, put_digit, shift};
 use gl_bits::{Memory, Word};
 use gl_net::{Bit, Bus, NetBuilder};
-use gl_wire::{later, later_bit};
+use gl_wire::{later, later_bit, note_bit, note_bus};
 
 /// What a stage hands on: a division under way.
 #[derive(Clone, Copy)]
@@ -32,6 +32,16 @@ fn zero_word(width: u8) -> Word
     Word::new(0, width).unwrap()
 }
 
+// Tells the registers of a stage.
+fn note_division(net: &mut NetBuilder, stage: Stage) -> Result<(), Memory>
+    ensures { net.new ≡ net.old }
+{
+    note_bus(net, b"quotient", stage.digits)?;
+    note_bus(net, b"remainder", stage.rest)?;
+    note_bus(net, b"divisor", stage.bottom)?;
+    note_bit(net, b"busy", stage.go)
+}
+
 /// The stage before the first digit, one cycle later.
 pub fn put_start(net: &mut NetBuilder, top: Bus, bottom: Bus, go: Bit) -> Result<Stage, Memory>
     requires top { IsBus net.old top }
@@ -43,12 +53,14 @@ pub fn put_start(net: &mut NetBuilder, top: Bus, bottom: Bus, go: Bit) -> Result
     let digits = later(net, top)?;
     let bottom = later(net, bottom)?;
     let go = later_bit(net, go)?;
-    Ok(Stage {
+    let made = Stage {
         digits,
         rest,
         bottom,
         go,
-    })
+    };
+    note_division(net, made)?;
+    Ok(made)
 }
 
 /// The stage one digit, and one cycle, later.
@@ -63,10 +75,12 @@ pub fn put_step(net: &mut NetBuilder, stage: Stage) -> Result<Stage, Memory>
     let rest = later(net, digit.left)?;
     let bottom = later(net, stage.bottom)?;
     let go = later_bit(net, stage.go)?;
-    Ok(Stage {
+    let made = Stage {
         digits,
         rest,
         bottom,
         go,
-    })
+    };
+    note_division(net, made)?;
+    Ok(made)
 }

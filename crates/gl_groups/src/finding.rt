@@ -10,6 +10,7 @@ ghost use Rattle.gl_groups.specs.Picks.{AreAlike};
 ghost use Rattle.gl_groups.specs.SlotLines.{AreKeysOf};
 
 use crate::choices::choose_bit;
+use crate::notes::note_found;
 use crate::pick::{numbers, pick};
 use crate::slots::{ask_each, key_each, same_each};
 use gl_bits::Memory;
@@ -388,5 +389,7 @@ pub fn find_slots(
     )?;
     let nexts = buses_of(alloc, has.as_slice())?;
     drive_all(net, flags.as_slice(), nexts.as_slice())?;
-    Ok(SlotsFound { used, sought })
+    let made = SlotsFound { used, sought };
+    note_found(net, &made)?;
+    Ok(made)
 }

@@ -11,7 +11,7 @@ use crate::parts::{count_flush, count_turns, keep_tail, take_rows, turn_lines};
 use crate::slots::{Seen, Wanted};
 use gl_bits::Memory;
 use gl_net::{Bit, Bus, Buses, NetBuilder};
-use gl_wire::{Wire, later_bit};
+use gl_wire::{Wire, later_bit, note_bit, note_bits};
 use gl_wire_registers::{Arrival, Bits, LineOp, Wires, copy_wires, hold_all, pairwise};
 use std::alloc::Global;
 
@@ -192,6 +192,8 @@ pub fn choose_slots(
         tail: look.tail,
     };
     let takes = take_rows(alloc, net, comes, &has_key, &ends)?;
+    note_bits(net, b"match", has_key.as_slice())?;
+    note_bits(net, b"ends", ends.as_slice())?;
     Ok(Chosen {
         row: look.row,
         keys: look.keys,
@@ -220,6 +222,7 @@ pub fn put_front(
     let chosen = choose_slots(alloc, net, wire, numbers)?;
     let wires = copy_wires(alloc, net, &chosen.takes, &chosen.ends, &chosen.row)?;
     let further = later_bit(net, chosen.passes)?;
+    note_bit(net, b"further", further)?;
     Ok(Front {
         wires,
         keys: chosen.keys,

@@ -7,6 +7,7 @@ ghost use Rattle.gl_groups.specs.Homes.{AddsMark, AreMarks};
 ghost use Rattle.gl_groups.specs.Picks.{AddsNumbers, bits_of_slots};
 ghost use Rattle.gl_groups.specs.SlotLines.{AddsSlots, AreSeen};
 
+use crate::notes::note_home;
 use crate::pick::{number, pick, slot_bits};
 use crate::slots::{Seen, SlotLines, Wanted, keep_slots, same_each};
 use gl_bits::Memory;
@@ -75,5 +76,6 @@ pub fn put_slots(
     let slots = keep_slots(alloc, net, wanted, &homes, count)?;
     let next = mark_slot(net, &slots.seen, marks.as_slice(), width)?;
     net.drive(home, next)?;
+    note_home(net, marks.as_slice(), home)?;
     Ok(slots)
 }

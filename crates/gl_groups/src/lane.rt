@@ -12,11 +12,12 @@ ghost use Rattle.gl_groups.specs.Lanes.{AddsHeldEnd, AddsLane, AddsLaneLines, Ad
 use crate::choices::choose_bit;
 use crate::finding::{Asking, Sought, find_slots};
 use crate::front::Numbers;
+use crate::notes::{note_end, note_over, note_told};
 use crate::parts::count_flush;
 use crate::pick::number;
 use gl_bits::Memory;
 use gl_net::{BinaryOp, Bit, Bus, Buses, NetBuilder};
-use gl_wire::{Wire, both, but_not, either, later_bit, same};
+use gl_wire::{Wire, both, but_not, either, later_bit, note_stage, same};
 use gl_wire_registers::{Bits, Counter, count_down, hold_all, latch, number_or, when_equal};
 use std::alloc::Global;
 
@@ -102,11 +103,13 @@ pub fn hold_wire(alloc: Global, net: &mut NetBuilder, wire: &Wire) -> Result<Wir
     let valid = later_bit(net, wire.valid)?;
     let eos = later_bit(net, wire.eos)?;
     let columns = hold_all(alloc, net, wire.valid, &wire.columns)?;
-    Ok(Wire {
+    let late = Wire {
         valid,
         eos,
         columns,
-    })
+    };
+    note_stage(net, &late)?;
+    Ok(late)
 }
 
 /// Keeps whether a tuple came with the end.
@@ -117,7 +120,9 @@ pub fn hold_end(net: &mut NetBuilder, valid: Bit, eos: Bit) -> Result<HeldEnd, M
 {
     let with_end = both(net, eos, valid)?;
     let held = latch(net, with_end, eos)?;
-    Ok(HeldEnd { with_end, held })
+    let made = HeldEnd { with_end, held };
+    note_end(net, made)?;
+    Ok(made)
 }
 
 /// Counts the turns of a flush, in `width` bits.
@@ -146,7 +151,9 @@ pub fn count_over(
     let rest = count_down(net, eos, due, counter)?;
     let slots = number(net, count, width)?;
     let over = net.binary(BinaryOp::Sub, slots, rest)?;
-    Ok(Over { rest, over })
+    let made = Over { rest, over };
+    note_over(net, made)?;
+    Ok(made)
 }
 
 /// 1 where a number is less than another.
@@ -270,13 +277,15 @@ pub fn tell(
     let slot = tell_slot(net, late.eos, turns, sought.place.number, width)?;
     let key = tell_new(net, late.valid, sought.one.one)?;
     let first = both(net, row, key.new)?;
-    Ok(Told {
+    let told = Told {
         row,
         end,
         slot,
         key,
         first,
-    })
+    };
+    note_told(net, told)?;
+    Ok(told)
 }
 
 // The wire that tells so of the slots, behind a key that was looked for.

@@ -17,7 +17,7 @@ use crate::pick::{numbers, pick, slot_bits};
 use crate::slots::same_each;
 use gl_bits::Memory;
 use gl_net::{Bit, Bus, Buses, NetBuilder};
-use gl_wire::{Wire, stage};
+use gl_wire::{Wire, note_bus, stage};
 use gl_wire_lanes::{TableOut, put_memory};
 use gl_wire_registers::{Bits, any, close_line, stride};
 use std::alloc::Global;
@@ -62,6 +62,7 @@ fn picked_key(
     let places = numbers(alloc, net, slots, slot_bits(slots))?;
     let lines = same_each(alloc, net, slot, places.as_slice())?;
     let picked = pick(net, lines.as_slice(), keys, keys[0].width)?;
+    note_bus(net, b"key", picked)?;
     Ok(picked)
 }
 
@@ -89,6 +90,7 @@ fn stored_key(
     let place = pick(net, lane.nexts.as_slice(), places.as_slice(), bits)?;
     // Named, since a goal speaks of the value.
     let key = put_memory(net, bits, write, place, slot, lane.here)?;
+    note_bus(net, b"key", key)?;
     Ok(key)
 }
 

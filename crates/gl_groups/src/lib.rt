@@ -12,6 +12,7 @@ pub mod joins;
 pub mod lane;
 pub mod laning;
 pub mod laws;
+mod notes;
 pub mod parts;
 pub mod pick;
 pub mod slots;

@@ -5,9 +5,10 @@ ghost use Rattle.gl_net.specs.Net.{IsBit, IsBus};
 ghost use Rattle.gl_wire_registers.specs.Lines.{AddsLine, AddsLines, AreBits};
 ghost use Rattle.gl_groups.specs.Parts.{AddsFlush, AddsTail, AddsTurns, TakesOf, turned_at, turned_to};
 
+use crate::notes::{note_flush, note_tail, note_turns};
 use gl_bits::Memory;
 use gl_net::{Bit, Bus, NetBuilder};
-use gl_wire::{both, but_not, either};
+use gl_wire::{both, but_not, either, note_bits};
 use gl_wire_registers::{
     Arrival, Bits, Counter, LineOp, bits_to, count_down, latch, number_or, pairwise, when_equal,
     with_all,
@@ -69,13 +70,15 @@ pub fn count_flush(net: &mut NetBuilder, valid: Bit, eos: Bit, stride: u32) -> R
     };
     let wait = count_down(net, eos, idle, counter)?;
     let due = when_equal(net, idle, wait, 0)?;
-    Ok(Flush {
+    let made = Flush {
         flush,
         idle,
         free,
         wait,
         due,
-    })
+    };
+    note_flush(net, made)?;
+    Ok(made)
 }
 
 /// Counts the slots that have not had their turn: the first one has it with the end.
@@ -96,7 +99,9 @@ pub fn count_turns(net: &mut NetBuilder, eos: Bit, due: Bit, count: u32) -> Resu
     let rest = count_down(net, eos, due, counter)?;
     let at = number_or(net, eos, all, rest)?;
     let trigger = either(net, eos, due)?;
-    Ok(Turns { rest, at, trigger })
+    let made = Turns { rest, at, trigger };
+    note_turns(net, made)?;
+    Ok(made)
 }
 
 /// Keeps whether a tuple came with the end. `idle` is 0 where the next end comes, so that no gate keeps the tail of the last one from it.
@@ -110,7 +115,9 @@ pub fn keep_tail(net: &mut NetBuilder, valid: Bit, eos: Bit, idle: Bit) -> Resul
     let held = latch(net, with_end, eos)?;
     let resting = both(net, idle, held)?;
     let tail = either(net, with_end, resting)?;
-    Ok(Tail { held, tail })
+    let made = Tail { held, tail };
+    note_tail(net, made)?;
+    Ok(made)
 }
 
 // The line of one slot where its turn is.
@@ -145,6 +152,7 @@ pub fn turn_lines(
         let bit = at_slot(net, line, at, count, slot)?;
         all.push(bit)?;
     }
+    note_bits(net, b"turn", all.as_slice())?;
     Ok(all)
 }
 
@@ -170,5 +178,6 @@ pub fn take_rows(
     let last = with_all(alloc, net, LineOp::Both, ends, comes.tail)?;
     let may = with_all(alloc, net, LineOp::Either, &last, alone)?;
     let takes = pairwise(alloc, net, LineOp::Both, matches, &may)?;
+    note_bits(net, b"takes", takes.as_slice())?;
     Ok(takes)
 }

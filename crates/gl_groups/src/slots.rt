@@ -6,6 +6,7 @@ ghost use Rattle.gl_wire_registers.specs.Lines.{AddsLines, AreBits};
 ghost use Rattle.gl_groups.specs.SlotLines.{AddsAsks, AddsFound, AddsKept, AddsKeys, AddsNexts, AddsSeek, AddsSeen, AreKeysOf, same_to};
 
 use crate::choices::choose_each;
+use crate::notes::note_slots;
 use gl_bits::Memory;
 use gl_net::{Bit, Bus, Buses, NetBuilder};
 use gl_wire::{both, but_not, same};
@@ -294,9 +295,11 @@ pub fn keep_slots(
     let slots = keep_keys(alloc, net, &used, wanted, homes)?;
     let nexts = buses_of(alloc, slots.seen.has.as_slice())?;
     drive_all(net, flags.as_slice(), nexts.as_slice())?;
-    Ok(SlotLines {
+    let made = SlotLines {
         used,
         keys: slots.keys,
         seen: slots.seen,
-    })
+    };
+    note_slots(net, &made)?;
+    Ok(made)
 }

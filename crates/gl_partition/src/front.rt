@@ -15,7 +15,7 @@ use gl_groups::homes::put_slots;
 use gl_groups::parts::{count_flush, keep_tail, turn_lines};
 use gl_groups::slots::Wanted;
 use gl_net::{Bit, Bus, Buses, NetBuilder};
-use gl_wire::{Wire, later_bit};
+use gl_wire::{Wire, later_bit, note_bit, note_bits};
 use gl_wire_registers::{Arrival, Bits, LineOp, Wires, copy_wires, pairwise};
 use std::alloc::Global;
 
@@ -115,6 +115,7 @@ pub fn look_at(
     let dues = turn_lines(alloc, net, flush.due, turns.rest, slots)?;
     let seen = &lines.seen;
     let matches = pairwise(alloc, net, LineOp::Either, &seen.found, &seen.takes)?;
+    note_bits(net, b"match", matches.as_slice())?;
     Ok(Look {
         row: look.row,
         keys: lines.keys,
@@ -182,6 +183,7 @@ pub fn put_front(
     let wires = copy_wires(alloc, net, &chosen.takes, &chosen.ends, &look.row)?;
     let further = later_bit(net, look.passes)?;
     let keys = repeat(alloc, look.keys.as_slice(), numbers.sizes.copies)?;
+    note_bit(net, b"further", further)?;
     Ok(Front {
         wires,
         keys,

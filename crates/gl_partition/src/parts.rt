@@ -1,12 +1,12 @@
 //! The parts of a front of windows of each key, each with its registers.
 
-ghost use Rattle.std.specs.Prelude.{◌≤◌, IfOk};
+ghost use Rattle.std.specs.Prelude.{◌≡◌, ◌≤◌, IfOk};
 ghost use Rattle.gl_net.specs.Net.{IsBit};
 ghost use Rattle.gl_partition.specs.Parts.{AddsFilled, AddsTurns};
 
 use gl_bits::Memory;
 use gl_net::{Bit, Bus, NetBuilder};
-use gl_wire::either;
+use gl_wire::{either, note_bit, note_bus};
 use gl_wire_registers::{Counter, bits_to, count_down, when_equal};
 
 /// The slot whose turn it is, counted from behind the last one.
@@ -25,6 +25,22 @@ pub struct Filled {
     pub left: Bus,
     /// 1 where it ends.
     pub trigger: Bit,
+}
+
+// Tells the slot whose turn it is.
+fn note_turns(net: &mut NetBuilder, turns: Turns) -> Result<(), Memory>
+    ensures { net.new ≡ net.old }
+{
+    note_bus(net, b"within", turns.within)?;
+    note_bus(net, b"rest", turns.rest)
+}
+
+// Tells when the oldest window of a slot ends.
+fn note_filled(net: &mut NetBuilder, filled: Filled) -> Result<(), Memory>
+    ensures { net.new ≡ net.old }
+{
+    note_bus(net, b"left", filled.left)?;
+    note_bit(net, b"trigger", filled.trigger)
 }
 
 /// Counts the turns after an end, slot by slot.
@@ -58,7 +74,9 @@ pub fn count_turns(
         again: 0,
     };
     let rest = count_down(net, eos, last, slots)?;
-    Ok(Turns { within, rest })
+    let made = Turns { within, rest };
+    note_turns(net, made)?;
+    Ok(made)
 }
 
 /// Counts the tuples to the one that completes the oldest window.
@@ -89,5 +107,7 @@ pub fn count_filled(
     let left = count_down(net, eos, valid, counter)?;
     let last = when_equal(net, valid, left, 0)?;
     let trigger = either(net, last, due)?;
-    Ok(Filled { left, trigger })
+    let made = Filled { left, trigger };
+    note_filled(net, made)?;
+    Ok(made)
 }

@@ -11,7 +11,7 @@ use gl_bits::Memory;
 use gl_net::{Bit, Bus, NetBuilder};
 use gl_windows::parts::{count_openings, take_rows};
 use gl_windows::turns::{Moves, rotate};
-use gl_wire::both;
+use gl_wire::{both, note_bit};
 use gl_wire_registers::{Arrival, Bits, bits_to, pointer};
 use std::alloc::Global;
 
@@ -96,6 +96,8 @@ pub fn put_slot(
         tail: last,
     };
     let takes = take_rows(alloc, net, arrival, &open.mids, &open.ends)?;
+    note_bit(net, b"own", own)?;
+    note_bit(net, b"last", last)?;
     Ok(SlotWindows {
         until: next.until,
         left: filled.left,

@@ -12,7 +12,9 @@ use crate::ring::word;
 use gl_algebra::{Figures, table};
 use gl_bits::Memory;
 use gl_net::{Bit, Bus, Buses, NetBuilder};
-use gl_wire::{Emitted, Wire, both, both_faults, but_not, either, pad, stage};
+use gl_wire::{
+    Emitted, Wire, both, both_faults, but_not, either, note_bit, note_buses, pad, stage,
+};
 use std::alloc::Global;
 
 // The columns of both.
@@ -71,7 +73,17 @@ pub fn put_row(
         let kept = put_kept(net, valid, *bus)?;
         all.push(kept)?;
     }
+    note_buses(net, b"row", all.as_slice())?;
     Ok(all)
+}
+
+/// Tells which sides have ended, and that both have.
+pub(crate) fn note_ends(net: &mut NetBuilder, left: Bit, right: Bit, end: Bit) -> Result<(), Memory>
+    ensures { net.new ≡ net.old }
+{
+    note_bit(net, b"left", left)?;
+    note_bit(net, b"right", right)?;
+    note_bit(net, b"end", end)
 }
 
 /// A line that is 1 in the first cycle after both ends have come.
@@ -91,6 +103,7 @@ pub fn put_waiting(net: &mut NetBuilder, left_end: Bit, right_end: Bit) -> Resul
     let left_stays = but_not(net, left_waits, now)?;
     let left_next = either(net, left_end, left_stays)?;
     net.drive(left, left_next.bus())?;
+    note_ends(net, left_waits, right_waits, now)?;
     Ok(now)
 }
 

@@ -6,6 +6,7 @@ ghost use Rattle.gl_wire.specs.Wire.{AreBuses, IsWire, widths};
 ghost use Rattle.gl_queue.specs.MergeLines.{AreChosenOf, IsEndOf, IsMergedOf};
 ghost use Rattle.gl_queue.specs.Queues.{IsQueueOf};
 
+use crate::joiner::note_ends;
 use crate::queue::{Queue, put_queue};
 use crate::ring::word;
 use gl_bits::Memory;
@@ -62,6 +63,7 @@ pub fn put_end(
     let left_stays = but_not(net, left_waits, end)?;
     let left_next = either(net, left_end, left_stays)?;
     net.drive(left, left_next.bus())?;
+    note_ends(net, left_waits, right_waits, end)?;
     Ok(end)
 }
 

@@ -9,7 +9,7 @@ use crate::queue::{Queue, put_queue};
 use crate::ring::word;
 use gl_bits::Memory;
 use gl_net::{BinaryOp, Bit, Bus, NetBuilder};
-use gl_wire::but_not;
+use gl_wire::{but_not, note_bit, note_bus};
 use std::alloc::Global;
 
 /// A line that is 1 where a timer is not 0.
@@ -56,6 +56,15 @@ pub struct Paced {
     pub pop: Bit,
 }
 
+// Tells the lines that keep entries apart.
+fn note_pace(net: &mut NetBuilder, timer: Bus, hold: Bit, pop: Bit) -> Result<(), Memory>
+    ensures { net.new ≡ net.old }
+{
+    note_bus(net, b"wait", timer)?;
+    note_bit(net, b"hold", hold)?;
+    note_bit(net, b"take", pop)
+}
+
 /// A queue of `depth` places, from which an entry leaves at least `gap` cycles after the last one.
 pub fn put_paced(
     alloc: Global,
@@ -77,5 +86,6 @@ pub fn put_paced(
     let pop = but_not(net, queue.some, hold)?;
     let next = put_countdown(net, timer, hold, pop, gap)?;
     net.drive(timer, next)?;
+    note_pace(net, timer, hold, pop)?;
     Ok(Paced { queue, pop })
 }

@@ -10,7 +10,7 @@ use crate::ring::{put_columns, put_passed, put_places};
 use crate::short::put_single;
 use gl_bits::Memory;
 use gl_net::{Bit, Bus, Buses, NetBuilder};
-use gl_wire::least_exponent;
+use gl_wire::{least_exponent, note_bit, note_buses};
 use std::alloc::Global;
 
 /// What a queue shows: whether it has an entry, the oldest one's columns, and whether its places are passed.
@@ -34,6 +34,15 @@ pub fn address_bits(depth: u64) -> u8
     least_exponent(depth, 1, depth)
 }
 
+/// Tells what a queue shows.
+pub(crate) fn note_queue(net: &mut NetBuilder, queue: &Queue) -> Result<(), Memory>
+    ensures { net.new ≡ net.old }
+{
+    note_bit(net, b"some", queue.some)?;
+    note_buses(net, b"entry", queue.columns.as_slice())?;
+    note_bit(net, b"passed", queue.passed)
+}
+
 // A ring of `depth` places.
 fn put_ring(
     alloc: Global,
@@ -54,11 +63,13 @@ fn put_ring(
     let at = put_places(net, bits, push, hold)?;
     let passed = put_passed(net, bits, depth, push, at)?;
     let columns = put_columns(alloc, net, bits, push, at, columns)?;
-    Ok(Queue {
+    let queue = Queue {
         some: at.some,
         columns,
         passed,
-    })
+    };
+    note_queue(net, &queue)?;
+    Ok(queue)
 }
 
 /// A queue of `depth` places, from which the oldest entry leaves wherever the line `hold` is 0. One place stands in registers, more are a ring.

@@ -7,7 +7,7 @@ ghost use Rattle.gl_queue.specs.Parts.{ArePlacesOf, AreStored, IsFlagOf, IsMeeti
 
 use gl_bits::{Memory, Word};
 use gl_net::{BinaryOp, Bit, Bus, Buses, NetBuilder};
-use gl_wire::{both, but_not, either, same};
+use gl_wire::{both, but_not, either, note_bit, note_bus, same};
 use gl_wire_lanes::put_memory;
 use std::alloc::Global;
 
@@ -116,6 +116,16 @@ pub fn put_flag(
     Ok(next)
 }
 
+// Tells the lines and the places of a ring.
+fn note_places(net: &mut NetBuilder, at: Places) -> Result<(), Memory>
+    ensures { net.new ≡ net.old }
+{
+    note_bit(net, b"some", at.some)?;
+    note_bit(net, b"take", at.pop)?;
+    note_bus(net, b"head", at.head)?;
+    note_bus(net, b"tail", at.tail)
+}
+
 /// The flag that an entry is there, and where the oldest is and the next will be.
 pub fn put_places(net: &mut NetBuilder, bits: u8, push: Bit, hold: Bit) -> Result<Places, Memory>
     requires bits { IsAddressWidth bits }
@@ -131,12 +141,14 @@ pub fn put_places(net: &mut NetBuilder, bits: u8, push: Bit, hold: Bit) -> Resul
     let last = put_meeting(net, bits, 1, head, tail)?;
     let next = put_flag(net, push, some, pop, last)?;
     net.drive(flag, next.bus())?;
-    Ok(Places {
+    let made = Places {
         some,
         pop,
         head,
         tail,
-    })
+    };
+    note_places(net, made)?;
+    Ok(made)
 }
 
 // The number modulo a power of two.
@@ -169,5 +181,6 @@ pub fn put_passed(
     let full = both(net, at.some, meets)?;
     let comes = both(net, push, full)?;
     let line = but_not(net, comes, at.pop)?;
+    note_bit(net, b"full", full)?;
     Ok(line)
 }

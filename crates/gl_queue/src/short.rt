@@ -6,7 +6,7 @@ ghost use Rattle.gl_wire.specs.Wire.{AreBuses};
 ghost use Rattle.gl_queue.specs.Queues.{IsQueueOf};
 
 use crate::joiner::put_row;
-use crate::queue::Queue;
+use crate::queue::{Queue, note_queue};
 use crate::ring::word;
 use gl_bits::Memory;
 use gl_net::{Bit, Bus, NetBuilder};
@@ -33,9 +33,11 @@ pub fn put_single(
     let next = either(net, push, stays)?;
     let passed = both(net, push, stays)?;
     net.drive(flag, next.bus())?;
-    Ok(Queue {
+    let queue = Queue {
         some,
         columns,
         passed,
-    })
+    };
+    note_queue(net, &queue)?;
+    Ok(queue)
 }

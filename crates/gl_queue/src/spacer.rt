@@ -12,7 +12,7 @@ use crate::pacing::put_paced;
 use gl_algebra::Figures;
 use gl_bits::Memory;
 use gl_net::{Bus, Buses, NetBuilder};
-use gl_wire::{Emitted, Faults, Wire, both, either, either_line};
+use gl_wire::{Emitted, Faults, Wire, both, either, either_line, note_stage};
 use std::alloc::Global;
 
 // The columns of a wire behind its lines.
@@ -61,14 +61,16 @@ pub fn put_spaced(
     let valid = both(net, paced.pop, shown[0].bit())?;
     let eos = both(net, paced.pop, shown[1].bit())?;
     let columns = without_lines(alloc, shown)?;
-    Ok(Merged {
+    let merged = Merged {
         wire: Wire {
             valid,
             eos,
             columns,
         },
         passed: paced.queue.passed,
-    })
+    };
+    note_stage(net, &merged.wire)?;
+    Ok(merged)
 }
 
 /// The rows and ends of a stream, at least `gap` cycles apart. It stands where it is needed alone.

@@ -16,7 +16,7 @@ use crate::operand::{Source, put_operand};
 use gl_algebra::columns::kind_of_operand;
 use gl_algebra::{ColOp, Operand};
 use gl_bits::{Kind, Memory, Op, Word};
-use gl_net::{BinaryOp, Bus, Buses, NetBuilder};
+use gl_net::{BinaryOp, Bus, Buses, NetBuilder, Note};
 use std::alloc::Global;
 
 // The gate of an operator.
@@ -190,7 +190,20 @@ pub fn put_operation(net: &mut NetBuilder, source: Source, op: ColOp) -> Result<
     }
 }
 
-/// The buses of some operations.
+// The same, told as the column at this place.
+fn put_column(net: &mut NetBuilder, source: Source, op: ColOp, place: usize) -> Result<Bus, Memory>
+    requires source { IsSource net.old source.columns.now source.kinds.now }
+    requires fits { OpFits source.kinds.now op }
+    ensures { IfOk result (IsOperation net.old net.new
+        source.entry.columns.now source.entry.kinds.now op) }
+{
+    net.note(Note::Part(place))?;
+    let bus = put_operation(net, source, op)?;
+    net.note(Note::Leave)?;
+    Ok(bus)
+}
+
+/// The buses of some operations, which become the columns behind those of the source.
 pub fn put_operations(
     alloc: Global,
     net: &mut NetBuilder,
@@ -204,7 +217,8 @@ pub fn put_operations(
 {
     let mut all = Buses::new(alloc);
     for op in ops {
-        let bus = put_operation(net, source, *op)?;
+        let place = source.columns.len().saturating_add(all.len());
+        let bus = put_column(net, source, *op, place)?;
         all.push(bus)?;
     }
     Ok(all)

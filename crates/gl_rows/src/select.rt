@@ -11,7 +11,7 @@ use crate::figures::later_figures;
 use gl_algebra::Figures;
 use gl_bits::Memory;
 use gl_net::NetBuilder;
-use gl_wire::{Emitted, Operator, both, stage};
+use gl_wire::{Emitted, Operator, both, note_bit, stage};
 use std::alloc::Global;
 
 /// The rows whose column at this place, of one bit, is 1.
@@ -42,6 +42,7 @@ pub fn put_select(
         below.wire.eos,
         below.wire.columns.as_slice(),
     )?;
+    note_bit(net, b"keep", keep)?;
     Ok(Emitted {
         wire,
         faults: below.faults,

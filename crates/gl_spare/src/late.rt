@@ -1,14 +1,23 @@
 //! A wire with late ends.
 
-ghost use Rattle.std.specs.Prelude.{◌≤◌, IfOk};
+ghost use Rattle.std.specs.Prelude.{◌≡◌, ◌≤◌, IfOk};
 ghost use Rattle.gl_wire.specs.Wire.{IsWire};
 ghost use Rattle.gl_spare.specs.LateWires.{AddsLate, HasLate};
 
 use gl_bits::Memory;
-use gl_net::NetBuilder;
-use gl_wire::{Wire, both, but_not, either};
+use gl_net::{Bit, NetBuilder};
+use gl_wire::{Wire, both, but_not, either, note_bit, note_stage};
 use gl_wire_registers::{choose_row, close_line, hold_all, latch, same_buses};
 use std::alloc::Global;
+
+// Tells a wire whose ends are late, and whether a tuple came with the last end.
+fn note_late(net: &mut NetBuilder, had: Bit, last: Bit, wire: &Wire) -> Result<(), Memory>
+    ensures { net.new ≡ net.old }
+{
+    note_bit(net, b"held", had)?;
+    note_bit(net, b"last", last)?;
+    note_stage(net, wire)
+}
 
 /// A wire that carries what another does, but for each end, which comes with its tuple `shift` cycles later.
 #[tactic(auto, using(gl_wire::proofs::ColumnLemmas::bit_kept, gl_wire::proofs::ColumnLemmas::buses_kept))]
@@ -30,11 +39,13 @@ pub fn late_ends(
     let last = both(net, fired, had)?;
     let valid = either(net, alone, last)?;
     let columns = choose_row(alloc, net, fired, held.as_slice(), wire.columns.as_slice())?;
-    Ok(Wire {
+    let late = Wire {
         valid,
         eos: fired,
         columns,
-    })
+    };
+    note_late(net, had, last, &late)?;
+    Ok(late)
 }
 
 /// The same, or the wire itself where ends are not late.

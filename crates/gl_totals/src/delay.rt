@@ -6,7 +6,7 @@ ghost use Rattle.gl_totals.specs.Delays.{IsBitBehind, IsBusBehind};
 
 use gl_bits::Memory;
 use gl_net::{Bit, Bus, NetBuilder};
-use gl_wire::{later, later_bit};
+use gl_wire::{later, later_bit, note_bit, note_bus};
 
 /// A bus that carries what another does `cycles` cycles later.
 pub fn delay_bus(net: &mut NetBuilder, bus: Bus, cycles: u32) -> Result<Bus, Memory>
@@ -16,6 +16,7 @@ pub fn delay_bus(net: &mut NetBuilder, bus: Bus, cycles: u32) -> Result<Bus, Mem
     let mut out = bus;
     for _cycle in 0..cycles {
         out = later(net, out)?;
+        note_bus(net, b"stage", out)?;
     }
     Ok(out)
 }
@@ -28,6 +29,7 @@ pub fn delay_bit(net: &mut NetBuilder, line: Bit, cycles: u32) -> Result<Bit, Me
     let mut out = line;
     for _cycle in 0..cycles {
         out = later_bit(net, out)?;
+        note_bit(net, b"stage", out)?;
     }
     Ok(out)
 }

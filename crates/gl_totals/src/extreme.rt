@@ -9,11 +9,11 @@ ghost use Rattle.gl_totals.specs.Folds.{BestFits};
 ghost use Rattle.gl_totals.specs.Open.{KeepFits};
 ghost use Rattle.gl_totals.specs.Totals.{IsTotalOf, extreme_of};
 
-use crate::fold::{Best, Extreme, Step, put_better, put_fold, small_word};
+use crate::fold::{Best, Extreme, Step, put_better, put_state, small_word};
 use crate::rows::{Keep, Rows};
 use gl_bits::{Kind, Memory};
 use gl_net::{BinaryOp, Bit, Bus, NetBuilder};
-use gl_wire::{both, but_not};
+use gl_wire::{both, but_not, note_bus};
 
 /// What an extreme in a register takes; 0 where neither.
 #[derive(Clone, Copy)]
@@ -71,6 +71,7 @@ fn put_held(net: &mut NetBuilder, valid: Bit, best: Best) -> Result<Bus, Memory>
     let pick = put_pick(net, valid, best.some, better.bit())?;
     let now = put_picked(net, pick, best.value, word)?;
     net.drive(word, now)?;
+    note_bus(net, b"state", word)?;
     Ok(now)
 }
 
@@ -90,7 +91,7 @@ pub fn put_extreme(
     ensures { IfOk result (IsTotalOf net.old net.new (cost_of_extreme rows.keep value.width)
         value.width 0 rows value (extreme_of extreme kind)) }
 {
-    let some = put_fold(net, rows, small_word(false, 1), Step::Set)?;
+    let some = put_state(net, rows, small_word(false, 1), Step::Set, b"any")?;
     let best = Best {
         extreme,
         kind,
@@ -100,7 +101,13 @@ pub fn put_extreme(
     match rows.keep {
         Keep::Register => put_held(net, rows.valid, best),
         Keep::Slots { .. } => {
-            let fold = put_fold(net, rows, small_word(false, value.width), Step::Keep(best))?;
+            let fold = put_state(
+                net,
+                rows,
+                small_word(false, value.width),
+                Step::Keep(best),
+                b"state",
+            )?;
             Ok(fold.now)
         }
     }

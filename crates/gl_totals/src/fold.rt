@@ -13,7 +13,7 @@ use gl_bits::{Kind, Memory, Op, Word};
 use gl_divide::digit::shift;
 use gl_net::{BinaryOp, Bit, Bus, NetBuilder};
 use gl_rows::operation::put_operator;
-use gl_wire::{both, but_not, either, same};
+use gl_wire::{both, but_not, either, note_bus, same};
 use gl_wire_lanes::put_memory;
 
 /// An end of the order.
@@ -289,4 +289,23 @@ pub fn put_fold(net: &mut NetBuilder, rows: Rows, first: Word, step: Step) -> Re
             put_slots(net, rows.valid, slots, first, step)
         }
     }
+}
+
+/// The same, whose state is told by this word.
+pub fn put_state(
+    net: &mut NetBuilder,
+    rows: Rows,
+    first: Word,
+    step: Step,
+    word: &'static [u8],
+) -> Result<Fold, Memory>
+    requires valid { IsBit net.old rows.valid }
+    requires eos { IsBit net.old rows.eos }
+    requires keep { KeepFits net.old rows.keep }
+    requires step { StepFits net.old first.width step }
+    ensures { IfOk result (IsFold net.old net.new first.width first.bits step rows) }
+{
+    let fold = put_fold(net, rows, first, step)?;
+    note_bus(net, word, fold.before)?;
+    Ok(fold)
 }

@@ -7,7 +7,7 @@ ghost use Rattle.gl_totals.specs.Costs.{cost_of_count, cost_of_fold};
 ghost use Rattle.gl_totals.specs.Open.{KeepFits};
 ghost use Rattle.gl_totals.specs.Totals.{IsTotalOf};
 
-use crate::fold::{Step, put_fold, small_word};
+use crate::fold::{Step, put_state, small_word};
 use crate::rows::Rows;
 use gl_bits::Memory;
 use gl_net::{Bus, NetBuilder};
@@ -21,7 +21,13 @@ pub fn put_sum(net: &mut NetBuilder, rows: Rows, value: Bus) -> Result<Bus, Memo
     ensures { IfOk result (IsTotalOf net.old net.new (cost_of_fold rows.keep 1 value.width)
         value.width 0 rows value (sum_total value.width)) }
 {
-    let fold = put_fold(net, rows, small_word(false, value.width), Step::Add(value))?;
+    let fold = put_state(
+        net,
+        rows,
+        small_word(false, value.width),
+        Step::Add(value),
+        b"state",
+    )?;
     Ok(fold.now)
 }
 

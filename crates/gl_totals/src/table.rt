@@ -16,7 +16,7 @@ use gl_algebra::table::delay_of_aggs;
 use gl_bits::{Kind, Memory};
 use gl_net::{Bit, Bus, NetBuilder};
 use gl_rows::Source;
-use gl_wire::{Wire, later, later_bit};
+use gl_wire::{Wire, later, later_bit, note_bit, note_bus};
 use gl_wire_lanes::TableOut;
 use std::alloc::Global;
 
@@ -61,6 +61,16 @@ impl Lines {
     }
 }
 
+// Tells the lines of a lane.
+fn note_lane(net: &mut NetBuilder, lines: Lines) -> Result<(), Memory>
+    ensures { net.new ≡ net.old }
+{
+    note_bit(net, b"row", lines.valid)?;
+    note_bit(net, b"end", lines.eos)?;
+    note_bit(net, b"first", lines.first)?;
+    note_bus(net, b"slot", lines.slot)
+}
+
 // The lines of a lane, one cycle later.
 fn put_lines(net: &mut NetBuilder, rows: &Wire, slot: Bus, first: Bit) -> Result<Lines, Memory>
     requires valid { IsBit net.old rows.now.valid }
@@ -73,12 +83,14 @@ fn put_lines(net: &mut NetBuilder, rows: &Wire, slot: Bus, first: Bit) -> Result
     let eos = later_bit(net, rows.eos)?;
     let first = later_bit(net, first)?;
     let slot = later(net, slot)?;
-    Ok(Lines {
+    let made = Lines {
         valid,
         eos,
         first,
         slot,
-    })
+    };
+    note_lane(net, made)?;
+    Ok(made)
 }
 
 impl Table<'_> {

@@ -5,6 +5,7 @@
 
 pub mod front;
 pub mod laws;
+mod notes;
 pub mod parts;
 pub mod rotation;
 pub mod times;

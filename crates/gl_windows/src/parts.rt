@@ -5,9 +5,10 @@ ghost use Rattle.gl_net.specs.Net.{IsBit};
 ghost use Rattle.gl_wire_registers.specs.Lines.{AreBits};
 ghost use Rattle.gl_windows.specs.Parts.{AddsFlush, AddsOpening, AddsTail, AddsTrigger, TakesOf};
 
+use crate::notes::{note_flush, note_opening, note_tail, note_trigger};
 use gl_bits::Memory;
 use gl_net::{Bit, Bus, NetBuilder};
-use gl_wire::{both, but_not, either};
+use gl_wire::{both, but_not, either, note_bits};
 use gl_wire_registers::{
     Arrival, Bits, Counter, LineOp, bits_to, count_down, latch, pairwise, when_equal, with_all,
 };
@@ -79,7 +80,9 @@ pub fn count_openings(
     };
     let until = count_down(net, eos, unit, counter)?;
     let opens = when_equal(net, unit, until, 0)?;
-    Ok(Opening { until, opens })
+    let made = Opening { until, opens };
+    note_opening(net, made)?;
+    Ok(made)
 }
 
 /// Counts the cycles between the ends of a flush. Groups have a part of their own, which tells what comes behind an end apart: there the
@@ -102,12 +105,14 @@ pub fn count_flush(net: &mut NetBuilder, valid: Bit, eos: Bit, stride: u32) -> R
     };
     let wait = count_down(net, eos, idle, counter)?;
     let due = when_equal(net, idle, wait, 0)?;
-    Ok(Flush {
+    let made = Flush {
         flush,
         idle,
         wait,
         due,
-    })
+    };
+    note_flush(net, made)?;
+    Ok(made)
 }
 
 /// Counts the units to the one that completes the oldest window.
@@ -139,11 +144,13 @@ pub fn count_left(
     let last = when_equal(net, unit, left, 0)?;
     let may = either(net, last, due)?;
     let trigger = either(net, eos, may)?;
-    Ok(Trigger {
+    let made = Trigger {
         left,
         last,
         trigger,
-    })
+    };
+    note_trigger(net, made)?;
+    Ok(made)
 }
 
 /// Keeps whether a tuple came with the end. `idle` is 1 too where the next end comes without a tuple, and then no copy takes what is kept:
@@ -159,7 +166,9 @@ pub fn keep_tail(net: &mut NetBuilder, valid: Bit, eos: Bit, idle: Bit) -> Resul
     let resting = both(net, idle, held)?;
     let later = but_not(net, resting, eos)?;
     let tail = either(net, with_end, later)?;
-    Ok(Tail { held, tail })
+    let made = Tail { held, tail };
+    note_tail(net, made)?;
+    Ok(made)
 }
 
 /// For each copy whether it takes the row: each open one a tuple without the end, and the one that ends what came with the end.
@@ -185,5 +194,6 @@ pub fn take_rows(
     let last = with_all(alloc, net, LineOp::Both, ends, comes.tail)?;
     // Named, since a goal speaks of the value.
     let takes = pairwise(alloc, net, LineOp::Either, &each, &last)?;
+    note_bits(net, b"takes", takes.as_slice())?;
     Ok(takes)
 }

@@ -6,6 +6,7 @@ ghost use Rattle.gl_wire.specs.Wire.{IsWire};
 ghost use Rattle.gl_wire.specs.Rotates.{flush_of, turns_of};
 ghost use Rattle.gl_windows.specs.TimeRotations.{AreTimeFronts, IsTimeRotation, copies_of, ticked_machine};
 
+use crate::notes::note_ticks;
 use crate::parts::{count_flush, count_left, count_openings, keep_tail, take_rows};
 use crate::turns::{Moves, rotate};
 use gl_algebra::Figures;
@@ -83,6 +84,7 @@ fn put_time_front(
     let row = hold_all(alloc, net, v, &wire.columns)?;
     // Named, since a goal speaks of the value.
     let wires = copy_wires(alloc, net, &takes, &open.ends, &row)?;
+    note_ticks(net, reopens, brings, busy, tail)?;
     Ok(wires)
 }
 

@@ -5,6 +5,7 @@ ghost use Rattle.gl_net.specs.Net.{IsBit, IsBus};
 ghost use Rattle.gl_wire_registers.specs.Lines.{AreBits};
 ghost use Rattle.gl_windows.specs.Turns.{AddsRotation, Turns};
 
+use crate::notes::note_open;
 use gl_bits::{Memory, Word};
 use gl_net::{Bit, Bus, NetBuilder};
 use gl_wire_registers::{
@@ -140,10 +141,12 @@ pub fn rotate(
     let turn = take_turn(alloc, net, moves, &flags, oldest, count)?;
     let nexts = buses_with(alloc, turn.kept.as_slice(), turn.next)?;
     drive_all(net, registers.as_slice(), nexts.as_slice())?;
-    Ok(OpenCopies {
+    let made = OpenCopies {
         flags,
         oldest,
         mids: turn.mids,
         ends: turn.ends,
-    })
+    };
+    note_open(net, moves.opened, &made)?;
+    Ok(made)
 }

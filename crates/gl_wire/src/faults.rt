@@ -5,6 +5,7 @@ ghost use Rattle.gl_wire.specs.Faults.{AreBoth, AreLines, IsEither, IsLine};
 
 use crate::emitted::Faults;
 use crate::gates::either;
+use crate::notes::note_faults;
 use gl_bits::Memory;
 use gl_net::{Bit, NetBuilder};
 
@@ -36,5 +37,7 @@ pub fn both_faults(net: &mut NetBuilder, left: Faults, right: Faults) -> Result<
 {
     let passed = either_line(net, left.passed, right.passed)?;
     let further = either_line(net, left.further, right.further)?;
-    Ok(Faults { passed, further })
+    let faults = Faults { passed, further };
+    note_faults(net, faults)?;
+    Ok(faults)
 }

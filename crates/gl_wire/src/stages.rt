@@ -5,6 +5,7 @@ ghost use Rattle.gl_net.specs.Net.{IsBus, IsBit};
 ghost use Rattle.gl_wire.specs.Stages.{AreLater, IsLaterBus, IsLaterLine, IsPad};
 ghost use Rattle.gl_wire.specs.Wire.{AreBuses, IsWire, wire_of};
 
+use crate::notes::note_stage;
 use crate::wire::Wire;
 use gl_bits::{Memory, Word};
 use gl_net::{Bit, Bus, Buses, NetBuilder};
@@ -106,6 +107,7 @@ pub fn pad(alloc: Global, net: &mut NetBuilder, wire: &Wire, cycles: u32) -> Res
     let mut padded = copied(alloc, wire)?;
     for _cycle in 0..cycles {
         padded = later_wire(alloc, net, &padded)?;
+        note_stage(net, &padded)?;
     }
     Ok(padded)
 }

@@ -6,6 +6,7 @@ ghost use Rattle.gl_wire_lanes.specs.Memories.{IsStored};
 
 use gl_bits::Memory;
 use gl_net::{Bit, Bus, NetBuilder};
+use gl_wire::note_bus;
 
 /// A memory whose places have numbers of `bits` bits: a value is written at `place` where `write` is 1, and what stands at the place `at` is
 /// read in its own cycle.
@@ -30,5 +31,10 @@ pub fn put_memory(
     net.drive_memory(store, write, place, value)?;
     // Named, since a goal speaks of the value.
     let out = net.read(store, at)?;
+    let memory = Bus {
+        node: store.node,
+        width: store.width,
+    };
+    note_bus(net, b"memory", memory)?;
     Ok(out)
 }

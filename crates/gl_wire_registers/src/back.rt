@@ -9,7 +9,7 @@ use crate::numbers::never;
 use crate::rows::same_buses;
 use gl_bits::Memory;
 use gl_net::{Bit, Bus, Buses, NetBuilder};
-use gl_wire::{Wire, either, stage};
+use gl_wire::{Wire, either, note_bit, note_buses, stage};
 use std::alloc::Global;
 
 /// The tuple that one of some copies carries.
@@ -67,6 +67,14 @@ fn merge_few(
     })
 }
 
+// Tells the lines of what copies carry.
+fn note_merged(net: &mut NetBuilder, merged: &Merged) -> Result<(), Memory>
+    ensures { net.new ≡ net.old }
+{
+    note_bit(net, b"turn", merged.valid)?;
+    note_buses(net, b"row", merged.columns.as_slice())
+}
+
 // The tuples of the first copies, and else of the others.
 fn merge_two(
     alloc: Global,
@@ -85,7 +93,9 @@ fn merge_two(
     let right = second.columns.as_slice();
     let columns = choose_row(alloc, net, first.valid, left, right)?;
     let valid = either(net, first.valid, second.valid)?;
-    Ok(Merged { valid, columns })
+    let merged = Merged { valid, columns };
+    note_merged(net, &merged)?;
+    Ok(merged)
 }
 
 // The tuples of all copies: of the first one that carries one, in the first half or else in the second.

@@ -10,7 +10,7 @@ use crate::counters::hold;
 use crate::lines::Bits;
 use gl_bits::{Listed, Memory};
 use gl_net::{Bit, Bus, Buses, NetBuilder};
-use gl_wire::{Wire, later_bit};
+use gl_wire::{Wire, later_bit, note_buses};
 use std::alloc::Global;
 
 /// A wire for each copy.
@@ -104,6 +104,7 @@ pub fn hold_all(
 {
     // Named, since a goal speaks of the value.
     let row = hold_each(alloc, net, load, columns.as_slice())?;
+    note_buses(net, b"row", row.as_slice())?;
     Ok(row)
 }
 

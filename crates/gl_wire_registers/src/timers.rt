@@ -1,6 +1,6 @@
 //! A timer in place of a long row of registers, for a line that is seldom 1.
 
-ghost use Rattle.std.specs.Prelude.{IfOk};
+ghost use Rattle.std.specs.Prelude.{◌≡◌, IfOk};
 ghost use Rattle.gl_net.specs.Net.{IsBit};
 ghost use Rattle.gl_wire_registers.specs.Timers.{IsCloseLine, IsLaterBy, IsTimer};
 
@@ -8,8 +8,17 @@ use crate::counters::{Counter, count_down, latch};
 use crate::numbers::{always, when_equal};
 use crate::widths::bits_to;
 use gl_bits::Memory;
-use gl_net::{Bit, NetBuilder};
-use gl_wire::later_bit;
+use gl_net::{Bit, Bus, NetBuilder};
+use gl_wire::{later_bit, note_bit, note_bus};
+
+// Tells the lines of a timer.
+fn note_timer(net: &mut NetBuilder, left: Bus, on: Bit, fired: Bit) -> Result<(), Memory>
+    ensures { net.new ≡ net.old }
+{
+    note_bus(net, b"timer", left)?;
+    note_bit(net, b"running", on)?;
+    note_bit(net, b"fired", fired)
+}
 
 /// A line that is 1 `cycles` + 1 cycles after the line `set` was 1, unless that was 1 again in between.
 pub fn timer(net: &mut NetBuilder, set: Bit, cycles: u32) -> Result<Bit, Memory>
@@ -29,6 +38,7 @@ pub fn timer(net: &mut NetBuilder, set: Bit, cycles: u32) -> Result<Bit, Memory>
     let on = latch(net, set, over)?;
     // Named, since a goal speaks of the value.
     let fired = when_equal(net, on, left, 0)?;
+    note_timer(net, left, on, fired)?;
     Ok(fired)
 }
 
@@ -51,5 +61,6 @@ pub fn close_line(net: &mut NetBuilder, ends: Bit, cycles: u32, more: u32) -> Re
 {
     let fired = timer(net, ends, cycles)?;
     let close = later_by(net, fired, more)?;
+    note_bit(net, b"close", close)?;
     Ok(close)
 }

@@ -1,6 +1,7 @@
 //! Groups over direct bodies: one lane for all slots, the body once behind it, and the keys in front of its totals.
 
-ghost use Rattle.std.specs.Prelude.{◌≡◌, ℕ, ◌-◌, ◌<◌, ◌≤◌, ◌∷◌, [], List, Option, IfOk, Some, length, slice_get, true};
+ghost use Rattle.std.specs.Prelude.{◌≡◌, ℕ, ◌-◌, ◌<◌, ◌≤◌, ◌∷◌, [], All, List, Option, IfOk, Some, length, map, slice_get, true};
+ghost use Rattle.gl_algebra.specs.Columns.{AggFits};
 ghost use Rattle.gl_algebra.specs.declared.node.PlanAgg.{PlanAgg as PlanAggOf};
 ghost use Rattle.gl_algebra.specs.declared.node.PlanNode.TheVariants.{Aggregate};
 ghost use Rattle.gl_algebra.specs.Direct.{form_of, is_direct};
@@ -8,9 +9,11 @@ ghost use Rattle.gl_algebra.specs.Shapes.{kinds_of, shape_of};
 ghost use Rattle.gl_groups.specs.Picks.{bits_of_slots};
 ghost use Rattle.gl_net.specs.declared.node.Bit.{Bit as BitOf};
 ghost use Rattle.gl_net.specs.Net.{Net, IsBit, IsBus};
+ghost use Rattle.gl_bits.specs.Kinds.{IsKind, width_of};
 ghost use Rattle.gl_totals.specs.Costs.{kept_of_agg};
+ghost use Rattle.gl_totals.specs.Tables.{IsTable};
 ghost use Rattle.gl_wire.specs.declared.wire.Wire.{Wire as WireOf};
-ghost use Rattle.gl_wire.specs.Wire.{IsWire};
+ghost use Rattle.gl_wire.specs.Wire.{IsWire, widths};
 ghost use Rattle.gl_wiring.specs.Groups.{IsGroupNode};
 ghost use Rattle.gl_wiring.specs.LaneGroups.{HasLane, IsGroupLane};
 ghost use Rattle.gl_wiring.specs.Lanes.{IsBodyTable, has_room, place_of};
@@ -20,16 +23,18 @@ ghost use Rattle.gl_wiring.specs.Tables.{HasCircuit, HaveChildren};
 
 use crate::apart::put_source;
 use crate::groups::GroupOf;
+use crate::notes::note_table;
 use crate::rows::{Place, put_rows};
 use crate::site::Site;
 use gl_algebra::columns::kind_of_agg;
 use gl_algebra::{PlanAgg, PlanId, PlanNode};
 use gl_bits::{Kind, Memory};
 use gl_groups::Lane;
-use gl_net::NetBuilder;
+use gl_net::{NetBuilder, Note};
 use gl_totals::table::Table;
 use gl_wire::{Emitted, Faults, Wire, both_faults};
 use gl_wire_lanes::TableOut;
+use std::alloc::Global;
 
 /// A lane behind a group's source.
 #[derive(Drop)]
@@ -50,6 +55,32 @@ impl Laned {
             first: self.lane.first,
         }
     }
+}
+
+// A table of totals, told as the operator with this number.
+fn put_states(
+    alloc: Global,
+    net: &mut NetBuilder,
+    body: PlanId,
+    table: &Table<'_>,
+    rows: &Wire,
+    place: Place,
+) -> Result<TableOut, Memory>
+    requires wire { IsWire net.old rows.now }
+    requires kinds { widths rows.now.columns ≡ map width_of table.now.kinds.now }
+    requires are_kinds { All IsKind table.now.kinds.now }
+    requires aggs { All (AggFits table.now.kinds.now) table.now.aggs.now }
+    requires some { 1 ≤ length table.now.aggs.now }
+    requires slot { IsBus net.old place.slot }
+    requires bits { 1 ≤ place.slot.width }
+    requires few { place.slot.width ≤ 8 }
+    requires first { IsBit net.old place.first }
+    ensures { IfOk result (IsTable net.old net.new table.now rows.now place.slot place.first) }
+{
+    net.note(Note::Operator(body.number()))?;
+    let out = table.emit(alloc, net, rows, place.slot, place.first)?;
+    note_table(net, &out)?;
+    Ok(out)
 }
 
 /// The totals of a direct body behind a lane, which is its input.
@@ -78,8 +109,8 @@ pub(crate) fn put_table(
                 kinds: site.plan.kinds(*child),
                 aggs: aggs.as_slice(),
             };
-            let behind = below.place;
-            let out = table.emit(site.alloc, net, &below.rows.wire, behind.slot, behind.first)?;
+            let rows = &below.rows.wire;
+            let out = put_states(site.alloc, net, body, &table, rows, below.place)?;
             Ok(out)
         }
         _ => unreachable!(),

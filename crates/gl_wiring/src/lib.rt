@@ -17,6 +17,7 @@ mod leaves;
 pub mod machines;
 pub mod many;
 pub mod names;
+mod notes;
 mod output;
 pub mod partitions;
 pub mod parts;

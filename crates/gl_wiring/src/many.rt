@@ -57,6 +57,7 @@ fn put_root_result(
     site: Site<'_>,
     table: &[Option<Emitted>],
     root: &Root,
+    place: usize,
 ) -> Result<(), Memory>
     requires within { root.now.id < length site.plan.now }
     requires can { CanShow site.plan.now net.old table.now root.now }
@@ -65,16 +66,18 @@ fn put_root_result(
 {
     let e = circuit_at(site.alloc, table, root.id)?;
     let face = face_of(site.alloc, &root.names)?;
-    put_result(site.alloc, net, &e, &face, root.names.columns.as_slice())?;
+    let names = root.names.columns.as_slice();
+    put_result(site.alloc, net, place, &e, &face, names)?;
     Ok(())
 }
 
-// Those of all roots, one after the other.
+// Those of all roots, one after the other, of which the first has this place.
 fn put_results(
     net: &mut NetBuilder,
     site: Site<'_>,
     table: &[Option<Emitted>],
     roots: &[Root],
+    place: usize,
 ) -> Result<(), Memory>
     requires within { AllByRecursion (λ r. r.id < length site.plan.now) roots.now }
     requires can { AllByRecursion (CanShow site.plan.now net.old table.now) roots.now }
@@ -84,8 +87,8 @@ fn put_results(
     let Some((root, others)) = roots.split_first() else {
         return Ok(());
     };
-    put_root_result(net, site, table, root)?;
-    put_results(net, site, table, others)?;
+    put_root_result(net, site, table, root, place)?;
+    put_results(net, site, table, others, place.saturating_add(1))?;
     Ok(())
 }
 
@@ -116,7 +119,7 @@ fn put_many(
         leaves: &leaves,
     };
     let table = put_reached(net, site, &ids)?;
-    put_results(net, site, &table, roots)?;
+    put_results(net, site, &table, roots, 0)?;
     Ok(())
 }
 

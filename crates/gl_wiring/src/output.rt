@@ -11,9 +11,10 @@ ghost use Rattle.gl_wiring.specs.Output.{AreShown, IsFault, IsOutput, Shows, col
 ghost use Rattle.gl_wiring.specs.Root.{later_line};
 
 use crate::names::{Face, fault_name, out_name};
+use crate::notes::note_output;
 use crate::parts::put_output;
 use gl_bits::{Memory, Word};
-use gl_net::{Bit, Bus, NetBuilder};
+use gl_net::{Bit, Bus, NetBuilder, Note};
 use gl_schema::NameText;
 use gl_wire::gates::either;
 use gl_wire::stages::{later_bit, later_wire};
@@ -161,9 +162,8 @@ fn put_ports(
     Ok(())
 }
 
-/// The output of a circuit: its wire one cycle later on `out__valid`, the columns and `out__eos`, and its lines, which then never
-/// fall, on `fault__group` and `fault__queue`, as the face calls these ports.
-pub(crate) fn put_result(
+// The output of a circuit, whose nodes are not told yet as those of an output.
+fn put_shown(
     alloc: Global,
     net: &mut NetBuilder,
     below: &Emitted,
@@ -185,5 +185,33 @@ pub(crate) fn put_result(
     let queue = put_queue(net, below.faults.passed)?;
     let lines = ResultLines { group, queue };
     put_ports(alloc, net, &wire, lines, face, names)?;
+    note_output(net, &wire, group, queue)?;
+    Ok(())
+}
+
+/// The output of a circuit: its wire one cycle later on `out__valid`, the columns and `out__eos`, and its lines, which then never
+/// fall, on `fault__group` and `fault__queue`, as the face calls these ports. Its query has this
+/// place among those of the module.
+pub(crate) fn put_result(
+    alloc: Global,
+    net: &mut NetBuilder,
+    place: usize,
+    below: &Emitted,
+    face: &Face,
+    names: &[NameText],
+) -> Result<(), Memory>
+    requires lengths { length names.now ≡ length (widths below.now.wire.columns) }
+    requires wire { IsWire net.old below.now.wire }
+    requires lines { AreLines net.old below.now.faults }
+    ensures extends { OnOk result (Extends net.old net.new) }
+    ensures ports { OnOk result (Puts net.old net.new
+        (result_outputs (naming_of face.now) (widths below.now.wire.columns) names.now)) }
+    ensures cost { OnOk result (CostsAtMost net.old net.new
+        (output_cost (widths below.now.wire.columns))) }
+    ensures output { OnOk result (IsOutput (naming_of face.now) net.new names.now below.now) }
+{
+    net.note(Note::Output(place))?;
+    put_shown(alloc, net, below, face, names)?;
+    net.note(Note::Leave)?;
     Ok(())
 }

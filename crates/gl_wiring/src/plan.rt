@@ -43,7 +43,7 @@ fn put_plan(
     };
     let e = put_root(net, site, root.id, spare)?;
     let names = root.names.columns.as_slice();
-    put_result(site.alloc, net, &e, &Face::Alone, names)?;
+    put_result(site.alloc, net, 0, &e, &Face::Alone, names)?;
     Ok(())
 }
 

@@ -20,6 +20,7 @@ use crate::direct::is_direct;
 use crate::groups::GroupOf;
 use crate::lanes::put_on_lane;
 use crate::machines::CopyMachine;
+use crate::notes::note_circuit;
 use crate::partitions::PartitionOf;
 use crate::site::Site;
 use crate::tables::{Table, circuit_at, marks_from};
@@ -27,7 +28,7 @@ use crate::time_windows::TimeWindowOf;
 use crate::windows::WindowOf;
 use gl_algebra::{PlanId, PlanNode};
 use gl_bits::{Listed, Memory};
-use gl_net::NetBuilder;
+use gl_net::{NetBuilder, Note};
 use gl_windows::Ticked;
 use gl_wire::{Emitted, Wire};
 use gl_wire_registers::OverCopies as _;
@@ -104,11 +105,14 @@ fn put_slot(
         return Ok(None);
     }
     let id = site.plan.id(number);
+    net.note(Note::Operator(number))?;
     if is_over(site.plan.node(id)) {
         let e = put_over(net, site, id, table)?;
+        note_circuit(net, &e)?;
         Ok(Some(e))
     } else {
         let e = put_behind(net, site, id, table)?;
+        note_circuit(net, &e)?;
         Ok(Some(e))
     }
 }
@@ -302,7 +306,9 @@ fn put_copies(
             tick: None,
             leaves: from_ref(wire),
         };
+        net.note(Note::Copy(copies.len()))?;
         let copy = put_root_of(net, behind, body, marks.as_slice())?;
+        net.note(Note::Leave)?;
         copies.push(copy)?;
     }
     Ok(copies)

@@ -2,19 +2,25 @@
 
 ghost use Rattle.std.specs.Prelude.{◌≡◌, IfOk};
 ghost use Rattle.gl_algebra.specs.Roots.{spare_at};
+ghost use Rattle.gl_wire.specs.Faults.{AreLines, IsLine};
+ghost use Rattle.gl_wire.specs.Wire.{IsWire, widths};
+ghost use Rattle.gl_wire_registers.specs.Fronts.{HasColumn};
+ghost use Rattle.gl_wiring.specs.Copies.{CanStandBehind, IsPutOver};
+ghost use Rattle.gl_wiring.specs.Machines.{CanBe, machine_of};
 ghost use Rattle.gl_wiring.specs.Put.{CanPut};
 ghost use Rattle.gl_wiring.specs.Roots.{IsRootPut};
 ghost use Rattle.gl_wiring.specs.SpareWindows.{IsSpareWindow};
 
 use crate::circuits::put_circuit;
 use crate::machines::CopyMachine;
+use crate::notes::note_circuit;
 use crate::put::put_over_copies;
 use crate::site::Site;
 use crate::spare_windows::SpareWindowOf;
 use crate::windows::WindowOf;
 use gl_algebra::{PlanId, PlanNode, Spare};
 use gl_bits::Memory;
-use gl_net::NetBuilder;
+use gl_net::{NetBuilder, Note};
 use gl_wire::Emitted;
 
 /// Adds the circuit of a root behind the leaves, and gives its wire and its lines: what the root owes over one stream.
@@ -44,6 +50,31 @@ pub(crate) fn put_root(
     }
 }
 
+// A machine over copies of a body, told as the operator with this number.
+fn put_machine(
+    net: &mut NetBuilder,
+    site: Site<'_>,
+    id: PlanId,
+    body: PlanId,
+    machine: CopyMachine,
+    source: Emitted,
+) -> Result<Emitted, Memory>
+    requires numbers { CanBe machine }
+    requires wire { IsWire net.old source.wire }
+    requires lines { AreLines net.old source.faults }
+    requires key { HasColumn (machine_of machine).key (widths source.wire.columns) }
+    requires tick { IsLine net.old (machine_of machine).tick }
+    requires stands { CanStandBehind site.plan.now site.figures.now body
+        (widths source.wire.columns) }
+    ensures { let s = site.entry in IfOk result
+        (IsPutOver s.plan.now body (machine_of machine) source net.old net.new) }
+{
+    net.note(Note::Operator(id.number()))?;
+    let e = put_over_copies(net, site, body, machine, source)?;
+    note_circuit(net, &e)?;
+    Ok(e)
+}
+
 // Adds the circuit of windows with spare copies: their machine behind the source's circuit.
 #[tactic(auto, using(crate::proofs::CanLemmas::put_columns))]
 fn put_spare(net: &mut NetBuilder, site: Site<'_>, w: SpareWindowOf) -> Result<Emitted, Memory>
@@ -57,6 +88,6 @@ fn put_spare(net: &mut NetBuilder, site: Site<'_>, w: SpareWindowOf) -> Result<E
     let source = put_circuit(net, site, window.source)?;
     let rotation = w.rotation(site);
     let machine = CopyMachine::Spare(rotation);
-    let e = put_over_copies(net, site, window.body, machine, source)?;
+    let e = put_machine(net, site, window.id, window.body, machine, source)?;
     Ok(e)
 }

@@ -11,12 +11,13 @@ ghost use Rattle.gl_wiring.specs.Leaves.{HaveLeaves};
 ghost use Rattle.gl_wiring.specs.declared.rows.Place.{Place as PlaceOf};
 
 use crate::arms::leaf_of;
+use crate::notes::note_circuit;
 use crate::site::Site;
 use gl_algebra::{Operands, Ops, PlanId, PlanNode};
 use gl_bits::Memory;
-use gl_net::{Bit, Bus, NetBuilder};
+use gl_net::{Bit, Bus, NetBuilder, Note};
 use gl_rows::{put_compute, put_project, put_select};
-use gl_wire::{Emitted, Wire, later, later_bit};
+use gl_wire::{Emitted, Wire, later, later_bit, note_bit, note_bus};
 use std::slice::from_ref;
 
 /// Whose cycle it is on a lane, and whether its stream begins.
@@ -37,6 +38,14 @@ pub struct LaneRows {
     pub place: Place,
 }
 
+// Tells the place of each row.
+fn note_place(net: &mut NetBuilder, place: Place) -> Result<(), Memory>
+    ensures { net.new ≡ net.old }
+{
+    note_bus(net, b"slot", place.slot)?;
+    note_bit(net, b"first", place.first)
+}
+
 // A place one cycle later.
 fn later_place(net: &mut NetBuilder, place: Place) -> Result<Place, Memory>
     requires slot { IsBus net.old place.slot }
@@ -45,7 +54,9 @@ fn later_place(net: &mut NetBuilder, place: Place) -> Result<Place, Memory>
 {
     let slot = later(net, place.slot)?;
     let first = later_bit(net, place.first)?;
-    Ok(Place { slot, first })
+    let later = Place { slot, first };
+    note_place(net, later)?;
+    Ok(later)
 }
 
 // The rows of the child with one more column for each operation.
@@ -147,15 +158,24 @@ pub(crate) fn put_rows(
         }
         PlanNode::Compute { child, ops } => {
             let below = put_rows(net, site, *child, lane, place)?;
-            compute_rows(net, site, id, *child, ops, below)
+            net.note(Note::Operator(id.number()))?;
+            let rows = compute_rows(net, site, id, *child, ops, below)?;
+            note_circuit(net, &rows.rows)?;
+            Ok(rows)
         }
         PlanNode::Select { child, column } => {
             let below = put_rows(net, site, *child, lane, place)?;
-            select_rows(net, site, id, *child, *column, below)
+            net.note(Note::Operator(id.number()))?;
+            let rows = select_rows(net, site, id, *child, *column, below)?;
+            note_circuit(net, &rows.rows)?;
+            Ok(rows)
         }
         PlanNode::Project { child, items } => {
             let below = put_rows(net, site, *child, lane, place)?;
-            project_rows(net, site, id, *child, items, below)
+            net.note(Note::Operator(id.number()))?;
+            let rows = project_rows(net, site, id, *child, items, below)?;
+            note_circuit(net, &rows.rows)?;
+            Ok(rows)
         }
         _ => unreachable!(),
     }

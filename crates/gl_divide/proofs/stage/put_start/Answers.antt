@@ -7,7 +7,7 @@ use Rattle.gl_divide.proofs.StageNet.{line_behind_one, same_division}
 use Rattle.gl_divide.proofs.stage.put_start.Goals as goal
 
 pub returns : goal.returns
-returns c =
+returns c = rw c.note_division.ensures (
     let new = c.later_bit.new.net in
     let rest = c.in_ok-rest.ensures in
     let digits = c.in_ok-digits.ensures in
@@ -39,4 +39,4 @@ returns c =
           let at : suc t + 1 ≡ suc (suc t) = omega arith in
           ap (λ (k : ℕ). division_at run k stage) at
           ∙ same_division _ _ _ _ _ _ (digits.value run at_digits t) (rest.value run (digits.keeps.runs run at_digits) (suc (suc t)) ∙ c.zero_word.ensures.bits) (bottom.value run at_bottom t);
-    }
+    })

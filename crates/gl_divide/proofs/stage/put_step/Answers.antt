@@ -6,7 +6,7 @@ use Rattle.gl_divide.proofs.StageNet.{step_division}
 use Rattle.gl_divide.proofs.stage.put_step.Goals as goal
 
 pub returns : goal.returns
-returns c =
+returns c = rw c.note_division.ensures (
     let new = c.later_bit.new.net in
     let next = c.in_ok-next.ensures in
     let digit = c.in_ok-digit.ensures in
@@ -57,4 +57,4 @@ returns c =
           step_division run c.args.stage stage c.in_ok-next.next c.in_ok-digit.digit.fits c.in_ok-digit.digit.left c.in_ok-digits.digits t
           (next.line run (digit.keeps.runs run at_digit) t) (digit.line run at_digit t less) (digit.value run at_digit t less) (shift.value run at_shift t)
           (digits.value run at_digits t) (rest.value run at_rest t) (bottom.value run at_bottom t);
-    }
+    })

@@ -38,7 +38,7 @@ drive_all-requires-clause-nexts c =
     c.in_ok-has.has c.word.ensures.width c.word.ensures.bits c.in_ok-flags.ensures sought c.in_ok-has.ensures))
 
 pub returns : goal.returns
-returns c =
+returns c = rw c.note_found.ensures (
     let is_used : c.from_vec-used.result ≡ map to_bit c.in_ok-flags.flags = c.from_vec-used.ensures ∙ c.in_ok-lines_of.ensures ∙ ap (map to_bit) c.as_slice.ensures in
     let is_nexts : c.as_slice-4.result.now ≡ map to_bus c.in_ok-has.has = c.as_slice-4.ensures.value ∙ c.in_ok-nexts.ensures ∙ ap (map to_bus) c.as_slice-2.ensures in
     let sought = subst (λ (bs : List Bit). AddsSought c.open_same.new.net c.seek_slots.new.net c.args.asking.now bs c.args.count c.args.width c.in_ok-sought.sought) is_used c.in_ok-sought.ensures in
@@ -46,4 +46,4 @@ returns c =
     (subst (λ (bs : List Bus). DrivesAll c.stay_used.new.net c.drive_all.new.net bs c.as_slice-4.result.now) c.as_slice-3.ensures c.in_ok-drive_all.ensures) in
     subst (λ (bs : List Bit). AddsSlotsFound c.args.net.now c.drive_all.new.net c.args.asking.now c.args.count c.args.width (record { used = bs; sought = c.in_ok-sought.sought })) (sym is_used)
     (slots_found c.args.net.now c.open_same.new.net c.seek_slots.new.net c.stay_used.new.net c.drive_all.new.net c.args.asking.now c.args.count c.args.width c.requires.count c.requires.fits c.word.result c.in_ok-flags.flags c.in_ok-sought.sought
-    c.in_ok-has.has c.word.ensures.width c.word.ensures.bits c.in_ok-flags.ensures sought c.in_ok-has.ensures driven)
+    c.in_ok-has.has c.word.ensures.width c.word.ensures.bits c.in_ok-flags.ensures sought c.in_ok-has.ensures driven))

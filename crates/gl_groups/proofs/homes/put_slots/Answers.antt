@@ -62,7 +62,7 @@ pub drive-requires-clause-widths : goal.drive-requires-clause-widths
 drive-requires-clause-widths c = c.in_ok-next.ensures.same_width ∙ sym c.in_ok-home.ensures.width
 
 pub returns : goal.returns
-returns c =
+returns c = rw c.note_home.ensures (
     let home = c.in_ok-home.ensures in
     let drive = c.in_ok-drive.ensures in
     let inner : Keeps c.register.new.self c.mark_slot.new.net =
@@ -76,4 +76,4 @@ returns c =
     slots_add c.args.net.now c.marks.new.net c.register.new.self c.same_each.new.net c.keep_slots.new.net c.mark_slot.new.net c.drive.new.self c.args.wanted.free c.args.wanted.ask c.args.wanted.here c.args.count c.args.width
     c.in_ok-marks.marks c.in_ok-home.home c.in_ok-homes.homes c.in_ok-slots.slots c.in_ok-next.next c.in_ok-marks.ensures (λ run r. home.start run r ∙ c.word.ensures.bits)
     (record { nodes = omega (arith, home.size); registers = omega (arith, home.register_bits); memories = omega (arith, home.memory_bits) }) home.grows lines c.in_ok-slots.ensures next
-    drive.grows (record { nodes = omega (arith, drive.size); registers = omega (arith, drive.register_bits); memories = omega (arith, drive.memory_bits) }) drive.value closed
+    drive.grows (record { nodes = omega (arith, drive.size); registers = omega (arith, drive.register_bits); memories = omega (arith, drive.memory_bits) }) drive.value closed)

@@ -5,7 +5,7 @@ use Rattle.gl_groups.proofs.ToldNet.{over_is}
 use Rattle.gl_groups.proofs.lane.count_over.Goals as goal
 
 pub returns : goal.returns
-returns c =
+returns c = rw c.note_over.ensures (
     let rest = subst (λ (n : ℕ). IsCounter c.args.net.now c.count_down.new.net c.args.eos c.args.due c.args.width c.args.count n 0 c.in_ok-rest.rest) c.from-others.ensures
     (subst (λ (n : ℕ). IsCounter c.args.net.now c.count_down.new.net c.args.eos c.args.due c.args.width n c.from-others.result 0 c.in_ok-rest.rest) c.from-all.ensures c.in_ok-rest.ensures) in
     let slots = c.in_ok-slots.ensures in
@@ -24,4 +24,4 @@ returns c =
           let at_slots = over.keeps.runs run r in
           over_is run c.args.eos c.args.due c.args.count c.args.width c.requires.fits c.in_ok-rest.rest c.in_ok-slots.slots c.in_ok-over.over slots.same_width
           (rest.next run (slots.keeps.runs run at_slots)) (slots.value run at_slots) (over.value run r);
-    }
+    })

@@ -8,7 +8,7 @@ hold_all-requires-clause-columns c =
     buses_kept c.args.net.now c.later_bit-2.new.net c.args.wire.now.columns (keeps_then c.args.net.now c.later_bit.new.net c.later_bit-2.new.net c.in_ok-valid.ensures.keeps c.in_ok-eos.ensures.keeps) c.requires.wire.columns
 
 pub returns : goal.returns
-returns c =
+returns c = rw c.note_stage.ensures (
     let valid = c.in_ok-valid.ensures in
     let eos = c.in_ok-eos.ensures in
     let row = c.in_ok-columns.ensures in
@@ -29,4 +29,4 @@ returns c =
       law = λ run r.
           let at_eos = row.keeps.runs run r in
           record { valid = valid.line run (eos.keeps.runs run at_eos); eos = eos.line run at_eos; row = row.row run r };
-    }
+    })

@@ -14,7 +14,7 @@ tell_end-requires-clause-sought c = (
 )
 
 pub returns : goal.returns
-returns c =
+returns c = rw c.note_told.ensures (
     let row = c.in_ok-row.ensures in
     let end = c.in_ok-end.ensures in
     let slot = c.in_ok-slot.ensures in
@@ -46,4 +46,4 @@ returns c =
             new_is = key.new_is run at_key;
             next = λ t. key.next run at_key t ∙ sym (key.new_is run at_key t);
           };
-    }
+    })

@@ -17,7 +17,7 @@ pick-requires-clause-buses c =
     (alike_keys c.args.net.now c.args.lane.now.keys c.as_slice-keys.result.now (record { node = 0; width = 0 }) c.as_slice-keys.ensures some c.requires.keys)
 
 pub returns : goal.returns
-returns c =
+returns c = rw c.note_bus.ensures (
     let some : 1 ≤ length c.args.lane.now.keys = omega (arith, c.requires.some, c.requires.keys_count) in
     let lines = subst (λ (bs : List Bus). AddsLines c.numbers.new.net c.same_each.new.net (length bs) 1 c.in_ok-lines.lines (same_to c.args.slot bs)) c.as_slice.ensures c.in_ok-lines.ensures in
     let width = (slice_index_or c.as_slice-keys.result.now 0 (record { node = 0; width = 0 })).width in
@@ -25,4 +25,4 @@ returns c =
     (subst (λ (ls : List Bit). PicksOne c.same_each.new.net c.pick.new.net ls c.as_slice-keys.result.now width (length ls * 2) c.in_ok-picked.picked) c.as_slice-2.ensures c.in_ok-picked.ensures) in
     picked_is c.args.net.now c.numbers.new.net c.same_each.new.net c.pick.new.net c.args.slots c.args.lane.now c.args.slot c.in_ok-places.places c.in_ok-lines.lines c.in_ok-picked.picked width c.slot_bits.result
     (first_width c.args.net.now c.args.lane.now.keys c.as_slice-keys.result.now (record { node = 0; width = 0 }) c.as_slice-keys.ensures some c.requires.keys)
-    c.requires.keys_count c.in_ok-places.ensures lines picked
+    c.requires.keys_count c.in_ok-places.ensures lines picked)

@@ -49,8 +49,8 @@ put_memory-requires-clause-value c =
     c.requires.here
 
 pub returns : goal.returns
-returns c =
+returns c = rw c.note_bus.ensures (
     let place = subst (λ (bs : List Bus). PicksOne c.any.new.net c.pick.new.net c.args.lane.now.nexts bs c.slot_bits-bits.result (length c.args.lane.now.nexts * 2) c.in_ok-place.place) c.as_slice-2.ensures
     (subst (λ (ls : List Bit). PicksOne c.any.new.net c.pick.new.net ls c.as_slice-2.result.now c.slot_bits-bits.result (length ls * 2) c.in_ok-place.place) c.as_slice.ensures c.in_ok-place.ensures) in
     stored_is c.args.net.now c.numbers.new.net c.any.new.net c.pick.new.net c.put_memory.new.net c.args.slots c.args.lane.now c.args.slot c.in_ok-place.place c.in_ok-key.key c.in_ok-write.write c.in_ok-places.places
-    c.slot_bits-bits.result c.slot_bits-bits.ensures.value c.requires.some c.requires.nexts_count c.requires.here_width c.in_ok-places.ensures c.in_ok-write.ensures place c.in_ok-key.ensures
+    c.slot_bits-bits.result c.slot_bits-bits.ensures.value c.requires.some c.requires.nexts_count c.requires.here_width c.in_ok-places.ensures c.in_ok-write.ensures place c.in_ok-key.ensures)

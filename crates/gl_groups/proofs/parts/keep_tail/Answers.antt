@@ -5,7 +5,7 @@ use Rattle.gl_wire.specs.Wire.{line_at}
 use Rattle.gl_groups.proofs.parts.keep_tail.Goals as goal
 
 pub returns : goal.returns
-returns c =
+returns c = rw c.note_tail.ensures (
     let with_end = c.in_ok-with_end.ensures in
     let held = c.in_ok-held.ensures in
     let resting = c.in_ok-resting.ensures in
@@ -28,4 +28,4 @@ returns c =
             tail = λ t. tail.line run r t ∙ ap (λ (b : Bool). b || line_at run c.in_ok-resting.resting t) (with_end.line run at_end t)
                 ∙ ap (λ (b : Bool). (line_at run c.args.eos t && line_at run c.args.valid t) || b) (resting.line run at_resting t);
           };
-    }
+    })

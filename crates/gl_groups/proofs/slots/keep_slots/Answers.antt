@@ -42,7 +42,7 @@ drive_all-requires-clause-nexts c =
     c.in_ok-flags.ensures slots))
 
 pub returns : goal.returns
-returns c =
+returns c = rw c.note_slots.ensures (
     let is_used : c.from_vec-used.result ≡ map to_bit c.in_ok-flags.flags = c.from_vec-used.ensures ∙ c.in_ok-lines_of.ensures ∙ ap (map to_bit) c.as_slice.ensures in
     let is_nexts : c.as_slice-4.result.now ≡ map to_bus c.in_ok-slots.slots.seen.has = c.as_slice-4.ensures.value ∙ c.in_ok-nexts.ensures ∙ ap (map to_bus) c.as_slice-2.ensures in
     let slots = subst (λ (bs : List Bit). AddsKeys c.open_same.new.net c.keep_keys.new.net bs c.args.wanted.free c.args.wanted.ask c.args.wanted.here c.args.homes.now c.in_ok-slots.slots) is_used c.in_ok-slots.ensures in
@@ -51,4 +51,4 @@ returns c =
     subst (λ (bs : List Bit). AddsKept c.args.net.now c.drive_all.new.net c.args.wanted.free c.args.wanted.ask c.args.wanted.here c.args.homes.now c.args.count
     (record { used = bs; keys = c.in_ok-slots.slots.keys; seen = c.in_ok-slots.slots.seen })) (sym is_used)
     (slots_kept c.args.net.now c.open_same.new.net c.keep_keys.new.net c.drive_all.new.net c.args.count c.word.result c.args.wanted.free c.args.wanted.ask c.args.wanted.here c.args.homes.now c.in_ok-flags.flags c.in_ok-slots.slots c.word.ensures.width c.word.ensures.bits
-    c.in_ok-flags.ensures slots driven)
+    c.in_ok-flags.ensures slots driven))

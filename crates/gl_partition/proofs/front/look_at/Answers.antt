@@ -47,8 +47,8 @@ pub pairwise-requires-clause-count : goal.pairwise-requires-clause-count
 pairwise-requires-clause-count c = c.in_ok-lines.ensures.are.takes_count ∙ sym c.in_ok-lines.ensures.are.found_count
 
 pub returns : goal.returns
-returns c =
+returns c = rw c.note_bits.ensures (
     look_adds c.args.net.now c.count_flush.new.net c.keep_tail.new.net c.look_up.new.net c.put_slots.new.net c.count_turns.new.net c.turn_lines.new.net c.pairwise.new.net
     c.args.wire.now c.args.numbers.key c.args.numbers.slots c.args.numbers.sizes.copies c.args.numbers.stride c.args.numbers.width c.requires.slots c.requires.copies
     c.in_ok-flush.flush c.in_ok-tail.tail c.in_ok-look.look c.in_ok-lines.lines c.in_ok-turns.turns c.in_ok-dues.dues c.in_ok-matches.matches
-    c.in_ok-flush.ensures c.in_ok-tail.ensures c.in_ok-look.ensures c.in_ok-lines.ensures c.in_ok-turns.ensures c.in_ok-dues.ensures c.in_ok-matches.ensures
+    c.in_ok-flush.ensures c.in_ok-tail.ensures c.in_ok-look.ensures c.in_ok-lines.ensures c.in_ok-turns.ensures c.in_ok-dues.ensures c.in_ok-matches.ensures)

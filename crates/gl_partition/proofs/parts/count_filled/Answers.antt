@@ -4,7 +4,7 @@ use Rattle.gl_partition.proofs.PartLemmas.{filled_is}
 use Rattle.gl_partition.proofs.parts.count_filled.Goals as goal
 
 pub returns : goal.returns
-returns c =
+returns c = rw c.note_filled.ensures (
     let left = c.in_ok-left.ensures in
     let last = c.in_ok-last.ensures in
     let trigger = c.in_ok-trigger.ensures in
@@ -21,4 +21,4 @@ returns c =
           let at_last = trigger.keeps.runs run r in
           filled_is run c.args.valid c.args.eos c.args.due c.args.size c.args.advance c.from-rows.result c.from-again.result c.in_ok-left.left c.in_ok-last.last c.in_ok-trigger.trigger
           c.from-rows.ensures c.from-again.ensures (left.next run (last.keeps.runs run at_last)) (last.line run at_last) (trigger.line run r);
-    }
+    })

@@ -4,7 +4,7 @@ use Rattle.gl_partition.proofs.PartLemmas.{turns_is}
 use Rattle.gl_partition.proofs.parts.count_turns.Goals as goal
 
 pub returns : goal.returns
-returns c =
+returns c = rw c.note_turns.ensures (
     let within = c.in_ok-within.ensures in
     let last = c.in_ok-last.ensures in
     let rest = c.in_ok-rest.ensures in
@@ -22,4 +22,4 @@ returns c =
       law = λ run r.
           turns_is run c.args.eos c.args.due c.args.slots c.args.copies c.from-all.result c.from-others.result c.in_ok-within.within c.in_ok-rest.rest c.in_ok-last.last
           c.from-all.ensures c.from-others.ensures (within.next run (behind.runs run r)) (last.line run (rest.keeps.runs run r)) (rest.next run r);
-    }
+    })

@@ -26,8 +26,8 @@ take_rows-requires-clause-tail c =
     c.in_ok-last.ensures.bit
 
 pub returns : goal.returns
-returns c =
+returns c = rw (c.note_bit-2.ensures, c.note_bit.ensures) (
     slot_adds c.args.net.now c.both.new.net c.both-2.new.net c.count_openings.new.net c.count_filled.new.net c.pointer.new.net c.rotate.new.net c.take_rows.new.net
     c.args.comes.valid c.args.comes.eos c.args.comes.tail c.args.mine c.args.due c.in_ok-own.own c.in_ok-last.last c.args.sizes.size c.args.sizes.advance c.args.sizes.copies c.bits_to.result c.from.result c.requires.copies c.bits_to.ensures.few c.from.ensures
     c.in_ok-next.next c.in_ok-filled.filled c.in_ok-opened.opened c.in_ok-open.open c.in_ok-takes.takes
-    c.in_ok-own.ensures c.in_ok-last.ensures c.in_ok-next.ensures c.in_ok-filled.ensures c.in_ok-opened.ensures c.in_ok-open.ensures c.in_ok-takes.ensures
+    c.in_ok-own.ensures c.in_ok-last.ensures c.in_ok-next.ensures c.in_ok-filled.ensures c.in_ok-opened.ensures c.in_ok-open.ensures c.in_ok-takes.ensures)

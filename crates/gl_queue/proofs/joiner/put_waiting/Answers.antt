@@ -6,7 +6,7 @@ use Rattle.gl_queue.proofs.JoinLinesLemmas.{waiting_both}
 use Rattle.gl_queue.proofs.joiner.put_waiting.Goals as goal
 
 pub returns : goal.returns
-returns c =
+returns c = rw c.note_ends.ensures (
     let left = c.in_ok-left.ensures in
     let right = c.in_ok-right.ensures in
     let now = c.in_ok-now.ensures in
@@ -53,4 +53,4 @@ returns c =
           (left_next.line run at_left_next)
           (right_stays.line run at_right_stays)
           (right_next.line run at_right_next);
-    }
+    })

@@ -6,7 +6,7 @@ use Rattle.gl_queue.proofs.MergeLinesLemmas.{waiting_is}
 use Rattle.gl_queue.proofs.merge.put_end.Goals as goal
 
 pub returns : goal.returns
-returns c =
+returns c = rw c.note_ends.ensures (
     let left = c.in_ok-left.ensures in
     let right = c.in_ok-right.ensures in
     let ended = c.in_ok-ended.ensures in
@@ -61,4 +61,4 @@ returns c =
           (left_next.line run at_left_next)
           (right_stays.line run at_right_stays)
           (right_next.line run at_right_next);
-    }
+    })

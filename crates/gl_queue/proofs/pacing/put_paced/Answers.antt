@@ -11,7 +11,7 @@ pub put_queue-requires-clause-columns : goal.put_queue-requires-clause-columns
 put_queue-requires-clause-columns c = buses_kept _ _ _ c.in_ok-hold.ensures.keeps (buses_driven c.args.net.now c.register.new.self _ c.in_ok-timer.ensures.grows c.requires.columns)
 
 pub returns : goal.returns
-returns c =
+returns c = rw c.note_pace.ensures (
     let timer = c.in_ok-timer.ensures in
     let hold = c.in_ok-hold.ensures in
     let queue = c.in_ok-queue.ensures in
@@ -41,4 +41,4 @@ returns c =
           let holds = hold.line run at_hold in
           pacing_is run c.args.depth c.args.gap c.args.push c.in_ok-hold.hold c.args.columns.now c.in_ok-timer.timer c.in_ok-next.next (record { queue = c.in_ok-queue.queue; pop = c.in_ok-pop.pop })
           holds (queue.queue run at_queue) (pop.line run at_pop) (timer.start run at_timer ∙ c.word.ensures.bits) (λ t. drive.value run r t) (next.value run at_next holds);
-    }
+    })

@@ -12,7 +12,7 @@ pub put_columns-requires-clause-columns : goal.put_columns-requires-clause-colum
 put_columns-requires-clause-columns c = buses_kept _ _ _ c.in_ok-passed.ensures.keeps (buses_kept _ _ _ c.in_ok-at.ensures.keeps c.requires.columns)
 
 pub returns : goal.returns
-returns c =
+returns c = rw c.note_queue.ensures (
     let bits = c.address_bits-bits.ensures in
     let places = c.in_ok-at.ensures in
     let passed = c.in_ok-passed.ensures in
@@ -37,4 +37,4 @@ returns c =
           ring_queue run c.address_bits-bits.result c.args.depth c.args.push c.args.hold at.some at.pop c.in_ok-passed.passed at.head at.tail c.args.columns.now c.in_ok-columns.columns
           bits.bits.some' (omega (arith, c.requires.more_than_one)) bits.enough
           (places.places run at_places) (passed.passed run at_passed) (stored.held run r);
-    }
+    })

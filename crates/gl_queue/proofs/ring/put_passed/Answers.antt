@@ -5,7 +5,7 @@ use Rattle.gl_queue.proofs.PartLemmas.{passed_is}
 use Rattle.gl_queue.proofs.ring.put_passed.Goals as goal
 
 pub returns : goal.returns
-returns c =
+returns c = rw c.note_bit.ensures (
     let meets = c.in_ok-meets.ensures in
     let full = c.in_ok-full.ensures in
     let comes = c.in_ok-comes.ensures in
@@ -29,4 +29,4 @@ returns c =
           (full.line run at_full)
           (comes.line run at_comes)
           (line.line run r);
-    }
+    })

@@ -12,7 +12,7 @@ pub put_meeting-requires-clause-number : goal.put_meeting-requires-clause-number
 put_meeting-requires-clause-number c = one_fits c.args.bits c.requires.bits.some'
 
 pub returns : goal.returns
-returns c =
+returns c = rw c.note_places.ensures (
     let flag = c.in_ok-flag.ensures in
     let pop = c.in_ok-pop.ensures in
     let head = c.in_ok-head.ensures in
@@ -55,4 +55,4 @@ returns c =
           (next.line run at_next)
           (ap (run.at 1) c.bit-some.ensures ∙ flag.start run at_flag ∙ c.word.ensures.bits)
           (λ t. ap (run.at _) c.bit-some.ensures ∙ drive.value run r t ∙ ap (run.at _) c.bus.ensures.node);
-    }
+    })

@@ -9,7 +9,7 @@ use Rattle.gl_queue.proofs.ShortLemmas.{single_queue}
 use Rattle.gl_queue.proofs.short.put_single.Goals as goal
 
 pub returns : goal.returns
-returns c =
+returns c = rw c.note_queue.ensures (
     let kept = c.in_ok-columns.ensures in
     let flag = c.in_ok-flag.ensures in
     let stays = c.in_ok-stays.ensures in
@@ -40,4 +40,4 @@ returns c =
           (ap (run.at 1) c.bit-some.ensures ∙ flag.start run at_flag ∙ c.word.ensures.bits)
           (λ t. ap (run.at _) c.bit-some.ensures ∙ drive.value run r t ∙ ap (run.at _) c.bus.ensures.node)
           (stays.line run at_stays) (next.line run at_next) (passed.line run at_passed) (kept.row run (flag.grows.runs run at_flag));
-    }
+    })

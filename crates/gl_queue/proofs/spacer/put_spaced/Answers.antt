@@ -31,7 +31,7 @@ both-requires-2-clause-right c =
     (ap widths c.as_slice-shown.ensures ∙ p.same_widths ∙ ap widths (c.as_slice.ensures ∙ c.in_ok-columns.ensures)) c.bit-2.ensures
 
 pub returns : goal.returns
-returns c =
+returns c = rw c.note_stage.ensures (
     let w = c.args.wire.now in
     let n = c.args.depth in
     let g = c.args.gap in
@@ -76,4 +76,4 @@ returns c =
           let at_comes = paced.keeps.runs run at_paced in
           spacer_is run g n w (record { valid = c.in_ok-valid.valid; eos = c.in_ok-eos.eos; columns = outs }) c.in_ok-comes.comes first second p is
           (paced.pacing run at_paced) (valid.line run at_valid) (eos.line run r) (comes.line run at_comes);
-    }
+    })

@@ -15,7 +15,7 @@ stage-requires-clause-columns c =
     (buses_kept c.args.net.now c.both.new.net c.args.below.wire.columns c.in_ok-keep.ensures.keeps c.requires.wire.columns)
 
 pub returns : goal.returns
-returns c =
+returns c = rw c.note_bit.ensures (
     let old = c.args.net.now in
     let mid = c.both.new.net in
     let new = c.stage.new.net in
@@ -39,4 +39,4 @@ returns c =
       shape = λ run r.
           select_steady run wire c.in_ok-keep.keep c.bit.result b.0 c.args.column b.1 (c.bit.ensures ∙ ap (λ (x : Bus). x.node) same)
           (keep.line run (staged.keeps.runs run r)) c.in_ok-wire.wire (staged.delayed run r);
-    }
+    })

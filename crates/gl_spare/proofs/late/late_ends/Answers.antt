@@ -29,7 +29,7 @@ choose_row-requires-clause-second c =
     c.requires.wire.columns)
 
 pub returns : goal.returns
-returns c =
+returns c = rw c.note_late.ensures (
     let chosen : ChoosesRow c.either.new.net c.choose_row.new.net c.in_ok-fired.fired c.in_ok-held.held c.args.wire.now.columns c.in_ok-columns.columns =
     subst (λ (bs : List Bus). ChoosesRow c.either.new.net c.choose_row.new.net c.in_ok-fired.fired bs c.args.wire.now.columns c.in_ok-columns.columns) c.as_slice.ensures
     (subst (λ (bs : List Bus). ChoosesRow c.either.new.net c.choose_row.new.net c.in_ok-fired.fired c.as_slice.result.now bs c.in_ok-columns.columns) c.as_slice-2.ensures c.in_ok-columns.ensures)
@@ -37,4 +37,4 @@ returns c =
     late_adds c.args.net.now c.close_line.new.net c.but_not.new.net c.both.new.net c.latch.new.net c.hold_all.new.net c.both-2.new.net c.either.new.net c.choose_row.new.net
     c.args.wire.now c.args.shift _ c.requires.shift refl c.requires.wire
     c.in_ok-fired.fired c.in_ok-alone.alone c.in_ok-with_end.with_end c.in_ok-had.had c.in_ok-last.last c.in_ok-valid.valid c.in_ok-held.held c.in_ok-columns.columns
-    c.in_ok-fired.ensures c.in_ok-alone.ensures c.in_ok-with_end.ensures c.in_ok-had.ensures c.in_ok-held.ensures c.in_ok-last.ensures c.in_ok-valid.ensures chosen
+    c.in_ok-fired.ensures c.in_ok-alone.ensures c.in_ok-with_end.ensures c.in_ok-had.ensures c.in_ok-held.ensures c.in_ok-last.ensures c.in_ok-valid.ensures chosen)

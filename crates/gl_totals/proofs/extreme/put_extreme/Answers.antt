@@ -16,15 +16,15 @@ use Rattle.gl_totals.proofs.ExtremeNet.{extreme_now, held_total}
 use Rattle.gl_totals.proofs.KeepLemmas.{keep_kept, lag_small}
 use Rattle.gl_totals.proofs.extreme.put_extreme.Goals as goal
 
-pub put_fold-requires-in-Slots-clause-keep : goal.put_fold-requires-in-Slots-clause-keep
-put_fold-requires-in-Slots-clause-keep c = keep_kept _ _ c.args.rows.keep c.in_ok-some.ensures.keeps c.requires.keep
+pub put_state-requires-in-Slots-clause-keep : goal.put_state-requires-in-Slots-clause-keep
+put_state-requires-in-Slots-clause-keep c = keep_kept _ _ c.args.rows.keep c.in_ok-some.ensures.keeps c.requires.keep
 
 pub returns-in-Register : goal.returns-in-Register
 returns-in-Register c =
     let value = c.args.value in
     let rows = c.args.rows in
     let old = c.args.net.now in
-    let mid = c.put_fold.new.net in
+    let mid = c.put_state.new.net in
     let new = c.put_held.new.net in
     let flag = c.in_ok-some.some in
     let best : Best = record { extreme = c.args.extreme; kind = c.args.kind; some = c.bit.result; value = value } in
@@ -51,7 +51,7 @@ returns-in_ok-fold-in-Slots c =
     let bit : words * c.small_word.result.width ≡ words * 1 = ap (λ (w : ℕ). words * w) c.small_word.ensures.width in
     let bits : words * c.small_word-in-Slots.result.width ≡ words * value.width = ap (λ (w : ℕ). words * w) c.small_word-in-Slots.ensures.width in
     record {
-      keeps = keeps_then c.args.net.now c.put_fold.new.net c.put_fold-in-Slots.new.net some.keeps fold.keeps;
+      keeps = keeps_then c.args.net.now c.put_state.new.net c.put_state-in-Slots.new.net some.keeps fold.keeps;
       cost = record {
         nodes = omega (arith, some.cost.nodes, fold.cost.nodes, lag_small rows.keep);
         registers = omega (arith, some.cost.registers, fold.cost.registers, c.small_word.ensures.width, c.small_word-in-Slots.ensures.width);

@@ -10,7 +10,7 @@ use Rattle.gl_totals.proofs.FoldNet.{bit_line}
 use Rattle.gl_totals.proofs.extreme.put_held.Goals as goal
 
 pub returns : goal.returns
-returns c =
+returns c = rw c.note_bus.ensures (
     let old = c.args.net.now in
     let new = c.drive.new.self in
     let valid = c.args.valid in
@@ -58,4 +58,4 @@ returns c =
                 ∙ ap (λ (b : Bool). if row && (wins || not counts) then value else if b then state else 0) right
                 ∙ picked_is row counts best.extreme best.kind state value;
           };
-    }
+    })

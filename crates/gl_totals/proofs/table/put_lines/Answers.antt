@@ -4,7 +4,7 @@ use Rattle.gl_wire.proofs.ColumnLemmas.{bit_kept}
 use Rattle.gl_totals.proofs.table.put_lines.Goals as goal
 
 pub returns : goal.returns
-returns c =
+returns c = rw c.note_lane.ensures (
     let old = c.args.net.now in
     let new = c.later.new.net in
     let valid = c.in_ok-valid.ensures in
@@ -29,4 +29,4 @@ returns c =
       ends = λ run r. eos.line run (behind_eos.runs run r);
       firsts = λ run r. first.line run (slot.keeps.runs run r);
       slots = λ run r. slot.value run r;
-    }
+    })

@@ -30,8 +30,8 @@ returns-then-is_empty c =
           ∙ sym (weighted_nothing width (bits_of ws) (values_at run c.args.rows c.args.value (suc t)) bits);
     }
 
-pub put_fold-requires-2-clause-keep : goal.put_fold-requires-2-clause-keep
-put_fold-requires-2-clause-keep c =
+pub put_state-requires-2-clause-keep : goal.put_state-requires-2-clause-keep
+put_state-requires-2-clause-keep c =
     let keep = c.args.rows.keep in
     keep_kept _ _ keep c.in_ok-part.ensures.keeps (keep_kept _ _ keep c.in_ok-weight.ensures.keeps (keep_kept _ _ keep c.in_ok-place.ensures.keeps c.requires.keep))
 
@@ -54,9 +54,9 @@ returns c =
     let words = slot_words rows.keep in
     let places : words * c.small_word-first.result.width ≡ words * length ws = ap (λ (w : ℕ). words * w) c.small_word-first.ensures.width in
     let sums : words * c.small_word-2.result.width ≡ words * width = ap (λ (w : ℕ). words * w) c.small_word-2.ensures.width in
-    let behind = keeps_then _ c.binary.new.self c.put_fold-2.new.net part.keeps sum.keeps in
+    let behind = keeps_then _ c.binary.new.self c.put_state-2.new.net part.keeps sum.keeps in
     record {
-      keeps = keeps_then c.args.net.now c.put_fold.new.net _ place.keeps (keeps_then _ c.put_picked.new.net _ weight.keeps behind);
+      keeps = keeps_then c.args.net.now c.put_state.new.net _ place.keeps (keeps_then _ c.put_picked.new.net _ weight.keeps behind);
       cost = record {
         nodes = omega (arith, place.cost.nodes, weight.cost.nodes, part.size, sum.cost.nodes, many);
         registers = omega (arith, place.cost.registers, weight.cost.registers, part.register_bits, sum.cost.registers, c.small_word-first.ensures.width, c.small_word-2.ensures.width);

@@ -6,7 +6,7 @@ use Rattle.gl_wire_registers.specs.Held.{counted_down, held_at}
 use Rattle.gl_windows.proofs.parts.count_flush.Goals as goal
 
 pub returns : goal.returns
-returns c =
+returns c = rw c.note_flush.ensures (
     let flush = c.in_ok-flush.ensures in
     let idle = c.in_ok-idle.ensures in
     let wait = c.in_ok-wait.ensures in
@@ -32,4 +32,4 @@ returns c =
                 ∙ ap (λ (n : ℕ). counted_down n n (line_at run c.args.eos t) (line_at run c.in_ok-idle.idle t) (held_at 0 run c.in_ok-wait.wait t)) c.from-last.ensures;
             due = due.line run r 0;
           };
-    }
+    })

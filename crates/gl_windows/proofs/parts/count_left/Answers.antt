@@ -5,7 +5,7 @@ use Rattle.gl_windows.proofs.PartLemmas.{left_is}
 use Rattle.gl_windows.proofs.parts.count_left.Goals as goal
 
 pub returns : goal.returns
-returns c =
+returns c = rw c.note_trigger.ensures (
     let left = c.in_ok-left.ensures in
     let last = c.in_ok-last.ensures in
     let may = c.in_ok-may.ensures in
@@ -26,4 +26,4 @@ returns c =
           let at_last = may.keeps.runs run at_may in
           left_is run c.args.unit c.args.eos c.args.due c.args.size c.args.advance c.from-rows.result c.from-again.result c.in_ok-left.left c.in_ok-last.last c.in_ok-may.may c.in_ok-trigger.trigger
           c.from-rows.ensures c.from-again.ensures (left.next run (last.keeps.runs run at_last)) (last.line run at_last) (may.line run at_may) (trigger.line run r);
-    }
+    })

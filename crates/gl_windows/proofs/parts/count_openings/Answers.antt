@@ -6,7 +6,7 @@ use Rattle.gl_wire_registers.specs.Held.{counted_down, held_at}
 use Rattle.gl_windows.proofs.parts.count_openings.Goals as goal
 
 pub returns : goal.returns
-returns c =
+returns c = rw c.note_opening.ensures (
     let until = c.in_ok-until.ensures in
     let opens = c.in_ok-opens.ensures in
     record {
@@ -23,4 +23,4 @@ returns c =
             ∙ (λ i. counted_down (c.from-first.ensures i) (c.from-again.ensures i) (line_at run c.args.eos t) (line_at run c.args.unit t) (held_at (c.from-first.ensures i) run c.in_ok-until.until t));
         opens = λ t. opens.line run r c.from-first.result t ∙ ap (λ (n : ℕ). line_at run c.args.unit t && nat_eq (held_at n run c.in_ok-until.until t) 0) c.from-first.ensures;
       };
-    }
+    })

@@ -4,7 +4,7 @@ use Rattle.gl_windows.proofs.PartLemmas.{tail_is}
 use Rattle.gl_windows.proofs.parts.keep_tail.Goals as goal
 
 pub returns : goal.returns
-returns c =
+returns c = rw c.note_tail.ensures (
     let with_end = c.in_ok-with_end.ensures in
     let held = c.in_ok-held.ensures in
     let resting = c.in_ok-resting.ensures in
@@ -25,4 +25,4 @@ returns c =
           let at_held = resting.keeps.runs run at_resting in
           tail_is run c.args.valid c.args.eos c.args.idle c.in_ok-with_end.with_end c.in_ok-held.held c.in_ok-resting.resting c.in_ok-later.later c.in_ok-tail.tail
           (with_end.line run (held.keeps.runs run at_held)) (held.line run at_held) (resting.line run at_resting) (later.line run at_later) (tail.line run r);
-    }
+    })

@@ -59,7 +59,7 @@ copy_wires-requires-clause-ends c =
     c.in_ok-open.ensures.ends
 
 pub returns : goal.returns
-returns c =
+returns c = rw c.note_ticks.ensures (
     time_fronts_are c.args.net.now c.timer.new.net c.either.new.net c.either-2.new.net c.count_openings.new.net c.either-3.new.net c.count_flush.new.net c.count_left.new.net c.keep_tail.new.net c.but_not.new.net
     c.pointer.new.net c.rotate.new.net c.pairwise.new.net c.take_rows.new.net c.hold_all.new.net c.copy_wires.new.net
     c.args.r.now c.args.wire.now c.args.tick c.copies-count.result c.stride.result c.turns.result c.bits_to.result c.from.result (c.copies-count.result - 1) c.bits_to.ensures.few
@@ -68,4 +68,4 @@ returns c =
     c.in_ok-reopens.reopens c.in_ok-brings.brings c.in_ok-busy.busy c.in_ok-opens.opens c.in_ok-tail.tail c.in_ok-opening.opening c.in_ok-flush.flush c.in_ok-trigger.trigger c.in_ok-kept.kept c.in_ok-opened.opened
     c.in_ok-open.open c.in_ok-stay.stay c.in_ok-takes.takes c.in_ok-row.row c.in_ok-wires.wires
     c.in_ok-reopens.ensures c.in_ok-brings.ensures c.in_ok-busy.ensures c.in_ok-opening.ensures c.in_ok-opens.ensures c.in_ok-flush.ensures c.in_ok-trigger.ensures c.in_ok-kept.ensures c.in_ok-tail.ensures c.in_ok-opened.ensures
-    c.in_ok-open.ensures c.in_ok-stay.ensures c.in_ok-takes.ensures c.in_ok-row.ensures c.in_ok-wires.ensures
+    c.in_ok-open.ensures c.in_ok-stay.ensures c.in_ok-takes.ensures c.in_ok-row.ensures c.in_ok-wires.ensures)

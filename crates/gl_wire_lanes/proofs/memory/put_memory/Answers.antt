@@ -3,7 +3,7 @@ use Rattle.std.proofs.lemmas.Grind.{common_steps}
 use Rattle.gl_wire_lanes.proofs.memory.put_memory.Goals as goal
 
 pub returns : goal.returns
-returns c =
+returns c = rw c.note_bus.ensures (
     let made = c.in_ok-store.ensures in
     let drive = c.in_ok-drive_memory.ensures in
     let out = c.in_ok-out.ensures in
@@ -22,4 +22,4 @@ returns c =
         reads = λ t. out.value run r t;
         writes = λ t k. drive.value run (out.keeps.runs run r) t k;
       };
-    }
+    })

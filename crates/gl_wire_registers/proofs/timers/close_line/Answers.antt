@@ -5,7 +5,7 @@ use Rattle.gl_wire_registers.proofs.TimerLemmas.{close_is}
 use Rattle.gl_wire_registers.proofs.timers.close_line.Goals as goal
 
 pub returns : goal.returns
-returns c =
+returns c = rw c.note_bit.ensures (
     let fired = c.in_ok-fired.ensures in
     let close = c.in_ok-close.ensures in
     record {
@@ -20,4 +20,4 @@ returns c =
       close = λ run r.
           close_is c.args.cycles c.args.more (line_at run c.args.ends) (line_at run c.in_ok-fired.fired) (line_at run c.in_ok-close.close)
           (fired.line run (close.keeps.runs run r)) (close.first run r) (close.later run r);
-    }
+    })

@@ -6,7 +6,7 @@ use Rattle.gl_wire_registers.proofs.TimerLemmas.{timer_is}
 use Rattle.gl_wire_registers.proofs.timers.timer.Goals as goal
 
 pub returns : goal.returns
-returns c =
+returns c = rw c.note_timer.ensures (
     let one = c.in_ok-one.ensures in
     let left = c.in_ok-left.ensures in
     let over = c.in_ok-over.ensures in
@@ -32,4 +32,4 @@ returns c =
           (subst (λ (n : ℕ). (t : ℕ) → held_at 0 run c.in_ok-left.left (suc t) ≡ counted_down n 0 (line_at run c.args.set t) (line_at run c.in_ok-one.one t) (held_at 0 run c.in_ok-left.left t))
           c.from.ensures (left.next run r1))
           (over.line run r2 0) (on.line run r3) (fired.line run r4 0);
-    }
+    })

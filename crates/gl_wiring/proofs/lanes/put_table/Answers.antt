@@ -28,17 +28,17 @@ pub kinds-requires : goal.kinds-requires
 kinds-requires c =
     first_within c.args.site.plan.now c.args.body _ c.node.ensures.plan (c.node.ensures.node ∙ ap Some c.in-Aggregate.is) c.in-Aggregate.child [] refl
 
-pub emit-requires-clause-are_kinds : goal.emit-requires-clause-are_kinds
-emit-requires-clause-are_kinds c =
+pub put_states-requires-clause-are_kinds : goal.put_states-requires-clause-are_kinds
+put_states-requires-clause-are_kinds c =
     rw c.kinds.ensures.kinds (columns_have_kinds c.args.site.plan.now c.in-Aggregate.child c.node.ensures.plan
     (first_within c.args.site.plan.now c.args.body _ c.node.ensures.plan (c.node.ensures.node ∙ ap Some c.in-Aggregate.is) c.in-Aggregate.child [] refl))
 
-pub emit-requires-clause-aggs : goal.emit-requires-clause-aggs
-emit-requires-clause-aggs c =
+pub put_states-requires-clause-aggs : goal.put_states-requires-clause-aggs
+put_states-requires-clause-aggs c =
     rw (c.kinds.ensures.kinds, c.as_slice.ensures) ((c.node.ensures.plan.fits c.args.body _ (c.node.ensures.node ∙ ap Some c.in-Aggregate.is)).suits)
 
-pub emit-requires-clause-some : goal.emit-requires-clause-some
-emit-requires-clause-some c =
+pub put_states-requires-clause-some : goal.put_states-requires-clause-some
+put_states-requires-clause-some c =
     let follows = nodes_follow_tables c.args.site.plan.now c.args.body _ c.node.ensures.plan (c.node.ensures.node ∙ ap Some c.in-Aggregate.is) in
     rw c.as_slice.ensures (direct_is (form_of c.args.site.plan.now c.in-Aggregate.child) (kinds_of c.args.site.plan.now c.in-Aggregate.child) c.in-Aggregate.aggs
     (sym (ap is_direct follows.form) ∙ c.requires.direct)).some'
@@ -52,6 +52,6 @@ unreachable-requires c =
 pub returns : goal.returns
 returns c =
     table_put c.args.site.plan.now c.args.body c.in-Aggregate.child c.in-Aggregate.aggs c.node.ensures.plan (c.node.ensures.node ∙ ap Some c.in-Aggregate.is)
-    c.args.net.now c.put_rows.new.net c.emit.new.net c.args.lane.now c.args.place c.in_ok-below-in-Aggregate.below c.in_ok-below-in-Aggregate.ensures
+    c.args.net.now c.put_rows.new.net c.put_states.new.net c.args.lane.now c.args.place c.in_ok-below-in-Aggregate.below c.in_ok-below-in-Aggregate.ensures
     (record { kinds = c.kinds.result; aggs = c.as_slice.result }) c.kinds.ensures.kinds c.as_slice.ensures c.in_ok-out-in-Aggregate.out
     c.in_ok-out-in-Aggregate.ensures

@@ -18,7 +18,7 @@ returns c =
     let face = c.in_ok-face.ensures in
     one_shown c.args.site.plan.now c.args.table.now old new r e c.args.site.planned c.requires.within c.requires.can c.in_ok-e.ensures out.extends
     (subst (λ (f : Face). Puts old new (result_outputs (naming_of f) ws r.names.columns)) face
-    (subst (λ (ns : List (List ℕ)). Puts old new (result_outputs (naming_of c.in_ok-face.face) ws ns)) c.as_slice.ensures out.ports))
+    (subst (λ (ns : List (List ℕ)). Puts old new (result_outputs (naming_of c.in_ok-face.face) ws ns)) c.as_slice-names.ensures out.ports))
     out.cost
     (subst (λ (f : Face). IsOutput (naming_of f) new r.names.columns e) face
-    (subst (λ (ns : List (List ℕ)). IsOutput (naming_of c.in_ok-face.face) new ns e) c.as_slice.ensures out.output))
+    (subst (λ (ns : List (List ℕ)). IsOutput (naming_of c.in_ok-face.face) new ns e) c.as_slice-names.ensures out.output))

@@ -11,8 +11,8 @@ put_circuit-requires c =
     (can_child c.args.site.plan.now c.args.site.figures.now w.id (Window w.source w.body w.size w.advance) c.args.net.now c.args.site.tick c.args.site.leaves.now
     c.args.site.planned c.requires.node.window' c.requires.can w.source (w.body ∷ []) refl refl).can
 
-pub put_over_copies-requires : goal.put_over_copies-requires
-put_over_copies-requires c =
+pub put_machine-requires : goal.put_machine-requires
+put_machine-requires c =
     let x = c.in_ok-source.ensures.gives in
     record {
       numbers = c.rotation-rotation.ensures.is;
@@ -26,5 +26,5 @@ put_over_copies-requires c =
 
 pub returns : goal.returns
 returns c =
-    spare_put c.args.site.plan.now c.args.w c.args.site.planned c.requires.node c.args.net.now c.put_circuit.new.net c.put_over_copies.new.net c.args.site.tick
+    spare_put c.args.site.plan.now c.args.w c.args.site.planned c.requires.node c.args.net.now c.put_circuit.new.net c.put_machine.new.net c.args.site.tick
     c.args.site.leaves.now c.in_ok-source.source c.in_ok-e.e c.in_ok-source.ensures (rw c.rotation-rotation.ensures.value at c.in_ok-e.ensures)
