@@ -37,7 +37,14 @@ fn take_notes(
 ) -> Result<(), Memory> {
     for (place, noted) in notes.iter().enumerate() {
         scopes.fill(noted.at.min(labels.len()))?;
-        take_note(alloc, naming, scopes, labels, noted.note, notes.get(place + 1))?;
+        take_note(
+            alloc,
+            naming,
+            scopes,
+            labels,
+            noted.note,
+            notes.get(place + 1),
+        )?;
     }
     scopes.fill(labels.len())
 }

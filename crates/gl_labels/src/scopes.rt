@@ -36,13 +36,20 @@ pub(crate) struct Scope {
     pub(crate) words: Vec<u8>,
 }
 
+// Where a node stands, and whether it is called by a line of a wire.
+#[derive(Clone, Copy)]
+struct Standing {
+    scope: usize,
+    is_line: bool,
+}
+
 /// The scopes of a netlist, each under its number.
 #[derive(Drop)]
 pub(crate) struct Scopes {
     all: Vec<Scope>,
     current: usize,
-    // The scope of each node that there was.
-    nodes: Vec<usize>,
+    // Where each node stands that there was.
+    nodes: Vec<Standing>,
 }
 
 impl Scopes {
@@ -111,22 +118,40 @@ impl Scopes {
     /// The scope of a node.
     pub(crate) fn of_node(&self, node: usize) -> usize {
         match self.nodes.get(node) {
-            Some(scope) => *scope,
+            Some(found) => found.scope,
             None => PORTS,
+        }
+    }
+
+    /// Whether a node is called by a line of a wire.
+    pub(crate) fn is_line(&self, node: usize) -> bool {
+        match self.nodes.get(node) {
+            Some(found) => found.is_line,
+            None => false,
+        }
+    }
+
+    /// Notes that a node is called by a line of a wire.
+    pub(crate) fn set_line(&mut self, node: usize) {
+        if let Some(found) = self.nodes.get_mut(node) {
+            found.is_line = true;
         }
     }
 
     /// Puts a node into a scope.
     pub(crate) fn place(&mut self, node: usize, scope: usize) {
         if let Some(found) = self.nodes.get_mut(node) {
-            *found = scope;
+            found.scope = scope;
         }
     }
 
     /// Puts all nodes up to this number, that have no scope, into that in which nodes are made.
     pub(crate) fn fill(&mut self, to: usize) -> Result<(), Memory> {
         for _ in self.nodes.len()..to {
-            self.nodes.push(self.current)?;
+            self.nodes.push(Standing {
+                scope: self.current,
+                is_line: false,
+            })?;
         }
         Ok(())
     }

@@ -19,12 +19,18 @@ enum Line {
     Column(usize),
 }
 
-// Calls a node so, unless it has a name.
+// Calls a node so.
 fn call(labels: &mut [Label], node: usize, name: Vec<u8>) {
     if let Some(label) = labels.get_mut(node) {
-        if label.name.is_empty() {
-            label.name = name;
-        }
+        label.name = name;
+    }
+}
+
+// Whether a node has a name.
+fn is_called(labels: &[Label], node: usize) -> bool {
+    match labels.get(node) {
+        Some(label) => !label.name.is_empty(),
+        None => false,
     }
 }
 
@@ -47,52 +53,52 @@ fn put_line(text: &mut Vec<u8>, naming: Naming<'_>, sort: Sort, line: Line) -> R
     }
 }
 
-// Calls a node of this section by its line.
-fn call_line(
+// The name of a line of the section in which nodes are made.
+fn line_name(
     alloc: Global,
     naming: Naming<'_>,
     scopes: &Scopes,
-    labels: &mut [Label],
-    node: usize,
     line: Line,
-) -> Result<(), Memory> {
+) -> Result<Vec<u8>, Memory> {
     let section = scopes.section(scopes.current());
     let mut name = Vec::from_slice(alloc, scopes.path(section))?;
     put_line(&mut name, naming, scopes.sort(section), line)?;
-    call(labels, node, name);
-    Ok(())
+    Ok(name)
 }
 
-// Calls a node of the operator around copies by the line of the body's rows that it is.
-fn call_row(
+// The name of a line that a copy of a body is given, in the operator around the copies.
+fn row_name(
     alloc: Global,
     naming: Naming<'_>,
     scopes: &Scopes,
-    labels: &mut [Label],
-    node: usize,
+    copy: usize,
     line: Line,
-) -> Result<(), Memory> {
-    let section = scopes.section(scopes.current());
-    let sort = scopes.sort(section);
-    let copy = scopes.around(section);
-    let Sort::Copy(number) = scopes.sort(copy) else {
-        return Ok(());
-    };
+) -> Result<Vec<u8>, Memory> {
     let owner = scopes.section(scopes.around(copy));
-    if !is_body(naming.subject, sort) || scopes.section(scopes.of_node(node)) != owner {
-        return Ok(());
-    }
     let mut name = Vec::from_slice(alloc, scopes.path(owner))?;
-    match line {
-        Line::Column(_) => put(&mut name, b"_row")?,
-        _ => put_number(&mut name, b"_c", number as u128)?,
+    match scopes.sort(copy) {
+        Sort::Copy(number) if !matches!(line, Line::Column(_)) => {
+            put_number(&mut name, b"_c", number as u128)?;
+        }
+        _ => put(&mut name, b"_row")?,
     }
-    put_line(&mut name, naming, sort, line)?;
-    call(labels, node, name);
-    Ok(())
+    let section = scopes.section(scopes.current());
+    put_line(&mut name, naming, scopes.sort(section), line)?;
+    Ok(name)
 }
 
-// Tells that a node is a line of the wire of the section in which nodes are made. A node of another section is none.
+// Whether a node stands in the operator around copies, in one of which the body's rows are told.
+fn is_given(naming: Naming<'_>, scopes: &Scopes, node: usize) -> bool {
+    let section = scopes.section(scopes.current());
+    let copy = scopes.around(section);
+    let owner = scopes.section(scopes.around(copy));
+    is_body(naming.subject, scopes.sort(section))
+        && matches!(scopes.sort(copy), Sort::Copy(_))
+        && scopes.section(scopes.of_node(node)) == owner
+}
+
+// Tells that a node is a line of a wire. In its own section, or among the ports, that says more than its task. Where a copy
+// is given it, only a column does. Elsewhere the line passes through, and has its name.
 fn tell_line(
     alloc: Global,
     naming: Naming<'_>,
@@ -101,15 +107,23 @@ fn tell_line(
     node: usize,
     line: Line,
 ) -> Result<(), Memory> {
+    if scopes.is_line(node) {
+        return Ok(());
+    }
     let section = scopes.section(scopes.current());
     let own = scopes.section(scopes.of_node(node));
-    if own != section && own != PORTS {
-        return call_row(alloc, naming, scopes, labels, node, line);
-    }
-    if own != section {
+    if own == section || own == PORTS {
         scopes.place(node, section);
+        scopes.set_line(node);
+        call(labels, node, line_name(alloc, naming, scopes, line)?);
+    } else if is_given(naming, scopes, node)
+        && (matches!(line, Line::Column(_)) || !is_called(labels, node))
+    {
+        let copy = scopes.around(section);
+        scopes.set_line(node);
+        call(labels, node, row_name(alloc, naming, scopes, copy, line)?);
     }
-    call_line(alloc, naming, scopes, labels, node, line)
+    Ok(())
 }
 
 // Tells the task of a node, and its place where several have this task.
@@ -121,6 +135,9 @@ fn tell_role(
     word: &[u8],
     place: Option<usize>,
 ) -> Result<(), Memory> {
+    if is_called(labels, node) {
+        return Ok(());
+    }
     let mut name = Vec::from_slice(alloc, scopes.path(scopes.of_node(node)))?;
     put(&mut name, b"_")?;
     put(&mut name, word)?;
