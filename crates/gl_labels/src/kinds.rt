@@ -1,9 +1,11 @@
 //! What a net is called that nobody named.
 
-use crate::scopes::{PORTS, Scopes};
+use crate::owners::{Owners, is_named};
+use crate::scopes::Scopes;
+use crate::telling::set_name;
 use gl_bits::{Memory, Word};
 use gl_explain::lines::{put, put_number};
-use gl_net::{BinaryOp, Node, Port};
+use gl_net::{BinaryOp, Netlist, Node, Port};
 use gl_verilog_writer::Label;
 use std::alloc::Global;
 
@@ -59,42 +61,54 @@ fn put_port(text: &mut Vec<u8>, ports: &[Port], place: usize) -> Result<(), Memo
     }
 }
 
-// The name of a node in a scope that nobody named: its kind, or its port where it is in no scope else.
-fn plain_name(
-    alloc: Global,
-    ports: &[Port],
-    scopes: &Scopes,
-    scope: usize,
-    node: &Node,
-) -> Result<Vec<u8>, Memory> {
-    let mut name = Vec::from_slice(alloc, scopes.path(scope))?;
+// Appends what a node is, behind a name or a path.
+fn put_kind(text: &mut Vec<u8>, node: &Node) -> Result<(), Memory> {
+    put(text, b"_")?;
     match node {
-        Node::Input(place, _) if scope == PORTS => put_port(&mut name, ports, *place)?,
-        Node::Constant(word) => {
-            put(&mut name, b"_")?;
-            put_constant(&mut name, *word)?;
-        }
-        _ => {
-            put(&mut name, b"_")?;
-            put(&mut name, kind_word(node))?;
-        }
+        Node::Constant(word) => put_constant(text, *word),
+        _ => put(text, kind_word(node)),
+    }
+}
+
+// What the name of a node begins with that nobody named: the name of its owner, or the path of its scope.
+fn front_of<'a>(
+    scopes: &'a Scopes,
+    labels: &'a [Label],
+    node: usize,
+    owner: Option<usize>,
+) -> &'a [u8] {
+    let Some(owner) = owner else {
+        return scopes.path(scopes.of_node(node));
+    };
+    match labels.get(owner) {
+        Some(label) => label.name.as_slice(),
+        None => b"",
+    }
+}
+
+// The name of a node that nobody named: its kind behind what it is made for; an input of no scope has its port's.
+fn plain_name(alloc: Global, front: &[u8], ports: &[Port], node: &Node) -> Result<Vec<u8>, Memory> {
+    let mut name = Vec::from_slice(alloc, front)?;
+    match node {
+        Node::Input(place, _) if front.is_empty() => put_port(&mut name, ports, *place)?,
+        _ => put_kind(&mut name, node)?,
     }
     Ok(name)
 }
 
-/// Names each node that has no name by its kind.
+/// Names each node that has no name by its kind, behind the name of what it is made for where that is known.
 pub(crate) fn name_rest(
     alloc: Global,
-    nodes: &[Node],
-    ports: &[Port],
+    net: &Netlist,
     scopes: &Scopes,
     labels: &mut [Label],
 ) -> Result<(), Memory> {
-    for (number, node) in nodes.iter().enumerate() {
-        if let Some(label) = labels.get_mut(number) {
-            if label.name.is_empty() {
-                label.name = plain_name(alloc, ports, scopes, scopes.of_node(number), node)?;
-            }
+    let owners = Owners::new(alloc, net.nodes(), scopes, labels)?;
+    for (number, node) in net.nodes().iter().enumerate() {
+        if !is_named(labels, number) {
+            let front = front_of(scopes, labels, number, owners.of(number));
+            let name = plain_name(alloc, front, net.ports(), node)?;
+            set_name(labels, number, name);
         }
     }
     Ok(())

@@ -49,6 +49,13 @@ fn take_notes(
     scopes.fill(labels.len())
 }
 
+// Puts a heading above a node.
+fn set_heading(labels: &mut [Label], node: usize, heading: Vec<u8>) {
+    if let Some(label) = labels.get_mut(node) {
+        label.above = heading;
+    }
+}
+
 // Puts a heading above each node with which another section begins than that of the node before it.
 fn head_sections(
     alloc: Global,
@@ -60,7 +67,8 @@ fn head_sections(
     for number in 0..labels.len() {
         let section = scopes.section(scopes.of_node(number));
         if last != Some(section) {
-            labels[number].above = heading_of(alloc, naming, scopes, section)?;
+            let heading = heading_of(alloc, naming, scopes, section)?;
+            set_heading(labels, number, heading);
             last = Some(section);
         }
     }
@@ -81,7 +89,7 @@ fn labels_of_nodes(
     let mut scopes = Scopes::new(alloc)?;
     let mut labels = empty_labels(alloc, net.nodes().len())?;
     take_notes(alloc, naming, net.notes(), &mut scopes, &mut labels)?;
-    name_rest(alloc, net.nodes(), net.ports(), &scopes, &mut labels)?;
+    name_rest(alloc, net, &scopes, &mut labels)?;
     head_sections(alloc, naming, &scopes, &mut labels)?;
     Ok(labels)
 }

@@ -9,6 +9,7 @@ mod head;
 mod kinds;
 pub mod labels;
 mod naming;
+mod owners;
 mod passing;
 mod scopes;
 pub mod subject;

@@ -1,6 +1,7 @@
 //! What notes tell of nodes.
 
 use crate::naming::{Naming, is_body, path_of, put_column, words_of};
+use crate::owners::is_named;
 use crate::scopes::{PORTS, Scopes, Sort};
 use gl_bits::Memory;
 use gl_explain::lines::{put, put_number};
@@ -19,18 +20,10 @@ enum Line {
     Column(usize),
 }
 
-// Calls a node so.
-fn call(labels: &mut [Label], node: usize, name: Vec<u8>) {
+/// Calls a node so.
+pub(crate) fn set_name(labels: &mut [Label], node: usize, name: Vec<u8>) {
     if let Some(label) = labels.get_mut(node) {
         label.name = name;
-    }
-}
-
-// Whether a node has a name.
-fn is_called(labels: &[Label], node: usize) -> bool {
-    match labels.get(node) {
-        Some(label) => !label.name.is_empty(),
-        None => false,
     }
 }
 
@@ -115,13 +108,13 @@ fn tell_line(
     if own == section || own == PORTS {
         scopes.place(node, section);
         scopes.set_line(node);
-        call(labels, node, line_name(alloc, naming, scopes, line)?);
+        set_name(labels, node, line_name(alloc, naming, scopes, line)?);
     } else if is_given(naming, scopes, node)
-        && (matches!(line, Line::Column(_)) || !is_called(labels, node))
+        && (matches!(line, Line::Column(_)) || !is_named(labels, node))
     {
         let copy = scopes.around(section);
         scopes.set_line(node);
-        call(labels, node, row_name(alloc, naming, scopes, copy, line)?);
+        set_name(labels, node, row_name(alloc, naming, scopes, copy, line)?);
     }
     Ok(())
 }
@@ -135,7 +128,7 @@ fn tell_role(
     word: &[u8],
     place: Option<usize>,
 ) -> Result<(), Memory> {
-    if is_called(labels, node) {
+    if is_named(labels, node) {
         return Ok(());
     }
     let mut name = Vec::from_slice(alloc, scopes.path(scopes.of_node(node)))?;
@@ -144,7 +137,7 @@ fn tell_role(
     if let Some(place) = place {
         put_number(&mut name, b"_", place as u128)?;
     }
-    call(labels, node, name);
+    set_name(labels, node, name);
     Ok(())
 }
 
