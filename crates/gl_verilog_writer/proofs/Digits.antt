@@ -7,8 +7,7 @@ use Rattle.std.specs.Str.Parse.{IsNumeral, AllDigits}
 use Rattle.std.proofs.lemmas.Bool.{lt-leb}
 use Rattle.std.proofs.lemmas.Str.Parse.{tells_digits, numerals_by_fold, FoldsDigits, IsNumeralModel}
 use Rattle.std.proofs.lemmas.Fmt.{decimal_is_IsNumeral_wide, length-decimal-le}
-use Rattle.gl_bits.proofs.AllLists.{all_append}
-use Rattle.gl_bits.proofs.Bools.{or_cases, and_parts, neither_parts}
+use Rattle.gl_bits.proofs.Bools.{or_cases, or_right, and_both, and_parts, neither_parts}
 use Rattle.gl_net.specs.Finished as net
 use Rattle.gl_net.specs.Finished.{IsName, keywords}
 use Rattle.gl_verilog.specs.Tokens.{Token, Name, Number, Sized, Keyword, Class, Letter, Digit, Between, InWord, InNumber, AtBase, InDigits, Move, to, after, scan, fresh, fresh_by, in_word, in_number, in_digits, at_base, class_of, is_letter, is_digit_of, goes_on, number_from, number_in, number_token, sized_token, reserved, word_by, word_token, Reads, ClosesWord, ClosesNumber, ClosesDigits}
@@ -200,17 +199,31 @@ word_is w r s = ap (λ (k : Option Keyword). word_by k w) r ∙ (let e : nat_le 
 pub name-plain : (w : List ℕ) → IsName w → IsPlain w
 name-plain w h = record { word = name_word w h.first h.each; token = word_is w (not_reserved w (none_of (bytes_eq w) keywords h.free)) h.short }
 
-pub net-plain : (family n : ℕ) → family < 2 ^ 64 → n < 2 ^ 64 → IsPlain (net_name family n)
+pub all-append : (p : ℕ → Bool) (a b : List ℕ) → list_all p a ≡ true → list_all p b ≡ true → list_all p (a ++ b) ≡ true
+all-append p [] b h k = k
+all-append p (c ∷ a) b h k = let q = and_parts (p c) (list_all p a) h in and_both (p c) (list_all p (a ++ b)) q.0 (all-append p a b q.1 k)
+
+pub digits-name : (ds : List ℕ) → AllDigits 10 ds → list_all (λ c. net.is_letter c || net.is_digit c) ds ≡ true
+digits-name [] h = refl
+digits-name (c ∷ cs) h =
+    let p = tells_digits.parts c cs h in
+    let d : net.is_digit c ≡ true = and_both (nat_le 48 c) (nat_le c 57) (le-leb 48 c p.0.0) (le-leb c 57 p.0.1) in
+    and_both (net.is_letter c || net.is_digit c) (list_all (λ c. net.is_letter c || net.is_digit c) cs) (or_right (net.is_letter c) (net.is_digit c) d) (digits-name cs p.1)
+
+-- the name of a net in a family
+pub family-name : (family n : ℕ) → family < 2 ^ 64 → n < 2 ^ 64 → IsName (net_name family n)
 unfolding net_name family_text
-net-plain family n f h =
-    let a = numeral-decimal family (omega arith) in
-    let b = numeral-decimal n (omega arith) in
+family-name family n f h =
+    let a = digits-name (decimal family) (numeral-decimal family (omega (arith, f))).1 in
+    let b = digits-name (decimal n) (numeral-decimal n (omega (arith, h))).1 in
     let la = length-decimal-le 20 family (omega arith) (omega arith) f in
     let lb = length-decimal-le 20 n (omega arith) (omega arith) h in
+    let p : ℕ → Bool = λ c. net.is_letter c || net.is_digit c in
     record {
-      word = (refl, all_append Continues (decimal family ++ codes "_") (decimal n) (all_append Continues (decimal family) (codes "_") (digits_continue (decimal family) a.1) ((λ w. refl), tt)) (digits_continue (decimal n) b.1));
-      token = word_is (codes "n" ++ decimal family ++ codes "_" ++ decimal n) refl
-          (omega (arith, la, lb, length-append (decimal family ++ codes "_") (decimal n), length-append (decimal family) (codes "_")));
+      first = refl;
+      each = all-append p (codes "n" ++ decimal family ++ codes "_") (decimal n) (all-append p (codes "n" ++ decimal family) (codes "_") (all-append p (codes "n") (decimal family) refl a) refl) b;
+      short = (let q : length (codes "n" ++ decimal family ++ codes "_" ++ decimal n) ≤ 128 = omega (arith, la, lb, length-append (decimal family ++ codes "_") (decimal n), length-append (decimal family) (codes "_")) in q);
+      free = refl;
     }
 
 pub clock-plain : IsPlain (codes "clk")

@@ -23,7 +23,7 @@ use Rattle.gl_verilog.specs.Order.{IsOrdered}
 use Rattle.gl_verilog.specs.Valid.{drivers_of, assigns, AssignsOnce, blocks_of, writes_in, writes_of, HasDriver, mentions, depends, IsChain, HasNoLoop, IsValid}
 use Rattle.gl_verilog_writer.specs.Meaning.{kind_of}
 use Rattle.gl_verilog_writer.specs.Design.{numbered}
-use Rattle.gl_verilog_writer.proofs.Model.{Named, at_node, binary_meaning, kind_for, expression_of, assigned_to, assignment_for, shown_by, output_for, block_for, declarations_in, line_in, module_in}
+use Rattle.gl_verilog_writer.proofs.Model.{Named, at_node, binary_meaning, cut_meaning, kind_for, expression_of, assigned_to, assignment_for, shown_by, output_for, block_for, declarations_in, line_in, module_in}
 use Rattle.gl_verilog_writer.proofs.Ordered.{Descends, Above, if_some, in-order, rises-append, rises-numbered}
 use Rattle.gl_verilog_writer.proofs.Lists.{numbered-all, total, count, total-append, total-none, total-one, get-from_zero}
 use Rattle.gl_verilog_writer.proofs.Named.{sorted, distinct, apart}
@@ -48,6 +48,14 @@ binary-mentions Lt w a b m = by (w == 1)
 binary-mentions Le w a b m = by (w == 1)
   where
     by : (t : Bool) → mentions (if t then verilog.Binary verilog.Or 1 (verilog.Invert 1 (verilog.Net a)) (verilog.Net b) else verilog.Binary verilog.Le w (verilog.Net a) (verilog.Net b)) m ≡ (nat_eq a m || nat_eq b m)
+    by true = refl
+    by false = refl
+
+-- a cut mentions its net
+cut-mentions : (w high low k m : ℕ) → mentions (cut_meaning w high low k) m ≡ nat_eq k m
+cut-mentions w high low k m = by (w == 1)
+  where
+    by : (t : Bool) → mentions (if t then verilog.Net k else verilog.Select high low k) m ≡ nat_eq k m
     by true = refl
     by false = refl
 
@@ -173,9 +181,9 @@ chain-descends r related h x (u ∷ us) y e =
 no-loop : (r : ℕ → ℕ) (as' : List Assignment) → AllByRecursion (Descends r) as' → HasNoLoop as'
 no-loop r as' h = λ n us e. (let a = chain-descends r (depends as') (descends r as' h) n us n e in omega (arith, a))
 
-module _ (net : Net) (family : ℕ) (c : Named net family) where
+module _ (net : Net) (names : ℕ → List ℕ) (c : Named net names) where
   abbrev ds : List Declaration
-  ds = declarations_in net family
+  ds = declarations_in net names
 
   abbrev p : ℕ
   p = length net.ports
@@ -187,7 +195,7 @@ module _ (net : Net) (family : ℕ) (c : Named net family) where
   outputs = numbered (output_for p) 0 net.ports
 
   abbrev blocks : List Statement
-  blocks = numbered (block_for p (line_in net family)) 0 net.nodes
+  blocks = numbered (block_for p (line_in net names)) 0 net.nodes
 
   wire-driven : (n : ℕ) (x : Node) → slice_get net.nodes n ≡ Some x → is_some (expression_of p x) ≡ true → drivers_of (values ++ outputs) (at_node p n) ≡ 1
   wire-driven n x e s =
@@ -210,7 +218,7 @@ module _ (net : Net) (family : ℕ) (c : Named net family) where
       ∙ shows-once p (0 + place) t q.node q.direction d (ap suc (zero-add place)) in
       drivers-total (values ++ outputs) t ∙ total-append (drives t) values outputs ∙ rw (a, b) refl
 
-  register-set : (n w : ℕ) (reset : Option ℕ) (next : Option Bus) → slice_get net.nodes n ≡ Some (Register w reset next) → count (sets (at_node p n)) (block_for p (line_in net family) (0 + n) (Register w reset next)) ≡ 1
+  register-set : (n w : ℕ) (reset : Option ℕ) (next : Option Bus) → slice_get net.nodes n ≡ Some (Register w reset next) → count (sets (at_node p n)) (block_for p (line_in net names) (0 + n) (Register w reset next)) ≡ 1
   unfolding open_in
   register-set n w None (Some next) e = let f : nat_eq (at_node p (0 + n)) (at_node p n) ≡ true = eq-eqb (at_node p (0 + n)) (at_node p n) (ap (at_node p) (zero-add n)) in rw f refl
   register-set n w (Some value) (Some next) e = let f : nat_eq (at_node p (0 + n)) (at_node p n) ≡ true = eq-eqb (at_node p (0 + n)) (at_node p n) (ap (at_node p) (zero-add n)) in rw f refl
@@ -220,10 +228,10 @@ module _ (net : Net) (family : ℕ) (c : Named net family) where
   register-driven : (n w : ℕ) (reset : Option ℕ) (next : Option Bus) → slice_get net.nodes n ≡ Some (Register w reset next) → blocks_of blocks (at_node p n) ≡ 1
   register-driven n w reset next e =
       blocks-total blocks (at_node p n)
-      ∙ total-one (sets (at_node p n)) (block_for p (line_in net family)) 0 net.nodes n _ e (λ j y f ne. sets-not p (line_in net family) (0 + j) n y (λ q. ne (let r : j ≡ n = omega (arith, q) in r)))
+      ∙ total-one (sets (at_node p n)) (block_for p (line_in net names)) 0 net.nodes n _ e (λ j y f ne. sets-not p (line_in net names) (0 + j) n y (λ q. ne (let r : j ≡ n = omega (arith, q) in r)))
       ∙ register-set n w reset next e
 
-  memory-set : (n bits w : ℕ) (drive : Option MemoryDrive) → slice_get net.nodes n ≡ Some (Memory bits w drive) → count (writes (at_node p n)) (block_for p (line_in net family) (0 + n) (Memory bits w drive)) ≡ 1
+  memory-set : (n bits w : ℕ) (drive : Option MemoryDrive) → slice_get net.nodes n ≡ Some (Memory bits w drive) → count (writes (at_node p n)) (block_for p (line_in net names) (0 + n) (Memory bits w drive)) ≡ 1
   unfolding open_in
   memory-set n bits w (Some drive) e = let f : nat_eq (at_node p (0 + n)) (at_node p n) ≡ true = eq-eqb (at_node p (0 + n)) (at_node p n) (ap (at_node p) (zero-add n)) in rw f refl
   memory-set n bits w None e = let f : None ≡ Some (Words bits w) = sym (c.netlist.finished.driven n) ∙ ap (option_and_then open_shape) e in absurd (not_some (Words bits w) f)
@@ -231,13 +239,13 @@ module _ (net : Net) (family : ℕ) (c : Named net family) where
   memory-driven : (n bits w : ℕ) (drive : Option MemoryDrive) → slice_get net.nodes n ≡ Some (Memory bits w drive) → writes_of blocks (at_node p n) ≡ 1
   memory-driven n bits w drive e =
       writes-total blocks (at_node p n)
-      ∙ total-one (writes (at_node p n)) (block_for p (line_in net family)) 0 net.nodes n _ e (λ j y f ne. writes-not p (line_in net family) (0 + j) n y (λ q. ne (let r : j ≡ n = omega (arith, q) in r)))
+      ∙ total-one (writes (at_node p n)) (block_for p (line_in net names)) 0 net.nodes n _ e (λ j y f ne. writes-not p (line_in net names) (0 + j) n y (λ q. ne (let r : j ≡ n = omega (arith, q) in r)))
       ∙ memory-set n bits w drive e
 
   all-once : (r : ℕ) → AllByRecursion (AssignsOnce r) blocks
-  all-once r = numbered-all (AssignsOnce r) (block_for p (line_in net family)) 0 net.nodes (λ k x e. once-each p (line_in net family) (0 + k) r x)
+  all-once r = numbered-all (AssignsOnce r) (block_for p (line_in net names)) 0 net.nodes (λ k x e. once-each p (line_in net names) (0 + k) r x)
 
-  node-driven : (n : ℕ) (x : Node) → slice_get net.nodes n ≡ Some x → HasDriver (module_in net family) (at_node p n) (kind_for x)
+  node-driven : (n : ℕ) (x : Node) → slice_get net.nodes n ≡ Some x → HasDriver (module_in net names) (at_node p n) (kind_for x)
   unfolding module_in
   node-driven n (Input place w) e = wire-driven n _ e refl
   node-driven n (Constant word) e = wire-driven n _ e refl
@@ -250,17 +258,17 @@ module _ (net : Net) (family : ℕ) (c : Named net family) where
   node-driven n (Register w reset next) e = (register-driven n w reset next e, all-once (at_node p n))
   node-driven n (Memory bits w drive) e = memory-driven n bits w drive e
 
-  port-driven : (place : ℕ) (q : Port) → slice_get net.ports place ≡ Some q → (d : Direction) → q.direction ≡ d → HasDriver (module_in net family) (suc place) (kind_of d)
+  port-driven : (place : ℕ) (q : Port) → slice_get net.ports place ≡ Some q → (d : Direction) → q.direction ≡ d → HasDriver (module_in net names) (suc place) (kind_of d)
   unfolding module_in
   port-driven place q e In g = tt
   port-driven place q e Out g = output-driven place q e g
 
-  each-driven : (i : ℕ) (d : Declaration) → slice_get ds i ≡ Some d → HasDriver (module_in net family) i d.kind
-  each-driven i d e = elim (sorted net family c i d e) [
-    | inl a ↦ subst (λ (x : Declaration). HasDriver (module_in net family) i x.kind) (sym a.1) tt
+  each-driven : (i : ℕ) (d : Declaration) → slice_get ds i ≡ Some d → HasDriver (module_in net names) i d.kind
+  each-driven i d e = elim (sorted net names c i d e) [
+    | inl a ↦ subst (λ (x : Declaration). HasDriver (module_in net names) i x.kind) (sym a.1) tt
     | inr a ↦ elim a [
-      | inl a ↦ subst (λ (k : ℕ). HasDriver (module_in net family) k d.kind) (sym a.number) (subst (λ (x : Declaration). HasDriver (module_in net family) (suc a.place) x.kind) (sym a.is) (port-driven a.place a.port a.there a.port.direction refl))
-      | inr a ↦ subst (λ (k : ℕ). HasDriver (module_in net family) k d.kind) (sym a.number) (subst (λ (x : Declaration). HasDriver (module_in net family) (at_node p a.n) x.kind) (sym a.is) (node-driven a.n a.node a.there))
+      | inl a ↦ subst (λ (k : ℕ). HasDriver (module_in net names) k d.kind) (sym a.number) (subst (λ (x : Declaration). HasDriver (module_in net names) (suc a.place) x.kind) (sym a.is) (port-driven a.place a.port a.there a.port.direction refl))
+      | inr a ↦ subst (λ (k : ℕ). HasDriver (module_in net names) k d.kind) (sym a.number) (subst (λ (x : Declaration). HasDriver (module_in net names) (at_node p a.n) x.kind) (sym a.is) (node-driven a.n a.node a.there))
     ]
   ]
 
@@ -301,7 +309,7 @@ module _ (net : Net) (family : ℕ) (c : Named net family) where
     | inr f ↦ elim (or_cases (nat_eq (at_node p x.node) m) (nat_eq (at_node p y.node) m) f) [ inl g ↦ reads x.node n m h.1.before g | inr g ↦ reads y.node n m h.2.before g ]
   ]
   value-descends n (Join x y) e h = λ m t. elim (or_cases (nat_eq (at_node p x.node) m) (nat_eq (at_node p y.node) m) t) [ inl f ↦ reads x.node n m h.0.before f | inr f ↦ reads y.node n m h.1.before f ]
-  value-descends n (Cut x high low) e h = λ m t. reads x.node n m h.0.before t
+  value-descends n (Cut x high low) e h = λ m t. reads x.node n m h.0.before (sym (cut-mentions x.width high low (at_node p x.node) m) ∙ t)
   value-descends n (MemoryRead store x) e h = λ m t. reads x.node n m h.1.before t
   value-descends n (Register w reset next) e h = tt
   value-descends n (Memory bits w drive) e h = tt
@@ -309,7 +317,7 @@ module _ (net : Net) (family : ℕ) (c : Named net family) where
   output-descends : (place : ℕ) (q : Port) → slice_get net.ports place ≡ Some q → (d : Direction) → q.direction ≡ d → EndFits net place d q.node → IfSome (shown_by p place d q.node) (Descends ranks)
   output-descends place q e In g f = tt
   output-descends place q e Out g f = λ m t.
-      let i = shown net family c q.node f.0 f.1 in
+      let i = shown net names c q.node f.0 f.1 in
       let l = slice_get_within net.nodes q.node i.node i.there in
       let a : ranks m ≡ suc (p + q.node) = ap ranks (sym (eqb-true (at_node p q.node) m t)) ∙ rank-node q.node in
       let b = rank-output place q e g in
@@ -349,13 +357,13 @@ module _ (net : Net) (family : ℕ) (c : Named net family) where
       if_some (assignment_for p (0 + k) x) (λ a i. outputs-behind (ranks a.target) k i (slice_get_within net.nodes k x e)) (value-rank (0 + k) (expression_of p x)))))
       all-descend
 
-  pub module-valid : IsValid (module_in net family)
+  pub module-valid : IsValid (module_in net names)
   unfolding module_in
   module-valid = record {
-    names = distinct ds (apart net family c);
-    sizes = sizes-fit net family c;
-    assignments = assignments-keep net family c;
-    blocks = blocks-keep net family c;
+    names = distinct ds (apart net names c);
+    sizes = sizes-fit net names c;
+    assignments = assignments-keep net names c;
+    blocks = blocks-keep net names c;
     driven = each-driven;
     acyclic = loop-free;
   }

@@ -1,16 +1,20 @@
 -- The family of a netlist's nets is free: each port rules out one family at most.
-use Rattle.std.proofs.Common.{◌≡◌, ℕ, zero, suc, ◌+◌, ◌<◌, ◌≤◌, ◌^◌, Bool, true, false, ◌||◌, ◌==◌, List, [], ◌∷◌, ◌++◌, length, take, drop, get_or, refl, sym, ap, ◌∙◌, arith, inl, inr, ◌⊎◌, append_assoc, take-append-drop}
-use Rattle.std.specs.Prelude.{codes, decimal, if◌then◌else◌}
+use Rattle.std.proofs.Common.{◌≡◌, ℕ, zero, suc, ◌+◌, ◌<◌, ◌≤◌, ◌^◌, Bool, true, false, ◌||◌, ◌==◌, List, [], ◌∷◌, ◌++◌, length, take, drop, get_or, Some, refl, sym, ap, ◌∙◌, arith, inl, inr, ◌⊎◌, append_assoc, take-append-drop, length-append, eq-eqb}
+use Rattle.std.specs.Prelude.{codes, decimal, slice_get, bytes_eq, if◌then◌else◌}
 use Rattle.std.specs.List.{starts_with}
 use Rattle.std.specs.Str.Parse.{AllDigits}
 use Rattle.std.proofs.lemmas.Str.Parse.{tells_digits}
-use Rattle.std.proofs.lemmas.Fmt.{decimal_injective}
+use Rattle.std.proofs.lemmas.Fmt.{decimal_injective, length-decimal-le}
 use Rattle.std.proofs.lemmas.Bool.{cases_eq}
 use Rattle.gl_net.specs.declared.node.Port.{Port}
-use Rattle.gl_verilog_writer.specs.Pieces.{family_text}
-use Rattle.gl_verilog_writer.specs.Design.{begins_port, family_from, family_of}
-use Rattle.gl_verilog_writer.proofs.Digits.{numeral-decimal}
-use Rattle.gl_bits.proofs.Bools.{bytes_same, true_or_false}
+use Rattle.gl_net.specs.Net.{Net}
+use Rattle.gl_verilog_writer.specs.Pieces.{family_text, net_name}
+use Rattle.gl_verilog_writer.specs.Naming.{IsNaming}
+use Rattle.gl_verilog_writer.specs.Labelled.{begins_port, family_from, family_of, ByFamily, name_in}
+use Rattle.gl_verilog_writer.proofs.Digits.{numeral-decimal, family-name}
+use Rattle.gl_bits.proofs.Bools.{bytes_same, true_or_false, not_both, neither_left, neither_right}
+use Rattle.gl_bits.proofs.Options.{some_same, not_some}
+use Rattle.std.proofs.lemmas.List.{append_cancel_left}
 
 -- ---- a name begins so in one way at most
 
@@ -134,3 +138,50 @@ family-free ports l = elim (outcome ports (length ports) 0) [
             absurd (omega (arith, more, most)))
       ])
 ]
+
+-- ---- names of the family that is found
+
+begins-own : (a b : List ℕ) → starts_with ◌==◌ (a ++ b) a ≡ true
+begins-own [] b = refl
+begins-own (x ∷ a) b = let e : (x == x) ≡ true = eq-eqb x x refl in rw (e, begins-own a b) refl
+
+pub port-not : (ports : List Port) (front : List ℕ) (place : ℕ) (p : Port) → begins_port ports front ≡ false → slice_get ports place ≡ Some p → starts_with ◌==◌ p.name front ≡ false
+port-not [] front place p h e = absurd (not_some p e)
+port-not (q ∷ ports) front zero p h e = ap (λ (r : Port). starts_with ◌==◌ r.name front) (sym (some_same q p e)) ∙ neither_left (starts_with ◌==◌ q.name front) (begins_port ports front) h
+port-not (q ∷ ports) front (suc place) p h e = port-not ports front place p (neither_right (starts_with ◌==◌ q.name front) (begins_port ports front) h) e
+
+-- no port's name begins as the net's does
+pub not-port : (ports : List Port) (front behind : List ℕ) (place : ℕ) (p : Port) → begins_port ports front ≡ false → slice_get ports place ≡ Some p → front ++ behind ≡ p.name → ⊥
+not-port ports front behind place p h e f = not_both (starts_with ◌==◌ p.name front) (ap (λ (w : List ℕ). starts_with ◌==◌ w front) (sym f) ∙ begins-own front behind) (port-not ports front place p h e)
+
+nets-same : (family m n : ℕ) → m < 2 ^ 64 → n < 2 ^ 64 → net_name family m ≡ net_name family n → m ≡ n
+unfolding net_name
+nets-same family m n lm ln e = decimal_injective m n lm ln (append_cancel_left (family_text family) (decimal m) (decimal n) e)
+
+no-clock : (family n : ℕ) → bytes_eq (net_name family n) (codes "clk") ≡ false
+unfolding net_name family_text
+no-clock family n = refl
+
+no-port : (ports : List Port) (family n place : ℕ) (p : Port) → begins_port ports (family_text family) ≡ false → slice_get ports place ≡ Some p → net_name family n ≡ p.name → ⊥
+unfolding net_name
+no-port ports family n place p h e f = not-port ports (family_text family) (decimal n) place p h e f
+
+names-short : (family n : ℕ) → family < 2 ^ 64 → n < 2 ^ 64 → length (net_name family n) ≤ 77
+unfolding net_name family_text
+names-short family n f h =
+    let la = length-decimal-le 20 family (omega arith) (omega arith) f in
+    let lb = length-decimal-le 20 n (omega arith) (omega arith) h in
+    let q : length (codes "n" ++ decimal family ++ codes "_" ++ decimal n) ≤ 77 = omega (arith, la, lb, length-append (decimal family ++ codes "_") (decimal n), length-append (decimal family) (codes "_")) in q
+
+pub family-naming : (net : Net) → length net.nodes < 2 ^ 64 → length net.ports < 2 ^ 64 → IsNaming net (name_in (ByFamily (family_of net.ports)))
+family-naming net nodes ports =
+    let f = family-small net.ports (2 ^ 64) ports in
+    let free = family-free net.ports ports in
+    let below : (n : ℕ) → n < length net.nodes → n < 2 ^ 64 = λ n l. omega (arith, l, nodes) in
+    record {
+      plain = λ n l. family-name (family_of net.ports) n f (below n l);
+      apart = λ m n lm ln e. nets-same (family_of net.ports) m n (below m lm) (below n ln) e;
+      no_port = λ n place p e. no-port net.ports (family_of net.ports) n place p free e;
+      no_clock = λ n. no-clock (family_of net.ports) n;
+      short = λ n l. names-short (family_of net.ports) n f (below n l);
+    }

@@ -1,6 +1,7 @@
 -- What the nodes of a netlist are as nets of its module.
-use Rattle.std.proofs.Common.{◌≡◌, ℕ, ◌+◌, ◌-◌, ◌<◌, ◌≤◌, ◌^◌, length, Option, Some, None, refl, sym, ap, subst, ◌∙◌, arith, pow_mono, lt_of_lt_of_le}
+use Rattle.std.proofs.Common.{◌≡◌, ℕ, ◌+◌, ◌-◌, ◌<◌, ◌≤◌, ◌^◌, List, length, Option, Some, None, refl, sym, ap, subst, ◌∙◌, arith, pow_mono, lt_of_lt_of_le}
 use Rattle.std.specs.Prelude.{slice_get, option_map, IsSomeAnd}
+use Rattle.std.proofs.lemmas.Option.{slice_get_within}
 use Rattle.gl_bits.specs.Words.{IsWidth}
 use Rattle.gl_net.specs.declared.node.Node.{Node}
 use Rattle.gl_net.specs.declared.node.Node.TheVariants.{Input, Constant, Not, Binary, Choose, Join, Cut, Register, Memory, MemoryRead}
@@ -17,11 +18,10 @@ use Rattle.gl_verilog.specs.Module as verilog
 use Rattle.gl_verilog.specs.Module.{Declaration}
 use Rattle.gl_verilog.specs.Widths.{IsNet, IsMemory, IsReadable, KeepsWidths, width_at}
 use Rattle.gl_verilog.specs.Resolve.{number_read}
-use Rattle.gl_verilog_writer.specs.Pieces.{net_name}
 use Rattle.gl_verilog_writer.specs.Design.{node_width}
-use Rattle.gl_verilog_writer.proofs.Digits.{IsPlain, net-plain}
+use Rattle.gl_verilog_writer.proofs.Digits.{IsPlain, name-plain}
 use Rattle.gl_verilog_writer.proofs.Model.{Named, at_node, kind_for, declarations_in}
-use Rattle.gl_verilog_writer.proofs.Named.{net_no_clock, node_there, node_found, few}
+use Rattle.gl_verilog_writer.proofs.Named.{node_there, node_found}
 
 -- every node has 1 to 128 bits
 pub width-fits : (net : Net) (n : ℕ) (x : Node) → NodeFits net n x → IsWidth (node_width x)
@@ -78,55 +78,55 @@ port_end (Some p) y e =
     some_pair a b e = cc
 
 -- a node of the netlist is a net of the module
-pub record IsCarried (net : Net) (family n w : ℕ) : Type 0 where
+pub record IsCarried (net : Net) (names : ℕ → List ℕ) (n w : ℕ) : Type 0 where
   pub node : Node
   pub there : slice_get net.nodes n ≡ Some node
   pub width : node_width node ≡ w
   pub net_kind : IsNet (kind_for node)
 
 -- a memory of the netlist is one of the module
-pub record IsStored (net : Net) (family n bits w : ℕ) : Type 0 where
+pub record IsStored (net : Net) (names : ℕ → List ℕ) (n bits w : ℕ) : Type 0 where
   pub node : Node
   pub there : slice_get net.nodes n ≡ Some node
   pub width : node_width node ≡ w
   pub memory_kind : IsMemory (kind_for node) bits
 
-module _ (net : Net) (family : ℕ) (c : Named net family) where
-  carried : (n w : ℕ) → shape_in net.nodes n ≡ Some (Value w) → IsCarried net family n w
+module _ (net : Net) (names : ℕ → List ℕ) (c : Named net names) where
+  carried : (n w : ℕ) → shape_in net.nodes n ≡ Some (Value w) → IsCarried net names n w
   unfolding shape_in
   carried n w h =
       let x = shape_there (slice_get net.nodes n) (Value w) h in
       record { node = x.0; there = x.1; width = ap (λ (s : Shape). bits_of (Some s)) x.2; net_kind = net-kind x.0 w x.2 }
 
-  pub bus : (b : Bus) → IsBus net b → IsCarried net family b.node b.width
+  pub bus : (b : Bus) → IsBus net b → IsCarried net names b.node b.width
   bus b h = carried b.node b.width h.there
 
-  pub bit : (b : Bit) → IsBit net b → IsCarried net family b.node 1
+  pub bit : (b : Bit) → IsBit net b → IsCarried net names b.node 1
   bit b h = carried b.node 1 h.there
 
-  pub shown : (n w : ℕ) → shape_in net.nodes n ≡ Some (Value w) → IsCarried net family n w
+  pub shown : (n w : ℕ) → shape_in net.nodes n ≡ Some (Value w) → IsCarried net names n w
   shown n w h = carried n w h
 
-  pub stored : (s : Store) → IsStore net s → IsStored net family s.node s.address_bits s.width
+  pub stored : (s : Store) → IsStore net s → IsStored net names s.node s.address_bits s.width
   unfolding shape_in
   stored s h =
       let x = shape_there (slice_get net.nodes s.node) (Words s.address_bits s.width) h.there in
       record { node = x.0; there = x.1; width = ap (λ (t : Shape). bits_of (Some t)) x.2; memory_kind = memory-kind x.0 s.address_bits s.width x.2 }
 
-  pub node-plain : (n : ℕ) (x : Node) → slice_get net.nodes n ≡ Some x → IsPlain (net_name family n)
-  node-plain n x e = net-plain family n c.small (few net family c n x e)
+  pub node-plain : (n : ℕ) (x : Node) → slice_get net.nodes n ≡ Some x → IsPlain (names n)
+  node-plain n x e = name-plain (names n) (c.naming.plain n (slice_get_within net.nodes n x e))
 
-  pub node-read : (n : ℕ) (x : Node) → slice_get net.nodes n ≡ Some x → number_read (declarations_in net family) (net_name family n) ≡ Some (at_node (length net.ports) n)
-  node-read n x e = let f = net_no_clock family n in let g = node_found net family c n x e in rw (f, g) refl
+  pub node-read : (n : ℕ) (x : Node) → slice_get net.nodes n ≡ Some x → number_read (declarations_in net names) (names n) ≡ Some (at_node (length net.ports) n)
+  node-read n x e = let f = c.naming.no_clock n in let g = node_found net names c n x e in rw (f, g) refl
 
-  pub node-width : (n : ℕ) (x : Node) → slice_get net.nodes n ≡ Some x → width_at (declarations_in net family) (at_node (length net.ports) n) ≡ node_width x
-  node-width n x e = let g = node_there net family c n x e in rw g refl
+  pub node-width : (n : ℕ) (x : Node) → slice_get net.nodes n ≡ Some x → width_at (declarations_in net names) (at_node (length net.ports) n) ≡ node_width x
+  node-width n x e = let g = node_there net names c n x e in rw g refl
 
-  pub carried-width : (n w : ℕ) → IsCarried net family n w → width_at (declarations_in net family) (at_node (length net.ports) n) ≡ w
+  pub carried-width : (n w : ℕ) → IsCarried net names n w → width_at (declarations_in net names) (at_node (length net.ports) n) ≡ w
   carried-width n w h = node-width n h.node h.there ∙ h.width
 
-  pub carried-keeps : (n w : ℕ) → IsCarried net family n w → KeepsWidths (declarations_in net family) (verilog.Net (at_node (length net.ports) n))
-  carried-keeps n w h = subst (λ (o : Option Declaration). IsSomeAnd o IsReadable) (sym (node_there net family c n h.node h.there)) (h.net_kind, net_no_clock family n)
+  pub carried-keeps : (n w : ℕ) → IsCarried net names n w → KeepsWidths (declarations_in net names) (verilog.Net (at_node (length net.ports) n))
+  carried-keeps n w h = subst (λ (o : Option Declaration). IsSomeAnd o IsReadable) (sym (node_there net names c n h.node h.there)) (h.net_kind, c.naming.no_clock n)
 
 pub word-small : (v w : ℕ) → w ≤ 128 → v < 2 ^ w → v < 10 ^ 64
 word-small v w m h = let a : v < 2 ^ 128 = lt_of_lt_of_le h (pow_mono m) in omega (arith, a)

@@ -1,6 +1,6 @@
 -- The module that a netlist's text means: declaration 0 is the clock, then come the ports, then the nodes.
-use Rattle.std.proofs.Common.{◌≡◌, ℕ, suc, ◌+◌, ◌<◌, ◌^◌, ◌==◌, if◌then◌else◌, true, false, List, [], ◌∷◌, ◌++◌, length, Option, Some, None, map}
-use Rattle.std.specs.Prelude.{codes, option_map, unwrap_or}
+use Rattle.std.proofs.Common.{ℕ, suc, ◌+◌, ◌==◌, if◌then◌else◌, List, [], ◌∷◌, ◌++◌, length, Option, Some, None, map}
+use Rattle.std.specs.Prelude.{codes, option_map, unwrap_or, not}
 use Rattle.gl_net.specs.declared.node.BinaryOp.{BinaryOp}
 use Rattle.gl_net.specs.declared.node.BinaryOp.TheVariants as op
 use Rattle.gl_net.specs.declared.node.Node.{Node}
@@ -13,15 +13,13 @@ use Rattle.gl_net.specs.Finished.{IsNetlist}
 use Rattle.gl_verilog.specs.Module as verilog
 use Rattle.gl_verilog.specs.Module.{Module, Declaration, Kind, Expr, Literal, Invert, Select, Read, Statement, Nothing, Put, Write, If, Assignment, number_of}
 use Rattle.gl_verilog_writer.specs.Meaning.{declaration_of, clock}
-use Rattle.gl_verilog_writer.specs.Pieces.{family_text, net_name}
-use Rattle.gl_verilog_writer.specs.Design.{begins_port, node_width, numbered}
+use Rattle.gl_verilog_writer.specs.Naming.{IsNaming}
+use Rattle.gl_verilog_writer.specs.Design.{node_width, numbered}
 
--- what is known of a netlist whose nets have names of this family
-pub record Named (net : Net) (family : ℕ) : Type 0 where
+-- what is known of a netlist whose nets have these names
+pub record Named (net : Net) (names : ℕ → List ℕ) : Type 0 where
   pub netlist : IsNetlist net
-  pub few : length net.nodes < 2 ^ 64
-  pub small : family < 2 ^ 64
-  pub free : begins_port net.ports (family_text family) ≡ false
+  pub naming : IsNaming net names
 
 -- the number of a node's declaration, behind so many ports
 abbrev pub at_node : ℕ → ℕ → ℕ
@@ -55,8 +53,12 @@ kind_for (node.Register w reset next) = verilog.Register
 kind_for (node.Memory bits w drive) = verilog.Memory bits
 kind_for x = verilog.Wire
 
-abbrev pub declaration_for : ℕ → ℕ → Node → Declaration
-declaration_for family n x = record { name = net_name family n; width = node_width x; is_vector = true; kind = kind_for x }
+abbrev pub declaration_for : (ℕ → List ℕ) → ℕ → Node → Declaration
+declaration_for names n x = record { name = names n; width = node_width x; is_vector = not (node_width x == 1); kind = kind_for x }
+
+-- some bits of a net; of one bit it is all
+abbrev pub cut_meaning : ℕ → ℕ → ℕ → ℕ → Expr
+cut_meaning w high low n = if w == 1 then verilog.Net n else Select high low n
 
 -- what is assigned to a node's net
 abbrev pub expression_of : ℕ → Node → Option Expr
@@ -66,7 +68,7 @@ expression_of p (node.Not x) = Some (Invert x.width (net_of p x.node))
 expression_of p (node.Binary o x y) = Some (binary_meaning o x.width (net_of p x.node) (net_of p y.node))
 expression_of p (node.Choose test x y) = Some (verilog.Choose (net_of p test.node) (net_of p x.node) (net_of p y.node))
 expression_of p (node.Join x y) = Some (verilog.Join y.width (net_of p x.node) (net_of p y.node))
-expression_of p (node.Cut x high low) = Some (Select high low (at_node p x.node))
+expression_of p (node.Cut x high low) = Some (cut_meaning x.width high low (at_node p x.node))
 expression_of p (node.MemoryRead store x) = Some (Read (at_node p store.node) (net_of p x.node))
 expression_of p (node.Register w reset next) = None
 expression_of p (node.Memory bits w drive) = None
@@ -96,18 +98,18 @@ abbrev pub counted : {A B : Type 0} → (ℕ → A → B) → ℕ → List A →
 counted g n [] = []
 counted g n (x ∷ xs) = g n x ∷ counted g (n + 1) xs
 
-abbrev pub declarations_in : Net → ℕ → List Declaration
-declarations_in net family = clock ∷ (map (declaration_of net) net.ports ++ counted (declaration_for family) 0 net.nodes)
+abbrev pub declarations_in : Net → (ℕ → List ℕ) → List Declaration
+declarations_in net names = clock ∷ (map (declaration_of net) net.ports ++ counted (declaration_for names) 0 net.nodes)
 
 -- the number of the reset port; none is asked for where no register has a reset value
-abbrev pub line_in : Net → ℕ → ℕ
-line_in net family = unwrap_or (number_of (declarations_in net family) (codes "rst")) 0
+abbrev pub line_in : Net → (ℕ → List ℕ) → ℕ
+line_in net names = unwrap_or (number_of (declarations_in net names) (codes "rst")) 0
 
-unfoldable pub module_in : Net → ℕ → Module
-module_in net family = record {
+unfoldable pub module_in : Net → (ℕ → List ℕ) → Module
+module_in net names = record {
   name = unwrap_or net.name [];
   ports = suc (length net.ports);
-  declarations = declarations_in net family;
+  declarations = declarations_in net names;
   assignments = numbered (assignment_for (length net.ports)) 0 net.nodes ++ numbered (output_for (length net.ports)) 0 net.ports;
-  blocks = numbered (block_for (length net.ports) (line_in net family)) 0 net.nodes;
+  blocks = numbered (block_for (length net.ports) (line_in net names)) 0 net.nodes;
 }

@@ -1,13 +1,11 @@
 -- The declarations of a netlist's module: where each stands, and that no two have one name.
-use Rattle.std.proofs.Common.{◌≡◌, ℕ, zero, suc, ◌+◌, ◌<◌, ◌^◌, true, false, ◌==◌, List, [], ◌∷◌, ◌++◌, length, get_or, map, Some, refl, sym, ap, ◌∙◌, arith, inl, inr, ◌⊎◌, eq-eqb}
-use Rattle.std.specs.Prelude.{slice_get, codes, decimal, bytes_eq}
-use Rattle.std.specs.List.{starts_with}
-use Rattle.gl_bits.proofs.Bools.{bytes_other, not_both, neither_left, neither_right}
-use Rattle.std.proofs.lemmas.List.{append_cancel_left, length-map}
+use Rattle.std.proofs.Common.{◌≡◌, ℕ, zero, suc, ◌+◌, false, List, [], ◌∷◌, ◌++◌, length, map, Some, refl, sym, ap, ◌∙◌, arith, inl, inr, ◌⊎◌}
+use Rattle.std.specs.Prelude.{slice_get, codes, bytes_eq}
+use Rattle.gl_bits.proofs.Bools.{bytes_other, bytes_own, not_both}
+use Rattle.std.proofs.lemmas.List.{length-map}
 use Rattle.std.proofs.lemmas.Option.{slice_get_within}
-use Rattle.std.proofs.lemmas.Fmt.{decimal_injective}
 use Rattle.gl_bits.proofs.AllLists.{get_front, get_mapped, get_unmapped}
-use Rattle.gl_bits.proofs.Options.{some_same, not_some}
+use Rattle.gl_bits.proofs.Options.{some_same}
 use Rattle.gl_net.specs.declared.node.Node.{Node}
 use Rattle.gl_net.specs.declared.node.Port.{Port}
 use Rattle.gl_net.specs.Net.{Net}
@@ -15,8 +13,6 @@ use Rattle.gl_verilog.specs.Module.{Declaration, number_of}
 use Rattle.gl_verilog.specs.Valid.{Differs, AreDistinct}
 use Rattle.gl_verilog.proofs.Distinct.{number_at}
 use Rattle.gl_verilog_writer.specs.Meaning.{declaration_of, clock}
-use Rattle.gl_verilog_writer.specs.Pieces.{family_text, net_name}
-use Rattle.gl_verilog_writer.specs.Design.{begins_port}
 use Rattle.gl_verilog_writer.proofs.Model.{Named, at_node, declaration_for, counted, declarations_in}
 use Rattle.gl_verilog_writer.proofs.Lists.{get-right, get-parts, get-counted, get-uncounted}
 
@@ -41,45 +37,21 @@ distinct (d ∷ ds) h = (differs d ds (λ j e p n. (let r = h 0 (suc j) d e refl
 pub found : (ds : List Declaration) (i : ℕ) (d : Declaration) → Apart ds → slice_get ds i ≡ Some d → number_of ds d.name ≡ Some i
 found ds i d h e = number_at ds i d (distinct ds h) e
 
--- ---- no port's name is a net's
-
-begins-own : (a b : List ℕ) → starts_with ◌==◌ (a ++ b) a ≡ true
-begins-own [] b = refl
-begins-own (x ∷ a) b = let e : (x == x) ≡ true = eq-eqb x x refl in rw (e, begins-own a b) refl
-
-port-not : (ports : List Port) (front : List ℕ) (place : ℕ) (p : Port) → begins_port ports front ≡ false → slice_get ports place ≡ Some p → starts_with ◌==◌ p.name front ≡ false
-port-not [] front place p h e = absurd (not_some p e)
-port-not (q ∷ ports) front zero p h e = ap (λ (r : Port). starts_with ◌==◌ r.name front) (sym (some_same q p e)) ∙ neither_left (starts_with ◌==◌ q.name front) (begins_port ports front) h
-port-not (q ∷ ports) front (suc place) p h e = port-not ports front place p (neither_right (starts_with ◌==◌ q.name front) (begins_port ports front) h) e
-
-net_begins : (family n : ℕ) → starts_with ◌==◌ (net_name family n) (family_text family) ≡ true
-unfolding net_name
-net_begins family n = begins-own (family_text family) (decimal n)
-
-nets_same : (family m n : ℕ) → m < 2 ^ 64 → n < 2 ^ 64 → net_name family m ≡ net_name family n → m ≡ n
-unfolding net_name
-nets_same family m n lm ln e = decimal_injective m n lm ln (append_cancel_left (family_text family) (decimal m) (decimal n) e)
-
-not_clock : (family n : ℕ) → codes "clk" ≡ net_name family n → ⊥
-unfolding net_name family_text
-not_clock family n e = let f : 99 ≡ 110 = ap (λ (w : List ℕ). get_or w 0 0) e in omega (arith, f)
-
-pub net_no_clock : (family n : ℕ) → bytes_eq (net_name family n) (codes "clk") ≡ false
-unfolding net_name family_text
-net_no_clock family n = refl
-
 -- ---- where each declaration stands
 
-module _ (net : Net) (family : ℕ) (c : Named net family) where
-  pub node_there : (n : ℕ) (x : Node) → slice_get net.nodes n ≡ Some x → slice_get (declarations_in net family) (at_node (length net.ports) n) ≡ Some (declaration_for family n x)
+bytes_differ : (a b : List ℕ) → bytes_eq a b ≡ false → a ≡ b → ⊥
+bytes_differ a b h e = not_both (bytes_eq a b) (ap (λ (w : List ℕ). bytes_eq w b) e ∙ bytes_own b) h
+
+module _ (net : Net) (names : ℕ → List ℕ) (c : Named net names) where
+  pub node_there : (n : ℕ) (x : Node) → slice_get net.nodes n ≡ Some x → slice_get (declarations_in net names) (at_node (length net.ports) n) ≡ Some (declaration_for names n x)
   node_there n x e =
       let ps = map (declaration_of net) net.ports in
-      let ns = counted (declaration_for family) 0 net.nodes in
+      let ns = counted (declaration_for names) 0 net.nodes in
       let l : length net.ports + n ≡ length ps + n = ap (λ (m : ℕ). m + n) (sym (length-map net.ports (declaration_of net))) in
-      ap (slice_get (ps ++ ns)) l ∙ get-right ps ns n ∙ get-counted (declaration_for family) 0 net.nodes n x e ∙ ap (λ (m : ℕ). Some (declaration_for family m x)) (let q : 0 + n ≡ n = omega arith in q)
+      ap (slice_get (ps ++ ns)) l ∙ get-right ps ns n ∙ get-counted (declaration_for names) 0 net.nodes n x e ∙ ap (λ (m : ℕ). Some (declaration_for names m x)) (let q : 0 + n ≡ n = omega arith in q)
 
-  pub port_there : (place : ℕ) (p : Port) → slice_get net.ports place ≡ Some p → slice_get (declarations_in net family) (suc place) ≡ Some (declaration_of net p)
-  port_there place p e = get_front (map (declaration_of net) net.ports) (counted (declaration_for family) 0 net.nodes) place (declaration_of net p) (get_mapped (declaration_of net) net.ports place p e)
+  pub port_there : (place : ℕ) (p : Port) → slice_get net.ports place ≡ Some p → slice_get (declarations_in net names) (suc place) ≡ Some (declaration_of net p)
+  port_there place p e = get_front (map (declaration_of net) net.ports) (counted (declaration_for names) 0 net.nodes) place (declaration_of net p) (get_mapped (declaration_of net) net.ports place p e)
 
   abbrev pub AsClock : ℕ → Declaration → Type 0
   AsClock i d = (i ≡ 0) × (d ≡ clock)
@@ -96,23 +68,23 @@ module _ (net : Net) (family : ℕ) (c : Named net family) where
     pub node : Node
     pub number : i ≡ at_node (length net.ports) n
     pub there : slice_get net.nodes n ≡ Some node
-    pub is : d ≡ declaration_for family n node
+    pub is : d ≡ declaration_for names n node
 
   -- a declaration is the clock's, a port's or a node's
-  pub sorted : (i : ℕ) (d : Declaration) → slice_get (declarations_in net family) i ≡ Some d → AsClock i d ⊎ (AsPort i d ⊎ AsNode i d)
+  pub sorted : (i : ℕ) (d : Declaration) → slice_get (declarations_in net names) i ≡ Some d → AsClock i d ⊎ (AsPort i d ⊎ AsNode i d)
   sorted zero d e = inl (refl, sym (some_same clock d e))
   sorted (suc i) d e =
       let ps = map (declaration_of net) net.ports in
-      let ns = counted (declaration_for family) 0 net.nodes in
+      let ns = counted (declaration_for names) 0 net.nodes in
       elim (get-parts ps ns i d e) [
         | inl p ↦ (let u = get_unmapped (declaration_of net) net.ports i d p in inr (inl (record { place = i; port = u.0; number = refl; there = u.1; is = sym u.2 })))
-        | inr p ↦ (let u = get-uncounted (declaration_for family) 0 net.nodes p.0 d p.2 in
+        | inr p ↦ (let u = get-uncounted (declaration_for names) 0 net.nodes p.0 d p.2 in
             inr (inr (record {
               n = p.0;
               node = u.0;
               number = ap suc (p.1 ∙ ap (λ (m : ℕ). m + p.0) (length-map net.ports (declaration_of net)));
               there = u.1;
-              is = u.2 ∙ ap (λ (m : ℕ). declaration_for family m u.0) (let q : 0 + p.0 ≡ p.0 = omega arith in q);
+              is = u.2 ∙ ap (λ (m : ℕ). declaration_for names m u.0) (let q : 0 + p.0 ≡ p.0 = omega arith in q);
             })))
       ]
 
@@ -120,17 +92,13 @@ module _ (net : Net) (family : ℕ) (c : Named net family) where
   port_clock i d p e = c.netlist.finished.no_clock p.place p.port p.there (sym (e ∙ ap (λ (x : Declaration). x.name) p.is))
 
   node_clock : (i : ℕ) (d : Declaration) → AsNode i d → clock.name ≡ d.name → ⊥
-  node_clock i d p e = not_clock family p.n (e ∙ ap (λ (x : Declaration). x.name) p.is)
+  node_clock i d p e = bytes_differ (names p.n) (codes "clk") (c.naming.no_clock p.n) (sym (e ∙ ap (λ (x : Declaration). x.name) p.is))
 
   port_node : (i j : ℕ) (d e : Declaration) → AsPort i d → AsNode j e → d.name ≡ e.name → ⊥
   port_node i j d e p q same =
-      let n : p.port.name ≡ net_name family q.n = ap (λ (x : Declaration). x.name) (sym p.is) ∙ same ∙ ap (λ (x : Declaration). x.name) q.is in
-      not_both (starts_with ◌==◌ p.port.name (family_text family)) (ap (λ (w : List ℕ). starts_with ◌==◌ w (family_text family)) n ∙ net_begins family q.n) (port-not net.ports (family_text family) p.place p.port c.free p.there)
+      c.naming.no_port q.n p.place p.port p.there (sym (ap (λ (x : Declaration). x.name) (sym p.is) ∙ same ∙ ap (λ (x : Declaration). x.name) q.is))
 
-  pub few : (n : ℕ) (x : Node) → slice_get net.nodes n ≡ Some x → n < 2 ^ 64
-  few n x e = let a = slice_get_within net.nodes n x e in let b = c.few in let d : n < 2 ^ 64 = omega (arith, a, b) in d
-
-  pub apart : Apart (declarations_in net family)
+  pub apart : Apart (declarations_in net names)
   apart = λ i j d e p q same. elim (sorted i d p) [
     | inl a ↦ elim (sorted j e q) [
       | inl b ↦ a.0 ∙ sym b.0
@@ -151,17 +119,17 @@ module _ (net : Net) (family : ℕ) (c : Named net family) where
         | inl b ↦ absurd (node_clock i d a (ap (λ (x : Declaration). x.name) (sym b.1) ∙ sym same))
         | inr b ↦ elim b [
           | inl b ↦ absurd (port_node j i e d b a (sym same))
-          | inr b ↦ a.number ∙ ap (at_node (length net.ports)) (nets_same family a.n b.n (few a.n a.node a.there) (few b.n b.node b.there) (ap (λ (x : Declaration). x.name) (sym a.is) ∙ same ∙ ap (λ (x : Declaration). x.name) b.is)) ∙ sym b.number
+          | inr b ↦ a.number ∙ ap (at_node (length net.ports)) (c.naming.apart a.n b.n (slice_get_within net.nodes a.n a.node a.there) (slice_get_within net.nodes b.n b.node b.there) (ap (λ (x : Declaration). x.name) (sym a.is) ∙ same ∙ ap (λ (x : Declaration). x.name) b.is)) ∙ sym b.number
         ]
       ]
     ]
   ]
 
-  pub node_found : (n : ℕ) (x : Node) → slice_get net.nodes n ≡ Some x → number_of (declarations_in net family) (net_name family n) ≡ Some (at_node (length net.ports) n)
-  node_found n x e = found (declarations_in net family) (at_node (length net.ports) n) (declaration_for family n x) apart (node_there n x e)
+  pub node_found : (n : ℕ) (x : Node) → slice_get net.nodes n ≡ Some x → number_of (declarations_in net names) (names n) ≡ Some (at_node (length net.ports) n)
+  node_found n x e = found (declarations_in net names) (at_node (length net.ports) n) (declaration_for names n x) apart (node_there n x e)
 
-  pub port_found : (place : ℕ) (p : Port) → slice_get net.ports place ≡ Some p → number_of (declarations_in net family) p.name ≡ Some (suc place)
-  port_found place p e = found (declarations_in net family) (suc place) (declaration_of net p) apart (port_there place p e)
+  pub port_found : (place : ℕ) (p : Port) → slice_get net.ports place ≡ Some p → number_of (declarations_in net names) p.name ≡ Some (suc place)
+  port_found place p e = found (declarations_in net names) (suc place) (declaration_of net p) apart (port_there place p e)
 
   pub port_no_clock : (place : ℕ) (p : Port) → slice_get net.ports place ≡ Some p → bytes_eq p.name (codes "clk") ≡ false
   port_no_clock place p e = bytes_other p.name (codes "clk") (c.netlist.finished.no_clock place p e)

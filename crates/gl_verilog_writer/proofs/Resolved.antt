@@ -1,11 +1,9 @@
 -- The written module of a netlist means its module: names become numbers.
-use Rattle.std.proofs.Common.{◌≡◌, ℕ, zero, suc, ◌+◌, ◌-◌, ◌<◌, ◌≤◌, ◌^◌, Bool, true, false, List, [], ◌∷◌, ◌++◌, length, map, Option, Some, None, refl, sym, ap, subst, ◌∙◌, arith, append_assoc, append-nil, inl, inr, eq-eqb, eqb-true, ne_eqb, le-leb, pow_mono, is_some}
-use Rattle.std.specs.Prelude.{slice_get, codes, decimal, option_map, option_and_then, unwrap_or, nat_eq, nat_le, ◌==◌, not, if◌then◌else◌}
+use Rattle.std.proofs.Common.{◌≡◌, ℕ, zero, suc, ◌+◌, ◌<◌, ◌^◌, Bool, true, false, List, [], ◌∷◌, ◌++◌, length, map, Option, Some, None, refl, sym, ap, subst, ◌∙◌, arith, append_assoc, append-nil, eqb-true, is_some}
+use Rattle.std.specs.Prelude.{slice_get, codes, decimal, option_map, option_and_then, unwrap_or, ◌==◌, not, if◌then◌else◌}
 use Rattle.std.specs.List.{list_any}
 use Rattle.std.specs.Option.{option_map_or}
-use Rattle.std.proofs.lemmas.Nat.{pow_below, pow_pos}
 use Rattle.std.proofs.lemmas.List.{length-map}
-use Rattle.std.proofs.lemmas.Bool.{cases_eq}
 use Rattle.gl_bits.proofs.Options.{some_same, not_some}
 use Rattle.gl_bits.proofs.Bools.{or_right}
 use Rattle.gl_bits.specs.Words.{IsWidth}
@@ -13,90 +11,29 @@ use Rattle.gl_net.specs.declared.node.BinaryOp.{BinaryOp}
 use Rattle.gl_net.specs.declared.node.BinaryOp.TheVariants.{Add, Sub, Mul, And, Xor, Or, Eq, Ne, Lt, Le}
 use Rattle.gl_net.specs.declared.node.Node.{Node}
 use Rattle.gl_net.specs.declared.node.Node.TheVariants.{Input, Constant, Not, Binary, Choose, Join, Cut, Register, Memory, MemoryRead}
+use Rattle.gl_net.specs.declared.node.Bus.{Bus}
 use Rattle.gl_net.specs.declared.node.Port.{Port}
 use Rattle.gl_net.specs.declared.node.Direction.{Direction}
 use Rattle.gl_net.specs.declared.node.Direction.TheVariants.{In, Out}
-use Rattle.gl_net.specs.Net.{Net, shape_of, shape_in, IsAddressWidth}
+use Rattle.gl_net.specs.Net.{Net, shape_of, shape_in}
 use Rattle.gl_net.specs.PortValues.{bits_of}
 use Rattle.gl_net.specs.WellFormed.{NodeFits, EndFits, end_at}
 use Rattle.gl_net.specs.Finished.{has_reset_value, needs_reset}
 use Rattle.gl_verilog.specs.Tokens.{number_in}
 use Rattle.gl_verilog.specs.Written as written
-use Rattle.gl_verilog.specs.Written.{BitNot, BitAnd, BitOr, Below, AtMost, Prefix, Infix, WrittenExpr, WrittenStatement, WrittenItem, Wires, Assign, Always, WrittenModule}
+use Rattle.gl_verilog.specs.Written.{BitNot, BitAnd, BitOr, Below, AtMost, Prefix, Infix, WrittenExpr, WrittenStatement, WrittenItem, Assign, Always}
 use Rattle.gl_verilog.specs.Module as verilog
 use Rattle.gl_verilog.specs.Module.{Declaration, Expr, Statement, Assignment, number_of}
 use Rattle.gl_verilog.specs.Widths.{width_of}
-use Rattle.gl_verilog.specs.Resolve.{number_read, both, three, prefixed, decimal_number, resolve_expr, resolve_statement, declare, port_kind, declare_port, address_bits_to, address_bits_of, Resolved, clocked, resolve_items, module_from, resolve}
+use Rattle.gl_verilog.specs.Resolve.{number_read, both, three, prefixed, resolve_expr, resolve_statement, declare, port_kind, declare_port, Resolved, clocked, resolve_items, module_from, resolve}
 use Rattle.gl_verilog_writer.specs.Meaning.{declaration_of, clock, kind_of}
-use Rattle.gl_verilog_writer.specs.Pieces.{net_name}
-use Rattle.gl_verilog_writer.specs.Design.{port_name, binary_expr, named, literal, vector, last_word, declares, takes, does, with_option, numbered, declaring, assigning, shows, showing, clocking, leads, written_port, clock_port, items_of}
+use Rattle.gl_verilog_writer.specs.Design.{port_name, binary_expr, named, literal, range_of, takes, does, with_option, numbered, declaring, assigning, shows, showing, clocking, driving, leads, written_port, items_of, written_as}
 use Rattle.gl_verilog_writer.proofs.Digits.{number_in-decimal}
-use Rattle.gl_verilog_writer.proofs.Model.{Named, at_node, net_of, binary_meaning, declaration_for, expression_of, assigned_to, assignment_for, shown_by, output_for, block_for, counted, declarations_in, line_in, module_in}
+use Rattle.gl_verilog_writer.proofs.Model.{Named, at_node, net_of, binary_meaning, expression_of, assigned_to, assignment_for, shown_by, output_for, block_for, declarations_in, line_in, module_in}
+use Rattle.gl_verilog_writer.proofs.Ranges.{range-declares, declare-all}
 use Rattle.gl_verilog_writer.proofs.Lists.{with-append, get-from_zero}
 use Rattle.gl_verilog_writer.proofs.Named.{node_found, port_found, port_no_clock}
 use Rattle.gl_verilog_writer.proofs.Fitted.{width-fits, port_end, IsCarried, bus, bit, shown, stored, node-read, carried-width, word-small}
-
--- ---- declarations
-
-width-back : (w : ℕ) → IsWidth w → decimal_number (decimal (w - 1)) + 1 ≡ w
-width-back w h =
-    let a = h.some' in let b = h.most in
-    let e : decimal_number (decimal (w - 1)) ≡ w - 1 = number_in-decimal (w - 1) (omega (arith, b)) in
-    ap (λ (m : ℕ). m + 1) e ∙ (let q : w - 1 + 1 ≡ w = omega (arith, a) in q)
-
-bits_to : (m b : ℕ) → 1 ≤ b → b ≤ m → address_bits_to m (2 ^ b) ≡ Some b
-unfolding address_bits_to
-bits_to zero b l h = absurd (omega arith)
-bits_to (suc m) b l h = elim (cases_eq b (suc m)) [
-  | inl e ↦ (let f : nat_eq (2 ^ b) (2 ^ suc m) ≡ true = eq-eqb (2 ^ b) (2 ^ suc m) (ap (λ (k : ℕ). 2 ^ k) e) in rw f (ap Some (sym e)))
-  | inr ne ↦ (let f : nat_eq (2 ^ b) (2 ^ suc m) ≡ false = ne_eqb (2 ^ b) (2 ^ suc m) (λ q. (let r = pow_below b (suc m) (let s : b < suc m = omega (arith, ne) in s) in omega (arith, q, r))) in
-      rw f (bits_to m b l (let s : b ≤ m = omega (arith, ne) in s)))
-]
-
-pub last-small : (b : ℕ) → IsAddressWidth b → last_word b < 2 ^ 32
-unfolding last_word
-last-small b h =
-    let e : nat_le b 32 ≡ true = le-leb b 32 h.most in
-    let m : 2 ^ b ≤ 2 ^ 32 = pow_mono h.most in
-    let p : 0 < 2 ^ b = pow_pos b in
-    rw e (let q : 2 ^ b - 1 < 2 ^ 32 = omega (arith, m, p) in q)
-
-bits-back : (b : ℕ) → IsAddressWidth b → address_bits_of (decimal_number (decimal (last_word b)) + 1) ≡ Some b
-unfolding address_bits_of last_word
-bits-back b h =
-    let s = last-small b h in
-    let e : decimal_number (decimal (last_word b)) ≡ last_word b = number_in-decimal (last_word b) (omega (arith, s)) in
-    let l : nat_le b 32 ≡ true = le-leb b 32 h.most in
-    let p : 0 < 2 ^ b = pow_pos b in
-    let w : last_word b + 1 ≡ 2 ^ b = rw l (let q : 2 ^ b - 1 + 1 ≡ 2 ^ b = omega (arith, p) in q) in
-    ap (λ (k : ℕ). address_bits_to 32 k) (ap (λ (k : ℕ). k + 1) e ∙ w) ∙ bits_to 32 b h.some' h.most
-
--- the declaration of one node
-declare-wire : (ds : List Declaration) (family n : ℕ) (w : ℕ) (is : List WrittenItem) → IsWidth w → resolve_items ds (Wires (vector w) (net_name family n ∷ []) ∷ is) ≡ resolve_items (ds ++ (record { name = net_name family n; width = w; is_vector = true; kind = verilog.Wire }) ∷ []) is
-declare-wire ds family n w is h = ap (λ (k : ℕ). resolve_items (ds ++ (record { name = net_name family n; width = k; is_vector = true; kind = verilog.Wire }) ∷ []) is) (width-back w h)
-
-declare-node : (ds : List Declaration) (net : Net) (family n : ℕ) (x : Node) (is : List WrittenItem) → NodeFits net n x → resolve_items ds (declares family n x ∷ is) ≡ resolve_items (ds ++ declaration_for family n x ∷ []) is
-declare-node ds net family n (Input place w) is h = declare-wire ds family n _ is (width-fits net n (Input place w) h)
-declare-node ds net family n (Constant word) is h = declare-wire ds family n _ is (width-fits net n (Constant word) h)
-declare-node ds net family n (Not x) is h = declare-wire ds family n _ is (width-fits net n (Not x) h)
-declare-node ds net family n (Binary o x y) is h = declare-wire ds family n _ is (width-fits net n (Binary o x y) h)
-declare-node ds net family n (Choose test x y) is h = declare-wire ds family n _ is (width-fits net n (Choose test x y) h)
-declare-node ds net family n (Join x y) is h = declare-wire ds family n _ is (width-fits net n (Join x y) h)
-declare-node ds net family n (Cut x high low) is h = declare-wire ds family n _ is (width-fits net n (Cut x high low) h)
-declare-node ds net family n (MemoryRead store x) is h = declare-wire ds family n _ is (width-fits net n (MemoryRead store x) h)
-declare-node ds net family n (Register w reset next) is h = ap (λ (k : ℕ). resolve_items (ds ++ (record { name = net_name family n; width = k; is_vector = true; kind = verilog.Register }) ∷ []) is) (width-back w h.0)
-declare-node ds net family n (Memory bits w drive) is h =
-    ap (option_and_then (λ (j : ℕ). resolve_items (ds ++ (record { name = net_name family n; width = decimal_number (decimal (w - 1)) + 1; is_vector = true; kind = verilog.Memory j }) ∷ []) is)) (bits-back bits h.0)
-    ∙ ap (λ (k : ℕ). resolve_items (ds ++ (record { name = net_name family n; width = k; is_vector = true; kind = verilog.Memory bits }) ∷ []) is) (width-back w h.1)
-
--- the declarations of all nodes
-declare-all : (net : Net) (family n : ℕ) (xs : List Node) (ds : List Declaration) (is : List WrittenItem) → ((k : ℕ) (x : Node) → slice_get xs k ≡ Some x → NodeFits net (n + k) x) → resolve_items ds (numbered (declaring family) n xs ++ is) ≡ resolve_items (ds ++ counted (declaration_for family) n xs) is
-declare-all net family n [] ds is h = ap (λ (d : List Declaration). resolve_items d is) (sym (append-nil ds))
-declare-all net family n (x ∷ xs) ds is h =
-    let f : NodeFits net n x = subst (λ (m : ℕ). NodeFits net m x) (let q : n + 0 ≡ n = omega arith in q) (h 0 x refl) in
-    declare-node ds net family n x (numbered (declaring family) (n + 1) xs ++ is) f
-    ∙ declare-all net family (n + 1) xs (ds ++ declaration_for family n x ∷ []) is (λ k y e. subst (λ (m : ℕ). NodeFits net m y) (let q : n + suc k ≡ n + 1 + k = omega arith in q) (h (suc k) y e))
-    ∙ ap (λ (d : List Declaration). resolve_items d is) (append_assoc ds (declaration_for family n x ∷ []) (counted (declaration_for family) (n + 1) xs))
 
 -- ---- assignments and blocks
 
@@ -106,6 +43,10 @@ MeansAssignment ds i a = (is : List WrittenItem) (r : Resolved) → resolve_item
 
 abbrev pub MeansBlock : List Declaration → Option WrittenItem → Option Statement → Type 0
 MeansBlock ds i b = (is : List WrittenItem) (r : Resolved) → resolve_items ds is ≡ Some r → resolve_items ds (with_option i is) ≡ Some (record r { blocks = with_option b r.blocks })
+
+-- an item means an assignment or a block
+abbrev pub MeansDriver : List Declaration → Option WrittenItem → Option Assignment → Option Statement → Type 0
+MeansDriver ds i a b = (is : List WrittenItem) (r : Resolved) → resolve_items ds is ≡ Some r → resolve_items ds (with_option i is) ≡ Some (record r { assignments = with_option a r.assignments; blocks = with_option b r.blocks })
 
 means-assignment : (ds : List Declaration) (name : List ℕ) (e : WrittenExpr) (target : ℕ) (value : Expr) → number_of ds name ≡ Some target → resolve_expr ds e ≡ Some value → MeansAssignment ds (Some (Assign name e)) (Some (assigned_to target value))
 means-assignment ds name e target value f g = λ is r h. rw (f, g, h) refl
@@ -125,14 +66,15 @@ all-assignments ds f g n (x ∷ xs) h is r e =
     ∙ m (numbered f (n + 1) xs ++ is) (record r { assignments = numbered g (n + 1) xs ++ r.assignments }) rest
     ∙ ap (λ (as' : List Assignment). Some (record r { assignments = as' })) (sym (with-append (g n x) (numbered g (n + 1) xs) r.assignments))
 
-all-blocks : {A : Type 0} (ds : List Declaration) (f : ℕ → A → Option WrittenItem) (g : ℕ → A → Option Statement) (n : ℕ) (xs : List A) → ((k : ℕ) (x : A) → slice_get xs k ≡ Some x → MeansBlock ds (f (n + k) x) (g (n + k) x)) → (is : List WrittenItem) (r : Resolved) → resolve_items ds is ≡ Some r → resolve_items ds (numbered f n xs ++ is) ≡ Some (record r { blocks = numbered g n xs ++ r.blocks })
-all-blocks ds f g n [] h is r e = e
-all-blocks ds f g n (x ∷ xs) h is r e =
-    let m : MeansBlock ds (f n x) (g n x) = subst (λ (k : ℕ). MeansBlock ds (f k x) (g k x)) (let q : n + 0 ≡ n = omega arith in q) (h 0 x refl) in
-    let rest = all-blocks ds f g (n + 1) xs (λ k y p. subst (λ (k : ℕ). MeansBlock ds (f k y) (g k y)) (up n k) (h (suc k) y p)) is r e in
+all-drivers : {A : Type 0} (ds : List Declaration) (f : ℕ → A → Option WrittenItem) (g : ℕ → A → Option Assignment) (b : ℕ → A → Option Statement) (n : ℕ) (xs : List A) → ((k : ℕ) (x : A) → slice_get xs k ≡ Some x → MeansDriver ds (f (n + k) x) (g (n + k) x) (b (n + k) x)) → (is : List WrittenItem) (r : Resolved) → resolve_items ds is ≡ Some r → resolve_items ds (numbered f n xs ++ is) ≡ Some (record r { assignments = numbered g n xs ++ r.assignments; blocks = numbered b n xs ++ r.blocks })
+all-drivers ds f g b n [] h is r e = e
+all-drivers ds f g b n (x ∷ xs) h is r e =
+    let m : MeansDriver ds (f n x) (g n x) (b n x) = subst (λ (k : ℕ). MeansDriver ds (f k x) (g k x) (b k x)) (let q : n + 0 ≡ n = omega arith in q) (h 0 x refl) in
+    let rest = all-drivers ds f g b (n + 1) xs (λ k y p. subst (λ (k : ℕ). MeansDriver ds (f k y) (g k y) (b k y)) (up n k) (h (suc k) y p)) is r e in
     ap (resolve_items ds) (with-append (f n x) (numbered f (n + 1) xs) is)
-    ∙ m (numbered f (n + 1) xs ++ is) (record r { blocks = numbered g (n + 1) xs ++ r.blocks }) rest
-    ∙ ap (λ (bs : List Statement). Some (record r { blocks = bs })) (sym (with-append (g n x) (numbered g (n + 1) xs) r.blocks))
+    ∙ m (numbered f (n + 1) xs ++ is) (record r { assignments = numbered g (n + 1) xs ++ r.assignments; blocks = numbered b (n + 1) xs ++ r.blocks }) rest
+    ∙ ap (λ (as' : List Assignment). Some (record r { assignments = as'; blocks = with_option (b n x) (numbered b (n + 1) xs ++ r.blocks) })) (sym (with-append (g n x) (numbered g (n + 1) xs) r.assignments))
+    ∙ ap (λ (bs : List Statement). Some (record r { assignments = with_option (g n x) (numbered g (n + 1) xs) ++ r.assignments; blocks = bs })) (sym (with-append (b n x) (numbered b (n + 1) xs) r.blocks))
 
 -- what is written of two values under an operation means that operation
 binary-means : (ds : List Declaration) (o : BinaryOp) (a b : WrittenExpr) (x y : Expr) (w : ℕ) → resolve_expr ds a ≡ Some x → resolve_expr ds b ≡ Some y → width_of ds x ≡ w → resolve_expr ds (binary_expr o w a b) ≡ Some (binary_meaning o w x y)
@@ -167,97 +109,102 @@ some-any p [] k x e t = absurd (not_some x e)
 some-any p (z ∷ xs) zero x e t = let f : p z ≡ true = ap p (some_same z x e) ∙ t in rw f refl
 some-any p (z ∷ xs) (suc k) x e t = or_right (p z) (list_any p xs) (some-any p xs k x e t)
 
-module _ (net : Net) (family : ℕ) (c : Named net family) where
+module _ (net : Net) (names : ℕ → List ℕ) (c : Named net names) where
   abbrev ds : List Declaration
-  ds = declarations_in net family
+  ds = declarations_in net names
 
   abbrev p : ℕ
   p = length net.ports
 
-  net-means : (n w : ℕ) → IsCarried net family n w → resolve_expr ds (named family n) ≡ Some (net_of p n)
-  net-means n w h = ap (option_map verilog.Net) (node-read net family c n h.node h.there)
+  net-means : (n w : ℕ) → IsCarried net names n w → resolve_expr ds (named names n) ≡ Some (net_of p n)
+  net-means n w h = ap (option_map verilog.Net) (node-read net names c n h.node h.there)
+
+  -- some bits of a net, of which one of a single bit is written without a range
+  cut-means : (x : Bus) (high low : ℕ) → IsCarried net names x.node x.width → high < 10 ^ 64 → low < 10 ^ 64 → (b : Bool) → resolve_expr ds (if b then written.Named (names x.node) else written.PartOf (names x.node) (decimal high) (decimal low)) ≡ Some (if b then verilog.Net (at_node p x.node) else verilog.Select high low (at_node p x.node))
+  cut-means x high low i wh wl true = net-means x.node x.width i
+  cut-means x high low i wh wl false =
+      let f : number_in 10 (decimal high) ≡ high = number_in-decimal high wh in
+      let g : number_in 10 (decimal low) ≡ low = number_in-decimal low wl in
+      ap (option_map (verilog.Select (number_in 10 (decimal high)) (number_in 10 (decimal low)))) (node-read net names c x.node i.node i.there)
+      ∙ ap (λ (a : ℕ). Some (verilog.Select a (number_in 10 (decimal low)) (at_node p x.node))) f ∙ ap (λ (b : ℕ). Some (verilog.Select high b (at_node p x.node))) g
 
   -- what is assigned to a node's net means its expression
-  pub value-means : (n : ℕ) (x : Node) → NodeFits net n x → option_and_then (resolve_expr ds) (takes family net.ports x) ≡ expression_of p x
+  pub value-means : (n : ℕ) (x : Node) → NodeFits net n x → option_and_then (resolve_expr ds) (takes names net.ports x) ≡ expression_of p x
   unfolding end_at
   value-means n (Input place w) h =
       let q = port_end (slice_get net.ports place) (In, n) h.1 in
       let a : port_name net.ports place ≡ q.0.name = ap (λ (o : Option Port). option_map_or (λ (r : Port). r.name) o []) q.1 in
-      let f = port_no_clock net family c place q.0 q.1 in
-      let g = port_found net family c place q.0 q.1 in
+      let f = port_no_clock net names c place q.0 q.1 in
+      let g = port_found net names c place q.0 q.1 in
       let k : number_read ds q.0.name ≡ Some (suc place) = rw (f, g) refl in
       ap (λ (m : List ℕ). option_map verilog.Net (number_read ds m)) a ∙ ap (option_map verilog.Net) k
   value-means n (Constant word) h = literal-means ds word.bits word.width h.width h.fits
   value-means n (Not x) h =
-      let i = bus net family c x h.bus in
-      ap (option_map (prefixed ds BitNot)) (net-means x.node x.width i) ∙ ap (λ (w : ℕ). Some (verilog.Invert w (net_of p x.node))) (carried-width net family c x.node x.width i)
+      let i = bus net names c x h.bus in
+      ap (option_map (prefixed ds BitNot)) (net-means x.node x.width i) ∙ ap (λ (w : ℕ). Some (verilog.Invert w (net_of p x.node))) (carried-width net names c x.node x.width i)
   value-means n (Binary o x y) h =
-      let i = bus net family c x h.0.bus in
-      let j = bus net family c y h.1.bus in
-      binary-means ds o (named family x.node) (named family y.node) (net_of p x.node) (net_of p y.node) x.width (net-means x.node x.width i) (net-means y.node y.width j) (carried-width net family c x.node x.width i)
+      let i = bus net names c x h.0.bus in
+      let j = bus net names c y h.1.bus in
+      binary-means ds o (named names x.node) (named names y.node) (net_of p x.node) (net_of p y.node) x.width (net-means x.node x.width i) (net-means y.node y.width j) (carried-width net names c x.node x.width i)
   value-means n (Choose test x y) h =
-      let t = net-means test.node 1 (bit net family c test h.0.bit) in
-      let a = net-means x.node x.width (bus net family c x h.1.bus) in
-      let b = net-means y.node y.width (bus net family c y h.2.bus) in
+      let t = net-means test.node 1 (bit net names c test h.0.bit) in
+      let a = net-means x.node x.width (bus net names c x h.1.bus) in
+      let b = net-means y.node y.width (bus net names c y h.2.bus) in
       rw (t, a, b) refl
   value-means n (Join x y) h =
-      let j = bus net family c y h.1.bus in
-      let a = net-means x.node x.width (bus net family c x h.0.bus) in
+      let j = bus net names c y h.1.bus in
+      let a = net-means x.node x.width (bus net names c x h.0.bus) in
       let b = net-means y.node y.width j in
-      rw (a, b) (ap (λ (w : ℕ). Some (verilog.Join w (net_of p x.node) (net_of p y.node))) (carried-width net family c y.node y.width j))
+      rw (a, b) (ap (λ (w : ℕ). Some (verilog.Join w (net_of p x.node) (net_of p y.node))) (carried-width net names c y.node y.width j))
   value-means n (Cut x high low) h =
-      let i = bus net family c x h.0.bus in
       let most = h.0.bus.width.most in let below = h.2 in let order = h.1 in
-      let f : number_in 10 (decimal high) ≡ high = number_in-decimal high (omega (arith, most, below)) in
-      let g : number_in 10 (decimal low) ≡ low = number_in-decimal low (omega (arith, most, below, order)) in
-      ap (option_map (verilog.Select (number_in 10 (decimal high)) (number_in 10 (decimal low)))) (node-read net family c x.node i.node i.there)
-      ∙ ap (λ (a : ℕ). Some (verilog.Select a (number_in 10 (decimal low)) (at_node p x.node))) f ∙ ap (λ (b : ℕ). Some (verilog.Select high b (at_node p x.node))) g
+      cut-means x high low (bus net names c x h.0.bus) (omega (arith, most, below)) (omega (arith, most, below, order)) (x.width == 1)
   value-means n (MemoryRead store x) h =
-      let s = stored net family c store h.0.store in
-      let a = node-read net family c store.node s.node s.there in
-      let b = net-means x.node x.width (bus net family c x h.1.bus) in
+      let s = stored net names c store h.0.store in
+      let a = node-read net names c store.node s.node s.there in
+      let b = net-means x.node x.width (bus net names c x h.1.bus) in
       rw (a, b) refl
   value-means n (Register w reset next) h = refl
   value-means n (Memory bits w drive) h = refl
 
   -- the reset line
-  pub line-found : (n : ℕ) (x : Node) → slice_get net.nodes n ≡ Some x → has_reset_value x ≡ true → number_of ds (codes "rst") ≡ Some (line_in net family)
+  pub line-found : (n : ℕ) (x : Node) → slice_get net.nodes n ≡ Some x → has_reset_value x ≡ true → number_of ds (codes "rst") ≡ Some (line_in net names)
   unfolding needs_reset
   line-found n x e t =
       let r = c.netlist.finished.reset (some-any has_reset_value net.nodes n x e t) in
-      let f = port_found net family c r.port.place _ r.port.there in
+      let f = port_found net names c r.port.place _ r.port.there in
       f ∙ ap Some (sym (ap (λ (o : Option ℕ). unwrap_or o 0) f))
 
-  line-read : (n : ℕ) (x : Node) → slice_get net.nodes n ≡ Some x → has_reset_value x ≡ true → resolve_expr ds (written.Named (codes "rst")) ≡ Some (verilog.Net (line_in net family))
+  line-read : (n : ℕ) (x : Node) → slice_get net.nodes n ≡ Some x → has_reset_value x ≡ true → resolve_expr ds (written.Named (codes "rst")) ≡ Some (verilog.Net (line_in net names))
   line-read n x e t = ap (option_map verilog.Net) (line-found n x e t)
 
-  update-means : (n m w : ℕ) (x : Node) → slice_get net.nodes n ≡ Some x → IsCarried net family m w → resolve_statement ds (written.Update (net_name family n) (named family m)) ≡ Some (verilog.Put (at_node p n) (net_of p m))
-  update-means n m w x e i = let a = node_found net family c n x e in let b = net-means m w i in rw (a, b) refl
+  update-means : (n m w : ℕ) (x : Node) → slice_get net.nodes n ≡ Some x → IsCarried net names m w → resolve_statement ds (written.Update (names n) (named names m)) ≡ Some (verilog.Put (at_node p n) (net_of p m))
+  update-means n m w x e i = let a = node_found net names c n x e in let b = net-means m w i in rw (a, b) refl
 
-  reset-means : (n v w : ℕ) (x : Node) → slice_get net.nodes n ≡ Some x → IsWidth w → v < 2 ^ w → resolve_statement ds (written.Update (net_name family n) (literal v w)) ≡ Some (verilog.Put (at_node p n) (verilog.Literal v w))
+  reset-means : (n v w : ℕ) (x : Node) → slice_get net.nodes n ≡ Some x → IsWidth w → v < 2 ^ w → resolve_statement ds (written.Update (names n) (literal v w)) ≡ Some (verilog.Put (at_node p n) (verilog.Literal v w))
   reset-means n v w x e i h =
-      ap (λ (o : Option ℕ). both verilog.Put o (resolve_expr ds (literal v w))) (node_found net family c n x e)
+      ap (λ (o : Option ℕ). both verilog.Put o (resolve_expr ds (literal v w))) (node_found net names c n x e)
       ∙ ap (both verilog.Put (Some (at_node p n))) (literal-means ds v w i h)
 
-  block-means : (n : ℕ) (x : Node) → slice_get net.nodes n ≡ Some x → NodeFits net n x → option_and_then (resolve_statement ds) (does family n x) ≡ block_for p (line_in net family) n x
+  block-means : (n : ℕ) (x : Node) → slice_get net.nodes n ≡ Some x → NodeFits net n x → option_and_then (resolve_statement ds) (does names n x) ≡ block_for p (line_in net names) n x
   block-means n (Register w None None) e h = refl
   block-means n (Register w (Some value) None) e h = refl
-  block-means n (Register w None (Some next)) e h = update-means n next.node next.width _ e (bus net family c next h.2.0)
+  block-means n (Register w None (Some next)) e h = update-means n next.node next.width _ e (bus net names c next h.2.0)
   block-means n (Register w (Some value) (Some next)) e h =
       let r = line-read n _ e refl in
       let a = reset-means n value w _ e h.0 h.1 in
-      let b = update-means n next.node next.width _ e (bus net family c next h.2.0) in
-      let set = resolve_statement ds (written.Update (net_name family n) (literal value w)) in
-      let go = resolve_statement ds (written.Update (net_name family n) (named family next.node)) in
+      let b = update-means n next.node next.width _ e (bus net names c next h.2.0) in
+      let set = resolve_statement ds (written.Update (names n) (literal value w)) in
+      let go = resolve_statement ds (written.Update (names n) (named names next.node)) in
       ap (λ (o : Option Expr). three verilog.If o set go) r
-      ∙ ap (λ (o : Option Statement). three verilog.If (Some (verilog.Net (line_in net family))) o go) a
-      ∙ ap (three verilog.If (Some (verilog.Net (line_in net family))) (Some (verilog.Put (at_node p n) (verilog.Literal value w)))) b
+      ∙ ap (λ (o : Option Statement). three verilog.If (Some (verilog.Net (line_in net names))) o go) a
+      ∙ ap (three verilog.If (Some (verilog.Net (line_in net names))) (Some (verilog.Put (at_node p n) (verilog.Literal value w)))) b
   block-means n (Memory bits w None) e h = refl
   block-means n (Memory bits w (Some drive)) e h =
-      let t = net-means drive.write.node 1 (bit net family c drive.write h.2.write) in
-      let a = net-means drive.address.node drive.address.width (bus net family c drive.address h.2.address) in
-      let b = net-means drive.value.node drive.value.width (bus net family c drive.value h.2.value) in
-      let m = node_found net family c n _ e in
+      let t = net-means drive.write.node 1 (bit net names c drive.write h.2.write) in
+      let a = net-means drive.address.node drive.address.width (bus net names c drive.address h.2.address) in
+      let b = net-means drive.value.node drive.value.width (bus net names c drive.value h.2.value) in
+      let m = node_found net names c n _ e in
       rw (t, m, a, b) refl
   block-means n (Input place w) e h = refl
   block-means n (Constant word) e h = refl
@@ -268,13 +215,13 @@ module _ (net : Net) (family : ℕ) (c : Named net family) where
   block-means n (Cut x high low) e h = refl
   block-means n (MemoryRead store x) e h = refl
 
-  assign-by : (n : ℕ) (x : Node) → slice_get net.nodes n ≡ Some x → (o : Option WrittenExpr) (e : Option Expr) → is_some o ≡ is_some e → option_and_then (resolve_expr ds) o ≡ e → MeansAssignment ds (option_map (Assign (net_name family n)) o) (option_map (assigned_to (at_node p n)) e)
+  assign-by : (n : ℕ) (x : Node) → slice_get net.nodes n ≡ Some x → (o : Option WrittenExpr) (e : Option Expr) → is_some o ≡ is_some e → option_and_then (resolve_expr ds) o ≡ e → MeansAssignment ds (option_map (Assign (names n)) o) (option_map (assigned_to (at_node p n)) e)
   assign-by n x t None None g f = λ is r h. h
   assign-by n x t None (Some e) g f = absurd (cc)
   assign-by n x t (Some o) None g f = absurd (cc)
-  assign-by n x t (Some o) (Some e) g f = means-assignment ds (net_name family n) o (at_node p n) e (node_found net family c n x t) f
+  assign-by n x t (Some o) (Some e) g f = means-assignment ds (names n) o (at_node p n) e (node_found net names c n x t) f
 
-  assigned-both : (x : Node) → is_some (takes family net.ports x) ≡ is_some (expression_of p x)
+  assigned-both : (x : Node) → is_some (takes names net.ports x) ≡ is_some (expression_of p x)
   assigned-both (Input place w) = refl
   assigned-both (Constant word) = refl
   assigned-both (Not x) = refl
@@ -292,7 +239,7 @@ module _ (net : Net) (family : ℕ) (c : Named net family) where
   clock-by (Some o) None g f = absurd (cc)
   clock-by (Some o) (Some b) g f = means-block ds o b refl f
 
-  clocked-both : (n : ℕ) (x : Node) → is_some (does family n x) ≡ is_some (block_for p (line_in net family) n x)
+  clocked-both : (n : ℕ) (x : Node) → is_some (does names n x) ≡ is_some (block_for p (line_in net names) n x)
   clocked-both n (Register w None None) = refl
   clocked-both n (Register w (Some value) None) = refl
   clocked-both n (Register w None (Some next)) = refl
@@ -308,20 +255,34 @@ module _ (net : Net) (family : ℕ) (c : Named net family) where
   clocked-both n (Cut x high low) = refl
   clocked-both n (MemoryRead store x) = refl
 
+  -- what drives a node means its assignment or its block
+  drive-means : (n : ℕ) (x : Node) → slice_get net.nodes n ≡ Some x → NodeFits net n x → MeansDriver ds (driving names net.ports n x) (assignment_for p n x) (block_for p (line_in net names) n x)
+  drive-means n x e f = by x (assign-by n x e (takes names net.ports x) (expression_of p x) (assigned-both x) (value-means n x f)) (clock-by (does names n x) (block_for p (line_in net names) n x) (clocked-both n x) (block-means n x e f))
+    where
+      by : (x : Node) → MeansAssignment ds (assigning names net.ports n x) (assignment_for p n x) → MeansBlock ds (clocking names n x) (block_for p (line_in net names) n x) → MeansDriver ds (driving names net.ports n x) (assignment_for p n x) (block_for p (line_in net names) n x)
+      by (Input place w) a b = a
+      by (Constant word) a b = a
+      by (Not x) a b = a
+      by (Binary o x y) a b = a
+      by (Choose test x y) a b = a
+      by (Join x y) a b = a
+      by (Cut x high low) a b = a
+      by (MemoryRead store x) a b = a
+      by (Register w reset next) a b = b
+      by (Memory bits w drive) a b = b
+
   -- an output port shows its node
-  show-by : (place : ℕ) (q : Port) → slice_get net.ports place ≡ Some q → (d : Direction) → EndFits net place d q.node → MeansAssignment ds (shows family d q.name q.node) (shown_by p place d q.node)
+  show-by : (place : ℕ) (q : Port) → slice_get net.ports place ≡ Some q → (d : Direction) → EndFits net place d q.node → MeansAssignment ds (shows names d q.name q.node) (shown_by p place d q.node)
   show-by place q t In f = λ is r h. h
-  show-by place q t Out f = means-assignment ds q.name (named family q.node) (suc place) (net_of p q.node) (port_found net family c place q t) (net-means q.node f.0 (shown net family c q.node f.0 f.1))
+  show-by place q t Out f = means-assignment ds q.name (named names q.node) (suc place) (net_of p q.node) (port_found net names c place q t) (net-means q.node f.0 (shown net names c q.node f.0 f.1))
 
   fits : (n : ℕ) (x : Node) → slice_get net.nodes n ≡ Some x → NodeFits net n x
   fits n x e = c.netlist.formed.nodes n x e
 
   -- the ports
-  range-back : (name : List ℕ) (d : Direction) (w : ℕ) → IsWidth w → (b : Bool) → (w == 1) ≡ b → declare (port_kind (leads d)) (if b then None else vector w) name ≡ record { name = name; width = w; is_vector = not b; kind = kind_of d }
-  range-back name In w i true e = ap (λ (k : ℕ). record { name = name; width = k; is_vector = false; kind = kind_of In }) (sym (eqb-true w 1 e))
-  range-back name Out w i true e = ap (λ (k : ℕ). record { name = name; width = k; is_vector = false; kind = kind_of Out }) (sym (eqb-true w 1 e))
-  range-back name In w i false e = ap (λ (k : ℕ). record { name = name; width = k; is_vector = true; kind = kind_of In }) (width-back w i)
-  range-back name Out w i false e = ap (λ (k : ℕ). record { name = name; width = k; is_vector = true; kind = kind_of Out }) (width-back w i)
+  port-declares : (name : List ℕ) (d : Direction) (w : ℕ) → IsWidth w → declare (port_kind (leads d)) (range_of w) name ≡ record { name = name; width = w; is_vector = not (w == 1); kind = kind_of d }
+  port-declares name In w i = range-declares verilog.Input name w i
+  port-declares name Out w i = range-declares verilog.OutputWire name w i
 
   pub port-width : (place : ℕ) (q : Port) → slice_get net.ports place ≡ Some q → IsWidth (bits_of (shape_in net.nodes q.node))
   unfolding shape_in
@@ -329,10 +290,10 @@ module _ (net : Net) (family : ℕ) (c : Named net family) where
     where
       by : (d : Direction) → EndFits net place d q.node → IsWidth (bits_of (shape_in net.nodes q.node))
       by In f = rw f.1 (c.netlist.formed.nodes q.node (Input place f.0) f.1).0
-      by Out f = (let i = shown net family c q.node f.0 f.1 in let g = i.there in let h = width-fits net q.node i.node (c.netlist.formed.nodes q.node i.node i.there) in subst (λ (o : Option Node). IsWidth (bits_of (option_map shape_of o))) (sym g) h)
+      by Out f = (let i = shown net names c q.node f.0 f.1 in let g = i.there in let h = width-fits net q.node i.node (c.netlist.formed.nodes q.node i.node i.there) in subst (λ (o : Option Node). IsWidth (bits_of (option_map shape_of o))) (sym g) h)
 
   declare-port : (place : ℕ) (q : Port) → slice_get net.ports place ≡ Some q → declare_port (written_port net.nodes q) ≡ declaration_of net q
-  declare-port place q t = range-back q.name q.direction (bits_of (shape_in net.nodes q.node)) (port-width place q t) (bits_of (shape_in net.nodes q.node) == 1) refl
+  declare-port place q t = port-declares q.name q.direction (bits_of (shape_in net.nodes q.node)) (port-width place q t)
 
   declare-ports : (n : ℕ) (qs : List Port) → ((k : ℕ) (q : Port) → slice_get qs k ≡ Some q → slice_get net.ports (n + k) ≡ Some q) → map declare_port (map (written_port net.nodes) qs) ≡ map (declaration_of net) qs
   declare-ports n [] h = refl
@@ -342,35 +303,30 @@ module _ (net : Net) (family : ℕ) (c : Named net family) where
       ap (λ (d : Declaration). d ∷ map declare_port (map (written_port net.nodes) qs)) a ∙ ap (λ (l : List Declaration). declaration_of net q ∷ l) b
 
   -- all of it
-  pub items-mean : resolve_items (clock ∷ map declare_port (map (written_port net.nodes) net.ports)) (items_of family net.nodes net.ports)
-      ≡ Some (record { declarations = ds; assignments = numbered (assignment_for p) 0 net.nodes ++ numbered (output_for p) 0 net.ports; blocks = numbered (block_for p (line_in net family)) 0 net.nodes })
+  pub items-mean : resolve_items (clock ∷ map declare_port (map (written_port net.nodes) net.ports)) (items_of names net.nodes net.ports)
+      ≡ Some (record { declarations = ds; assignments = numbered (assignment_for p) 0 net.nodes ++ numbered (output_for p) 0 net.ports; blocks = numbered (block_for p (line_in net names)) 0 net.nodes })
   items-mean =
-      let d = numbered (declaring family) 0 net.nodes in
-      let a = numbered (assigning family net.ports) 0 net.nodes in
-      let o = numbered (showing family) 0 net.ports in
-      let b = numbered (clocking family) 0 net.nodes in
+      let d = numbered (declaring names) 0 net.nodes in
+      let s = numbered (driving names net.ports) 0 net.nodes in
+      let o = numbered (showing names) 0 net.ports in
       let ports : map declare_port (map (written_port net.nodes) net.ports) ≡ map (declaration_of net) net.ports = declare-ports 0 net.ports (λ k q e. get-from_zero net.ports k q e) in
-      let order : d ++ a ++ o ++ b ≡ d ++ (a ++ (o ++ (b ++ []))) = ap (λ (z : List WrittenItem). d ++ a ++ o ++ z) (sym (append-nil b)) ∙ append_assoc (d ++ a) o (b ++ []) ∙ append_assoc d a (o ++ (b ++ [])) in
+      let order : d ++ s ++ o ≡ d ++ (s ++ (o ++ [])) = ap (λ (z : List WrittenItem). d ++ s ++ z) (sym (append-nil o)) ∙ append_assoc d s (o ++ []) in
       let r0 : Resolved = record { declarations = ds; assignments = []; blocks = [] } in
-      let r1 : Resolved = record { declarations = ds; assignments = []; blocks = numbered (block_for p (line_in net family)) 0 net.nodes ++ [] } in
-      let r2 : Resolved = record r1 { assignments = numbered (output_for p) 0 net.ports ++ [] } in
-      let blocks = all-blocks ds (clocking family) (block_for p (line_in net family)) 0 net.nodes
-      (λ k x e. clock-by (does family (0 + k) x) (block_for p (line_in net family) (0 + k) x) (clocked-both (0 + k) x) (let z = get-from_zero net.nodes k x e in block-means (0 + k) x z (fits (0 + k) x z))) [] r0 refl in
-      let outputs = all-assignments ds (showing family) (output_for p) 0 net.ports
-      (λ k q e. (let z = get-from_zero net.ports k q e in show-by (0 + k) q z q.direction (c.netlist.formed.ends (0 + k) q z))) (b ++ []) r1 blocks in
-      let values = all-assignments ds (assigning family net.ports) (assignment_for p) 0 net.nodes
-      (λ k x e. (let z = get-from_zero net.nodes k x e in assign-by (0 + k) x z (takes family net.ports x) (expression_of p x) (assigned-both x) (value-means (0 + k) x (fits (0 + k) x z)))) (o ++ (b ++ [])) r2 outputs in
-      ap (λ (l : List Declaration). resolve_items (clock ∷ l) (d ++ a ++ o ++ b)) ports
+      let r1 : Resolved = record r0 { assignments = numbered (output_for p) 0 net.ports ++ [] } in
+      let outputs = all-assignments ds (showing names) (output_for p) 0 net.ports
+      (λ k q e. (let z = get-from_zero net.ports k q e in show-by (0 + k) q z q.direction (c.netlist.formed.ends (0 + k) q z))) [] r0 refl in
+      let drivers = all-drivers ds (driving names net.ports) (assignment_for p) (block_for p (line_in net names)) 0 net.nodes
+      (λ k x e. (let z = get-from_zero net.nodes k x e in drive-means (0 + k) x z (fits (0 + k) x z))) (o ++ []) r1 outputs in
+      ap (λ (l : List Declaration). resolve_items (clock ∷ l) (d ++ s ++ o)) ports
       ∙ ap (resolve_items (clock ∷ map (declaration_of net) net.ports)) order
-      ∙ declare-all net family 0 net.nodes (clock ∷ map (declaration_of net) net.ports) (a ++ (o ++ (b ++ []))) (λ k x e. fits (0 + k) x (get-from_zero net.nodes k x e))
-      ∙ values
-      ∙ ap (λ (z : List Statement). Some (record { declarations = ds; assignments = numbered (assignment_for p) 0 net.nodes ++ (numbered (output_for p) 0 net.ports ++ []); blocks = z })) (append-nil (numbered (block_for p (line_in net family)) 0 net.nodes))
-      ∙ ap (λ (z : List Assignment). Some (record { declarations = ds; assignments = numbered (assignment_for p) 0 net.nodes ++ z; blocks = numbered (block_for p (line_in net family)) 0 net.nodes })) (append-nil (numbered (output_for p) 0 net.ports))
+      ∙ declare-all net names 0 net.nodes (clock ∷ map (declaration_of net) net.ports) (s ++ (o ++ [])) (λ k x e. fits (0 + k) x (get-from_zero net.nodes k x e))
+      ∙ drivers
+      ∙ ap (λ (z : List Statement). Some (record { declarations = ds; assignments = numbered (assignment_for p) 0 net.nodes ++ (numbered (output_for p) 0 net.ports ++ []); blocks = z })) (append-nil (numbered (block_for p (line_in net names)) 0 net.nodes))
+      ∙ ap (λ (z : List Assignment). Some (record { declarations = ds; assignments = numbered (assignment_for p) 0 net.nodes ++ z; blocks = numbered (block_for p (line_in net names)) 0 net.nodes })) (append-nil (numbered (output_for p) 0 net.ports))
 
   -- the written module resolves to the module
-  pub resolves : resolve (record { name = unwrap_or net.name []; ports = clock_port ∷ map (written_port net.nodes) net.ports; items = items_of family net.nodes net.ports }) ≡ Some (module_in net family)
+  pub resolves : resolve (written_as names net) ≡ Some (module_in net names)
   unfolding module_in
   resolves =
-      let w : WrittenModule = record { name = unwrap_or net.name []; ports = clock_port ∷ map (written_port net.nodes) net.ports; items = items_of family net.nodes net.ports } in
-      ap (option_map (module_from w)) items-mean
-      ∙ ap (λ (n : ℕ). Some (record { name = unwrap_or net.name []; ports = suc n; declarations = ds; assignments = numbered (assignment_for p) 0 net.nodes ++ numbered (output_for p) 0 net.ports; blocks = numbered (block_for p (line_in net family)) 0 net.nodes })) (length-map net.ports (written_port net.nodes))
+      ap (option_map (module_from (written_as names net))) items-mean
+      ∙ ap (λ (n : ℕ). Some (record { name = unwrap_or net.name []; ports = suc n; declarations = ds; assignments = numbered (assignment_for p) 0 net.nodes ++ numbered (output_for p) 0 net.ports; blocks = numbered (block_for p (line_in net names)) 0 net.nodes })) (length-map net.ports (written_port net.nodes))

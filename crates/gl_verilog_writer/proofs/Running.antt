@@ -1,12 +1,13 @@
 -- Each run of a netlist's module is one of the netlist.
-use Rattle.std.proofs.Common.{◌≡◌, ℕ, zero, suc, ◌+◌, ◌<◌, ◌^◌, Bool, true, false, ◌&&◌, List, [], ◌∷◌, ◌++◌, length, take, map, Option, Some, None, refl, sym, ap, ◌∙◌, arith, add-one, eq-eqb, eqb-true, ne_eqb, subst, take_at}
+use Rattle.std.proofs.Common.{◌≡◌, ℕ, zero, suc, ◌+◌, ◌-◌, ◌/◌, ◌%◌, ◌<◌, ◌≤◌, ◌^◌, Bool, true, false, ◌&&◌, List, [], ◌∷◌, ◌++◌, length, take, map, Option, Some, None, refl, sym, ap, ◌∙◌, arith, add-one, eq-eqb, eqb-true, ne_eqb, subst, take_at}
 use Rattle.std.specs.Prelude.{slice_get, codes, option_map, option_and_then, unwrap_or, nat_eq, ◌==◌, bit_and, bit_or, if◌then◌else◌, find, bytes_eq}
 use Rattle.std.proofs.lemmas.List.{length-map}
+use Rattle.std.proofs.Math.Nat.{div-one, mod-eq_of_lt}
 use Rattle.std.specs.Option.{option_map_or}
 use Rattle.gl_bits.proofs.AllLists.{all_front, all_back}
 use Rattle.gl_bits.proofs.Options.{some_same, not_some}
 use Rattle.gl_bits.proofs.Bools.{bytes_other, not_both}
-use Rattle.gl_bits.specs.Words.{not_of, lt_of, le_of}
+use Rattle.gl_bits.specs.Words.{not_of, lt_of, le_of, cut_of}
 use Rattle.gl_net.specs.declared.node.BinaryOp.{BinaryOp}
 use Rattle.gl_net.specs.declared.node.BinaryOp.TheVariants.{Add, Sub, Mul, And, Xor, Or, Eq, Ne, Lt, Le}
 use Rattle.gl_net.specs.declared.node.Node.{Node}
@@ -187,6 +188,17 @@ port-lookup net name v shows (q ∷ qs) h = by (bytes_eq q.name name) (port-look
     by false e = moved-up v (number_of (map (declaration_of net) qs) name) ∙ e
 
 -- a port is an input in the module where it is one in the netlist
+-- one bit is all of its net
+cut-same : (v : Nets) (word : Memories) (w high low n : ℕ) → low ≤ high → high < w → v n < 2 ^ w → (b : Bool) → (w == 1) ≡ b → value_of v word (if b then verilog.Net n else verilog.Select high low n) ≡ cut_of high low (v n)
+unfolding cut_of
+cut-same v word w high low n l h f true e =
+    let one = eqb-true w 1 e in
+    let a : low ≡ 0 = omega (arith, one, l, h) in
+    let b : high ≡ 0 = omega (arith, one, h) in
+    let g : v n < 2 ^ 1 = subst (λ (k : ℕ). v n < 2 ^ k) one f in
+    rw (a, b) (let q : v n ≡ (v n / 2 ^ 0) % 2 ^ (0 + 1 - 0) = sym (mod-eq_of_lt (let z : v n / 1 < 2 = omega (arith, g, div-one (v n)) in z) ∙ div-one (v n)) in q)
+cut-same v word w high low n l h f false e = refl
+
 kind-same : (d : Direction) → is_input (kind_of d) ≡ leads_in d
 kind-same In = refl
 kind-same Out = refl
@@ -195,15 +207,15 @@ fits-shape : (run : Run) (n : ℕ) (s : Shape) → ((t : ℕ) → (run.at t n < 
 fits-shape run n (Value w) h = λ t. (h t).0
 fits-shape run n (Words bits w) h = λ t k. (h t).1 k
 
-module _ (net : Net) (family : ℕ) (c : Named net family) (value : ℕ → Nets) (word : ℕ → Memories) (r : IsRun (module_in net family) value word) where
+module _ (net : Net) (names : ℕ → List ℕ) (c : Named net names) (value : ℕ → Nets) (word : ℕ → Memories) (r : IsRun (module_in net names) value word) where
   abbrev ds : List Declaration
-  ds = declarations_in net family
+  ds = declarations_in net names
 
   abbrev p : ℕ
   p = length net.ports
 
   abbrev line : ℕ
-  line = line_in net family
+  line = line_in net names
 
   abbrev run : Run
   run = record { at = λ t n. value t (at_node p n); word = λ t n k. word t (at_node p n) k; rst = λ t. nat_eq (value t line) 1 }
@@ -242,7 +254,7 @@ module _ (net : Net) (family : ℕ) (c : Named net family) (value : ℕ → Nets
       assigned-latest (value t) (word t) (numbered (block_for p line) 0 net.nodes) m
       ∙ latest-one (λ b. assigned (value t) (word t) b m) (block_for p line) 0 net.nodes n x e (λ j y f ne. assigned-not (value t) (word t) p line (0 + j) n y (λ q. ne (let s : j ≡ n = omega (arith, q) in s)))
       ∙ ap (λ (i : ℕ). given (λ b. assigned (value t) (word t) b m) (block_for p line i x)) (let q : 0 + n ≡ n = omega arith in q) in
-      ap (λ (s : ℕ). value s m) (sym (add-one t)) ∙ r.registers t m (declaration_for family n x) (node_there net family c n x e) k ∙ ap (λ (o : Option ℕ). unwrap_or o (value t m)) a
+      ap (λ (s : ℕ). value s m) (sym (add-one t)) ∙ r.registers t m (declaration_for names n x) (node_there net names c n x e) k ∙ ap (λ (o : Option ℕ). unwrap_or o (value t m)) a
 
   -- what a memory holds in the next cycle
   word-at : (t n k : ℕ) (x : Node) → slice_get net.nodes n ≡ Some x → word (suc t) (at_node p n) k ≡ unwrap_or (given (λ b. written (value t) (word t) b (at_node p n) k) (block_for p line n x)) (word t (at_node p n) k)
@@ -256,9 +268,9 @@ module _ (net : Net) (family : ℕ) (c : Named net family) (value : ℕ → Nets
       ap (λ (s : ℕ). word s m k) (sym (add-one t)) ∙ r.memories t m k ∙ ap (λ (o : Option ℕ). unwrap_or o (word t m k)) a
 
   -- what a net carries is below 2 ^ width
-  carried-small : (t n w : ℕ) → IsCarried net family n w → value t (at_node p n) < 2 ^ w
+  carried-small : (t n w : ℕ) → IsCarried net names n w → value t (at_node p n) < 2 ^ w
   unfolding module_in
-  carried-small t n w h = subst (λ (k : ℕ). value t (at_node p n) < 2 ^ k) h.width (r.fits t (at_node p n) (declaration_for family n h.node) (node_there net family c n h.node h.there)).0
+  carried-small t n w h = subst (λ (k : ℕ). value t (at_node p n) < 2 ^ k) h.width (r.fits t (at_node p n) (declaration_for names n h.node) (node_there net names c n h.node h.there)).0
 
   itself : (n : ℕ) → nat_eq (at_node p n) (at_node p n) ≡ true
   itself n = eq-eqb (at_node p n) (at_node p n) refl
@@ -270,11 +282,13 @@ module _ (net : Net) (family : ℕ) (c : Named net family) (value : ℕ → Nets
   holds n (Not x) e = λ t. value-at t n _ _ e refl
   holds n (Binary o x y) e = λ t.
       let h = c.netlist.formed.nodes n (Binary o x y) e in
-      let k : value t (at_node p y.node) < 2 ^ x.width = subst (λ (w : ℕ). value t (at_node p y.node) < 2 ^ w) (sym h.2) (carried-small t y.node y.width (bus net family c y h.1.bus)) in
-      value-at t n _ _ e refl ∙ binary-same (value t) (word t) o x.width (at_node p x.node) (at_node p y.node) (carried-small t x.node x.width (bus net family c x h.0.bus)) k
+      let k : value t (at_node p y.node) < 2 ^ x.width = subst (λ (w : ℕ). value t (at_node p y.node) < 2 ^ w) (sym h.2) (carried-small t y.node y.width (bus net names c y h.1.bus)) in
+      value-at t n _ _ e refl ∙ binary-same (value t) (word t) o x.width (at_node p x.node) (at_node p y.node) (carried-small t x.node x.width (bus net names c x h.0.bus)) k
   holds n (Choose test x y) e = λ t. value-at t n _ _ e refl
   holds n (Join x y) e = λ t. value-at t n _ _ e refl
-  holds n (Cut x high low) e = λ t. value-at t n _ _ e refl
+  holds n (Cut x high low) e = λ t.
+      let h = c.netlist.formed.nodes n (Cut x high low) e in
+      value-at t n _ _ e refl ∙ cut-same (value t) (word t) x.width high low (at_node p x.node) h.1 h.2 (carried-small t x.node x.width (bus net names c x h.0.bus)) (x.width == 1) refl
   holds n (MemoryRead store x) e = λ t. value-at t n _ _ e refl
   holds n (Register w None None) e = tt
   holds n (Register w (Some value') None) e = λ t h. (let f : None ≡ Some (Value w) = sym (c.netlist.finished.driven n) ∙ ap (option_and_then open_shape) e in absurd (not_some (Value w) f))
@@ -285,11 +299,11 @@ module _ (net : Net) (family : ℕ) (c : Named net family) (value : ℕ → Nets
 
   fits : (n : ℕ) (x : Node) → slice_get net.nodes n ≡ Some x → Fits run n (shape_of x)
   unfolding module_in
-  fits n x e = fits-shape run n (shape_of x) (λ t. r.fits t (at_node p n) (declaration_for family n x) (node_there net family c n x e))
+  fits n x e = fits-shape run n (shape_of x) (λ t. r.fits t (at_node p n) (declaration_for names n x) (node_there net names c n x e))
 
   line-is : (n : ℕ) → IsPort net In reset_name n → (t : ℕ) → run.rst t ≡ nat_eq (run.at t n) 1
   line-is n h t =
-      let f = port_found net family c h.place _ h.there in
+      let f = port_found net names c h.place _ h.there in
       let l : line ≡ suc h.place = ap (λ (o : Option ℕ). unwrap_or o 0) f in
       ap (λ (m : ℕ). nat_eq (value t m) 1) l ∙ ap (λ (m : ℕ). nat_eq m 1) (port-at t h.place _ h.there)
 
@@ -298,7 +312,7 @@ module _ (net : Net) (family : ℕ) (c : Named net family) (value : ℕ → Nets
       → option_and_then v (number_of (take (suc p) ds) name) ≡ option_and_then shows (find (λ (q : Port). bytes_eq q.name name) net.ports)
   found-same v shows name h e =
       let ps = map (declaration_of net) net.ports in
-      let ns = counted (declaration_for family) 0 net.nodes in
+      let ns = counted (declaration_for names) 0 net.nodes in
       let f : bytes_eq (codes "clk") name ≡ false = bytes_other (codes "clk") name (λ q. not_both (bytes_eq name (codes "clk")) (ap (λ (w : List ℕ). bytes_eq w (codes "clk")) (sym q)) e) in
       let g : take p (ps ++ ns) ≡ ps = ap (λ (m : ℕ). take m (ps ++ ns)) (sym (length-map net.ports (declaration_of net))) ∙ take_at ps ns (length ps) refl in
       ap (λ (l : List Declaration). option_and_then v (if bytes_eq (codes "clk") name then Some 0 else option_map (λ n. n + 1) (number_of l name))) g
@@ -306,7 +320,7 @@ module _ (net : Net) (family : ℕ) (c : Named net family) (value : ℕ → Nets
       ∙ moved-up v (number_of ps name)
       ∙ port-lookup net name (λ n. v (n + 1)) shows net.ports (λ k q i. ap v (add-one k) ∙ h k q i)
 
-  ports-same : (t : ℕ) (name : List ℕ) → bytes_eq name (codes "clk") ≡ false → port_of (module_in net family) value t name ≡ port_values net run t name
+  ports-same : (t : ℕ) (name : List ℕ) → bytes_eq name (codes "clk") ≡ false → port_of (module_in net names) value t name ≡ port_values net run t name
   unfolding module_in
   ports-same t name e =
       map-then (value t) (number_of (take (suc p) ds) name)
@@ -314,9 +328,9 @@ module _ (net : Net) (family : ℕ) (c : Named net family) (value : ℕ → Nets
       ∙ sym (map-then (λ (q : Port). value t (at_node p q.node)) (find (λ (q : Port). bytes_eq q.name name) net.ports))
 
   input-at : (k : ℕ) (q : Port) → slice_get net.ports k ≡ Some q → is_input_at ds (suc k) ≡ leads_in q.direction
-  input-at k q h = ap (λ (o : Option Declaration). option_map_or (λ d. is_input d.kind) o false) (port_there net family c k q h) ∙ kind-same q.direction
+  input-at k q h = ap (λ (o : Option Declaration). option_map_or (λ d. is_input d.kind) o false) (port_there net names c k q h) ∙ kind-same q.direction
 
-  inputs-same : (t : ℕ) (name : List ℕ) → bytes_eq name (codes "clk") ≡ false → input_values (module_in net family) value t name ≡ circuit_ports.input_values net run t name
+  inputs-same : (t : ℕ) (name : List ℕ) → bytes_eq name (codes "clk") ≡ false → input_values (module_in net names) value t name ≡ circuit_ports.input_values net run t name
   unfolding module_in
   inputs-same t name e =
       let number : ℕ → Option ℕ = λ n. if is_input_at ds n then Some n else None in
@@ -331,11 +345,11 @@ module _ (net : Net) (family : ℕ) (c : Named net family) (value : ℕ → Nets
       either-same t k q h In = ap Some (port-at t k q h)
       either-same t k q h Out = refl
 
-  pub runs-same : IsRunOf net (module_in net family) value
+  pub runs-same : IsRunOf net (module_in net names) value
   runs-same = record { run = run; trace = record { fits = fits; holds = holds; line = line-is }; ports = ports-same; inputs = inputs-same }
 
-pub ports-declared : (net : Net) (family : ℕ) → take (suc (length net.ports)) (declarations_in net family) ≡ clock ∷ map (declaration_of net) net.ports
-ports-declared net family =
+pub ports-declared : (net : Net) (names : ℕ → List ℕ) → take (suc (length net.ports)) (declarations_in net names) ≡ clock ∷ map (declaration_of net) net.ports
+ports-declared net names =
     let ps = map (declaration_of net) net.ports in
-    let ns = counted (declaration_for family) 0 net.nodes in
+    let ns = counted (declaration_for names) 0 net.nodes in
     ap (λ (l : List Declaration). clock ∷ l) (ap (λ (m : ℕ). take m (ps ++ ns)) (sym (length-map net.ports (declaration_of net))) ∙ take_at ps ns (length ps) refl)

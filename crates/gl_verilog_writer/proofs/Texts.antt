@@ -6,7 +6,9 @@ use Rattle.std.specs.Str.Parse.{IsNumeral}
 use Rattle.gl_verilog.specs.Tokens.{Token, Reserved, Name, Number, Sized, Mark, ModuleWord, EndModuleWord, WireWord, RegWord, AssignWord, AlwaysWord, PosedgeWord, BeginWord, EndWord, IfWord, ElseWord, OpenParen, CloseParen, OpenBracket, CloseBracket, OpenBrace, CloseBrace, Semicolon, Comma, Colon, Question, At, Equals, Tilde, LessEquals, Between, InWord, InNumber, InDigits, to, scan, tokens_of, number_token, word_token, sized_token, Reads, ClosesWord, ClosesNumber, ClosesDigits}
 use Rattle.gl_verilog.specs.Written.{BitNot, LogicalNot, InfixOp, Times, Added, Subtracted, Below, AtMost, Above, AtLeast, Equal, NotEqual, BitAnd, BitXor, BitOr, LogicalAnd, LogicalOr, WrittenExpr, Named, Constant, BitOf, PartOf, WordOf, Braces, Parts, Parens, Prefix, Infix, Conditional, WrittenStatement, Update, UpdateWord, IfThen, IfElse, Block, Listed, Ended, Direction, In, InWire, Out, OutWire, OutReg, Range, WrittenPort, WrittenItem, Wires, Registers, MemoryOf, Assign, Always, WrittenModule, infix_token, zero_digit, spell_expr, spell_statement, spell_direction, spell_range, spell_port, spell_more_ports, spell_ports, spell_more_names, spell_names, spell_item, spell_items, spell}
 use Rattle.gl_verilog.proofs.Pieces.{scan-append, reads_on, reads_all}
-use Rattle.gl_verilog_writer.specs.Printed.{infix_text, expr_text, statement_text, range_text, names_behind, names_text, always_text, item_text, items_text, direction_text, port_text, more_ports_text, ports_text, head_text, text_of}
+use Rattle.gl_verilog_writer.specs.Printed.{infix_text, expr_text, statement_text, range_text, names_behind, names_text, always_text, item_text, Line, line_text, lines_text, direction_text, port_text, more_ports_text, ports_text, head_text, end_text}
+use Rattle.gl_verilog_writer.specs.Comments.{heading_text}
+use Rattle.gl_verilog_writer.proofs.Quiet.{heading-reads}
 use Rattle.gl_verilog_writer.proofs.Digits.{IsPlain, IsSize, plain-reads, number-reads, literal-reads}
 
 -- this text ends a name, a number or a literal, and gives these tokens behind it
@@ -28,7 +30,7 @@ closes_on a b x y p q = record {
 }
 
 -- the same text and the same tokens, put together otherwise
-moved : (a b : List ℕ) (x y : List Token) → a ≡ b → x ≡ y → Reads a x → Reads b y
+pub moved : (a b : List ℕ) (x y : List Token) → a ≡ b → x ≡ y → Reads a x → Reads b y
 moved a b x y e f p = subst (λ t. Reads t y) e (subst (λ ts. Reads a ts) f p)
 
 right3 : {A : Type 0} (a b c d : List A) → a ++ (b ++ (c ++ d)) ≡ (a ++ b ++ c) ++ d
@@ -102,6 +104,9 @@ paren = closer _ _ (λ w. refl) (λ n. refl) (λ n ds. refl) refl
 
 paren_blank : Closes (codes ") ") (Mark CloseParen ∷ [])
 paren_blank = closer _ _ (λ w. refl) (λ n. refl) (λ n ds. refl) refl
+
+paren_line : Closes (codes ")\n        ") (Mark CloseParen ∷ [])
+paren_line = closer _ _ (λ w. refl) (λ n. refl) (λ n ds. refl) refl
 
 line : Closes (codes ";\n") (Mark Semicolon ∷ [])
 line = closer _ _ (λ w. refl) (λ n. refl) (λ n ds. refl) refl
@@ -197,9 +202,9 @@ statement-reads (UpdateWord target address value) h =
 statement-reads (IfThen test yes') h =
     moved _ _ _ _ (right3 (codes "if (") (expr_text test) (codes ") ") (statement_text yes')) refl (tested test (statement_text yes') (spell_statement yes') h.0 (statement-reads yes' h.1))
 statement-reads (IfElse test yes' no') h =
-    let n = reads_on (codes "else ") (statement_text no') (Reserved ElseWord ∷ []) (spell_statement no') (record { is = refl }) (statement-reads no' h.2) in
-    let y = reads_on (statement_text yes') (codes "else " ++ statement_text no') _ _ (statement-reads yes' h.1) n in
-    moved _ _ _ _ (right5 (codes "if (") (expr_text test) (codes ") ") (statement_text yes') (codes "else ") (statement_text no')) refl (tested test _ _ h.0 y)
+    let n = reads_on (codes "        else ") (statement_text no') (Reserved ElseWord ∷ []) (spell_statement no') (record { is = refl }) (statement-reads no' h.2) in
+    let y = reads_on (statement_text yes') (codes "        else " ++ statement_text no') _ _ (statement-reads yes' h.1) n in
+    moved _ _ _ _ (right5 (codes "if (") (expr_text test) (codes ") ") (statement_text yes') (codes "        else ") (statement_text no')) refl (tested test _ _ h.0 y)
 statement-reads (Block statements) h =
     moved _ _ _ _ (right2 (codes "begin ") (statement_text statements) (codes "end\n")) refl
     (reads_on (codes "begin ") _ (Reserved BeginWord ∷ []) _ (record { is = refl }) (reads_on (statement_text statements) (codes "end\n") _ (Reserved EndWord ∷ []) (statement-reads statements h) (record { is = refl })))
@@ -242,27 +247,33 @@ declared (n ∷ ns) h = names-read n ns (codes ";\n") (Mark Semicolon ∷ []) h.
 item-reads : (i : WrittenItem) → IsPrinted i → Reads (item_text i) (spell_item i)
 unfolding always_text
 item-reads (Wires range names) h =
-    moved _ _ _ _ (right3 (codes "wire ") (range_text range) (names_text names) (codes ";\n")) refl
-    (reads_on (codes "wire ") _ (Reserved WireWord ∷ []) _ (record { is = refl }) (reads_on (range_text range) _ (spell_range range) _ (range-reads range h.0) (declared names h.1)))
+    moved _ _ _ _ (right3 (codes "    wire ") (range_text range) (names_text names) (codes ";\n")) refl
+    (reads_on (codes "    wire ") _ (Reserved WireWord ∷ []) _ (record { is = refl }) (reads_on (range_text range) _ (spell_range range) _ (range-reads range h.0) (declared names h.1)))
 item-reads (Registers range names) h =
-    moved _ _ _ _ (right3 (codes "reg ") (range_text range) (names_text names) (codes ";\n")) refl
-    (reads_on (codes "reg ") _ (Reserved RegWord ∷ []) _ (record { is = refl }) (reads_on (range_text range) _ (spell_range range) _ (range-reads range h.0) (declared names h.1)))
+    moved _ _ _ _ (right3 (codes "    reg ") (range_text range) (names_text names) (codes ";\n")) refl
+    (reads_on (codes "    reg ") _ (Reserved RegWord ∷ []) _ (record { is = refl }) (reads_on (range_text range) _ (spell_range range) _ (range-reads range h.0) (declared names h.1)))
 item-reads (MemoryOf range name last) h =
     let l = number-reads last (codes "];\n") (Mark CloseBracket ∷ Mark Semicolon ∷ []) h.2 words_end.number in
     let n = plain-reads name (codes " [0:" ++ (last ++ codes "];\n")) (Mark OpenBracket ∷ Number zero_digit ∷ Mark Colon ∷ Number last ∷ Mark CloseBracket ∷ Mark Semicolon ∷ []) h.1 (closes_on (codes " [0:") _ (Mark OpenBracket ∷ Number zero_digit ∷ Mark Colon ∷ []) _ words_begin l).word in
-    moved _ _ _ _ (right5 (codes "reg ") (range_text range) name (codes " [0:") last (codes "];\n")) refl
-    (reads_on (codes "reg ") _ (Reserved RegWord ∷ []) _ (record { is = refl }) (reads_on (range_text range) _ (spell_range range) _ (range-reads range h.0) n))
+    moved _ _ _ _ (right5 (codes "    reg ") (range_text range) name (codes " [0:") last (codes "];\n")) refl
+    (reads_on (codes "    reg ") _ (Reserved RegWord ∷ []) _ (record { is = refl }) (reads_on (range_text range) _ (spell_range range) _ (range-reads range h.0) n))
 item-reads (Assign target value) h =
-    moved _ _ _ _ (right4 (codes "assign ") target (codes " = ") (expr_text value) (codes ";\n")) refl
-    (reads_on (codes "assign ") _ (Reserved AssignWord ∷ []) _ (record { is = refl }) (plain-reads target (codes " = " ++ (expr_text value ++ codes ";\n")) _ h.0 (closes_on (codes " = ") _ (Mark Equals ∷ []) _ gets (valued value h.1)).word))
+    moved _ _ _ _ (right4 (codes "    assign ") target (codes " = ") (expr_text value) (codes ";\n")) refl
+    (reads_on (codes "    assign ") _ (Reserved AssignWord ∷ []) _ (record { is = refl }) (plain-reads target (codes " = " ++ (expr_text value ++ codes ";\n")) _ h.0 (closes_on (codes " = ") _ (Mark Equals ∷ []) _ gets (valued value h.1)).word))
 item-reads (Always clock body) h =
-    moved _ _ _ _ (right3 (codes "always @(posedge ") clock (codes ") ") (statement_text body)) refl
-    (reads_on (codes "always @(posedge ") _ (Reserved AlwaysWord ∷ Mark At ∷ Mark OpenParen ∷ Reserved PosedgeWord ∷ []) _ (record { is = refl })
-    (plain-reads clock (codes ") " ++ statement_text body) _ h.0 (closes_on (codes ") ") _ (Mark CloseParen ∷ []) _ paren_blank (statement-reads body h.1)).word))
+    moved _ _ _ _ (right3 (codes "    always @(posedge ") clock (codes ")\n        ") (statement_text body)) refl
+    (reads_on (codes "    always @(posedge ") _ (Reserved AlwaysWord ∷ Mark At ∷ Mark OpenParen ∷ Reserved PosedgeWord ∷ []) _ (record { is = refl })
+    (plain-reads clock (codes ")\n        " ++ statement_text body) _ h.0 (closes_on (codes ")\n        ") _ (Mark CloseParen ∷ []) _ paren_line (statement-reads body h.1)).word))
 
-items-read : (is : List WrittenItem) → AllByRecursion IsPrinted is → Reads (items_text is) (spell_items is)
-items-read [] h = record { is = refl }
-items-read (i ∷ is) h = reads_on (item_text i) (items_text is) _ _ (item-reads i h.0) (items-read is h.1)
+-- the items of lines
+abbrev pub items_in : List Line → List WrittenItem
+items_in [] = []
+items_in (l ∷ ls) = l.item ∷ items_in ls
+
+pub lines-read : (ls : List Line) → AllByRecursion IsPrinted (items_in ls) → Reads (lines_text ls) (spell_items (items_in ls))
+lines-read [] h = record { is = refl }
+lines-read (l ∷ ls) h =
+    reads_on (line_text l) (lines_text ls) _ _ (reads_on (heading_text l.above) (item_text l.item) [] _ (heading-reads l.above) (item-reads l.item h.0)) (lines-read ls h.1)
 
 -- ---- ports
 
@@ -302,7 +313,6 @@ ports-read (p ∷ ps) h =
 pub record IsPrintedModule (m : WrittenModule) : Type 0 where
   pub name : IsPlain m.name
   pub ports : AllByRecursion IsPrintedPort m.ports
-  pub items : AllByRecursion IsPrinted m.items
 
 paren_open : Closes (codes "(") (Mark OpenParen ∷ [])
 paren_open = closer _ _ (λ w. refl) (λ n. refl) (λ n ds. refl) refl
@@ -314,10 +324,11 @@ head-reads m h =
     let n = plain-reads m.name (codes "(" ++ (ports_text m.ports ++ codes "\n);\n")) (Mark OpenParen ∷ (spell_ports m.ports ++ Mark CloseParen ∷ Mark Semicolon ∷ [])) h.name (closes_on (codes "(") _ (Mark OpenParen ∷ []) _ paren_open p).word in
     moved _ _ _ _ (right4 (codes "module ") m.name (codes "(") (ports_text m.ports) (codes "\n);\n")) refl (reads_on (codes "module ") _ (Reserved ModuleWord ∷ []) _ (record { is = refl }) n)
 
-pub module-spelled : (m : WrittenModule) → IsPrintedModule m → tokens_of (text_of m) ≡ spell m
-module-spelled m h =
-    let i = reads_on (items_text m.items) (codes "endmodule\n") (spell_items m.items) (Reserved EndModuleWord ∷ []) (items-read m.items h.items) (record { is = refl }) in
+pub module-spelled : (m : WrittenModule) (front body : List ℕ) → IsPrintedModule m → Reads front [] → Reads body (spell_items m.items) → tokens_of (front ++ (head_text m ++ body ++ end_text)) ≡ spell m
+module-spelled m front body h f b =
+    let i = reads_on body end_text (spell_items m.items) (Reserved EndModuleWord ∷ []) b (record { is = refl }) in
     let a = reads_on (head_text m) _ _ _ (head-reads m h) i in
-    reads_all (text_of m) (spell m)
-    (moved _ _ _ _ (right2 (head_text m) (items_text m.items) (codes "endmodule\n"))
-    (ap (λ (ts : List Token). Reserved ModuleWord ∷ Name m.name ∷ Mark OpenParen ∷ ts) (append_assoc (spell_ports m.ports) (Mark CloseParen ∷ Mark Semicolon ∷ []) (spell_items m.items ++ Reserved EndModuleWord ∷ []))) a)
+    let all : Reads (head_text m ++ body ++ end_text) (spell m) =
+    moved _ _ _ _ (right2 (head_text m) body end_text)
+    (ap (λ (ts : List Token). Reserved ModuleWord ∷ Name m.name ∷ Mark OpenParen ∷ ts) (append_assoc (spell_ports m.ports) (Mark CloseParen ∷ Mark Semicolon ∷ []) (spell_items m.items ++ Reserved EndModuleWord ∷ []))) a in
+    reads_all (front ++ (head_text m ++ body ++ end_text)) (spell m) (reads_on front _ [] (spell m) f all)

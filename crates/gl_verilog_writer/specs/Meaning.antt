@@ -1,5 +1,5 @@
 -- What the text of a netlist means: it has a module, whose ports show in every run what the netlist's do.
-use Rattle.std.specs.Prelude.{◌≡◌, ℕ, false, List, ◌∷◌, map, Some, take, codes, not, ◌==◌, bytes_eq}
+use Rattle.std.specs.Prelude.{◌≡◌, ℕ, false, List, ◌∷◌, ◌++◌, map, Some, take, codes, not, ◌==◌, bytes_eq}
 use Rattle.gl_net.specs.declared.node.Port.{Port}
 use Rattle.gl_net.specs.declared.node.Direction.{Direction}
 use Rattle.gl_net.specs.declared.node.Direction.TheVariants.{In, Out}
@@ -11,6 +11,9 @@ use Rattle.gl_verilog.specs.Order.{IsOrdered}
 use Rattle.gl_verilog.specs.Cost.{register_bits, memory_bits}
 use Rattle.gl_verilog.specs.Run.{IsRun, port_of, input_values}
 use Rattle.gl_verilog.specs.Text.{HasModule}
+use Rattle.gl_verilog_writer.specs.declared.label.Labels.{Labels}
+use Rattle.gl_verilog_writer.specs.Comments.{header_text}
+use Rattle.gl_verilog_writer.specs.Labelled.{head_lines}
 
 -- a port that leads in is an input, and one that leads out an output that an assignment drives
 abbrev pub kind_of : Direction → Kind
@@ -49,3 +52,8 @@ pub record IsTextOf (net : Net) (text : List ℕ) : Type 0 where
   pub registers : register_bits design ≡ register_bits_of net
   pub memories : memory_bits design ≡ memory_bits_of net
   pub runs : (value : ℕ → Nets) (word : ℕ → Memories) → IsRun design value word → IsRunOf net design value
+
+-- the text begins with the lines in front, as comments
+pub record HasHeader (labels : Labels) (text : List ℕ) : Type 0 where
+  pub rest : List ℕ
+  pub is : text ≡ header_text (head_lines labels) ++ rest

@@ -1,5 +1,6 @@
--- How a written module is printed: a line for each port and for each item.
+-- How a written module is printed: a line for each port, and lines for each item, under headings.
 use Rattle.std.specs.Prelude.{ℕ, List, [], ◌∷◌, ◌++◌, codes, Some, None}
+use Rattle.gl_verilog_writer.specs.Comments.{heading_text}
 use Rattle.gl_verilog.specs.Written.{PrefixOp, BitNot, LogicalNot, InfixOp, Times, Added, Subtracted, Below, AtMost, Above, AtLeast, Equal, NotEqual, BitAnd, BitXor, BitOr, LogicalAnd, LogicalOr, WrittenExpr, Named, Constant, BitOf, PartOf, WordOf, Braces, Parts, Parens, Prefix, Infix, Conditional, WrittenStatement, Update, UpdateWord, IfThen, IfElse, Block, Listed, Ended, Direction, In, InWire, Out, OutWire, OutReg, Range, WrittenPort, WrittenItem, Wires, Registers, MemoryOf, Assign, Always, WrittenModule}
 
 -- how a prefix operator is printed
@@ -38,14 +39,15 @@ expr_text (Prefix op arg) = prefix_text op ++ expr_text arg
 expr_text (Infix op left right) = expr_text left ++ infix_text op ++ expr_text right
 expr_text (Conditional test yes' no') = expr_text test ++ codes " ? " ++ expr_text yes' ++ codes " : " ++ expr_text no'
 
--- a statement
+-- a statement, whose further lines stand behind eight blanks
 abbrev pub statement_text : WrittenStatement → List ℕ
 statement_text (Update target value) = target ++ codes " <= " ++ expr_text value ++ codes ";\n"
 statement_text (UpdateWord target address value) =
     target ++ codes "[" ++ expr_text address ++ codes "] <= " ++ expr_text value ++ codes ";\n"
 statement_text (IfThen test yes') = codes "if (" ++ expr_text test ++ codes ") " ++ statement_text yes'
 statement_text (IfElse test yes' no') =
-    codes "if (" ++ expr_text test ++ codes ") " ++ statement_text yes' ++ codes "else " ++ statement_text no'
+    codes "if (" ++ expr_text test ++ codes ") " ++ statement_text yes' ++ codes "        else "
+    ++ statement_text no'
 statement_text (Block statements) = codes "begin " ++ statement_text statements ++ codes "end\n"
 statement_text (Listed first rest) = statement_text first ++ statement_text rest
 statement_text Ended = []
@@ -67,20 +69,28 @@ names_text (n ∷ ns) = names_behind n ns
 
 -- what a clocked block begins with, up to the name of its clock
 unfoldable pub always_text : List ℕ
-always_text = codes "always @(posedge "
+always_text = codes "    always @(posedge "
 
--- an item of the module, a line or two
+-- an item of the module, behind four blanks
 abbrev pub item_text : WrittenItem → List ℕ
-item_text (Wires range names) = codes "wire " ++ range_text range ++ names_text names ++ codes ";\n"
-item_text (Registers range names) = codes "reg " ++ range_text range ++ names_text names ++ codes ";\n"
-item_text (MemoryOf range name last) = codes "reg " ++ range_text range ++ name ++ codes " [0:" ++ last ++ codes "];\n"
-item_text (Assign target value) = codes "assign " ++ target ++ codes " = " ++ expr_text value ++ codes ";\n"
-item_text (Always clock body) = always_text ++ clock ++ codes ") " ++ statement_text body
+item_text (Wires range names) = codes "    wire " ++ range_text range ++ names_text names ++ codes ";\n"
+item_text (Registers range names) = codes "    reg " ++ range_text range ++ names_text names ++ codes ";\n"
+item_text (MemoryOf range name last) = codes "    reg " ++ range_text range ++ name ++ codes " [0:" ++ last ++ codes "];\n"
+item_text (Assign target value) = codes "    assign " ++ target ++ codes " = " ++ expr_text value ++ codes ";\n"
+item_text (Always clock body) = always_text ++ clock ++ codes ")\n        " ++ statement_text body
 
--- how items are printed, one behind the other
-abbrev pub items_text : List WrittenItem → List ℕ
-items_text [] = []
-items_text (i ∷ is) = item_text i ++ items_text is
+-- an item under a heading
+pub record Line : Type 0 where
+  pub above : List ℕ
+  pub item : WrittenItem
+
+abbrev pub line_text : Line → List ℕ
+line_text l = heading_text l.above ++ item_text l.item
+
+-- how lines are printed, one behind the other
+abbrev pub lines_text : List Line → List ℕ
+lines_text [] = []
+lines_text (l ∷ ls) = line_text l ++ lines_text ls
 
 -- how a port begins: on a line of its own, with its direction
 unfoldable pub direction_text : Direction → List ℕ
@@ -108,6 +118,6 @@ ports_text (p ∷ ps) = port_text p ++ more_ports_text ps
 unfoldable pub head_text : WrittenModule → List ℕ
 head_text m = codes "module " ++ m.name ++ codes "(" ++ ports_text m.ports ++ codes "\n);\n"
 
--- the whole module
-abbrev pub text_of : WrittenModule → List ℕ
-text_of m = head_text m ++ items_text m.items ++ codes "endmodule\n"
+-- the end of a module
+abbrev pub end_text : List ℕ
+end_text = codes "\nendmodule\n"

@@ -1,5 +1,5 @@
 -- The texts of a module's parts, each under the name by which the clauses of what writes it cite it.
-use Rattle.std.specs.Prelude.{◌≡◌, ℕ, List, [], ◌∷◌, ◌++◌, map, codes, decimal}
+use Rattle.std.specs.Prelude.{◌≡◌, ℕ, List, [], ◌∷◌, ◌++◌, map, codes}
 use Rattle.std.specs.Option.{option_map_or}
 use Rattle.gl_net.specs.declared.node.BinaryOp.{BinaryOp}
 use Rattle.gl_net.specs.declared.node.Bus.{Bus}
@@ -7,57 +7,91 @@ use Rattle.gl_net.specs.declared.node.Node.{Node}
 use Rattle.gl_net.specs.declared.node.Port.{Port}
 use Rattle.gl_net.specs.declared.node.MemoryDrive.{MemoryDrive}
 use Rattle.gl_verilog.specs.Written.{WrittenItem, Update, UpdateWord, IfThen}
-use Rattle.gl_verilog_writer.specs.Pieces.{net_name}
-use Rattle.gl_verilog_writer.specs.Printed.{range_text, port_text, more_ports_text, head_text, expr_text, statement_text, item_text, items_text}
-use Rattle.gl_verilog_writer.specs.Design.{vector, binary_expr, named, literal, declares, takes, declaring, assigning, shows, showing, clocking, clock_port, written_port, items_of, numbered}
+use Rattle.gl_verilog_writer.specs.declared.names.Names.{Names}
+use Rattle.gl_verilog_writer.specs.declared.names.Names.TheVariants.{Family, Labelled}
+use Rattle.gl_verilog_writer.specs.Comments.{heading_text}
+use Rattle.gl_verilog_writer.specs.Labelled.{Scheme, ByFamily, ByLabels, name_in, above_in}
+use Rattle.gl_verilog_writer.specs.Printed.{range_text, port_text, more_ports_text, head_text, expr_text, statement_text, item_text, line_text, lines_text}
+use Rattle.gl_verilog_writer.specs.Design.{range_of, cut_expr, binary_expr, named, literal, declares, takes, assigning, clocking, driving, clock_port, written_port, numbered, declared_line, driven_line, shown_line, parts_text}
 
 -- ---- of one node
 
--- a word, a vector's range and a net
-abbrev pub net_text : List ℕ → ℕ → ℕ → ℕ → List ℕ
-net_text word family number width = word ++ range_text (vector width) ++ net_name family number
+-- what names stand for
+abbrev pub scheme_in : Names → Scheme
+scheme_in (Family family) = ByFamily family
+scheme_in (Labelled labels) = ByLabels labels.now
+
+-- what they call a node's net
+abbrev pub named_by : Names → ℕ → List ℕ
+named_by names = name_in (scheme_in names)
+
+-- a word, a range and a net
+abbrev pub net_text : List ℕ → Names → ℕ → ℕ → List ℕ
+net_text word names number width = word ++ range_text (range_of width) ++ named_by names number
+
+-- the name of a node's net
+abbrev pub name_text : Names → ℕ → List ℕ
+name_text names node = named_by names node
 
 -- two nets with a sign between them
-abbrev pub pair_text : ℕ → ℕ → List ℕ → ℕ → List ℕ
-pair_text family left sign right = net_name family left ++ sign ++ net_name family right
+abbrev pub pair_text : Names → ℕ → List ℕ → ℕ → List ℕ
+pair_text names left sign right = named_by names left ++ sign ++ named_by names right
 
 -- two values under an operation
-abbrev pub binary_text : ℕ → BinaryOp → Bus → Bus → List ℕ
-binary_text family op x y = expr_text (binary_expr op x.width (named family x.node) (named family y.node))
+abbrev pub binary_text : Names → BinaryOp → Bus → Bus → List ℕ
+binary_text names op x y =
+    expr_text (binary_expr op x.width (named (named_by names) x.node) (named (named_by names) y.node))
 
 -- the text of some bits of a node's net
-abbrev pub cut_text : ℕ → ℕ → ℕ → ℕ → List ℕ
-cut_text family arg high low = net_name family arg ++ codes "[" ++ decimal high ++ codes ":" ++ decimal low ++ codes "]"
+abbrev pub cut_text : Names → Bus → ℕ → ℕ → List ℕ
+cut_text names x high low = expr_text (cut_expr x.width (named_by names x.node) high low)
 
 -- the text of a node's declaration
-abbrev pub declared_text : ℕ → ℕ → Node → List ℕ
-declared_text family number node = item_text (declares family number node)
+abbrev pub declares_text : Names → ℕ → Node → List ℕ
+declares_text names number node = item_text (declares (named_by names) number node)
 
 -- the right side of its assignment
-abbrev pub value_text : ℕ → List Port → Node → List ℕ
-value_text family ports node = option_map_or expr_text (takes family ports node) []
+abbrev pub value_text : Names → List Port → Node → List ℕ
+value_text names ports node = option_map_or expr_text (takes (named_by names) ports node) []
 
 -- the text of the assignment that drives a node's net; nothing where none does
-abbrev pub set_text : ℕ → List Port → ℕ → Node → List ℕ
-set_text family ports number node = option_map_or item_text (assigning family ports number node) []
+abbrev pub set_text : Names → List Port → ℕ → Node → List ℕ
+set_text names ports number node = option_map_or item_text (assigning (named_by names) ports number node) []
 
 -- the text of a register that takes the value of another net
-abbrev pub update_text : ℕ → ℕ → ℕ → List ℕ
-update_text family number next = statement_text (Update (net_name family number) (named family next))
+abbrev pub update_text : Names → ℕ → ℕ → List ℕ
+update_text names number next = statement_text (Update (named_by names number) (named (named_by names) next))
 
 -- the text of a register that takes its reset value
-abbrev pub reset_text : ℕ → ℕ → ℕ → ℕ → List ℕ
-reset_text family number value width = statement_text (Update (net_name family number) (literal value width))
+abbrev pub reset_text : Names → ℕ → ℕ → ℕ → List ℕ
+reset_text names number value width = statement_text (Update (named_by names number) (literal value width))
 
 -- the text of a write to a memory where its write line is 1
-abbrev pub write_text : ℕ → ℕ → MemoryDrive → List ℕ
-write_text family number drive =
-    statement_text (IfThen (named family drive.write.node)
-    (UpdateWord (net_name family number) (named family drive.address.node) (named family drive.value.node)))
+abbrev pub write_text : Names → ℕ → MemoryDrive → List ℕ
+write_text names number drive =
+    statement_text (IfThen (named (named_by names) drive.write.node)
+    (UpdateWord (named_by names number) (named (named_by names) drive.address.node)
+    (named (named_by names) drive.value.node)))
+
+-- the heading above a node, where it has one
+abbrev pub above_text : Names → ℕ → List ℕ
+above_text names number = heading_text (above_in (scheme_in names) number)
+
+-- the text of a node's declaration under its heading
+abbrev pub declared_text : Names → ℕ → Node → List ℕ
+declared_text names number node = option_map_or line_text (declared_line (scheme_in names) number node) []
 
 -- the text of a node's clocked block; nothing where it has none
-abbrev pub block_text : ℕ → ℕ → Node → List ℕ
-block_text family number node = option_map_or item_text (clocking family number node) []
+abbrev pub block_text : Names → ℕ → Node → List ℕ
+block_text names number node = option_map_or item_text (clocking (named_by names) number node) []
+
+-- the text of what drives a node
+abbrev pub does_text : Names → List Port → ℕ → Node → List ℕ
+does_text names ports number node = option_map_or item_text (driving (named_by names) ports number node) []
+
+-- the same under the node's heading
+abbrev pub node_text : Names → List Port → ℕ → Node → List ℕ
+node_text names ports number node = option_map_or line_text (driven_line (scheme_in names) ports number node) []
 
 -- ---- of ports
 
@@ -76,33 +110,23 @@ PutsHead old new name nodes ports =
     (record { name = name; ports = clock_port ∷ map (written_port nodes) ports; items = items })
 
 -- the text of the assignment that shows a port's value; nothing for an input
-abbrev pub shown_text : ℕ → Port → List ℕ
-shown_text family port = option_map_or item_text (shows family port.direction port.name port.node) []
+abbrev pub shown_text : Names → Port → List ℕ
+shown_text names port = option_map_or line_text (shown_line (scheme_in names) 0 port) []
 
 -- ---- of all nodes and ports
 
 -- the text of all declarations
-abbrev pub declarations_text : ℕ → List Node → List ℕ
-declarations_text family nodes = items_text (numbered (declaring family) 0 nodes)
+abbrev pub declarations_text : Names → List Node → List ℕ
+declarations_text names nodes = lines_text (numbered (declared_line (scheme_in names)) 0 nodes)
 
--- the text of all assignments that drive nets of nodes
-abbrev pub sets_text : ℕ → List Node → List Port → List ℕ
-sets_text family nodes ports = items_text (numbered (assigning family ports) 0 nodes)
+-- the text of all that drives nodes
+abbrev pub nodes_text : Names → List Node → List Port → List ℕ
+nodes_text names nodes ports = lines_text (numbered (driven_line (scheme_in names) ports) 0 nodes)
 
 -- the text of all assignments that show values on ports
-abbrev pub shows_text : ℕ → List Port → List ℕ
-shows_text family ports = items_text (numbered (showing family) 0 ports)
-
--- the text of all clocked blocks
-abbrev pub blocks_text : ℕ → List Node → List ℕ
-blocks_text family nodes = items_text (numbered (clocking family) 0 nodes)
-
--- one part after the other
-abbrev pub parts_text : ℕ → List Node → List Port → List ℕ
-parts_text family nodes ports =
-    declarations_text family nodes ++ sets_text family nodes ports ++ shows_text family ports
-    ++ blocks_text family nodes
+abbrev pub shows_text : Names → List Port → List ℕ
+shows_text names ports = lines_text (numbered (shown_line (scheme_in names)) 0 ports)
 
 -- the text of all items of a module
-abbrev pub body_text : ℕ → List Node → List Port → List ℕ
-body_text family nodes ports = items_text (items_of family nodes ports)
+abbrev pub body_text : Names → List Node → List Port → List ℕ
+body_text names nodes ports = parts_text (scheme_in names) nodes ports

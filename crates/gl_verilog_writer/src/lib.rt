@@ -4,7 +4,10 @@
 //! `gl_verilog`, what a netlist means in `gl_net`; no query and no file is known here.
 #![tactic(auto)]
 
+mod comments;
 pub mod label;
+mod lines;
+mod names;
 pub mod nodes;
 pub mod pieces;
 pub mod text;

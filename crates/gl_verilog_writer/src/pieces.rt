@@ -3,7 +3,7 @@
 ghost use Rattle.std.specs.Prelude.{◌≡◌, ◌++◌, OnOk, decimal};
 ghost use Rattle.gl_verilog_writer.specs.Pieces.{family_text, net_name};
 ghost use Rattle.gl_verilog_writer.specs.Printed.{range_text, expr_text};
-ghost use Rattle.gl_verilog_writer.specs.Design.{vector, literal};
+ghost use Rattle.gl_verilog_writer.specs.Design.{range_of, literal};
 
 use gl_bits::Memory;
 use itoa::Buffer;
@@ -37,17 +37,20 @@ pub(crate) fn put_family(out: &mut Vec<u8>, family: usize) -> Result<(), Memory>
 /// Appends the name of a node's net, `nFAMILY_NODE`. The family keeps it apart from the ports'
 /// names.
 #[tactic(auto, unfolding(crate::specs::Pieces::net_name))]
-pub(crate) fn put_net(out: &mut Vec<u8>, family: usize, node: usize) -> Result<(), Memory>
+pub(crate) fn put_name(out: &mut Vec<u8>, family: usize, node: usize) -> Result<(), Memory>
     ensures { OnOk result (out.new.items ≡ out.old.items ++ net_name family node) }
 {
     put_family(out, family)?;
     put_number(out, node as u128)
 }
 
-/// Appends the range of a vector and a space.
+/// Appends the range of a vector and a space; one bit has none.
 pub(crate) fn put_range(out: &mut Vec<u8>, width: u16) -> Result<(), Memory>
-    ensures { OnOk result (out.new.items ≡ out.old.items ++ range_text (vector width)) }
+    ensures { OnOk result (out.new.items ≡ out.old.items ++ range_text (range_of width)) }
 {
+    if width == 1 {
+        return Ok(());
+    }
     put(out, b"[")?;
     put_number(out, u128::from(width.saturating_sub(1)))?;
     put(out, b":0] ")

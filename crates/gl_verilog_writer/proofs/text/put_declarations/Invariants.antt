@@ -1,7 +1,8 @@
 use Rattle.std.proofs.Common.{◌≡◌, ◌++◌, drop}
-use Rattle.gl_verilog_writer.specs.Printed.{items_text}
-use Rattle.gl_verilog_writer.specs.Design.{numbered, declaring}
+use Rattle.gl_verilog_writer.specs.Printed.{lines_text}
+use Rattle.gl_verilog_writer.specs.Design.{numbered, declared_line}
+use Rattle.gl_verilog_writer.specs.Texts.{scheme_in}
 use Rattle.gl_verilog_writer.proofs.text.put_declarations.Given as goal
 
 abbrev pub invariant-loop-number : goal.invariant-loop-number
-invariant-loop-number l = l.out.items ++ items_text (numbered (declaring l.family) l.number (drop l.number l.nodes)) ≡ l.initial.out.items ++ items_text (numbered (declaring l.family) 0 l.nodes)
+invariant-loop-number l = l.out.items ++ lines_text (numbered (declared_line (scheme_in l.by)) l.number (drop l.number l.nodes)) ≡ l.initial.out.items ++ lines_text (numbered (declared_line (scheme_in l.by)) 0 l.nodes)

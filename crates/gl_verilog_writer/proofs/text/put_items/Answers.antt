@@ -1,10 +1,6 @@
-use Rattle.std.proofs.Common.{◌++◌, List, ℕ, Ok, Err, Result, OnOk, ap, ◌∙◌}
-use Rattle.gl_verilog_writer.proofs.Loops.{items-parts}
+use Rattle.gl_verilog_writer.proofs.Loops.{joined, on_ok}
 use Rattle.gl_verilog_writer.proofs.text.put_items.Goals as goal
 
-on_ok : {T E : Type 0} {P Q : Type 0} (r : Result T E) → (P → Q) → OnOk r P → OnOk r Q
-on_ok (Ok x) f p = f p
-on_ok (Err e) f p = tt
-
 pub returns : goal.returns
-returns c = on_ok c.put_parts.result (λ e. e ∙ ap (λ (t : List ℕ). c.args.out.now.items ++ t) (items-parts c.args.family c.args.nodes.now c.args.ports.now)) c.put_parts.ensures
+returns c = on_ok c.put_outputs.result (λ e.
+    joined _ _ _ _ _ (joined _ _ _ _ _ (joined _ _ _ _ _ (joined _ _ _ _ _ (joined _ _ _ _ _ c.in_ok-put_title.ensures c.in_ok-put_declarations.ensures) c.in_ok-put_title-2.ensures) c.in_ok-put_drivers.ensures) c.in_ok-put_title-3.ensures) e) c.put_outputs.ensures

@@ -1,5 +1,5 @@
 use Rattle.std.proofs.Common.{length}
-use Rattle.gl_verilog_writer.proofs.text.+begins_port.Given as goal
+use Rattle.gl_verilog_writer.proofs.names.+begins_port.Given as goal
 
 abbrev pub decreases-begins_port : goal.decreases-begins_port
 decreases-begins_port l = length l.ports.now

@@ -1,7 +1,0 @@
-use Rattle.std.proofs.Common.{◌≡◌, ◌++◌, drop}
-use Rattle.gl_verilog_writer.specs.Printed.{items_text}
-use Rattle.gl_verilog_writer.specs.Design.{numbered, assigning}
-use Rattle.gl_verilog_writer.proofs.text.put_assignments.Given as goal
-
-abbrev pub invariant-loop-number : goal.invariant-loop-number
-invariant-loop-number l = l.out.items ++ items_text (numbered (assigning l.family l.ports) l.number (drop l.number l.nodes)) ≡ l.initial.out.items ++ items_text (numbered (assigning l.family l.ports) 0 l.nodes)
