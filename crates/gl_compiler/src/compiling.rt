@@ -17,7 +17,8 @@ use gl_algebra::{Figures, Plan, PlanId};
 use gl_bits::{Kind, Listed, Memory};
 use gl_elaborate::laws::{plans_are_right, plans_tell_time, roots_are_right};
 use gl_figures::Printed;
-use gl_net::Cost;
+use gl_labels::{Figured, Subject, labels_of};
+use gl_net::{Cost, Netlist};
 use gl_plan::{PlanFault, Planned, plan_statement};
 use gl_query::Statement;
 use gl_query::columns::kinds_of;
@@ -25,8 +26,10 @@ use gl_query::laws::accepted_have_real_columns;
 use gl_query_check::Checked;
 use gl_schema::{Column, Schema};
 use gl_testbench::{Emitted, emit};
+use gl_verilog_writer::Labels;
 use gl_wiring::{Root, wire_plan};
 use std::alloc::Global;
+use std::slice::from_ref;
 
 /// A compiled query: the text of its module, its figures and its cost, and what it was made of.
 #[derive(Drop)]
@@ -107,6 +110,23 @@ impl Compiled {
     }
 }
 
+// The labels of the netlist of a plan.
+fn labels_for(
+    alloc: Global,
+    checked: &Checked,
+    planned: &Planned,
+    net: &Netlist,
+) -> Result<Labels, Memory> {
+    let subject = Subject {
+        schema: &checked.schema,
+        statements: from_ref(checked),
+        plan: &planned.plan,
+        roots: from_ref(&planned.root),
+        figured: Figured::Alone(&planned.figures, planned.printed, planned.spare),
+    };
+    labels_of(alloc, net, subject)
+}
+
 // The text of the module of a plan.
 fn text_of(
     alloc: Global,
@@ -141,7 +161,8 @@ fn text_of(
         &root,
         planned.spare,
     )?;
-    let made = emit(alloc, &net)?;
+    let labels = labels_for(alloc, checked, planned, &net)?;
+    let made = emit(alloc, &net, &labels)?;
     Ok(made)
 }
 

@@ -5,6 +5,6 @@
 #![tactic(auto)]
 
 pub mod explaining;
-mod lines;
+pub mod lines;
 
 pub use explaining::explain;

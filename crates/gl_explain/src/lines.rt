@@ -11,7 +11,7 @@ use gl_schema::Schema;
 use itoa::Buffer;
 
 /// Appends bytes. On want of memory nothing is appended.
-pub(crate) fn put(text: &mut Vec<u8>, bytes: &[u8]) -> Result<(), Memory>
+pub fn put(text: &mut Vec<u8>, bytes: &[u8]) -> Result<(), Memory>
     ensures ok { OnOk result (text.new.items ≡ text.old.items ++ bytes.now) }
     ensures err { OnErr result (text.new.items ≡ text.old.items) }
 {
@@ -21,9 +21,9 @@ pub(crate) fn put(text: &mut Vec<u8>, bytes: &[u8]) -> Result<(), Memory>
     }
 }
 
-// Appends a number in decimal behind these bytes.
+/// Appends a number in decimal behind these bytes.
 #[tactic(auto, unfolding(crate::specs::Lines::numbered))]
-fn put_number(text: &mut Vec<u8>, front: &[u8], number: u128) -> Result<(), Memory>
+pub fn put_number(text: &mut Vec<u8>, front: &[u8], number: u128) -> Result<(), Memory>
     ensures { OnOk result (text.new.items ≡ text.old.items ++ spec.numbered front.now number) }
 {
     put(text, front)?;
@@ -122,9 +122,9 @@ fn put_one(text: &mut Vec<u8>, word: &[u8], id: PlanId) -> Result<(), Memory>
     put_id(text, id)
 }
 
-// Appends the words of a node.
+/// Appends the words of a node.
 #[tactic(auto, unfolding(crate::specs::Lines::words_of))]
-fn put_words(text: &mut Vec<u8>, schema: &Schema, node: &PlanNode) -> Result<(), Memory>
+pub fn put_words(text: &mut Vec<u8>, schema: &Schema, node: &PlanNode) -> Result<(), Memory>
     ensures { OnOk result (text.new.items ≡ text.old.items ++ spec.words_of schema.now node.now) }
 {
     match node {
@@ -209,9 +209,9 @@ fn put_figures(text: &mut Vec<u8>, f: &Figures) -> Result<(), Memory>
     put_number(text, b" ", u128::from(f.ge))
 }
 
-// Appends the line of a node.
+/// Appends the line of a node.
 #[tactic(auto, unfolding(crate::specs::Lines::line_of))]
-fn put_line(
+pub fn put_line(
     text: &mut Vec<u8>,
     schema: &Schema,
     number: usize,
@@ -263,7 +263,7 @@ pub(crate) fn put_lines(
 
 /// Appends the line of the root.
 #[tactic(auto, unfolding(crate::specs::Lines::root_text))]
-pub(crate) fn put_root(text: &mut Vec<u8>, root: PlanId) -> Result<(), Memory>
+pub fn put_root(text: &mut Vec<u8>, root: PlanId) -> Result<(), Memory>
     ensures { OnOk result (text.new.items ≡ text.old.items ++ spec.root_text root) }
 {
     put_one(text, b"root", root)?;
@@ -272,7 +272,7 @@ pub(crate) fn put_root(text: &mut Vec<u8>, root: PlanId) -> Result<(), Memory>
 
 /// Appends the line of a root's spare copies, where it has some.
 #[tactic(auto, unfolding(crate::specs::Lines::spare_text))]
-pub(crate) fn put_spare(text: &mut Vec<u8>, spare: Option<Spare>) -> Result<(), Memory>
+pub fn put_spare(text: &mut Vec<u8>, spare: Option<Spare>) -> Result<(), Memory>
     ensures { OnOk result (text.new.items ≡ text.old.items ++ spec.spare_text spare) }
 {
     let Some(it) = spare else {

@@ -16,6 +16,8 @@ use crate::rooting::roots_of;
 use gl_bits::Memory;
 use gl_compiler::CompileFault;
 use gl_elaborate::laws::{plans_are_right, plans_tell_time, several_are_right};
+use gl_labels::{Figured, Subject, labels_of};
+use gl_net::Netlist;
 use gl_plan::{PlanFault, PlannedSeveral, plan_several};
 use gl_query::laws::{accepted_have_real_columns, trees_are_alike};
 use gl_query_check::Checked;
@@ -23,6 +25,7 @@ use gl_query_texts::list_laws::statements_are_listed;
 use gl_query_texts::{Statements, read_statements};
 use gl_schema::Schema;
 use gl_testbench::emit;
+use gl_verilog_writer::Labels;
 use gl_wiring::wire_roots;
 use std::alloc::Global;
 
@@ -65,6 +68,24 @@ impl Many {
     }
 }
 
+// The labels of the netlist of a joint plan.
+fn labels_for(
+    alloc: Global,
+    schema: &Schema,
+    statements: &[Checked],
+    planned: &PlannedSeveral,
+    net: &Netlist,
+) -> Result<Labels, Memory> {
+    let subject = Subject {
+        schema,
+        statements,
+        plan: &planned.plan,
+        roots: &planned.roots,
+        figured: Figured::Together(&planned.latencies, planned.gap),
+    };
+    labels_of(alloc, net, subject)
+}
+
 // The text of the module of several statements, by their joint plan.
 fn text_of(
     alloc: Global,
@@ -83,7 +104,8 @@ fn text_of(
     several_are_right();
     let roots = roots_of(alloc, schema, statements, &planned.roots)?;
     let net = wire_roots(alloc, schema, &planned.plan, &planned.figures, &roots)?;
-    let made = emit(alloc, &net)?;
+    let labels = labels_for(alloc, schema, statements, planned, &net)?;
+    let made = emit(alloc, &net, &labels)?;
     Ok(made.text)
 }
 

@@ -8,8 +8,9 @@ use Rattle.gl_testbench.proofs.emitting.emit.Goals as goal
 pub returns : goal.returns
 returns c =
     let net = c.args.net.now in
+    let labels = c.args.labels.now in
     let text = c.write_module.new.into.items in
-    let e : module_text net ≡ text = sym (c.in_ok-write_module.ensures.text ∙ ap (λ (xs : List ℕ). xs ++ module_text net) c.new-text.ensures.items) in
+    let e : module_text labels net ≡ text = sym (c.in_ok-write_module.ensures.text ∙ ap (λ (xs : List ℕ). xs ++ module_text labels net) c.new-text.ensures.items) in
     let meaning = subst (IsTextOf net) e c.write_module.ensures.meaning in
     record {
       text = λ ticks schema outputs is takes. emission c.event_runs_are_runs.ensures.runs c.has_event_runs.ensures.same c.inputs_are_ports.ensures net schema text meaning ticks outputs is takes;
