@@ -23,6 +23,9 @@ use gl_query_texts::list_laws::statements_are_listed;
 use gl_query_texts::{Statements, read_statements};
 use gl_schema::Schema;
 use gl_testbench::emit;
+use gl_verilog::laws::{runs_are_causal, valid_modules_run};
+use gl_verilog_orders::laws::event_runs_are_runs;
+use gl_verilog_ports::laws::inputs_are_ports;
 use gl_wiring::wire_roots;
 use std::alloc::Global;
 
@@ -81,6 +84,10 @@ fn text_of(
     plans_are_right();
     plans_tell_time();
     several_are_right();
+    event_runs_are_runs();
+    inputs_are_ports();
+    runs_are_causal();
+    valid_modules_run();
     let roots = roots_of(alloc, schema, statements, &planned.roots)?;
     let net = wire_roots(alloc, schema, &planned.plan, &planned.figures, &roots)?;
     let made = emit(alloc, &net)?;
