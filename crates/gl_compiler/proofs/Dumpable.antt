@@ -14,15 +14,14 @@ use Rattle.gl_schema.specs.Schemas.{IsSchema, IsStream, kinds_of}
 use Rattle.gl_schema.specs.Ports.{eos, out_column, out_eos, fault_group, fault_queue}
 use Rattle.gl_schema.specs.Profile.{ProfilePort, clk, column_inputs, column_outputs, input, input_ports, output, output_ports, profile, stream_inputs, streams_inputs, tick_input}
 use Rattle.gl_query.specs.declared.tree.Statement.{Statement}
+use Rattle.gl_query.specs.Laws.{AcceptedHaveRealColumns}
 use Rattle.gl_query.specs.Shapes.{query_shape}
-use Rattle.gl_query.proofs.Real.{real_columns}
 use Rattle.gl_verilog.specs.Module.{Module, Declaration}
 use Rattle.gl_verilog.specs.Text.{HasModule}
 use Rattle.gl_verilog.specs.Valid.{AreDistinct, Differs}
 use Rattle.gl_verilog.specs.Widths.{HasSize}
 use Rattle.gl_verilog_ports.specs.Profile.{HasProfile, declared}
 use Rattle.gl_verilog_ports.proofs.Declared.{distinct_take}
-use Rattle.gl_verilog_grammar.proofs.ReadModules.{one_module}
 use Rattle.gl_vcd.specs.Dumped.{Port}
 use Rattle.gl_vcd.specs.RoundTrip.{AreApart, is_named, names_of, signals_from}
 use Rattle.gl_vcd.specs.Signals.{show_none}
@@ -34,6 +33,10 @@ use Rattle.gl_compiler.specs.Dumpable.{IsDumpable}
 use Rattle.gl_compiler.specs.Runnable.{IsRunnable}
 use Rattle.gl_compiler.proofs.Shows.{port_in, profile_shows}
 use Rattle.gl_compiler.proofs.Spelled.{module_named, ports_named}
+
+-- a text has one module at most
+abbrev pub OneModule : Type 0
+OneModule = (text : List ℕ) (m n : Module) → HasModule text m → HasModule text n → m ≡ n
 
 -- ---- the ports besides the clock
 
@@ -127,13 +130,13 @@ dumpable_text ticks text m schema columns has face fine few kinds =
     }
 
 -- a dump can tell the module of a text that meets a statement
-pub dumpable_where_met : (schema : Schema) (statement : Statement) (latency gap : ℕ) (text : List ℕ) (m : Module) → IsSchema schema → Meets schema statement latency gap text → HasModule text m → IsDumpable m
-dumpable_where_met schema statement latency gap text m fine meets has =
+pub dumpable_where_met : AcceptedHaveRealColumns → OneModule → (schema : Schema) (statement : Statement) (latency gap : ℕ) (text : List ℕ) (m : Module) → IsSchema schema → Meets schema statement latency gap text → HasModule text m → IsDumpable m
+dumpable_where_met real_columns one_module schema statement latency gap text m fine meets has =
     let real = real_columns schema (query_shape statement.query) fine meets.accepted in
     let columns = result_columns schema statement in
     let same : meets.design ≡ m = one_module text meets.design m meets.has has in
     subst IsDumpable same (dumpable_text _ text meets.design schema columns meets.has meets.face fine real.result.most (all_kinds columns real.kinds))
 
 -- so of that of a compiled query
-pub dumpable : (c : Compiled) (m : Module) → IsRunnable c → HasModule c.text.items m → IsDumpable m
-dumpable c m is has = dumpable_where_met c.schema c.statement c.printed.latency c.printed.gap c.text.items m is.fine is.meets has
+pub dumpable : AcceptedHaveRealColumns → OneModule → (c : Compiled) (m : Module) → IsRunnable c → HasModule c.text.items m → IsDumpable m
+dumpable real_columns one_module c m is has = dumpable_where_met real_columns one_module c.schema c.statement c.printed.latency c.printed.gap c.text.items m is.fine is.meets has

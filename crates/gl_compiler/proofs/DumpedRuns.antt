@@ -8,25 +8,26 @@ use Rattle.gl_schema.specs.Beats.{Beat, AreBeats, KeepsGap, last_cycle}
 use Rattle.gl_schema.specs.Schemas.{IsSchema}
 use Rattle.gl_schema.specs.Seen.{shown}
 use Rattle.gl_query.specs.declared.tree.Statement.{Statement}
+use Rattle.gl_query.specs.Laws.{AcceptedHaveRealColumns}
 use Rattle.gl_verilog.specs.Module.{Module, Nets, Memories}
 use Rattle.gl_verilog.specs.Run.{port_of}
 use Rattle.gl_verilog.specs.Text.{HasModule}
-use Rattle.gl_verilog_grammar.proofs.ReadModules.{one_module}
 use Rattle.gl_verilog_orders.specs.Events.{IsEventRun}
 use Rattle.gl_verilog_orders.specs.declared.start.Start.{Start}
 use Rattle.gl_verilog_orders.proofs.EventRuns.{is_run}
 use Rattle.gl_verilog_ports.specs.Profile.{HasProfile, result_names}
+use Rattle.gl_vcd.specs.RoundTrip.{DumpsReadBack}
 use Rattle.gl_vcd.specs.Written.{dump_text, ports_of}
 use Rattle.gl_testbench.specs.Driven.{Drives}
 use Rattle.gl_compiler.specs.Meets.{Meets, result_columns, takes_ticks}
 use Rattle.gl_runner.specs.Prints.{IsEnd, IsRunOver}
 use Rattle.gl_runner.specs.Watches.{rows_to}
 use Rattle.gl_compiler.specs.Dumpable.{DumpsTell, TellsRun}
-use Rattle.gl_compiler.proofs.Dumpable.{dumpable_where_met}
+use Rattle.gl_compiler.proofs.Dumpable.{OneModule, dumpable_where_met}
 use Rattle.gl_compiler.proofs.DumpLines.{lines_are}
 use Rattle.gl_compiler.proofs.ReadBack.{read_rows, with_clock}
 
-module _ (schema : Schema) (statement : Statement) (latency gap : ℕ) (text : List ℕ) (fine : IsSchema schema) (meets : Meets schema statement latency gap text) where
+module _ (real_columns : AcceptedHaveRealColumns) (one_module : OneModule) (reads_back : DumpsReadBack) (schema : Schema) (statement : Statement) (latency gap : ℕ) (text : List ℕ) (fine : IsSchema schema) (meets : Meets schema statement latency gap text) where
   -- the module has the statement's profile
   faced : (m : Module) → HasModule text m → HasProfile (takes_ticks statement) m schema (result_columns schema statement)
   faced m has = subst (λ (x : Module). HasProfile (takes_ticks statement) x schema (result_columns schema statement)) (one_module text meets.design m meets.has has) meets.face
@@ -36,7 +37,7 @@ module _ (schema : Schema) (statement : Statement) (latency gap : ℕ) (text : L
       → TellsRun m (port_of m value) n (dump_text m.name (ports_of m) (rows_to (ports_of m) (port_of m value) n))
   tells_run m value word n has run short =
       let bytes = dump_text m.name (ports_of m) (rows_to (ports_of m) (port_of m value) n) in
-      let back = read_rows m value word (dumpable_where_met schema statement latency gap text m fine meets has) has.valid.names (is_run m has.valid value word run).fits n short in
+      let back = read_rows m value reads_back word (dumpable_where_met real_columns one_module schema statement latency gap text m fine meets has) has.valid.names (is_run m has.valid value word run).fits n short in
       record {
         dumped = with_clock m value bytes (n + 1) back.dumped;
         shows = record {
@@ -60,7 +61,7 @@ module _ (schema : Schema) (statement : Statement) (latency gap : ℕ) (text : L
       ]
 
 -- so up to its end, where that comes in time
-pub dumps_tell : DumpsTell
-dumps_tell schema statement latency gap text beats start fine meets are keeps short = λ m value word has over bytes dump.
-    let by = ends_by schema statement latency gap text fine meets beats start m value word dump.ended are keeps has over dump.is in
-    subst (λ (x : List ℕ). TellsRun m (port_of m value) dump.ended x) (sym dump.all) (tells_run schema statement latency gap text fine meets m value word dump.ended has over.run (omega (arith, by, short)))
+pub dumps_tell : AcceptedHaveRealColumns → OneModule → DumpsReadBack → DumpsTell
+dumps_tell real_columns one_module reads_back schema statement latency gap text beats start fine meets are keeps short = λ m value word has over bytes dump.
+    let by = ends_by real_columns one_module reads_back schema statement latency gap text fine meets beats start m value word dump.ended are keeps has over dump.is in
+    subst (λ (x : List ℕ). TellsRun m (port_of m value) dump.ended x) (sym dump.all) (tells_run real_columns one_module reads_back schema statement latency gap text fine meets m value word dump.ended has over.run (omega (arith, by, short)))

@@ -32,7 +32,7 @@ use Rattle.gl_testbench.specs.Emission.{IsEmission, TakesBeats}
 use Rattle.gl_testbench.specs.Emitted.{IsEmitted}
 use Rattle.gl_testbench.specs.Overflow.{TellsGroup}
 use Rattle.gl_testbench.proofs.Emissions.{holds_of_runs}
-use Rattle.gl_testbench.proofs.OverflowRuns.{KeepsLine, keeps_past, tells_group}
+use Rattle.gl_testbench.proofs.OverflowRuns.{KeepsLine, RunLaws, keeps_past, tells_group}
 use Rattle.gl_testbench.proofs.PinLemmas.{outs_other}
 use Rattle.gl_testbench.proofs.Showing.{NoClock, right_past, right_wider}
 use Rattle.gl_compiler.specs.Meets.{Meets, WhereDriven, result_columns, takes_ticks}
@@ -94,9 +94,9 @@ module _ (time : PlansTellTime) (schema : Schema) (statement : Statement) (net :
       (λ run all trace are gaps stimulus. let h = keeps run all trace are gaps stimulus in record { lasts = h.lasts; stays = h.stays })
 
   -- a text of the plan's netlist meets the statement
-  pub text_meets : RootsAreRight → net.name ≡ Some (codes "q__" ++ statement.name.text) → OverBeats schema gap (λ all port. IsRight means latency all outs port) net → OverBeats schema gap (λ all port. KeepsGroup outs port) net
+  pub text_meets : RunLaws → RootsAreRight → net.name ≡ Some (codes "q__" ++ statement.name.text) → OverBeats schema gap (λ all port. IsRight means latency all outs port) net → OverBeats schema gap (λ all port. KeepsGroup outs port) net
       → Meets schema statement (latency_of schema statement) (gap_of schema statement) made.text.items
-  text_meets tops called right keeps =
+  text_meets laws tops called right keeps =
       subst (λ (f : Figures). Meets schema statement (f.le + 1) f.gt made.text.items) (tops schema statement is).figures
       (record {
         accepted = is.accepted;
@@ -107,7 +107,7 @@ module _ (time : PlansTellTime) (schema : Schema) (statement : Statement) (net :
         runs = text.runs;
         right = named (IsRight (IsResult schema statement) latency) (text_right right);
         group = named (TellsGroup (IsResult schema statement))
-            (tells_group net schema made.text.items text (λ port. port) (λ t port port' same. same) outs none (IsResult schema statement) latency gap (text_right right) (text_keeps keeps));
+            (tells_group laws net schema made.text.items text (λ port. port) (λ t port port' same. same) outs none (IsResult schema statement) latency gap (text_right right) (text_keeps keeps));
       })
 
   -- and has the bits of the netlist

@@ -21,10 +21,9 @@ use Rattle.gl_verilog_orders.proofs.EventRuns.{is_run}
 use Rattle.gl_verilog_ports.proofs.Declared.{distinct_take, get_take}
 use Rattle.gl_vcd.specs.Dumped.{IsDumped, Port}
 use Rattle.gl_vcd.specs.Dumped as dumped
-use Rattle.gl_vcd.specs.RoundTrip.{CanDump, IsRow, IsRunOver, ReadsBack, value_named}
+use Rattle.gl_vcd.specs.RoundTrip.{CanDump, DumpsReadBack, IsRow, IsRunOver, ReadsBack, value_named}
 use Rattle.gl_vcd.specs.Signals.{Signal}
 use Rattle.gl_vcd.specs.Written.{dump_text, port_declared, ports_among, ports_of}
-use Rattle.gl_vcd.proofs.RoundTrip.{reads_back}
 use Rattle.gl_runner.specs.Watches.{row_in, rows_to}
 use Rattle.gl_compiler.specs.Dumpable.{IsDumpable}
 use Rattle.gl_compiler.proofs.Dumpable.{all_among}
@@ -165,8 +164,8 @@ module _ (m : Module) (value : ℕ → Nets) where
     short = omega (arith, rows_many ports port n, short);
   }
 
-  pub read_rows : (word : ℕ → Memories) → IsDumpable m → AreDistinct m.declarations → ((t : ℕ) → Fit m.declarations (value t) (word t)) → (n : ℕ) → n + 1 ≤ latest_time → ReadsBack (dump_text m.name ports (rows_to ports port n)) ports (n + 1) (without_clock port)
-  read_rows word is distinct fits n short =
+  pub read_rows : DumpsReadBack → (word : ℕ → Memories) → IsDumpable m → AreDistinct m.declarations → ((t : ℕ) → Fit m.declarations (value t) (word t)) → (n : ℕ) → n + 1 ≤ latest_time → ReadsBack (dump_text m.name ports (rows_to ports port n)) ports (n + 1) (without_clock port)
+  read_rows reads_back word is distinct fits n short =
       subst (λ (k : ℕ). ReadsBack (dump_text m.name ports (rows_to ports port n)) ports k (without_clock port)) (rows_many ports port n)
       (reads_back m.name ports (rows_to ports port n) (without_clock port) (can_dump word is distinct fits n short) (run_over n))
 
@@ -187,7 +186,7 @@ module _ (m : Module) (value : ℕ → Nets) where
       }
 
   -- the dump of a run to a cycle is a dump of that run
-  pub read_back : (text : List ℕ) (word : ℕ → Memories) → HasModule text m → IsDumpable m → IsEventRun m value word → (n : ℕ) → n + 1 ≤ latest_time
+  pub read_back : DumpsReadBack → (text : List ℕ) (word : ℕ → Memories) → HasModule text m → IsDumpable m → IsEventRun m value word → (n : ℕ) → n + 1 ≤ latest_time
       → IsDumped (dump_text m.name ports (rows_to ports port n)) ports (n + 1) port
-  read_back text word has is run n short =
-      with_clock (dump_text m.name ports (rows_to ports port n)) (n + 1) (read_rows word is has.valid.names (is_run m has.valid value word run).fits n short).dumped
+  read_back reads_back text word has is run n short =
+      with_clock (dump_text m.name ports (rows_to ports port n)) (n + 1) (read_rows reads_back word is has.valid.names (is_run m has.valid value word run).fits n short).dumped

@@ -9,8 +9,8 @@ use Rattle.gl_schema.specs.declared.schema.Schema.{Schema}
 use Rattle.gl_schema.specs.Schemas.{IsSchema, kinds_of}
 use Rattle.gl_schema.specs.Beats.{Beat, AreBeats, KeepsGap}
 use Rattle.gl_query.specs.declared.tree.Statement.{Statement}
+use Rattle.gl_query.specs.Laws.{AcceptedHaveRealColumns}
 use Rattle.gl_query.specs.Shapes.{query_shape}
-use Rattle.gl_query.proofs.Real.{real_columns}
 use Rattle.gl_outside.specs.States.{SinkState}
 use Rattle.gl_verilog_orders.specs.declared.start.Start.{Start}
 use Rattle.gl_figures.specs.declared.Printed.{Printed}
@@ -25,9 +25,9 @@ use Rattle.gl_runner.specs.Dumps.{Dumped, OfEachPorts}
 use Rattle.gl_runner.specs.Prints.{CanRun, OfEachRun, Ran}
 use Rattle.gl_compiler.specs.Runnable.{IsRunnable}
 
-can_run : (schema : Schema) (statement : Statement) (latency gap : ℕ) (text : List ℕ) (kinds : List Kind) (beats : List Beat) (start : Start)
+can_run : AcceptedHaveRealColumns → (schema : Schema) (statement : Statement) (latency gap : ℕ) (text : List ℕ) (kinds : List Kind) (beats : List Beat) (start : Start)
     → IsSchema schema → Meets schema statement latency gap text → kinds ≡ kinds_of (result_columns schema statement) → latency ≤ 2 ^ 32 → AreBeats schema beats → KeepsGap gap beats → CanRun text schema kinds beats latency start
-can_run schema statement latency gap text kinds beats start fine m e short are keeps = record {
+can_run real_columns schema statement latency gap text kinds beats start fine m e short are keeps = record {
   design = m.design;
   has = m.has;
   fits = ports_fit schema statement latency gap text real_columns fine m;
@@ -37,11 +37,11 @@ can_run schema statement latency gap text kinds beats start fine m e short are k
 }
 
 -- the text of a compiled query, with its schema and its kinds
-pub can_run_compiled : (c : Compiled) (beats : List Beat) (text : List ℕ) (schema : Schema) (kinds : List Kind) (printed : Printed) (start : Start) → IsRunnable c → AreBeats c.schema beats → KeepsGap c.printed.gap beats
+pub can_run_compiled : AcceptedHaveRealColumns → (c : Compiled) (beats : List Beat) (text : List ℕ) (schema : Schema) (kinds : List Kind) (printed : Printed) (start : Start) → IsRunnable c → AreBeats c.schema beats → KeepsGap c.printed.gap beats
     → text ≡ c.text.items → schema ≡ c.schema → kinds ≡ c.kinds → printed ≡ c.printed → CanRun text schema kinds beats printed.latency start
-can_run_compiled c beats text schema kinds printed start is are gap a b d e =
+can_run_compiled real_columns c beats text schema kinds printed start is are gap a b d e =
     let p : printed.latency ≡ c.printed.latency = ap (λ (x : Printed). x.latency) e in
-    let run : CanRun c.text.items c.schema c.kinds beats c.printed.latency start = can_run c.schema c.statement c.printed.latency c.printed.gap c.text.items c.kinds beats start is.fine is.meets is.columns is.short are gap in
+    let run : CanRun c.text.items c.schema c.kinds beats c.printed.latency start = can_run real_columns c.schema c.statement c.printed.latency c.printed.gap c.text.items c.kinds beats start is.fine is.meets is.columns is.short are gap in
     subst (λ (x : List ℕ). CanRun x schema kinds beats printed.latency start) (sym a) (
     subst (λ (x : Schema). CanRun c.text.items x kinds beats printed.latency start) (sym b) (
     subst (λ (x : List Kind). CanRun c.text.items c.schema x beats printed.latency start) (sym d) (
@@ -62,8 +62,8 @@ dumped_compiled c beats text schema start old new r a b h =
     subst (λ (x : List ℕ). Dumped (OfEachPorts x c.schema beats start) beats old new r) a (
     subst (λ (x : Schema). Dumped (OfEachPorts text x beats start) beats old new r) b h)
 
-over : (c : Compiled) (schema : Schema) (statement : Statement) → c.schema ≡ schema → c.statement ≡ statement → IsSchema schema → IsCompiled schema statement c → IsRunnable c
-over c schema statement e s fine m =
+over : AcceptedHaveRealColumns → (c : Compiled) (schema : Schema) (statement : Statement) → c.schema ≡ schema → c.statement ≡ statement → IsSchema schema → IsCompiled schema statement c → IsRunnable c
+over real_columns c schema statement e s fine m =
     let real = real_columns schema (query_shape statement.query) fine m.built.accepted in
     record {
       fine = subst IsSchema (sym e) fine;
@@ -75,5 +75,5 @@ over c schema statement e s fine m =
     }
 
 -- what is compiled of texts can be run
-pub runnable : (text query : List ℕ) (c : Compiled) → IsCompiledText text query c → IsRunnable c
-runnable text query c t = over c c.schema c.statement refl refl t.schema.schema' t.compiled
+pub runnable : AcceptedHaveRealColumns → (text query : List ℕ) (c : Compiled) → IsCompiledText text query c → IsRunnable c
+runnable real_columns text query c t = over real_columns c c.schema c.statement refl refl t.schema.schema' t.compiled

@@ -26,6 +26,9 @@ use gl_query::laws::accepted_have_real_columns;
 use gl_query_check::Checked;
 use gl_schema::{Column, Schema};
 use gl_testbench::{Emitted, emit};
+use gl_verilog::laws::{runs_are_causal, valid_modules_run};
+use gl_verilog_orders::laws::event_runs_are_runs;
+use gl_verilog_ports::laws::inputs_are_ports;
 use gl_verilog_writer::Labels;
 use gl_wiring::{Root, wire_plan};
 use std::alloc::Global;
@@ -148,6 +151,10 @@ fn text_of(
     plans_are_right();
     plans_tell_time();
     roots_are_right();
+    event_runs_are_runs();
+    inputs_are_ports();
+    runs_are_causal();
+    valid_modules_run();
     let names = result_names(alloc, &checked.statement, columns)?;
     let root = Root {
         id: planned.root,

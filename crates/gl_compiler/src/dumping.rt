@@ -13,6 +13,7 @@ ghost use Rattle.gl_runner.specs.Prints.{CanRun};
 use crate::Compiled;
 use crate::executing::Run;
 use gl_outside::Sink;
+use gl_query::laws::accepted_have_real_columns;
 use gl_runner::{Outcome, Task, dump_module};
 use gl_tuples::Beats;
 use gl_verilog_grammar::laws::one_module;
@@ -70,6 +71,8 @@ pub fn dump_compiled<K: Sink>(
         Dumped (OfEachPorts c.text.items c.schema (plain_beats beats.now) start)
         (plain_beats beats.now) (K.state out.old) (K.state out.new) result }
 {
+    accepted_have_real_columns();
+    one_module();
     let run = Run {
         schema: compiled.schema(),
         kinds: compiled.kinds(),

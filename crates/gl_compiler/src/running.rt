@@ -10,6 +10,7 @@ ghost use Rattle.gl_compiler.specs.Runnable.{IsRunnable};
 use crate::Compiled;
 use crate::executing::{Run, execute};
 use gl_outside::Sink;
+use gl_query::laws::accepted_have_real_columns;
 use gl_runner::Outcome;
 use gl_tuples::Beats;
 use gl_verilog_orders::Start;
@@ -32,6 +33,7 @@ pub fn run_compiled<K: Sink>(
         (kinds_of (result_columns c.schema c.statement)) (plain_beats beats.now)
         (K.state out.old) (K.state out.new) result }
 {
+    accepted_have_real_columns();
     let run = Run {
         schema: compiled.schema(),
         kinds: compiled.kinds(),

@@ -13,6 +13,7 @@ use crate::tuples::load_beats;
 use crate::{query_text, schema_text};
 use gl_bits::Memory;
 use gl_compiler::{CompileFault, Compiled, Outcome, compile, run_compiled};
+use gl_query::laws::accepted_have_real_columns;
 use gl_tuples::Beats;
 use gl_verilog_grammar::laws::one_module;
 use gl_verilog_orders::Start;
@@ -64,6 +65,7 @@ fn run(alloc: Global, compiled: &Compiled, beats: &Beats) -> Result<TextSink, Me
     requires gap { KeepsGap 1 (plain_beats beats.now) }
     ensures { IfOk result (λ sink. AreRunLines compiled.now (plain_beats beats.now) sink.bytes) }
 {
+    accepted_have_real_columns();
     let mut sink = TextSink::empty(alloc);
     let outcome = run_compiled(alloc, compiled, beats, Start::Zero, &mut sink);
     ended(outcome, sink)

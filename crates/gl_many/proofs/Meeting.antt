@@ -27,7 +27,7 @@ use Rattle.gl_testbench.specs.Emitted.{IsEmitted}
 use Rattle.gl_testbench.specs.Overflow.{TellsGroup}
 use Rattle.gl_testbench.specs.Views.{seen_as}
 use Rattle.gl_testbench.proofs.Emissions.{holds_of_runs}
-use Rattle.gl_testbench.proofs.OverflowRuns.{KeepsLine, keeps_past, tells_group}
+use Rattle.gl_testbench.proofs.OverflowRuns.{KeepsLine, RunLaws, keeps_past, tells_group}
 use Rattle.gl_testbench.proofs.PinLemmas.{outs_other}
 use Rattle.gl_testbench.proofs.Showing.{NoClock, right_past, right_wider}
 use Rattle.gl_testbench.proofs.Views.{past_within, view_steady}
@@ -42,7 +42,7 @@ use Rattle.gl_many.proofs.Standing.{AllStand, Laws, StandsAt, all_accepted, figu
 
 -- ---- one of them
 
-module _ (schema : Schema) (nodes : List PlanNode) (gap : ℕ) (net : Net) (text : List ℕ) (e : IsEmission net schema text) where
+module _ (runs : RunLaws) (schema : Schema) (nodes : List PlanNode) (gap : ℕ) (net : Net) (text : List ℕ) (e : IsEmission net schema text) where
   module _ (s : Statement) (id : ℕ) (at : StandsAt nodes schema s id) (wired : IsRightFor schema nodes gap net (root_of schema s id)) where
     abbrev outs : List (List ℕ)
     outs = map out_column (column_names (result_columns schema s))
@@ -82,7 +82,7 @@ module _ (schema : Schema) (nodes : List PlanNode) (gap : ℕ) (net : Net) (text
               (subst (λ (names : List (List ℕ)). OverRuns e.design schema gap (λ beats port. IsRight (IsResult schema s) latency beats names (view port))) named text_right);
           group =
               subst (λ (names : List (List ℕ)). OverRuns e.design schema gap (λ beats port. TellsGroup (IsResult schema s) beats names (view port))) named
-              (tells_group net schema text e view (view_steady s.name.text) outs none (IsResult schema s) latency gap text_right text_keeps);
+              (tells_group runs net schema text e view (view_steady s.name.text) outs none (IsResult schema s) latency gap text_right text_keeps);
         }
 
   -- ---- all of them
@@ -108,9 +108,9 @@ module _ (schema : Schema) (ss : List Statement) (p : PlannedSeveral) (is : AreP
 
 module _ (laws : Laws) (schema : Schema) (ss : List Statement) (p : PlannedSeveral) (can : CanStand schema ss) (is : ArePlanned schema ss p) where
   -- a text of the netlist of the statements' roots meets them
-  pub text_meets : (heap : Global) (net : Net) (made : Emitted) → AreWired schema p.plan (roots_of schema ss p.roots.items) net → IsEmitted net made
+  pub text_meets : RunLaws → (heap : Global) (net : Net) (made : Emitted) → AreWired schema p.plan (roots_of schema ss p.roots.items) net → IsEmitted net made
       → MeetTogether schema ss (shared_gap schema ss) made.text.items
-  text_meets heap net made wired t =
+  text_meets runs heap net made wired t =
       let ids = p.roots.items in
       let all = they_stand laws schema ss p can is in
       let ticks = take_ticks ss in
@@ -129,6 +129,6 @@ module _ (laws : Laws) (schema : Schema) (ss : List Statement) (p : PlannedSever
         few_registers = subst (λ (n : ℕ). n ≤ most_registers_of_all (plans_of [] schema ss)) (sym text.registers) (few_registers schema ss p is net wired own);
         few_memories = subst (λ (n : ℕ). n ≤ most_memory_of_all (plans_of [] schema ss)) (sym text.memories) (few_memories schema ss p is net wired own);
         runs = text.runs;
-        each = all_right schema p.plan (shared_gap schema ss) net made.text.items text ss ids all
+        each = all_right runs schema p.plan (shared_gap schema ss) net made.text.items text ss ids all
             (subst (λ (g : ℕ). AllByRecursion (IsRightFor schema p.plan g net) (roots_of schema ss ids)) gap wired.each);
       }

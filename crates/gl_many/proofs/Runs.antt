@@ -6,6 +6,7 @@ use Rattle.gl_schema.specs.declared.schema.Schema.{Schema}
 use Rattle.gl_schema.specs.Beats.{Beat, AreBeats, KeepsGap}
 use Rattle.gl_schema.specs.Schemas.{IsSchema}
 use Rattle.gl_query.specs.declared.tree.Statement.{Statement}
+use Rattle.gl_query.specs.Laws.{AcceptedHaveRealColumns}
 use Rattle.gl_verilog.specs.Module.{Module, Nets, Memories}
 use Rattle.gl_verilog.specs.Run.{port_of}
 use Rattle.gl_verilog.specs.Text.{HasModule}
@@ -49,9 +50,9 @@ all_end schema (s ∷ ss) gap latency design beats value word each long driven =
     (first, all_end schema ss gap latency design beats value word each.1 long.1 driven)
 
 -- by the law of ports
-can_run : (are_ports : (text : List ℕ) (m : Module) → HasModule text m → HasInputPorts m) (m : Many) (beats : List Beat) (start : Start) → AreRunnable m → AreBeats m.schema beats → KeepsGap m.planned.gap beats
+can_run : AcceptedHaveRealColumns → (are_ports : (text : List ℕ) (m : Module) → HasModule text m → HasInputPorts m) (m : Many) (beats : List Beat) (start : Start) → AreRunnable m → AreBeats m.schema beats → KeepsGap m.planned.gap beats
     → CanRunAll m.text.items m.schema (faces_of m.schema (statements_in m)) beats (greatest m.planned.latencies.items) start
-can_run are_ports m beats start is are keep =
+can_run real_columns are_ports m beats start is are keep =
     let meets = is.meets in
     let design = meets.design in
     let latency = greatest m.planned.latencies.items in
@@ -68,21 +69,21 @@ can_run are_ports m beats start is are keep =
         takes = takes_schema design m.schema (statements_in m) meets.has.valid.names meets.face;
         beats' = are;
       };
-      faces' = have_faces design m.schema (statements_in m) meets.has.valid.names meets.face is.fine meets.accepted;
+      faces' = have_faces design m.schema (statements_in m) meets.has.valid.names meets.face real_columns is.fine meets.accepted;
       short = greatest_within m.planned.latencies.items (2 ^ 32) is.short;
       end = λ value word over.
           all_end m.schema (statements_in m) shared latency design beats value word meets.each long (record { are = are; keep = keeps; run = over.run; stimulus = over.stimulus });
     }
 
 -- the text of several compiled queries, with their schema, their faces and the longest of their latencies
-pub can_run_many : (are_ports : (text : List ℕ) (m : Module) → HasModule text m → HasInputPorts m) (m : Many) (beats : List Beat) (text : List ℕ) (schema : Schema) (faces : List Face) (latency : ℕ) (start : Start) → AreRunnable m → AreBeats m.schema beats → KeepsGap m.planned.gap beats
+pub can_run_many : AcceptedHaveRealColumns → (are_ports : (text : List ℕ) (m : Module) → HasModule text m → HasInputPorts m) (m : Many) (beats : List Beat) (text : List ℕ) (schema : Schema) (faces : List Face) (latency : ℕ) (start : Start) → AreRunnable m → AreBeats m.schema beats → KeepsGap m.planned.gap beats
     → text ≡ m.text.items → schema ≡ m.schema → faces ≡ faces_of m.schema (statements_in m) → latency ≡ greatest m.planned.latencies.items
     → CanRunAll text schema faces beats latency start
-can_run_many are_ports m beats text schema faces latency start is are keep a b d e =
+can_run_many real_columns are_ports m beats text schema faces latency start is are keep a b d e =
     subst (λ (x : List ℕ). CanRunAll x schema faces beats latency start) (sym a) (
     subst (λ (x : Schema). CanRunAll m.text.items x faces beats latency start) (sym b) (
     subst (λ (x : List Face). CanRunAll m.text.items m.schema x beats latency start) (sym d) (
-    subst (λ (x : ℕ). CanRunAll m.text.items m.schema (faces_of m.schema (statements_in m)) beats x start) (sym e) (can_run are_ports m beats start is are keep))))
+    subst (λ (x : ℕ). CanRunAll m.text.items m.schema (faces_of m.schema (statements_in m)) beats x start) (sym e) (can_run real_columns are_ports m beats start is are keep))))
 
 -- how its run ended
 pub ran_many : (m : Many) (beats : List Beat) (text : List ℕ) (schema : Schema) (faces : List Face) (start : Start) (old new : SinkState) (r : Outcome)

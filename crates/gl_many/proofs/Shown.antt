@@ -12,8 +12,8 @@ use Rattle.gl_schema.specs.Profile.{Out, ProfilePort, clk, column_outputs, input
 use Rattle.gl_schema.specs.Schemas.{IsSchema}
 use Rattle.gl_query.specs.declared.tree.Statement.{Statement}
 use Rattle.gl_query.specs.Accepted.{IsAccepted}
+use Rattle.gl_query.specs.Laws.{AcceptedHaveRealColumns}
 use Rattle.gl_query.specs.Shapes.{query_shape}
-use Rattle.gl_query.proofs.Real.{real_columns}
 use Rattle.gl_verilog.specs.Module.{Declaration, Module}
 use Rattle.gl_verilog.specs.Valid.{AreDistinct}
 use Rattle.gl_verilog_ports.specs.Profile.{HasLine, declared, port_named, ports_of}
@@ -82,14 +82,14 @@ all_out schema (s ∷ ss) =
     let own : AllByRecursion IsOut (outputs_among schema s) = all_mapped IsOut (port_among s.name.text) (output_ports (result_columns schema s)) (outputs_out (result_columns schema s)) in
     all_append IsOut (outputs_among schema s) (flat_map (outputs_among schema) ss) own (all_out schema ss)
 
-all_faces : (m : Module) (schema : Schema) (statements : List Statement) → IsSchema schema → AllByRecursion (IsAccepted schema) statements
+all_faces : AcceptedHaveRealColumns → (m : Module) (schema : Schema) (statements : List Statement) → IsSchema schema → AllByRecursion (IsAccepted schema) statements
     → AllByRecursion (IsFound m) (flat_map (outputs_among schema) statements) → AllByRecursion (HasFace m) (faces_of schema statements)
-all_faces m schema [] fine accepted found = tt
-all_faces m schema (s ∷ ss) fine accepted found =
+all_faces real_columns m schema [] fine accepted found = tt
+all_faces real_columns m schema (s ∷ ss) fine accepted found =
     let real = real_columns schema (query_shape s.query) fine accepted.0 in
     let others = flat_map (outputs_among schema) ss in (
       has_face m s.name.text (result_columns schema s) real.result.most real.kinds (all_front (IsFound m) (outputs_among schema s) others found),
-      all_faces m schema ss fine accepted.1 (all_back (IsFound m) (outputs_among schema s) others found),
+      all_faces real_columns m schema ss fine accepted.1 (all_back (IsFound m) (outputs_among schema s) others found),
     )
 
 module _ (m : Module) (schema : Schema) (statements : List Statement) (distinct : AreDistinct m.declarations)
@@ -99,8 +99,8 @@ module _ (m : Module) (schema : Schema) (statements : List Statement) (distinct 
   takes_schema = inputs_asked (take_ticks statements) m schema (flat_map (outputs_among schema) statements) (all_out schema statements) distinct face
 
   -- and each result is shown
-  pub have_faces : IsSchema schema → AllByRecursion (IsAccepted schema) statements → AllByRecursion (HasFace m) (faces_of schema statements)
-  have_faces fine accepted =
+  pub have_faces : AcceptedHaveRealColumns → IsSchema schema → AllByRecursion (IsAccepted schema) statements → AllByRecursion (HasFace m) (faces_of schema statements)
+  have_faces real_columns fine accepted =
       let all = all_found m (input clk 1 ∷ profile_of_all schema statements) distinct face in
-      all_faces m schema statements fine accepted
+      all_faces real_columns m schema statements fine accepted
       (all_back (IsFound m) (input_ports (take_ticks statements) schema) (flat_map (outputs_among schema) statements) all.1)

@@ -11,6 +11,7 @@ use crate::Many;
 use crate::executing::execute_many;
 use crate::faces::faces_of;
 use gl_outside::Sink;
+use gl_query::laws::accepted_have_real_columns;
 use gl_runner::{Outcome, Task};
 use gl_tuples::Beats;
 use gl_verilog_orders::Start;
@@ -43,6 +44,7 @@ pub fn run_many<K: Sink>(
         RanAll (OfAllRuns m.text.items m.schema beats' start)
         (faces_of m.schema (statements_in m)) beats' (K.state out.old) (K.state out.new) result }
 {
+    accepted_have_real_columns();
     inputs_are_ports();
     let schema = many.schema();
     let Ok(faces) = faces_of(alloc, schema, many.statements()) else {

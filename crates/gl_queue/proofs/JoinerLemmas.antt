@@ -14,7 +14,8 @@ use Rattle.gl_wire.specs.Pace.{WithEnds}
 use Rattle.gl_bits.specs.Results.{AreBeside}
 use Rattle.gl_queue.specs.Joining.{IsJoiner, JoinerServes}
 use Rattle.gl_wire.specs.Sides.{IsOpen, IsIdle, ItsEnd, Side}
-use Rattle.gl_wire.proofs.SideLemmas.{fits_side, none_unless}
+use Rattle.gl_wire.specs.Laws.{FitsIsSide}
+use Rattle.gl_wire.proofs.SideLemmas.{none_unless}
 use Rattle.gl_queue.proofs.HeldLemmas.{flag_off}
 use Rattle.gl_queue.proofs.FlagLemmas.{Flag, flag_next, flag_start, once_none, once_some, once_stream}
 
@@ -27,7 +28,7 @@ kept_b : {a b o : Carried} (m : IsJoiner a b o) (c : ℕ) → 1 ≤ c → b.tupl
 kept_b m zero l h = absurd (omega (arith, l))
 kept_b m (suc c) l h = m.kept_b c h
 
-module _ (p q : Figures) (a b o : Carried) (sound_p : IsSound p) (sound_q : IsSound q) (same : p.a ≡ q.a) (m : IsJoiner a b o) (beats : Beats) (spaced : Spaced (at_end p q) beats) (fits_a : Fits p beats a) (fits_b : Fits q beats b) (once_a : WithEnds a) (once_b : WithEnds b) where
+module _ (fits_side : FitsIsSide) (p q : Figures) (a b o : Carried) (sound_p : IsSound p) (sound_q : IsSound q) (same : p.a ≡ q.a) (m : IsJoiner a b o) (beats : Beats) (spaced : Spaced (at_end p q) beats) (fits_a : Fits p beats a) (fits_b : Fits q beats b) (once_a : WithEnds a) (once_b : WithEnds b) where
   side_a : Side p.a (last p) (most p) beats a
   side_a = fits_side p (at_end p q) beats a sound_p (record { gt = omega arith; ge = omega arith }) spaced fits_a
 
@@ -385,5 +386,5 @@ module _ (p q : Figures) (a b o : Carried) (sound_p : IsSound p) (sound_q : IsSo
     late = λ ends c f. absurd (cc f);
   }
 
-pub joiner_serves : JoinerServes
-joiner_serves p q a b o sound_p sound_q same m beats spaced fits_a fits_b once = with_lines p q a b o sound_p sound_q same m beats spaced fits_a fits_b once.0 once.1
+pub joiner_serves : FitsIsSide → JoinerServes
+joiner_serves fits_side p q a b o sound_p sound_q same m beats spaced fits_a fits_b once = with_lines fits_side p q a b o sound_p sound_q same m beats spaced fits_a fits_b once.0 once.1

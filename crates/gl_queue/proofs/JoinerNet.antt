@@ -19,20 +19,20 @@ use Rattle.gl_wire.specs.declared.emitted.Faults.{Faults}
 use Rattle.gl_wire.specs.declared.wire.Wire.{Wire}
 use Rattle.gl_wire.specs.Costs.{CostsAtMost}
 use Rattle.gl_wire.specs.Faults.{AreBoth}
+use Rattle.gl_wire.specs.Laws.{FollowersKeepPace}
 use Rattle.gl_wire.specs.Pace.{BothWithEnds, InStep, SameCycles, WithEnds}
 use Rattle.gl_wire.specs.Shapes.{IsDelayed}
 use Rattle.gl_wire.specs.Spills.{ServesWhen2, never2, no_lines}
 use Rattle.gl_wire.specs.Stages.{IsPad}
 use Rattle.gl_wire.specs.Wire.{Carried, carried, widths}
 use Rattle.gl_wire.proofs.ColumnLemmas.{wire_kept}
-use Rattle.gl_wire.proofs.PaceLemmas.{delayed_follows, follows_pace}
+use Rattle.gl_wire.proofs.PaceLemmas.{delayed_follows}
 use Rattle.gl_wire.proofs.PadLemmas.{padded_when}
-use Rattle.gl_queue.specs.Joining.{IsJoiner}
+use Rattle.gl_queue.specs.Joining.{IsJoiner, JoinerServes}
 use Rattle.gl_queue.specs.JoinLines.{AreSides, JoinsSides}
 use Rattle.gl_queue.specs.Joiners.{IsJoinerIn, IsJoinerOf, OfOneWire, cost_of_joiner, joined_pace, joins_when}
 use Rattle.gl_queue.proofs.BesideLemmas.{beside_serves}
 use Rattle.gl_queue.proofs.FigureLemmas.{one_pad}
-use Rattle.gl_queue.proofs.JoinerLemmas.{joiner_serves}
 
 -- what comes a fixed time after its beats does so some cycles later too
 same_later : (m x y : ℕ) → nat_eq (x + m) (y + m) ≡ nat_eq x y
@@ -69,7 +69,7 @@ with_ends a b o m (suc c) = ap is_some (m.out c) ∙ by (m.wait_a c && m.wait_b 
     by true r = refl
     by false r = refl
 
-module _ (p q : Figures) (a b a' b' o : Carried) (sound_p : IsSound p) (sound_q : IsSound q) (da : IsDelayed (wait_of p q) a a') (db : IsDelayed (wait_of q p) b b') where
+module _ (joiner_serves : JoinerServes) (follows_pace : FollowersKeepPace) (p q : Figures) (a b a' b' o : Carried) (sound_p : IsSound p) (sound_q : IsSound q) (da : IsDelayed (wait_of p q) a a') (db : IsDelayed (wait_of q p) b b') where
   abbrev p' : Figures
   p' = delayed (wait_of p q) p
 
@@ -128,7 +128,7 @@ pads_within m n pad x y e =
     let s : pad * (x + y + 2) ≡ m * (x + y + 2) + n * (x + y + 2) = ap (λ (i : ℕ). i * (x + y + 2)) (sym e) ∙ omega arith in
     omega (arith, l, r, s)
 
-module _ (old n1 n2 n3 new : Net) (p q : Figures) (a b : Emitted) (first second out : Wire) (faults : Faults) (sound_p : IsSound p) (sound_q : IsSound q)
+module _ (joiner_serves : JoinerServes) (follows_pace : FollowersKeepPace) (old n1 n2 n3 new : Net) (p q : Figures) (a b : Emitted) (first second out : Wire) (faults : Faults) (sound_p : IsSound p) (sound_q : IsSound q)
     (pad_a : IsPad old n1 (wait_of p q) a.wire first) (pad_b : IsPad n1 n2 (wait_of q p) b.wire second) (m : AreSides n2 n3 (is_fixed p && is_fixed q) first second out)
     (told : AreBoth n3 new a.faults b.faults faults) where
   abbrev columns_a : List ℕ
@@ -191,12 +191,12 @@ module _ (old n1 n2 n3 new : Net) (p q : Figures) (a b : Emitted) (first second 
       lines = told.are;
       paced = λ run r.
           let j = joins run r in
-          paced p q (carried run a.wire) (carried run b.wire) j.first j.second (carried run out) sound_p sound_q j.left_waits j.right_waits (is_fixed p && is_fixed q) j.joins;
+          paced joiner_serves follows_pace p q (carried run a.wire) (carried run b.wire) j.first j.second (carried run out) sound_p sound_q j.left_waits j.right_waits (is_fixed p && is_fixed q) j.joins;
       serves = λ run r.
           let j = joins run r in (
             no_lines,
             record { passed = λ c. j.told.passed c ∙ sym (or_none _); further = λ c. j.told.further c ∙ sym (or_none _) },
-            serves p q (carried run a.wire) (carried run b.wire) j.first j.second (carried run out) sound_p sound_q j.left_waits j.right_waits j.joins,
+            serves joiner_serves follows_pace p q (carried run a.wire) (carried run b.wire) j.first j.second (carried run out) sound_p sound_q j.left_waits j.right_waits j.joins,
           );
     };
     joins = joins;

@@ -27,7 +27,7 @@ use Rattle.gl_queue.specs.SpacerLines.{IsSpacedOf, bus_of}
 use Rattle.gl_queue.specs.Spacers.{IsSpacerIn, IsSpacerOf, cost_of_spacer}
 use Rattle.gl_queue.specs.Costs.{cost_of_queue}
 use Rattle.gl_queue.proofs.QueueCosts.{IsLow, queue_low}
-use Rattle.gl_queue.proofs.SpacerServeLemmas.{spacer_serves, spacer_spaces}
+use Rattle.gl_queue.specs.Spacing.{SpacerServes, SpacerSpaces}
 
 -- the two in front are lines
 pub first_bit : (net : Net) (bs : List Bus) (d : Bus) (ws : List ℕ) (b : Bit) → AreBuses net bs → widths bs ≡ 1 ∷ 1 ∷ ws → b.node ≡ (slice_index_or bs 0 d).node → IsBit net b
@@ -77,7 +77,7 @@ cost_nodes lines n l x =
     let six = mul-le-mul_left (8 * lines) (let z : 7 ≤ n + 6 = omega (arith, x) in z) in
     omega (arith, six, l)
 
-module _ (old mid new : Net) (g : ℕ) (f : Figures) (a : Emitted) (out : Merged) (passed : Option Bit) (sound : IsSound f) (one : 1 ≤ g) (small : f.ne + 1 ≤ 2 ^ 32) (lines : AreLines old a.faults)
+module _ (spacer_serves : SpacerServes) (spacer_spaces : SpacerSpaces) (old mid new : Net) (g : ℕ) (f : Figures) (a : Emitted) (out : Merged) (passed : Option Bit) (sound : IsSound f) (one : 1 ≤ g) (small : f.ne + 1 ≤ 2 ^ 32) (lines : AreLines old a.faults)
     (m : IsSpacedOf old mid (f.ne + 1) g a.wire out) (line : IsEither mid new a.faults.passed (Some out.passed) passed) where
   abbrev columns : List ℕ
   columns = widths a.wire.columns

@@ -20,7 +20,7 @@ use Rattle.gl_wire.specs.Shapes.{Same}
 use Rattle.gl_queue.specs.Merging.{only_passed}
 use Rattle.gl_queue.specs.Spacing.{Entry, entry_at, arrives, row_in, end_in, IsSpacer, SpacerServes, SpacerSpaces}
 use Rattle.gl_queue.specs.SpacerPhases.{most_entries, Wide}
-use Rattle.gl_wire.proofs.SideLemmas.{fits_side}
+use Rattle.gl_wire.specs.Laws.{FitsIsSide}
 use Rattle.gl_wire.proofs.ApartLemmas.{is_carries}
 use Rattle.gl_queue.proofs.QueueLemmas.{not_passed}
 use Rattle.gl_queue.proofs.TagLemmas.{tag, held_entries}
@@ -122,7 +122,7 @@ module _ (g : ℕ) (depth : ℕ) (passed : ℕ → Bool) (a o : Carried) (one : 
       let off = not_passed depth (arrives a c) (entries (arrives a) go c) (go c) (omega (arith, size, l, length-append (if go c then behind (entries (arrives a) go c) else entries (arrives a) go c) (option_to_list (arrives a c)))) in
       more_low c low (m.queue.tells c low ∙ off)
 
-module _ (g : ℕ) (f : Figures) (passed : ℕ → Bool) (a o : Carried) (one : 1 ≤ g) (sound : IsSound f) (m : IsSpacer g (f.ne + 1) passed a o) (beats : Beats) (spaced : Spaced (spacer_figures g f) beats) (fits_a : Fits f beats a) where
+module _ (fits_side : FitsIsSide) (g : ℕ) (f : Figures) (passed : ℕ → Bool) (a o : Carried) (one : 1 ≤ g) (sound : IsSound f) (m : IsSpacer g (f.ne + 1) passed a o) (beats : Beats) (spaced : Spaced (spacer_figures g f) beats) (fits_a : Fits f beats a) where
   side : Side f.a (last f) (most f) beats a
   side = fits_side f (spacer_figures g f) beats a sound (record { gt = omega arith; ge = omega arith }) spaced fits_a
 
@@ -327,9 +327,9 @@ module _ (g : ℕ) (f : Figures) (passed : ℕ → Bool) (a o : Carried) (one : 
   carries_apart : CarriesApart g o
   carries_apart c d p q l = let x = leaves_at c (is_carries o c p) in let y = leaves_at d (is_carries o d q) in leave_apart g one m.timer a o tags spaces refl c d x.0 y.0 x.1 y.1 l
 
-pub spacer_serves : SpacerServes
-spacer_serves g f passed a o one sound m beats spaced fits_a = with_lines g f passed a o one sound m beats spaced fits_a
+pub spacer_serves : FitsIsSide → SpacerServes
+spacer_serves fits_side g f passed a o one sound m beats spaced fits_a = with_lines fits_side g f passed a o one sound m beats spaced fits_a
 
 -- over the same beats, what leaves is apart
-pub spacer_spaces : SpacerSpaces
-spacer_spaces g f passed a o one sound m beats spaced fits_a = carries_apart g f passed a o one sound m beats spaced fits_a
+pub spacer_spaces : FitsIsSide → SpacerSpaces
+spacer_spaces fits_side g f passed a o one sound m beats spaced fits_a = carries_apart fits_side g f passed a o one sound m beats spaced fits_a

@@ -14,7 +14,7 @@ use Rattle.gl_queue.specs.Queue.{behind, entries, LowBefore}
 use Rattle.gl_queue.specs.Merging.{IsMerging, UnionServes, only_passed}
 use Rattle.gl_wire.specs.Sides.{IsOpen, Side}
 use Rattle.gl_queue.specs.Phases.{Held, Works, Bounds, Roomy, Quiet}
-use Rattle.gl_wire.proofs.SideLemmas.{fits_side}
+use Rattle.gl_wire.specs.Laws.{FitsIsSide}
 use Rattle.gl_queue.proofs.QueueLemmas.{not_passed}
 use Rattle.gl_queue.proofs.PhaseLemmas.{Phase, idle, busy, EndOf, leaving, left_length, starts, Starts, StartsNot, still_open, clear_busy, phase_next}
 use Rattle.gl_queue.proofs.FlowLemmas.{OutEnd, few_out, out_caused, end_caused, out_end}
@@ -51,7 +51,7 @@ module _ (k : Bounds) (la lb : Bool → ℕ) (beats : Beats) (h : Held) (a b o :
               (λ v. absurd (let x = z.a v in cc (x, stay)), λ v. absurd (let x = z.b v in cc (x, stay)))
           go (inr n) = in_end t e y.open_beat (still_open k la lb beats h a b o sa sb in_a in_b roomy c t e y.open_beat n) y.ended
 
-module _ (p q : Figures) (passed : ℕ → Bool) (a b o : Carried) (sound_p : IsSound p) (sound_q : IsSound q) (same : p.a ≡ q.a) (m : IsMerging p.ne q.ne passed a b o) (beats : Beats) (spaced : Spaced (merged p q) beats) (fits_a : Fits p beats a) (fits_b : Fits q beats b) where
+module _ (fits_side : FitsIsSide) (p q : Figures) (passed : ℕ → Bool) (a b o : Carried) (sound_p : IsSound p) (sound_q : IsSound q) (same : p.a ≡ q.a) (m : IsMerging p.ne q.ne passed a b o) (beats : Beats) (spaced : Spaced (merged p q) beats) (fits_a : Fits p beats a) (fits_b : Fits q beats b) where
   abbrev bounds : Bounds
   bounds = record { first = p.a; late = λ e. max (last p e) (last q e); most_a = most p; most_b = most q }
 
@@ -276,5 +276,5 @@ module _ (p q : Figures) (passed : ℕ → Bool) (a b o : Carried) (sound_p : Is
   }
 
 -- the union's theorem
-pub union_serves : UnionServes
-union_serves p q passed a b o sound_p sound_q same m beats spaced fits_a fits_b none = with_lines p q passed a b o sound_p sound_q same m beats spaced fits_a fits_b
+pub union_serves : FitsIsSide → UnionServes
+union_serves fits_side p q passed a b o sound_p sound_q same m beats spaced fits_a fits_b none = with_lines fits_side p q passed a b o sound_p sound_q same m beats spaced fits_a fits_b

@@ -29,16 +29,15 @@ use Rattle.gl_wire.proofs.PadLemmas.{padded_when}
 use Rattle.gl_queue.specs.declared.merge.Merged.{Merged}
 use Rattle.gl_queue.specs.Costs.{cost_of_queue}
 use Rattle.gl_queue.specs.MergeLines.{IsMergedOf}
-use Rattle.gl_queue.specs.Merging.{IsMerging, first_of, only_passed}
+use Rattle.gl_queue.specs.Merging.{IsMerging, UnionServes, first_of, only_passed}
 use Rattle.gl_queue.specs.Unions.{IsUnionIn, IsUnionOf, cost_of_union}
 use Rattle.gl_queue.proofs.FigureLemmas.{one_pad}
 use Rattle.gl_queue.proofs.QueueCosts.{IsLow, queue_low}
-use Rattle.gl_queue.proofs.UnionLemmas.{union_serves}
 
 -- sides padded to begin together, merged, serve the interleavings of the sides
-pub padded_union : (p q : Figures) (passed : ℕ → Bool) (a b a' b' o : Carried) → IsSound p → IsSound q → IsDelayed (wait_of p q) a a' → IsDelayed (wait_of q p) b b' → IsMerging p.ne q.ne passed a' b' o
+pub padded_union : UnionServes → (p q : Figures) (passed : ℕ → Bool) (a b a' b' o : Carried) → IsSound p → IsSound q → IsDelayed (wait_of p q) a a' → IsDelayed (wait_of q p) b b' → IsMerging p.ne q.ne passed a' b' o
     → ServesWhen2 always p q (union_figures p q) (never2 IsInterleaving) (only_passed passed) a b o
-padded_union p q passed a b a' b' o sound_p sound_q da db m =
+padded_union union_serves p q passed a b a' b' o sound_p sound_q da db m =
     padded_when (wait_of p q) (wait_of q p) p q (union_figures p q) (never2 IsInterleaving) (only_passed passed) always always a a' b b' o da db (λ beats fa fb c. tt)
     (union_serves (delayed (wait_of p q) p) (delayed (wait_of q p) q) passed a' b' o (delayed_sound (wait_of p q) p sound_p) (delayed_sound (wait_of q p) q sound_q) (omega arith) m)
 
@@ -60,7 +59,7 @@ cost_nodes lines pad n m l x y =
     let all : 8 * lines * (pad + 6) ≡ 8 * (pad * lines) + 48 * lines = omega arith in
     omega (arith, six, all, l)
 
-module _ (old n1 n2 n3 n4 new : Net) (p q : Figures) (a b : Emitted) (first second : Wire) (out : Merged) (sides : Faults) (passed : Option Bit) (sound_p : IsSound p) (sound_q : IsSound q) (small_p : p.ne ≤ 2 ^ 32) (small_q : q.ne ≤ 2 ^ 32)
+module _ (union_serves : UnionServes) (old n1 n2 n3 n4 new : Net) (p q : Figures) (a b : Emitted) (first second : Wire) (out : Merged) (sides : Faults) (passed : Option Bit) (sound_p : IsSound p) (sound_q : IsSound q) (small_p : p.ne ≤ 2 ^ 32) (small_q : q.ne ≤ 2 ^ 32)
     (same : widths a.wire.columns ≡ widths b.wire.columns)
     (pad_a : IsPad old n1 (wait_of p q) a.wire first) (pad_b : IsPad n1 n2 (wait_of q p) b.wire second) (m : IsMergedOf n2 n3 p.ne q.ne first second out)
     (told : AreBoth n3 n4 a.faults b.faults sides) (line : IsEither n4 new sides.passed (Some out.passed) passed) where
@@ -141,7 +140,7 @@ module _ (old n1 n2 n3 n4 new : Net) (p q : Figures) (a b : Emitted) (first seco
           let u = merges run r in (
             only_passed u.passed,
             u.told,
-            padded_union p q u.passed (carried run a.wire) (carried run b.wire) u.first u.second (carried run out.wire) sound_p sound_q u.left_waits u.right_waits u.merging,
+            padded_union union_serves p q u.passed (carried run a.wire) (carried run b.wire) u.first u.second (carried run out.wire) sound_p sound_q u.left_waits u.right_waits u.merging,
           );
     };
     merges = merges;

@@ -8,10 +8,12 @@ ghost use Rattle.gl_wire.specs.Wire.{AreBuses, IsWire, wire_of};
 ghost use Rattle.gl_queue.specs.JoinLines.{AreKept, AreSides, AreWaitingOf, IsJoinedOf, IsKept};
 ghost use Rattle.gl_queue.specs.Joiners.{IsJoinerOf};
 
+use crate::laws::joiner_serves;
 use crate::ring::word;
 use gl_algebra::{Figures, table};
 use gl_bits::Memory;
 use gl_net::{Bit, Bus, Buses, NetBuilder};
+use gl_wire::laws::followers_keep_pace;
 use gl_wire::{
     Emitted, Wire, both, both_faults, but_not, either, note_bit, note_buses, pad, stage,
 };
@@ -197,6 +199,8 @@ impl Joiner {
         requires right_lines { AreLines net.old right.faults }
         ensures { IfOk result (IsJoinerOf net.old net.new self.now.left self.now.right left right) }
     {
+        joiner_serves();
+        followers_keep_pace();
         let wait = table::wait_of(&self.left, &self.right);
         let first = pad(alloc, net, &left.wire, wait)?;
         let wait = table::wait_of(&self.right, &self.left);

@@ -7,6 +7,7 @@ ghost use Rattle.gl_wire.specs.Wire.{IsWire};
 ghost use Rattle.gl_queue.specs.SpacerLines.{IsSpacedOf, bus_of};
 ghost use Rattle.gl_queue.specs.Spacers.{IsSpacerOf};
 
+use crate::laws::{spacer_serves, spacer_spaces};
 use crate::merge::Merged;
 use crate::pacing::put_paced;
 use gl_algebra::Figures;
@@ -121,6 +122,8 @@ impl Spacer {
         requires lines { AreLines net.old below.faults }
         ensures { IfOk result (IsSpacerOf net.old net.new self.now.gap self.now.source below) }
     {
+        spacer_serves();
+        spacer_spaces();
         let spaced = put_spaced(alloc, net, &below.wire, self.source.ne as u64 + 1, self.gap)?;
         let passed = either_line(net, below.faults.passed, Some(spaced.passed))?;
         Ok(Emitted {

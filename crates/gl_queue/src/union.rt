@@ -6,6 +6,7 @@ ghost use Rattle.gl_wire.specs.Faults.{AreLines};
 ghost use Rattle.gl_wire.specs.Wire.{IsWire, widths};
 ghost use Rattle.gl_queue.specs.Unions.{IsUnionOf};
 
+use crate::laws::union_serves;
 use crate::merge::put_merged;
 use gl_algebra::{Figures, table};
 use gl_bits::Memory;
@@ -49,6 +50,7 @@ impl UnionOf {
         requires widths { widths left.wire.columns ≡ widths right.wire.columns }
         ensures { IfOk result (IsUnionOf net.old net.new self.now.left self.now.right left right) }
     {
+        union_serves();
         let wait = table::wait_of(&self.left, &self.right);
         let first = pad(alloc, net, &left.wire, wait)?;
         let wait = table::wait_of(&self.right, &self.left);

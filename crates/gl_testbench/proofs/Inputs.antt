@@ -95,8 +95,8 @@ input_carries schema m beats value t valid among asked are stimulus n p =
     there ∙ sym (ap (carried_at beats t) (pin_is schema m n a.d a.there))
 
 -- and so in the module of a text
-pub port_carries : (text : List ℕ) (schema : Schema) (m : Module) (beats : List Beat) (value : ℕ → Nets) (t : ℕ) → HasModule text m → AreAsked m schema → AreBeats schema beats → IsStimulus schema beats (input_values m value) → (n : ℕ) → IsInputPort m.declarations n → value t n ≡ carried_at beats t (pin_at schema m.declarations n)
-port_carries text schema m beats value t has asked are stimulus n p = input_carries schema m beats value t has.valid (declared.inputs_are_ports text m has) asked are stimulus n p
+pub port_carries : ((text : List ℕ) (m : Module) → HasModule text m → HasInputPorts m) → (text : List ℕ) (schema : Schema) (m : Module) (beats : List Beat) (value : ℕ → Nets) (t : ℕ) → HasModule text m → AreAsked m schema → AreBeats schema beats → IsStimulus schema beats (input_values m value) → (n : ℕ) → IsInputPort m.declarations n → value t n ≡ carried_at beats t (pin_at schema m.declarations n)
+port_carries inputs_are_ports text schema m beats value t has asked are stimulus n p = input_carries schema m beats value t has.valid (inputs_are_ports text m has) asked are stimulus n p
 
 -- and the inputs have theirs
 pub run_has_inputs : (schema : Schema) (m : Module) (beats : List Beat) (value : ℕ → Nets) (t : ℕ) → IsValid m → HasInputPorts m → AreAsked m schema → AreBeats schema beats → IsStimulus schema beats (input_values m value) → HasInputs m (value t) (map (carried_at beats t) (map (pin_at schema m.declarations) (inputs_of m)))

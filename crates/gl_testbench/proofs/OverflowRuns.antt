@@ -13,11 +13,11 @@ use Rattle.gl_schema.specs.Right.{Meaning, IsRight}
 use Rattle.gl_net.specs.Net.{Net}
 use Rattle.gl_verilog.specs.Module.{Module, Nets, number_of}
 use Rattle.gl_verilog.specs.Run.{port_of, input_values}
-use Rattle.gl_verilog.specs.Runnable.{SameInputs, SameNets, is_input}
-use Rattle.gl_verilog.proofs.Acyclic.{runnable}
-use Rattle.gl_verilog.proofs.Runs.{runs_are_causal}
-use Rattle.gl_verilog_orders.proofs.EventRuns.{event_runs_are_runs}
-use Rattle.gl_verilog_ports.specs.Profile.{ports_of}
+use Rattle.gl_verilog.specs.Runnable.{IsRunnable, RunsAreCausal, SameInputs, SameNets, is_input}
+use Rattle.gl_verilog.specs.Text.{HasModule}
+use Rattle.gl_verilog.specs.Valid.{IsValid}
+use Rattle.gl_verilog_orders.specs.Laws.{EventRunsAreRuns}
+use Rattle.gl_verilog_ports.specs.Profile.{HasInputPorts, ports_of}
 use Rattle.gl_verilog_ports.proofs.Declared.{get_take}
 use Rattle.gl_sim.proofs.Settling.{IsInputPort}
 use Rattle.gl_testbench.specs.declared.pins.Pin.{Pin as Carried}
@@ -31,6 +31,13 @@ use Rattle.gl_testbench.proofs.Emissions.{inputs_are_asked, ports_are_nets}
 use Rattle.gl_testbench.proofs.Found.{found}
 use Rattle.gl_testbench.proofs.OverflowBeats.{IsCut, cut_of, is_cut}
 use Rattle.gl_testbench.proofs.Showing.{NoClock, SameAt, shown_same}
+
+-- the laws of runs and of ports that this stands on
+pub record RunLaws : Type 0 where
+  pub event_runs_are_runs : (m : Module) → IsValid m → EventRunsAreRuns m
+  pub inputs_are_ports : (text : List ℕ) (m : Module) → HasModule text m → HasInputPorts m
+  pub runs_are_causal : (m : Module) → IsRunnable m → RunsAreCausal m
+  pub valid_modules_run : (m : Module) → IsValid m → IsRunnable m
 
 -- the line never falls, and from the end on it keeps its value
 pub record KeepsLine (outs : List (List ℕ)) (port : PortValues) : Type 0 where
@@ -66,7 +73,7 @@ carried_same : (beats beats' : List Beat) (c : ℕ) → ((n : ℕ) → n ≤ c �
 carried_same beats beats' c same zero le p = refl
 carried_same beats beats' c same (suc n) le p = ap (λ (o : Option Beat). with_beat o p) (same n (omega (arith, le)))
 
-module _ (net : Net) (schema : Schema) (text : List ℕ) (e : IsEmission net schema text) where
+module _ (laws : RunLaws) (net : Net) (schema : Schema) (text : List ℕ) (e : IsEmission net schema text) where
   abbrev m : Module
   m = e.design
 
@@ -74,9 +81,9 @@ module _ (net : Net) (schema : Schema) (text : List ℕ) (e : IsEmission net sch
       → ((n : ℕ) → n ≤ c → beat_at beats' n ≡ beat_at beats n) → (t : ℕ) → t ≤ suc c → SameInputs m.declarations (value t) (value' t)
   inputs_same beats beats' value value' c are are' stimulus stimulus' same t le = λ n d there kind clock.
       let port : IsInputPort m.declarations n = record { declaration = d; is = there; input = ap is_input kind; no_clock = clock } in
-      port_carries text schema m beats value t e.has (inputs_are_asked net schema text e) are stimulus n port
+      port_carries laws.inputs_are_ports text schema m beats value t e.has (inputs_are_asked net schema text e) are stimulus n port
       ∙ sym (carried_same beats beats' c same t le (pin_at schema m.declarations n))
-      ∙ sym (port_carries text schema m beats' value' t e.has (inputs_are_asked net schema text e) are' stimulus' n port)
+      ∙ sym (port_carries laws.inputs_are_ports text schema m beats' value' t e.has (inputs_are_asked net schema text e) are' stimulus' n port)
 
   -- where the nets are the same, the ports carry the same
   nets_carry : (value value' : ℕ → Nets) (t : ℕ) → SameNets m.declarations (value t) (value' t) → SameAt t (port_of m value) (port_of m value')
@@ -100,10 +107,10 @@ module _ (net : Net) (schema : Schema) (text : List ℕ) (e : IsEmission net sch
     spilled c = λ beats value word driven h.
         let cut : List Beat = cut_of schema gap c beats in
         let is : IsCut schema gap c beats cut = is_cut schema gap c beats driven.are driven.keep in
-        let first = event_runs_are_runs m e.has.valid value word driven.run in
+        let first = laws.event_runs_are_runs m e.has.valid value word driven.run in
         let r : RunsOver m schema cut (value 0) (word 0) = e.runs cut (value 0) (word 0) is.are (first.fits 0) in
         let port : PortValues = view (port_of m r.value) in
-        let both = runs_are_causal m (runnable m e.has.valid) value r.value word r.word first (event_runs_are_runs m e.has.valid r.value r.word r.run) r.starts (suc c)
+        let both = laws.runs_are_causal m (laws.valid_modules_run m e.has.valid) value r.value word r.word first (laws.event_runs_are_runs m e.has.valid r.value r.word r.run) r.starts (suc c)
         (inputs_same beats cut value r.value c driven.are is.are driven.stimulus r.stimulus is.same) (suc c) (omega arith) in
         let same = steady (suc c) (port_of m value) (port_of m r.value) (nets_carry value r.value (suc c) both.0) in
         let here : IsTrue (shown port outs c).group = subst (λ (s : Shown). IsTrue s.group) (shown_same (view (port_of m value)) port outs c same none) h in

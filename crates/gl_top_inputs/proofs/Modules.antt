@@ -24,9 +24,8 @@ use Rattle.gl_verilog_reader.proofs.Places.{only_memory, only_module}
 use Rattle.gl_verilog_ports.specs.declared.fitting.Ports.{Ports}
 use Rattle.gl_verilog_ports.specs.declared.fitting.Misfit.{Misfit}
 use Rattle.gl_verilog_ports.specs.Fit.{fit_of}
-use Rattle.gl_verilog_fit.specs.Laws.{TellsPort}
+use Rattle.gl_verilog_fit.specs.Laws.{PortFaultsAreTold, TellsPort}
 use Rattle.gl_verilog_fit.specs.Places.{IsPortFault, fit_at, misfit_token}
-use Rattle.gl_verilog_fit.proofs.Placed as placed
 use Rattle.gl_top_forms.specs.declared.command.Command.TheVariants.{Sim}
 use Rattle.gl_top_forms.specs.declared.command.Part.TheVariants as part
 use Rattle.gl_top_forms.specs.Forms.{IsCommand}
@@ -74,8 +73,8 @@ port_fault s text (verilog.TooWide at) is = absurd is
 port_fault s text (verilog.BadTarget at) is = absurd is
 port_fault s text (verilog.TooDeep at) is = absurd is
 
-pub fit_fault : (s : Schema) (text : List ℕ) (source : Source) (f : VerilogFault) → IsSource text source → Err f ≡ fit_at source s → IsModuleFaultOrMemory s text f
-fit_fault s text source f is e = port_fault s text f (placed.told text source s f is (sym e))
+pub fit_fault : PortFaultsAreTold → (s : Schema) (text : List ℕ) (source : Source) (f : VerilogFault) → IsSource text source → Err f ≡ fit_at source s → IsModuleFaultOrMemory s text f
+fit_fault told s text source f is e = port_fault s text f (told text source s f is (sym e))
 
 -- by a call whose fault is handed on
 pub handed : {A : Type 0} (P : VerilogFault → Type 0) (r : Result A VerilogFault) (f : VerilogFault) → IsErrAnd r (λ g. g ≡ f) → P f → IfErr r P

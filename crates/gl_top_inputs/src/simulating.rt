@@ -17,6 +17,7 @@ use gl_tuple_reader::read_tuples;
 use gl_tuples::Beats;
 use gl_verilog::Module;
 use gl_verilog_fit::fit;
+use gl_verilog_fit::laws::port_faults_are_told;
 use gl_verilog_ports::Ports;
 use gl_verilog_reader::read_source;
 use gl_verilog_tokens::VerilogFault;
@@ -47,6 +48,7 @@ fn fitted_of(alloc: Global, schema: &Schema, text: &[u8]) -> Result<Fitted, Veri
     ensures fitted { IfOk result (IsFittedText schema.now text.now) }
     ensures fault { IfErr result (IsModuleFaultOrMemory schema.now text.now) }
 {
+    port_faults_are_told();
     let source = read_source(alloc, text)?;
     let ports = fit(&source, schema)?;
     Ok(Fitted {

@@ -19,8 +19,8 @@ use Rattle.gl_wire.specs.Wire.{carried, line_at, row_at, stream, tuple_at, wire_
 use Rattle.gl_wire.proofs.ColumnLemmas.{buses_kept}
 use Rattle.gl_wire.proofs.StageLemmas.{line_first, tuple_by}
 use Rattle.gl_wire_lanes.specs.Lanes.{rows_now, single}
+use Rattle.gl_wire_lanes.specs.Laws.{OneIsSingle}
 use Rattle.gl_wire_lanes.proofs.ShareLemmas.{stream_single}
-use Rattle.gl_wire_lanes.proofs.SingleLemmas.{one_is_single}
 use Rattle.gl_divide.specs.Divider.{IsLineBehind}
 use Rattle.gl_rows.specs.declared.operand.Source.{Source}
 use Rattle.gl_totals.specs.Costs.{cost_of_aggs}
@@ -71,12 +71,12 @@ line_within kinds (agg ∷ aggs) f =
     let parts : m * suc (length aggs) ≡ m * length aggs + m = omega arith in
     omega (arith, spread m f (agg ∷ aggs), parts)
 
-pub totals_behind : (old mid new : Net) (a : Emitted) (aggs : List PlanAgg) (source : Source) (outs : List Bus) (end : Bit) → source.columns.now ≡ a.wire.columns
+pub totals_behind : OneIsSingle → (old mid new : Net) (a : Emitted) (aggs : List PlanAgg) (source : Source) (outs : List Bus) (end : Bit) → source.columns.now ≡ a.wire.columns
     → AreAggsOf old mid (delay_of_aggs source.kinds.now aggs) (record { rows = in_register a.wire.valid a.wire.eos; source = source }) aggs outs
     → IsBitBehind mid new (delay_of_aggs source.kinds.now aggs) a.wire.eos end
     → IsBehind old new (AtEnds (delay_of_aggs source.kinds.now aggs) (total_row source.kinds.now aggs)) (total_widths source.kinds.now aggs)
     (cost_of_aggs source.kinds.now aggs) a (record { wire = wire_of end end outs; faults = a.faults })
-totals_behind old mid new a aggs source outs end is_columns all line =
+totals_behind one_is_single old mid new a aggs source outs end is_columns all line =
     let kinds = source.kinds.now in
     let m = delay_of_aggs kinds aggs in
     record {

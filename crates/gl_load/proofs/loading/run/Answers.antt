@@ -14,7 +14,7 @@ use Rattle.gl_load.proofs.Running.{ran_load, where_ended}
 use Rattle.gl_load.proofs.loading.run.Goals as goal
 
 pub run_compiled-outcome-requires-clause-compiled : goal.run_compiled-outcome-requires-clause-compiled
-run_compiled-outcome-requires-clause-compiled c = runnable schema_text query_text c.args.compiled.now c.requires.compiled.made
+run_compiled-outcome-requires-clause-compiled c = runnable c.accepted_have_real_columns.ensures schema_text query_text c.args.compiled.now c.requires.compiled.made
 
 pub run_compiled-outcome-requires-clause-beats : goal.run_compiled-outcome-requires-clause-beats
 run_compiled-outcome-requires-clause-beats c = subst (λ (s : Schema). AreBeats s (plain_beats c.args.beats.now)) (sym c.requires.compiled.schema) c.requires.beats

@@ -2,6 +2,7 @@ use Rattle.std.proofs.Common.{◌≡◌, List, ap, subst, ◌∙◌}
 use Rattle.gl_query.specs.Laws.{AcceptedHaveRealColumns}
 use Rattle.gl_elaborate.specs.Laws.{PlansAreRight, PlansTellTime, SeveralAreRight}
 use Rattle.gl_plan.specs.Together.{statements_of}
+use Rattle.gl_testbench.proofs.OverflowRuns.{RunLaws}
 use Rattle.gl_wiring.specs.Many.{AreWired}
 use Rattle.gl_wiring.specs.declared.many.Root.{Root}
 use Rattle.gl_many.specs.Roots.{roots_of}
@@ -29,5 +30,11 @@ returns c =
     let p = c.args.planned.now in
     let net = c.in_ok-net.net in
     let roots : c.deref-3.result.now ≡ roots_of schema ss p.roots.items = c.deref-3.ensures.value ∙ c.in_ok-roots.ensures ∙ ap (roots_of schema ss) c.deref.ensures.value in
-    text_meets (laws c.accepted_have_real_columns.ensures c.plans_are_right.ensures c.several_are_right.ensures c.plans_tell_time.ensures) schema ss p c.requires.can c.requires.planned c.args.alloc net c.in_ok-made.made
+    let runs : RunLaws = record {
+      event_runs_are_runs = c.event_runs_are_runs.ensures.runs;
+      inputs_are_ports = c.inputs_are_ports.ensures;
+      runs_are_causal = c.runs_are_causal.ensures;
+      valid_modules_run = c.valid_modules_run.ensures;
+    } in
+    text_meets (laws c.accepted_have_real_columns.ensures c.plans_are_right.ensures c.several_are_right.ensures c.plans_tell_time.ensures) schema ss p c.requires.can c.requires.planned runs c.args.alloc net c.in_ok-made.made
     (subst (λ (rs : List Root). AreWired schema p.plan rs net) roots c.in_ok-net.ensures) c.in_ok-made.ensures

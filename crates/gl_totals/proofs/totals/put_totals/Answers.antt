@@ -14,6 +14,6 @@ returns c =
     let wire = c.args.below.wire in
     let source : Source = record { columns = c.as_slice.result; kinds = c.args.kinds } in
     let s : Stream = record { rows = in_register wire.valid wire.eos; source = source } in
-    totals_behind c.args.net.now mid new c.args.below c.args.aggs.now source c.in_ok-columns.columns c.in_ok-end.end c.as_slice.ensures
+    totals_behind c.one_is_single.ensures c.args.net.now mid new c.args.below c.args.aggs.now source c.in_ok-columns.columns c.in_ok-end.end c.as_slice.ensures
     (subst (λ (m : ℕ). AreAggsOf c.args.net.now mid m s c.args.aggs.now c.in_ok-columns.columns) c.delay_of_aggs-cycles.ensures c.in_ok-columns.ensures)
     (subst (λ (m : ℕ). IsBitBehind mid new m wire.eos c.in_ok-end.end) c.delay_of_aggs-cycles.ensures c.in_ok-end.ensures)

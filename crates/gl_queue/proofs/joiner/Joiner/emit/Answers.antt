@@ -39,5 +39,5 @@ returns c =
     subst (λ (n : ℕ). IsPad c.pad.new.net c.pad-2.new.net n b.wire second) c.wait_of-wait-2.ensures c.in_ok-second.ensures in
     let sides : AreSides c.pad-2.new.net c.put_sides.new.net (is_fixed p && is_fixed q) first second out =
     subst (λ (x : Bool). AreSides c.pad-2.new.net c.put_sides.new.net x first second out) c.both_fixed-in_step.ensures c.in_ok-wire.ensures in
-    joiner_of c.args.net.now c.pad.new.net c.pad-2.new.net c.put_sides.new.net c.both_faults.new.net p q a b first second out c.in_ok-faults.faults c.requires.sound_left c.requires.sound_right pad_a pad_b sides
+    joiner_of c.joiner_serves.ensures c.followers_keep_pace.ensures c.args.net.now c.pad.new.net c.pad-2.new.net c.put_sides.new.net c.both_faults.new.net p q a b first second out c.in_ok-faults.faults c.requires.sound_left c.requires.sound_right pad_a pad_b sides
     c.in_ok-faults.ensures

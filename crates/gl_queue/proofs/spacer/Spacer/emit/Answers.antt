@@ -10,5 +10,5 @@ pub returns : goal.returns
 returns c =
     let f = c.args.self.now.source in
     let small : f.ne + 1 ≤ 2 ^ 32 = omega arith in
-    spacer_of c.args.net.now c.put_spaced.new.net c.either_line.new.net c.args.self.now.gap f c.args.below c.in_ok-spaced.spaced c.in_ok-passed.passed c.requires.sound c.requires.gap small c.requires.lines
+    spacer_of c.spacer_serves.ensures c.spacer_spaces.ensures c.args.net.now c.put_spaced.new.net c.either_line.new.net c.args.self.now.gap f c.args.below c.in_ok-spaced.spaced c.in_ok-passed.passed c.requires.sound c.requires.gap small c.requires.lines
     c.in_ok-spaced.ensures c.in_ok-passed.ensures

@@ -39,5 +39,5 @@ returns c =
     subst (λ (n : ℕ). IsPad c.pad.new.net c.pad-2.new.net n b.wire second) c.wait_of-wait-2.ensures c.in_ok-second.ensures in
     let small_p : p.ne ≤ 2 ^ 32 = omega arith in
     let small_q : q.ne ≤ 2 ^ 32 = omega arith in
-    union_of c.args.net.now c.pad.new.net c.pad-2.new.net c.put_merged.new.net c.both_faults.new.net c.either_line.new.net p q a b first second c.in_ok-merged.merged c.in_ok-sides.sides c.in_ok-passed.passed
+    union_of c.union_serves.ensures c.args.net.now c.pad.new.net c.pad-2.new.net c.put_merged.new.net c.both_faults.new.net c.either_line.new.net p q a b first second c.in_ok-merged.merged c.in_ok-sides.sides c.in_ok-passed.passed
     c.requires.sound_left c.requires.sound_right small_p small_q c.requires.widths pad_a pad_b c.in_ok-merged.ensures c.in_ok-sides.ensures c.in_ok-passed.ensures
