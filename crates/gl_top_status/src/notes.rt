@@ -1,6 +1,6 @@
 //! The line that tells why the program ends as it does. Words of no form have two.
 
-ghost use Rattle.std.specs.Prelude.{decimal};
+ghost use Rattle.std.specs.Prelude.{◌≡◌, decimal};
 ghost use Rattle.gl_outside.specs.States.{Wrote};
 ghost use Rattle.gl_top_forms.specs.Forms as forms;
 ghost use Rattle.gl_top_forms.specs.Wrong.{wrong_line};
