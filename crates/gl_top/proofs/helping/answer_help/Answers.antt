@@ -1,4 +1,4 @@
-use Rattle.std.proofs.Common.{◌≡◌, ◌∙◌, ℕ, List, Option, ap, inl, refl, sym, subst}
+use Rattle.std.proofs.Common.{◌∙◌, ap, inl, refl, sym, subst}
 use Rattle.gl_outside.specs.States.{IsCalm, ShelfState}
 use Rattle.gl_outside.proofs.Counting.{calm_none}
 use Rattle.gl_outside.proofs.Takes.{took_none}
