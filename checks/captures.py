@@ -1,6 +1,6 @@
 #!/usr/bin/env python3
 """Captures made byte by byte: what checks/feeds tries tools/pcap with, and the one that the recipes read. Run alone it
-writes that one to examples/feeds/capture.pcap, and with --check compares it.
+writes that one to docs/recipes/capture.pcap, and with --check compares it.
 
     checks/captures.py [--check]
 """
@@ -10,7 +10,7 @@ import sys
 
 from common import HOME
 
-SAMPLE = f'{HOME}/examples/feeds/capture.pcap'
+SAMPLE = f'{HOME}/docs/recipes/capture.pcap'
 NOON = 1_796_040_000  # 2026-11-30T12:00:00Z
 FIN, SYN, RST, PSH, ACK = 1, 2, 4, 8, 16
 TCP, UDP, ICMP, ICMP6 = 6, 17, 1, 58
