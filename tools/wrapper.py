@@ -204,14 +204,14 @@ def layout(columns):
 
 def heading(plan):
     """What the wrapper does, in comments."""
-    yield f'// {plan.module} behind AXI4-Stream. Beats are {plan.pace} cycles apart; the end goes {plan.rest} behind the last.'
+    yield f'// {plan.module} behind AXI4-Stream: beats are apart by {plan.pace} cycles, the end by {plan.rest}'
     for it in plan.sides:
         yield f'// {it.line}_tdata: {layout(it.columns)}'
     for it in plan.results:
         yield f'// {it.line}_tdata: {layout(it.columns)}'
         yield (
-            f'// {it.line}: {it.depth} places; a beat causes {it.rows} rows at most, within {it.last + 1} cycles, '
-            f'the end {it.end_rows}; {it.kept} places are kept for beats that were taken'
+            f'// {it.line}: {it.depth} places, {it.kept} of them for beats that were taken; '
+            f'at most {it.rows} rows of a beat, in {it.last + 1} cycles, and {it.end_rows} of the end'
         )
 
 
