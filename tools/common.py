@@ -116,6 +116,26 @@ def beats_of(rows):
     return beats, last if end is None else end
 
 
+# ---- texts of queries
+
+
+def statements_of(text):
+    """The statements of a text of queries, without its comments: a `;` within a text literal parts nothing."""
+    statements = ['']
+    for part in re.findall(r"'[^']*'|--[^\n]*|;|[^;'-]+|.", text):
+        if part == ';':
+            statements.append('')
+        elif not part.startswith('--'):
+            statements[-1] += part
+    return [it.strip() for it in statements if it.strip()]
+
+
+def command_of(path, one='compile', several='many'):
+    """The command for a file with one query, or for one with several."""
+    with open(path, encoding='utf8') as file:
+        return several if ';' in re.sub(r"'[^']*'|--[^\n]*", '', file.read()) else one
+
+
 # ---- modules and testbenches
 
 
@@ -124,6 +144,23 @@ def ports_of(text):
     outs = re.findall(r'output wire (?:\[(\d+):0\] )?(out__\w+)', text)
     return re.search(r'module (\w+)', text).group(1), [
         (n, int(w or 0) + 1) for w, n in outs if n not in ('out__valid', 'out__eos')
+    ]
+
+
+def results_of(text):
+    """The results of a module: what stands behind `out__` and `fault__` in the names of a result's lines, nothing for
+    the module of one query, and the columns with their widths."""
+    outs = [(name, int(high or 0) + 1) for high, name in re.findall(r'output wire (?:\[(\d+):0\] )?out__(\w+)', text)]
+    return [
+        (
+            front,
+            [
+                (name[len(front) :], width)
+                for name, width in outs
+                if name.startswith(front) and name[len(front) :] not in ('valid', 'eos')
+            ],
+        )
+        for front in re.findall(r'output wire (?:\[0:0\] )?fault__((?:\w+__)?)group\b', text)
     ]
 
 
