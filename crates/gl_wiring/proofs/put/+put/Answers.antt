@@ -361,6 +361,6 @@ put_copies-loop-wire-init t c = rw c.new-copies.ensures (bodies_none c.args.site
 pub put_copies-loop-wire-preserved : goal.put_copies-loop-wire-preserved
 put_copies-loop-wire-preserved t c =
     let at = slice_get-get_or c.args.wires.now c.loop-wire.wire-index c.wire-item.result c.loop-wire-test.true ∙ ap Some (sym c.wire-item.is) in
-    rw (c.in_ok-push.ensures.ok, c.note-2.ensures) (bodies_more c.args.site.plan.now c.args.body c.args.net.now c.loop-wire.net c.put_root_of.new.net c.args.wires.now
+    rw (c.in_ok-push.ensures.ok, c.note-in-loop-wire.ensures) (bodies_more c.args.site.plan.now c.args.body c.args.net.now c.loop-wire.net c.put_root_of.new.net c.args.wires.now
     c.loop-wire.wire-index c.loop-wire.copies c.wire-item.result c.in_ok-copy.copy c.loop-wire.invariant at
     (rw (c.note.ensures, c.from_ref.ensures.value) at c.in_ok-copy.ensures))
