@@ -6,7 +6,7 @@ use Rattle.std.proofs.lemmas.List.Sums.{sum_by-cons}
 use Rattle.gl_net.specs.declared.node.Port.{Port}
 use Rattle.gl_net.specs.Net.{Net}
 use Rattle.gl_net.specs.Finished.{IsName, IsNetlist}
-use Rattle.gl_verilog_writer.specs.Size.{port_bytes, most_bytes}
+use Rattle.gl_verilog_writer.specs.Size.{port_bytes, most_bytes, HasRoom}
 
 ports-most : (qs : List Port) → ((k : ℕ) (q : Port) → slice_get qs k ≡ Some q → length q.name ≤ 128) → sum_by port_bytes qs ≤ 376 * length qs
 ports-most [] h = omega arith
@@ -24,9 +24,9 @@ nodes-most : (n : ℕ) → n ≤ 297000 → (t : Bool) → nat_le n 65536 ≡ t 
 nodes-most n h true e = let l = leb-true n 65536 e in omega (arith, l)
 nodes-most n h false e = omega (arith, h)
 
-pub text-has-room : (net : Net) → IsNetlist net → length net.nodes ≤ 297000 → length net.ports ≤ 3900 → most_bytes net ≤ 67108864
+pub text_has_room : (net : Net) → IsNetlist net → HasRoom net
 unfolding most_bytes
-text-has-room net h nodes ports =
+text_has_room net h nodes ports =
     let n = nodes-most (length net.nodes) nodes (nat_le (length net.nodes) 65536) refl in
     let p = ports-most net.ports (λ k q e. (h.finished.port_names k q e).short) in
     let m = name-most net.name h.finished.module_name in

@@ -1,5 +1,5 @@
 -- How long the text of a netlist may be.
-use Rattle.std.specs.Prelude.{ℕ, ◌+◌, ◌*◌, [], length, unwrap_or, nat_le, if◌then◌else◌}
+use Rattle.std.specs.Prelude.{ℕ, ◌+◌, ◌*◌, ◌≤◌, [], length, unwrap_or, nat_le, if◌then◌else◌}
 use Rattle.std.specs.List.{sum_by}
 use Rattle.gl_net.specs.declared.node.Port.{Port}
 use Rattle.gl_net.specs.Net.{Net}
@@ -26,3 +26,7 @@ unfoldable pub most_bytes : Net → ℕ
 most_bytes net =
     node_bytes (length net.nodes) * length net.nodes + sum_by port_bytes net.ports + length (unwrap_or net.name [])
     + header_bytes + frame_bytes
+
+-- the text of a netlist of at most 297,000 nodes and 3,900 ports has room in 64 MiB
+abbrev pub HasRoom : Net → Type 0
+HasRoom net = length net.nodes ≤ 297000 → length net.ports ≤ 3900 → most_bytes net ≤ 67108864

@@ -8,7 +8,7 @@ ghost use Rattle.gl_verilog_writer.specs.Meaning.{IsTextOf};
 ghost use Rattle.gl_verilog_writer.specs.Printed.{direction_text, port_text};
 ghost use Rattle.gl_verilog_writer.specs.Texts.{next_port_text, next_ports_text, PutsHead, declarations_text, nodes_text, shown_text, shows_text, body_text, scheme_in};
 ghost use Rattle.gl_verilog_writer.specs.Meaning.{HasHeader};
-ghost use Rattle.gl_verilog_writer.specs.Size.{most_bytes};
+ghost use Rattle.gl_verilog_writer.specs.Size.{most_bytes, HasRoom};
 ghost use Rattle.gl_verilog_writer.specs.Design.{leads, clock_port, text_by, module_text};
 
 use crate::comments::{put_header, put_title};
@@ -205,6 +205,7 @@ pub fn write_module(net: &Netlist, labels: &Labels, into: &mut Vec<u8>) -> Resul
     ensures starts { HasHeader labels.now (module_text labels.now net.now) }
     ensures few { OnOk result ((length net.now.nodes < 2 ^ 32) × (length net.now.ports < 2 ^ 32)) }
     ensures length { OnOk result (length (module_text labels.now net.now) ≤ most_bytes net.now) }
+    ensures room { HasRoom net.now }
     ensures nothing { OnErr result (into.new.items ≡ into.old.items) }
 {
     let mut text = Vec::new(*into.allocator());
