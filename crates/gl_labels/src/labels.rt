@@ -4,7 +4,7 @@ use crate::columns::ColumnNames;
 use crate::head::head_of;
 use crate::kinds::name_rest;
 use crate::naming::{Naming, heading_of};
-use crate::scopes::{PORTS, Scopes};
+use crate::scopes::Scopes;
 use crate::subject::Subject;
 use crate::telling::take_note;
 use gl_bits::Memory;

@@ -6,6 +6,16 @@ use gl_algebra::{Operand, Plan, PlanNode};
 use gl_bits::Memory;
 use std::alloc::Global;
 
+// Of two nodes side by side the one that a column is of, and its place there.
+fn beside(table: &Table, left: usize, right: usize, column: usize) -> (usize, usize) {
+    let first = table.count(left);
+    if column < first {
+        (left, column)
+    } else {
+        (right, column - first)
+    }
+}
+
 // The node below, and the place there, of a node's column, where it is that column as it stands.
 fn column_below(table: &Table, node: &PlanNode, column: usize) -> Option<(usize, usize)> {
     match node {
@@ -19,12 +29,7 @@ fn column_below(table: &Table, node: &PlanNode, column: usize) -> Option<(usize,
         },
         PlanNode::Union { left, .. } => Some((left.number(), column)),
         PlanNode::Beside { left, right } => {
-            let first = table.count(left.number());
-            if column < first {
-                Some((left.number(), column))
-            } else {
-                Some((right.number(), column - first))
-            }
+            Some(beside(table, left.number(), right.number(), column))
         }
         PlanNode::Window { body, .. } | PlanNode::TimeWindow { body, .. } => {
             Some((body.number(), column))
