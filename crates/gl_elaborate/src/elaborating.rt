@@ -27,24 +27,30 @@ use gl_query_check::Checked;
 use gl_schema::Columns;
 use std::alloc::Global;
 
+// How windows are cut: each has so many rows or ticks, and one begins at each `advance`.
+#[derive(Clone, Copy)]
+struct Cut {
+    size: u128,
+    advance: u128,
+}
+
 // Adds the windows of a source.
 fn put_window(
     plan: &mut Plan,
     measure: Measure,
     source: PlanId,
     body: PlanId,
-    size: u128,
-    advance: u128,
+    cut: Cut,
 ) -> Result<PlanId, Memory>
-    requires most_size { size ≤ 65536 }
-    requires most_advance { advance ≤ 65536 }
-    requires fits { FitsNext plan.old (window_node measure source body size advance) }
-    ensures added { IfOk result (λ id.
-        placed_at plan.new id ≡ added plan.old (window_node measure source body size advance)) }
+    requires most_size { cut.size ≤ 65536 }
+    requires most_advance { cut.advance ≤ 65536 }
+    requires fits { FitsNext plan.old (window_node measure source body cut.size cut.advance) }
+    ensures added { let node = window_node measure source body cut.size cut.advance in
+        IfOk result (λ id. placed_at plan.new id ≡ added plan.old node) }
     ensures keeps { Keeps plan.old plan.new }
 {
-    let size = size as u32;
-    let advance = advance as u32;
+    let size = cut.size as u32;
+    let advance = cut.advance as u32;
     match measure {
         Measure::Tuples => put(
             plan,
@@ -102,23 +108,22 @@ fn put_partition(
     body: PlanId,
     key: usize,
     groups: u128,
-    size: u128,
-    advance: u128,
+    cut: Cut,
 ) -> Result<PlanId, Memory>
     requires most_key { key ≤ 255 }
     requires most_groups { groups ≤ 256 }
-    requires most_size { size ≤ 65536 }
-    requires most_advance { advance ≤ 65536 }
-    requires fits { FitsNext plan.old (node.Partition source body key groups size advance) }
-    ensures added { IfOk result (λ id.
-        placed_at plan.new id
-        ≡ added plan.old (node.Partition source body key groups size advance)) }
+    requires most_size { cut.size ≤ 65536 }
+    requires most_advance { cut.advance ≤ 65536 }
+    requires fits { FitsNext plan.old
+        (node.Partition source body key groups cut.size cut.advance) }
+    ensures added { let partition = node.Partition source body key groups cut.size cut.advance in
+        IfOk result (λ id. placed_at plan.new id ≡ added plan.old partition) }
     ensures keeps { Keeps plan.old plan.new }
 {
     let key = key as u8;
     let groups = groups as u16;
-    let size = size as u32;
-    let advance = advance as u32;
+    let size = cut.size as u32;
+    let advance = cut.advance as u32;
     put(
         plan,
         PlanNode::Partition {
@@ -183,7 +188,11 @@ pub fn query_into(
             let (from, columns) = query_into(alloc, sources, source, plan)?;
             let inside = Sources::Variable(var.text.as_slice(), columns.as_slice());
             let (into, own) = query_into(alloc, inside, body, plan)?;
-            let root = put_window(plan, Measure::Tuples, from, into, size.value, advance.value)?;
+            let cut = Cut {
+                size: size.value,
+                advance: advance.value,
+            };
+            let root = put_window(plan, Measure::Tuples, from, into, cut)?;
             Ok((root, own))
         }
         Query::EachTime {
@@ -197,7 +206,11 @@ pub fn query_into(
             let (from, columns) = query_into(alloc, sources, source, plan)?;
             let inside = Sources::Variable(var.text.as_slice(), columns.as_slice());
             let (into, own) = query_into(alloc, inside, body, plan)?;
-            let root = put_window(plan, Measure::Time, from, into, size.value, advance.value)?;
+            let cut = Cut {
+                size: size.value,
+                advance: advance.value,
+            };
+            let root = put_window(plan, Measure::Time, from, into, cut)?;
             Ok((root, own))
         }
         Query::PerGroup {
@@ -230,15 +243,11 @@ pub fn query_into(
             let inside = Sources::Variable(var.text.as_slice(), columns.as_slice());
             let (into, own) = query_into(alloc, inside, body, plan)?;
             let number = column_number(columns.as_slice(), key.text.as_slice());
-            let root = put_partition(
-                plan,
-                from,
-                into,
-                number,
-                groups.value,
-                size.value,
-                advance.value,
-            )?;
+            let cut = Cut {
+                size: size.value,
+                advance: advance.value,
+            };
+            let root = put_partition(plan, from, into, number, groups.value, cut)?;
             let all = group_columns(alloc, columns.as_slice(), key.text.as_slice(), own)?;
             Ok((root, all))
         }
