@@ -8,9 +8,8 @@ use Rattle.gl_verilog.specs.Module.{Module, Declaration, Kind, Input, OutputWire
 use Rattle.gl_verilog.specs.Run.{Fit}
 use Rattle.gl_verilog.specs.Widths.{is_clock, width_at}
 use Rattle.gl_verilog.specs.Order.{with_net}
-use Rattle.gl_verilog.specs.Runnable.{IsRunnable, is_input, inputs_from, inputs_of, FitInputs, SameInputs, RunsFrom}
+use Rattle.gl_verilog.specs.Runnable.{HasRuns, IsRunnable, is_input, inputs_from, inputs_of, FitInputs, SameInputs, RunsFrom}
 use Rattle.gl_verilog.proofs.Fits.{width_at-found}
-use Rattle.gl_verilog.proofs.Runs.{has_runs}
 use Rattle.gl_verilog.proofs.Settles.{with_net-same, with_net-other}
 use Rattle.gl_verilog_orders.specs.declared.start.Start.{Start}
 use Rattle.gl_verilog_orders.specs.declared.start.Start.TheVariants.{Zero, Drawn}
@@ -104,8 +103,8 @@ none_fits : (ds : List Declaration) (m : Memories) (v : Nets) → Fit ds v m →
 unfolding none
 none_fits ds m v f = λ n d e. (pow_pos d.width, (f n d e).1)
 
-pub a_run_is_there : (m : Module) (start : Start) (rows : ℕ → List ℕ) → IsRunnable m → ((t : ℕ) → FitInputs m (rows t)) → RunsWith start m rows
-a_run_is_there m start rows h fit =
+pub a_run_is_there : ((m : Module) → IsRunnable m → HasRuns m) → (m : Module) (start : Start) (rows : ℕ → List ℕ) → IsRunnable m → ((t : ℕ) → FitInputs m (rows t)) → RunsWith start m rows
+a_run_is_there has_runs m start rows h fit =
     let ds = m.declarations in
     let inputs : ℕ → Nets = λ t. with_inputs (inputs_of m) (rows t) none in
     let run : RunsFrom m (register_at start ds) (word_at start ds) inputs =

@@ -18,6 +18,7 @@ use crate::update::Update;
 use gl_bits::Memory;
 use gl_verilog::{Bank, Module};
 use gl_verilog_orders::Start;
+use gl_verilog_orders::laws::{comes_to_rest, cycles_are_two_phase};
 use std::alloc::Global;
 use std::marker::Model;
 
@@ -95,6 +96,8 @@ impl Sim {
         ensures rests { IsValid (module_of self.old.design)
             → ComesToRest (module_of self.old.design) }
     {
+        comes_to_rest();
+        cycles_are_two_phase();
         set_inputs(
             &self.design,
             &self.ports,

@@ -6,8 +6,6 @@ use Rattle.gl_verilog.specs.Run.{IsRun}
 use Rattle.gl_verilog.specs.Runnable.{SameState, SameNets, HasInputs}
 use Rattle.gl_verilog_orders.specs.Events.{IsCycle, StandsBefore}
 use Rattle.gl_verilog_orders.specs.Laws.{IsTwoPhase}
-use Rattle.gl_verilog_orders.proofs.Cycle.{cycles_are_two_phase}
-use Rattle.gl_verilog_orders.proofs.Rests.{comes_to_rest}
 use Rattle.gl_sim.specs.Simulation.{Simulation, IsAt, Holds}
 use Rattle.gl_sim.proofs.Follows.{IsStepped, IsOneCycle, nets_follow, state_follows}
 use Rattle.gl_sim.proofs.simulator.Sim.step.Goals as goal
@@ -51,7 +49,7 @@ returns c =
           let stands' : StandsBefore m before = subst (λ (s : Simulation). StandsBefore (module_of s.design) before) (sym c.self.view_is) stands in
           let cycle' : IsCycle m c.args.inputs.now before seen after' = subst (λ (s : Simulation). IsCycle (module_of s.design) c.args.inputs.now before seen after') (sym c.self.view_is) cycle in
           let held : SameState m.declarations (nets_of v0) (memories_of bs) before.nets before.words = subst (λ (s : Simulation). Holds s before) (sym c.self.view_is) holds in
-          let is = cycles_are_two_phase m v c.args.inputs.now before seen after' stands' cycle' in
+          let is = c.cycles_are_two_phase.ensures m v c.args.inputs.now before seen after' stands' cycle' in
           let phase : IsTwoPhase m c.args.inputs.now before.nets before.words seen.nets seen.words after'.nets after'.words = is.0 in
           let one : IsOneCycle m seen.nets seen.words after'.nets after'.words = record { settled = phase.settled; registers = phase.registers; memories = phase.memories } in
           let state : SameState m.declarations (nets_of v0) (memories_of bs) seen.nets seen.words = record {
@@ -63,5 +61,5 @@ returns c =
             state_follows m order c.args.inputs.now v0 v1 v2 v3 bs bs' steps seen.nets seen.words after'.nets after'.words one state phase.inputs',
             is.1,
           );
-      rests = λ valid. comes_to_rest _ valid;
+      rests = λ valid. c.comes_to_rest.ensures.continued _ valid;
     }
