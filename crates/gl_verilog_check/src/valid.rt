@@ -12,6 +12,7 @@ ghost use Rattle.gl_verilog_check.specs.Tests.{at_most_two};
 use crate::homes::{homes_of, keep_homes};
 use crate::runnable::parts_run;
 use gl_bits::Memory;
+use gl_verilog::laws::valid_modules_run;
 use gl_verilog::{Assignment, Declaration, Kind, Module, Statement};
 use indexmap::IndexSet;
 use std::alloc::Global;
@@ -204,6 +205,7 @@ fn parts_are_valid(
     ensures all { IfOk result (λ b. AreValid declarations.now assignments.now blocks.now → b
         ≡ true) }
 {
+    valid_modules_run();
     let distinct = are_distinct(alloc, declarations)?;
     if !distinct {
         return Ok(false);

@@ -1,7 +1,6 @@
 use Rattle.std.proofs.Common.{◌∙◌, sym}
 use Rattle.std.specs.Prelude.{map}
 use Rattle.gl_verilog.specs.View.{declaration_of, assignment_of, statement_of}
-use Rattle.gl_verilog.proofs.Acyclic.{runnable}
 use Rattle.gl_verilog_check.specs.Kept.{module_with}
 use Rattle.gl_verilog_check.proofs.Drives.{valid_parts, assigned_parts}
 use Rattle.gl_verilog_check.proofs.Names.{distinct_new}
@@ -12,7 +11,7 @@ returns-then-not-distinct-clause-all c = λ v. sym c.if-not-distinct.true ∙ c.
 
 pub returns-then-not-runs-clause-all : goal.returns-then-not-runs-clause-all
 returns-then-not-runs-clause-all c = λ v.
-    sym c.if-not-runs.true ∙ c.in_ok-runs.ensures.all (runnable (module_with (map declaration_of c.args.declarations.now) (map assignment_of c.args.assignments.now) (map statement_of c.args.blocks.now)) v)
+    sym c.if-not-runs.true ∙ c.in_ok-runs.ensures.all (c.valid_modules_run.ensures (module_with (map declaration_of c.args.declarations.now) (map assignment_of c.args.assignments.now) (map statement_of c.args.blocks.now)) v)
 
 pub returns-clause-yes : goal.returns-clause-yes
 returns-clause-yes c = λ h.
