@@ -8,8 +8,9 @@ use Rattle.gl_query.specs.declared.fault.QueryFault.{QueryFault}
 use Rattle.gl_query.specs.declared.tree.Statement as tree
 use Rattle.gl_query.specs.Shapes.{query_shape, statement_shape}
 use Rattle.gl_query.specs.Trees.{StatementTree, statement_tree}
-use Rattle.gl_query.proofs.Alike.{query_same, statement_same}
+use Rattle.gl_query.proofs.Alike.{query_same}
 use Rattle.gl_query.specs.Alike.{expr_alike, query_alike, statement_alike}
+use Rattle.gl_query.specs.Laws.{TreesAreAlike}
 use Rattle.gl_query.specs.Names.{HasNames}
 use Rattle.gl_query.specs.Sizes.{IsSmall, QueryIsSmall}
 use Rattle.gl_query_tokens.specs.declared.token.Plain.TheVariants as plain
@@ -148,6 +149,6 @@ pub small_statement : (tokens : List Lexeme) (r : Result tree.Statement QueryFau
 small_statement tokens (Err e) h = tt
 small_statement tokens (Ok s) h = subst QueryIsSmall (query_same s.query) (small_of tokens (statement_tree s) h)
 
-pub regular_statement : (text : List ℕ) (r : Result tree.Statement QueryFault) → IfOk r (λ s. HasStatement text (statement_tree s)) → IfOk r (λ s. IsRegular (statement_shape s))
-regular_statement text (Err e) h = tt
-regular_statement text (Ok s) h = subst IsRegular (statement_same s) (regular text (statement_tree s) h)
+pub regular_statement : TreesAreAlike → (text : List ℕ) (r : Result tree.Statement QueryFault) → IfOk r (λ s. HasStatement text (statement_tree s)) → IfOk r (λ s. IsRegular (statement_shape s))
+regular_statement alike text (Err e) h = tt
+regular_statement alike text (Ok s) h = subst IsRegular (alike s) (regular text (statement_tree s) h)

@@ -16,6 +16,7 @@ use crate::meaning::statement_meaning;
 use crate::mixed::mixed_in;
 use crate::parsing::{ReadFault, parsed};
 use crate::written::WrittenStatement;
+use gl_query::laws::trees_are_alike;
 use gl_query::{QueryFault, Statement};
 use gl_query_tokens::{Lexeme, lexemes};
 use std::alloc::Global;
@@ -93,6 +94,7 @@ pub fn read_query(alloc: Global, text: &[u8]) -> Result<Statement, QueryFault>
     ensures mixed_items { (at : ℕ) → IsItemsFault text.now at →
         IsErrOrMemory result (MixedItems at) }
 {
+    trees_are_alike();
     match lexemes(alloc, text) {
         Ok(tokens) => read_lexemes(alloc, tokens, text.len() as u64),
         Err(_) => Err(QueryFault::Memory),

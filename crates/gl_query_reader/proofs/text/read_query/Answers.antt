@@ -8,7 +8,7 @@ use Rattle.gl_query_reader.proofs.text.read_query.Goals as goal
 
 pub returns-in-Ok-clause-regular : goal.returns-in-Ok-clause-regular
 returns-in-Ok-clause-regular c =
-    regular_statement c.args.text.now c.read_lexemes.result
+    regular_statement c.trees_are_alike.ensures c.args.text.now c.read_lexemes.result
     (subst (λ (tokens : List Lexeme). IfOk c.read_lexemes.result (λ s. HaveStatement tokens (statement_tree s))) c.in-Ok.ensures c.read_lexemes.ensures.found)
 
 pub returns-in-Ok-clause-syntax : goal.returns-in-Ok-clause-syntax
