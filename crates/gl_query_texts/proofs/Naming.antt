@@ -7,9 +7,9 @@ use Rattle.gl_query.specs.declared.tree.Statement.{Statement}
 use Rattle.gl_query.specs.declared.fault.QueryFault.{QueryFault}
 use Rattle.gl_query.specs.Checked.{IsChecked}
 use Rattle.gl_query.specs.Faults.{first_fault}
+use Rattle.gl_query.specs.Laws.{FirstFaultsAreExact}
 use Rattle.gl_query.specs.Trees.{statement_tree}
 use Rattle.gl_query_check.specs.declared.checking.Checked.{Checked}
-use Rattle.gl_query.proofs.FirstFaults.{exact}
 use Rattle.gl_query_check.proofs.Accepting.{accepted_none}
 use Rattle.gl_query_reader.specs.Grammar.{HaveStatement}
 use Rattle.gl_query_texts.specs.Pieces.{Piece}
@@ -27,14 +27,14 @@ read_is schema p s c h same over is = record {
   over = record { over = over; checked = is };
 }
 
-none_first : (schema : Schema) (p : Piece) (c : Checked) → IsSchema schema → IsRead schema p c → first_fault schema (tree_of c) ≡ None
-none_first schema p c fine h = accepted_none exact schema c.statement fine (rw h.over.over at h.over.checked.accepted)
+none_first : FirstFaultsAreExact → (schema : Schema) (p : Piece) (c : Checked) → IsSchema schema → IsRead schema p c → first_fault schema (tree_of c) ≡ None
+none_first exact schema p c fine h = accepted_none exact schema c.statement fine (rw h.over.over at h.over.checked.accepted)
 
-pub named_is : (schema : Schema) (names : List (List ℕ)) (p : Piece) (c : Checked) (r : Result Checked QueryFault) → IsSchema schema → IsRead schema p c → IsNamed names c r → IfOk r (λ d. IsPiece schema names p (tree_of d))
-named_is schema names p c (Err f) fine h n = tt
-named_is schema names p c (Ok d) fine h n =
-    subst (λ (x : Checked). IsPiece schema names p (tree_of x)) (sym n.0) (record { has = h.has; first = rw (none_first schema p c fine h) n.1 })
+pub named_is : FirstFaultsAreExact → (schema : Schema) (names : List (List ℕ)) (p : Piece) (c : Checked) (r : Result Checked QueryFault) → IsSchema schema → IsRead schema p c → IsNamed names c r → IfOk r (λ d. IsPiece schema names p (tree_of d))
+named_is exact schema names p c (Err f) fine h n = tt
+named_is exact schema names p c (Ok d) fine h n =
+    subst (λ (x : Checked). IsPiece schema names p (tree_of x)) (sym n.0) (record { has = h.has; first = rw (none_first exact schema p c fine h) n.1 })
 
-pub named_fault : (schema : Schema) (names : List (List ℕ)) (p : Piece) (c : Checked) (r : Result Checked QueryFault) → IsSchema schema → IsRead schema p c → IsNamed names c r → IfErr r (IsPieceFaultOrMemory schema names p)
-named_fault schema names p c (Ok d) fine h n = tt
-named_fault schema names p c (Err f) fine h n = inl (inr (record { statement = tree_of c; has = h.has; first = rw (none_first schema p c fine h) n }))
+pub named_fault : FirstFaultsAreExact → (schema : Schema) (names : List (List ℕ)) (p : Piece) (c : Checked) (r : Result Checked QueryFault) → IsSchema schema → IsRead schema p c → IsNamed names c r → IfErr r (IsPieceFaultOrMemory schema names p)
+named_fault exact schema names p c (Ok d) fine h n = tt
+named_fault exact schema names p c (Err f) fine h n = inl (inr (record { statement = tree_of c; has = h.has; first = rw (none_first exact schema p c fine h) n }))

@@ -9,6 +9,7 @@ ghost use Rattle.gl_query_texts.specs.Reading.{IsNamed, IsPieceFaultOrMemory, na
 
 use crate::pieces::Piece;
 use gl_bits::limits::MOST_STATEMENTS;
+use gl_query::laws::first_faults_are_exact;
 use gl_query::{Name, QueryFault};
 use gl_query_check::{Checked, check};
 use gl_query_reader::read_lexemes;
@@ -67,6 +68,7 @@ pub fn judge_piece(
     ensures fault { IfErr result (IsPieceFaultOrMemory schema.now (names_before before.now)
         (pieces.piece piece.tokens.items piece.end)) }
 {
+    first_faults_are_exact();
     match read_lexemes(alloc, piece.tokens, piece.end) {
         Ok(statement) => match check(alloc, schema, statement) {
             Ok(checked) => named(before, checked),
