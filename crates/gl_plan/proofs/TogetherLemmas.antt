@@ -7,9 +7,8 @@ use Rattle.gl_query.specs.Checked.{IsChecked}
 use Rattle.gl_query_check.specs.declared.checking.Checked.{Checked}
 use Rattle.gl_algebra.specs.declared.node.PlanNode.{PlanNode}
 use Rattle.gl_algebra.specs.Added.{placed_at}
-use Rattle.gl_elaborate.specs.Laws.{IsRightAt}
+use Rattle.gl_elaborate.specs.Laws.{IsRightAt, SeveralAreRight}
 use Rattle.gl_elaborate.specs.Plans.{Several}
-use Rattle.gl_elaborate.proofs.SeveralLemmas.{several-right}
 use Rattle.gl_plan.proofs.LimitLemmas.{one_limit}
 use Rattle.gl_figures.specs.declared.Limit.{Limit}
 use Rattle.gl_figures.specs.declared.Limit.TheVariants.{Latency, Nodes}
@@ -46,9 +45,9 @@ each-checked schema (c ∷ all) over =
     (subst (λ (s : Schema). IsChecked s c.statement) over.0.same over.0.is, each-checked schema all over.1)
 
 -- the root of each statement is a node of their joint plan
-pub roots-within : (schema : Schema) (all : List Checked) → AllByRecursion (IsCheckedOver schema) all
+pub roots-within : SeveralAreRight → (schema : Schema) (all : List Checked) → AllByRecursion (IsCheckedOver schema) all
     → (nodes : List PlanNode) (roots : List ℕ) → nodes ≡ (plans_over [] schema all).nodes → roots ≡ (plans_over [] schema all).roots
     → AllByRecursion (λ root. root < length nodes) roots
-roots-within schema all over nodes roots p q =
+roots-within several-right schema all over nodes roots p q =
     let right = several-right schema (statements_of all) (each-checked schema all over) in
     rw (p, q) (roots-in _ schema (statements_of all) _ right.each)

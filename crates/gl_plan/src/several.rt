@@ -14,6 +14,7 @@ use crate::weights::{weight_limit, weights_of};
 use gl_algebra::{Figures, Plan, PlanId};
 use gl_bits::Memory as NoMemory;
 use gl_elaborate::elaborating::elaborate_into;
+use gl_elaborate::laws::several_are_right;
 use gl_figures::{Limit, figures, places};
 use gl_query_check::Checked;
 use gl_schema::Schema;
@@ -69,6 +70,7 @@ fn elaborated(
         several_at r.0 r.1.items ≡ plans_over [] schema.now statements.now) }
     ensures within { IfOk result (λ r. AllByRecursion (λ root. root < length r.0) r.1.items) }
 {
+    several_are_right();
     let mut plan = Plan::new(alloc);
     let mut roots = Vec::new(alloc);
     put_statements(alloc, schema, statements, &mut plan, &mut roots)?;

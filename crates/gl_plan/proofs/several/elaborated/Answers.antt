@@ -10,5 +10,5 @@ returns-clause-within c =
     let put = c.in_ok-put_statements.ensures in
     let none = c.new-plan.ensures in
     let empty = c.new-roots.ensures.items in
-    roots-within schema statements c.requires _ _ (put.nodes ∙ (λ i. (plans_over (none i) schema statements).nodes))
+    roots-within c.several_are_right.ensures schema statements c.requires _ _ (put.nodes ∙ (λ i. (plans_over (none i) schema statements).nodes))
     (put.roots ∙ (λ i. empty i ++ (plans_over (none i) schema statements).roots))
