@@ -18,9 +18,8 @@ use Rattle.gl_query.specs.Shapes.{QueryShape, query_shape}
 use Rattle.gl_query.specs.Columns.{Pace, pace_of}
 use Rattle.gl_query.specs.Accepted.{IsAcceptedOver, KeepPace, Scope, body_scope, schema_scope}
 use Rattle.gl_query.specs.Results.{Env, IsResultIn, columns_in, env_of, numbered, only, streams_of}
-use Rattle.gl_query.specs.Laws.{HoldsIn, scope_of}
+use Rattle.gl_query.specs.Laws.{HoldsIn, ResultsFit, scope_of}
 use Rattle.gl_query.proofs.Existing.{IsPaced, paced, one_pace}
-use Rattle.gl_query.proofs.Fitting.{fitting}
 use Rattle.gl_query.proofs.Real.{IsScope, body_is, real, schema_is}
 use Rattle.gl_reference.specs.Fits.{AreRows, AreSources, IsBody, IsFit}
 use Rattle.gl_reference.specs.Sources.{given_inputs}
@@ -32,9 +31,9 @@ scope_is : (env : Env) (timed : Bool) → AreSources env → IsScope (scope_of e
 scope_is env timed s = record { columns = s.columns; kinds = s.kinds }
 
 -- the columns of an accepted query are real, and the rows of its results fit them
-pub rows_fit : (env : Env) (timed : Bool) (q : QueryShape) (out : List Row) (spill : Bool) → AreSources env → IsAcceptedOver (scope_of env timed) q → IsResultIn q env out spill
+pub rows_fit : ResultsFit → (env : Env) (timed : Bool) (q : QueryShape) (out : List Row) (spill : Bool) → AreSources env → IsAcceptedOver (scope_of env timed) q → IsResultIn q env out spill
     → AreRows (columns_in env q) out
-rows_fit env timed q out spill s a is = record { kinds = (real q (scope_of env timed) (scope_is env timed s) a).kinds; fit = fitting q env timed out spill a s.rows is }
+rows_fit fitting env timed q out spill s a is = record { kinds = (real q (scope_of env timed) (scope_is env timed s) a).kinds; fit = fitting q env timed out spill a s.rows is }
 
 -- a body over the columns of an accepted query
 pub body_fits : (env : Env) (timed : Bool) (var : List ℕ) (source body : QueryShape) → AreSources env → IsAcceptedOver (scope_of env timed) source

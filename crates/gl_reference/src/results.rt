@@ -22,6 +22,7 @@ use crate::windows::{clock_of, slices_in, time_windows_of};
 use gl_bits::lists::{groups_of, some_further};
 use gl_bits::{Group, Listed, Memory, Table};
 use gl_query::kinds::column_number;
+use gl_query::laws::results_fit;
 use gl_query::{Query, Statement};
 use gl_schema::{Column, Schema, Stream};
 use std::alloc::Global;
@@ -98,6 +99,7 @@ pub fn result_of(alloc: Global, sources: &[Source<'_>], query: &Query) -> Result
         → IsAcceptedOver (scope_of (env_view sources.now) timed) (query_shape query.now)
         → IsOrMemory result }
 {
+    results_fit();
     match query {
         Query::Read(name) => read(alloc, sources, name),
         Query::Rows {

@@ -218,7 +218,7 @@ result_of-returns-in_err-inside-in-Each-clause-fits t c = λ timed s a.
     let parts : map (λ (s : Bor (List Row)). s.now) c.as_slice-in-Each-4.result.now ≡ slices c.in-Each.size.value c.in-Each.advance.value from.rows =
     ap (map (λ (s : Bor (List Row)). s.now)) c.as_slice-in-Each-4.ensures.value ∙ c.in_ok-slices-in-Each.ensures.value
     ∙ ap (slices c.in-Each.size.value c.in-Each.advance.value) c.as_slice-in-Each.ensures in
-    let want = each_passes Tuples env timed c.in-Each.var.text (query_shape c.in-Each.source.value) c.in-Each.size.value c.in-Each.advance.value (query_shape c.in-Each.body.value) from.rows from.spill _ _ _ _ _ s whole is (ap query_shape c.deref-in-Each-3.ensures) c.as_slice-in-Each-2.ensures columns parts c.in_err-inside-in-Each.ensures.fits in
+    let want = each_passes c.results_fit.ensures Tuples env timed c.in-Each.var.text (query_shape c.in-Each.source.value) c.in-Each.size.value c.in-Each.advance.value (query_shape c.in-Each.body.value) from.rows from.spill _ _ _ _ _ s whole is (ap query_shape c.deref-in-Each-3.ensures) c.as_slice-in-Each-2.ensures columns parts c.in_err-inside-in-Each.ensures.fits in
     passes _ c.from_residual-in_err-inside-in-Each.ensures.1 (λ y e. e ∙ want)
 
 pub result_of-returns-in_err-inside-in-PerGroup-clause-fits : goal.result_of-returns-in_err-inside-in-PerGroup-clause-fits
@@ -233,7 +233,7 @@ result_of-returns-in_err-inside-in-PerGroup-clause-fits t c = λ timed s a.
     c.as_slice-in-PerGroup-5.ensures ∙ c.in_ok-columns-in-PerGroup.ensures ∙ ap (λ (q : Query). columns_in env (query_shape q)) c.deref-in-PerGroup-2.ensures in
     let parts : c.as_slice-in-PerGroup-6.result.now ≡ keyed_groups most column from.rows =
     c.as_slice-in-PerGroup-6.ensures ∙ c.in_ok-parts-in-PerGroup.ensures ∙ ap (keyed_groups most column) c.as_slice-in-PerGroup-3.ensures in
-    let want = groups_pass env timed c.in-PerGroup.var.text (query_shape c.in-PerGroup.source.value) c.in-PerGroup.key.text c.in-PerGroup.groups.value (query_shape c.in-PerGroup.body.value) from.rows from.spill _ _ _ most column _ _ s whole is (ap query_shape c.deref-in-PerGroup-3.ensures) c.as_slice-in-PerGroup-4.ensures columns parts c.in_err-inside-in-PerGroup.ensures.fits in
+    let want = groups_pass c.results_fit.ensures env timed c.in-PerGroup.var.text (query_shape c.in-PerGroup.source.value) c.in-PerGroup.key.text c.in-PerGroup.groups.value (query_shape c.in-PerGroup.body.value) from.rows from.spill _ _ _ most column _ _ s whole is (ap query_shape c.deref-in-PerGroup-3.ensures) c.as_slice-in-PerGroup-4.ensures columns parts c.in_err-inside-in-PerGroup.ensures.fits in
     passes _ c.from_residual-in_err-inside-in-PerGroup.ensures.1 (λ y e. e ∙ want)
 
 pub result_of-returns-in_ok-from-in-Rows-clause-fits : goal.result_of-returns-in_ok-from-in-Rows-clause-fits
@@ -243,7 +243,7 @@ result_of-returns-in_ok-from-in-Rows-clause-fits t c = λ timed s a.
     let whole = subst (Accepted c.args.sources.now timed) c.in-Rows.is a in
     let is = subst (Gives c.args.sources.now from) c.deref.ensures c.in_ok-from-in-Rows.ensures.value in
     let pass = subst (λ (q : Query). IsRows (columns_in env (query_shape q)) (pick_shape c.in-Rows.pick) (option_map expr_shape c.in-Rows.filter) → AreRows (columns_in env (query_shape q)) from.rows → IsOrMemory c.rows_from.result) c.deref-in-Rows.ensures c.rows_from.ensures.fits in
-    pass whole.1 (rows_fit env timed (query_shape c.in-Rows.source.value) from.rows from.spill s whole.0 is)
+    pass whole.1 (rows_fit c.results_fit.ensures env timed (query_shape c.in-Rows.source.value) from.rows from.spill s whole.0 is)
 
 pub result_of-returns-in_ok-from-in-Total-clause-fits : goal.result_of-returns-in_ok-from-in-Total-clause-fits
 result_of-returns-in_ok-from-in-Total-clause-fits t c = λ timed s a.
@@ -253,7 +253,7 @@ result_of-returns-in_ok-from-in-Total-clause-fits t c = λ timed s a.
     let is = subst (Gives c.args.sources.now from) c.deref-in-Total.ensures c.in_ok-from-in-Total.ensures.value in
     let pass = subst (λ (q : Query). AreAggs (columns_in env (query_shape q)) (map agg_item_shape c.as_slice.result.now) → AreRows (columns_in env (query_shape q)) from.rows → IsOrMemory c.total_from.result) c.deref-in-Total-2.ensures c.total_from.ensures.fits in
     let aggs = subst (λ (l : List AggItem). AreAggs (columns_in env (query_shape c.in-Total.source.value)) (map agg_item_shape l)) (sym c.as_slice.ensures) whole.1.typed in
-    pass aggs (rows_fit env timed (query_shape c.in-Total.source.value) from.rows from.spill s whole.0 is)
+    pass aggs (rows_fit c.results_fit.ensures env timed (query_shape c.in-Total.source.value) from.rows from.spill s whole.0 is)
 
 pub result_of-returns-in_ok-second-in-Concat-clause-fits : goal.result_of-returns-in_ok-second-in-Concat-clause-fits
 result_of-returns-in_ok-second-in-Concat-clause-fits t c = λ timed s a.
@@ -304,7 +304,7 @@ result_of-returns-in_err-inside-in-EachTime-clause-fits t c = λ timed s a.
     ap (map (λ (s : Bor (List Row)). s.now)) c.as_slice-in-EachTime-4.ensures.value ∙ c.in_ok-parts-in-EachTime.ensures ∙ c.as_slice-in-EachTime.ensures ∙ c.in_ok-tables-in-EachTime.ensures.value
     ∙ (λ i. tslices c.in-EachTime.size.value c.in-EachTime.advance.value ((c.clock_of-clock.ensures.times ∙ ap (λ (q : Query). times_in env (query_shape q)) c.deref-in-EachTime-3.ensures) i)
     ((c.clock_of-clock.ensures.ticks ∙ ap (λ (q : Query). ticks_in env (query_shape q)) c.deref-in-EachTime-3.ensures) i) (c.as_slice-rows.ensures i)) in
-    let want = each_passes Time env timed c.in-EachTime.var.text (query_shape c.in-EachTime.source.value) c.in-EachTime.size.value c.in-EachTime.advance.value (query_shape c.in-EachTime.body.value) from.rows from.spill _ _ _ _ _ s whole is (ap query_shape c.deref-in-EachTime-4.ensures) c.as_slice-in-EachTime-2.ensures columns parts c.in_err-inside-in-EachTime.ensures.fits in
+    let want = each_passes c.results_fit.ensures Time env timed c.in-EachTime.var.text (query_shape c.in-EachTime.source.value) c.in-EachTime.size.value c.in-EachTime.advance.value (query_shape c.in-EachTime.body.value) from.rows from.spill _ _ _ _ _ s whole is (ap query_shape c.deref-in-EachTime-4.ensures) c.as_slice-in-EachTime-2.ensures columns parts c.in_err-inside-in-EachTime.ensures.fits in
     passes _ c.from_residual-in_err-inside-in-EachTime.ensures.1 (λ y e. e ∙ want)
 
 pub result_of-returns-in_ok-further-in-Partition-clause-value : goal.result_of-returns-in_ok-further-in-Partition-clause-value
@@ -349,7 +349,7 @@ result_of-returns-in_err-inside-in-Partition-clause-fits t c = λ timed s a.
     c.as_slice-in-Partition-5.ensures ∙ c.in_ok-columns-in-Partition.ensures ∙ ap (λ (q : Query). columns_in env (query_shape q)) c.deref-in-Partition-2.ensures in
     let parts : c.as_slice-in-Partition-6.result.now ≡ table_parts most column c.in-Partition.size.value c.in-Partition.advance.value from.rows =
     c.as_slice-in-Partition-6.ensures ∙ c.in_ok-parts-in-Partition.ensures.value ∙ ap (table_parts most column c.in-Partition.size.value c.in-Partition.advance.value) c.as_slice-in-Partition-3.ensures in
-    let want = partitions_pass env timed c.in-Partition.var.text (query_shape c.in-Partition.source.value) c.in-Partition.key.text c.in-Partition.groups.value c.in-Partition.size.value c.in-Partition.advance.value (query_shape c.in-Partition.body.value) from.rows from.spill _ _ _ most column _ _ s whole is (ap query_shape c.deref-in-Partition-3.ensures) c.as_slice-in-Partition-4.ensures columns parts c.in_err-inside-in-Partition.ensures.fits in
+    let want = partitions_pass c.results_fit.ensures env timed c.in-Partition.var.text (query_shape c.in-Partition.source.value) c.in-Partition.key.text c.in-Partition.groups.value c.in-Partition.size.value c.in-Partition.advance.value (query_shape c.in-Partition.body.value) from.rows from.spill _ _ _ most column _ _ s whole is (ap query_shape c.deref-in-Partition-3.ensures) c.as_slice-in-Partition-4.ensures columns parts c.in_err-inside-in-Partition.ensures.fits in
     passes _ c.from_residual-in_err-inside-in-Partition.ensures.1 (λ y e. e ∙ want)
 
 pub result_of-returns-in_err-parts-in-Partition-clause-fits : goal.result_of-returns-in_err-parts-in-Partition-clause-fits
