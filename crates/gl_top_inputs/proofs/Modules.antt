@@ -132,25 +132,25 @@ port_module s text at is = record { written = is.written; spelled = is.spelled; 
 -- a module that does not fit is another
 port_goes : (s : Schema) (text : List ℕ) (m : Module) (ports : Ports) (at : ℕ) → HasModule text m → fit_of m s ≡ Ok ports → IsPortFault text s at → ⊥
 port_goes s text m ports at has fits is =
-    let same : m ≡ is.design = only_module text m is.design has (port_module s text at is) in
+    let same : m ≡ is.design = only_module one_only text m is.design has (port_module s text at is) in
     let e : ◌≡◌ {A = Result Ports Misfit} (Ok ports) (Err is.misfit) = sym fits ∙ ap (λ (x : Module). fit_of x s) same ∙ is.is in
     cc
 
 pub module_goes : (s : Schema) (text : List ℕ) (m : Module) (ports : Ports) (f : VerilogFault) → HasModule text m → fit_of m s ≡ Ok ports → IsModuleFault s text f → ⊥
 module_goes s text m ports verilog.Memory has fits is = is
 module_goes s text m ports (verilog.BadPort at) has fits is = port_goes s text m ports at has fits is
-module_goes s text m ports (verilog.Syntax at) has fits is = let e : verilog.Syntax at ≡ verilog.Memory = only_memory text m (verilog.Syntax at) has is in cc
-module_goes s text m ports (verilog.Undeclared at) has fits is = let e : verilog.Undeclared at ≡ verilog.Memory = only_memory text m (verilog.Undeclared at) has is in cc
-module_goes s text m ports (verilog.TwiceDeclared at) has fits is = let e : verilog.TwiceDeclared at ≡ verilog.Memory = only_memory text m (verilog.TwiceDeclared at) has is in cc
-module_goes s text m ports (verilog.TwiceDriven at) has fits is = let e : verilog.TwiceDriven at ≡ verilog.Memory = only_memory text m (verilog.TwiceDriven at) has is in cc
-module_goes s text m ports (verilog.NeverDriven at) has fits is = let e : verilog.NeverDriven at ≡ verilog.Memory = only_memory text m (verilog.NeverDriven at) has is in cc
-module_goes s text m ports (verilog.WidthsDiffer at) has fits is = let e : verilog.WidthsDiffer at ≡ verilog.Memory = only_memory text m (verilog.WidthsDiffer at) has is in cc
-module_goes s text m ports (verilog.Loop at) has fits is = let e : verilog.Loop at ≡ verilog.Memory = only_memory text m (verilog.Loop at) has is in cc
-module_goes s text m ports (verilog.BadMemory at) has fits is = let e : verilog.BadMemory at ≡ verilog.Memory = only_memory text m (verilog.BadMemory at) has is in cc
-module_goes s text m ports (verilog.ClockRead at) has fits is = let e : verilog.ClockRead at ≡ verilog.Memory = only_memory text m (verilog.ClockRead at) has is in cc
-module_goes s text m ports (verilog.TooWide at) has fits is = let e : verilog.TooWide at ≡ verilog.Memory = only_memory text m (verilog.TooWide at) has is in cc
-module_goes s text m ports (verilog.BadTarget at) has fits is = let e : verilog.BadTarget at ≡ verilog.Memory = only_memory text m (verilog.BadTarget at) has is in cc
-module_goes s text m ports (verilog.TooDeep at) has fits is = let e : verilog.TooDeep at ≡ verilog.Memory = only_memory text m (verilog.TooDeep at) has is in cc
+module_goes s text m ports (verilog.Syntax at) has fits is = let e : verilog.Syntax at ≡ verilog.Memory = only_memory one_only text m (verilog.Syntax at) has is in cc
+module_goes s text m ports (verilog.Undeclared at) has fits is = let e : verilog.Undeclared at ≡ verilog.Memory = only_memory one_only text m (verilog.Undeclared at) has is in cc
+module_goes s text m ports (verilog.TwiceDeclared at) has fits is = let e : verilog.TwiceDeclared at ≡ verilog.Memory = only_memory one_only text m (verilog.TwiceDeclared at) has is in cc
+module_goes s text m ports (verilog.TwiceDriven at) has fits is = let e : verilog.TwiceDriven at ≡ verilog.Memory = only_memory one_only text m (verilog.TwiceDriven at) has is in cc
+module_goes s text m ports (verilog.NeverDriven at) has fits is = let e : verilog.NeverDriven at ≡ verilog.Memory = only_memory one_only text m (verilog.NeverDriven at) has is in cc
+module_goes s text m ports (verilog.WidthsDiffer at) has fits is = let e : verilog.WidthsDiffer at ≡ verilog.Memory = only_memory one_only text m (verilog.WidthsDiffer at) has is in cc
+module_goes s text m ports (verilog.Loop at) has fits is = let e : verilog.Loop at ≡ verilog.Memory = only_memory one_only text m (verilog.Loop at) has is in cc
+module_goes s text m ports (verilog.BadMemory at) has fits is = let e : verilog.BadMemory at ≡ verilog.Memory = only_memory one_only text m (verilog.BadMemory at) has is in cc
+module_goes s text m ports (verilog.ClockRead at) has fits is = let e : verilog.ClockRead at ≡ verilog.Memory = only_memory one_only text m (verilog.ClockRead at) has is in cc
+module_goes s text m ports (verilog.TooWide at) has fits is = let e : verilog.TooWide at ≡ verilog.Memory = only_memory one_only text m (verilog.TooWide at) has is in cc
+module_goes s text m ports (verilog.BadTarget at) has fits is = let e : verilog.BadTarget at ≡ verilog.Memory = only_memory one_only text m (verilog.BadTarget at) has is in cc
+module_goes s text m ports (verilog.TooDeep at) has fits is = let e : verilog.TooDeep at ≡ verilog.Memory = only_memory one_only text m (verilog.TooDeep at) has is in cc
 
 -- ---- one fault
 
@@ -186,7 +186,7 @@ found s text (verilog.BadTarget at) is = ByText (Breaks BadTarget at) is refl
 one_port : (s : Schema) (text : List ℕ) (p q : ℕ) → IsPortFault text s p → IsPortFault text s q → p ≡ q
 one_port s text p q a b =
     let w : a.written ≡ b.written = one_spelt a.written b.written a.grammar b.grammar (sym a.spelled ∙ b.spelled) in
-    let m : a.design ≡ b.design = only_module text a.design b.design (port_module s text p a) (port_module s text q b) in
+    let m : a.design ≡ b.design = only_module one_only text a.design b.design (port_module s text p a) (port_module s text q b) in
     let errs : ◌≡◌ {A = Result Ports Misfit} (Err a.misfit) (Err b.misfit) = sym a.is ∙ ap (λ (x : Module). fit_of x s) m ∙ b.is in
     let misfit : a.misfit ≡ b.misfit = cc in
     let tokens : ◌≡◌ {A = Option ℕ} (Some a.token) (Some b.token) = sym a.shows ∙ ap (λ (x : WrittenModule). misfit_token x a.misfit) w ∙ ap (misfit_token b.written) misfit ∙ b.shows in

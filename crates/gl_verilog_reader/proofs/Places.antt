@@ -17,7 +17,6 @@ use Rattle.gl_verilog_tokens.specs.declared.fault.VerilogFault.TheVariants as fa
 use Rattle.gl_verilog_tokens.specs.View.{tokens_in}
 use Rattle.gl_verilog_tokens.specs.Placed.{places_in, ArePlaces}
 use Rattle.gl_verilog_grammar.specs.Answers.{place_in, IsSyntaxAt, IsDeepAt, IsFaultOf}
-use Rattle.gl_verilog_grammar.proofs.Verdicts.{one_only}
 use Rattle.gl_verilog_elaborator.specs.Meant.{IsMeant}
 use Rattle.gl_verilog_reader.specs.declared.source.Source.{Source}
 use Rattle.gl_verilog_reader.specs.Reading.{fault_as, ByRules, IsFaultIn, Shows}
@@ -129,27 +128,30 @@ by_rule Says BadTarget at h = h
 
 -- ---- one of a module and a fault
 
-no_fault : (text : List ℕ) (m : spec.Module) (v : Verdict) → IsVerdict text (IsModule m) → IsVerdict text v → IsModule m ≡ v
-no_fault text m v h k = one_only text (IsModule m) v h k
+abbrev pub OneVerdict : Type 0
+OneVerdict = (text : List ℕ) (v w : Verdict) → IsVerdict text v → IsVerdict text w → v ≡ w
 
-pub only_memory : (text : List ℕ) (m : spec.Module) (f : VerilogFault) → HasModule text m → IsFaultIn text f → f ≡ fault.Memory
-only_memory text m fault.Memory h k = refl
-only_memory text m (fault.BadPort at) h k = absurd k
-only_memory text m (fault.Syntax at) h k = absurd (let e : IsModule m ≡ IsSyntax at = no_fault text m (IsSyntax at) h k in cc)
-only_memory text m (fault.TooDeep at) h k = absurd (let e : IsModule m ≡ IsTooDeep at = no_fault text m (IsTooDeep at) h k in cc)
-only_memory text m (fault.Undeclared at) h k = absurd (let e : IsModule m ≡ Breaks Undeclared at = no_fault text m (Breaks Undeclared at) h k in cc)
-only_memory text m (fault.TwiceDeclared at) h k = absurd (let e : IsModule m ≡ Breaks TwiceDeclared at = no_fault text m (Breaks TwiceDeclared at) h k in cc)
-only_memory text m (fault.TwiceDriven at) h k = absurd (let e : IsModule m ≡ Breaks TwiceDriven at = no_fault text m (Breaks TwiceDriven at) h k in cc)
-only_memory text m (fault.NeverDriven at) h k = absurd (let e : IsModule m ≡ Breaks NeverDriven at = no_fault text m (Breaks NeverDriven at) h k in cc)
-only_memory text m (fault.WidthsDiffer at) h k = absurd (let e : IsModule m ≡ Breaks WidthsDiffer at = no_fault text m (Breaks WidthsDiffer at) h k in cc)
-only_memory text m (fault.Loop at) h k = absurd (let e : IsModule m ≡ Breaks Loop at = no_fault text m (Breaks Loop at) h k in cc)
-only_memory text m (fault.BadMemory at) h k = absurd (let e : IsModule m ≡ Breaks BadMemory at = no_fault text m (Breaks BadMemory at) h k in cc)
-only_memory text m (fault.ClockRead at) h k = absurd (let e : IsModule m ≡ Breaks ClockRead at = no_fault text m (Breaks ClockRead at) h k in cc)
-only_memory text m (fault.TooWide at) h k = absurd (let e : IsModule m ≡ Breaks TooWide at = no_fault text m (Breaks TooWide at) h k in cc)
-only_memory text m (fault.BadTarget at) h k = absurd (let e : IsModule m ≡ Breaks BadTarget at = no_fault text m (Breaks BadTarget at) h k in cc)
+no_fault : OneVerdict → (text : List ℕ) (m : spec.Module) (v : Verdict) → IsVerdict text (IsModule m) → IsVerdict text v → IsModule m ≡ v
+no_fault one text m v h k = one text (IsModule m) v h k
 
-pub only_module : (text : List ℕ) (m n : spec.Module) → HasModule text m → HasModule text n → m ≡ n
-only_module text m n h k = (let e : IsModule m ≡ IsModule n = no_fault text m (IsModule n) h k in cc)
+pub only_memory : OneVerdict → (text : List ℕ) (m : spec.Module) (f : VerilogFault) → HasModule text m → IsFaultIn text f → f ≡ fault.Memory
+only_memory one text m fault.Memory h k = refl
+only_memory one text m (fault.BadPort at) h k = absurd k
+only_memory one text m (fault.Syntax at) h k = absurd (let e : IsModule m ≡ IsSyntax at = no_fault one text m (IsSyntax at) h k in cc)
+only_memory one text m (fault.TooDeep at) h k = absurd (let e : IsModule m ≡ IsTooDeep at = no_fault one text m (IsTooDeep at) h k in cc)
+only_memory one text m (fault.Undeclared at) h k = absurd (let e : IsModule m ≡ Breaks Undeclared at = no_fault one text m (Breaks Undeclared at) h k in cc)
+only_memory one text m (fault.TwiceDeclared at) h k = absurd (let e : IsModule m ≡ Breaks TwiceDeclared at = no_fault one text m (Breaks TwiceDeclared at) h k in cc)
+only_memory one text m (fault.TwiceDriven at) h k = absurd (let e : IsModule m ≡ Breaks TwiceDriven at = no_fault one text m (Breaks TwiceDriven at) h k in cc)
+only_memory one text m (fault.NeverDriven at) h k = absurd (let e : IsModule m ≡ Breaks NeverDriven at = no_fault one text m (Breaks NeverDriven at) h k in cc)
+only_memory one text m (fault.WidthsDiffer at) h k = absurd (let e : IsModule m ≡ Breaks WidthsDiffer at = no_fault one text m (Breaks WidthsDiffer at) h k in cc)
+only_memory one text m (fault.Loop at) h k = absurd (let e : IsModule m ≡ Breaks Loop at = no_fault one text m (Breaks Loop at) h k in cc)
+only_memory one text m (fault.BadMemory at) h k = absurd (let e : IsModule m ≡ Breaks BadMemory at = no_fault one text m (Breaks BadMemory at) h k in cc)
+only_memory one text m (fault.ClockRead at) h k = absurd (let e : IsModule m ≡ Breaks ClockRead at = no_fault one text m (Breaks ClockRead at) h k in cc)
+only_memory one text m (fault.TooWide at) h k = absurd (let e : IsModule m ≡ Breaks TooWide at = no_fault one text m (Breaks TooWide at) h k in cc)
+only_memory one text m (fault.BadTarget at) h k = absurd (let e : IsModule m ≡ Breaks BadTarget at = no_fault one text m (Breaks BadTarget at) h k in cc)
+
+pub only_module : OneVerdict → (text : List ℕ) (m n : spec.Module) → HasModule text m → HasModule text n → m ≡ n
+only_module one text m n h k = (let e : IsModule m ≡ IsModule n = no_fault one text m (IsModule n) h k in cc)
 
 -- ---- a module with its places
 
@@ -184,6 +186,6 @@ pub refused : {A : Type 0} (text : List ℕ) (r : Result A VerilogFault) (x : Ve
 refused text (Ok a) x h f = absurd h
 refused text (Err y) x h f = (let same : y ≡ x = h in subst (IsFaultIn text) (sym same) f)
 
-pub only_refused : {A : Type 0} (Q : spec.Module → A → Type 0) (text : List ℕ) (r : Result A VerilogFault) (x : VerilogFault) → IsErrAnd r (λ y. y ≡ x) → IsFaultIn text x → (m : spec.Module) → HasModule text m → MatchResult r (Q m) (λ e. e ≡ fault.Memory)
-only_refused Q text (Ok a) x h f m has = absurd h
-only_refused Q text (Err y) x h f m has = (let same : y ≡ x = h in same ∙ only_memory text m x has f)
+pub only_refused : {A : Type 0} (Q : spec.Module → A → Type 0) → OneVerdict → (text : List ℕ) (r : Result A VerilogFault) (x : VerilogFault) → IsErrAnd r (λ y. y ≡ x) → IsFaultIn text x → (m : spec.Module) → HasModule text m → MatchResult r (Q m) (λ e. e ≡ fault.Memory)
+only_refused Q one text (Ok a) x h f m has = absurd h
+only_refused Q one text (Err y) x h f m has = (let same : y ≡ x = h in same ∙ only_memory one text m x has f)

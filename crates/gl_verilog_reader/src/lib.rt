@@ -18,6 +18,7 @@ pub mod source;
 use gl_bits::Memory;
 use gl_verilog::Module;
 use gl_verilog_elaborator::{Rule, Stop, elaborate};
+use gl_verilog_grammar::laws::one_verdict;
 use gl_verilog_grammar::read_tokens;
 pub use gl_verilog_tokens::VerilogFault;
 use gl_verilog_tokens::{Lexeme, WrittenModule, lexemes};
@@ -72,6 +73,7 @@ pub fn read_source(alloc: Global, text: &[u8]) -> Result<Source, VerilogFault>
     ensures only { (m : spec.Module) → HasModule text.now m
         → MatchResult result (λ s. meant.module_of s.design ≡ m) (λ e. e ≡ VerilogFault.Memory) }
 {
+    one_verdict();
     let lexemes = lexemes(alloc, text)?;
     let written = read_tokens(alloc, &lexemes, text.len())?;
     let design = judge(alloc, &lexemes, &written)?;
@@ -86,6 +88,7 @@ pub fn read_module(alloc: Global, text: &[u8]) -> Result<Module, VerilogFault>
     ensures only { (m : spec.Module) → HasModule text.now m
         → MatchResult result (λ d. meant.module_of d ≡ m) (λ e. e ≡ VerilogFault.Memory) }
 {
+    one_verdict();
     let source = read_source(alloc, text)?;
     Ok(source.design)
 }

@@ -33,7 +33,7 @@ returns-in_err-design-clause-only c =
     let xs = c.in_ok-lexemes.lexemes.items in
     let w = module_of c.in_ok-written.written in
     let e = c.in_err-design.field-0.0 in
-    only_refused (λ m s. meant.module_of s.design ≡ m) c.args.text.now c.from_residual-in_err-design.result e c.from_residual-in_err-design.ensures.1
+    only_refused (λ m s. meant.module_of s.design ≡ m) c.one_verdict.ensures.only c.args.text.now c.from_residual-in_err-design.result e c.from_residual-in_err-design.ensures.1
     (judged_fault c.args.text.now xs w e c.in_ok-lexemes.ensures.tokens c.in_ok-lexemes.ensures.places
     (subst (λ (l : List Lexeme). IsSpelling (tokens_in l) w) c.deref.ensures.value c.in_ok-written.ensures.answer) (subst (λ (l : List Lexeme). ByRules (Shows (places_in l) w) e) c.deref-2.ensures.value c.in_err-design.ensures))
 
