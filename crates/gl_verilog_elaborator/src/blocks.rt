@@ -8,7 +8,7 @@ ghost use Rattle.gl_verilog_tokens.specs.View.{expr_of, statement_of};
 
 use crate::drivers::{Drivers, leave_list, pass_by};
 use crate::scope::{Scope, further};
-use crate::statements::{Stated, choice, test_typed, update, update_word};
+use crate::statements::{MemoryWord, Stated, choice, test_typed, update, update_word};
 use crate::stop::Stop;
 use gl_verilog::Statement;
 use gl_verilog_tokens::{WrittenExpr, WrittenStatement};
@@ -67,6 +67,13 @@ fn if_made<'a>(
     })
 }
 
+// The two statements of an `if` with an `else`.
+#[derive(Drop)]
+struct Branches<'w, 'a> {
+    yes: &'w WrittenStatement<'a>,
+    no: &'w WrittenStatement<'a>,
+}
+
 // An `if` with an `else`; the `if` is the token k.
 #[cycle(statement)]
 fn if_else_made<'a>(
@@ -75,18 +82,17 @@ fn if_else_made<'a>(
     drivers: &mut Drivers<'a>,
     k: usize,
     test: &WrittenExpr<'a>,
-    yes: &WrittenStatement<'a>,
-    no: &WrittenStatement<'a>,
+    branches: Branches<'_, 'a>,
 ) -> Result<Stated, Stop>
     ensures { Gives (stated_of drivers.new) (judged.judged_in (declarations_of scope.now)
-        (drivers_of drivers.old) k (IfElse (expr_of test.now) (statement_of yes.now)
-        (statement_of no.now))) result }
+        (drivers_of drivers.old) k (IfElse (expr_of test.now)
+        (statement_of branches.entry.yes.now) (statement_of branches.entry.no.now))) result }
 {
     let test = test_typed(alloc, scope, k, test)?;
     let first = further(test.end, 1)?;
-    let yes = statement_made(alloc, scope, drivers, first, yes)?;
+    let yes = statement_made(alloc, scope, drivers, first, branches.yes)?;
     let second = further(yes.end, 1)?;
-    let no = statement_made(alloc, scope, drivers, second, no)?;
+    let no = statement_made(alloc, scope, drivers, second, branches.no)?;
     let statement = choice(alloc, test.expr, yes.statement, no.statement)?;
     Ok(Stated {
         statement,
@@ -115,12 +121,18 @@ pub(crate) fn statement_made<'a>(
             target,
             address,
             value,
-        } => update_word(alloc, scope, drivers, k, *target, address, value),
+        } => {
+            let word = MemoryWord {
+                memory: *target,
+                address,
+            };
+            update_word(alloc, scope, drivers, k, word, value)
+        }
         WrittenStatement::IfThen { test, yes, .. } => {
             if_made(alloc, scope, drivers, k, test, yes)
         }
         WrittenStatement::IfElse { test, yes, no, .. } => {
-            if_else_made(alloc, scope, drivers, k, test, yes, no)
+            if_else_made(alloc, scope, drivers, k, test, Branches { yes, no })
         }
         WrittenStatement::Block(statements) => {
             block_made(alloc, scope, drivers, k, statements.as_slice())

@@ -27,6 +27,15 @@ pub struct Stated {
     pub end: usize,
 }
 
+/// A word of a memory.
+#[derive(Drop)]
+pub(crate) struct MemoryWord<'w, 'a> {
+    /// The name of the memory.
+    pub(crate) memory: Word<'a>,
+    /// The address of the word.
+    pub(crate) address: &'w WrittenExpr<'a>,
+}
+
 // Whether a block can drive it.
 fn is_clocked(kind: Kind) -> bool
     ensures { result ≡ is_clocked_kind (kind_of kind) }
@@ -225,17 +234,16 @@ pub(crate) fn update_word<'a>(
     scope: &Scope,
     drivers: &mut Drivers<'a>,
     k: usize,
-    target: Word<'a>,
-    address: &WrittenExpr<'a>,
+    target: MemoryWord<'_, 'a>,
     value: &WrittenExpr<'a>,
 ) -> Result<Stated, Stop>
     ensures { Gives (stated_of drivers.new) (judged.judged_in (declarations_of scope.now)
-        (drivers_of drivers.old) k (written.UpdateWord (name_of target.entry)
-        (expr_of address.now) (expr_of value.now))) result }
+        (drivers_of drivers.old) k (written.UpdateWord (name_of target.entry.memory)
+        (expr_of target.entry.address.now) (expr_of value.now))) result }
 {
     let first = further(k, 2)?;
-    let address = expr_typed(alloc, scope, first, address)?;
+    let address = expr_typed(alloc, scope, first, target.address)?;
     let second = further(address.end, 2)?;
     let value = expr_typed(alloc, scope, second, value)?;
-    write(scope, drivers, k, target, address, value)
+    write(scope, drivers, k, target.memory, address, value)
 }

@@ -23,7 +23,7 @@ abbrev pub decreases-if_made : goal.decreases-if_made
 decreases-if_made l = parts_of (statement_of l.yes.now) + 1
 
 abbrev pub decreases-if_else_made : goal.decreases-if_else_made
-decreases-if_else_made l = parts_of (statement_of l.yes.now) + parts_of (statement_of l.no.now) + 1
+decreases-if_else_made l = parts_of (statement_of l.branches.yes.now) + parts_of (statement_of l.branches.no.now) + 1
 
 abbrev pub decreases-statement_made : goal.decreases-statement_made
 decreases-statement_made l = parts_of (statement_of l.written.now)
