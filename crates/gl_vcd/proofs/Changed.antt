@@ -3,6 +3,7 @@ use Rattle.std.proofs.Common.{◌≡◌, ℕ, ◌^◌, ◌<◌, ◌≤◌, min, 
 use Rattle.std.specs.Prelude.{◌&&◌, nat_eq, nat_le, nat_lt, if◌then◌else◌}
 use Rattle.std.specs.List.{AllByRecursion}
 use Rattle.std.proofs.lemmas.Bool.{cond-false, cond-true, le-ltb, lt-leb, lt-ltb}
+use Rattle.gl_bits.specs.Limits.{latest_time}
 use Rattle.gl_bits.proofs.Options.{not_some, some_same}
 use Rattle.gl_tuples.specs.Values.{is_number, number_in}
 use Rattle.gl_vcd.specs.declared.fault.VcdFault.TheVariants.{NoValue, Syntax, TimeFalls, TooLate}
@@ -40,7 +41,7 @@ module _ (r : Reading) (at time : ℕ) (digits : List ℕ) (come : r.time ≡ So
       at_number x h ∙ cond-true (nat_le (number_in digits) time) _ _ (le-leb (number_in digits) time (omega (arith, least, le, small)))
 
   above : (x : ℕ) → Some x ≡ read_as digits → time < x → time_next r at digits
-      ≡ (if lacks_value r time then Err (NoValue at) else if nat_lt 67108864 (number_in digits) then Err (TooLate at) else Ok (record r { time = Some (number_in digits) }))
+      ≡ (if lacks_value r time then Err (NoValue at) else if nat_lt latest_time (number_in digits) then Err (TooLate at) else Ok (record r { time = Some (number_in digits) }))
   above x h lt =
       let least = read_is x h in
       at_number x h ∙ cond-false (nat_le (number_in digits) time) _ _ (lt-leb (number_in digits) time (omega (arith, least, lt)))
@@ -48,17 +49,17 @@ module _ (r : Reading) (at time : ℕ) (digits : List ℕ) (come : r.time ≡ So
   pub time_lacks : (x : ℕ) → Some x ≡ read_as digits → time < x → lacks_value r time ≡ true → time_next r at digits ≡ Err (NoValue at)
   time_lacks x h lt lacks = above x h lt ∙ cond-true (lacks_value r time) _ _ lacks
 
-  pub time_late : (x : ℕ) → Some x ≡ read_as digits → time < x → lacks_value r time ≡ false → 67108864 < x → time_next r at digits ≡ Err (TooLate at)
+  pub time_late : (x : ℕ) → Some x ≡ read_as digits → time < x → lacks_value r time ≡ false → latest_time < x → time_next r at digits ≡ Err (TooLate at)
   time_late x h lt lacks late =
       let least = read_is x h in
-      above x h lt ∙ cond-false (lacks_value r time) _ _ lacks ∙ cond-true (nat_lt 67108864 (number_in digits)) _ _ (lt-ltb 67108864 (number_in digits) (omega (arith, least, late)))
+      above x h lt ∙ cond-false (lacks_value r time) _ _ lacks ∙ cond-true (nat_lt latest_time (number_in digits)) _ _ (lt-ltb latest_time (number_in digits) (omega (arith, least, late)))
 
-  pub time_comes : (x : ℕ) → Some x ≡ read_as digits → time < x → lacks_value r time ≡ false → x ≤ 67108864 → time_next r at digits ≡ Ok (record r { time = Some x })
+  pub time_comes : (x : ℕ) → Some x ≡ read_as digits → time < x → lacks_value r time ≡ false → x ≤ latest_time → time_next r at digits ≡ Ok (record r { time = Some x })
   time_comes x h lt lacks early =
       let least = read_is x h in
       let same : number_in digits ≡ x = omega (arith, least, early) in
       above x h lt ∙ cond-false (lacks_value r time) _ _ lacks
-      ∙ cond-false (nat_lt 67108864 (number_in digits)) _ _ (le-ltb 67108864 (number_in digits) (omega (arith, same, early)))
+      ∙ cond-false (nat_lt latest_time (number_in digits)) _ _ (le-ltb latest_time (number_in digits) (omega (arith, same, early)))
       ∙ ap (λ (n : ℕ). Ok (record r { time = Some n })) same
 
 -- ---- what is given does not change while nothing is

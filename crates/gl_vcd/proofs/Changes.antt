@@ -2,6 +2,7 @@
 use Rattle.std.proofs.Common.{◌≡◌, ℕ, zero, suc, ◌+◌, ◌≤◌, Bool, true, false, ◌||◌, List, [], ◌∷◌, ◌++◌, drop, length, map, Option, Some, sym, ap, ◌∙◌, arith, add-one}
 use Rattle.std.specs.Prelude.{slice_get, if◌then◌else◌}
 use Rattle.std.proofs.lemmas.List.{drop_all}
+use Rattle.gl_bits.specs.Limits.{most_ports}
 use Rattle.gl_bits.specs.Words.{Word, widths_of}
 use Rattle.gl_bits.proofs.AllLists.{length_map}
 use Rattle.gl_vcd.specs.Dumped.{Port}
@@ -55,7 +56,7 @@ unfolding cycle
 cycle_is at before row due e = ap (λ (b : Bool). (if b then time_line at else []) ++ changes before 0 row) e
 
 -- a row of these ports is as long as they are many
-pub row_few : (row : List Word) (ports : List Port) → widths_of row ≡ map (λ p. p.width) ports → length ports ≤ 8836 → length row ≤ 8836
+pub row_few : (row : List Word) (ports : List Port) → widths_of row ≡ map (λ p. p.width) ports → length ports ≤ most_ports → length row ≤ most_ports
 row_few row ports same few =
     let long : length row ≡ length ports =
     sym (length_map (λ (w : Word). w.width) row) ∙ ap length same ∙ length_map (λ (p : Port). p.width) ports in

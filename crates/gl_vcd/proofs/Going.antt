@@ -3,6 +3,7 @@ use Rattle.std.proofs.Common.{◌≡◌, ℕ, ◌-◌, ◌^◌, ◌<◌, ◌≤�
 use Rattle.std.specs.Prelude.{◌⊎◌, ◌&&◌, ◌||◌, bytes_eq, codes, is_some, nat_eq, nat_le, nat_lt, slice_get, unwrap_or, if◌then◌else◌}
 use Rattle.std.specs.List.{AllByRecursion}
 use Rattle.std.proofs.lemmas.Bool.{and_right, cond-false, leb-false, lt-leb}
+use Rattle.gl_bits.specs.Limits.{latest_time}
 use Rattle.gl_bits.proofs.AllLists.{all_append}
 use Rattle.gl_tuples.specs.Values.{is_number, number_in}
 use Rattle.gl_vcd.specs.declared.fault.VcdFault.{VcdFault}
@@ -129,7 +130,7 @@ time_step r r' at digits (Some time) among come h =
         | inl q ↦ no_step _ r' q.1
         | inr q ↦ (elim (one_of (lacks_value r time) _ _ r' q.1) [
           | inl s ↦ no_step _ r' s.1
-          | inr s ↦ (elim (one_of (nat_lt 67108864 (number_in digits)) _ _ r' s.1) [
+          | inr s ↦ (elim (one_of (nat_lt latest_time (number_in digits)) _ _ r' s.1) [
             | inl u ↦ no_step _ r' u.1
             | inr u ↦ subst (Follows r) (came _ r' u.1) (timed r (number_in digits) among (let lt = leb-false (number_in digits) time q.0 in omega (arith, now, lt)))
           ])

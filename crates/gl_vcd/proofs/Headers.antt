@@ -3,6 +3,7 @@ use Rattle.std.proofs.Common.{◌≡◌, ℕ, ◌+◌, ◌<◌, ◌≤◌, Bool,
 use Rattle.std.specs.Prelude.{bytes_eq, codes, decimal, if◌then◌else◌}
 use Rattle.std.proofs.lemmas.Bool.{cond-false, cond-true}
 use Rattle.std.proofs.lemmas.List.{drop_all, drop_more, take-map}
+use Rattle.gl_bits.specs.Limits.{most_ports}
 use Rattle.gl_schema.specs.Profile.{clk}
 use Rattle.gl_bits.proofs.Bools.{not_true}
 use Rattle.gl_verilog.specs.View.{declaration_of, module_of}
@@ -62,7 +63,7 @@ left_none ds i le = ap (λ (xs : List Declaration). ports_among (map declaration
 
 -- of few ports the number of the next is small
 pub few_left : (ds : List Declaration) (i number : ℕ) (d : Declaration) → ports_left i ds ≡ port_declared (declaration_of d) ∷ ports_left (i + 1) ds
-    → number + length (ports_left i ds) ≡ length (ports_left 0 ds) → length (ports_left 0 ds) ≤ 8836 → number < 8836
+    → number + length (ports_left i ds) ≡ length (ports_left 0 ds) → length (ports_left 0 ds) ≤ most_ports → number < most_ports
 few_left ds i number d next count few =
     let one : length (ports_left i ds) ≡ 1 + length (ports_left (i + 1) ds) = ap length next ∙ (let e : length (port_declared (declaration_of d) ∷ ports_left (i + 1) ds) ≡ 1 + length (ports_left (i + 1) ds) = omega arith in e) in
     omega (arith, one, count, few)

@@ -4,6 +4,7 @@ use Rattle.std.specs.Prelude.{bytes_eq, codes, decimal, nat_eq, nat_le, nat_lt, 
 use Rattle.std.specs.List.{list_any}
 use Rattle.std.proofs.lemmas.Bool.{cond-false, cond-true, lt-leb, or_parts}
 use Rattle.std.proofs.lemmas.Fmt.{decimal_digit}
+use Rattle.gl_bits.specs.Limits.{latest_time}
 use Rattle.gl_bits.specs.Words.{Word}
 use Rattle.gl_bits.proofs.Bools.{by_cases, not_true}
 use Rattle.gl_schema.specs.SchemaText.{is_blank}
@@ -154,7 +155,7 @@ not_lacking signals time cs are = by (nat_eq time 0)
     by true = ap not (given_all cs (length signals) are)
     by false = refl
 
-later_step : (signals : List Signal) (time next' at : ℕ) (cs : List Change) → AreGiven cs (length signals) → time < next' → next' ≤ 67108864
+later_step : (signals : List Signal) (time next' at : ℕ) (cs : List Change) → AreGiven cs (length signals) → time < next' → next' ≤ latest_time
     → next (changing signals (Some time) cs Changes) (token at (35 ∷ decimal next')) ≡ Ok (changing signals (Some next') cs Changes)
 unfolding next
 later_step signals time next' at cs are above early =
@@ -164,9 +165,9 @@ later_step signals time next' at cs are above early =
     ∙ ap (later_time r at time) (decimal_value next' small)
     ∙ cond-false (nat_le next' time) _ _ (lt-leb next' time above)
     ∙ cond-false (nat_eq time 0 && not (all_given cs (length signals))) _ _ (not_lacking signals time cs are)
-    ∙ cond-false (nat_lt 67108864 next') _ _ (le-ltb 67108864 next' early)
+    ∙ cond-false (nat_lt latest_time next') _ _ (le-ltb latest_time next' early)
 
-read_later : (signals : List Signal) (time next' : ℕ) (cs : List Change) → AreGiven cs (length signals) → time < next' → next' ≤ 67108864
+read_later : (signals : List Signal) (time next' : ℕ) (cs : List Change) → AreGiven cs (length signals) → time < next' → next' ≤ latest_time
     → Reads (changing signals (Some time) cs Changes) (time_line next') (changing signals (Some next') cs Changes)
 read_later signals time next' cs are above early =
     reads_word (changing signals (Some time) cs Changes) (changing signals (Some next') cs Changes) (35 ∷ decimal next') 10 (time_word next' (omega (arith, early))) refl
@@ -184,7 +185,7 @@ record After (r : Reading) (text : List ℕ) (signals : List Signal) (at : ℕ) 
   soon : time < at + 1
   reads' : Reads r text (changing signals (Some time) cs Changes)
 
-read_cycle : (signals : List Signal) (time at : ℕ) (before row : List Word) (cs : List Change) → AllTaken signals 0 row → AreGiven cs (length signals) → time < at → at ≤ 67108864
+read_cycle : (signals : List Signal) (time at : ℕ) (before row : List Word) (cs : List Change) → AllTaken signals 0 row → AreGiven cs (length signals) → time < at → at ≤ latest_time
     → After (changing signals (Some time) cs Changes) (cycle at (Some before) row) signals at (cs ++ changes_in at (Some before) 0 row)
 unfolding cycle
 read_cycle signals time at before row cs all are above early = by_cases (has_new (Some before) 0 row)
@@ -208,7 +209,7 @@ read_cycle signals time at before row cs all are above early = by_cases (has_new
     r : Reading
     r = changing signals (Some time) cs Changes
 
-read_cycles : (signals : List Signal) (time at : ℕ) (before : List Word) (rows : List (List Word)) (cs : List Change) → RowsTaken signals rows → AreGiven cs (length signals) → time < at → at + length rows ≤ 67108864
+read_cycles : (signals : List Signal) (time at : ℕ) (before : List Word) (rows : List (List Word)) (cs : List Change) → RowsTaken signals rows → AreGiven cs (length signals) → time < at → at + length rows ≤ latest_time
     → Reads (changing signals (Some time) cs Changes) (cycles at (Some before) rows) (changing signals (Some (at + length rows)) (cs ++ changes_of at (Some before) rows) Changes)
 read_cycles signals time at before [] cs all are above early =
     reads_to (changing signals (Some time) cs Changes) (changing signals (Some at) cs Changes) _ (time_line at)
@@ -226,7 +227,7 @@ read_cycles signals time at before (row ∷ rows) cs all are above early =
     (read_cycles signals one.time (at + 1) row rows (cs ++ here) all.1 (given_more cs here (length signals) are) one.soon (omega (arith, early))))
 
 -- the first row, and those behind it
-pub read_rows : (signals : List Signal) (row : List Word) (rows : List (List Word)) → AllTaken signals 0 row → RowsTaken signals rows → length row ≡ length signals → length (row ∷ rows) ≤ 67108864
+pub read_rows : (signals : List Signal) (row : List Word) (rows : List (List Word)) → AllTaken signals 0 row → RowsTaken signals rows → length row ≡ length signals → length (row ∷ rows) ≤ latest_time
     → Reads (changing signals None [] Changes) (cycles 0 None (row ∷ rows)) (changing signals (Some (length (row ∷ rows))) (changes_of 0 None (row ∷ rows)) Changes)
 unfolding cycle
 read_rows signals row rows first all long early =

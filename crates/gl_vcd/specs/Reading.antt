@@ -199,7 +199,7 @@ first_time r at digits =
 abbrev pub lacks_value : Reading → ℕ → Bool
 lacks_value r time = nat_eq time 0 && not (all_given r.changes (length r.signals))
 
--- a time above the one before and at most 67,108,864; at time 0 every signal must have got a value
+-- a time above the one before and at most the latest that a dump may have; at time 0 every signal must have got a value
 abbrev pub later_time : Reading → ℕ → ℕ → ℕ → Step
 later_time r at time next =
     if nat_le next time then Err (TimeFalls at)

@@ -1,6 +1,7 @@
 -- What is written of a run is a dump of that run, and shows its lines.
 use Rattle.std.specs.Prelude.{◌≡◌, ℕ, suc, ◌+◌, ◌≤◌, Bool, true, false, not, ◌&&◌, List, [], ◌∷◌, length, map, Option, Some, None, bytes_eq, codes, slice_get, if◌then◌else◌}
 use Rattle.std.specs.List.{AllByRecursion, list_any}
+use Rattle.gl_bits.specs.Limits.{latest_time, most_ports}
 use Rattle.gl_bits.specs.Words.{IsWidth, IsWord, Word, widths_of}
 use Rattle.gl_schema.specs.Ports.{PortValues}
 use Rattle.gl_schema.specs.SchemaText.{is_blank}
@@ -43,11 +44,11 @@ pub record CanDump (name : List ℕ) (ports : List Port) (rows : List (List Word
   pub names : AllByRecursion (λ n. is_named n ≡ true) (names_of ports)
   pub apart : AreApart (names_of ports)
   pub widths : AllByRecursion (λ p. IsWidth p.width) ports
-  pub few : length ports ≤ 8836
+  pub few : length ports ≤ most_ports
   pub shows : show_none (signals_from 0 ports) ≡ false
   pub rows' : AllByRecursion (IsRow ports) rows
   pub some' : 1 ≤ length rows
-  pub short : length rows ≤ 67108864
+  pub short : length rows ≤ latest_time
 
 -- the value of the port of a name in a row
 abbrev pub value_named : List Port → List Word → List ℕ → Option ℕ

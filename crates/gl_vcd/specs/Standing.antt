@@ -3,6 +3,7 @@
 use Rattle.std.specs.Prelude.{◌≡◌, ℕ, ◌^◌, ◌<◌, ◌≤◌, Bool, true, false, List, [], map, Option, Some, None, option_and_then, option_map, Result, Ok, Err, IsOk, length, slice_get, unwrap_or}
 use Rattle.std.specs.List.{AllByRecursion}
 use Rattle.std.specs.Borrow.{Bor}
+use Rattle.gl_bits.specs.Limits.{latest_time}
 use Rattle.gl_bits.specs.Words.{IsWidth, Word}
 use Rattle.gl_vcd.specs.declared.fault.VcdFault.{VcdFault}
 use Rattle.gl_vcd.specs.declared.stop.Stop.{Stop}
@@ -170,7 +171,7 @@ pub record Holds (r : Reading) (c : Changing) : Type 0 where
   pub signals' : r.signals ≡ signals_of c.signals.now
   pub time' : r.time ≡ c.time
   pub early : AllByRecursion (λ x. x.time ≤ now_of r) r.changes
-  pub late : now_of r ≤ 67108864
+  pub late : now_of r ≤ latest_time
   pub values' : (i : ℕ) → i < length c.values.items → bits_in c.values.items i ≡ value_at r.changes i (now_of r)
 
 -- what is held agrees with what was read, and so does what may come next

@@ -27,7 +27,7 @@ pub enum VcdFault {
     /// The signals show no result: its lines are not there, or its columns are too many or too wide.
     #[error("no port at {at}")]
     NoPort { at: u64 },
-    /// A time above 67,108,864.
+    /// A time above `LATEST_TIME`.
     #[error("too late at {at}")]
     TooLate { at: u64 },
 }

@@ -1,6 +1,7 @@
 //! Writing a dump: what stands in front of the first time, and one cycle behind the other.
 
 ghost use Rattle.std.specs.Prelude.{◌≡◌, ◌+◌, ◌<◌, ◌≤◌, ◌++◌, ◌∷◌, [], Some, not, bytes_eq, length, take, drop, map, slice_get, codes, decimal, option_map, IfSome, if◌then◌else◌};
+ghost use Rattle.gl_bits.specs.Limits.{most_ports};
 ghost use Rattle.gl_bits.specs.Words.{widths_of};
 ghost use Rattle.gl_outside.specs.States.{Wrote};
 ghost use Rattle.gl_schema.specs.Profile.{clk};
@@ -17,7 +18,7 @@ use itoa::Buffer;
 // Writes the identifier of a port behind what stands there.
 fn put_code(into: &mut [u8; 1024], at: usize, number: usize) -> usize
     requires room { at ≤ 150 }
-    requires few { number < 8836 }
+    requires few { number < most_ports }
     ensures end { result ≡ at + 2 }
     ensures written { take result into.new ≡ take at into.old ++ spec.code_of number }
 {
@@ -30,7 +31,7 @@ fn put_code(into: &mut [u8; 1024], at: usize, number: usize) -> usize
 
 // Writes what stands in front of the name in a declaration.
 fn declared_into(number: usize, width: u8, into: &mut [u8; 1024]) -> usize
-    requires { number < 8836 }
+    requires { number < most_ports }
     ensures short { result ≤ 160 }
     ensures written { take result into.new
         ≡ codes "$var wire " ++ decimal width ++ 32 ∷ (spec.code_of number ++ 32 ∷ []) }
@@ -59,7 +60,7 @@ fn put_declaration<K: Sink>(
     number: usize,
     port: &Declaration,
 ) -> Result<(), WriteFault>
-    requires { number < 8836 }
+    requires { number < most_ports }
     ensures { let p = spec.port_declared (declaration_of port.now) in
         Wrote (K.state out.old) (K.state out.new) (spec.declaration number p) result }
 {
@@ -78,7 +79,7 @@ pub fn is_dumped(port: &Declaration) -> bool
 
 // Writes the declarations of ports but for the clock.
 fn put_declarations<K: Sink>(out: &mut K, ports: &[Declaration]) -> Result<(), WriteFault>
-    requires { length (ports_among (map declaration_of ports.now)) ≤ 8836 }
+    requires { length (ports_among (map declaration_of ports.now)) ≤ most_ports }
     ensures { let bytes = spec.declarations 0 (ports_among (map declaration_of ports.now)) in
         Wrote (K.state out.old) (K.state out.new) bytes result }
 {
@@ -107,7 +108,7 @@ fn ports_in(module: &Module) -> &[Declaration]
 /// Where the sink fails, a front of these lines was taken.
 pub fn header<K: Sink>(module: &Module, out: &mut K) -> Result<(), WriteFault>
     requires ports { module.now.ports ≤ length module.now.declarations }
-    requires few { length (ports_of (module_of module.now)) ≤ 8836 }
+    requires few { length (ports_of (module_of module.now)) ≤ most_ports }
     ensures { let m = module_of module.now in
         Wrote (K.state out.old) (K.state out.new) (spec.header m.name (ports_of m)) result }
 {
@@ -166,7 +167,7 @@ fn value_into(word: Word, into: &mut [u8; 1024]) -> usize
 
 // Writes the change of a port into a line.
 fn change_into(number: usize, word: Word, into: &mut [u8; 1024]) -> usize
-    requires { number < 8836 }
+    requires { number < most_ports }
     ensures short { result ≤ 160 }
     ensures written { take result into.new ≡ spec.change number word }
 {
@@ -257,7 +258,7 @@ fn put_time<K: Sink>(out: &mut K, at: u64, due: bool) -> Result<(), WriteFault>
 // Writes the change of a port, if it is due.
 #[tactic(auto, using(gl_outside::proofs::Takes::took_none))]
 fn put_change<K: Sink>(out: &mut K, number: usize, word: Word, due: bool) -> Result<(), WriteFault>
-    requires { number < 8836 }
+    requires { number < most_ports }
     ensures { let bytes = if due then spec.change number word else [] in
         Wrote (K.state out.old) (K.state out.new) bytes result }
 {
@@ -271,7 +272,7 @@ fn put_change<K: Sink>(out: &mut K, number: usize, word: Word, due: bool) -> Res
 
 // Writes the changes of a row.
 fn put_changes<K: Sink>(out: &mut K, before: Option<&Row>, row: &Row) -> Result<(), WriteFault>
-    requires { length row.now ≤ 8836 }
+    requires { length row.now ≤ most_ports }
     ensures { let bytes = spec.changes (option_map (λ r. r.now) before.entry) 0 row.now in
         Wrote (K.state out.old) (K.state out.new) bytes result }
 {
@@ -294,7 +295,7 @@ pub fn cycle<K: Sink>(
     now: &Row,
     out: &mut K,
 ) -> Result<(), WriteFault>
-    requires few { length (ports_of (module_of module.now)) ≤ 8836 }
+    requires few { length (ports_of (module_of module.now)) ≤ most_ports }
     requires row { widths_of now.now ≡ map (λ p. p.width) (ports_of (module_of module.now)) }
     requires before { let widths = map (λ p. p.width) (ports_of (module_of module.now)) in
         IfSome before (λ r. widths_of r.now ≡ widths) }
