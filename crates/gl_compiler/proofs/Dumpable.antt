@@ -5,6 +5,7 @@ use Rattle.std.specs.List.{AllByRecursion, list_any}
 use Rattle.gl_bits.proofs.AllLists.{all_mapped, all_weaker, length_map}
 use Rattle.gl_bits.proofs.Bools.{bytes_own, bytes_turned, neither}
 use Rattle.gl_bits.specs.Kinds.{IsKind, width_of}
+use Rattle.gl_bits.specs.Limits.{most_ports}
 use Rattle.gl_bits.specs.Words.{IsWidth}
 use Rattle.gl_schema.specs.declared.schema.Column.{Column}
 use Rattle.gl_schema.specs.declared.schema.Stream.{Stream}
@@ -96,7 +97,7 @@ tick_few : (ticks : Bool) → length (tick_input ticks) ≤ 1
 tick_few true = omega arith
 tick_few false = omega arith
 
-profile_many : (ticks : Bool) (schema : Schema) (columns : List Column) → IsSchema schema → length columns ≤ 32 → length (profile ticks schema columns) ≤ 8836
+profile_many : (ticks : Bool) (schema : Schema) (columns : List Column) → IsSchema schema → length columns ≤ 32 → length (profile ticks schema columns) ≤ most_ports
 profile_many ticks schema columns fine few =
     let tail = output out_eos 1 ∷ output fault_group 1 ∷ output fault_queue 1 ∷ [] in
     omega (

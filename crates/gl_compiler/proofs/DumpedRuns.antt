@@ -1,6 +1,7 @@
 -- The dump of a run of a text that meets a statement is read back as a dump of that run, and shows its lines.
 use Rattle.std.proofs.Common.{◌≡◌, ℕ, ◌+◌, ◌≤◌, true, List, sym, subst, arith, inl, inr, ◌∙◌}
 use Rattle.std.proofs.lemmas.Bool.{cases_lt}
+use Rattle.gl_bits.specs.Limits.{latest_time}
 use Rattle.gl_bits.proofs.Bools.{not_both}
 use Rattle.gl_schema.specs.declared.schema.Schema.{Schema}
 use Rattle.gl_schema.specs.Beats.{Beat, AreBeats, KeepsGap, last_cycle}
@@ -31,7 +32,7 @@ module _ (schema : Schema) (statement : Statement) (latency gap : ℕ) (text : L
   faced m has = subst (λ (x : Module). HasProfile (takes_ticks statement) x schema (result_columns schema statement)) (one_module text meets.design m meets.has has) meets.face
 
   -- up to each cycle that a dump has room for
-  tells_run : (m : Module) (value : ℕ → Nets) (word : ℕ → Memories) (n : ℕ) → HasModule text m → IsEventRun m value word → n + 1 ≤ 67108864
+  tells_run : (m : Module) (value : ℕ → Nets) (word : ℕ → Memories) (n : ℕ) → HasModule text m → IsEventRun m value word → n + 1 ≤ latest_time
       → TellsRun m (port_of m value) n (dump_text m.name (ports_of m) (rows_to (ports_of m) (port_of m value) n))
   tells_run m value word n has run short =
       let bytes = dump_text m.name (ports_of m) (rows_to (ports_of m) (port_of m value) n) in

@@ -6,6 +6,7 @@ use Rattle.std.proofs.lemmas.Bool.{cases_lt}
 use Rattle.std.proofs.lemmas.List.{length_push}
 use Rattle.gl_bits.proofs.AllLists.{all_append, all_at, all_by_place, all_of_mapped, get_below, get_front, get_last}
 use Rattle.gl_bits.proofs.Bools.{bytes_same, bytes_turned, neither, not_both}
+use Rattle.gl_bits.specs.Limits.{latest_time}
 use Rattle.gl_bits.specs.Words.{IsWidth, IsWord, Word, widths_of}
 use Rattle.gl_schema.specs.Ports.{PortValues}
 use Rattle.gl_schema.specs.Profile.{clk}
@@ -151,7 +152,7 @@ module _ (m : Module) (value : ℕ → Nets) where
   all_rows each zero = (each 0, tt)
   all_rows each (suc n) = all_append (IsRow ports) (rows_to ports port n) (row_in ports port (suc n) ∷ []) (all_rows each n) (each (suc n), tt)
 
-  can_dump : (word : ℕ → Memories) → IsDumpable m → AreDistinct m.declarations → ((t : ℕ) → Fit m.declarations (value t) (word t)) → (n : ℕ) → n + 1 ≤ 67108864 → CanDump m.name ports (rows_to ports port n)
+  can_dump : (word : ℕ → Memories) → IsDumpable m → AreDistinct m.declarations → ((t : ℕ) → Fit m.declarations (value t) (word t)) → (n : ℕ) → n + 1 ≤ latest_time → CanDump m.name ports (rows_to ports port n)
   can_dump word is distinct fits n short = record {
     named = is.named;
     names = is.names;
@@ -164,7 +165,7 @@ module _ (m : Module) (value : ℕ → Nets) where
     short = omega (arith, rows_many ports port n, short);
   }
 
-  pub read_rows : (word : ℕ → Memories) → IsDumpable m → AreDistinct m.declarations → ((t : ℕ) → Fit m.declarations (value t) (word t)) → (n : ℕ) → n + 1 ≤ 67108864 → ReadsBack (dump_text m.name ports (rows_to ports port n)) ports (n + 1) (without_clock port)
+  pub read_rows : (word : ℕ → Memories) → IsDumpable m → AreDistinct m.declarations → ((t : ℕ) → Fit m.declarations (value t) (word t)) → (n : ℕ) → n + 1 ≤ latest_time → ReadsBack (dump_text m.name ports (rows_to ports port n)) ports (n + 1) (without_clock port)
   read_rows word is distinct fits n short =
       subst (λ (k : ℕ). ReadsBack (dump_text m.name ports (rows_to ports port n)) ports k (without_clock port)) (rows_many ports port n)
       (reads_back m.name ports (rows_to ports port n) (without_clock port) (can_dump word is distinct fits n short) (run_over n))
@@ -186,7 +187,7 @@ module _ (m : Module) (value : ℕ → Nets) where
       }
 
   -- the dump of a run to a cycle is a dump of that run
-  pub read_back : (text : List ℕ) (word : ℕ → Memories) → HasModule text m → IsDumpable m → IsEventRun m value word → (n : ℕ) → n + 1 ≤ 67108864
+  pub read_back : (text : List ℕ) (word : ℕ → Memories) → HasModule text m → IsDumpable m → IsEventRun m value word → (n : ℕ) → n + 1 ≤ latest_time
       → IsDumped (dump_text m.name ports (rows_to ports port n)) ports (n + 1) port
   read_back text word has is run n short =
       with_clock (dump_text m.name ports (rows_to ports port n)) (n + 1) (read_rows word is has.valid.names (is_run m has.valid value word run).fits n short).dumped

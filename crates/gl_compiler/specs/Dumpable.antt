@@ -2,6 +2,7 @@
 use Rattle.std.specs.Prelude.{◌≡◌, ◌≤◌, ◌+◌, ℕ, true, false, List, length, map}
 use Rattle.std.specs.List.{AllByRecursion}
 use Rattle.gl_bits.specs.declared.kind.Kind.TheVariants.{Unsigned}
+use Rattle.gl_bits.specs.Limits.{latest_time, most_ports}
 use Rattle.gl_bits.specs.Words.{IsWidth}
 use Rattle.gl_schema.specs.declared.schema.Schema.{Schema}
 use Rattle.gl_schema.specs.Beats.{Beat, AreBeats, KeepsGap, last_cycle}
@@ -26,7 +27,7 @@ pub record IsDumpable (m : Module) : Type 0 where
   pub names : AllByRecursion (λ n. is_named n ≡ true) (names_of (ports_of m))
   pub apart : AreApart (names_of (ports_of m))
   pub widths : AllByRecursion (λ p. IsWidth p.width) (ports_of m)
-  pub few : length (ports_of m) ≤ 8836
+  pub few : length (ports_of m) ≤ most_ports
   pub shows : show_none (signals_from 0 (ports_of m)) ≡ false
 
 -- the text is a dump of the module's ports in a run, in the file cycles up to one, and shows the lines of the run up to
@@ -39,7 +40,7 @@ pub record TellsRun (m : Module) (port : PortValues) (n : ℕ) (text : List ℕ)
 -- where the times up to the end have room in a dump, what is dumped of a run of the text up to its end tells that run
 abbrev pub DumpTells : ℕ → Schema → List Beat → Start → List ℕ → Type 0
 DumpTells latency schema beats start text =
-    last_cycle beats + latency + 1 ≤ 67108864
+    last_cycle beats + latency + 1 ≤ latest_time
     → OfEachPorts text schema beats start
     (λ m port. (bytes : List ℕ) (dump : IsDumpOf m beats port bytes) → TellsRun m port dump.ended bytes)
 
