@@ -28,7 +28,7 @@ fn print_told(
     text: &str,
 ) -> io::Result<()> {
     match kind {
-        "schema" | "tuples" | "gap" | "line" => texts::print_text(rt, kind, text),
+        "schema" | "tuples" | "behind" | "gap" | "line" => texts::print_text(rt, kind, text),
         "word" | "kind" | "name" => words::print_single(rt, kind, text),
         "total" | "weigh" | "windows" | "groups" => totals::print_listed(rt, kind, text),
         "words" | "endless" => shelves::print_alone(rt, kind, text),

@@ -2,7 +2,8 @@
 //!
 //! A row `schema TEXT` prints the streams of a schema or its fault, a row `tuples TEXT` the beats of a
 //! tuple file or its fault, a row `gap NUMBER TEXT` whether its beats keep a gap, and a row `line
-//! NUMBER NUMBER` the line of a result.
+//! NUMBER NUMBER` the line of a result. A row `behind NUMBER TEXT` has so many records with a tick in
+//! front of the text, one in each cycle, and prints how many beats the file has, or its fault.
 
 ghost use Rattle.std.specs.Prelude.{◌≡◌, [], ◌∷◌, IfOk, IfSome};
 ghost use Rattle.gl_bits.specs.Words.{widths_of};
@@ -12,7 +13,7 @@ use gl_bits::{Kind, Memory, Row, Word};
 use gl_schema::{Schema, read_schema};
 use gl_tuple_reader::read_tuples;
 use gl_tuples::{BeatView, Beats, TupleFault, line_into};
-use std::alloc::Global;
+use std::alloc::{AllocError, Global};
 use std::io;
 
 // The schema of the tuple files.
@@ -123,18 +124,42 @@ fn print_line(rt: &HostRuntime, text: u128, number: u128) -> io::Result<()> {
     print!(rt; "{}", str::from_utf8(&line[..len]).unwrap_or("?"))
 }
 
+// A tuple file of so many ticks, one in each cycle, with this text behind them.
+fn behind_ticks(alloc: Global, ticks: u64, text: &[u8]) -> Result<Vec<u8>, AllocError> {
+    let mut file = Vec::new(alloc);
+    for cycle in 0..ticks {
+        let tick = format!(in alloc; "{cycle},tick\n")?;
+        file.extend_from_slice(tick.as_bytes())?;
+    }
+    file.extend_from_slice(text)?;
+    Ok(file)
+}
+
+// Prints how many beats such a file has, or its fault.
+fn print_behind(rt: &HostRuntime, ticks: u64, text: &[u8]) -> io::Result<()> {
+    let Ok(file) = behind_ticks(rt.alloc(), ticks, text) else {
+        return println!(rt; "out of memory");
+    };
+    match beats_of(rt.alloc(), file.as_slice()) {
+        Ok(beats) => println!(rt; "{} beats", beats.len()),
+        Err(fault) => println!(rt; "{fault}"),
+    }
+}
+
 /// Prints what such a row comes to.
 pub(crate) fn print_text(rt: &HostRuntime, kind: &str, text: &str) -> io::Result<()> {
     let (number, rest) = number_before(text);
     if kind == "line" {
         return print_line(rt, number.into(), number_before(rest).0.into());
     }
-    let Ok(bytes) = bytes_of(rt.alloc(), if kind == "gap" { rest } else { text }) else {
+    let own = matches!(kind, "gap" | "behind");
+    let Ok(bytes) = bytes_of(rt.alloc(), if own { rest } else { text }) else {
         return println!(rt; "out of memory");
     };
     match kind {
         "schema" => print_schema(rt, bytes.as_slice()),
         "tuples" => print_tuples(rt, bytes.as_slice()),
+        "behind" => print_behind(rt, number, bytes.as_slice()),
         _ => print_gap(
             rt,
             u32::try_from(number).unwrap_or(u32::MAX),
