@@ -26,7 +26,7 @@ def program_of(asked):
     """The program's path. Nothing is built here: a first ./glacier proves for a while."""
     path = os.path.abspath(asked.program)
     if not os.access(path, os.X_OK):
-        sys.exit(f'no program at {path}: ./glacier builds it, proved, or name one by --program')
+        sys.exit(f'no program at {path}: ./glacier builds it, proved, or name one by --program, as ./try')
     return path
 
 
