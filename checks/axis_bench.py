@@ -1,14 +1,12 @@
 """The random half of checks/axis: a testbench that drives a wrapper of tools/axis at random, and what it logs beside
 what `run` writes."""
-import os
 import re
 import subprocess
 import sys
 import tempfile
 
-from common import HOME, ended, schema_of, verilated, width_of
+from common import ended, schema_of, verilated, width_of
 
-AXIS = os.path.join(HOME, 'tools', 'axis')
 BUSY = '''task choose;
 begin
 now = $urandom % 5; valid_in = now == 0 ? 16 : now == 1 ? 128 : now == 2 ? 240 : 256;

@@ -14,9 +14,9 @@ Side = collections.namedtuple('Side', 'line stream columns')
 # places of its FIFO, and how many of them are kept for rows of beats that were let in.
 Result = collections.namedtuple('Result', 'line front columns rows end_rows last depth kept')
 
-# A module behind its wrapper: its name, the sides, whether it has ticks, the cycles between two beats and those between
-# the last of them and the end, and the results.
-Plan = collections.namedtuple('Plan', 'module sides ticks pace rest results')
+# A module behind its wrapper: its name, the sides, whether it has ticks, its gap, the cycles between two beats and those
+# between the last of them and the end, and the results.
+Plan = collections.namedtuple('Plan', 'module sides ticks gap pace rest results')
 
 
 def bytes_of(columns):
@@ -105,6 +105,18 @@ def depths_of(figures, names, gap, asked):
     return [1 << max(2, (asked - 1).bit_length())] * len(figures)
 
 
+def planned(plan, depth=None):
+    """The plan with FIFOs of a depth, or of that with which a reader that is always ready slows nothing."""
+    figures = [(it.rows, it.end_rows, it.last) for it in plan.results]
+    depths = depths_of(figures, [it.line for it in plan.results], plan.gap, depth)
+    pace = pace_for(figures, depths, plan.gap)
+    rest = max(pace, *(it.last + 4 for it in plan.results if it.rows), 1)
+    results = [
+        it._replace(depth=places, kept=kept_of(it.rows, it.last, pace)) for it, places in zip(plan.results, depths)
+    ]
+    return plan._replace(pace=pace, rest=rest, results=results)
+
+
 def plan_of(program, files, depth=None, room=None):
     """How the wrapper of a query is laid out, and the text of its module; the module alone stays in the room."""
     command = command_of(files[1])
@@ -114,17 +126,13 @@ def plan_of(program, files, depth=None, room=None):
     with open(files[0], encoding='utf8') as file, open(files[1], encoding='utf8') as query:
         schema, statements = schema_of(file.read()), statements_of(query.read())
     said = ended([program, 'figures' if command == 'compile' else 'manyfigures', *files]).stdout
-    gap, figures = int(re.search(r'^gap (\d+)$', said, re.M)[1]), figures_of(program, files[0], statements)
-    results = results_of(text)
-    names = [front[:-2] or ports_of(text)[0].removeprefix('q__') for front, _ in results]
-    depths = depths_of(figures, names, gap, depth)
-    pace = pace_for(figures, depths, gap)
-    rest = max(pace, *(last + 4 for rows, _, last in figures if rows), 1)
-    outs = [
-        Result('m_axis' + f'_{front[:-2]}' * bool(front), front, columns, *it, places, kept_of(it[0], it[2], pace))
-        for (front, columns), it, places in zip(results, figures, depths)
+    gap = int(re.search(r'^gap (\d+)$', said, re.M)[1])
+    results = [
+        Result('m_axis' + f'_{front[:-2]}' * bool(front), front, columns, *it, 0, 0)
+        for (front, columns), it in zip(results_of(text), figures_of(program, files[0], statements))
     ]
-    return Plan(ports_of(text)[0], sides_of(schema), has_tick(text), pace, rest, outs), text
+    plan = Plan(ports_of(text)[0], sides_of(schema), has_tick(text), gap, gap, gap, results)
+    return planned(plan, depth), text
 
 
 # ---- the text
