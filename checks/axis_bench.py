@@ -119,9 +119,9 @@ def testbench(bench, text, schema, results, ticks, transfers):
     return '\n'.join(lines)
 
 
-def together(benches, seed):
+def together(benches):
     """The testbench that runs others until all are over."""
-    lines = ['module testbench;', 'integer now;', f'initial now = $urandom({seed});']
+    lines = ['module testbench;']
     lines += [f'wire over_{bench}; {bench} part_{bench}(.over(over_{bench}));' for bench in benches]
     every = ' && '.join(f'over_{bench}' for bench in benches)
     return '\n'.join([*lines, 'always #50', f'    if ({every}) $finish;', 'endmodule', ''])
@@ -215,7 +215,7 @@ def compared(program, files, log, results, gap):
 def simulated(texts, benches, seed, room, icarus):
     """What the testbenches log, by their names: under Verilator, or under Icarus."""
     with open(f'{room}/bench.v', 'w', encoding='utf8') as file:
-        file.write('\n'.join(benches.values()) + together(benches, seed))
+        file.write('\n'.join(benches.values()) + together(benches))
     with open(f'{room}/design.v', 'w', encoding='utf8') as file:
         file.write('\n'.join(texts))
     if icarus:
@@ -224,7 +224,7 @@ def simulated(texts, benches, seed, room, icarus):
         refused = refused if refused.returncode else None
     else:
         built, refused = verilated(f'{room}/bench.v', f'{room}/design.v', room, '-CFLAGS', '-O1')
-        ran = [built]
+        ran = [built, f'+verilator+seed+{seed}']
     if refused:
         sys.exit(refused.stdout)
     logs = {bench: [] for bench in benches}
