@@ -1,14 +1,12 @@
 """The random half of checks/axis: a testbench that drives a wrapper of tools/axis at random, and what it logs beside
 what `run` writes."""
-import os
 import re
 import subprocess
 import sys
 import tempfile
 
-from common import HOME, ended, schema_of, verilated, width_of
+from common import ended, schema_of, verilated, width_of
 
-AXIS = os.path.join(HOME, 'tools', 'axis')
 BUSY = '''task choose;
 begin
 now = $urandom % 5; valid_in = now == 0 ? 16 : now == 1 ? 128 : now == 2 ? 240 : 256;
@@ -121,9 +119,9 @@ def testbench(bench, text, schema, results, ticks, transfers):
     return '\n'.join(lines)
 
 
-def together(benches, seed):
+def together(benches):
     """The testbench that runs others until all are over."""
-    lines = ['module testbench;', 'integer now;', f'initial now = $urandom({seed});']
+    lines = ['module testbench;']
     lines += [f'wire over_{bench}; {bench} part_{bench}(.over(over_{bench}));' for bench in benches]
     every = ' && '.join(f'over_{bench}' for bench in benches)
     return '\n'.join([*lines, 'always #50', f'    if ({every}) $finish;', 'endmodule', ''])
@@ -217,7 +215,7 @@ def compared(program, files, log, results, gap):
 def simulated(texts, benches, seed, room, icarus):
     """What the testbenches log, by their names: under Verilator, or under Icarus."""
     with open(f'{room}/bench.v', 'w', encoding='utf8') as file:
-        file.write('\n'.join(benches.values()) + together(benches, seed))
+        file.write('\n'.join(benches.values()) + together(benches))
     with open(f'{room}/design.v', 'w', encoding='utf8') as file:
         file.write('\n'.join(texts))
     if icarus:
@@ -226,7 +224,7 @@ def simulated(texts, benches, seed, room, icarus):
         refused = refused if refused.returncode else None
     else:
         built, refused = verilated(f'{room}/bench.v', f'{room}/design.v', room, '-CFLAGS', '-O1')
-        ran = [built]
+        ran = [built, f'+verilator+seed+{seed}']
     if refused:
         sys.exit(refused.stdout)
     logs = {bench: [] for bench in benches}

@@ -3,7 +3,7 @@ the solver's run."""
 import re
 import sys
 
-from common import command_of, compiled, ended, has_tick, ports_of, results_of, schema_of, width_of
+from common import ended, has_tick, ports_of, results_of, schema_of, width_of
 
 COUNT = 8  # bits of counters: the runs are shorter than 256 cycles
 
@@ -130,10 +130,9 @@ def with_assertions(text, schema, results, ticks):
     return text.replace('endmodule', '\n'.join([*more, 'endmodule']))
 
 
-def proved(program, case, files, text, steps, room):
+def proved(case, schema_file, module_text, text, steps, room):
     """Whether the assertions hold in all runs of so many steps; a line tells of it."""
-    _, module_text = compiled(program, files, room, command_of(files[1]))
-    with open(files[0], encoding='utf8') as file:
+    with open(schema_file, encoding='utf8') as file:
         schema = schema_of(file.read())
     gap, figures = figures_in(text)
     module, top = ports_of(module_text)[0], re.search(r'^module (\w+)', text, re.M)[1]

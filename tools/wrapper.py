@@ -1,5 +1,10 @@
 """The text of a wrapper with AXI4-Stream ports around a module: what tools/axis writes."""
 import collections
+import re
+import sys
+import tempfile
+
+from common import command_of, compiled, ended, has_tick, ports_of, results_of, schema_of, statements_of, width_of
 
 # A stream of the schema: what stands in front of its lines, its name, and its columns with their widths.
 Side = collections.namedtuple('Side', 'line stream columns')
@@ -9,9 +14,9 @@ Side = collections.namedtuple('Side', 'line stream columns')
 # places of its FIFO, and how many of them are kept for rows of beats that were let in.
 Result = collections.namedtuple('Result', 'line front columns rows end_rows last depth kept')
 
-# A module behind its wrapper: its name, the sides, whether it has ticks, the cycles between two beats and those between
-# the last of them and the end, and the results.
-Plan = collections.namedtuple('Plan', 'module sides ticks pace rest results')
+# A module behind its wrapper: its name, the sides, whether it has ticks, its gap, the cycles between two beats and those
+# between the last of them and the end, and the results.
+Plan = collections.namedtuple('Plan', 'module sides ticks gap pace rest results')
 
 
 def bytes_of(columns):
@@ -58,6 +63,76 @@ def pace_for(figures, depths, gap):
     while any(kept_of(rows, last, pace) > max(rows, depth - 2) for (rows, _, last), depth in zip(figures, depths)):
         pace += 1
     return pace
+
+
+# ---- the plan of a wrapper
+
+
+def sides_of(schema):
+    """The inputs: a name for each stream in front of its lines."""
+    one = len(schema) == 1
+    return [
+        Side('s_axis' if one else f's_axis_{stream}', stream, [(column, width_of(kind)) for column, kind in columns])
+        for stream, columns in schema
+    ]
+
+
+def figures_of(program, schema, statements):
+    """Of each query the rows that a beat can cause, those that the end can, and the last cycle in which a beat's can
+    leave the root: `nt`, `ne` and `lt` of explain."""
+    figures = []
+    with tempfile.TemporaryDirectory() as room:
+        for statement in statements:
+            with open(f'{room}/query.txt', 'w', encoding='utf8') as file:
+                file.write(statement)
+            said = ended([program, 'explain', schema, f'{room}/query.txt']).stdout
+            root = re.search(r'^root (p\d+)$', said, re.M)[1]
+            numbers = re.search(rf'^{root} .* : ([\d ]+)$', said, re.M)[1].split()
+            figures.append((int(numbers[3]), int(numbers[4]), int(numbers[1])))
+    return figures
+
+
+def depths_of(figures, names, gap, asked):
+    """The places of each result's FIFO."""
+    if asked is None:
+        return [depth_for(*it, gap) for it in figures]
+    least, name, rows, end_rows = max((max(it[0], it[1] + 1), name, *it[:2]) for it, name in zip(figures, names))
+    if asked < least:
+        sys.exit(
+            f'--depth {asked} is too small: of {name} one tuple or tick can cause {rows} rows, and the end {end_rows} '
+            f'and a transfer of its own, so it takes {least} places'
+        )
+    return [1 << max(2, (asked - 1).bit_length())] * len(figures)
+
+
+def planned(plan, depth=None):
+    """The plan with FIFOs of a depth, or of that with which a reader that is always ready slows nothing."""
+    figures = [(it.rows, it.end_rows, it.last) for it in plan.results]
+    depths = depths_of(figures, [it.line for it in plan.results], plan.gap, depth)
+    pace = pace_for(figures, depths, plan.gap)
+    rest = max(pace, *(it.last + 4 for it in plan.results if it.rows), 1)
+    results = [
+        it._replace(depth=places, kept=kept_of(it.rows, it.last, pace)) for it, places in zip(plan.results, depths)
+    ]
+    return plan._replace(pace=pace, rest=rest, results=results)
+
+
+def plan_of(program, files, depth=None, room=None):
+    """How the wrapper of a query is laid out, and the text of its module; the module alone stays in the room."""
+    command = command_of(files[1])
+    design, text = compiled(program, files, room, command)
+    if design is None:
+        sys.exit(text)
+    with open(files[0], encoding='utf8') as file, open(files[1], encoding='utf8') as query:
+        schema, statements = schema_of(file.read()), statements_of(query.read())
+    said = ended([program, 'figures' if command == 'compile' else 'manyfigures', *files]).stdout
+    gap = int(re.search(r'^gap (\d+)$', said, re.M)[1])
+    results = [
+        Result('m_axis' + f'_{front[:-2]}' * bool(front), front, columns, *it, 0, 0)
+        for (front, columns), it in zip(results_of(text), figures_of(program, files[0], statements))
+    ]
+    plan = Plan(ports_of(text)[0], sides_of(schema), has_tick(text), gap, gap, gap, results)
+    return planned(plan, depth), text
 
 
 # ---- the text
