@@ -27,6 +27,15 @@ def opened(path, mode='r'):
         sys.exit(f'{path}: {error.strerror}')
 
 
+def text_of(path):
+    """The text of a file; where it cannot be read, one line says so."""
+    with opened(path) as file:
+        try:
+            return file.read()
+        except (OSError, UnicodeDecodeError) as error:
+            sys.exit(f'{path}: no text of UTF-8: {error}')
+
+
 def number(text):
     """A number of the command line, exact."""
     try:
@@ -162,8 +171,7 @@ class Origin:
     @classmethod
     def of(cls, path):
         """What a file of --origin keeps."""
-        with opened(path) as file:
-            lines = [line.split() for line in file.read().splitlines()]
+        lines = [line.split() for line in text_of(path).splitlines()]
         try:
             (clock, first), *cuts = ([Fraction(word) for word in line] for line in lines)
             if clock <= 0 or any(len(it) != 2 for it in cuts):
