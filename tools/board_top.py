@@ -71,7 +71,8 @@ def frames(plan):
     yield '    late <= aresetn && (late || (rx_done && !free));'
     yield "    tick <= aresetn && rx_done && left == 8'd0 && rx_byte == 8'd129;"
     yield "    offer_end <= aresetn && (offer_end ? !took_end : rx_done && left == 8'd0 && rx_byte == 8'd128);"
-    yield f"    if (rx_done && left != 8'd0) data <= {'rx_byte' if most == 1 else f'{{rx_byte, data[{8 * most - 1}:8]}}'};"
+    shifted = 'rx_byte' if most == 1 else f'{{rx_byte, data[{8 * most - 1}:8]}}'
+    yield f"    if (rx_done && left != 8'd0) data <= {shifted};"
     yield "    if (rx_done && left == 8'd0) which <= rx_byte;"
     sizes = ''.join(f"rx_byte == 8'd{at} ? 8'd{bytes_of(it.columns)} : " for at, it in enumerate(plan.sides))
     yield f"    left <= !aresetn ? 8'd0 : !rx_done ? left : left != 8'd0 ? left - 8'd1 : {sizes}8'd0;"
@@ -102,13 +103,14 @@ def sender(plan, divide):
         head = f"{{data_{at}, last_{at}, user_{at}, keep_{at}[0], 5'd{at}}}"
         pad = f"{{{8 * (most - 1 - many)}'d0, {head}}}" if many < most - 1 else head
         yield f"    else if (take_{at}) begin out <= {pad}; tx_left <= keep_{at}[0] ? 8'd{1 + many} : 8'd1; end"
-    yield f"    else if (tx_bits == 4'd0 && tx_left != 8'd0) begin out <= out >> 8; tx_left <= tx_left - 8'd1; end"
+    yield "    else if (tx_bits == 4'd0 && tx_left != 8'd0) begin out <= out >> 8; tx_left <= tx_left - 8'd1; end"
     yield "    if (!aresetn) begin tx_bits <= 4'd0; tx <= 1'd1; end"
     yield "    else if (tx_bits == 4'd0) begin"
-    yield f"        tx <= 1'd1; tx_wait <= 16'd0;"
+    yield "        tx <= 1'd1; tx_wait <= 16'd0;"
     yield "        if (tx_left != 8'd0) begin frame <= {1'd1, out[7:0], 1'd0}; tx_bits <= 4'd11; end"
     yield "    end else if (tx_wait != 16'd0) tx_wait <= tx_wait - 16'd1;"
-    yield f"    else begin tx <= frame[0]; frame <= {{1'd1, frame[9:1]}}; tx_bits <= tx_bits - 4'd1; tx_wait <= 16'd{divide - 1}; end"
+    yield "    else begin tx <= frame[0]; frame <= {1'd1, frame[9:1]};"
+    yield f"        tx_bits <= tx_bits - 4'd1; tx_wait <= 16'd{divide - 1}; end"
     yield 'end'
 
 
@@ -140,7 +142,8 @@ def top(plan, pll, divide):
     lines += ['module top(input wire clk_in, input wire rx, output reg tx, output wire [7:0] led);']
     lines += [*clocking(pll), *receiver(divide), *frames(plan), *sender(plan, divide)]
     lines += ['wire overflow; wire queue; wire lost;']
-    lines += [f'axis__{plan.module.removeprefix("q__")} unit(', ',\n'.join(f'    {it}' for it in connections(plan)), ');']
+    ports = ',\n'.join(f'    {it}' for it in connections(plan))
+    lines += [f'axis__{plan.module.removeprefix("q__")} unit(', ports, ');']
     lines += ["assign led = {late, lost, queue, overflow, !idle, rx_bits != 4'd0, 1'd0, aresetn};", 'endmodule', '']
     return '\n'.join(lines)
 

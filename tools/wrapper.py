@@ -14,8 +14,8 @@ Side = collections.namedtuple('Side', 'line stream columns')
 # places of its FIFO, and how many of them are kept for rows of beats that were let in.
 Result = collections.namedtuple('Result', 'line front columns rows end_rows last depth kept')
 
-# A module behind its wrapper: its name, the sides, whether it has ticks, its gap, the cycles between two beats and those
-# between the last of them and the end, and the results.
+# A module behind its wrapper: its name, the sides, whether it has ticks, its gap, the cycles between two beats and
+# those between the last of them and the end, and the results.
 Plan = collections.namedtuple('Plan', 'module sides ticks gap pace rest results')
 
 
@@ -205,7 +205,8 @@ def steering(plan):
         'always @(posedge aclk) begin',
         '    open <= opens;',
         f'    ready <= opens{" && !still" if plan.ticks else ""};',
-        f"    pause <= off ? {bits}'d0 : beat ? {bits}'d{rest - 1} : pause == {bits}'d0 ? {bits}'d0 : pause - {bits}'d1;",
+        f"    pause <= off ? {bits}'d0 : beat ? {bits}'d{rest - 1}",
+        f"        : pause == {bits}'d0 ? {bits}'d0 : pause - {bits}'d1;",
         f"    rested <= {'' if rest == 1 else '!beat && '}pause <= {bits}'d1;",
         '    shut <= !off && (shut || last);',
         '    ending <= !off && (ending || last) && !close;',
