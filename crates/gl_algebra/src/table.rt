@@ -13,7 +13,7 @@ use crate::wide::{
     aggregated, delayed, groups_over, joined, merged, narrowed, partitions_over, settled, spaced,
     widened, windows_over,
 };
-use gl_bits::Kind;
+use gl_values::Kind;
 
 /// A stream, or the input of a body.
 pub fn input_figures() -> Figures

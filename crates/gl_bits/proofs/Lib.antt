@@ -2,15 +2,5 @@ pub mod Bools
 pub mod Options
 pub mod AllLists
 pub mod Machines
-pub mod KindLemmas
-pub mod Unique
 pub mod Wrapping
 pub mod Memories
-pub mod Slicing
-pub mod Timing
-pub mod Grouping
-pub mod Filling
-pub mod Parting
-pub mod Interleaving
-pub mod Signs
-pub mod Totalling

@@ -1,7 +1,7 @@
 //! Kinds, and values of them: numbers in decimal, texts by their letters.
 
 use crate::fits::is_kind;
-use gl_bits::Kind;
+use gl_values::Kind;
 use std::alloc::AllocError;
 
 // A number of at most 8 bits; 0 where there is none.

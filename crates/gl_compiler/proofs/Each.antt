@@ -1,8 +1,8 @@
 -- From the runs of the module that was read to each run of the text's module.
 use Rattle.std.proofs.Common.{◌≡◌, ℕ, List, sym, subst, map}
 use Rattle.std.specs.Prelude.{IsOk}
-use Rattle.gl_bits.specs.declared.kind.Kind.{Kind}
-use Rattle.gl_bits.specs.Kinds.{width_of}
+use Rattle.gl_values.specs.declared.kind.Kind.{Kind}
+use Rattle.gl_values.specs.Kinds.{width_of}
 use Rattle.gl_schema.specs.declared.schema.Schema.{Schema}
 use Rattle.gl_schema.specs.Beats.{Beat, AreBeats}
 use Rattle.gl_schema.specs.Ports.{PortValues}

@@ -2,13 +2,13 @@
 
 ghost use Rattle.std.specs.Prelude.{◌≤◌, length};
 ghost use Rattle.std.specs.List.{AllByRecursion};
-ghost use Rattle.gl_bits.specs.Kinds.{IsKind};
+ghost use Rattle.gl_values.specs.Kinds.{IsKind};
 ghost use Rattle.gl_schema.specs.Beats.{AreBeats};
 ghost use Rattle.gl_schema.specs.Schemas.{IsSchema};
 ghost use Rattle.gl_tuples.specs.Gaps.{plain_beats};
 ghost use Rattle.gl_runner.specs.Prints.{CanRun, OfEachRun, Ran};
 
-use gl_bits::Kind;
+use gl_values::Kind;
 use gl_outside::Sink;
 use gl_runner::{Outcome, Task, execute_module};
 use gl_schema::Schema;

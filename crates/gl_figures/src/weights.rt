@@ -17,7 +17,7 @@ use gl_algebra::table::{
     copies_of_partition, copies_of_time, copies_of_window, delay_of_agg, delay_of_aggs, wait_of,
 };
 use gl_algebra::{Figures, Plan, PlanAgg, PlanId, PlanNode};
-use gl_bits::Kind;
+use gl_values::Kind;
 
 // The lines of a node's wire.
 pub(crate) fn lines_of(plan: &Plan, id: PlanId) -> u128

@@ -6,11 +6,11 @@ use Rattle.std.proofs.lemmas.List.{map-append}
 use Rattle.std.proofs.lemmas.List.Elements.{filter-append}
 use Rattle.std.proofs.lemmas.List.Folds.{list_any-append}
 use Rattle.std.proofs.lemmas.Bool.{cases_lt, cases_Bool, lt-ltb, le-ltb, or_parts, or_left, or_right, or_from, eq-eqb}
-use Rattle.gl_bits.specs.Lists.{distinct, keys_of, rows_with, has_further}
-use Rattle.gl_bits.specs.Tables.{with_key}
+use Rattle.gl_values.specs.Lists.{distinct, keys_of, rows_with, has_further}
+use Rattle.gl_values.specs.Tables.{with_key}
 use Rattle.gl_bits.proofs.Bools.{or_none, eq_turned}
-use Rattle.gl_bits.proofs.Grouping.{first_keys_room, first_keys_full, any_other}
-use Rattle.gl_bits.specs.Results.{Row}
+use Rattle.gl_values.proofs.Grouping.{first_keys_room, first_keys_full, any_other}
+use Rattle.gl_values.specs.Results.{Row}
 use Rattle.gl_groups.specs.Slots.{same_key, of_slot, rows_of_key}
 
 pub any_distinct : (x : ℕ) (ks : List ℕ) → list_any (nat_eq x) (distinct ks) ≡ list_any (nat_eq x) ks

@@ -9,7 +9,8 @@ ghost use Rattle.gl_query.specs.Sources.{scope_of};
 
 use crate::kinds::{column_kind, kind_alone, kind_of};
 use crate::tree::{Agg, AggItem, Item, Pick, Query};
-use gl_bits::{Kind, Listed, Memory};
+use gl_bits::{Listed, Memory};
+use gl_values::Kind;
 use gl_schema::{Column, Columns, NameText, Stream};
 use std::alloc::Global;
 

@@ -1,7 +1,7 @@
 //! Windows over time, and the clock that they go by.
 
 ghost use Rattle.std.specs.Prelude.{◌≡◌, ◌≤◌, ◌*◌, ◌^◌, ◌++◌, IfOk, OnOk, [], map};
-ghost use Rattle.gl_bits.specs.Times.{tfirsts, tpart, tslices};
+ghost use Rattle.gl_values.specs.Times.{tfirsts, tpart, tslices};
 ghost use Rattle.gl_query.specs.Accepted.{IsWindow};
 ghost use Rattle.gl_query.specs.Results.{ticks_in, times_in};
 ghost use Rattle.gl_query.specs.Shapes.{query_shape};
@@ -12,8 +12,9 @@ ghost use Rattle.gl_reference.specs.Sources.{env_view, ticks_on, times_on};
 use crate::columns::{Clock, Source, source_named};
 use crate::rows::Fault;
 use gl_bits::limits::MOST_ROWS;
-use gl_bits::lists::copy_of_row;
-use gl_bits::{Listed, Memory, Table};
+use gl_values::lists::copy_of_row;
+use gl_bits::{Listed, Memory};
+use gl_values::Table;
 use gl_query::Query;
 use std::alloc::Global;
 

@@ -1,7 +1,7 @@
 -- From the runs that what drives a module is before to each run of the module.
 use Rattle.std.proofs.Common.{◌≡◌, ℕ, inl, inr, true, false, List, Option, Ok, refl, sym, subst}
 use Rattle.std.specs.Prelude.{IsOk}
-use Rattle.gl_bits.specs.declared.kind.Kind.{Kind}
+use Rattle.gl_values.specs.declared.kind.Kind.{Kind}
 use Rattle.gl_schema.specs.declared.schema.Schema.{Schema}
 use Rattle.gl_schema.specs.Beats.{Beat, AreBeats}
 use Rattle.gl_schema.specs.Ports.{PortValues, IsStimulus}

@@ -1,8 +1,8 @@
 -- A module that is driven through the cycles of a file: what stands around it, what it has on its ports in a cycle, and
 -- where it then is.
 use Rattle.std.specs.Prelude.{◌≡◌, ℕ, suc, ◌+◌, ◌<◌, ◌≤◌, ◌^◌, false, List, None, Some, map, length, slice_get, slice_index, take}
-use Rattle.gl_bits.specs.declared.kind.Kind.{Kind}
-use Rattle.gl_bits.specs.Kinds.{width_of}
+use Rattle.gl_values.specs.declared.kind.Kind.{Kind}
+use Rattle.gl_values.specs.Kinds.{width_of}
 use Rattle.gl_schema.specs.declared.schema.Schema.{Schema}
 use Rattle.gl_schema.specs.Beats.{Beat, AreBeats}
 use Rattle.gl_schema.specs.Ports.{PortValues, IsStimulus}

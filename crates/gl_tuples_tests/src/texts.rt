@@ -9,7 +9,8 @@ ghost use Rattle.std.specs.Prelude.{◌≡◌, [], ◌∷◌, IfOk, IfSome};
 ghost use Rattle.gl_bits.specs.Words.{widths_of};
 
 use crate::pieces::{bytes_of, number_before};
-use gl_bits::{Kind, Memory, Row, Word};
+use gl_bits::{Memory, Row, Word};
+use gl_values::Kind;
 use gl_schema::{Schema, read_schema};
 use gl_tuple_reader::read_tuples;
 use gl_tuples::{BeatView, Beats, TupleFault, line_into};

@@ -1,12 +1,12 @@
 //! The inputs of a schema, by their names; no name is made.
 
 ghost use Rattle.std.specs.Prelude.{◌≡◌, bytes_eq, nat_eq, option_map};
-ghost use Rattle.gl_bits.specs.Kinds as kinds;
+ghost use Rattle.gl_values.specs.Kinds as kinds;
 ghost use Rattle.gl_schema.specs.Ports.{in_valid, in_column};
 ghost use Rattle.gl_verilog_ports.specs.Steps as steps;
 ghost use Rattle.gl_verilog_ports.specs.Fit.{inputs, is_among};
 
-use gl_bits::Kind;
+use gl_values::Kind;
 use gl_schema::{Column, Schema, Stream};
 
 // What stands in a name behind this front.
