@@ -12,7 +12,7 @@ use Rattle.gl_query.specs.declared.tree.Statement.{Statement}
 use Rattle.gl_query.specs.Laws.{AcceptedHaveRealColumns}
 use Rattle.gl_query.specs.Shapes.{query_shape}
 use Rattle.gl_outside.specs.States.{SinkState}
-use Rattle.gl_verilog_orders.specs.declared.start.Start.{Start}
+use Rattle.gl_verilog.specs.declared.start.Start.{Start}
 use Rattle.gl_figures.specs.declared.Printed.{Printed}
 use Rattle.gl_compiler.specs.declared.compiling.Compiled.{Compiled}
 use Rattle.gl_compiler.specs.Compiles.{IsCompiled}

@@ -11,7 +11,7 @@ use Rattle.gl_schema.specs.Ports.{PortValues}
 use Rattle.gl_schema.specs.Seen.{lines, seen}
 use Rattle.gl_query.specs.declared.tree.Statement.{Statement}
 use Rattle.gl_verilog.specs.Module.{Module}
-use Rattle.gl_verilog_orders.specs.declared.start.Start.{Start}
+use Rattle.gl_verilog.specs.declared.start.Start.{Start}
 use Rattle.gl_verilog_ports.specs.Profile.{result_names, result_widths}
 use Rattle.gl_vcd.specs.Dumped.{IsDumped, OfLines}
 use Rattle.gl_vcd.specs.Written.{ports_of}

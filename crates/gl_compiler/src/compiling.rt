@@ -28,7 +28,7 @@ use gl_query_check::Checked;
 use gl_schema::{Column, Schema};
 use gl_testbench::{Emitted, emit};
 use gl_verilog::laws::{runs_are_causal, valid_modules_run};
-use gl_verilog_orders::laws::event_runs_are_runs;
+use gl_verilog::orders::event_runs_are_runs;
 use gl_verilog_ports::laws::inputs_are_ports;
 use gl_verilog_writer::Labels;
 use gl_wiring::{Root, wire_plan};

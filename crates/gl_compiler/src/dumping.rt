@@ -17,7 +17,7 @@ use gl_query::laws::accepted_have_real_columns;
 use gl_runner::{Outcome, Task, dump_module};
 use gl_tuples::Beats;
 use gl_verilog_grammar::laws::one_module;
-use gl_verilog_orders::Start;
+use gl_verilog::Start;
 use gl_verilog_ports::laws::inputs_are_ports;
 use gl_verilog_reader::read_known_module;
 use std::alloc::Global;

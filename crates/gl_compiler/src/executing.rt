@@ -14,7 +14,7 @@ use gl_runner::{Outcome, Task, execute_module};
 use gl_schema::Schema;
 use gl_tuples::Beats;
 use gl_verilog_grammar::laws::one_module;
-use gl_verilog_orders::Start;
+use gl_verilog::Start;
 use gl_verilog_ports::laws::inputs_are_ports;
 use gl_verilog_reader::read_known_module;
 use std::alloc::Global;

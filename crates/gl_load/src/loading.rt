@@ -16,7 +16,7 @@ use gl_compiler::{CompileFault, Compiled, Outcome, compile, run_compiled};
 use gl_query::laws::accepted_have_real_columns;
 use gl_tuples::Beats;
 use gl_verilog_grammar::laws::one_module;
-use gl_verilog_orders::Start;
+use gl_verilog::Start;
 use std::alloc::Global;
 
 /// What a load leaves: what is told of its run, and the compiled query whose text was run.

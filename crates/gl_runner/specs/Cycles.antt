@@ -14,7 +14,7 @@ use Rattle.gl_verilog.specs.View.{module_of}
 use Rattle.gl_verilog.specs.Valid.{IsValid}
 use Rattle.gl_verilog.specs.Widths.{IsNet, IsReadable, is_clock}
 use Rattle.gl_sim.specs.Simulation.{Simulation, IsAt}
-use Rattle.gl_verilog_orders.specs.declared.start.Start.{Start}
+use Rattle.gl_verilog.specs.declared.start.Start.{Start}
 use Rattle.gl_testbench.specs.declared.pins.Pin.{Pin}
 use Rattle.gl_testbench.specs.Carried.{pin_at}
 use Rattle.gl_testbench.specs.Dues.{AreDue}

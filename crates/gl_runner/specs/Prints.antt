@@ -13,8 +13,8 @@ use Rattle.gl_runner.specs.declared.executing.Outcome.TheVariants.{Done, WriteFa
 use Rattle.gl_verilog.specs.Module.{Module, Nets, Memories}
 use Rattle.gl_verilog.specs.Run.{port_of, input_values}
 use Rattle.gl_verilog.specs.Text.{HasModule}
-use Rattle.gl_verilog_orders.specs.Events.{IsEventRun}
-use Rattle.gl_verilog_orders.specs.declared.start.Start.{Start}
+use Rattle.gl_verilog.specs.Events.{IsEventRun}
+use Rattle.gl_verilog.specs.declared.start.Start.{Start}
 use Rattle.gl_sim.specs.Starts.{StartsFrom}
 use Rattle.gl_verilog_ports.specs.Fit.{fit_of}
 use Rattle.gl_verilog_ports.specs.Profile.{result_names, result_widths}

@@ -15,7 +15,7 @@ use Rattle.gl_vcd.specs.Signals.{seen_below}
 use Rattle.gl_testbench.specs.Views.{seen_as}
 use Rattle.gl_verilog.specs.Module.{Module, Nets, Memories}
 use Rattle.gl_verilog.specs.Run.{port_of}
-use Rattle.gl_verilog_orders.specs.declared.start.Start.{Start}
+use Rattle.gl_verilog.specs.declared.start.Start.{Start}
 use Rattle.gl_runner.specs.declared.executing.Outcome.{Outcome}
 use Rattle.gl_runner.specs.declared.executing.Outcome.TheVariants.{Done, WriteFault, Memory}
 use Rattle.gl_runner.specs.declared.faces.Face.{Face}

@@ -8,7 +8,7 @@ use Rattle.gl_schema.specs.Ports.{PortValues}
 use Rattle.gl_schema.specs.Seen.{shown, seen, lines}
 use Rattle.gl_outside.specs.Counts.{Rose}
 use Rattle.gl_outside.specs.States.{SinkState, Appends, AppendsFront}
-use Rattle.gl_verilog_orders.specs.declared.start.Start.{Start}
+use Rattle.gl_verilog.specs.declared.start.Start.{Start}
 use Rattle.gl_schema.specs.declared.schema.Schema.{Schema}
 use Rattle.gl_verilog.specs.Module.{Module, Nets, Memories}
 use Rattle.gl_verilog.specs.Run.{port_of}

@@ -8,7 +8,7 @@ ghost use Rattle.gl_top_forms.specs.Steps as steps;
 use crate::command::{Command, Part};
 use gl_outside::Words;
 use gl_tuples::value::number_of;
-use gl_verilog_orders::Start;
+use gl_verilog::Start;
 
 // ---- the option
 

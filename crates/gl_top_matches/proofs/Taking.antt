@@ -6,7 +6,7 @@ use Rattle.std.proofs.lemmas.Bool.{eqb-true, leb-true}
 use Rattle.gl_bits.proofs.Bools.{and_left, and_right, bytes_same}
 use Rattle.gl_schema.specs.Names.{is_digit}
 use Rattle.gl_tuples.specs.Values.{are_digits, is_number, number_in, number_of}
-use Rattle.gl_verilog_orders.specs.declared.start.Start.TheVariants.{Zero}
+use Rattle.gl_verilog.specs.declared.start.Start.TheVariants.{Zero}
 use Rattle.clap.specs.Words.{App, HasMatchesOf, Text, first_of, found_of, is_simple, matches_of, rows_of, takes}
 use Rattle.clap.specs.declared.parser.matches.ArgMatches.{ArgMatches}
 use Rattle.clap.proofs.WalkLemmas.{first_value-rows}
