@@ -8,13 +8,13 @@ ghost use Rattle.gl_schema.specs.Schemas.{IsSchema};
 ghost use Rattle.gl_tuples.specs.Gaps.{plain_beats};
 ghost use Rattle.gl_runner.specs.Prints.{CanRun, OfEachRun, Ran};
 
-use gl_values::Kind;
 use gl_outside::Sink;
 use gl_runner::{Outcome, Task, execute_module};
 use gl_schema::Schema;
 use gl_tuples::Beats;
-use gl_verilog_grammar::laws::one_module;
+use gl_values::Kind;
 use gl_verilog::Start;
+use gl_verilog_grammar::laws::one_module;
 use gl_verilog_ports::laws::inputs_are_ports;
 use gl_verilog_reader::read_known_module;
 use std::alloc::Global;

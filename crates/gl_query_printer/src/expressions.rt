@@ -12,10 +12,10 @@ use crate::tokens::{
     close_unless, open_unless, put, put_kind, put_name, put_number, put_open, put_plain,
 };
 use gl_bits::Memory;
-use gl_values::Kind;
 use gl_query::{Expr, Op, TextBytes};
 use gl_query_reader::{left_looseness, looseness};
 use gl_query_tokens::{Plain, Token};
+use gl_values::Kind;
 use std::alloc::Global;
 
 // How loose an expression is.

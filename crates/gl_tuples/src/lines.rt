@@ -10,8 +10,8 @@ ghost use Rattle.gl_tuples.specs.Pieces.{line_if, line_with, lines_with, name_in
 
 use crate::line::{put, values_into};
 use gl_bits::Row;
-use gl_values::Kind;
 use gl_outside::{Sink, WriteFault, write_all_of};
+use gl_values::Kind;
 use itoa::Buffer;
 
 /// What a cycle shows, beside the columns.

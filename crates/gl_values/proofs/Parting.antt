@@ -82,7 +82,7 @@ has_key-stays n key key_of xs x has = elim (keys-push n key_of xs x) [
 ]
 
 -- distinct numbers are those of the list
-any_distinct : (key : ℕ) (ks : List ℕ) → list_any (nat_eq key) (distinct ks) ≡ list_any (nat_eq key) ks
+pub any_distinct : (key : ℕ) (ks : List ℕ) → list_any (nat_eq key) (distinct ks) ≡ list_any (nat_eq key) ks
 any_distinct key [] = refl
 any_distinct key (k ∷ ks) = split (nat_eq key k) refl (any_distinct key ks)
   where

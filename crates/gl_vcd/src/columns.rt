@@ -9,8 +9,8 @@ ghost use Rattle.gl_vcd.specs.Standing.{IsIndexed, signals_of};
 
 use crate::signals::{Signals, shows_column};
 use gl_bits::{Memory, Row, Word};
-use gl_values::Kind;
 use gl_tuples::set_value;
+use gl_values::Kind;
 use std::alloc::Global;
 
 /// The numbers of the signals that show columns, and the kinds by which these are printed.

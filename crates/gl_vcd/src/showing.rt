@@ -13,9 +13,9 @@ ghost use Rattle.gl_vcd.specs.Standing.{HaveRoom, IsIndexed, signals_of};
 use crate::columns::{Columns, columns_of, fill, value_in};
 use crate::signals::Signals;
 use gl_bits::{Memory, Row, Word};
-use gl_values::Kind;
 use gl_outside::{Sink, WriteFault};
 use gl_tuples::{Sample, put_cycle, zero_row};
+use gl_values::Kind;
 use std::alloc::Global;
 
 /// The numbers of the signals that show a result, the row that they show, and whether it was told

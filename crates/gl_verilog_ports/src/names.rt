@@ -6,8 +6,8 @@ ghost use Rattle.gl_schema.specs.Ports.{in_valid, in_column};
 ghost use Rattle.gl_verilog_ports.specs.Steps as steps;
 ghost use Rattle.gl_verilog_ports.specs.Fit.{inputs, is_among};
 
-use gl_values::Kind;
 use gl_schema::{Column, Schema, Stream};
+use gl_values::Kind;
 
 // What stands in a name behind this front.
 fn behind<'a>(front: &[u8], name: &'a [u8]) -> Option<&'a [u8]>
