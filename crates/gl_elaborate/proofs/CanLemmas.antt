@@ -22,13 +22,13 @@ use Rattle.gl_query.specs.Laws.{AreKinds}
 use Rattle.gl_query.proofs.Real.{IsScope, body_is, real}
 use Rattle.gl_bits.proofs.AllLists.{all_of_mapped}
 use Rattle.gl_elaborate.specs.Terms.{Term, Column, Literal, Not, Cast, Binary, ops_in, ops_in_all, term_of}
-use Rattle.gl_elaborate.specs.Plans.{condition_of, filter_of, picked_terms, arguments_of, arguments_of_all, stream_node}
-use Rattle.gl_elaborate.specs.Fitting.{CanPlace, FilterTerm, PlacedFit}
+use Rattle.gl_elaborate.specs.Plans.{condition_of, filter_of, picked_terms, arguments_of, arguments_of_all}
+use Rattle.gl_elaborate.specs.Fitting.{CanPlace, FilterTerm}
 use Rattle.gl_elaborate.proofs.AcceptedLemmas.{column-fits, term-fits}
 use Rattle.gl_elaborate.proofs.RowsLemmas.{pick-fits}
 use Rattle.gl_elaborate.proofs.TotalsLemmas.{arguments-fit}
 use Rattle.gl_elaborate.proofs.RoomLemmas.{ops-both}
-use Rattle.gl_elaborate.proofs.StatementLemmas.{plans-right, schema-reader}
+use Rattle.gl_elaborate.proofs.StatementLemmas.{schema-reader}
 
 -- no more is asked of names
 abbrev AnyName : List ℕ → Type 0
@@ -181,7 +181,3 @@ can (shape.Concat l r) sources timed most is a s = (can l sources timed most is 
 pub can-place : (schema : Schema) (statement : Statement) → IsChecked schema statement → CanPlace schema.streams (query_shape statement.query)
 can-place schema statement checked =
     can (query_shape statement.query) schema.streams true checked.of_schema.most (schema-reader schema checked.of_schema).scope checked.accepted checked.small
-
-pub all-fit : (schema : Schema) (statement : Statement) → IsChecked schema statement
-    → PlacedFit (stream_node schema.streams) schema.streams (query_shape statement.query) []
-all-fit schema statement checked = (plans-right schema statement checked).fit

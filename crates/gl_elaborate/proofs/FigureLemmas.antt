@@ -14,6 +14,7 @@ use Rattle.gl_query.specs.Shapes as shape
 use Rattle.gl_query.specs.Values.{kind_alone, operand_place}
 use Rattle.gl_query.specs.Columns.{columns_of, variable}
 use Rattle.gl_query.specs.Accepted.{IsAcceptedOver}
+use Rattle.gl_query.specs.Laws.{ResultsAreLong}
 use Rattle.gl_algebra.specs.declared.figures.Figures.{Figures}
 use Rattle.gl_algebra.specs.declared.node.PlanNode.{PlanNode}
 use Rattle.gl_algebra.specs.declared.node.PlanNode.TheVariants as node
@@ -200,77 +201,77 @@ window-figured : (measure : Measure) (source body size advance : ℕ) (s : ℕ �
 window-figured Tuples source body size advance s v = refl
 window-figured Time source body size advance s v = refl
 
-pub figures-right : (q : QueryShape) (read : List ℕ → PlanNode) (sources : List Stream) (timed : Bool) (nodes : List PlanNode) → IsReader read sources timed → IsAcceptedOver (record { sources = sources; timed = timed }) q
+pub figures-right : ResultsAreLong → (q : QueryShape) (read : List ℕ → PlanNode) (sources : List Stream) (timed : Bool) (nodes : List PlanNode) → IsReader read sources timed → IsAcceptedOver (record { sources = sources; timed = timed }) q
     → IsPlan nodes → HasFigures (placed read sources q nodes) (query_figures sources q)
-figures-right (shape.Read name) read sources timed nodes reader a plan =
-    let done = right (shape.Read name) read sources timed nodes reader a plan in
+figures-right lengths (shape.Read name) read sources timed nodes reader a plan =
+    let done = right lengths (shape.Read name) read sources timed nodes reader a plan in
     let new = is_added nodes (read name) plan done.0 in
     record {
       plan = new.over.plan;
       is = new.figures ∙ read-figures (read name) _ (shape_of nodes) (figures_of nodes) (reader.leaf name a);
     }
-figures-right (shape.Rows pick condition source) read sources timed nodes reader a plan =
-    let done = right (shape.Rows pick condition source) read sources timed nodes reader a plan in
+figures-right lengths (shape.Rows pick condition source) read sources timed nodes reader a plan =
+    let done = right lengths (shape.Rows pick condition source) read sources timed nodes reader a plan in
     rows-figures (columns_of sources source) pick condition (placed read sources source nodes) (query_figures sources source)
-    (figures-right source read sources timed nodes reader a.0 plan) done.0.1
-figures-right (shape.Total aggs source) read sources timed nodes reader a plan =
-    let done = right (shape.Total aggs source) read sources timed nodes reader a plan in
+    (figures-right lengths source read sources timed nodes reader a.0 plan) done.0.1
+figures-right lengths (shape.Total aggs source) read sources timed nodes reader a plan =
+    let done = right lengths (shape.Total aggs source) read sources timed nodes reader a plan in
     totals-figures (columns_of sources source) aggs (placed read sources source nodes) (query_figures sources source)
-    (figures-right source read sources timed nodes reader a.0 plan) done.0.1 (total-delay aggs source read sources timed nodes reader a plan)
-figures-right (shape.Each measure var source size advance body) read sources timed nodes reader a plan =
+    (figures-right lengths source read sources timed nodes reader a.0 plan) done.0.1 (total-delay lengths aggs source read sources timed nodes reader a plan)
+figures-right lengths (shape.Each measure var source size advance body) read sources timed nodes reader a plan =
     let columns = columns_of sources source in
     let inner : List ℕ → PlanNode = λ name. node.Body (kinds_of columns) in
-    let done = right (shape.Each measure var source size advance body) read sources timed nodes reader a plan in
-    let below = right source read sources timed nodes reader a.0 plan in
+    let done = right lengths (shape.Each measure var source size advance body) read sources timed nodes reader a plan in
+    let below = right lengths source read sources timed nodes reader a.0 plan in
     let from = placed read sources source nodes in
     let kinds = body-reader var columns (columns-are source read sources timed reader a.0) in
-    let inside = right body inner (variable var columns) false from.nodes kinds a.2 below.1.over.plan in
+    let inside = right lengths body inner (variable var columns) false from.nodes kinds a.2 below.1.over.plan in
     let into = placed inner (variable var columns) body from.nodes in
     both-figures from into (query_figures sources source) (query_figures (variable var columns) body)
     (window_node measure from.root into.root size advance) (window_figures (copies_of measure size advance))
-    (figures-right source read sources timed nodes reader a.0 plan) (figures-right body inner (variable var columns) false from.nodes kinds a.2 below.1.over.plan)
+    (figures-right lengths source read sources timed nodes reader a.0 plan) (figures-right lengths body inner (variable var columns) false from.nodes kinds a.2 below.1.over.plan)
     below.1.over.within inside.1.over done.0.2 (window-figured measure from.root into.root size advance)
-figures-right (shape.PerGroup var source key count body) read sources timed nodes reader a plan =
+figures-right lengths (shape.PerGroup var source key count body) read sources timed nodes reader a plan =
     let columns = columns_of sources source in
     let inner : List ℕ → PlanNode = λ name. node.Body (kinds_of columns) in
-    let done = right (shape.PerGroup var source key count body) read sources timed nodes reader a plan in
-    let below = right source read sources timed nodes reader a.0 plan in
+    let done = right lengths (shape.PerGroup var source key count body) read sources timed nodes reader a plan in
+    let below = right lengths source read sources timed nodes reader a.0 plan in
     let from = placed read sources source nodes in
     let kinds = body-reader var columns (columns-are source read sources timed reader a.0) in
-    let inside = right body inner (variable var columns) false from.nodes kinds a.2 below.1.over.plan in
+    let inside = right lengths body inner (variable var columns) false from.nodes kinds a.2 below.1.over.plan in
     let into = placed inner (variable var columns) body from.nodes in
     both-figures from into (query_figures sources source) (query_figures (variable var columns) body)
     (node.Group from.root into.root (Rattle.gl_query.specs.Values.column_number columns key) count) (group_figures count)
-    (figures-right source read sources timed nodes reader a.0 plan) (figures-right body inner (variable var columns) false from.nodes kinds a.2 below.1.over.plan)
+    (figures-right lengths source read sources timed nodes reader a.0 plan) (figures-right lengths body inner (variable var columns) false from.nodes kinds a.2 below.1.over.plan)
     below.1.over.within inside.1.over done.0.2 (λ s v. refl)
-figures-right (shape.Partition var source key count size advance body) read sources timed nodes reader a plan =
+figures-right lengths (shape.Partition var source key count size advance body) read sources timed nodes reader a plan =
     let columns = columns_of sources source in
     let inner : List ℕ → PlanNode = λ name. node.Body (kinds_of columns) in
-    let done = right (shape.Partition var source key count size advance body) read sources timed nodes reader a plan in
-    let below = right source read sources timed nodes reader a.0 plan in
+    let done = right lengths (shape.Partition var source key count size advance body) read sources timed nodes reader a plan in
+    let below = right lengths source read sources timed nodes reader a.0 plan in
     let from = placed read sources source nodes in
     let kinds = body-reader var columns (columns-are source read sources timed reader a.0) in
-    let inside = right body inner (variable var columns) false from.nodes kinds a.2 below.1.over.plan in
+    let inside = right lengths body inner (variable var columns) false from.nodes kinds a.2 below.1.over.plan in
     let into = placed inner (variable var columns) body from.nodes in
     both-figures from into (query_figures sources source) (query_figures (variable var columns) body)
     (node.Partition from.root into.root (Rattle.gl_query.specs.Values.column_number columns key) count size advance) (partition_figures (copies_of_partition count size advance))
-    (figures-right source read sources timed nodes reader a.0 plan) (figures-right body inner (variable var columns) false from.nodes kinds a.2 below.1.over.plan)
+    (figures-right lengths source read sources timed nodes reader a.0 plan) (figures-right lengths body inner (variable var columns) false from.nodes kinds a.2 below.1.over.plan)
     below.1.over.within inside.1.over done.0.2 (λ s v. refl)
-figures-right (shape.Union l r) read sources timed nodes reader a plan =
-    let done = right (shape.Union l r) read sources timed nodes reader a plan in
-    let first = right l read sources timed nodes reader a.0 plan in
+figures-right lengths (shape.Union l r) read sources timed nodes reader a plan =
+    let done = right lengths (shape.Union l r) read sources timed nodes reader a plan in
+    let first = right lengths l read sources timed nodes reader a.0 plan in
     let left = placed read sources l nodes in
-    let second = right r read sources timed left.nodes reader a.1 first.1.over.plan in
+    let second = right lengths r read sources timed left.nodes reader a.1 first.1.over.plan in
     let both = placed read sources r left.nodes in
     both-figures left both (query_figures sources l) (query_figures sources r) (node.Union left.root both.root) union_figures
-    (figures-right l read sources timed nodes reader a.0 plan) (figures-right r read sources timed left.nodes reader a.1 first.1.over.plan)
+    (figures-right lengths l read sources timed nodes reader a.0 plan) (figures-right lengths r read sources timed left.nodes reader a.1 first.1.over.plan)
     first.1.over.within second.1.over done.0.2 (λ s v. refl)
-figures-right (shape.Concat l r) read sources timed nodes reader a plan =
-    let done = right (shape.Concat l r) read sources timed nodes reader a plan in
-    let first = right l read sources timed nodes reader a.0 plan in
+figures-right lengths (shape.Concat l r) read sources timed nodes reader a plan =
+    let done = right lengths (shape.Concat l r) read sources timed nodes reader a plan in
+    let first = right lengths l read sources timed nodes reader a.0 plan in
     let left = placed read sources l nodes in
-    let second = right r read sources timed left.nodes reader a.1 first.1.over.plan in
+    let second = right lengths r read sources timed left.nodes reader a.1 first.1.over.plan in
     let both = placed read sources r left.nodes in
     both-figures left both (query_figures sources l) (query_figures sources r) (node.Beside left.root both.root) beside_figures
-    (figures-right l read sources timed nodes reader a.0 plan) (figures-right r read sources timed left.nodes reader a.1 first.1.over.plan)
+    (figures-right lengths l read sources timed nodes reader a.0 plan) (figures-right lengths r read sources timed left.nodes reader a.1 first.1.over.plan)
     first.1.over.within second.1.over done.0.2 (λ s v. refl)

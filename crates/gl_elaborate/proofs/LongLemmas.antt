@@ -11,8 +11,7 @@ use Rattle.gl_query.specs.Shapes.{QueryShape}
 use Rattle.gl_query.specs.Columns.{columns_of}
 use Rattle.gl_query.specs.Accepted.{IsAcceptedOver}
 use Rattle.gl_query.specs.Results.{Env, IsResultIn, streams_of}
-use Rattle.gl_query.specs.Laws.{HoldsIn, IsLongAs}
-use Rattle.gl_query.proofs.Lengths.{long}
+use Rattle.gl_query.specs.Laws.{HoldsIn, IsLongAs, ResultsAreLong}
 use Rattle.gl_query.proofs.Holding.{IsGroupOf, all_filter, all_windows_of}
 
 abbrev pub AreLong : List Column → List Row → Type 0
@@ -40,9 +39,9 @@ module _ (P : Row → Type 0) where
 
 -- ---- results
 
-pub results-long : (q : QueryShape) (sources : List Stream) (timed : Bool) (env : Env) (out : List Row) (spill : Bool)
+pub results-long : ResultsAreLong → (q : QueryShape) (sources : List Stream) (timed : Bool) (env : Env) (out : List Row) (spill : Bool)
     → IsAcceptedOver (record { sources = sources; timed = timed }) q → streams_of env ≡ sources → HoldsIn IsLongAs env → IsResultIn q env out spill
     → AreLong (columns_of sources q) out
-results-long q sources timed env out spill a same h r =
+results-long lengths q sources timed env out spill a same h r =
     subst (λ (s : List Stream). AreLong (columns_of s q) out) same
-    (long q env timed out spill (subst (λ (s : List Stream). IsAcceptedOver (record { sources = s; timed = timed }) q) (sym same) a) h r)
+    (lengths q env timed out spill (subst (λ (s : List Stream). IsAcceptedOver (record { sources = s; timed = timed }) q) (sym same) a) h r)

@@ -39,7 +39,7 @@ use Rattle.gl_elaborate.proofs.StandsLemmas.{Stands, weaker}
 use Rattle.gl_elaborate.proofs.RowsLemmas.{IsPicked, pace_under, rows-stand}
 use Rattle.gl_elaborate.proofs.TotalsLemmas.{IsTotalled, HasDelay, totals-stand}
 use Rattle.gl_elaborate.proofs.TwoLemmas.{behind, left_still, union-stands, beside-stands, window-stands, group-stands, partition-stands}
-use Rattle.gl_query.specs.Laws.{IsLongAs}
+use Rattle.gl_query.specs.Laws.{IsLongAs, ResultsAreLong}
 
 -- ---- results in parts
 
@@ -97,9 +97,9 @@ same-parts Time (shape.Read name) read sources timed env inputs size advance row
 same-parts Time source read sources timed env inputs size advance rows a can sees = absurd (cc)
 
 -- the plan of an accepted query
-pub right : (q : QueryShape) (read : List ℕ → PlanNode) (sources : List Stream) (timed : Bool) (nodes : List PlanNode) → IsReader read sources timed
+pub right : ResultsAreLong → (q : QueryShape) (read : List ℕ → PlanNode) (sources : List Stream) (timed : Bool) (nodes : List PlanNode) → IsReader read sources timed
     → IsAcceptedOver (record { sources = sources; timed = timed }) q → IsPlan nodes → IsRight read sources timed q nodes
-right (shape.Read name) read sources timed nodes reader a plan =
+right lengths (shape.Read name) read sources timed nodes reader a plan =
     let leaf = reader.leaf name a in
     let fits = read-fits (read name) (kinds_of (source_columns sources name)) nodes leaf (all-kinds (source_columns sources name) (reader.scope.kinds name)) in
     let new = behind nodes (read name) plan fits in (
@@ -113,9 +113,9 @@ right (shape.Read name) read sources timed nodes reader a plan =
             record { rows = given.0 ∙ sees.reads name a; kept = given.1 };
       },
     )
-right (shape.Rows pick condition source) read sources timed nodes reader a plan =
+right lengths (shape.Rows pick condition source) read sources timed nodes reader a plan =
     let columns = columns_of sources source in
-    let below = right source read sources timed nodes reader a.0 plan in
+    let below = right lengths source read sources timed nodes reader a.0 plan in
     let are = columns-are source read sources timed reader a.0 in
     let done = rows-stand columns are.kinds nodes (placed read sources source nodes) (shape_for read sources source) (means_for read sources timed source) refl
     pick condition a.1 below.1 in
@@ -131,12 +131,12 @@ right (shape.Rows pick condition source) read sources timed nodes reader a plan 
             rows = r.rows;
             of_source = result;
             changed = subst (λ (s : List Stream). out ≡ map (picked (columns_of s source) pick) (kept (columns_of s source) condition r.rows))
-                (sym sees.streams) (r.made (results-long source sources timed env r.rows spill a.0 sees.streams sees.are_long result));
+                (sym sees.streams) (r.made (results-long lengths source sources timed env r.rows spill a.0 sees.streams sees.are_long result));
           }),
     )
-right (shape.Total aggs source) read sources timed nodes reader a plan =
+right lengths (shape.Total aggs source) read sources timed nodes reader a plan =
     let columns = columns_of sources source in
-    let below = right source read sources timed nodes reader a.0 plan in
+    let below = right lengths source read sources timed nodes reader a.0 plan in
     let are = columns-are source read sources timed reader a.0 in
     let done = totals-stand columns are.kinds nodes (placed read sources source nodes) (shape_for read sources source) (means_for read sources timed source) refl
     aggs a.1.typed below.1 in
@@ -150,16 +150,16 @@ right (shape.Total aggs source) read sources timed nodes reader a plan =
             rows = r.rows;
             of_source = result;
             changed = subst (λ (s : List Stream). out ≡ total_row (columns_of s source) aggs r.rows ∷ [])
-                (sym sees.streams) (r.made (results-long source sources timed env r.rows spill a.0 sees.streams sees.are_long result));
+                (sym sees.streams) (r.made (results-long lengths source sources timed env r.rows spill a.0 sees.streams sees.are_long result));
           }),
     )
-right (shape.Each measure var source size advance body) read sources timed nodes reader a plan =
+right lengths (shape.Each measure var source size advance body) read sources timed nodes reader a plan =
     let columns = columns_of sources source in
     let inner : List ℕ → PlanNode = λ name. node.Body (kinds_of columns) in
-    let below = right source read sources timed nodes reader a.0 plan in
+    let below = right lengths source read sources timed nodes reader a.0 plan in
     let are = columns-are source read sources timed reader a.0 in
     let from = placed read sources source nodes in
-    let inside = right body inner (variable var columns) false from.nodes (body-reader var columns are) a.2 below.1.over.plan in
+    let inside = right lengths body inner (variable var columns) false from.nodes (body-reader var columns are) a.2 below.1.over.plan in
     let at = placed inner (variable var columns) body from.nodes in
     let timely = over-stream measure source read sources timed nodes at size advance reader a.0 a.4 plan inside.1.over in
     let two = window-stands nodes from at (shape_for read sources source) (shape_for inner (variable var columns) body)
@@ -171,7 +171,7 @@ right (shape.Each measure var source size advance body) read sources timed nodes
           (means_for read sources timed (shape.Each measure var source size advance body)) two.stands
           (λ inputs out spill r env sees.
           let result = s.means inputs r.rows r.source_spill r.of_source env sees in
-          let long = results-long source sources timed env r.rows r.source_spill a.0 sees.streams sees.are_long result in
+          let long = results-long lengths source sources timed env r.rows r.source_spill a.0 sees.streams sees.are_long result in
           let parts = same-parts measure source read sources timed env inputs size advance r.rows a.0 a.4 sees in
           subst (λ (ss : List Stream). IsOfParts (IsResultIn source env) (parts_of measure size advance (times_in env source) (ticks_in env source))
           (λ rows. IsResultIn body (only var (columns_of ss source) rows)) (λ rows. false) out spill) (sym sees.streams)
@@ -188,13 +188,13 @@ right (shape.Each measure var source size advance body) read sources timed nodes
             any = r.any;
           })),
     )
-right (shape.PerGroup var source key count body) read sources timed nodes reader a plan =
+right lengths (shape.PerGroup var source key count body) read sources timed nodes reader a plan =
     let columns = columns_of sources source in
     let inner : List ℕ → PlanNode = λ name. node.Body (kinds_of columns) in
-    let below = right source read sources timed nodes reader a.0 plan in
+    let below = right lengths source read sources timed nodes reader a.0 plan in
     let are = columns-are source read sources timed reader a.0 in
     let from = placed read sources source nodes in
-    let inside = right body inner (variable var columns) false from.nodes (body-reader var columns are) a.2 below.1.over.plan in
+    let inside = right lengths body inner (variable var columns) false from.nodes (body-reader var columns are) a.2 below.1.over.plan in
     let at = placed inner (variable var columns) body from.nodes in
     let number = column_number columns key in
     let two = group-stands nodes from at (shape_for read sources source) (shape_for inner (variable var columns) body)
@@ -212,7 +212,7 @@ right (shape.PerGroup var source key count body) read sources timed nodes reader
           (means_for read sources timed (shape.PerGroup var source key count body)) stands
           (λ inputs out spill r env sees.
           let result = s.means inputs r.rows r.source_spill r.of_source env sees in
-          let long = results-long source sources timed env r.rows r.source_spill a.0 sees.streams sees.are_long result in
+          let long = results-long lengths source sources timed env r.rows r.source_spill a.0 sees.streams sees.are_long result in
           subst (λ (ss : List Stream). IsOfParts (IsResultIn source env) (groups count (λ row. slice_index row (column_number (columns_of ss source) key)))
           (IsOfGroup (λ rows. IsResultIn body (only var (columns_of ss source) rows)))
           (has_further count (λ row. slice_index row (column_number (columns_of ss source) key))) out spill) (sym sees.streams)
@@ -232,13 +232,13 @@ right (shape.PerGroup var source key count body) read sources timed nodes reader
             any = r.any;
           })),
     )
-right (shape.Partition var source key count size advance body) read sources timed nodes reader a plan =
+right lengths (shape.Partition var source key count size advance body) read sources timed nodes reader a plan =
     let columns = columns_of sources source in
     let inner : List ℕ → PlanNode = λ name. node.Body (kinds_of columns) in
-    let below = right source read sources timed nodes reader a.0 plan in
+    let below = right lengths source read sources timed nodes reader a.0 plan in
     let are = columns-are source read sources timed reader a.0 in
     let from = placed read sources source nodes in
-    let inside = right body inner (variable var columns) false from.nodes (body-reader var columns are) a.2 below.1.over.plan in
+    let inside = right lengths body inner (variable var columns) false from.nodes (body-reader var columns are) a.2 below.1.over.plan in
     let at = placed inner (variable var columns) body from.nodes in
     let number = column_number columns key in
     let two = partition-stands nodes from at (shape_for read sources source) (shape_for inner (variable var columns) body)
@@ -256,7 +256,7 @@ right (shape.Partition var source key count size advance body) read sources time
           (means_for read sources timed (shape.Partition var source key count size advance body)) stands
           (λ inputs out spill r env sees.
           let result = s.means inputs r.rows r.source_spill r.of_source env sees in
-          let long = results-long source sources timed env r.rows r.source_spill a.0 sees.streams sees.are_long result in
+          let long = results-long lengths source sources timed env r.rows r.source_spill a.0 sees.streams sees.are_long result in
           subst (λ (ss : List Stream). IsOfParts (IsResultIn source env) (parts count (λ row. slice_index row (column_number (columns_of ss source) key)) size advance)
           (IsOfGroup (λ rows. IsResultIn body (only var (columns_of ss source) rows)))
           (has_further count (λ row. slice_index row (column_number (columns_of ss source) key))) out spill) (sym sees.streams)
@@ -276,10 +276,10 @@ right (shape.Partition var source key count size advance body) read sources time
             any = r.any;
           })),
     )
-right (shape.Union l r) read sources timed nodes reader a plan =
-    let first = right l read sources timed nodes reader a.0 plan in
+right lengths (shape.Union l r) read sources timed nodes reader a plan =
+    let first = right lengths l read sources timed nodes reader a.0 plan in
     let left = placed read sources l nodes in
-    let second = right r read sources timed left.nodes reader a.1 first.1.over.plan in
+    let second = right lengths r read sources timed left.nodes reader a.1 first.1.over.plan in
     let both = placed read sources r left.nodes in
     let two = union-stands nodes left both (shape_for read sources l) (shape_for read sources r) (means_for read sources timed l) (means_for read sources timed r) first.1 second.1 a.2 in
     let s = left_still nodes left both (shape_for read sources l) (shape_for read sources r) (means_for read sources timed l) (means_for read sources timed r) first.1 second.1 in (
@@ -296,10 +296,10 @@ right (shape.Union l r) read sources timed nodes reader a plan =
             either = x.either;
           }),
     )
-right (shape.Concat l r) read sources timed nodes reader a plan =
-    let first = right l read sources timed nodes reader a.0 plan in
+right lengths (shape.Concat l r) read sources timed nodes reader a plan =
+    let first = right lengths l read sources timed nodes reader a.0 plan in
     let left = placed read sources l nodes in
-    let second = right r read sources timed left.nodes reader a.1 first.1.over.plan in
+    let second = right lengths r read sources timed left.nodes reader a.1 first.1.over.plan in
     let both = placed read sources r left.nodes in
     let two = beside-stands nodes left both (shape_for read sources l) (shape_for read sources r) (means_for read sources timed l) (means_for read sources timed r) first.1 second.1
     (ap (plan_pace read) a.2.same) (some-pace read sources timed reader (pace_of l) a.2.paced) in
@@ -322,12 +322,12 @@ right (shape.Concat l r) read sources timed nodes reader a plan =
           }),
     )
 
-pub total-delay : (aggs : List AggItemShape) (source : QueryShape) (read : List ℕ → PlanNode) (sources : List Stream) (timed : Bool) (nodes : List PlanNode)
+pub total-delay : ResultsAreLong → (aggs : List AggItemShape) (source : QueryShape) (read : List ℕ → PlanNode) (sources : List Stream) (timed : Bool) (nodes : List PlanNode)
     → IsReader read sources timed → IsAcceptedOver (record { sources = sources; timed = timed }) (shape.Total aggs source) → IsPlan nodes
     → HasDelay (columns_of sources source) aggs (placed read sources source nodes)
-total-delay aggs source read sources timed nodes reader a plan =
+total-delay lengths aggs source read sources timed nodes reader a plan =
     let columns = columns_of sources source in
-    let below = right source read sources timed nodes reader a.0 plan in
+    let below = right lengths source read sources timed nodes reader a.0 plan in
     let are = columns-are source read sources timed reader a.0 in
     (totals-stand columns are.kinds nodes (placed read sources source nodes) (shape_for read sources source) (means_for read sources timed source) refl
     aggs a.1.typed below.1).1

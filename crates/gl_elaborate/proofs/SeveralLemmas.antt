@@ -4,6 +4,7 @@ use Rattle.std.specs.List.{AllByRecursion, AllZip}
 use Rattle.gl_schema.specs.declared.schema.Schema.{Schema}
 use Rattle.gl_query.specs.declared.tree.Statement.{Statement}
 use Rattle.gl_query.specs.Checked.{IsChecked}
+use Rattle.gl_query.specs.Laws.{ResultsAreLong}
 use Rattle.gl_algebra.specs.declared.node.PlanNode.{PlanNode}
 use Rattle.gl_algebra.specs.Fits.{IsPlan}
 use Rattle.gl_algebra.specs.Results.{IsPlanResult}
@@ -38,13 +39,13 @@ record AreRightBehind (old : List PlanNode) (schema : Schema) (statements : List
   kept : (n : ℕ) → n < length old → slice_get all.nodes n ≡ slice_get old n
   each : AllZip (IsRightAt all.nodes schema) statements all.roots
 
-all-right : (statements : List Statement) (nodes : List PlanNode) (schema : Schema) → AllByRecursion (IsChecked schema) statements → IsPlan nodes
+all-right : ResultsAreLong → (statements : List Statement) (nodes : List PlanNode) (schema : Schema) → AllByRecursion (IsChecked schema) statements → IsPlan nodes
     → AreRightBehind nodes schema statements (plans_of nodes schema statements)
-all-right [] nodes schema checked plan = record { plan = plan; longer = omega arith; kept = λ n below. refl; each = tt }
-all-right (s ∷ statements) nodes schema checked plan =
-    let first = right-behind nodes schema s checked.0 plan in
+all-right lengths [] nodes schema checked plan = record { plan = plan; longer = omega arith; kept = λ n below. refl; each = tt }
+all-right lengths (s ∷ statements) nodes schema checked plan =
+    let first = right-behind lengths nodes schema s checked.0 plan in
     let at = plan_behind nodes schema s in
-    let rest = all-right statements at.nodes schema checked.1 first.over.plan in
+    let rest = all-right lengths statements at.nodes schema checked.1 first.over.plan in
     let over = first.over in
     record {
       plan = rest.plan;
@@ -53,7 +54,7 @@ all-right (s ∷ statements) nodes schema checked plan =
       each = (right-kept at.nodes (plans_of at.nodes schema statements).nodes schema s at.root over.plan rest.kept rest.longer first.at, rest.each);
     }
 
-pub several-right : SeveralAreRight
-several-right schema statements checked =
-    let all = all-right statements [] schema checked empty in
+pub several-right : ResultsAreLong → SeveralAreRight
+several-right lengths schema statements checked =
+    let all = all-right lengths statements [] schema checked empty in
     record { plan = all.plan; each = all.each }

@@ -9,6 +9,7 @@ use Rattle.gl_schema.specs.Schemas.{IsSchema, has_stream, kinds_of}
 use Rattle.gl_query.specs.Shapes.{query_shape}
 use Rattle.gl_query.specs.Shapes as shape
 use Rattle.gl_query.specs.Columns.{source_columns}
+use Rattle.gl_query.specs.Laws.{ResultsAreLong}
 use Rattle.gl_query.specs.Results.{env_of, numbered, rows_of, streams_of, ticks_in, times_in}
 use Rattle.gl_algebra.specs.declared.node.PlanNode.{PlanNode}
 use Rattle.gl_algebra.specs.Fits.{IsPlan}
@@ -103,25 +104,25 @@ pub record IsRightBehind (nodes : List PlanNode) (schema : Schema) (statement : 
   pub over : IsOver nodes (plan_behind nodes schema statement)
   pub at : IsRightAt (plan_behind nodes schema statement).nodes schema statement (plan_behind nodes schema statement).root
 
-pub right-behind : (nodes : List PlanNode) (schema : Schema) (statement : Statement) → IsChecked schema statement → IsPlan nodes
+pub right-behind : ResultsAreLong → (nodes : List PlanNode) (schema : Schema) (statement : Statement) → IsChecked schema statement → IsPlan nodes
     → IsRightBehind nodes schema statement
-right-behind nodes schema statement checked plan =
+right-behind lengths nodes schema statement checked plan =
     let reader = schema-reader schema checked.of_schema in
-    let done = right (query_shape statement.query) (stream_node schema.streams) schema.streams true nodes reader checked.accepted plan in
+    let done = right lengths (query_shape statement.query) (stream_node schema.streams) schema.streams true nodes reader checked.accepted plan in
     record {
       fit = done.0;
       over = done.1.over;
       at = record {
         within = done.1.over.within;
         shape = done.1.is;
-        figures = (figures-right (query_shape statement.query) (stream_node schema.streams) schema.streams true nodes reader checked.accepted plan).is;
+        figures = (figures-right lengths (query_shape statement.query) (stream_node schema.streams) schema.streams true nodes reader checked.accepted plan).is;
         results = λ inputs body out spill rows r. done.1.means (leaf_inputs inputs body) out spill r (env_of schema inputs) (schema-sees schema inputs body rows);
       };
     }
 
-pub plans-right : PlansAreRight
-plans-right schema statement checked =
-    let done = right-behind [] schema statement checked empty in
+pub plans-right : ResultsAreLong → PlansAreRight
+plans-right lengths schema statement checked =
+    let done = right-behind lengths [] schema statement checked empty in
     record {
       fit = done.fit;
       plan = done.over.plan;

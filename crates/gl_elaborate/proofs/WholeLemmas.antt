@@ -6,6 +6,7 @@ use Rattle.gl_schema.specs.Schemas.{IsSchema, kinds_of}
 use Rattle.gl_query.specs.declared.tree.Measure.TheVariants.{Tuples, Time}
 use Rattle.gl_query.specs.Accepted.{IsAcceptedOver, schema_scope}
 use Rattle.gl_query.specs.Columns.{columns_of, variable}
+use Rattle.gl_query.specs.Laws.{ResultsAreLong}
 use Rattle.gl_query.specs.Shapes.{QueryShape, query_shape}
 use Rattle.gl_query.specs.Shapes as shape
 use Rattle.gl_algebra.specs.declared.figures.Figures.{Figures}
@@ -106,11 +107,11 @@ module _ (nodes : List PlanNode) (source body size advance : ℕ) (f s : Figures
     windows_figures =
         figures_by new.nodes new.root windows (there nodes windows) (if_light new spare) windows_spare ∙ by_spare (if_light new spare)
 
-module _ (schema : Schema) (fine : IsSchema schema) where
+module _ (lengths : ResultsAreLong) (schema : Schema) (fine : IsSchema schema) where
   -- the figures at the root are the query's
   own_figures : (q : QueryShape) → IsAcceptedOver (schema_scope schema) q
       → figures_of (plan_at schema q).nodes (plan_at schema q).root ≡ query_figures schema.streams q
-  own_figures q a = (figures-right q (stream_node schema.streams) schema.streams true [] (schema-reader schema fine) a empty).is
+  own_figures q a = (figures-right lengths q (stream_node schema.streams) schema.streams true [] (schema-reader schema fine) a empty).is
 
   whole : (q : QueryShape) → IsAcceptedOver (schema_scope schema) q → IsWhole schema q
   whole (shape.Read name) a =
@@ -131,20 +132,20 @@ module _ (schema : Schema) (fine : IsSchema schema) where
       let columns = columns_of streams source in
       let inner : List ℕ → PlanNode = λ name. node.Body (kinds_of columns) in
       let q = shape.Each Tuples var source size advance body in
-      let done = right q (stream_node streams) streams true [] reader a empty in
-      let below = right source (stream_node streams) streams true [] reader a.0 empty in
+      let done = right lengths q (stream_node streams) streams true [] reader a empty in
+      let below = right lengths source (stream_node streams) streams true [] reader a.0 empty in
       let from = placed (stream_node streams) streams source [] in
       let kinds = body-reader var columns (columns-are source (stream_node streams) streams true reader a.0) in
-      let inside = right body inner (variable var columns) false from.nodes kinds a.2 below.1.over.plan in
+      let inside = right lengths body inner (variable var columns) false from.nodes kinds a.2 below.1.over.plan in
       let into = placed inner (variable var columns) body from.nodes in
       let top = (is_added into.nodes (node.Window from.root into.root size advance) inside.1.over.plan done.0.2).over in
       let new = added into.nodes (node.Window from.root into.root size advance) in
       let f = query_figures streams source in
       let s = query_figures (variable var columns) body in
       let of_source = stay from new below.1.over.plan (over-then from.nodes into new inside.1.over top) below.1.over.within
-      ∙ (figures-right source (stream_node streams) streams true [] reader a.0 empty).is in
+      ∙ (figures-right lengths source (stream_node streams) streams true [] reader a.0 empty).is in
       let of_body = stay into new inside.1.over.plan top inside.1.over.within
-      ∙ (figures-right body inner (variable var columns) false from.nodes kinds a.2 below.1.over.plan).is in
+      ∙ (figures-right lengths body inner (variable var columns) false from.nodes kinds a.2 below.1.over.plan).is in
       let of_root = own_figures q a in
       let own : Option Spare → Figures = λ o. figures_with streams o q in
       record {
@@ -164,7 +165,7 @@ module _ (schema : Schema) (fine : IsSchema schema) where
       let p = plain _ (node.Beside _ _) refl in
       record { spare = p.none; figures = p.own ∙ own_figures (shape.Concat l r) a }
 
-pub roots-right : RootsAreRight
-roots-right schema statement checked =
-    let w = whole schema checked.of_schema (query_shape statement.query) checked.accepted in
+pub roots-right : ResultsAreLong → RootsAreRight
+roots-right lengths schema statement checked =
+    let w = whole lengths schema checked.of_schema (query_shape statement.query) checked.accepted in
     record { spare = w.spare; figures = w.figures }

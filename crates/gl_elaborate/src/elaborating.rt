@@ -22,6 +22,7 @@ use gl_query::columns::{
     agg_columns, group_columns, joined_columns, picked_columns, source_columns,
 };
 use gl_query::kinds::column_number;
+use gl_query::laws::results_are_long;
 use gl_query::{Measure, Query, Sources};
 use gl_query_check::Checked;
 use gl_schema::Columns;
@@ -278,6 +279,7 @@ pub fn elaborate_into(alloc: Global, checked: &Checked, plan: &mut Plan) -> Resu
     ensures is { OnOk result (IsPlan plan.new) }
     ensures keeps { Keeps plan.old plan.new }
 {
+    results_are_long();
     let sources = Sources::Schema(checked.schema.streams.as_slice());
     let (root, _columns) = query_into(alloc, sources, &checked.statement.query, plan)?;
     Ok(root)

@@ -20,7 +20,7 @@ query_into-requires-clause-fit c =
     let schema = c.args.checked.now.schema in
     let statement = c.args.checked.now.statement in
     subst (λ (streams : List Stream). PlacedFit (stream_node streams) streams (query_shape statement.query) c.args.plan.now) (sym c.as_slice.ensures)
-    (right-behind c.args.plan.now schema statement c.requires.checked c.requires.plan).fit
+    (right-behind c.results_are_long.ensures c.args.plan.now schema statement c.requires.checked c.requires.plan).fit
 
 pub returns-clause-within : goal.returns-clause-within
 returns-clause-within c =
@@ -28,7 +28,7 @@ returns-clause-within c =
     let statement = c.args.checked.now.statement in
     let at : placed_at c.query_into.new.plan c.in_ok-root.root ≡ plan_behind c.args.plan.now schema statement =
     c.in_ok-root.ensures.root ∙ (λ i. placed (stream_node (c.as_slice.ensures i)) (c.as_slice.ensures i) (query_shape statement.query) c.args.plan.now) in
-    subst (λ (p : Placed). p.root < length p.nodes) (sym at) (right-behind c.args.plan.now schema statement c.requires.checked c.requires.plan).at.within
+    subst (λ (p : Placed). p.root < length p.nodes) (sym at) (right-behind c.results_are_long.ensures c.args.plan.now schema statement c.requires.checked c.requires.plan).at.within
 
 pub returns-clause-is : goal.returns-clause-is
 returns-clause-is c =
@@ -36,4 +36,4 @@ returns-clause-is c =
     let statement = c.args.checked.now.statement in
     let at : placed_at c.query_into.new.plan c.in_ok-root.root ≡ plan_behind c.args.plan.now schema statement =
     c.in_ok-root.ensures.root ∙ (λ i. placed (stream_node (c.as_slice.ensures i)) (c.as_slice.ensures i) (query_shape statement.query) c.args.plan.now) in
-    subst (λ (p : Placed). IsPlan p.nodes) (sym at) (right-behind c.args.plan.now schema statement c.requires.checked c.requires.plan).over.plan
+    subst (λ (p : Placed). IsPlan p.nodes) (sym at) (right-behind c.results_are_long.ensures c.args.plan.now schema statement c.requires.checked c.requires.plan).over.plan
