@@ -1,5 +1,5 @@
 -- What is compiled of the text of a query.
-use Rattle.std.proofs.Common.{◌≡◌, ℕ, ◌≤◌, ◌^◌, List, length, Ok, sym, ap, subst, arith}
+use Rattle.std.proofs.Common.{◌≡◌, ℕ, ◌≤◌, ◌^◌, List, length, sym, ap, subst, arith}
 use Rattle.std.specs.List.{AllByRecursion}
 use Rattle.gl_bits.proofs.AllLists.{length_map}
 use Rattle.gl_values.specs.Kinds.{IsKind}
@@ -17,9 +17,8 @@ use Rattle.gl_elaborate.specs.Plans.{plan_of}
 use Rattle.gl_compiler.specs.Compiles.{HasCost, IsCompiled}
 use Rattle.gl_compiler.specs.Meets.{Meets, result_columns}
 use Rattle.gl_compiler.specs.Built.{IsNoFarther, copies_of, gap_of, latency_of}
-use Rattle.gl_compiler.specs.Queries.{IsQuery, TellsCauses}
+use Rattle.gl_compiler.specs.Queries.{IsQuery}
 use Rattle.gl_compiler.proofs.KnownOf.{all_kinds}
-use Rattle.gl_compiler.proofs.Refusing.{tells_none}
 
 -- a query of the text over the schema is compiled
 pub record IsMade (schema : Schema) (text : List ℕ) (c : Compiled) : Type 0 where
@@ -37,7 +36,6 @@ pub record IsMade (schema : Schema) (text : List ℕ) (c : Compiled) : Type 0 wh
   pub figures : AreFigures c.plan c.figures.items
   pub cost : HasCost schema c.statement c.text.items c.cost
   pub meets : Meets schema c.statement c.printed.latency c.printed.gap c.text.items
-  pub told : TellsCauses schema text (Ok c)
 
 over : AcceptedHaveRealColumns → (schema : Schema) (text : List ℕ) (statement : Statement) (c : Compiled) → IsSchema schema → IsAcceptedText schema text statement → IsCompiled schema statement c → IsMade schema text c
 over columns schema text statement c fine a m =
@@ -59,7 +57,6 @@ over columns schema text statement c fine a m =
       figures = m.figures;
       cost = subst (λ (s : Statement). HasCost schema s c.text.items c.cost) back m.cost;
       meets = subst (λ (s : Statement). Meets schema s c.printed.latency c.printed.gap c.text.items) back m.meets;
-      told = tells_none schema text c fine query;
     }
 
 pub made : AcceptedHaveRealColumns → (schema own : Schema) (text : List ℕ) (statement : Statement) (c : Compiled) → IsSchema schema → own ≡ schema → IsAcceptedText schema text statement → IsCompiled own statement c → IsMade schema text c

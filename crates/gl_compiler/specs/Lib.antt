@@ -4,5 +4,6 @@ pub mod Built
 pub mod Faults
 pub mod Queries
 pub mod Texts
+pub mod Below
 pub mod Dumpable
 pub mod Runnable

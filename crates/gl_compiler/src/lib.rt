@@ -6,6 +6,7 @@
 //! circuit does stand below; how a module runs belongs to gl_runner.
 #![tactic(auto)]
 
+pub mod below;
 pub mod compiling;
 pub mod dumping;
 pub mod executing;

@@ -14,6 +14,7 @@ ghost use Rattle.gl_compiler.specs.Compiles.{HasCost};
 ghost use Rattle.gl_compiler.specs.Queries.{IsQuery, IsQueryRefused, IfRefused, TellsCauses};
 ghost use Rattle.gl_compiler.specs.Texts.{IsCompiledText, IsTextRefused, TellsTextCauses};
 
+use crate::below::laws_below;
 use crate::fault::CompileFault;
 use crate::{Compiled, compile_checked};
 use gl_query::laws::{accepted_have_real_columns, trees_are_alike};
@@ -50,6 +51,7 @@ pub fn compile_query(alloc: Global, schema: Schema, query: &[u8]) -> Result<Comp
     ensures told { TellsCauses schema query.now result }
 {
     accepted_have_real_columns();
+    laws_below();
     statements_are_regular();
     trees_are_alike();
     let checked = judge_query(alloc, &schema, query)?;

@@ -3,7 +3,7 @@ use Rattle.std.proofs.lemmas.Result.{err_from_is_err_and}
 use Rattle.gl_query.specs.Names.{StatementHasNames}
 use Rattle.gl_query.specs.Trees.{statement_tree}
 use Rattle.gl_compiler.proofs.Made.{made}
-use Rattle.gl_compiler.proofs.Refusing.{plan_cause, refusal, refused_goes, tells_of}
+use Rattle.gl_compiler.proofs.Refusing.{plan_cause, refusal, refused_goes, tells_none, tells_of}
 use Rattle.gl_compiler.proofs.querying.compile_query.Goals as goal
 
 -- the text is refused
@@ -16,12 +16,12 @@ returns-in_err-checked-clause-cause c =
 pub returns-in_err-checked-clause-refused : goal.returns-in_err-checked-clause-refused
 returns-in_err-checked-clause-refused c =
     let p = err_from_is_err_and c.from_residual.result c.from_residual.ensures.1 in
-    rw (p.1, p.2) (refused_goes c.args.schema c.args.query.now _ c.requires (refusal c.args.schema c.args.query.now _ c.in_err-checked.ensures.fault))
+    rw (p.1, p.2) (refused_goes c.laws_below.ensures c.args.schema c.args.query.now _ c.requires (refusal c.args.schema c.args.query.now _ c.in_err-checked.ensures.fault))
 
 pub returns-in_err-checked-clause-told : goal.returns-in_err-checked-clause-told
 returns-in_err-checked-clause-told c =
     let p = err_from_is_err_and c.from_residual.result c.from_residual.ensures.1 in
-    rw (p.1, p.2) (tells_of c.args.schema c.args.query.now _ c.requires (refusal c.args.schema c.args.query.now _ c.in_err-checked.ensures.fault))
+    rw (p.1, p.2) (tells_of c.laws_below.ensures c.args.schema c.args.query.now _ c.requires (refusal c.args.schema c.args.query.now _ c.in_err-checked.ensures.fault))
 
 -- its statement is compiled
 
@@ -87,7 +87,8 @@ returns-clause-meets c =
 
 pub returns-clause-told : goal.returns-clause-told
 returns-clause-told c =
-    (made c.accepted_have_real_columns.ensures c.args.schema c.in_ok-checked.checked.schema c.args.query.now c.in_ok-checked.checked.statement c.in_ok-compile_checked.field-0 c.requires c.in_ok-checked.ensures.schema c.in_ok-checked.ensures.accepted c.in_ok-compile_checked.ensures).told
+    tells_none c.laws_below.ensures c.args.schema c.args.query.now c.in_ok-compile_checked.field-0 c.requires
+    (made c.accepted_have_real_columns.ensures c.args.schema c.in_ok-checked.checked.schema c.args.query.now c.in_ok-checked.checked.statement c.in_ok-compile_checked.field-0 c.requires c.in_ok-checked.ensures.schema c.in_ok-checked.ensures.accepted c.in_ok-compile_checked.ensures).built
 
 -- it is not
 
@@ -99,9 +100,9 @@ returns-in_err-compile_checked-clause-cause c =
 pub returns-in_err-compile_checked-clause-refused : goal.returns-in_err-compile_checked-clause-refused
 returns-in_err-compile_checked-clause-refused c =
     let p = err_from_is_err_and c.from_residual-in_err-compile_checked.result c.from_residual-in_err-compile_checked.ensures.1 in
-    rw p.1 (refused_goes c.args.schema c.args.query.now p.0 c.requires (plan_cause c.in_ok-checked.checked.schema c.args.schema c.args.query.now c.in_ok-checked.checked.statement c.in_err-compile_checked.field-0.0 p.0 c.in_ok-checked.ensures.schema p.2 c.in_ok-checked.ensures.accepted c.in_err-compile_checked.ensures))
+    rw p.1 (refused_goes c.laws_below.ensures c.args.schema c.args.query.now p.0 c.requires (plan_cause c.in_ok-checked.checked.schema c.args.schema c.args.query.now c.in_ok-checked.checked.statement c.in_err-compile_checked.field-0.0 p.0 c.in_ok-checked.ensures.schema p.2 c.in_ok-checked.ensures.accepted c.in_err-compile_checked.ensures))
 
 pub returns-in_err-compile_checked-clause-told : goal.returns-in_err-compile_checked-clause-told
 returns-in_err-compile_checked-clause-told c =
     let p = err_from_is_err_and c.from_residual-in_err-compile_checked.result c.from_residual-in_err-compile_checked.ensures.1 in
-    rw p.1 (tells_of c.args.schema c.args.query.now p.0 c.requires (plan_cause c.in_ok-checked.checked.schema c.args.schema c.args.query.now c.in_ok-checked.checked.statement c.in_err-compile_checked.field-0.0 p.0 c.in_ok-checked.ensures.schema p.2 c.in_ok-checked.ensures.accepted c.in_err-compile_checked.ensures))
+    rw p.1 (tells_of c.laws_below.ensures c.args.schema c.args.query.now p.0 c.requires (plan_cause c.in_ok-checked.checked.schema c.args.schema c.args.query.now c.in_ok-checked.checked.statement c.in_err-compile_checked.field-0.0 p.0 c.in_ok-checked.ensures.schema p.2 c.in_ok-checked.ensures.accepted c.in_err-compile_checked.ensures))
