@@ -18,8 +18,8 @@ use Rattle.gl_figures.specs.declared.Limit.{Limit}
 use Rattle.gl_compiler.proofs.Planning.{gap_at}
 use Rattle.gl_elaborate.specs.Plans.{placed, plan_of, stream_node}
 use Rattle.gl_plan.specs.Planned.{IsWithinLimits}
-use Rattle.gl_plan.proofs.LimitLemmas.{one_limit}
 use Rattle.gl_compiler.specs.declared.compiling.Compiled.{Compiled}
+use Rattle.gl_compiler.specs.Below.{LawsBelow}
 use Rattle.gl_compiler.specs.Built.{gap_of, latency_of}
 use Rattle.gl_compiler.specs.Meets.{Meets}
 use Rattle.gl_compiler.specs.declared.fault.CompileFault.{CompileFault}
@@ -32,24 +32,24 @@ use Rattle.gl_load.proofs.Constants.{load_tree, query_faultless, query_has, sche
 use Rattle.gl_load.proofs.Planning.{load_gap, load_plan, plan_within}
 
 -- each statement of the query's text has the query and the plan of the load, and takes a tuple in each cycle
-pub query_is : (s : Statement) → HasStatement query_text (statement_tree s) → query_shape s.query ≡ query_alike load_tree.query
-query_is s has = sym (query_same s.query) ∙ ap (λ (x : StatementTree). query_alike x.query) (one_meaning query_text (statement_tree s) load_tree has query_has)
+pub query_is : LawsBelow → (s : Statement) → HasStatement query_text (statement_tree s) → query_shape s.query ≡ query_alike load_tree.query
+query_is laws s has = sym (query_same s.query) ∙ ap (λ (x : StatementTree). query_alike x.query) (one_meaning laws.texts_have_one_verdict query_text (statement_tree s) load_tree has query_has)
 
-plan_is : (s : Statement) → HasStatement query_text (statement_tree s) → plan_of load_schema s ≡ load_plan
-plan_is s has = ap (λ (q : QueryShape). placed (stream_node load_schema.streams) load_schema.streams q []) (query_is s has)
+plan_is : LawsBelow → (s : Statement) → HasStatement query_text (statement_tree s) → plan_of load_schema s ≡ load_plan
+plan_is laws s has = ap (λ (q : QueryShape). placed (stream_node load_schema.streams) load_schema.streams q []) (query_is laws s has)
 
-pub gap_is : (s : Statement) → HasStatement query_text (statement_tree s) → gap_of load_schema s ≡ 1
-gap_is s has = ap (λ (q : QueryShape). gap_at load_schema q) (query_is s has) ∙ load_gap
+pub gap_is : LawsBelow → (s : Statement) → HasStatement query_text (statement_tree s) → gap_of load_schema s ≡ 1
+gap_is laws s has = ap (λ (q : QueryShape). gap_at load_schema q) (query_is laws s has) ∙ load_gap
 
-faultless : (f : QueryFault) → HasNoStatement query_text f ⊎ BreaksRule load_schema query_text f → ⊥
-faultless f (inl h) = h.none load_tree query_has
-faultless f (inr h) =
-    let tree : h.statement ≡ load_tree = one_meaning query_text h.statement load_tree h.has query_has in
+faultless : LawsBelow → (f : QueryFault) → HasNoStatement query_text f ⊎ BreaksRule load_schema query_text f → ⊥
+faultless laws f (inl h) = h.none load_tree query_has
+faultless laws f (inr h) =
+    let tree : h.statement ≡ load_tree = one_meaning laws.texts_have_one_verdict query_text h.statement load_tree h.has query_has in
     let e : None ≡ Some f = sym query_faultless ∙ ap (first_fault load_schema) (sym tree) ∙ h.first in
     absurd cc
 
-within : (l : Limit) → IsOverLimit load_schema query_text l → ⊥
-within l h = (one_limit (plan_of load_schema h.statement) l h.passes).over (subst IsWithinLimits (sym (plan_is h.statement h.is.has)) plan_within)
+within : LawsBelow → (l : Limit) → IsOverLimit load_schema query_text l → ⊥
+within laws l h = (laws.plans_pass_one_limit (plan_of load_schema h.statement) l h.passes).over (subst IsWithinLimits (sym (plan_is laws h.statement h.is.has)) plan_within)
 
 -- the schema's text has one schema
 schema_is : (schema : Schema) → IsSchemaText schema_text schema → schema ≡ load_schema
@@ -59,18 +59,18 @@ over_load : (f : CompileFault) → OfSchema schema_text (λ schema. IsQueryRefus
 over_load f o = subst (λ (schema : Schema). IsQueryRefused schema query_text f) (schema_is o.schema o.is) o.so
 
 -- the texts are compiled
-pub uncompiled : (f : CompileFault) → IsTextRefused schema_text query_text f → f ≡ compile.Memory
-uncompiled (compile.Schema f) h = absurd (not_both schema_text load_schema f schema_spelled h)
-uncompiled (compile.Query f) h = absurd (faultless f (over_load (compile.Query f) h).found)
-uncompiled (compile.Limit l) h = absurd (within l (over_load (compile.Limit l) h))
-uncompiled compile.Memory h = refl
+pub uncompiled : LawsBelow → (f : CompileFault) → IsTextRefused schema_text query_text f → f ≡ compile.Memory
+uncompiled laws (compile.Schema f) h = absurd (not_both schema_text load_schema f schema_spelled h)
+uncompiled laws (compile.Query f) h = absurd (faultless laws f (over_load (compile.Query f) h).found)
+uncompiled laws (compile.Limit l) h = absurd (within laws l (over_load (compile.Limit l) h))
+uncompiled laws compile.Memory h = refl
 
 -- ---- what is compiled
 
-pub compiled_load : (c : Compiled) → IsCompiledText schema_text query_text c → IsCompiledLoad c
-compiled_load c made =
+pub compiled_load : LawsBelow → (c : Compiled) → IsCompiledText schema_text query_text c → IsCompiledLoad c
+compiled_load laws c made =
     let schema : c.schema ≡ load_schema = schema_is c.schema made.schema in
-    record { made = made; schema = schema; gap = made.compiled.gap ∙ ap (λ (s : Schema). gap_of s c.statement) schema ∙ gap_is c.statement made.query'.has }
+    record { made = made; schema = schema; gap = made.compiled.gap ∙ ap (λ (s : Schema). gap_of s c.statement) schema ∙ gap_is laws c.statement made.query'.has }
 
 -- its text meets the statement over the schema of the load
 pub meets_load : (c : Compiled) → IsCompiledLoad c → Meets load_schema c.statement (latency_of load_schema c.statement) (gap_of load_schema c.statement) c.text.items

@@ -20,6 +20,7 @@ use Rattle.gl_verilog.specs.declared.start.Start.TheVariants.{Zero}
 use Rattle.gl_verilog_ports.specs.Profile.{result_names}
 use Rattle.gl_compiler.specs.declared.compiling.Compiled.{Compiled}
 use Rattle.gl_runner.specs.declared.executing.Outcome.TheVariants.{Done}
+use Rattle.gl_compiler.specs.Below.{LawsBelow}
 use Rattle.gl_compiler.specs.Built.{gap_of, latency_of}
 use Rattle.gl_compiler.specs.Meets.{result_columns}
 use Rattle.gl_compiler.specs.Queries.{IsQuery}
@@ -61,14 +62,14 @@ abbrev pub HasOne : List ℕ → Type 0
 HasOne text = (m n : Module) → HasModule text m → HasModule text n → m ≡ n
 
 -- each run is right
-right_of : (count : ℕ) (c : Compiled) → 1 ≤ count → HasOne c.text.items → IsCompiledLoad c
+right_of : LawsBelow → (count : ℕ) (c : Compiled) → 1 ≤ count → HasOne c.text.items → IsCompiledLoad c
     → OfEachRun c.text.items load_schema (load_beats count) Zero (IsRight (IsResult load_schema c.statement) (latency_of load_schema c.statement) (load_beats count))
-right_of count c some one is m value word has over =
+right_of laws count c some one is m value word has over =
     let beats = load_beats count in
     let meets = meets_load c is in
     let same : m ≡ meets.design = one m meets.design has meets.has in
     let run : IsRunOver meets.design load_schema beats Zero value word = subst (λ (x : Module). IsRunOver x load_schema beats Zero value word) same over in
-    let near : KeepsGap (gap_of load_schema c.statement) beats = subst (λ (n : ℕ). KeepsGap n beats) (sym (gap_is c.statement is.made.query'.has)) (keep_gap count) in
+    let near : KeepsGap (gap_of load_schema c.statement) beats = subst (λ (n : ℕ). KeepsGap n beats) (sym (gap_is laws c.statement is.made.query'.has)) (keep_gap count) in
     subst (λ (x : Module). IsRight (IsResult load_schema c.statement) (latency_of load_schema c.statement) beats (result_names x) (port_of x value)) (sym same)
     (meets.right beats value word (record { are = are_beats count some; keep = near; run = run.run; stimulus = run.stimulus }))
 
@@ -92,12 +93,12 @@ tells_run count s latency outs port bytes summary query right are told =
           ∙ subst (λ (ks : List Kind). summary_of count (lines ks (seen port outs n)) ≡ spec.summary_of count ks (seen port outs n) n) (sym numbers) (told_seen 32 32 (Unsigned 32 ∷ []) tt count outs port n are.is.ends counted);
     }
 
-pub loaded : (count : ℕ) (c : Compiled) (lines kept summary : List ℕ) → 1 ≤ count → HasOne c.text.items → IsCompiledLoad c → AreRunLines c (load_beats count) kept → lines ≡ kept → summary ≡ summary_of count lines → IsLoad count summary c.text.items
-loaded count c lines kept summary some one is run same told = record {
+pub loaded : LawsBelow → (count : ℕ) (c : Compiled) (lines kept summary : List ℕ) → 1 ≤ count → HasOne c.text.items → IsCompiledLoad c → AreRunLines c (load_beats count) kept → lines ≡ kept → summary ≡ summary_of count lines → IsLoad count summary c.text.items
+loaded laws count c lines kept summary some one is run same told = record {
   statement = c.statement;
   query' = subst (λ (x : Schema). IsQuery x query_text c.statement) is.schema is.made.query';
   meets = meets_load c is;
   told = λ m value word has over.
       let r = run m value word has over in
-      tells_run count c.statement (latency_of load_schema c.statement) (result_names m) (port_of m value) r.0 summary (query_is c.statement is.made.query'.has) (right_of count c some one is m value word has over) r.1 (told ∙ ap (summary_of count) (same ∙ r.2));
+      tells_run count c.statement (latency_of load_schema c.statement) (result_names m) (port_of m value) r.0 summary (query_is laws c.statement is.made.query'.has) (right_of laws count c some one is m value word has over) r.1 (told ∙ ap (summary_of count) (same ∙ r.2));
 }

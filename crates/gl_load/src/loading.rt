@@ -12,6 +12,7 @@ use crate::text_sink::TextSink;
 use crate::tuples::load_beats;
 use crate::{query_text, schema_text};
 use gl_bits::Memory;
+use gl_compiler::below::laws_below;
 use gl_compiler::{CompileFault, Compiled, Outcome, compile, run_compiled};
 use gl_query::laws::accepted_have_real_columns;
 use gl_tuples::Beats;
@@ -41,6 +42,7 @@ fn uncompiled(fault: CompileFault) -> Memory
 fn compile_load(alloc: Global) -> Result<Compiled, Memory>
     ensures { IfOk result IsCompiledLoad }
 {
+    laws_below();
     match compile(alloc, schema_text(), query_text()) {
         Ok(compiled) => Ok(compiled),
         Err(fault) => Err(uncompiled(fault)),
@@ -77,6 +79,7 @@ pub fn load(alloc: Global, count: u32) -> Result<Loaded, Memory>
     requires some { 1 ≤ count }
     ensures { IfOk result (λ l. IsLoad count l.summary.items l.compiled.text.items) }
 {
+    laws_below();
     one_module();
     let compiled = compile_load(alloc)?;
     let beats = load_beats(alloc, compiled.schema(), count)?;

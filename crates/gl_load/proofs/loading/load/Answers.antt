@@ -13,7 +13,7 @@ pub run-requires-clause-gap : goal.run-requires-clause-gap
 run-requires-clause-gap c = subst (KeepsGap 1) (sym c.in_ok-beats.ensures) (keep_gap c.args.count)
 
 pub returns : goal.returns
-returns c = loaded c.args.count c.in_ok-compiled.compiled c.bytes.result.now c.in_ok-lines.lines.bytes c.in_ok-summary.summary.items
+returns c = loaded c.laws_below.ensures c.args.count c.in_ok-compiled.compiled c.bytes.result.now c.in_ok-lines.lines.bytes c.in_ok-summary.summary.items
     c.requires.some (c.one_module.ensures c.in_ok-compiled.compiled.text.items) c.in_ok-compiled.ensures
     (subst (λ (beats : List Beat). AreRunLines c.in_ok-compiled.compiled beats c.in_ok-lines.lines.bytes) c.in_ok-beats.ensures c.in_ok-lines.ensures)
     c.bytes.ensures c.in_ok-summary.ensures
