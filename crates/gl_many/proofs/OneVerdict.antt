@@ -7,34 +7,33 @@ use Rattle.gl_query.specs.Shapes.{QueryShape, query_shape}
 use Rattle.gl_query.specs.Trees.{statement_tree}
 use Rattle.gl_query_texts.specs.Lists.{HasStatements}
 use Rattle.gl_query_texts.specs.ListLaws.{IsVerdict, Verdict}
-use Rattle.gl_query_texts.proofs.Verdicts.{verdicts}
 use Rattle.gl_figures.specs.declared.Limit.{Limit}
 use Rattle.gl_elaborate.specs.Figures.{query_figures}
 use Rattle.gl_elaborate.specs.Plans.{Several, plans_of}
 use Rattle.gl_compiler.proofs.Shaped.{shapes_alike}
 use Rattle.gl_plan.specs.Together.{AreWithinLimits, PassLimit}
-use Rattle.gl_plan.proofs.TogetherLemmas.{several-one-limit}
+use Rattle.gl_many.specs.Below.{LawsBelow}
 use Rattle.gl_many.specs.Meets.{shared_gap}
 use Rattle.gl_many.specs.Queries.{AreOverLimit, AreQueries, IsFaultOfAll, trees_of}
 use Rattle.gl_many.proofs.Alike.{joint_plans_alike}
 
 -- ---- one verdict
 
-same_verdict : (schema : Schema) (text : List ℕ) (v w : Verdict) → IsVerdict schema text v → IsVerdict schema text w → v ≡ w
-same_verdict schema text v w h k = let one = verdicts schema text in one.only v h ∙ sym (one.only w k)
+same_verdict : LawsBelow → (schema : Schema) (text : List ℕ) (v w : Verdict) → IsVerdict schema text v → IsVerdict schema text w → v ≡ w
+same_verdict laws schema text v w h k = let one = laws.texts_have_one_verdict schema text in one.only v h ∙ sym (one.only w k)
 
-pub one_list : (schema : Schema) (text : List ℕ) (ss ts : List Statement) → HasStatements schema text (trees_of ss) → HasStatements schema text (trees_of ts) → trees_of ss ≡ trees_of ts
-one_list schema text ss ts h k =
-    let e : ◌≡◌ {A = Verdict} (Ok (trees_of ss)) (Ok (trees_of ts)) = same_verdict schema text (Ok (trees_of ss)) (Ok (trees_of ts)) h k in cc
+pub one_list : LawsBelow → (schema : Schema) (text : List ℕ) (ss ts : List Statement) → HasStatements schema text (trees_of ss) → HasStatements schema text (trees_of ts) → trees_of ss ≡ trees_of ts
+one_list laws schema text ss ts h k =
+    let e : ◌≡◌ {A = Verdict} (Ok (trees_of ss)) (Ok (trees_of ts)) = same_verdict laws schema text (Ok (trees_of ss)) (Ok (trees_of ts)) h k in cc
 
-pub one_fault_of_all : (schema : Schema) (text : List ℕ) (f g : QueryFault) → IsFaultOfAll schema text f → IsFaultOfAll schema text g → f ≡ g
-one_fault_of_all schema text f g h k =
-    let e : ◌≡◌ {A = Verdict} (Err f) (Err g) = same_verdict schema text (Err f) (Err g) h.found k.found in cc
+pub one_fault_of_all : LawsBelow → (schema : Schema) (text : List ℕ) (f g : QueryFault) → IsFaultOfAll schema text f → IsFaultOfAll schema text g → f ≡ g
+one_fault_of_all laws schema text f g h k =
+    let e : ◌≡◌ {A = Verdict} (Err f) (Err g) = same_verdict laws schema text (Err f) (Err g) h.found k.found in cc
 
 -- a text that has a fault has no statements
-pub no_list : (schema : Schema) (text : List ℕ) (f : QueryFault) (ss : List Statement) → IsFaultOfAll schema text f → HasStatements schema text (trees_of ss) → ⊥
-no_list schema text f ss h k =
-    let e : ◌≡◌ {A = Verdict} (Err f) (Ok (trees_of ss)) = same_verdict schema text (Err f) (Ok (trees_of ss)) h.found k in cc
+pub no_list : LawsBelow → (schema : Schema) (text : List ℕ) (f : QueryFault) (ss : List Statement) → IsFaultOfAll schema text f → HasStatements schema text (trees_of ss) → ⊥
+no_list laws schema text f ss h k =
+    let e : ◌≡◌ {A = Verdict} (Err f) (Ok (trees_of ss)) = same_verdict laws schema text (Err f) (Ok (trees_of ss)) h.found k in cc
 
 -- ---- statements of the same trees
 
@@ -55,20 +54,20 @@ gaps_alike schema (s ∷ ss) (t ∷ ts) e =
 -- ---- what a text's statements have
 
 -- two lists of statements of a text have one joint plan
-same_plans : (schema : Schema) (text : List ℕ) (ss ts : List Statement) → HasStatements schema text (trees_of ss) → HasStatements schema text (trees_of ts) → plans_of [] schema ss ≡ plans_of [] schema ts
-same_plans schema text ss ts h k = joint_plans_alike schema ss ts (one_list schema text ss ts h k)
+same_plans : LawsBelow → (schema : Schema) (text : List ℕ) (ss ts : List Statement) → HasStatements schema text (trees_of ss) → HasStatements schema text (trees_of ts) → plans_of [] schema ss ≡ plans_of [] schema ts
+same_plans laws schema text ss ts h k = joint_plans_alike schema ss ts (one_list laws schema text ss ts h k)
 
-pub one_gap_of_all : (schema : Schema) (text : List ℕ) (ss ts : List Statement) → AreQueries schema text ss → AreQueries schema text ts → shared_gap schema ss ≡ shared_gap schema ts
-one_gap_of_all schema text ss ts p q = gaps_alike schema ss ts (one_list schema text ss ts p.has q.has)
+pub one_gap_of_all : LawsBelow → (schema : Schema) (text : List ℕ) (ss ts : List Statement) → AreQueries schema text ss → AreQueries schema text ts → shared_gap schema ss ≡ shared_gap schema ts
+one_gap_of_all laws schema text ss ts p q = gaps_alike schema ss ts (one_list laws schema text ss ts p.has q.has)
 
 -- the limits that their joint plans pass are one
-pub one_limit_of_all : (schema : Schema) (text : List ℕ) (l m : Limit) → AreOverLimit schema text l → AreOverLimit schema text m → l ≡ m
-one_limit_of_all schema text l m o p =
-    let same = same_plans schema text p.statements o.statements p.has o.has in
-    sym ((several-one-limit (plans_of [] schema o.statements) l o.pass).only m (subst (λ (all : Several). PassLimit all m) same p.pass))
+pub one_limit_of_all : LawsBelow → (schema : Schema) (text : List ℕ) (l m : Limit) → AreOverLimit schema text l → AreOverLimit schema text m → l ≡ m
+one_limit_of_all laws schema text l m o p =
+    let same = same_plans laws schema text p.statements o.statements p.has o.has in
+    sym ((laws.several_pass_one_limit (plans_of [] schema o.statements) l o.pass).only m (subst (λ (all : Several). PassLimit all m) same p.pass))
 
 -- and none is passed where others are within the limits
-pub all_within : (schema : Schema) (text : List ℕ) (ss : List Statement) (l : Limit) → AreOverLimit schema text l → AreQueries schema text ss → ⊥
-all_within schema text ss l o is =
-    let same = same_plans schema text ss o.statements is.has o.has in
-    (several-one-limit (plans_of [] schema o.statements) l o.pass).over (subst AreWithinLimits same is.within)
+pub all_within : LawsBelow → (schema : Schema) (text : List ℕ) (ss : List Statement) (l : Limit) → AreOverLimit schema text l → AreQueries schema text ss → ⊥
+all_within laws schema text ss l o is =
+    let same = same_plans laws schema text ss o.statements is.has o.has in
+    (laws.several_pass_one_limit (plans_of [] schema o.statements) l o.pass).over (subst AreWithinLimits same is.within)

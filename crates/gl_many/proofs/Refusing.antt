@@ -15,6 +15,7 @@ use Rattle.gl_compiler.specs.declared.fault.CompileFault.TheVariants as compile
 use Rattle.gl_compiler.specs.Faults.{fault_of_plan, fault_of_query}
 use Rattle.gl_compiler.specs.Queries.{IfRefused}
 use Rattle.gl_many.specs.declared.compiling.Many.{Many}
+use Rattle.gl_many.specs.Below.{LawsBelow}
 use Rattle.gl_many.specs.Queries.{AreOverLimit, AreQueries, AreRefused, IsFaultOfAll, IsToldOfAll, TellsCausesOfAll, trees_of}
 use Rattle.gl_many.proofs.OneVerdict.{all_within, no_list, one_fault_of_all, one_limit_of_all}
 
@@ -56,25 +57,25 @@ plan_cause schema text ss f g told has pass = rw told (plan_told schema text ss 
 
 -- ---- one cause
 
-module _ (schema : Schema) (text : List ℕ) where
+module _ (laws : LawsBelow) (schema : Schema) (text : List ℕ) where
   pub refused_goes : (f : CompileFault) → AreRefused schema text f → IfRefused f ((ss : List Statement) → AreQueries schema text ss → ⊥)
   refused_goes (compile.Schema f) h = absurd h
-  refused_goes (compile.Query f) h = λ ss is. no_list schema text f ss h is.has
-  refused_goes (compile.Limit l) h = λ ss is. all_within schema text ss l h is
+  refused_goes (compile.Query f) h = λ ss is. no_list laws schema text f ss h is.has
+  refused_goes (compile.Limit l) h = λ ss is. all_within laws schema text ss l h is
   refused_goes compile.Memory h = tt
 
   -- ---- each cause is told
 
   fault_told : (g : CompileFault) (f : QueryFault) → AreRefused schema text g → IsFaultOfAll schema text f → IsToldOfAll (Err g) (compile.Query f)
   fault_told (compile.Schema g) f h is = absurd h
-  fault_told (compile.Query g) f h is = inl (let e : g ≡ f = one_fault_of_all schema text g f h is in rw e refl)
-  fault_told (compile.Limit l) f h is = absurd (no_list schema text f h.statements is h.has)
+  fault_told (compile.Query g) f h is = inl (let e : g ≡ f = one_fault_of_all laws schema text g f h is in rw e refl)
+  fault_told (compile.Limit l) f h is = absurd (no_list laws schema text f h.statements is h.has)
   fault_told compile.Memory f h is = inr refl
 
   limit_told : (g : CompileFault) (l : Limit) → AreRefused schema text g → AreOverLimit schema text l → IsToldOfAll (Err g) (compile.Limit l)
   limit_told (compile.Schema g) l h is = absurd h
-  limit_told (compile.Query g) l h is = absurd (no_list schema text g is.statements h is.has)
-  limit_told (compile.Limit m) l h is = inl (let e : m ≡ l = one_limit_of_all schema text m l h is in rw e refl)
+  limit_told (compile.Query g) l h is = absurd (no_list laws schema text g is.statements h is.has)
+  limit_told (compile.Limit m) l h is = inl (let e : m ≡ l = one_limit_of_all laws schema text m l h is in rw e refl)
   limit_told compile.Memory l h is = inr refl
 
   pub tells_of : (g : CompileFault) → AreRefused schema text g → TellsCausesOfAll schema text (Err g)
@@ -85,6 +86,6 @@ module _ (schema : Schema) (text : List ℕ) where
 
   pub tells_none : (m : Many) (ss : List Statement) → AreQueries schema text ss → TellsCausesOfAll schema text (Ok m)
   tells_none m ss is (compile.Schema f) = λ cause. absurd cause
-  tells_none m ss is (compile.Query f) = λ cause. absurd (no_list schema text f ss cause is.has)
-  tells_none m ss is (compile.Limit l) = λ over. absurd (all_within schema text ss l over is)
+  tells_none m ss is (compile.Query f) = λ cause. absurd (no_list laws schema text f ss cause is.has)
+  tells_none m ss is (compile.Limit l) = λ over. absurd (all_within laws schema text ss l over is)
   tells_none m ss is compile.Memory = tt

@@ -12,6 +12,7 @@ ghost use Rattle.gl_many.specs.Meets.{MeetTogether, shared_gap};
 ghost use Rattle.gl_many.specs.Queries.{AreQueries, AreRefused, TellsCausesOfAll};
 ghost use Rattle.gl_many.specs.Roots.{CanStand};
 
+use crate::below::laws_below;
 use crate::rooting::roots_of;
 use gl_bits::Memory;
 use gl_compiler::CompileFault;
@@ -150,6 +151,7 @@ pub fn compile_many(alloc: Global, schema: Schema, queries: &[u8]) -> Result<Man
     ensures told { TellsCausesOfAll schema queries.now result }
 {
     accepted_have_real_columns();
+    laws_below();
     plans_are_right();
     plans_tell_time();
     several_are_right();

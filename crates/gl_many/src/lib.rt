@@ -5,6 +5,7 @@
 //! statement is compiled in gl_compiler; the loop over the cycles stands in gl_runner.
 #![tactic(auto)]
 
+pub mod below;
 pub mod compiling;
 pub mod executing;
 mod faces;

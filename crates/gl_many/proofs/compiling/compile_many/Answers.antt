@@ -22,12 +22,12 @@ returns-in_err-statements-clause-cause c =
 pub returns-in_err-statements-clause-refused : goal.returns-in_err-statements-clause-refused
 returns-in_err-statements-clause-refused c =
     let p = err_from_is_err_and c.from_residual.result c.from_residual.ensures.1 in
-    rw (p.1, p.2) (refused_goes c.args.schema c.args.queries.now _ (list_cause c.args.schema c.args.queries.now _ c.in_err-statements.ensures.fault))
+    rw (p.1, p.2) (refused_goes c.laws_below.ensures c.args.schema c.args.queries.now _ (list_cause c.args.schema c.args.queries.now _ c.in_err-statements.ensures.fault))
 
 pub returns-in_err-statements-clause-told : goal.returns-in_err-statements-clause-told
 returns-in_err-statements-clause-told c =
     let p = err_from_is_err_and c.from_residual.result c.from_residual.ensures.1 in
-    rw (p.1, p.2) (tells_of c.args.schema c.args.queries.now _ (list_cause c.args.schema c.args.queries.now _ c.in_err-statements.ensures.fault))
+    rw (p.1, p.2) (tells_of c.laws_below.ensures c.args.schema c.args.queries.now _ (list_cause c.args.schema c.args.queries.now _ c.in_err-statements.ensures.fault))
 
 -- it has some
 
@@ -59,7 +59,7 @@ returns-in_err-planned-clause-refused c =
     let found = c.in_ok-statements.ensures in
     let has = subst (λ (all : List Checked). HasStatements schema text (trees_of (statements_of all))) (sym c.as_slice.ensures)
     (has_trees schema c.in_ok-statements.statements found.checked text c.requires found.statements) in
-    rw p.1 (refused_goes schema text p.0 (plan_cause schema text (statements_of c.as_slice.result.now) c.in_err-planned.field-0.0 p.0 p.2 has c.in_err-planned.ensures.fault))
+    rw p.1 (refused_goes c.laws_below.ensures schema text p.0 (plan_cause schema text (statements_of c.as_slice.result.now) c.in_err-planned.field-0.0 p.0 p.2 has c.in_err-planned.ensures.fault))
 
 pub returns-in_err-planned-clause-told : goal.returns-in_err-planned-clause-told
 returns-in_err-planned-clause-told c =
@@ -69,7 +69,7 @@ returns-in_err-planned-clause-told c =
     let found = c.in_ok-statements.ensures in
     let has = subst (λ (all : List Checked). HasStatements schema text (trees_of (statements_of all))) (sym c.as_slice.ensures)
     (has_trees schema c.in_ok-statements.statements found.checked text c.requires found.statements) in
-    rw p.1 (tells_of schema text p.0 (plan_cause schema text (statements_of c.as_slice.result.now) c.in_err-planned.field-0.0 p.0 p.2 has c.in_err-planned.ensures.fault))
+    rw p.1 (tells_of c.laws_below.ensures schema text p.0 (plan_cause schema text (statements_of c.as_slice.result.now) c.in_err-planned.field-0.0 p.0 p.2 has c.in_err-planned.ensures.fault))
 
 -- which have one
 
@@ -98,4 +98,4 @@ returns-clause-told c =
     let planned = c.in_ok-planned.planned in
     let is = subst (λ (all : List Checked). ArePlanned schema (statements_of all) planned) c.as_slice.ensures c.in_ok-planned.ensures.planned in
     let m : Many = record { text = c.in_ok-planned.text; schema = schema; statements = c.in_ok-statements.statements; planned = planned } in
-    tells_none schema c.args.queries.now m (statements_of m.statements) (are_queries schema c.args.queries.now m c.requires refl found.statements found.checked is)
+    tells_none c.laws_below.ensures schema c.args.queries.now m (statements_of m.statements) (are_queries schema c.args.queries.now m c.requires refl found.statements found.checked is)
