@@ -14,13 +14,12 @@ use Rattle.gl_verilog_faults.specs.Demands.{Undeclared, TwiceDeclared, TwiceDriv
 use Rattle.gl_verilog_faults.specs.Faults.{Verdict, IsModule, IsSyntax, IsTooDeep, Breaks, IsVerdict}
 use Rattle.gl_verilog_faults.proofs.Exact.{one_place}
 use Rattle.gl_verilog_grammar.proofs.ReadModules.{one_spelt}
-use Rattle.gl_verilog_grammar.proofs.Verdicts.{one_only}
 use Rattle.gl_verilog_tokens.specs.declared.fault.VerilogFault.{VerilogFault}
 use Rattle.gl_verilog_tokens.specs.declared.fault.VerilogFault.TheVariants as verilog
 use Rattle.gl_verilog_reader.specs.declared.source.Source.{Source}
 use Rattle.gl_verilog_reader.specs.Reading.{IsFaultIn, fault_as}
 use Rattle.gl_verilog_reader.specs.Sources.{IsSource}
-use Rattle.gl_verilog_reader.proofs.Places.{only_memory, only_module}
+use Rattle.gl_verilog_reader.proofs.Places.{OneVerdict, only_memory, only_module}
 use Rattle.gl_verilog_ports.specs.declared.fitting.Ports.{Ports}
 use Rattle.gl_verilog_ports.specs.declared.fitting.Misfit.{Misfit}
 use Rattle.gl_verilog_ports.specs.Fit.{fit_of}
@@ -129,27 +128,27 @@ port_module : (s : Schema) (text : List ℕ) (at : ℕ) (is : IsPortFault text s
 port_module s text at is = record { written = is.written; spelled = is.spelled; grammar = is.grammar; limits = is.limits; resolved = is.resolved; valid = is.valid }
 
 -- a module that does not fit is another
-port_goes : (s : Schema) (text : List ℕ) (m : Module) (ports : Ports) (at : ℕ) → HasModule text m → fit_of m s ≡ Ok ports → IsPortFault text s at → ⊥
-port_goes s text m ports at has fits is =
-    let same : m ≡ is.design = only_module one_only text m is.design has (port_module s text at is) in
+port_goes : OneVerdict → (s : Schema) (text : List ℕ) (m : Module) (ports : Ports) (at : ℕ) → HasModule text m → fit_of m s ≡ Ok ports → IsPortFault text s at → ⊥
+port_goes only s text m ports at has fits is =
+    let same : m ≡ is.design = only_module only text m is.design has (port_module s text at is) in
     let e : ◌≡◌ {A = Result Ports Misfit} (Ok ports) (Err is.misfit) = sym fits ∙ ap (λ (x : Module). fit_of x s) same ∙ is.is in
     cc
 
-pub module_goes : (s : Schema) (text : List ℕ) (m : Module) (ports : Ports) (f : VerilogFault) → HasModule text m → fit_of m s ≡ Ok ports → IsModuleFault s text f → ⊥
-module_goes s text m ports verilog.Memory has fits is = is
-module_goes s text m ports (verilog.BadPort at) has fits is = port_goes s text m ports at has fits is
-module_goes s text m ports (verilog.Syntax at) has fits is = let e : verilog.Syntax at ≡ verilog.Memory = only_memory one_only text m (verilog.Syntax at) has is in cc
-module_goes s text m ports (verilog.Undeclared at) has fits is = let e : verilog.Undeclared at ≡ verilog.Memory = only_memory one_only text m (verilog.Undeclared at) has is in cc
-module_goes s text m ports (verilog.TwiceDeclared at) has fits is = let e : verilog.TwiceDeclared at ≡ verilog.Memory = only_memory one_only text m (verilog.TwiceDeclared at) has is in cc
-module_goes s text m ports (verilog.TwiceDriven at) has fits is = let e : verilog.TwiceDriven at ≡ verilog.Memory = only_memory one_only text m (verilog.TwiceDriven at) has is in cc
-module_goes s text m ports (verilog.NeverDriven at) has fits is = let e : verilog.NeverDriven at ≡ verilog.Memory = only_memory one_only text m (verilog.NeverDriven at) has is in cc
-module_goes s text m ports (verilog.WidthsDiffer at) has fits is = let e : verilog.WidthsDiffer at ≡ verilog.Memory = only_memory one_only text m (verilog.WidthsDiffer at) has is in cc
-module_goes s text m ports (verilog.Loop at) has fits is = let e : verilog.Loop at ≡ verilog.Memory = only_memory one_only text m (verilog.Loop at) has is in cc
-module_goes s text m ports (verilog.BadMemory at) has fits is = let e : verilog.BadMemory at ≡ verilog.Memory = only_memory one_only text m (verilog.BadMemory at) has is in cc
-module_goes s text m ports (verilog.ClockRead at) has fits is = let e : verilog.ClockRead at ≡ verilog.Memory = only_memory one_only text m (verilog.ClockRead at) has is in cc
-module_goes s text m ports (verilog.TooWide at) has fits is = let e : verilog.TooWide at ≡ verilog.Memory = only_memory one_only text m (verilog.TooWide at) has is in cc
-module_goes s text m ports (verilog.BadTarget at) has fits is = let e : verilog.BadTarget at ≡ verilog.Memory = only_memory one_only text m (verilog.BadTarget at) has is in cc
-module_goes s text m ports (verilog.TooDeep at) has fits is = let e : verilog.TooDeep at ≡ verilog.Memory = only_memory one_only text m (verilog.TooDeep at) has is in cc
+pub module_goes : OneVerdict → (s : Schema) (text : List ℕ) (m : Module) (ports : Ports) (f : VerilogFault) → HasModule text m → fit_of m s ≡ Ok ports → IsModuleFault s text f → ⊥
+module_goes only s text m ports verilog.Memory has fits is = is
+module_goes only s text m ports (verilog.BadPort at) has fits is = port_goes only s text m ports at has fits is
+module_goes only s text m ports (verilog.Syntax at) has fits is = let e : verilog.Syntax at ≡ verilog.Memory = only_memory only text m (verilog.Syntax at) has is in cc
+module_goes only s text m ports (verilog.Undeclared at) has fits is = let e : verilog.Undeclared at ≡ verilog.Memory = only_memory only text m (verilog.Undeclared at) has is in cc
+module_goes only s text m ports (verilog.TwiceDeclared at) has fits is = let e : verilog.TwiceDeclared at ≡ verilog.Memory = only_memory only text m (verilog.TwiceDeclared at) has is in cc
+module_goes only s text m ports (verilog.TwiceDriven at) has fits is = let e : verilog.TwiceDriven at ≡ verilog.Memory = only_memory only text m (verilog.TwiceDriven at) has is in cc
+module_goes only s text m ports (verilog.NeverDriven at) has fits is = let e : verilog.NeverDriven at ≡ verilog.Memory = only_memory only text m (verilog.NeverDriven at) has is in cc
+module_goes only s text m ports (verilog.WidthsDiffer at) has fits is = let e : verilog.WidthsDiffer at ≡ verilog.Memory = only_memory only text m (verilog.WidthsDiffer at) has is in cc
+module_goes only s text m ports (verilog.Loop at) has fits is = let e : verilog.Loop at ≡ verilog.Memory = only_memory only text m (verilog.Loop at) has is in cc
+module_goes only s text m ports (verilog.BadMemory at) has fits is = let e : verilog.BadMemory at ≡ verilog.Memory = only_memory only text m (verilog.BadMemory at) has is in cc
+module_goes only s text m ports (verilog.ClockRead at) has fits is = let e : verilog.ClockRead at ≡ verilog.Memory = only_memory only text m (verilog.ClockRead at) has is in cc
+module_goes only s text m ports (verilog.TooWide at) has fits is = let e : verilog.TooWide at ≡ verilog.Memory = only_memory only text m (verilog.TooWide at) has is in cc
+module_goes only s text m ports (verilog.BadTarget at) has fits is = let e : verilog.BadTarget at ≡ verilog.Memory = only_memory only text m (verilog.BadTarget at) has is in cc
+module_goes only s text m ports (verilog.TooDeep at) has fits is = let e : verilog.TooDeep at ≡ verilog.Memory = only_memory only text m (verilog.TooDeep at) has is in cc
 
 -- ---- one fault
 
@@ -182,10 +181,10 @@ found s text (verilog.TooWide at) is = ByText (Breaks TooWide at) is refl
 found s text (verilog.BadTarget at) is = ByText (Breaks BadTarget at) is refl
 
 -- the ports do not fit in one way, which is shown at one place
-one_port : (s : Schema) (text : List ℕ) (p q : ℕ) → IsPortFault text s p → IsPortFault text s q → p ≡ q
-one_port s text p q a b =
+one_port : OneVerdict → (s : Schema) (text : List ℕ) (p q : ℕ) → IsPortFault text s p → IsPortFault text s q → p ≡ q
+one_port only s text p q a b =
     let w : a.written ≡ b.written = one_spelt a.written b.written a.grammar b.grammar (sym a.spelled ∙ b.spelled) in
-    let m : a.design ≡ b.design = only_module one_only text a.design b.design (port_module s text p a) (port_module s text q b) in
+    let m : a.design ≡ b.design = only_module only text a.design b.design (port_module s text p a) (port_module s text q b) in
     let errs : ◌≡◌ {A = Result Ports Misfit} (Err a.misfit) (Err b.misfit) = sym a.is ∙ ap (λ (x : Module). fit_of x s) m ∙ b.is in
     let misfit : a.misfit ≡ b.misfit = cc in
     let tokens : ◌≡◌ {A = Option ℕ} (Some a.token) (Some b.token) = sym a.shows ∙ ap (λ (x : WrittenModule). misfit_token x a.misfit) w ∙ ap (misfit_token b.written) misfit ∙ b.shows in
@@ -193,15 +192,15 @@ one_port s text p q a b =
     one_place text a.token p q a.place (subst (λ (k : ℕ). IsPlaceOf text k q) (sym token) b.place)
 
 -- a text whose ports do not fit has a module, so it has no other fault
-port_only : (s : Schema) (text : List ℕ) (f : VerilogFault) (at : ℕ) (v : Verdict) → IsModuleFault s text f → IsVerdict text v → f ≡ verdict_fault v → IsPortFault text s at → ⊥
-port_only s text f at v is so e port =
-    real_fault s text f is (e ∙ ap verdict_fault (one_only text v (IsModule port.design) so (port_module s text at port)))
+port_only : OneVerdict → (s : Schema) (text : List ℕ) (f : VerilogFault) (at : ℕ) (v : Verdict) → IsModuleFault s text f → IsVerdict text v → f ≡ verdict_fault v → IsPortFault text s at → ⊥
+port_only only s text f at v is so e port =
+    real_fault s text f is (e ∙ ap verdict_fault (only text v (IsModule port.design) so (port_module s text at port)))
 
-pub one_module_fault : (s : Schema) (text : List ℕ) (f g : VerilogFault) → IsModuleFault s text f → IsModuleFault s text g → f ≡ g
-one_module_fault s text f g a b = by (found s text f a) (found s text g b)
+pub one_module_fault : OneVerdict → (s : Schema) (text : List ℕ) (f g : VerilogFault) → IsModuleFault s text f → IsModuleFault s text g → f ≡ g
+one_module_fault only s text f g a b = by (found s text f a) (found s text g b)
   where
     by : IsFound s text f → IsFound s text g → f ≡ g
-    by (ByText v i e) (ByText w j d) = e ∙ ap verdict_fault (one_only text v w i j) ∙ sym d
-    by (ByText v i e) (ByPort at j d) = absurd (port_only s text f at v a i e j)
-    by (ByPort at i e) (ByText w j d) = absurd (port_only s text g at w b j d i)
-    by (ByPort p i e) (ByPort q j d) = e ∙ ap verilog.BadPort (one_port s text p q i j) ∙ sym d
+    by (ByText v i e) (ByText w j d) = e ∙ ap verdict_fault (only text v w i j) ∙ sym d
+    by (ByText v i e) (ByPort at j d) = absurd (port_only only s text f at v a i e j)
+    by (ByPort at i e) (ByText w j d) = absurd (port_only only s text g at w b j d i)
+    by (ByPort p i e) (ByPort q j d) = e ∙ ap verilog.BadPort (one_port only s text p q i j) ∙ sym d

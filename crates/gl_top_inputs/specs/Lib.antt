@@ -4,3 +4,4 @@ pub mod Causes
 pub mod Figuring
 pub mod Places
 pub mod Laws
+pub mod Below

@@ -6,6 +6,7 @@
 //! gl_top_explain, and the line that tells a refusal to gl_top_status.
 #![tactic(auto)]
 
+pub mod below;
 pub mod figuring;
 pub mod judging;
 pub mod laws;
