@@ -24,6 +24,7 @@ use Rattle.gl_runner.specs.declared.tracing.Ending.TheVariants as end
 use Rattle.gl_runner.specs.Prints.{HasRunOver}
 use Rattle.gl_runner.specs.Traces.{OfRunsOf, decimal_kinds}
 use Rattle.gl_runner.specs.Traces as traces
+use Rattle.gl_top_inputs.specs.Below.{LawsBelow}
 use Rattle.gl_top_inputs.specs.Passing.{FilePasses}
 use Rattle.gl_top_status.specs.Refusals.{Puts, Notes, status_of, note_of, no_end_line, write_line}
 use Rattle.gl_top_inputs.specs.Causes.{Change, HasCause, IsNext, IsRefused}
@@ -153,13 +154,13 @@ when_says call (WroteCut d) = says_noted call status.WriteFault write_line (inl 
 when_says call (Refused d) = says_noted call (status_of d.refusal) (note_of call.words d.refusal) (of_refusal call d.refusal d.cause) d.noted
 
 -- with the status of what the words and the texts are refused for, its line is noted
-told_by : (words : List (List ℕ)) (c : Change) (notes : Puts) (answered : Status) (r : Refusal) → IsTelling c.old.told words → IsRefused c.old.told words r → answered ≡ status_of r
+told_by : LawsBelow → (words : List (List ℕ)) (c : Change) (notes : Puts) (answered : Status) (r : Refusal) → IsTelling c.old.told words → IsRefused c.old.told words r → answered ≡ status_of r
     → (s : Refusal) → IsCaused words c s → Notes (status_of s) (note_of words s) notes answered → Took notes.old notes.new (note_of words r)
-told_by words c notes answered r tells is e s cause (inr n) = absurd (subst IsJudged (sym e ∙ n.0) (judged c.old.told words r is))
-told_by words c notes answered r tells is e s (Judged h) (inl n) =
-    let same : s ≡ r = one_refusal c.old.told words s r tells h is in subst (λ (x : Refusal). Took notes.old notes.new (note_of words x)) same n.1
-told_by words c notes answered r tells is e s (Unread p next rose own) (inl n) = absurd (subst IsJudged (sym e ∙ n.0 ∙ own) (judged c.old.told words r is))
-told_by words c notes answered r tells is e s (Short own) (inl n) = absurd (subst IsJudged (sym e ∙ n.0 ∙ own) (judged c.old.told words r is))
+told_by laws words c notes answered r tells is e s cause (inr n) = absurd (subst IsJudged (sym e ∙ n.0) (judged c.old.told words r is))
+told_by laws words c notes answered r tells is e s (Judged h) (inl n) =
+    let same : s ≡ r = one_refusal laws c.old.told words s r tells h is in subst (λ (x : Refusal). Took notes.old notes.new (note_of words x)) same n.1
+told_by laws words c notes answered r tells is e s (Unread p next rose own) (inl n) = absurd (subst IsJudged (sym e ∙ n.0 ∙ own) (judged c.old.told words r is))
+told_by laws words c notes answered r tells is e s (Short own) (inl n) = absurd (subst IsJudged (sym e ∙ n.0 ∙ own) (judged c.old.told words r is))
 
 -- no other status is one of these
 ending_other : (told : List ℕ → Told) (words : List (List ℕ)) (r : Refusal) (ending : Ending) (notes : Puts) (answered : Status) → IsRefused told words r → answered ≡ status_of r → TellsEnding ending notes answered → ⊥
@@ -172,13 +173,13 @@ ending_other told words r ending notes answered is e h = elim (ending_status end
 broken_other : (told : List ℕ → Told) (words : List (List ℕ)) (r : Refusal) (notes : Puts) (answered : Status) → IsRefused told words r → answered ≡ status_of r → Notes status.WriteFault write_line notes answered → ⊥
 broken_other told words r notes answered is e n = subst IsJudged (sym e ∙ noted_write status.WriteFault answered write_line notes refl n) (judged told words r is)
 
-pub when_told : (call : Call) → IsAnswer call → TellsRefusal call
-when_told call (RanWhole d) r tells is e = absurd (subst IsJudged (sym e ∙ d.done) (judged call.shelf.old.told call.words r is))
-when_told call (RanCut d) r tells is e = absurd (broken_other call.shelf.old.told call.words r call.notes call.status is e d.noted)
-when_told call (Traced d) r tells is e = absurd (ending_other call.shelf.old.told call.words r d.ending call.notes call.status is e d.tells)
-when_told call (Wrote d) r tells is e = absurd (subst IsJudged (sym e ∙ d.done) (judged call.shelf.old.told call.words r is))
-when_told call (WroteCut d) r tells is e = absurd (broken_other call.shelf.old.told call.words r call.notes call.status is e d.noted)
-when_told call (Refused d) r tells is e = told_by call.words call.shelf call.notes call.status r tells is e d.refusal (caused call.words call.shelf d.refusal d.cause) d.noted
+pub when_told : LawsBelow → (call : Call) → IsAnswer call → TellsRefusal call
+when_told laws call (RanWhole d) r tells is e = absurd (subst IsJudged (sym e ∙ d.done) (judged call.shelf.old.told call.words r is))
+when_told laws call (RanCut d) r tells is e = absurd (broken_other call.shelf.old.told call.words r call.notes call.status is e d.noted)
+when_told laws call (Traced d) r tells is e = absurd (ending_other call.shelf.old.told call.words r d.ending call.notes call.status is e d.tells)
+when_told laws call (Wrote d) r tells is e = absurd (subst IsJudged (sym e ∙ d.done) (judged call.shelf.old.told call.words r is))
+when_told laws call (WroteCut d) r tells is e = absurd (broken_other call.shelf.old.told call.words r call.notes call.status is e d.noted)
+when_told laws call (Refused d) r tells is e = told_by laws call.words call.shelf call.notes call.status r tells is e d.refusal (caused call.words call.shelf d.refusal d.cause) d.noted
 
 -- nothing is written but by a run
 pub when_untouched : (call : Call) → IsAnswer call → call.status ≢ status.Done → call.status ≢ status.WriteFault → call.status ≢ status.NoEnd → Took call.out.old call.out.new []
@@ -198,43 +199,43 @@ shown_no_run_of_all : (told : List ℕ → Told) (words : List (List ℕ)) (byte
 shown_no_run_of_all told words bytes text d runs = subst (λ (c : Command). ShowsAll c d.schema d.statements bytes text) (one_command words d.command ManyRun d.is runs) d.shows
 
 -- what the status yields to, where a refusal was noted
-by_cause : (call : Call) (r : Refusal) → IsTelling call.shelf.old.told call.words → IsRefused call.shelf.old.told call.words r → (s : Refusal) → IsCaused call.words call.shelf s
+by_cause : LawsBelow → (call : Call) (r : Refusal) → IsTelling call.shelf.old.told call.words → IsRefused call.shelf.old.told call.words r → (s : Refusal) → IsCaused call.words call.shelf s
     → Notes (status_of s) (note_of call.words s) call.notes call.status → Yields (status_of r) call
-by_cause call r tells is s cause (inr n) = ToWrite n.0 n.1.cause
-by_cause call r tells is s (Judged h) (inl n) = Same (n.0 ∙ ap status_of (one_refusal call.shelf.old.told call.words s r tells h is))
-by_cause call r tells is s (Unread p next rose own) (inl n) = ToRead (n.0 ∙ own) rose
-by_cause call r tells is s (Short own) (inl n) = ToMemory (n.0 ∙ own)
+by_cause laws call r tells is s cause (inr n) = ToWrite n.0 n.1.cause
+by_cause laws call r tells is s (Judged h) (inl n) = Same (n.0 ∙ ap status_of (one_refusal laws call.shelf.old.told call.words s r tells h is))
+by_cause laws call r tells is s (Unread p next rose own) (inl n) = ToRead (n.0 ∙ own) rose
+by_cause laws call r tells is s (Short own) (inl n) = ToMemory (n.0 ∙ own)
 
 -- what is shown was not refused
-shown_goes : (told : List ℕ → Told) (words : List (List ℕ)) (bytes text : List ℕ) (a : Refusal) → IsTelling told words → IsGiven told words bytes text → Stops told words a → ⊥
-shown_goes told words bytes text a tells (OfLoad d) h = load_goes told words d.count a d.is h
-shown_goes told words bytes text a tells (OfDump d left) h = dump_goes told words bytes a tells d h
-shown_goes told words bytes text a tells (OfVersion is shown left) h = version_goes told words a is h
-shown_goes told words bytes text a tells (OfTexts d) h = passes_goes told words a tells (Two d.schema d.statement d.passes (shown_no_run told words bytes text d)) h
-shown_goes told words bytes text a tells (OfQueries d) h = passes_goes told words a tells (TwoOfAll d.schema d.statements d.passes (shown_no_run_of_all told words bytes text d)) h
+shown_goes : LawsBelow → (told : List ℕ → Told) (words : List (List ℕ)) (bytes text : List ℕ) (a : Refusal) → IsTelling told words → IsGiven told words bytes text → Stops told words a → ⊥
+shown_goes laws told words bytes text a tells (OfLoad d) h = load_goes told words d.count a d.is h
+shown_goes laws told words bytes text a tells (OfDump d left) h = dump_goes told words bytes a tells d h
+shown_goes laws told words bytes text a tells (OfVersion is shown left) h = version_goes told words a is h
+shown_goes laws told words bytes text a tells (OfTexts d) h = passes_goes laws told words a tells (Two d.schema d.statement d.passes (shown_no_run told words bytes text d)) h
+shown_goes laws told words bytes text a tells (OfQueries d) h = passes_goes laws told words a tells (TwoOfAll d.schema d.statements d.passes (shown_no_run_of_all told words bytes text d)) h
 
-pub when_refused : (call : Call) → IsAnswer call → TellsFaults call
-when_refused call (RanWhole d) r tells h = absurd (passes_goes call.shelf.old.told call.words r tells (texts_pass call.shelf.old.told call.words call.text call.out.old call.out.new outcome.Done d.run) (stops call.shelf.old.told call.words r h))
-when_refused call (RanCut d) r tells h = absurd (passes_goes call.shelf.old.told call.words r tells (texts_pass call.shelf.old.told call.words call.text call.out.old call.out.new outcome.WriteFault d.run) (stops call.shelf.old.told call.words r h))
-when_refused call (Traced d) r tells h = absurd (passes_goes call.shelf.old.told call.words r tells (OfFile d.schema d.design d.beats d.passes) (stops call.shelf.old.told call.words r h))
-when_refused call (Wrote d) r tells h = absurd (shown_goes call.shelf.old.told call.words d.bytes call.text r tells d.given (stops call.shelf.old.told call.words r h))
-when_refused call (WroteCut d) r tells h = absurd (shown_goes call.shelf.old.told call.words d.bytes call.text r tells d.given (stops call.shelf.old.told call.words r h))
-when_refused call (Refused d) r tells h = by_cause call r tells h d.refusal (caused call.words call.shelf d.refusal d.cause) d.noted
+pub when_refused : LawsBelow → (call : Call) → IsAnswer call → TellsFaults call
+when_refused laws call (RanWhole d) r tells h = absurd (passes_goes laws call.shelf.old.told call.words r tells (texts_pass call.shelf.old.told call.words call.text call.out.old call.out.new outcome.Done d.run) (stops call.shelf.old.told call.words r h))
+when_refused laws call (RanCut d) r tells h = absurd (passes_goes laws call.shelf.old.told call.words r tells (texts_pass call.shelf.old.told call.words call.text call.out.old call.out.new outcome.WriteFault d.run) (stops call.shelf.old.told call.words r h))
+when_refused laws call (Traced d) r tells h = absurd (passes_goes laws call.shelf.old.told call.words r tells (OfFile d.schema d.design d.beats d.passes) (stops call.shelf.old.told call.words r h))
+when_refused laws call (Wrote d) r tells h = absurd (shown_goes laws call.shelf.old.told call.words d.bytes call.text r tells d.given (stops call.shelf.old.told call.words r h))
+when_refused laws call (WroteCut d) r tells h = absurd (shown_goes laws call.shelf.old.told call.words d.bytes call.text r tells d.given (stops call.shelf.old.told call.words r h))
+when_refused laws call (Refused d) r tells h = by_cause laws call r tells h d.refusal (caused call.words call.shelf d.refusal d.cause) d.noted
 
-by_calm : (call : Call) → IsTelling call.shelf.old.told call.words → AllPass call.shelf.old.told call.words → IsFaultless call → (s : Refusal) → IsCaused call.words call.shelf s
+by_calm : LawsBelow → (call : Call) → IsTelling call.shelf.old.told call.words → AllPass call.shelf.old.told call.words → IsFaultless call → (s : Refusal) → IsCaused call.words call.shelf s
     → Notes (status_of s) (note_of call.words s) call.notes call.status → Completes call
-by_calm call tells pass calm s cause (inr n) = absurd (calm.notes n.1.cause)
-by_calm call tells pass calm s (Judged h) (inl n) = absurd (passes_goes call.shelf.old.told call.words s tells pass (stops call.shelf.old.told call.words s h))
-by_calm call tells pass calm s (Unread p next rose own) (inl n) = absurd (calm.shelf rose)
-by_calm call tells pass calm s (Short own) (inl n) = NoMemory (n.0 ∙ own)
+by_calm laws call tells pass calm s cause (inr n) = absurd (calm.notes n.1.cause)
+by_calm laws call tells pass calm s (Judged h) (inl n) = absurd (passes_goes laws call.shelf.old.told call.words s tells pass (stops call.shelf.old.told call.words s h))
+by_calm laws call tells pass calm s (Unread p next rose own) (inl n) = absurd (calm.shelf rose)
+by_calm laws call tells pass calm s (Short own) (inl n) = NoMemory (n.0 ∙ own)
 
-pub when_calm : (call : Call) → IsAnswer call → IsComplete call
-when_calm call (RanWhole d) tells p calm = Whole d.done
-when_calm call (Wrote d) tells p calm = Whole d.done
-when_calm call (Traced d) tells p calm = trace_completes call d.schema d.design d.beats d.passes d.run d.calm d.ending calm d.traced d.tells
-when_calm call (WroteCut d) tells p calm = absurd (calm.out d.wrote.cause)
-when_calm call (RanCut d) tells p calm = absurd (calm.out (sink_failed call.shelf.old.told call.words call.text call.out.old call.out.new d.run))
-when_calm call (Refused d) tells p calm = by_calm call tells p calm d.refusal (caused call.words call.shelf d.refusal d.cause) d.noted
+pub when_calm : LawsBelow → (call : Call) → IsAnswer call → IsComplete call
+when_calm laws call (RanWhole d) tells p calm = Whole d.done
+when_calm laws call (Wrote d) tells p calm = Whole d.done
+when_calm laws call (Traced d) tells p calm = trace_completes call d.schema d.design d.beats d.passes d.run d.calm d.ending calm d.traced d.tells
+when_calm laws call (WroteCut d) tells p calm = absurd (calm.out d.wrote.cause)
+when_calm laws call (RanCut d) tells p calm = absurd (calm.out (sink_failed call.shelf.old.told call.words call.text call.out.old call.out.new d.run))
+when_calm laws call (Refused d) tells p calm = by_calm laws call tells p calm d.refusal (caused call.words call.shelf d.refusal d.cause) d.noted
 
 -- words of no form
 by_form : (call : Call) → (IsForm call.words → ⊥) → (s : Refusal) → IsCaused call.words call.shelf s → Notes (status_of s) (note_of call.words s) call.notes call.status → Yields status.Usage call

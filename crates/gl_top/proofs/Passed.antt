@@ -28,6 +28,7 @@ use Rattle.gl_top_forms.specs.Forms.{IsCommand, IsLoadOf, IsNamed, IsOfRun, name
 use Rattle.gl_top_forms.proofs.Named.{form_of, load_names_none, many_run_names_queries, named_form, one_query_part, queries_and_no_module, sim_names_no_query, version_names_none}
 use Rattle.gl_top_status.specs.declared.refusal.Refusal.{Refusal}
 use Rattle.gl_top_status.specs.Texts.{HasText, SchemaPasses}
+use Rattle.gl_top_inputs.specs.Below.{LawsBelow}
 use Rattle.gl_top_inputs.specs.Passing.{AsksGap, FilePasses, ModulePasses, OfAll, OfOne, QueriesPass, QueryPasses, kept_beats}
 use Rattle.gl_top_inputs.specs.Readings.{One, Several}
 use Rattle.gl_top_inputs.proofs.Modules.{module_goes}
@@ -46,28 +47,28 @@ pub one_schema : (told : List ℕ → Told) (words : List (List ℕ)) (s t : Sch
 one_schema told words s t tells a b = with_both (told (name_of words part.Schema)) (λ text. IsSchemaText text s) (λ text. IsSchemaText text t) (tells part.Schema a.named) a.text b.text (same_schema s t)
 
 -- its statements have one gap
-same_gap : (s : Schema) (st st' : Statement) (text : List ℕ) → IsQuery s text st → IsQuery s text st' → gap_of s st ≡ gap_of s st'
-same_gap s st st' text p q =
-    gap_by_shape s st st' (shapes_alike st st' (one_meaning text (statement_tree st) (statement_tree st') p.has q.has))
+same_gap : LawsBelow → (s : Schema) (st st' : Statement) (text : List ℕ) → IsQuery s text st → IsQuery s text st' → gap_of s st ≡ gap_of s st'
+same_gap laws s st st' text p q =
+    gap_by_shape s st st' (shapes_alike st st' (one_meaning laws.one.texts_have_one_verdict text (statement_tree st) (statement_tree st') p.has q.has))
 
-one_gap : (told : List ℕ → Told) (words : List (List ℕ)) (s : Schema) (st st' : Statement) → IsTelling told words → QueryPasses told words s st → QueryPasses told words s st' → gap_of s st ≡ gap_of s st'
-one_gap told words s st st' tells p q =
-    with_both (told (name_of words part.Query)) (λ text. IsQuery s text st) (λ text. IsQuery s text st') (tells part.Query p.named) p.text q.text (same_gap s st st')
+one_gap : LawsBelow → (told : List ℕ → Told) (words : List (List ℕ)) (s : Schema) (st st' : Statement) → IsTelling told words → QueryPasses told words s st → QueryPasses told words s st' → gap_of s st ≡ gap_of s st'
+one_gap laws told words s st st' tells p q =
+    with_both (told (name_of words part.Query)) (λ text. IsQuery s text st) (λ text. IsQuery s text st') (tells part.Query p.named) p.text q.text (same_gap laws s st st')
 
-one_gap_for_all : (told : List ℕ → Told) (words : List (List ℕ)) (s : Schema) (sts sts' : List Statement) → IsTelling told words → QueriesPass told words s sts → QueriesPass told words s sts' → shared_gap s sts ≡ shared_gap s sts'
-one_gap_for_all told words s sts sts' tells p q =
-    with_both (told (name_of words part.Queries)) (λ text. AreQueries s text sts) (λ text. AreQueries s text sts') (tells part.Queries p.named) p.text q.text (λ text. one_gap_of_all s text sts sts')
+one_gap_for_all : LawsBelow → (told : List ℕ → Told) (words : List (List ℕ)) (s : Schema) (sts sts' : List Statement) → IsTelling told words → QueriesPass told words s sts → QueriesPass told words s sts' → shared_gap s sts ≡ shared_gap s sts'
+one_gap_for_all laws told words s sts sts' tells p q =
+    with_both (told (name_of words part.Queries)) (λ text. AreQueries s text sts) (λ text. AreQueries s text sts') (tells part.Queries p.named) p.text q.text (λ text. one_gap_of_all laws.several s text sts sts')
 
 -- words name one query, or several
 pub not_both_named : (words : List (List ℕ)) {A : Type 0} → IsNamed words part.Query → IsNamed words part.Queries → A
 not_both_named words one several = absurd (one_query_part words one several)
 
 -- so a tuple file is asked for one gap
-asked_gap : (told : List ℕ → Told) (words : List (List ℕ)) (s : Schema) (m n : ℕ) → IsTelling told words → AsksGap told words s m → AsksGap told words s n → m ≡ n
-asked_gap told words s m n tells (OfOne runs st p e) (OfOne runs' st' q h) = e ∙ one_gap told words s st st' tells p q ∙ sym h
-asked_gap told words s m n tells (OfOne runs st p e) (OfAll runs' sts q h) = not_both_named words p.named q.named
-asked_gap told words s m n tells (OfAll runs sts p e) (OfOne runs' st q h) = not_both_named words q.named p.named
-asked_gap told words s m n tells (OfAll runs sts p e) (OfAll runs' sts' q h) = e ∙ one_gap_for_all told words s sts sts' tells p q ∙ sym h
+asked_gap : LawsBelow → (told : List ℕ → Told) (words : List (List ℕ)) (s : Schema) (m n : ℕ) → IsTelling told words → AsksGap told words s m → AsksGap told words s n → m ≡ n
+asked_gap laws told words s m n tells (OfOne runs st p e) (OfOne runs' st' q h) = e ∙ one_gap laws told words s st st' tells p q ∙ sym h
+asked_gap laws told words s m n tells (OfOne runs st p e) (OfAll runs' sts q h) = not_both_named words p.named q.named
+asked_gap laws told words s m n tells (OfAll runs sts p e) (OfOne runs' st q h) = not_both_named words q.named p.named
+asked_gap laws told words s m n tells (OfAll runs sts p e) (OfAll runs' sts' q h) = e ∙ one_gap_for_all laws told words s sts sts' tells p q ∙ sym h
 
 -- ---- what passes does not stop
 
@@ -93,26 +94,26 @@ schema_goes told words s a tells p f =
     absurd (not_both (told (name_of words part.Schema)) part.Schema IsText SchemaFails a (tells part.Schema p.named) (λ text is fails. no_error (schema_of text) is.0 fails.fault (read_again text is.0 is.1) fails.found)
     (weaker (told (name_of words part.Schema)) (λ text. IsSchemaText text s) IsText (λ text h. (s, h)) p.text) f)
 
-query_goes : (told : List ℕ → Told) (words : List (List ℕ)) (s t : Schema) (st : Statement) (a : Refusal) {A : Type 0} → IsTelling told words → QueryPasses told words s st → SchemaPasses told words t
+query_goes : LawsBelow → (told : List ℕ → Told) (words : List (List ℕ)) (s t : Schema) (st : Statement) (a : Refusal) {A : Type 0} → IsTelling told words → QueryPasses told words s st → SchemaPasses told words t
     → FailsAt told words part.Query (QueryFails One t) a → A
-query_goes told words s t st a tells p q f =
+query_goes laws told words s t st a tells p q f =
     let e : t ≡ s = one_schema told words t s tells q p.before in
-    absurd (not_both (told (name_of words part.Query)) part.Query (λ text. IsQuery s text st) (QueryFails One s) a (tells part.Query p.named) (query_out s st a p.before.fine) p.text
+    absurd (not_both (told (name_of words part.Query)) part.Query (λ text. IsQuery s text st) (QueryFails One s) a (tells part.Query p.named) (query_out laws s st a p.before.fine) p.text
     (subst (λ (x : Schema). FailsAt told words part.Query (QueryFails One x) a) e f))
 
-queries_go : (told : List ℕ → Told) (words : List (List ℕ)) (s t : Schema) (sts : List Statement) (a : Refusal) {A : Type 0} → IsTelling told words → QueriesPass told words s sts → SchemaPasses told words t
+queries_go : LawsBelow → (told : List ℕ → Told) (words : List (List ℕ)) (s t : Schema) (sts : List Statement) (a : Refusal) {A : Type 0} → IsTelling told words → QueriesPass told words s sts → SchemaPasses told words t
     → FailsAt told words part.Queries (QueryFails Several t) a → A
-queries_go told words s t sts a tells p q f =
+queries_go laws told words s t sts a tells p q f =
     let e : t ≡ s = one_schema told words t s tells q p.before in
-    absurd (not_both (told (name_of words part.Queries)) part.Queries (λ text. AreQueries s text sts) (QueryFails Several s) a (tells part.Queries p.named) (queries_out s sts a) p.text
+    absurd (not_both (told (name_of words part.Queries)) part.Queries (λ text. AreQueries s text sts) (QueryFails Several s) a (tells part.Queries p.named) (queries_out laws s sts a) p.text
     (subst (λ (x : Schema). FailsAt told words part.Queries (QueryFails Several x) a) e f))
 
-module_passed : (told : List ℕ → Told) (words : List (List ℕ)) (s t : Schema) (m : Module) (a : Refusal) {A : Type 0} → IsTelling told words → ModulePasses told words s m → SchemaPasses told words t
+module_passed : LawsBelow → (told : List ℕ → Told) (words : List (List ℕ)) (s t : Schema) (m : Module) (a : Refusal) {A : Type 0} → IsTelling told words → ModulePasses told words s m → SchemaPasses told words t
     → FailsAt told words part.Module (ModuleFails t) a → A
-module_passed told words s t m a tells p q f =
+module_passed laws told words s t m a tells p q f =
     let e : t ≡ s = one_schema told words t s tells q p.before in
     absurd (not_both (told (name_of words part.Module)) part.Module (λ text. HasModule text m) (ModuleFails s) a (tells part.Module (sim_names_module words p.sims))
-    (λ text has fails. module_goes s text m p.ports fails.fault has p.fits fails.found) p.text
+    (λ text has fails. module_goes laws.one_verdict s text m p.ports fails.fault has p.fits fails.found) p.text
     (subst (λ (x : Schema). FailsAt told words part.Module (ModuleFails x) a) e f))
 
 -- a text of queries is none of `sim`
@@ -127,29 +128,29 @@ passed_no_dump : (told : List ℕ → Told) (words : List (List ℕ)) (s : Schem
 passed_no_dump told words s p named = no_dump words part.Schema refl (passed_schema told words s p).named named
 
 -- what passed behind the schema does not stop there
-query_second : (told : List ℕ → Told) (words : List (List ℕ)) (s t : Schema) (a : Refusal) {A : Type 0} → IsTelling told words → Passed told words s → SchemaPasses told words t → SecondStops told words t a → A
-query_second told words s t a tells (PassedOne st p) q (AtQuery One named f) = query_goes told words s t st a tells p q f
-query_second told words s t a tells (PassedOne st p) q (AtQuery Several named f) = not_both_named words p.named named
-query_second told words s t a tells (PassedAll sts p) q (AtQuery One named f) = not_both_named words named p.named
-query_second told words s t a tells (PassedAll sts p) q (AtQuery Several named f) = queries_go told words s t sts a tells p q f
-query_second told words s t a tells p q (AtModule sims f) = passed_no_sim told words s p sims
+query_second : LawsBelow → (told : List ℕ → Told) (words : List (List ℕ)) (s t : Schema) (a : Refusal) {A : Type 0} → IsTelling told words → Passed told words s → SchemaPasses told words t → SecondStops told words t a → A
+query_second laws told words s t a tells (PassedOne st p) q (AtQuery One named f) = query_goes laws told words s t st a tells p q f
+query_second laws told words s t a tells (PassedOne st p) q (AtQuery Several named f) = not_both_named words p.named named
+query_second laws told words s t a tells (PassedAll sts p) q (AtQuery One named f) = not_both_named words named p.named
+query_second laws told words s t a tells (PassedAll sts p) q (AtQuery Several named f) = queries_go laws told words s t sts a tells p q f
+query_second laws told words s t a tells p q (AtModule sims f) = passed_no_sim told words s p sims
 
-module_second : (told : List ℕ → Told) (words : List (List ℕ)) (s t : Schema) (m : Module) (a : Refusal) {A : Type 0} → IsTelling told words → ModulePasses told words s m → SchemaPasses told words t → SecondStops told words t a → A
-module_second told words s t m a tells p q (AtQuery One named f) = absurd (sim_names_no_query words p.sims named)
-module_second told words s t m a tells p q (AtQuery Several named f) = absurd (queries_and_no_module words named (sim_names_module words p.sims))
-module_second told words s t m a tells p q (AtModule sims f) = module_passed told words s t m a tells p q f
+module_second : LawsBelow → (told : List ℕ → Told) (words : List (List ℕ)) (s t : Schema) (m : Module) (a : Refusal) {A : Type 0} → IsTelling told words → ModulePasses told words s m → SchemaPasses told words t → SecondStops told words t a → A
+module_second laws told words s t m a tells p q (AtQuery One named f) = absurd (sim_names_no_query words p.sims named)
+module_second laws told words s t m a tells p q (AtQuery Several named f) = absurd (queries_and_no_module words named (sim_names_module words p.sims))
+module_second laws told words s t m a tells p q (AtModule sims f) = module_passed laws told words s t m a tells p q f
 
-pub third_second : (told : List ℕ → Told) (words : List (List ℕ)) (s t : Schema) (a b : Refusal) {A : Type 0} → IsTelling told words → ThirdStops told words s a → SchemaPasses told words t → SecondStops told words t b → A
-third_second told words s t a b tells (AtTuples gap asks f) q h = query_second told words s t b tells (asked_passed told words s gap asks) q h
-third_second told words s t a b tells (AtFile m p f) q h = module_second told words s t m b tells p q h
+pub third_second : LawsBelow → (told : List ℕ → Told) (words : List (List ℕ)) (s t : Schema) (a b : Refusal) {A : Type 0} → IsTelling told words → ThirdStops told words s a → SchemaPasses told words t → SecondStops told words t b → A
+third_second laws told words s t a b tells (AtTuples gap asks f) q h = query_second laws told words s t b tells (asked_passed told words s gap asks) q h
+third_second laws told words s t a b tells (AtFile m p f) q h = module_second laws told words s t m b tells p q h
 
 -- the gap of other statements of the texts
-pub other_gap : (told : List ℕ → Told) (words : List (List ℕ)) (s t : Schema) (m n : ℕ) → IsTelling told words → AsksGap told words s m → AsksGap told words t n
+pub other_gap : LawsBelow → (told : List ℕ → Told) (words : List (List ℕ)) (s t : Schema) (m n : ℕ) → IsTelling told words → AsksGap told words s m → AsksGap told words t n
     → (a : Refusal) → FailsAt told words part.Tuples (TuplesFail (kept_beats t n)) a → FailsAt told words part.Tuples (TuplesFail (kept_beats s m)) a
-other_gap told words s t m n tells p q a f =
+other_gap laws told words s t m n tells p q a f =
     let e : t ≡ s = one_schema told words t s tells (asks_schema told words t n q) (asks_schema told words s m p) in
     let q' : AsksGap told words s n = subst (λ (x : Schema). AsksGap told words x n) e q in
-    subst (λ (gap : ℕ). FailsAt told words part.Tuples (TuplesFail (kept_beats s gap)) a) (asked_gap told words s n m tells q' p)
+    subst (λ (gap : ℕ). FailsAt told words part.Tuples (TuplesFail (kept_beats s gap)) a) (asked_gap laws told words s n m tells q' p)
     (subst (λ (x : Schema). FailsAt told words part.Tuples (TuplesFail (kept_beats x n)) a) e f)
 
 -- the same file over another schema of the texts
@@ -168,11 +169,11 @@ beats_go t read beats a told fine f =
     not_both t part.Tuples (AreTuples read) (TuplesFail read) a told (λ text is fails. no_error (read text) is.0 fails.fault is.1 fails.found)
     (weaker t (λ text. read text ≡ Ok beats) (AreTuples read) (λ text h. (beats, h)) fine) f
 
-tuples_third : (told : List ℕ → Told) (words : List (List ℕ)) (s t : Schema) (gap : ℕ) (beats : List Beat) (a : Refusal) → IsTelling told words → AsksGap told words s gap → HasText told words part.Tuples (λ text. kept_beats s gap text ≡ Ok beats)
+tuples_third : LawsBelow → (told : List ℕ → Told) (words : List (List ℕ)) (s t : Schema) (gap : ℕ) (beats : List Beat) (a : Refusal) → IsTelling told words → AsksGap told words s gap → HasText told words part.Tuples (λ text. kept_beats s gap text ≡ Ok beats)
     → ThirdStops told words t a → ⊥
-tuples_third told words s t gap beats a tells asks fine (AtTuples n q f) =
-    beats_go (told (name_of words part.Tuples)) (kept_beats s gap) beats a (tells part.Tuples (asks_named told words s gap asks)) fine (other_gap told words s t gap n tells asks q a f)
-tuples_third told words s t gap beats a tells asks fine (AtFile m q f) = asks_no_sim told words s gap asks q.sims
+tuples_third laws told words s t gap beats a tells asks fine (AtTuples n q f) =
+    beats_go (told (name_of words part.Tuples)) (kept_beats s gap) beats a (tells part.Tuples (asks_named told words s gap asks)) fine (other_gap laws told words s t gap n tells asks q a f)
+tuples_third laws told words s t gap beats a tells asks fine (AtFile m q f) = asks_no_sim told words s gap asks q.sims
 
 file_third : (told : List ℕ → Told) (words : List (List ℕ)) (s t : Schema) (m : Module) (beats : List Beat) (a : Refusal) → IsTelling told words → FilePasses told words s m beats → ThirdStops told words t a → ⊥
 file_third told words s t m beats a tells p (AtTuples gap asks f) = asks_no_sim told words t gap asks p.before.sims
@@ -185,26 +186,26 @@ no_third told words s t a p one several (AtTuples gap (OfOne runs st q is) f) = 
 no_third told words s t a p one several (AtTuples gap (OfAll runs sts q is) f) = several runs
 no_third told words s t a p one several (AtFile m q f) = passed_no_sim told words s p q.sims
 
-two_go : (told : List ℕ → Told) (words : List (List ℕ)) (s : Schema) (a : Refusal) → IsTelling told words → Passed told words s → (IsOfRun words → ⊥) → (IsCommand words command.ManyRun → ⊥) → Stops told words a → ⊥
-two_go told words s a tells p one several (AtWords n e) = n (named_form words part.Schema (passed_schema told words s p).named)
-two_go told words s a tells p one several (AtSchema named f) = schema_goes told words s a tells (passed_schema told words s p) f
-two_go told words s a tells p one several (AtSecond t q h) = query_second told words s t a tells p q h
-two_go told words s a tells p one several (AtThird t q h) = no_third told words s t a p one several h
-two_go told words s a tells p one several (AtDump named f) = passed_no_dump told words s p named
+two_go : LawsBelow → (told : List ℕ → Told) (words : List (List ℕ)) (s : Schema) (a : Refusal) → IsTelling told words → Passed told words s → (IsOfRun words → ⊥) → (IsCommand words command.ManyRun → ⊥) → Stops told words a → ⊥
+two_go laws told words s a tells p one several (AtWords n e) = n (named_form words part.Schema (passed_schema told words s p).named)
+two_go laws told words s a tells p one several (AtSchema named f) = schema_goes told words s a tells (passed_schema told words s p) f
+two_go laws told words s a tells p one several (AtSecond t q h) = query_second laws told words s t a tells p q h
+two_go laws told words s a tells p one several (AtThird t q h) = no_third told words s t a p one several h
+two_go laws told words s a tells p one several (AtDump named f) = passed_no_dump told words s p named
 
-three_go : (told : List ℕ → Told) (words : List (List ℕ)) (s : Schema) (gap : ℕ) (beats : List Beat) (a : Refusal) → IsTelling told words → AsksGap told words s gap → HasText told words part.Tuples (λ text. kept_beats s gap text ≡ Ok beats) → Stops told words a → ⊥
-three_go told words s gap beats a tells asks fine (AtWords n e) = n (named_form words part.Tuples (asks_named told words s gap asks))
-three_go told words s gap beats a tells asks fine (AtSchema named f) = schema_goes told words s a tells (asks_schema told words s gap asks) f
-three_go told words s gap beats a tells asks fine (AtSecond t q h) = query_second told words s t a tells (asked_passed told words s gap asks) q h
-three_go told words s gap beats a tells asks fine (AtThird t q h) = tuples_third told words s t gap beats a tells asks fine h
-three_go told words s gap beats a tells asks fine (AtDump named f) = passed_no_dump told words s (asked_passed told words s gap asks) named
+three_go : LawsBelow → (told : List ℕ → Told) (words : List (List ℕ)) (s : Schema) (gap : ℕ) (beats : List Beat) (a : Refusal) → IsTelling told words → AsksGap told words s gap → HasText told words part.Tuples (λ text. kept_beats s gap text ≡ Ok beats) → Stops told words a → ⊥
+three_go laws told words s gap beats a tells asks fine (AtWords n e) = n (named_form words part.Tuples (asks_named told words s gap asks))
+three_go laws told words s gap beats a tells asks fine (AtSchema named f) = schema_goes told words s a tells (asks_schema told words s gap asks) f
+three_go laws told words s gap beats a tells asks fine (AtSecond t q h) = query_second laws told words s t a tells (asked_passed told words s gap asks) q h
+three_go laws told words s gap beats a tells asks fine (AtThird t q h) = tuples_third laws told words s t gap beats a tells asks fine h
+three_go laws told words s gap beats a tells asks fine (AtDump named f) = passed_no_dump told words s (asked_passed told words s gap asks) named
 
-file_goes : (told : List ℕ → Told) (words : List (List ℕ)) (s : Schema) (m : Module) (beats : List Beat) (a : Refusal) → IsTelling told words → FilePasses told words s m beats → Stops told words a → ⊥
-file_goes told words s m beats a tells p (AtWords n e) = n (form_of words command.Sim p.before.sims)
-file_goes told words s m beats a tells p (AtSchema named f) = schema_goes told words s a tells p.before.before f
-file_goes told words s m beats a tells p (AtSecond t q h) = module_second told words s t m a tells p.before q h
-file_goes told words s m beats a tells p (AtThird t q h) = file_third told words s t m beats a tells p h
-file_goes told words s m beats a tells p (AtDump named f) = no_dump words part.Schema refl p.before.before.named named
+file_goes : LawsBelow → (told : List ℕ → Told) (words : List (List ℕ)) (s : Schema) (m : Module) (beats : List Beat) (a : Refusal) → IsTelling told words → FilePasses told words s m beats → Stops told words a → ⊥
+file_goes laws told words s m beats a tells p (AtWords n e) = n (form_of words command.Sim p.before.sims)
+file_goes laws told words s m beats a tells p (AtSchema named f) = schema_goes told words s a tells p.before.before f
+file_goes laws told words s m beats a tells p (AtSecond t q h) = module_second laws told words s t m a tells p.before q h
+file_goes laws told words s m beats a tells p (AtThird t q h) = file_third told words s t m beats a tells p h
+file_goes laws told words s m beats a tells p (AtDump named f) = no_dump words part.Schema refl p.before.before.named named
 
 -- a load names no text that could
 pub load_goes : (told : List ℕ → Told) (words : List (List ℕ)) (count : ℕ) (a : Refusal) → IsLoadOf words count → Stops told words a → ⊥
@@ -232,12 +233,12 @@ dump_goes told words bytes a tells d (AtDump named f) =
     not_both (told (name_of words part.Dump)) part.Dump (λ text. OfLines text (λ lines. bytes ≡ lines)) DumpFails a (tells part.Dump named)
     (λ text is fails. no_error (dump_of text) is.dump fails.fault is.reads fails.found) d.text f
 
-pub passes_goes : (told : List ℕ → Told) (words : List (List ℕ)) (a : Refusal) → IsTelling told words → AllPass told words → Stops told words a → ⊥
-passes_goes told words a tells (Two s st p other) h = two_go told words s a tells (PassedOne st p) other (λ runs. one_query_part words p.named (many_run_names_queries words runs)) h
-passes_goes told words a tells (Three s st beats p) h = three_go told words s (gap_of s st) beats a tells (OfOne p.runs st p.before refl) p.text h
-passes_goes told words a tells (TwoOfAll s sts p other) h = two_go told words s a tells (PassedAll sts p) (λ runs. one_query_part words (run_names_query words runs) p.named) other h
-passes_goes told words a tells (ThreeOfAll s sts beats p) h = three_go told words s (shared_gap s sts) beats a tells (OfAll p.runs sts p.before refl) p.text h
-passes_goes told words a tells (OfFile s m beats p) h = file_goes told words s m beats a tells p h
-passes_goes told words a tells (Loads count is) h = load_goes told words count a is h
-passes_goes told words a tells (Undumps bytes d) h = dump_goes told words bytes a tells d h
-passes_goes told words a tells (Versions is) h = version_goes told words a is h
+pub passes_goes : LawsBelow → (told : List ℕ → Told) (words : List (List ℕ)) (a : Refusal) → IsTelling told words → AllPass told words → Stops told words a → ⊥
+passes_goes laws told words a tells (Two s st p other) h = two_go laws told words s a tells (PassedOne st p) other (λ runs. one_query_part words p.named (many_run_names_queries words runs)) h
+passes_goes laws told words a tells (Three s st beats p) h = three_go laws told words s (gap_of s st) beats a tells (OfOne p.runs st p.before refl) p.text h
+passes_goes laws told words a tells (TwoOfAll s sts p other) h = two_go laws told words s a tells (PassedAll sts p) (λ runs. one_query_part words (run_names_query words runs) p.named) other h
+passes_goes laws told words a tells (ThreeOfAll s sts beats p) h = three_go laws told words s (shared_gap s sts) beats a tells (OfAll p.runs sts p.before refl) p.text h
+passes_goes laws told words a tells (OfFile s m beats p) h = file_goes laws told words s m beats a tells p h
+passes_goes laws told words a tells (Loads count is) h = load_goes told words count a is h
+passes_goes laws told words a tells (Undumps bytes d) h = dump_goes told words bytes a tells d h
+passes_goes laws told words a tells (Versions is) h = version_goes told words a is h

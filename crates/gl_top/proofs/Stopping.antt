@@ -9,7 +9,6 @@ use Rattle.gl_schema.specs.Schemas.{IsSchema}
 use Rattle.gl_query.specs.declared.tree.Statement.{Statement}
 use Rattle.gl_query.specs.declared.fault.QueryFault.{QueryFault}
 use Rattle.gl_query_texts.specs.Limits.{IsOverLimit}
-use Rattle.gl_query_texts.proofs.Judged.{accepted_goes, one_fault}
 use Rattle.gl_figures.specs.declared.Limit.{Limit}
 use Rattle.gl_tuples.specs.declared.beats.Beat.{Beat}
 use Rattle.gl_tuples.specs.declared.fault.TupleFault.{TupleFault}
@@ -31,6 +30,7 @@ use Rattle.gl_top_status.specs.declared.refusal.Refusal.{Refusal}
 use Rattle.gl_top_status.specs.declared.refusal.Refusal.TheVariants as refusal
 use Rattle.gl_top_forms.specs.Forms.{IsCommand, IsForm, IsNamed, name_of}
 use Rattle.gl_top_status.specs.Texts.{SchemaPasses}
+use Rattle.gl_top_inputs.specs.Below.{LawsBelow}
 use Rattle.gl_top_inputs.specs.Passing.{AsksGap, ModulePasses, OfAll, OfOne, kept_beats}
 use Rattle.gl_top_inputs.specs.Readings.{IsFaultBy, IsOverBy, One, Reading, Several, part_read}
 use Rattle.gl_top_inputs.specs.Causes.{PassBeforeTuples, OfRun, OfRunAll, OfSim, ToRun, ToRunAll, ToSim, IsModuleFault, IsRefused}
@@ -69,46 +69,46 @@ pub record TuplesFail (read : List ℕ → Result (List Beat) TupleFault) (text 
 pub schema_once : (a b : Refusal) (text : List ℕ) → SchemaFails text a → SchemaFails text b → a ≡ b
 schema_once a b text f g = f.is ∙ ap refusal.Schema (one_error (schema_of text) f.fault g.fault f.found g.found) ∙ sym g.is
 
-pub module_once : (s : Schema) (a b : Refusal) (text : List ℕ) → ModuleFails s text a → ModuleFails s text b → a ≡ b
-module_once s a b text f g = f.is ∙ ap refusal.Verilog (one_module_fault s text f.fault g.fault f.found g.found) ∙ sym g.is
+pub module_once : LawsBelow → (s : Schema) (a b : Refusal) (text : List ℕ) → ModuleFails s text a → ModuleFails s text b → a ≡ b
+module_once laws s a b text f g = f.is ∙ ap refusal.Verilog (one_module_fault laws.one_verdict s text f.fault g.fault f.found g.found) ∙ sym g.is
 
 pub tuples_once : (read : List ℕ → Result (List Beat) TupleFault) (a b : Refusal) (text : List ℕ) → TuplesFail read text a → TuplesFail read text b → a ≡ b
 tuples_once read a b text f g = f.is ∙ ap refusal.Tuples (one_error (read text) f.fault g.fault f.found g.found) ∙ sym g.is
 
 -- the limits that plans of a text's statements pass are one
-one_limit : (s : Schema) (text : List ℕ) (l m : Limit) → IsSchema s → IsOverLimit s text l → IsOverLimit s text m → l ≡ m
-one_limit s text l m fine o p = elim (tells_of s text (compile.Limit l) fine o (compile.Limit m) p) [
+one_limit : LawsBelow → (s : Schema) (text : List ℕ) (l m : Limit) → IsSchema s → IsOverLimit s text l → IsOverLimit s text m → l ≡ m
+one_limit laws s text l m fine o p = elim (tells_of laws.one s text (compile.Limit l) fine o (compile.Limit m) p) [
   | inl e ↦ (let f : ◌≡◌ {A = Result Compiled CompileFault} (Err (compile.Limit l)) (Err (compile.Limit m)) = e in cc)
   | inr e ↦ absurd (let f : ◌≡◌ {A = Result Compiled CompileFault} (Err (compile.Limit l)) (Err compile.Memory) = e in cc)
 ]
 
-fault_once : (by : Reading) (s : Schema) (text : List ℕ) (f g : QueryFault) → IsFaultBy by s text f → IsFaultBy by s text g → f ≡ g
-fault_once One s text f g i j = one_fault s text f g i j
-fault_once Several s text f g i j = one_fault_of_all s text f g i j
+fault_once : LawsBelow → (by : Reading) (s : Schema) (text : List ℕ) (f g : QueryFault) → IsSchema s → IsFaultBy by s text f → IsFaultBy by s text g → f ≡ g
+fault_once laws One s text f g fine i j = (laws.one.texts_have_one_fault s text g fine j).only f i
+fault_once laws Several s text f g fine i j = one_fault_of_all laws.several s text f g i j
 
-limit_once : (by : Reading) (s : Schema) (text : List ℕ) (l m : Limit) → IsSchema s → IsOverBy by s text l → IsOverBy by s text m → l ≡ m
-limit_once One s text l m fine p q = one_limit s text l m fine p q
-limit_once Several s text l m fine p q = one_limit_of_all s text l m p q
+limit_once : LawsBelow → (by : Reading) (s : Schema) (text : List ℕ) (l m : Limit) → IsSchema s → IsOverBy by s text l → IsOverBy by s text m → l ≡ m
+limit_once laws One s text l m fine p q = one_limit laws s text l m fine p q
+limit_once laws Several s text l m fine p q = one_limit_of_all laws.several s text l m p q
 
 -- a text that has a fault has no plan
-no_plan : (by : Reading) (s : Schema) (text : List ℕ) (f : QueryFault) (l : Limit) → IsSchema s → IsFaultBy by s text f → IsOverBy by s text l → ⊥
-no_plan One s text f l fine i p = accepted_goes s text f fine i p.statement p.is
-no_plan Several s text f l fine i p = no_list s text f p.statements i p.has
+no_plan : LawsBelow → (by : Reading) (s : Schema) (text : List ℕ) (f : QueryFault) (l : Limit) → IsSchema s → IsFaultBy by s text f → IsOverBy by s text l → ⊥
+no_plan laws One s text f l fine i p = (laws.one.texts_have_one_fault s text f fine i).refused p.statement p.is
+no_plan laws Several s text f l fine i p = no_list laws.several s text f p.statements i p.has
 
-pub query_once : (by : Reading) (s : Schema) (a b : Refusal) → IsSchema s → (text : List ℕ) → QueryFails by s text a → QueryFails by s text b → a ≡ b
-query_once by s a b fine text (OfFault f i e) (OfFault g j h) = e ∙ ap refusal.Query (fault_once by s text f g i j) ∙ sym h
-query_once by s a b fine text (OfFault f i e) (OfLimit l p h) = absurd (no_plan by s text f l fine i p)
-query_once by s a b fine text (OfLimit l p e) (OfFault f i h) = absurd (no_plan by s text f l fine i p)
-query_once by s a b fine text (OfLimit l p e) (OfLimit m q h) = e ∙ ap refusal.Limit (limit_once by s text l m fine p q) ∙ sym h
+pub query_once : LawsBelow → (by : Reading) (s : Schema) (a b : Refusal) → IsSchema s → (text : List ℕ) → QueryFails by s text a → QueryFails by s text b → a ≡ b
+query_once laws by s a b fine text (OfFault f i e) (OfFault g j h) = e ∙ ap refusal.Query (fault_once laws by s text f g fine i j) ∙ sym h
+query_once laws by s a b fine text (OfFault f i e) (OfLimit l p h) = absurd (no_plan laws by s text f l fine i p)
+query_once laws by s a b fine text (OfLimit l p e) (OfFault f i h) = absurd (no_plan laws by s text f l fine i p)
+query_once laws by s a b fine text (OfLimit l p e) (OfLimit m q h) = e ∙ ap refusal.Limit (limit_once laws by s text l m fine p q) ∙ sym h
 
 -- and not at all where it is compiled
-pub query_out : (s : Schema) (st : Statement) (a : Refusal) → IsSchema s → (text : List ℕ) → IsQuery s text st → QueryFails One s text a → ⊥
-query_out s st a fine text q (OfFault f i e) = accepted_goes s text f fine i st (query_accepted s text st q)
-query_out s st a fine text q (OfLimit l p e) = over_goes s text st l p q
+pub query_out : LawsBelow → (s : Schema) (st : Statement) (a : Refusal) → IsSchema s → (text : List ℕ) → IsQuery s text st → QueryFails One s text a → ⊥
+query_out laws s st a fine text q (OfFault f i e) = (laws.one.texts_have_one_fault s text f fine i).refused st (query_accepted s text st q)
+query_out laws s st a fine text q (OfLimit l p e) = over_goes laws.one s text st l p q
 
-pub queries_out : (s : Schema) (sts : List Statement) (a : Refusal) (text : List ℕ) → AreQueries s text sts → QueryFails Several s text a → ⊥
-queries_out s sts a text q (OfFault f i e) = no_list s text f sts i q.has
-queries_out s sts a text q (OfLimit l p e) = all_within s text sts l p q
+pub queries_out : LawsBelow → (s : Schema) (sts : List Statement) (a : Refusal) (text : List ℕ) → AreQueries s text sts → QueryFails Several s text a → ⊥
+queries_out laws s sts a text q (OfFault f i e) = no_list laws.several s text f sts i q.has
+queries_out laws s sts a text q (OfLimit l p e) = all_within laws.several s text sts l p q
 
 -- ---- what stops a command
 

@@ -19,6 +19,7 @@ use gl_many::Many;
 use gl_outside::{Shelf, Sink, Words};
 use gl_top_explain::answer_explain;
 use gl_top_forms::{Command, Taken, command_of};
+use gl_top_inputs::below::laws_below;
 use gl_top_matches::take;
 use gl_top_status::{Refusal, Status, tell_words};
 use std::alloc::Global;
@@ -122,5 +123,6 @@ pub fn run<S: Shelf, K: Sink, N: Sink>(
     ensures complete { IsComplete
         (call_of S.state K.state N.state words.now desk.old desk.new result) }
 {
+    laws_below();
     answer(alloc, words, desk)
 }

@@ -5,7 +5,7 @@ pub returns-clause-says : goal.returns-clause-says
 returns-clause-says g c = when_says _ c.answer.ensures
 
 pub returns-clause-told : goal.returns-clause-told
-returns-clause-told g c = when_told _ c.answer.ensures
+returns-clause-told g c = when_told c.laws_below.ensures _ c.answer.ensures
 
 pub returns-clause-untouched : goal.returns-clause-untouched
 returns-clause-untouched g c = when_untouched _ c.answer.ensures
@@ -14,7 +14,7 @@ pub returns-clause-formless : goal.returns-clause-formless
 returns-clause-formless g c = when_formless _ c.answer.ensures
 
 pub returns-clause-exact : goal.returns-clause-exact
-returns-clause-exact g c = when_refused _ c.answer.ensures
+returns-clause-exact g c = when_refused c.laws_below.ensures _ c.answer.ensures
 
 pub returns-clause-complete : goal.returns-clause-complete
-returns-clause-complete g c = when_calm _ c.answer.ensures
+returns-clause-complete g c = when_calm c.laws_below.ensures _ c.answer.ensures
