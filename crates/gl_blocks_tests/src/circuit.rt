@@ -10,11 +10,11 @@ ghost use Rattle.gl_blocks_tests.specs.Circuits.{IsSourceOf};
 
 use gl_algebra::Figures;
 use gl_bits::Memory;
-use gl_values::Kind;
 use gl_divide::divide;
 use gl_net::{Buses, NetBuilder, Netlist};
 use gl_queue::UnionOf;
 use gl_totals::Table;
+use gl_values::Kind;
 use gl_wire::{Emitted, Faults, Operator, Wire, pad};
 use std::alloc::Global;
 
@@ -136,7 +136,7 @@ pub(crate) fn divider_of(alloc: Global, first: u8, second: u8) -> Result<Circuit
     })
 }
 
-/// The columns, of these widths, so many cycles later.
+/// The columns, of these widths, `cycles` cycles later.
 pub(crate) fn padded_of(
     alloc: Global,
     first: u8,

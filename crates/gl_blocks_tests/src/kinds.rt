@@ -18,7 +18,7 @@ pub(crate) fn kind_of(text: &str) -> Kind {
     }
 }
 
-// The letters of a text of so many bytes as a number: the first one highest, and zero bytes behind them.
+// The letters of a text of `bytes` bytes as a number: the first one highest, and zero bytes behind them.
 fn letters_of(text: &str, bytes: u8) -> u128 {
     let mut number: u128 = 0;
     for at in 0..usize::from(bytes) {

@@ -18,10 +18,10 @@ use crate::levels::{levelled, put};
 use crate::{Tree, operand_of, tree_of};
 use gl_algebra::{Operand, Operands, Plan, PlanId, PlanNode};
 use gl_bits::{Listed, Memory};
-use gl_values::Kind;
 use gl_query::kinds::kind_alone;
 use gl_query::{Expr, Item, Pick};
 use gl_schema::Column;
+use gl_values::Kind;
 use std::alloc::Global;
 
 // Adds the trees of items.

@@ -10,10 +10,10 @@ ghost use Rattle.gl_elaborate.specs.Trees.{term};
 
 use crate::trees::Tree;
 use gl_bits::{Memory, Word};
-use gl_values::Kind;
 use gl_query::Expr;
 use gl_query::kinds::{column_number, kind_alone, operand_place};
 use gl_schema::{Column, text_number};
+use gl_values::Kind;
 use std::alloc::Global;
 
 // A literal of a kind.

@@ -19,10 +19,10 @@ use crate::levels::{levelled, put};
 use crate::{Tree, operand_of, tree_of};
 use gl_algebra::{Operand, Plan, PlanAgg, PlanAggs, PlanId, PlanNode, Weights};
 use gl_bits::{Listed, Memory, Word};
-use gl_values::Kind;
 use gl_query::kinds::{kind_alone, kind_of};
 use gl_query::{Agg, AggItem, Expr, Num};
 use gl_schema::Column;
+use gl_values::Kind;
 use std::alloc::Global;
 
 // Adds the tree of an expression.

@@ -1,13 +1,13 @@
 //! What statements answer over rows.
 
 use gl_bits::{Listed, Memory};
-use gl_values::{Kind, Table};
 use gl_query::columns::columns_of;
 use gl_query::{Sources, Statement};
 use gl_query_reader::read_query;
 use gl_reference::{Answer, Times, evaluate};
 use gl_schema::value::text_number;
 use gl_schema::{Column, Schema, read_schema};
+use gl_values::{Kind, Table};
 use std::alloc::{AllocError, Global};
 
 /// The text of the schema, the rows that come in on two streams, the times of the first one's, and
@@ -26,7 +26,7 @@ pub struct Given {
     pub ticks: String,
 }
 
-// The letters of a field as a number, if the kind has so many; 0 otherwise.
+// The letters of a field as a number, if they are at most `bytes`; 0 otherwise.
 fn letters_of(field: &[u8], bytes: u8) -> u128 {
     let bytes = bytes as usize;
     if bytes <= 8 && field.len() <= bytes {

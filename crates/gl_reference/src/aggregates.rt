@@ -13,9 +13,9 @@ ghost use Rattle.gl_reference.specs.Fits.{AreAggs, AreRows, HasKindAlone, IsOrMe
 use crate::rows::Fault;
 use crate::values::value_of;
 use gl_bits::{Listed, Memory};
-use gl_values::{Kind, totals};
 use gl_query::{Agg, AggItem, Expr, Num, kinds};
 use gl_schema::Column;
+use gl_values::{Kind, totals};
 use std::alloc::Global;
 
 /// The values of an expression over rows.

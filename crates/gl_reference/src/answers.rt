@@ -14,11 +14,11 @@ ghost use Rattle.gl_reference.specs.Sources.{IsAnswer, columns_over};
 use crate::aggregates::total_row;
 use crate::columns::{Source, columns_of, source_named};
 use crate::rows::{Fault, beside, copy_of_table, joined, picked_rows};
-use gl_bits::limits::{MOST_GROUPS, MOST_ROWS};
-use gl_values::lists::slices_of;
 use gl_bits::Listed;
-use gl_values::Table;
+use gl_bits::limits::{MOST_GROUPS, MOST_ROWS};
 use gl_query::{AggItem, Expr, Name, Pick, Query};
+use gl_values::Table;
+use gl_values::lists::slices_of;
 use std::alloc::Global;
 
 /// A result: its rows, and whether rows of further keys were left out.

@@ -9,9 +9,9 @@ ghost use Rattle.gl_reference.specs.Partitions.{is_key, table_fulls, table_parts
 
 use crate::rows::{Fault, copy_of_table};
 use gl_bits::limits::MOST_ROWS;
-use gl_values::lists::{groups_of, number_at, rows_with_key, slices_of};
 use gl_bits::{Listed, Memory};
 use gl_values::Group;
+use gl_values::lists::{groups_of, number_at, rows_with_key, slices_of};
 use std::alloc::Global;
 
 // Whether a key is that of a group.

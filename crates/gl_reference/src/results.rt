@@ -19,13 +19,13 @@ use crate::columns::{Clock, Source, columns_of};
 use crate::partitions::partitions_of;
 use crate::rows::{Fault, joined, with_key};
 use crate::windows::{clock_of, slices_in, time_windows_of};
-use gl_values::lists::{groups_of, some_further};
 use gl_bits::{Listed, Memory};
-use gl_values::{Group, Table};
 use gl_query::kinds::column_number;
 use gl_query::laws::results_fit;
 use gl_query::{Query, Statement};
 use gl_schema::{Column, Schema, Stream};
+use gl_values::lists::{groups_of, some_further};
+use gl_values::{Group, Table};
 use std::alloc::Global;
 
 /// A body over each slice, its results joined in order.
@@ -258,7 +258,7 @@ fn sources_of<'a>(
 }
 
 /// One result of an accepted statement over a schema: the inputs and their times are those of the
-/// streams, in order, and so many ticks come in all.
+/// streams, in order, and `ticks` ticks come in all.
 pub fn evaluate(
     alloc: Global,
     schema: &Schema,

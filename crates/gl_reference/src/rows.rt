@@ -9,12 +9,12 @@ ghost use Rattle.gl_reference.specs.declared.rows.Fault.TheVariants as fault;
 ghost use Rattle.gl_reference.specs.Fits.{AreRows, IsOrMemory, IsRow};
 
 use crate::values::{keeps, value_of};
-use gl_values::lists::copy_of_row;
 use gl_bits::{Listed, Memory};
-use gl_values::Table;
 use gl_query::kinds::kind_alone;
 use gl_query::{Expr, Item, Pick};
 use gl_schema::Column;
+use gl_values::Table;
+use gl_values::lists::copy_of_row;
 use std::alloc::{AllocError, AllocFailed, Global};
 
 /// Why there is no answer.

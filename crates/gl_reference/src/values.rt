@@ -12,11 +12,11 @@ ghost use Rattle.gl_query.specs.Values.{IsLettersOf, value_of};
 ghost use Rattle.gl_query.specs.Results.{keeps};
 ghost use Rattle.gl_reference.specs.Fits.{HasWord, IsRow};
 
-use gl_values::lists::number_at;
-use gl_values::{Family, Kind};
 use gl_query::kinds::{column_number, kind_alone, kind_of, operand_place};
 use gl_query::{Expr, Op};
 use gl_schema::{Column, text_number};
+use gl_values::lists::number_at;
+use gl_values::{Family, Kind};
 
 /// A power of two; None past 127.
 fn power(width: u16) -> Option<u128>

@@ -11,9 +11,9 @@ ghost use Rattle.gl_runner.specs.Prints.{Ran};
 use crate::driving::Task;
 use crate::following::follow_module;
 use crate::tracing::Ending;
-use gl_values::Kind;
 use gl_outside::Sink;
 use gl_testbench::shows_of;
+use gl_values::Kind;
 use gl_verilog::Module;
 use std::alloc::Global;
 

@@ -8,9 +8,9 @@ ghost use Rattle.gl_verilog_ports.specs.Profile as profile;
 ghost use Rattle.gl_runner.specs.Naming.{AreShownBy, column_at};
 
 use gl_bits::Memory;
-use gl_values::Kind;
 use gl_schema::{Column, Columns, NameText};
 use gl_testbench::{Shows, number_of};
+use gl_values::Kind;
 use gl_verilog::Module;
 use gl_verilog_ports::ports_of;
 use std::alloc::Global;

@@ -16,10 +16,10 @@ use crate::sampling::{sample_of, set_row};
 use crate::tracing::Ending;
 use crate::watching::{Made, Watch};
 use gl_bits::{Memory, Row};
-use gl_values::Kind;
 use gl_outside::{Sink, WriteFault};
 use gl_testbench::Shows;
 use gl_tuples::{put_cycle, zero_row};
+use gl_values::Kind;
 use gl_verilog::Module;
 use std::alloc::Global;
 

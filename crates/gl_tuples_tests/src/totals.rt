@@ -8,8 +8,8 @@
 
 use crate::pieces::{number_before, numbers_of, word_before};
 use gl_bits::Memory;
-use gl_values::kind::Kind;
 use gl_bits::listed::Listed;
+use gl_values::kind::Kind;
 use gl_values::lists::{Table, copy_of_row, groups_of, slice_of, slices_of, some_further};
 use gl_values::totals::{average, count, greatest, least, sum, weigh};
 use std::alloc::Global;

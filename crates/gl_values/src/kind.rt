@@ -189,7 +189,7 @@ fn are_alike(first: Family, second: Family) -> bool
     }
 }
 
-// Whether the number of one word of so many bits, in two's complement, is below that of another.
+// Whether the number of one word of `bits` bits, in two's complement, is below that of another.
 #[tactic(auto, using(crate::proofs::Signs::below_same, crate::proofs::Signs::below_mixed, crate::proofs::Signs::mixed_below))]
 fn signed_below(bits: u16, first: u128, second: u128) -> bool
     ensures { result ≡ int_lt (spec.signed_number bits first) (spec.signed_number bits second) }
@@ -227,7 +227,7 @@ fn past_below(bits: u16, past: u128, number: u128) -> bool
     past - (1u128 << bits) < number
 }
 
-// The word of a width that stands for the number of a word of so many bits, in two's complement.
+// The word of a width that stands for the number of a word of `bits` bits, in two's complement.
 #[tactic(auto, using(crate::proofs::Signs::resized_low, crate::proofs::Signs::resized_high))]
 fn signed_resized(word: u128, bits: u8, width: u8) -> u128
     requires few { bits ≤ 64 }
@@ -242,7 +242,7 @@ fn signed_resized(word: u128, bits: u8, width: u8) -> u128
     wrapped(word.wrapping_sub(1u128 << bits), width)
 }
 
-// Whether a number fits so many bits.
+// Whether a number fits `bits` bits.
 #[tactic(auto, using(crate::proofs::KindLemmas::wide_enough))]
 pub(crate) fn fits(number: u128, bits: u16) -> bool
     ensures { result ≡ nat_lt number (2 ^ bits) }
