@@ -18,7 +18,7 @@ use Rattle.gl_top_matches.specs.Apps.{Tells, app_for, no_name, one_name, two_nam
 use Rattle.gl_top_forms.specs.Said.{IsSaid, extra_by, start_by}
 use Rattle.gl_top_matches.proofs.Ends.{Given}
 use Rattle.gl_top_matches.proofs.Laid.{AreNames, bare, placed, three}
-use Rattle.gl_top_matches.proofs.Names.{load_names, query_names}
+use Rattle.gl_top_matches.proofs.Names.{load_names, query_names, version_names}
 use Rattle.gl_top_matches.proofs.Layouts.{laid}
 use Rattle.gl_top_matches.proofs.Runs.{run_app, run_bare, run_layouts}
 use Rattle.gl_top_matches.proofs.Sims.{sim_app, sim_layouts}
