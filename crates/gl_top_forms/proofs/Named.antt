@@ -1,6 +1,6 @@
 -- What words of a form name.
 use Rattle.std.proofs.Common.{◌≡◌, inl, inr, ℕ, zero, suc, ◌<◌, Bool, true, false, List, [], ◌∷◌, length, drop, Option, Some, None, refl, sym, ap, subst, ◌∙◌, arith}
-use Rattle.std.specs.Prelude.{find, is_some, slice_get, unwrap_or, Contains, bytes_eq, if◌then◌else◌}
+use Rattle.std.specs.Prelude.{find, is_some, slice_get, unwrap_or, Contains, bytes_eq}
 use Rattle.std.specs.List.{list_all}
 use Rattle.std.proofs.lemmas.Bool.{eqb-true}
 use Rattle.gl_bits.proofs.Bools.{and_left, and_right}

@@ -3,7 +3,6 @@ use Rattle.std.specs.Prelude.{ℕ, List, [], ◌∷◌, ◌++◌, codes, Option,
 use Rattle.std.specs.List.{flat_map}
 use Rattle.gl_top_forms.specs.declared.command.Command.{Command}
 use Rattle.gl_top_forms.specs.declared.command.Command.TheVariants.{Compile, Figures, Explain, Run, Sim, Load, Vcd, Undump, Many, ManyFigures, ManyRun, HelpOf, Help, DashedHelp, Version}
-use Rattle.gl_top_forms.specs.Forms.{topic_of}
 
 -- the two lines of a command
 unfoldable pub help_lines : Command → List ℕ

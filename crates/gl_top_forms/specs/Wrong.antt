@@ -1,5 +1,5 @@
 -- Which word of a command line of no form is wrong, and the line that tells it.
-use Rattle.std.specs.Prelude.{ℕ, zero, suc, Bool, true, false, not, ◌==◌, List, [], ◌∷◌, ◌++◌, length, drop, codes, bytes_eq, slice_get, unwrap_or, Option, Some, None, is_some, if◌then◌else◌}
+use Rattle.std.specs.Prelude.{ℕ, Bool, true, false, not, ◌==◌, List, [], ◌∷◌, ◌++◌, length, drop, codes, bytes_eq, slice_get, unwrap_or, Option, Some, None, is_some, if◌then◌else◌}
 use Rattle.std.specs.List.{starts_with}
 use Rattle.gl_top_forms.specs.declared.command.Command.{Command}
 use Rattle.gl_top_forms.specs.declared.command.Command.TheVariants.{Run, Sim, Load, Vcd, ManyRun}
