@@ -12,7 +12,7 @@ use Rattle.gl_top_forms.specs.declared.command.Command.TheVariants.{Load, ManyRu
 use Rattle.gl_top_forms.specs.declared.command.Part.{Part}
 use Rattle.gl_top_forms.specs.declared.command.Part.TheVariants as part
 use Rattle.gl_top_forms.specs.Forms.{IsCommand, IsForm, IsOfRun, extra_of}
-use Rattle.gl_top_forms.proofs.Named.{form_of, named_form, one_command}
+use Rattle.gl_top_forms.proofs.Named.{form_of, help_form, named_form, one_command}
 use Rattle.gl_outside.specs.States.{IsCalm, Took}
 use Rattle.gl_verilog.specs.declared.start.Start.TheVariants.{Zero}
 use Rattle.gl_tuples.specs.declared.beats.Beat.{Beat}
@@ -30,10 +30,10 @@ use Rattle.gl_top_status.specs.Refusals.{Puts, Notes, status_of, note_of, no_end
 use Rattle.gl_top_inputs.specs.Causes.{Change, HasCause, IsNext, IsRefused}
 use Rattle.gl_top.specs.Shown.{AreShownOf, IsShownOf, Shows, ShowsAll}
 use Rattle.gl_top.specs.Calls.{Call}
-use Rattle.gl_top.specs.Verdicts.{AllPass, OfFile, Two, TwoOfAll, Completes, Whole, NoMemory, Endless, IsAnswer, RanWhole, RanCut, Traced, Wrote, WroteCut, Refused, IsEndless, IsComplete, IsGiven, OfDump, OfLoad, OfQueries, OfTexts, OfVersion, IsTelling, TellsEnding, TellsFaults, TellsForm, Yields, Same, ToRead, ToWrite, ToMemory, IsFaultless, Says, SaysBy, TellsRefusal}
+use Rattle.gl_top.specs.Verdicts.{AllPass, OfFile, Two, TwoOfAll, Completes, Whole, NoMemory, Endless, IsAnswer, RanWhole, RanCut, Traced, Wrote, WroteCut, Refused, IsEndless, IsComplete, IsGiven, OfDump, OfHelp, OfLoad, OfQueries, OfTexts, OfVersion, IsTelling, TellsEnding, TellsFaults, TellsForm, Yields, Same, ToRead, ToWrite, ToMemory, IsFaultless, Says, SaysBy, TellsRefusal}
 use Rattle.gl_top_inputs.proofs.Texts.{next_form}
 use Rattle.gl_top.proofs.Stopping.{Stops, stops}
-use Rattle.gl_top.proofs.Passed.{dump_goes, load_goes, passes_goes, version_goes}
+use Rattle.gl_top.proofs.Passed.{dump_goes, help_goes, load_goes, passes_goes, version_goes}
 use Rattle.gl_top.proofs.Deciding.{formed, one_refusal}
 use Rattle.gl_top.proofs.Ended.{nothing_failed, run_form, sink_failed, texts_pass}
 
@@ -210,6 +210,7 @@ by_cause laws call r tells is s (Short own) (inl n) = ToMemory (n.0 ∙ own)
 shown_goes : LawsBelow → (told : List ℕ → Told) (words : List (List ℕ)) (bytes text : List ℕ) (a : Refusal) → IsTelling told words → IsGiven told words bytes text → Stops told words a → ⊥
 shown_goes laws told words bytes text a tells (OfLoad d) h = load_goes told words d.count a d.is h
 shown_goes laws told words bytes text a tells (OfDump d left) h = dump_goes told words bytes a tells d h
+shown_goes laws told words bytes text a tells (OfHelp is shown left) h = help_goes told words a is h
 shown_goes laws told words bytes text a tells (OfVersion is shown left) h = version_goes told words a is h
 shown_goes laws told words bytes text a tells (OfTexts d) h = passes_goes laws told words a tells (Two d.schema d.statement d.passes (shown_no_run told words bytes text d)) h
 shown_goes laws told words bytes text a tells (OfQueries d) h = passes_goes laws told words a tells (TwoOfAll d.schema d.statements d.passes (shown_no_run_of_all told words bytes text d)) h
@@ -249,6 +250,7 @@ given_form told words bytes text (OfTexts d) = named_form words part.Query d.pas
 given_form told words bytes text (OfQueries d) = named_form words part.Queries d.passes.named
 given_form told words bytes text (OfLoad d) = form_of words Load d.is.loads
 given_form told words bytes text (OfDump d left) = form_of words Undump d.is
+given_form told words bytes text (OfHelp is shown left) = help_form words is
 given_form told words bytes text (OfVersion is shown left) = form_of words Version is
 
 pub when_formless : (call : Call) → IsAnswer call → TellsForm call

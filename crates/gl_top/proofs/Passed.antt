@@ -24,8 +24,8 @@ use Rattle.gl_verilog.specs.Module.{Module}
 use Rattle.gl_verilog.specs.Text.{HasModule}
 use Rattle.gl_top_forms.specs.declared.command.Command.TheVariants as command
 use Rattle.gl_top_forms.specs.declared.command.Part.TheVariants as part
-use Rattle.gl_top_forms.specs.Forms.{IsCommand, IsLoadOf, IsNamed, IsOfRun, name_of}
-use Rattle.gl_top_forms.proofs.Named.{form_of, load_names_none, many_run_names_queries, named_form, one_query_part, queries_and_no_module, sim_names_no_query, version_names_none}
+use Rattle.gl_top_forms.specs.Forms.{IsCommand, IsLoadOf, IsNamed, IsOfHelp, IsOfRun, name_of}
+use Rattle.gl_top_forms.proofs.Named.{form_of, help_form, help_names_none, load_names_none, many_run_names_queries, named_form, one_query_part, queries_and_no_module, sim_names_no_query, version_names_none}
 use Rattle.gl_top_status.specs.declared.refusal.Refusal.{Refusal}
 use Rattle.gl_top_status.specs.Texts.{HasText, SchemaPasses}
 use Rattle.gl_top_inputs.specs.Below.{LawsBelow}
@@ -33,7 +33,7 @@ use Rattle.gl_top_inputs.specs.Passing.{AsksGap, FilePasses, ModulePasses, OfAll
 use Rattle.gl_top_inputs.specs.Readings.{One, Several}
 use Rattle.gl_top_inputs.proofs.Modules.{module_goes}
 use Rattle.gl_top_inputs.proofs.Texts.{asks_named, asks_schema, run_names_query, sim_names_module, sim_names_tuples}
-use Rattle.gl_top.specs.Verdicts.{AllPass, IsTelling, IsUndumped, Loads, OfFile, Three, ThreeOfAll, Two, TwoOfAll, Undumps, Versions}
+use Rattle.gl_top.specs.Verdicts.{AllPass, Helps, IsTelling, IsUndumped, Loads, OfFile, Three, ThreeOfAll, Two, TwoOfAll, Undumps, Versions}
 use Rattle.gl_top.proofs.Dumps.{DumpFails, no_dump, undump_names}
 use Rattle.gl_top.proofs.Failing.{Failing, FailsAt, Fine, no_error, not_both, weaker, with_both}
 use Rattle.gl_top.proofs.Stopping.{AtDump, AtFile, AtModule, AtQuery, AtSchema, AtSecond, AtThird, AtTuples, AtWords, ModuleFails, QueryFails, SchemaFails, SecondStops, Stops, ThirdStops, TuplesFail, filed, queries_out, query_out}
@@ -223,6 +223,14 @@ version_goes told words a is (AtSecond s p h) = version_names_none words part.Sc
 version_goes told words a is (AtThird s p h) = version_names_none words part.Schema is p.named
 version_goes told words a is (AtDump named f) = version_names_none words part.Dump is named
 
+-- nor do those of help
+pub help_goes : (told : List ℕ → Told) (words : List (List ℕ)) (a : Refusal) → IsOfHelp words → Stops told words a → ⊥
+help_goes told words a is (AtWords n e) = n (help_form words is)
+help_goes told words a is (AtSchema named f) = help_names_none words part.Schema is named
+help_goes told words a is (AtSecond s p h) = help_names_none words part.Schema is p.named
+help_goes told words a is (AtThird s p h) = help_names_none words part.Schema is p.named
+help_goes told words a is (AtDump named f) = help_names_none words part.Dump is named
+
 -- nor does a dump that is read
 pub dump_goes : (told : List ℕ → Told) (words : List (List ℕ)) (bytes : List ℕ) (a : Refusal) → IsTelling told words → IsUndumped told words bytes → Stops told words a → ⊥
 dump_goes told words bytes a tells d (AtWords n e) = n (form_of words command.Undump d.is)
@@ -241,4 +249,5 @@ passes_goes laws told words a tells (ThreeOfAll s sts beats p) h = three_go laws
 passes_goes laws told words a tells (OfFile s m beats p) h = file_goes laws told words s m beats a tells p h
 passes_goes laws told words a tells (Loads count is) h = load_goes told words count a is h
 passes_goes laws told words a tells (Undumps bytes d) h = dump_goes told words bytes a tells d h
+passes_goes laws told words a tells (Helps is) h = help_goes told words a is h
 passes_goes laws told words a tells (Versions is) h = version_goes told words a is h

@@ -43,7 +43,8 @@ use Rattle.gl_schema.specs.declared.fault.SchemaFault.{SchemaFault}
 use Rattle.gl_query.specs.declared.fault.QueryFault.{QueryFault}
 use Rattle.gl_tuples.specs.declared.fault.TupleFault.{TupleFault}
 use Rattle.gl_top_forms.specs.declared.command.Command.TheVariants.{ManyRun, Run, Undump, Vcd, Version}
-use Rattle.gl_top_forms.specs.Forms.{IsCommand, IsForm, IsLoadOf, IsNamed, IsOfRun, extra_of, name_of, start_of}
+use Rattle.gl_top_forms.specs.Forms.{IsCommand, IsForm, IsLoadOf, IsNamed, IsOfHelp, IsOfRun, extra_of, name_of, start_of, topic_of}
+use Rattle.gl_top_forms.specs.Help.{help_text}
 use Rattle.gl_load.specs.Loads.{IsLoad}
 use Rattle.gl_top.specs.Calls.{Call}
 use Rattle.gl_top.specs.Shown.{AreShownOf, IsShownOf, version_line}
@@ -118,12 +119,14 @@ pub record IsUndumped (told : List ℕ → Told) (words : List (List ℕ)) (byte
   pub text : HasText told words part.Dump (λ text. OfLines text (λ lines. bytes ≡ lines))
 
 -- what is written, and the text that is left: what a command shows of the texts that it names, what is told of a load,
--- or the version
+-- how commands are called, or the version
 pub data IsGiven (told : List ℕ → Told) (words : List (List ℕ)) (bytes text : List ℕ) : Type 0 where
   OfTexts : (shown : IsShownOf told words bytes text) → IsGiven told words bytes text
   OfQueries : (shown : AreShownOf told words bytes text) → IsGiven told words bytes text
   OfLoad : (loaded : IsLoaded words bytes text) → IsGiven told words bytes text
   OfDump : (shown : IsUndumped told words bytes) (left : text ≡ []) → IsGiven told words bytes text
+  OfHelp : (is : IsOfHelp words) (shown : bytes ≡ help_text (topic_of words)) (left : text ≡ [])
+      → IsGiven told words bytes text
   OfVersion : (is : IsCommand words Version) (shown : bytes ≡ version_line) (left : text ≡ [])
       → IsGiven told words bytes text
 
@@ -251,7 +254,7 @@ Says call = SaysBy call.status call
 
 -- ---- what is told, and what is completed
 
--- the texts that a command asks for pass: to run and to simulate, the tuple file too; a load and the version ask for none
+-- the texts that a command asks for pass: to run and to simulate, the tuple file too; a load, help and the version ask for none
 pub data AllPass (told : List ℕ → Told) (words : List (List ℕ)) : Type 0 where
   Two : (schema : Schema) (statement : Statement) (passes : QueryPasses told words schema statement)
       (others : IsOfRun words → ⊥) → AllPass told words
@@ -265,6 +268,7 @@ pub data AllPass (told : List ℕ → Told) (words : List (List ℕ)) : Type 0 w
       (pass : FilePasses told words schema design beats) → AllPass told words
   Loads : (count : ℕ) (is : IsLoadOf words count) → AllPass told words
   Undumps : (bytes : List ℕ) (shown : IsUndumped told words bytes) → AllPass told words
+  Helps : (is : IsOfHelp words) → AllPass told words
   Versions : (is : IsCommand words Version) → AllPass told words
 
 -- the shelf tells the texts that the words name

@@ -8,6 +8,7 @@ ghost use Rattle.gl_top.specs.Verdicts.{IsAnswer, IsComplete, Says, TellsFaults,
 
 use crate::chain::answer_run;
 use crate::desk::Desk;
+use crate::helping::answer_help;
 use crate::loading::answer_load;
 use crate::showing::{answer_figures, answer_text, show_text};
 use crate::tracing::answer_sim;
@@ -54,6 +55,9 @@ fn answer_command<S: Shelf, K: Sink, N: Sink>(
         Command::Many => answer_text::<Many, S, K, N>(alloc, words, desk),
         Command::ManyFigures => answer_figures::<Many, S, K, N>(alloc, words, desk),
         Command::ManyRun => answer_run::<NamedLines, S, K, N>(alloc, words, desk),
+        Command::HelpOf => answer_help(alloc, words, desk),
+        Command::Help => answer_help(alloc, words, desk),
+        Command::DashedHelp => answer_help(alloc, words, desk),
         Command::Version => show_text(words, b"", version_text(), desk),
     }
 }
@@ -87,11 +91,13 @@ fn answer<S: Shelf, K: Sink, N: Sink>(
 /// and the gap of all; `manyrun S Q T` writes what that text does over T, each line with the name of its
 /// query, from a start as `run` has it. These leave the text on the desk.
 /// `undump D` reads such a dump of any origin back, and writes the lines of the result that it shows,
-/// with all values in decimal. `--version` writes the version of the program. `explain S Q`
+/// with all values in decimal. `--version` writes the version of the program, `help` and `--help` how each
+/// command is called and what it writes, and `help COMMAND` that of one. `explain S Q`
 /// writes the query in its canonical form and its plan. `sim S V T --extra N` writes what the Verilog
 /// text V does over T, from registers and words of 0, with all values in decimal, up to the end, for
 /// which it waits N cycles behind the last beat's; these leave no text.
-/// Where it ends before its work is done, and where no end came, it writes one line to the notes.
+/// Where it ends before its work is done, and where no end came, it writes one line to the notes, and
+/// of words of no form a second line, which names the wrong word.
 ///
 /// The texts are fetched in the order in which they are named, and each is judged before the next is
 /// fetched. With every status but `Done`, `WriteFault` and `NoEnd` nothing is written to the output.

@@ -1,6 +1,6 @@
 -- What words of a form name.
 use Rattle.std.proofs.Common.{◌≡◌, inl, inr, ℕ, zero, suc, ◌<◌, Bool, true, false, List, [], ◌∷◌, length, drop, Option, Some, None, refl, sym, ap, subst, ◌∙◌, arith}
-use Rattle.std.specs.Prelude.{is_some, slice_get, unwrap_or, Contains, bytes_eq, if◌then◌else◌}
+use Rattle.std.specs.Prelude.{find, is_some, slice_get, unwrap_or, Contains, bytes_eq}
 use Rattle.std.specs.List.{list_all}
 use Rattle.std.proofs.lemmas.Bool.{eqb-true}
 use Rattle.gl_bits.proofs.Bools.{and_left, and_right}
@@ -11,8 +11,8 @@ use Rattle.gl_verilog.specs.declared.start.Start.TheVariants.{Zero}
 use Rattle.gl_top_forms.specs.declared.command.Part.{Part}
 use Rattle.gl_top_forms.specs.declared.command.Part.TheVariants.{Schema, Query, Module, Tuples, Dump, Queries}
 use Rattle.gl_top_forms.specs.declared.command.Command.{Command}
-use Rattle.gl_top_forms.specs.declared.command.Command.TheVariants.{Compile, Figures, Explain, Run, Sim, Load, Vcd, Undump, Many, ManyFigures, ManyRun, Version}
-use Rattle.gl_top_forms.specs.Forms.{IsCommand, IsForm, IsLoadOf, IsNamed, IsOfRun, command_of, extra_in, extra_of, is_command, is_dashed, load_in, load_of, many_names, name_of, names_in, names_of, option_word, parts_of, place_of, start_in, start_of, values_of}
+use Rattle.gl_top_forms.specs.declared.command.Command.TheVariants.{Compile, Figures, Explain, Run, Sim, Load, Vcd, Undump, Many, ManyFigures, ManyRun, HelpOf, Help, DashedHelp, Version}
+use Rattle.gl_top_forms.specs.Forms.{IsCommand, IsForm, IsLoadOf, IsNamed, IsOfHelp, IsOfRun, command_of, commands, extra_in, extra_of, is_command, is_dashed, load_in, load_of, many_names, name_of, names_in, names_of, option_word, parts_of, place_of, start_in, start_of, values_of}
 
 -- ---- a name is one of the words
 
@@ -57,41 +57,18 @@ pub data Commanded (words : List (List ℕ)) (o : Option Command) : Type 0 where
   Of : (c : Command) (is : is_command words c ≡ true) (same : o ≡ Some c) → Commanded words o
   Formless : (none : o ≡ None) → Commanded words o
 
+commanded_in : (words : List (List ℕ)) (cs : List Command) → Commanded words (find (is_command words) cs)
+commanded_in words [] = Formless refl
+commanded_in words (c ∷ cs) = by (is_command words c) refl (commanded_in words cs)
+  where
+    by : (b : Bool) → is_command words c ≡ b → Commanded words (find (is_command words) cs)
+        → Commanded words (find (is_command words) (c ∷ cs))
+    by true p rest = Of c p (rw p refl)
+    by false p rest = rw p rest
+
 pub commanded : (words : List (List ℕ)) → Commanded words (command_of words)
 unfolding command_of
-commanded words = by (is_command words Compile) (is_command words Figures) (is_command words Explain) (is_command words Run) (is_command words Sim) (is_command words Load)
-    (is_command words Vcd) (is_command words Undump) (is_command words Many) (is_command words ManyFigures) (is_command words ManyRun)
-    (is_command words Version) refl refl refl refl refl refl refl refl refl refl refl refl
-  where
-    by : (a f b c s l v u m n k j : Bool) → is_command words Compile ≡ a → is_command words Figures ≡ f → is_command words Explain ≡ b
-        → is_command words Run ≡ c → is_command words Sim ≡ s → is_command words Load ≡ l → is_command words Vcd ≡ v → is_command words Undump ≡ u
-        → is_command words Many ≡ m → is_command words ManyFigures ≡ n → is_command words ManyRun ≡ k → is_command words Version ≡ j
-        → Commanded words (if is_command words Compile then Some Compile
-        else if is_command words Figures then Some Figures
-        else if is_command words Explain then Some Explain
-        else if is_command words Run then Some Run
-        else if is_command words Sim then Some Sim
-        else if is_command words Load then Some Load
-        else if is_command words Vcd then Some Vcd
-        else if is_command words Undump then Some Undump
-        else if is_command words Many then Some Many
-        else if is_command words ManyFigures then Some ManyFigures
-        else if is_command words ManyRun then Some ManyRun
-        else if is_command words Version then Some Version
-        else None)
-    by true f b c s l v u m n k j p g q r t o w x y z i d = Of Compile p (rw p refl)
-    by false true b c s l v u m n k j p g q r t o w x y z i d = Of Figures g (rw (p, g) refl)
-    by false false true c s l v u m n k j p g q r t o w x y z i d = Of Explain q (rw (p, g, q) refl)
-    by false false false true s l v u m n k j p g q r t o w x y z i d = Of Run r (rw (p, g, q, r) refl)
-    by false false false false true l v u m n k j p g q r t o w x y z i d = Of Sim t (rw (p, g, q, r, t) refl)
-    by false false false false false true v u m n k j p g q r t o w x y z i d = Of Load o (rw (p, g, q, r, t, o) refl)
-    by false false false false false false true u m n k j p g q r t o w x y z i d = Of Vcd w (rw (p, g, q, r, t, o, w) refl)
-    by false false false false false false false true m n k j p g q r t o w x y z i d = Of Undump x (rw (p, g, q, r, t, o, w, x) refl)
-    by false false false false false false false false true n k j p g q r t o w x y z i d = Of Many y (rw (p, g, q, r, t, o, w, x, y) refl)
-    by false false false false false false false false false true k j p g q r t o w x y z i d = Of ManyFigures z (rw (p, g, q, r, t, o, w, x, y, z) refl)
-    by false false false false false false false false false false true j p g q r t o w x y z i d = Of ManyRun i (rw (p, g, q, r, t, o, w, x, y, z, i) refl)
-    by false false false false false false false false false false false true p g q r t o w x y z i d = Of Version d (rw (p, g, q, r, t, o, w, x, y, z, i, d) refl)
-    by false false false false false false false false false false false false p g q r t o w x y z i d = Formless (rw (p, g, q, r, t, o, w, x, y, z, i, d) refl)
+commanded words = commanded_in words commands
 
 pub form_of : (words : List (List ℕ)) (c : Command) → IsCommand words c → IsForm words
 form_of words c is = rw is refl
@@ -161,6 +138,9 @@ place_within Undump p h = subst (λ (x : Part). place_of x < 1) (dump_alone p h)
 place_within Many p h = place_two p Queries (omega arith) h
 place_within ManyFigures p h = place_two p Queries (omega arith) h
 place_within ManyRun p h = place_three p
+place_within HelpOf p h = absurd (omega (arith, h.1))
+place_within Help p h = absurd (omega (arith, h.1))
+place_within DashedHelp p h = absurd (omega (arith, h.1))
 place_within Version p h = absurd (omega (arith, h.1))
 
 -- the name of a text that the words name is one of the words
@@ -184,6 +164,9 @@ first_part Undump p b h = let no : is_beside Dump ≡ true = subst (λ (x : Part
 first_part Many p b h = (0, omega arith, refl)
 first_part ManyFigures p b h = (0, omega arith, refl)
 first_part ManyRun p b h = (0, omega arith, refl)
+first_part HelpOf p b h = absurd (omega (arith, h.1))
+first_part Help p b h = absurd (omega (arith, h.1))
+first_part DashedHelp p b h = absurd (omega (arith, h.1))
 first_part Version p b h = absurd (omega (arith, h.1))
 
 pub schema_named : (words : List (List ℕ)) (p : Part) → is_beside p ≡ true → IsNamed words p → IsNamed words Schema
@@ -202,6 +185,18 @@ load_names_none words p is h = let c = parts_are words Load p is h in omega (ari
 -- nor do those of the version
 pub version_names_none : (words : List (List ℕ)) (p : Part) → IsCommand words Version → IsNamed words p → ⊥
 version_names_none words p is h = let c = parts_are words Version p is h in omega (arith, c.1)
+
+-- nor do those of help
+pub help_names_none : (words : List (List ℕ)) (p : Part) → IsOfHelp words → IsNamed words p → ⊥
+help_names_none words p (inl is) h = let c = parts_are words HelpOf p is h in omega (arith, c.1)
+help_names_none words p (inr (inl is)) h = let c = parts_are words Help p is h in omega (arith, c.1)
+help_names_none words p (inr (inr is)) h = let c = parts_are words DashedHelp p is h in omega (arith, c.1)
+
+-- which are of a form
+pub help_form : (words : List (List ℕ)) → IsOfHelp words → IsForm words
+help_form words (inl is) = form_of words HelpOf is
+help_form words (inr (inl is)) = form_of words Help is
+help_form words (inr (inr is)) = form_of words DashedHelp is
 
 no_query : Contains (parts_of Sim) Query → ⊥
 no_query (zero, l, e) = absurd cc
@@ -228,6 +223,9 @@ undumps Undump h = refl
 undumps Many h = let e = part_in is_beside (parts_of Many) Dump refl h in absurd cc
 undumps ManyFigures h = let e = part_in is_beside (parts_of ManyFigures) Dump refl h in absurd cc
 undumps ManyRun h = let e = part_in is_beside (parts_of ManyRun) Dump refl h in absurd cc
+undumps HelpOf h = absurd (omega (arith, h.1))
+undumps Help h = absurd (omega (arith, h.1))
+undumps DashedHelp h = absurd (omega (arith, h.1))
 undumps Version h = absurd (omega (arith, h.1))
 
 pub dump_is_undumped : (words : List (List ℕ)) → IsNamed words Dump → IsCommand words Undump
@@ -264,6 +262,9 @@ beside_queries Undump h = let e = part_in is_other (parts_of Undump) Queries ref
 beside_queries Many h = refl
 beside_queries ManyFigures h = refl
 beside_queries ManyRun h = refl
+beside_queries HelpOf h = absurd (omega (arith, h.1))
+beside_queries Help h = absurd (omega (arith, h.1))
+beside_queries DashedHelp h = absurd (omega (arith, h.1))
 beside_queries Version h = absurd (omega (arith, h.1))
 
 named_beside : (words : List (List ℕ)) (p : Part) → IsNamed words Queries → IsNamed words p → is_beside_queries p ≡ true

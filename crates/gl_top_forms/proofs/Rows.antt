@@ -1,11 +1,11 @@
 -- Worked command lines compute.
 use Rattle.std.proofs.Common.{refl}
 use Rattle.gl_tuples.specs.Values.{number_of, is_number, are_digits, number_in}
-use Rattle.gl_top_forms.specs.Forms.{command_of, extra_of, is_command, load_of, names_of, option_word, values_of, start_of}
+use Rattle.gl_top_forms.specs.Forms.{command_named, command_of, extra_of, is_command, load_of, names_of, option_word, topic_of, values_of, start_of}
 use Rattle.gl_top_forms.specs.Worked.{WorkedForms}
 
 pub worked_forms : WorkedForms
-unfolding command_of is_command extra_of load_of names_of option_word values_of start_of number_of is_number are_digits number_in
+unfolding command_named command_of is_command extra_of load_of topic_of names_of option_word values_of start_of number_of is_number are_digits number_in
 worked_forms = record {
   compile = (refl, refl);
   figures = (refl, refl);
@@ -73,8 +73,16 @@ worked_forms = record {
   version_and_a_name = refl;
   version_and_an_option = refl;
   version_twice = refl;
-  dashed_help = refl;
-  help = refl;
+  dashed_help = (refl, refl);
+  dashed_help_on_run = refl;
+  dashed_help_of_run = refl;
+  help = (refl, refl);
+  help_on_run = (refl, refl);
+  help_on_help = (refl, refl);
+  help_on_nothing = refl;
+  help_on_version = refl;
+  help_on_two = refl;
+  help_is_a_name = (refl, refl);
   no_command = refl;
   no_word = refl;
 }

@@ -5,7 +5,8 @@ use Rattle.std.specs.List.{starts_with}
 use Rattle.std.proofs.lemmas.List.{take_all}
 use Rattle.gl_bits.proofs.Bools.{bytes_same, not_both}
 use Rattle.gl_top_forms.specs.Forms.{first_word, option_front, option_word, is_dashed, names_in, values_in}
-use Rattle.gl_top_forms.specs.Steps.{behind, is_option, is_name, value_in}
+use Rattle.gl_top_forms.specs.Steps.{behind, is_option, is_name, is_strange, value_in}
+use Rattle.gl_top_forms.specs.Wrong.{strange_in}
 
 -- ---- the option
 
@@ -145,3 +146,37 @@ module _ (o : List ℕ) where
   value_none v u ws k w n m e h next same =
       ap (λ l. slice_get (values_in o v l) n) (from_here ws k w e) ∙ ap (λ l. slice_get l n) (unvalued v w (drop (k + 1) ws) h)
       ∙ ap (λ b. slice_get (values_in o b (drop (k + 1) ws)) n) (sym next) ∙ ap (λ i. slice_get (values_in o u (drop (k + 1) ws)) i) (sym same)
+
+-- ---- words that are none of these
+
+module _ (o : List ℕ) where
+  strange : (v : Bool) (w : List ℕ) (ws : List (List ℕ)) → is_strange o v w ≡ true → strange_in o v (w ∷ ws) ≡ Some w
+  strange true w ws h = absurd cc
+  strange false w ws h = by (bytes_eq w o) (starts_with ◌==◌ w (option_front o)) (is_dashed w) refl refl refl
+    where
+      by : (s f d : Bool) → bytes_eq w o ≡ s → starts_with ◌==◌ w (option_front o) ≡ f → is_dashed w ≡ d → strange_in o false (w ∷ ws) ≡ Some w
+      by true f d p q r = absurd (let z : false ≡ true = rw p at h in cc)
+      by false true d p q r = absurd (let z : false ≡ true = rw (p, q) at h in cc)
+      by false false true p q r = rw (p, q, r) refl
+      by false false false p q r = absurd (let z : false ≡ true = rw (p, q, r) at h in cc)
+
+  plain : (v : Bool) (w : List ℕ) (ws : List (List ℕ)) → is_strange o v w ≡ false → strange_in o v (w ∷ ws) ≡ strange_in o (is_option o v w) ws
+  plain true w ws h = refl
+  plain false w ws h = by (bytes_eq w o) (starts_with ◌==◌ w (option_front o)) (is_dashed w) refl refl refl
+    where
+      by : (s f d : Bool) → bytes_eq w o ≡ s → starts_with ◌==◌ w (option_front o) ≡ f → is_dashed w ≡ d
+          → strange_in o false (w ∷ ws) ≡ strange_in o (is_option o false w) ws
+      by true f d p q r = rw p refl
+      by false true d p q r = rw (p, q) refl
+      by false false true p q r = absurd (let z : true ≡ false = rw (p, q, r) at h in cc)
+      by false false false p q r = rw (p, q, r) refl
+
+  pub strange_found : (v : Bool) (ws : List (List ℕ)) (k : ℕ) (w : List ℕ) → slice_get ws k ≡ Some w → is_strange o v w ≡ true
+      → strange_in o v (drop k ws) ≡ Some w
+  strange_found v ws k w e h = ap (λ l. strange_in o v l) (from_here ws k w e) ∙ strange v w (drop (k + 1) ws) h
+
+  pub strange_none : (v u : Bool) (ws : List (List ℕ)) (k : ℕ) (w : List ℕ) → slice_get ws k ≡ Some w → is_strange o v w ≡ false
+      → u ≡ is_option o v w → strange_in o v (drop k ws) ≡ strange_in o u (drop (k + 1) ws)
+  strange_none v u ws k w e h next =
+      ap (λ l. strange_in o v l) (from_here ws k w e) ∙ plain v w (drop (k + 1) ws) h
+      ∙ ap (λ b. strange_in o b (drop (k + 1) ws)) (sym next)

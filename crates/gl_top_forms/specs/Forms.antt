@@ -1,12 +1,12 @@
 -- The forms of command lines: a command, names, and options, which may stand anywhere behind the command. The names are
--- those of texts, but for one command the number of tuples. The words of the version have neither.
-use Rattle.std.specs.Prelude.{◌≡◌, ◌⊎◌, ℕ, zero, suc, ◌^◌, Bool, true, false, ◌&&◌, ◌==◌, nat_le, nat_lt, List, [], ◌∷◌, ◌++◌, length, codes, bytes_eq, slice_get, unwrap_or, drop, Contains, Option, Some, None, is_some, IsTrue, if◌then◌else◌}
+-- those of texts, but for a load the number of tuples, and for help a command. The words of the version have neither.
+use Rattle.std.specs.Prelude.{◌≡◌, ◌⊎◌, ℕ, zero, suc, ◌^◌, Bool, true, false, ◌&&◌, ◌==◌, nat_le, nat_lt, List, [], ◌∷◌, ◌++◌, length, codes, bytes_eq, find, slice_get, unwrap_or, drop, Contains, Option, Some, None, is_some, IsTrue, if◌then◌else◌}
 use Rattle.std.specs.List.{starts_with}
 use Rattle.gl_verilog.specs.declared.start.Start.{Start}
 use Rattle.gl_verilog.specs.declared.start.Start.TheVariants.{Zero, Drawn}
 use Rattle.gl_tuples.specs.Values.{number_of}
 use Rattle.gl_top_forms.specs.declared.command.Command.{Command}
-use Rattle.gl_top_forms.specs.declared.command.Command.TheVariants.{Compile, Figures, Explain, Run, Sim, Load, Vcd, Undump, Many, ManyFigures, ManyRun, Version}
+use Rattle.gl_top_forms.specs.declared.command.Command.TheVariants.{Compile, Figures, Explain, Run, Sim, Load, Vcd, Undump, Many, ManyFigures, ManyRun, HelpOf, Help, DashedHelp, Version}
 use Rattle.gl_top_forms.specs.declared.command.Part.{Part}
 use Rattle.gl_top_forms.specs.declared.command.Part.TheVariants.{Schema, Query, Module, Tuples, Dump, Queries}
 
@@ -132,9 +132,31 @@ word_of Undump = codes "undump"
 word_of Many = codes "many"
 word_of ManyFigures = codes "manyfigures"
 word_of ManyRun = codes "manyrun"
+word_of HelpOf = codes "help"
+word_of Help = codes "help"
+word_of DashedHelp = codes "--help"
 word_of Version = codes "--version"
 
--- how many names stand behind a command: those of its texts, or the number of tuples
+-- all commands, in the order in which a form is looked for
+abbrev pub commands : List Command
+commands =
+    Compile ∷ Figures ∷ Explain ∷ Run ∷ Sim ∷ Load ∷ Vcd ∷ Undump ∷ Many ∷ ManyFigures ∷ ManyRun ∷ HelpOf ∷ Help ∷ DashedHelp
+    ∷ Version ∷ []
+
+-- the first of them whose word this is
+unfoldable pub command_named : List ℕ → Option Command
+command_named word = find (λ c. bytes_eq word (word_of c)) commands
+
+-- the command that the first name is the word of
+abbrev pub topic_in : List (List ℕ) → Option Command
+topic_in [] = None
+topic_in (name ∷ names) = command_named name
+
+-- the command that help is asked on, where it is asked on one
+unfoldable pub topic_of : List (List ℕ) → Option Command
+topic_of words = topic_in (names_of words)
+
+-- how many names stand behind a command: those of its texts, the number of tuples, or a command's word
 abbrev pub many_names : Command → ℕ
 many_names Compile = 2
 many_names Figures = 2
@@ -147,6 +169,9 @@ many_names Undump = 1
 many_names Many = 2
 many_names ManyFigures = 2
 many_names ManyRun = 3
+many_names HelpOf = 1
+many_names Help = 0
+many_names DashedHelp = 0
 many_names Version = 0
 
 -- the values that its option may have: a start, to run or to dump, or none; to simulate, the cycles that are waited; else none
@@ -158,9 +183,10 @@ takes_values Sim values = is_some (extra_in values)
 takes_values c [] = true
 takes_values c (v ∷ vs) = false
 
--- a load's name is a number in range; the names of any other command may be any
+-- a load's name is a number in range, and that of help a command's word; the names of any other command may be any
 abbrev pub takes_names : Command → List (List ℕ) → Bool
 takes_names Load names = is_some (load_in names)
+takes_names HelpOf names = is_some (topic_in names)
 takes_names c names = true
 
 -- the words have the form of a command: its word, its number of names, and an option that it takes
@@ -169,26 +195,9 @@ is_command words c =
     bytes_eq (first_word words) (word_of c) && (length (names_of words) == many_names c) && takes_names c
     (names_of words) && takes_values c (values_of words)
 
--- the command of some words: one of several queries or that of the version, where they are none of the others
-abbrev pub later_command_of : List (List ℕ) → Option Command
-later_command_of words =
-    if is_command words Many then Some Many
-    else if is_command words ManyFigures then Some ManyFigures
-    else if is_command words ManyRun then Some ManyRun
-    else if is_command words Version then Some Version
-    else None
-
+-- the command of some words: the first of all commands whose form they have
 unfoldable pub command_of : List (List ℕ) → Option Command
-command_of words =
-    if is_command words Compile then Some Compile
-    else if is_command words Figures then Some Figures
-    else if is_command words Explain then Some Explain
-    else if is_command words Run then Some Run
-    else if is_command words Sim then Some Sim
-    else if is_command words Load then Some Load
-    else if is_command words Vcd then Some Vcd
-    else if is_command words Undump then Some Undump
-    else later_command_of words
+command_of words = find (is_command words) commands
 
 -- the words are those of this command
 abbrev pub IsCommand : List (List ℕ) → Command → Type 0
@@ -197,6 +206,10 @@ IsCommand words c = command_of words ≡ Some c
 -- the words run the text of a query over a tuple file: to its lines, or to a dump
 abbrev pub IsOfRun : List (List ℕ) → Type 0
 IsOfRun words = IsCommand words Run ⊎ IsCommand words Vcd
+
+-- the words ask for help: on one command, or on all
+abbrev pub IsOfHelp : List (List ℕ) → Type 0
+IsOfHelp words = IsCommand words HelpOf ⊎ (IsCommand words Help ⊎ IsCommand words DashedHelp)
 
 -- the words are of a form
 abbrev pub IsForm : List (List ℕ) → Type 0
@@ -209,7 +222,7 @@ pub record IsLoadOf (words : List (List ℕ)) (n : ℕ) : Type 0 where
 
 -- ---- the texts
 
--- the texts that a command names, in their order; a load and the version name none
+-- the texts that a command names, in their order; a load, help and the version name none
 abbrev pub parts_of : Command → List Part
 parts_of Compile = Schema ∷ Query ∷ []
 parts_of Figures = Schema ∷ Query ∷ []
@@ -222,6 +235,9 @@ parts_of Undump = Dump ∷ []
 parts_of Many = Schema ∷ Queries ∷ []
 parts_of ManyFigures = Schema ∷ Queries ∷ []
 parts_of ManyRun = Schema ∷ Queries ∷ Tuples ∷ []
+parts_of HelpOf = []
+parts_of Help = []
+parts_of DashedHelp = []
 parts_of Version = []
 
 -- at which place among the names a command names this text

@@ -4,7 +4,7 @@ use Rattle.gl_verilog.specs.declared.start.Start.{Start}
 use Rattle.gl_verilog.specs.declared.start.Start.TheVariants.{Zero}
 use Rattle.gl_tuples.specs.Values.{number_of}
 use Rattle.gl_top_forms.specs.declared.command.Part.TheVariants.{Dump, Schema, Query, Tuples}
-use Rattle.gl_top_forms.specs.Forms.{extra_at, extra_of, load_at, load_of, name_of, start_at, start_of}
+use Rattle.gl_top_forms.specs.Forms.{command_named, extra_at, extra_of, load_at, load_of, name_of, start_at, start_of, topic_of}
 
 -- the start of a value, and that of none
 abbrev pub start_by : Option (List ℕ) → Start
@@ -25,3 +25,4 @@ pub record IsSaid (words : List (List ℕ)) (first second third : List ℕ) (val
   pub start : start_of words ≡ start_by value
   pub extra : extra_of words ≡ extra_by value
   pub load : load_of words ≡ load_at (number_of first)
+  pub topic : topic_of words ≡ command_named first

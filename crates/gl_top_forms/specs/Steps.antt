@@ -29,3 +29,8 @@ value_in option false w =
     else if starts_with ◌==◌ w (option_front option) then Some (Some (drop (length (option_front option)) w))
     else if is_dashed w then Some None
     else None
+
+-- whether it begins with `-` and is neither an option nor the value of one
+abbrev pub is_strange : List ℕ → Bool → List ℕ → Bool
+is_strange option valued w =
+    not valued && (not (bytes_eq w option) && (not (starts_with ◌==◌ w (option_front option)) && is_dashed w))

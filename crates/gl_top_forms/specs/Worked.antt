@@ -3,8 +3,8 @@ use Rattle.std.specs.Prelude.{◌≡◌, ℕ, List, [], ◌∷◌, codes, Some, 
 use Rattle.gl_verilog.specs.declared.start.Start.{Start}
 use Rattle.gl_verilog.specs.declared.start.Start.TheVariants as from
 use Rattle.gl_top_forms.specs.declared.command.Command.{Command}
-use Rattle.gl_top_forms.specs.declared.command.Command.TheVariants.{Compile, Figures, Explain, Run, Sim, Load, Vcd, Undump, Many, ManyFigures, ManyRun}
-use Rattle.gl_top_forms.specs.Forms.{command_of, extra_of, load_of, names_of, start_of}
+use Rattle.gl_top_forms.specs.declared.command.Command.TheVariants.{Compile, Figures, Explain, Run, Sim, Load, Vcd, Undump, Many, ManyFigures, ManyRun, HelpOf, Help, DashedHelp, Version}
+use Rattle.gl_top_forms.specs.Forms.{command_of, extra_of, load_of, names_of, start_of, topic_of}
 
 -- the name of a schema's text
 abbrev pub s : List ℕ
@@ -65,6 +65,10 @@ Waits words names n = Names words Sim names × (extra_of words ≡ n)
 -- the words load so many tuples
 abbrev pub Loads : List (List ℕ) → ℕ → Type 0
 Loads words n = (command_of words ≡ Some Load) × (load_of words ≡ Some n)
+
+-- the words ask for help on this command
+abbrev pub HelpsOn : List (List ℕ) → Command → Type 0
+HelpsOn words c = (command_of words ≡ Some HelpOf) × (topic_of words ≡ Some c)
 
 -- the words are of no form
 abbrev pub IsFormless : List (List ℕ) → Type 0
@@ -141,7 +145,16 @@ pub record WorkedForms : Type 0 where
   pub version_and_a_name : IsFormless (codes "--version" ∷ s ∷ [])
   pub version_and_an_option : IsFormless (codes "--version" ∷ codes "--start=5" ∷ [])
   pub version_twice : IsFormless (codes "--version" ∷ codes "--version" ∷ [])
-  pub dashed_help : IsFormless (codes "--help" ∷ [])
-  pub help : IsFormless (codes "help" ∷ [])
+  -- `help` asks for help in the command's place alone, and behind it stands a command's word
+  pub dashed_help : Names (codes "--help" ∷ []) DashedHelp []
+  pub dashed_help_on_run : IsFormless (codes "--help" ∷ codes "run" ∷ [])
+  pub dashed_help_of_run : IsFormless (run (s ∷ q ∷ t ∷ codes "--help" ∷ []))
+  pub help : Names (codes "help" ∷ []) Help []
+  pub help_on_run : HelpsOn (codes "help" ∷ codes "run" ∷ []) Run
+  pub help_on_help : HelpsOn (codes "help" ∷ codes "help" ∷ []) HelpOf
+  pub help_on_nothing : IsFormless (codes "help" ∷ s ∷ [])
+  pub help_on_version : IsFormless (codes "help" ∷ codes "--version" ∷ [])
+  pub help_on_two : IsFormless (codes "help" ∷ codes "run" ∷ codes "sim" ∷ [])
+  pub help_is_a_name : Names (run (codes "help" ∷ q ∷ t ∷ [])) Run (codes "help" ∷ q ∷ t ∷ [])
   pub no_command : IsFormless (s ∷ q ∷ t ∷ [])
   pub no_word : IsFormless []

@@ -28,9 +28,34 @@ pub enum Command {
     ManyFigures,
     /// `manyrun S Q T [--start N]`: what the Verilog text of several queries does over a tuple file.
     ManyRun,
+    /// `help COMMAND`: how this command is called, and what it writes.
+    HelpOf,
+    /// `help`: how every command is called.
+    Help,
+    /// `--help`: how every command is called.
+    DashedHelp,
     /// `--version`: the version of the program.
     Version,
 }
+
+/// All commands, in the order in which a form is looked for.
+pub(crate) const COMMANDS: [Command; 15] = [
+    Command::Compile,
+    Command::Figures,
+    Command::Explain,
+    Command::Run,
+    Command::Sim,
+    Command::Load,
+    Command::Vcd,
+    Command::Undump,
+    Command::Many,
+    Command::ManyFigures,
+    Command::ManyRun,
+    Command::HelpOf,
+    Command::Help,
+    Command::DashedHelp,
+    Command::Version,
+];
 
 impl Command {
     /// Its word.
@@ -49,6 +74,8 @@ impl Command {
             Command::Many => "many",
             Command::ManyFigures => "manyfigures",
             Command::ManyRun => "manyrun",
+            Command::HelpOf | Command::Help => "help",
+            Command::DashedHelp => "--help",
             Command::Version => "--version",
         }
     }
@@ -64,8 +91,8 @@ impl Command {
             | Command::Many
             | Command::ManyFigures => 2,
             Command::Run | Command::Sim | Command::Vcd | Command::ManyRun => 3,
-            Command::Load | Command::Undump => 1,
-            Command::Version => 0,
+            Command::Load | Command::Undump | Command::HelpOf => 1,
+            Command::Help | Command::DashedHelp | Command::Version => 0,
         }
     }
 }

@@ -1,11 +1,11 @@
 //! What the words of a command line say.
 
-ghost use Rattle.std.specs.Prelude.{◌≡◌, ◌≤◌, ◌==◌, length, slice_get, is_some, option_map, IfSome};
+ghost use Rattle.std.specs.Prelude.{◌≡◌, ◌≤◌, ◌==◌, bytes_eq, find, length, slice_get, is_some, option_map, IfSome};
 ghost use Rattle.gl_tuples.specs.Values.{number_of};
 ghost use Rattle.gl_top_forms.specs.Forms as forms;
 ghost use Rattle.gl_top_forms.specs.Steps as steps;
 
-use crate::command::{Command, Part};
+use crate::command::{COMMANDS, Command, Part};
 use gl_outside::Words;
 use gl_tuples::value::number_of;
 use gl_verilog::Start;
@@ -13,7 +13,7 @@ use gl_verilog::Start;
 // ---- the option
 
 // The first word.
-fn first_word(words: &Words) -> &str
+pub(crate) fn first_word(words: &Words) -> &str
     ensures { result.now ≡ forms.first_word words.now }
 {
     match words.get(0) {
@@ -24,7 +24,7 @@ fn first_word(words: &Words) -> &str
 
 // The option that the words may have.
 #[tactic(auto, unfolding(crate::specs::Forms::option_word))]
-fn option_word(words: &Words) -> &'static [u8]
+pub(crate) fn option_word(words: &Words) -> &'static [u8]
     ensures { result.now ≡ forms.option_word words.now }
 {
     if first_word(words) == "sim" {
@@ -37,7 +37,7 @@ fn option_word(words: &Words) -> &'static [u8]
 // ---- one word
 
 // Whether the word begins with `-`.
-fn is_dashed(word: &[u8]) -> bool
+pub(crate) fn is_dashed(word: &[u8]) -> bool
     ensures { result ≡ forms.is_dashed word.now }
 {
     match word {
@@ -47,7 +47,7 @@ fn is_dashed(word: &[u8]) -> bool
 }
 
 // Whether the next word is the value of this one; `valued` says whether this one is a value.
-fn is_option(option: &[u8], valued: bool, word: &[u8]) -> bool
+pub(crate) fn is_option(option: &[u8], valued: bool, word: &[u8]) -> bool
     ensures { result ≡ steps.is_option option.now valued word.now }
 {
     !valued && word == option
@@ -72,7 +72,7 @@ fn behind<'a>(front: &[u8], word: &'a [u8]) -> Option<&'a [u8]>
 }
 
 // What stands behind the option and `=`.
-fn behind_front<'a>(option: &[u8], word: &'a [u8]) -> Option<&'a [u8]>
+pub(crate) fn behind_front<'a>(option: &[u8], word: &'a [u8]) -> Option<&'a [u8]>
     ensures { steps.bytes_of result ≡ steps.behind (forms.option_front option.now) word.now }
 {
     behind(b"=", behind(option, word)?)
@@ -101,7 +101,7 @@ fn value_in<'a>(option: &[u8], valued: bool, word: &'a [u8]) -> Option<Option<&'
 
 // The name at a place among the names.
 #[tactic(auto, unfolding(crate::specs::Forms::names_of))]
-fn name_at(words: &Words, index: usize) -> Option<&str>
+pub(crate) fn name_at(words: &Words, index: usize) -> Option<&str>
     ensures { option_map (λ w. w.now) result ≡ slice_get (forms.names_of words.now) index }
 {
     let option = option_word(words);
@@ -146,7 +146,7 @@ pub fn name_of(words: &Words, part: Part) -> &str
 }
 
 // Whether there is a name at a place among the names.
-fn has_name(words: &Words, index: usize) -> bool
+pub(crate) fn has_name(words: &Words, index: usize) -> bool
     ensures { result ≡ is_some (slice_get (forms.names_of words.now) index) }
 {
     match name_at(words, index) {
@@ -157,7 +157,7 @@ fn has_name(words: &Words, index: usize) -> bool
 
 // Whether there are `count` names.
 #[tactic(auto, using(crate::proofs::Counts::counted))]
-fn has_names(words: &Words, count: usize) -> bool
+pub(crate) fn has_names(words: &Words, count: usize) -> bool
     ensures { result ≡ (length (forms.names_of words.now) == count) }
 {
     !has_name(words, count) && (count == 0 || has_name(words, count - 1))
@@ -167,7 +167,7 @@ fn has_names(words: &Words, count: usize) -> bool
 
 // The value at a place among the values.
 #[tactic(auto, unfolding(crate::specs::Forms::values_of))]
-fn value_at(words: &Words, index: usize) -> Option<Option<&[u8]>>
+pub(crate) fn value_at(words: &Words, index: usize) -> Option<Option<&[u8]>>
     ensures { option_map steps.bytes_of result ≡ slice_get (forms.values_of words.now) index }
 {
     let option = option_word(words);
@@ -279,6 +279,34 @@ fn load_in(words: &Words) -> Option<u32>
     load_at(name_at(words, 0)?.as_bytes())
 }
 
+// ---- the command that help is asked on
+
+// The first of some commands whose word this is.
+fn first_named(word: &[u8], commands: &[Command]) -> Option<Command>
+    ensures { result ≡ find (λ c. bytes_eq word.now (forms.word_of c)) commands.now }
+{
+    let (command, others) = commands.split_first()?;
+    if word == command.word().as_bytes() {
+        return Some(*command);
+    }
+    first_named(word, others)
+}
+
+/// The first command whose word this is.
+#[tactic(auto, unfolding(crate::specs::Forms::command_named))]
+pub fn command_named(word: &[u8]) -> Option<Command>
+    ensures { result ≡ forms.command_named word.now }
+{
+    first_named(word, &COMMANDS)
+}
+
+// The command that the first name is the word of.
+fn topic_in(words: &Words) -> Option<Command>
+    ensures { result ≡ forms.topic_in (forms.names_of words.now) }
+{
+    command_named(name_at(words, 0)?.as_bytes())
+}
+
 // ---- the command
 
 // Whether the command takes the values.
@@ -295,16 +323,20 @@ fn takes_values(words: &Words, command: Command) -> bool
         | Command::Undump
         | Command::Many
         | Command::ManyFigures
+        | Command::HelpOf
+        | Command::Help
+        | Command::DashedHelp
         | Command::Version => value_at(words, 0).is_none(),
     }
 }
 
 // Whether the command takes the names.
-fn takes_names(words: &Words, command: Command) -> bool
+pub(crate) fn takes_names(words: &Words, command: Command) -> bool
     ensures { result ≡ forms.takes_names command (forms.names_of words.now) }
 {
     match command {
         Command::Load => load_in(words).is_some(),
+        Command::HelpOf => topic_in(words).is_some(),
         Command::Compile
         | Command::Figures
         | Command::Explain
@@ -315,6 +347,8 @@ fn takes_names(words: &Words, command: Command) -> bool
         | Command::Many
         | Command::ManyFigures
         | Command::ManyRun
+        | Command::Help
+        | Command::DashedHelp
         | Command::Version => true,
     }
 }
@@ -330,23 +364,15 @@ fn is_command(words: &Words, command: Command) -> bool
         && takes_values(words, command)
 }
 
-// The command that the words are, if they are of one of the last four forms.
-fn later_command(words: &Words) -> Option<Command>
-    ensures { result ≡ forms.later_command_of words.now }
+// The first of some commands whose form the words have.
+fn first_of(words: &Words, commands: &[Command]) -> Option<Command>
+    ensures { result ≡ find (forms.is_command words.now) commands.now }
 {
-    if is_command(words, Command::Many) {
-        return Some(Command::Many);
+    let (command, others) = commands.split_first()?;
+    if is_command(words, *command) {
+        return Some(*command);
     }
-    if is_command(words, Command::ManyFigures) {
-        return Some(Command::ManyFigures);
-    }
-    if is_command(words, Command::ManyRun) {
-        return Some(Command::ManyRun);
-    }
-    if is_command(words, Command::Version) {
-        return Some(Command::Version);
-    }
-    None
+    first_of(words, others)
 }
 
 /// The command that the words are, if they are of a form.
@@ -354,29 +380,5 @@ fn later_command(words: &Words) -> Option<Command>
 pub fn command_of(words: &Words) -> Option<Command>
     ensures { result ≡ forms.command_of words.now }
 {
-    if is_command(words, Command::Compile) {
-        return Some(Command::Compile);
-    }
-    if is_command(words, Command::Figures) {
-        return Some(Command::Figures);
-    }
-    if is_command(words, Command::Explain) {
-        return Some(Command::Explain);
-    }
-    if is_command(words, Command::Run) {
-        return Some(Command::Run);
-    }
-    if is_command(words, Command::Sim) {
-        return Some(Command::Sim);
-    }
-    if is_command(words, Command::Load) {
-        return Some(Command::Load);
-    }
-    if is_command(words, Command::Vcd) {
-        return Some(Command::Vcd);
-    }
-    if is_command(words, Command::Undump) {
-        return Some(Command::Undump);
-    }
-    later_command(words)
+    first_of(words, &COMMANDS)
 }

@@ -4,8 +4,8 @@ ghost use Rattle.std.specs.Prelude.{◌≡◌, ◌≤◌, IfSome, option_map};
 ghost use Rattle.gl_top_forms.specs.Forms as forms;
 ghost use Rattle.gl_top_forms.specs.Said.{IsSaid};
 
-use crate::command::Part;
-use crate::reading::{extra_at, load_at, start_at};
+use crate::command::{Command, Part};
+use crate::reading::{command_named, extra_at, load_at, start_at};
 use gl_outside::Words;
 use gl_verilog::Start;
 use std::marker::Model;
@@ -104,5 +104,12 @@ impl Taken<'_> {
         ensures some { IfSome result (λ count. 1 ≤ count) }
     {
         load_at(self.first.as_bytes())
+    }
+
+    /// The command that help is asked on, where it is asked on one.
+    pub fn topic(&self) -> Option<Command>
+        ensures { result ≡ forms.topic_of self.now }
+    {
+        command_named(self.first.as_bytes())
     }
 }

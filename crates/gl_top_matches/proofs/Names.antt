@@ -26,11 +26,11 @@ one = (built one_name).top
 abbrev two : Shape
 two = (built two_names).top
 
--- `--version`
+-- `help`, `--help` and `--version`
 pub version_names : Given no_name [] [] None
 version_names = given no_name [] [] None _ none_alone (stop none (walk_from nothing_held)) refl (refl, refl, refl, refl)
 
--- `load N` and `undump D`
+-- `load N`, `undump D` and `help COMMAND`
 pub load_names : (n : Text) → is_dashed n ≡ false → Given one_name (n ∷ []) (n ∷ []) None
 load_names n pn = given one_name (n ∷ []) (n ∷ []) None _ one_alone (name one nothing_held _ 1 2 _ n [] pn refl refl (stop one _)) refl (refl, refl, refl, refl)
 

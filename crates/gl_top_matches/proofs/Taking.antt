@@ -11,14 +11,14 @@ use Rattle.clap.specs.Words.{App, HasMatchesOf, Text, first_of, found_of, is_sim
 use Rattle.clap.specs.declared.parser.matches.ArgMatches.{ArgMatches}
 use Rattle.clap.proofs.WalkLemmas.{first_value-rows}
 use Rattle.gl_top_forms.specs.declared.command.Command.{Command}
-use Rattle.gl_top_forms.specs.declared.command.Command.TheVariants.{Compile, Figures, Explain, Run, Sim, Load, Vcd, Undump, Many, ManyFigures, ManyRun, Version}
-use Rattle.gl_top_forms.specs.Forms.{IsCommand, extra_at, extra_in, extra_of, first_word, is_command, is_dashed, load_at, load_in, load_of, many_names, name_of, names_in, names_of, option_word, start_at, start_in, start_of, takes_values, values_in, values_of, word_of}
+use Rattle.gl_top_forms.specs.declared.command.Command.TheVariants.{Compile, Figures, Explain, Run, Sim, Load, Vcd, Undump, Many, ManyFigures, ManyRun, HelpOf, Help, DashedHelp, Version}
+use Rattle.gl_top_forms.specs.Forms.{IsCommand, command_named, extra_at, extra_in, extra_of, first_word, is_command, is_dashed, load_at, load_in, load_of, many_names, name_of, names_in, names_of, option_word, start_at, start_in, start_of, takes_values, topic_in, topic_of, values_in, values_of, word_of}
 use Rattle.gl_top_forms.proofs.Named.{is_one}
-use Rattle.gl_top_matches.specs.Apps.{Tells, app_for, two_names}
+use Rattle.gl_top_matches.specs.Apps.{Tells, app_for, no_name, one_name, two_names}
 use Rattle.gl_top_forms.specs.Said.{IsSaid, extra_by, start_by}
 use Rattle.gl_top_matches.proofs.Ends.{Given}
 use Rattle.gl_top_matches.proofs.Laid.{AreNames, bare, placed, three}
-use Rattle.gl_top_matches.proofs.Names.{load_names, query_names}
+use Rattle.gl_top_matches.proofs.Names.{load_names, query_names, version_names}
 use Rattle.gl_top_matches.proofs.Layouts.{laid}
 use Rattle.gl_top_matches.proofs.Runs.{run_app, run_bare, run_layouts}
 use Rattle.gl_top_matches.proofs.Sims.{sim_app, sim_layouts}
@@ -40,17 +40,22 @@ extra_same (Some v) = refl
 abbrev at : List Text → ℕ → Text
 at names k = unwrap_or (slice_get names k) []
 
-said_of : (words names : List Text) (value : Option Text) → names_of words ≡ names → values_of words ≡ values value
-    → load_in names ≡ load_at (number_of (at names 0)) → IsSaid words (at names 0) (at names 1) (at names 2) value
-unfolding name_of start_of extra_of load_of
-said_of words names value named valued load = record {
+-- a load and help ask of the first name, and of no byte where there is none
+abbrev AsksFirst : List Text → Type 0
+AsksFirst names = (load_in names ≡ load_at (number_of (at names 0))) × (topic_in names ≡ command_named (at names 0))
+
+said_of : (words names : List Text) (value : Option Text) → names_of words ≡ names → values_of words ≡ values value → AsksFirst names
+    → IsSaid words (at names 0) (at names 1) (at names 2) value
+unfolding name_of start_of extra_of load_of topic_of
+said_of words names value named valued asks = record {
   schema = ap (λ (l : List Text). at l 0) named;
   dump = ap (λ (l : List Text). at l 0) named;
   query = ap (λ (l : List Text). at l 1) named;
   tuples = ap (λ (l : List Text). at l 2) named;
   start = ap (λ (l : List (Option Text)). unwrap_or (start_in l) Zero) valued ∙ start_same value;
   extra = ap (λ (l : List (Option Text)). unwrap_or (extra_in l) 0) valued ∙ extra_same value;
-  load = ap load_in named ∙ load;
+  load = ap load_in named ∙ asks.0;
+  topic = ap topic_in named ∙ asks.1;
 }
 
 -- clap takes the words, and has what they say
@@ -65,12 +70,12 @@ pub record IsRead (words : List Text) (c : Command) : Type 0 where
   pub last : first_of (codes "value") (matches_of (app_for c) words) ≡ value
 
 read_of : (words ws names : List Text) (c : Command) (value : Option Text) (command : Text) → words ≡ command ∷ ws → Given (app_for c) ws names value
-    → names_of words ≡ names → values_of words ≡ values value → load_in names ≡ load_at (number_of (at names 0)) → IsRead words c
-read_of words ws names c value command same given named valued load = record {
+    → names_of words ≡ names → values_of words ≡ values value → AsksFirst names → IsRead words c
+read_of words ws names c value command same given named valued asks = record {
   takes = ap (takes (app_for c)) same ∙ given.takes command;
   names = names;
   value = value;
-  said = said_of words names value named valued load;
+  said = said_of words names value named valued asks;
   first = ap (λ (l : List Text). first_of (codes "first") (matches_of (app_for c) l)) same ∙ given.first command;
   second = ap (λ (l : List Text). first_of (codes "second") (matches_of (app_for c) l)) same ∙ given.second command;
   third = ap (λ (l : List Text). first_of (codes "third") (matches_of (app_for c) l)) same ∙ given.third command;
@@ -103,6 +108,9 @@ some_word Undump e = omega (arith, e)
 some_word Many e = omega (arith, e)
 some_word ManyFigures e = omega (arith, e)
 some_word ManyRun e = omega (arith, e)
+some_word HelpOf e = omega (arith, e)
+some_word Help e = omega (arith, e)
+some_word DashedHelp e = omega (arith, e)
 some_word Version e = omega (arith, e)
 
 behind_word : (words : List Text) (c : Command) → first_word words ≡ word_of c → words ≡ word_of c ∷ drop 1 words
@@ -127,23 +135,21 @@ none_taken : (vs : List (Option Text)) → takes_values Compile vs ≡ true → 
 none_taken [] h = refl
 none_taken (v ∷ vs) h = absurd cc
 
-load_by : (words ws : List Text) → words ≡ codes "load" ∷ ws → AreNames ws → length ws ≡ 1 → names_of words ≡ ws → values_of words ≡ [] → IsRead words Load
-load_by words [] same n e named valued = absurd (omega (arith, e))
-load_by words (m ∷ []) same n e named valued = read_of words (m ∷ []) (m ∷ []) Load None (codes "load") same (load_names m n.0) named valued refl
-load_by words (m ∷ u ∷ ws) same n e named valued = absurd (omega (arith, e))
+one_by : (words ws : List Text) (c : Command) → app_for c ≡ one_name → words ≡ word_of c ∷ ws → AreNames ws → length ws ≡ 1 → names_of words ≡ ws → values_of words ≡ []
+    → IsRead words c
+one_by words [] c app same n e named valued = absurd (omega (arith, e))
+one_by words (m ∷ []) c app same n e named valued =
+    read_of words (m ∷ []) (m ∷ []) c None (word_of c) same (subst (λ (a : App). Given a (m ∷ []) (m ∷ []) None) (sym app) (load_names m n.0)) named valued (refl, refl)
+one_by words (m ∷ u ∷ ws) c app same n e named valued = absurd (omega (arith, e))
 
-undump_by : (words ws : List Text) → words ≡ codes "undump" ∷ ws → AreNames ws → length ws ≡ 1 → names_of words ≡ ws → values_of words ≡ [] → IsRead words Undump
-undump_by words [] same n e named valued = absurd (omega (arith, e))
-undump_by words (m ∷ []) same n e named valued = read_of words (m ∷ []) (m ∷ []) Undump None (codes "undump") same (load_names m n.0) named valued refl
-undump_by words (m ∷ u ∷ ws) same n e named valued = absurd (omega (arith, e))
+asks_none : AsksFirst []
+unfolding number_of is_number command_named
+asks_none = (refl, refl)
 
-no_number : load_in [] ≡ load_at (number_of [])
-unfolding number_of is_number
-no_number = refl
-
-version_by : (words ws : List Text) → words ≡ codes "--version" ∷ ws → length ws ≡ 0 → names_of words ≡ ws → values_of words ≡ [] → IsRead words Version
-version_by words [] same e named valued = read_of words [] [] Version None (codes "--version") same version_names named valued no_number
-version_by words (m ∷ ws) same e named valued = absurd (omega (arith, e))
+none_by : (words ws : List Text) (c : Command) → app_for c ≡ no_name → words ≡ word_of c ∷ ws → length ws ≡ 0 → names_of words ≡ ws → values_of words ≡ [] → IsRead words c
+none_by words [] c app same e named valued =
+    read_of words [] [] c None (word_of c) same (subst (λ (a : App). Given a [] [] None) (sym app) version_names) named valued asks_none
+none_by words (m ∷ ws) c app same e named valued = absurd (omega (arith, e))
 
 two : (P : List Text → Type 0) → ((s q : Text) → is_dashed s ≡ false → is_dashed q ≡ false → P (s ∷ q ∷ [])) → (ws : List Text) → AreNames ws → length ws ≡ 2 → P ws
 two P p [] n e = absurd (omega (arith, e))
@@ -225,9 +231,9 @@ abbrev extra_front : Text
 extra_front = codes "--extra"
 
 -- the first of three names is a first name
-first_there : (names : List Text) → length names ≡ 3 → load_in names ≡ load_at (number_of (at names 0))
+first_there : (names : List Text) → length names ≡ 3 → AsksFirst names
 first_there [] e = absurd (omega (arith, e))
-first_there (s ∷ names) e = refl
+first_there (s ∷ names) e = (refl, refl)
 
 -- the words of a command with three names and perhaps a start
 start_read : (words : List Text) (c : Command) → is_command words c ≡ true → app_for c ≡ run_app → many_names c ≡ 3 → option_word words ≡ start_front
@@ -237,7 +243,7 @@ start_read words c is app count option may = elim may [
       let b = bare_words words c is none in
       three (λ ws. words ≡ word_of c ∷ ws → names_of words ≡ ws → IsRead words c)
       (λ s q t ps pq pt same named. read_of words (s ∷ q ∷ t ∷ []) (s ∷ q ∷ t ∷ []) c None (word_of c) same
-      (subst (λ (a : App). Given a (s ∷ q ∷ t ∷ []) (s ∷ q ∷ t ∷ []) None) (sym app) (run_bare s q t ps pq pt)) named none refl)
+      (subst (λ (a : App). Given a (s ∷ q ∷ t ∷ []) (s ∷ q ∷ t ∷ []) None) (sym app) (run_bare s q t ps pq pt)) named none (refl, refl))
       (drop 1 words) b.plain (b.many ∙ count) b.same b.named
   | inr h ↦
       let p = placed start_front h.0 refl (drop 1 words) (sym (values_with words start_front option) ∙ h.1) in
@@ -267,8 +273,18 @@ two_read words c is app count none =
     let b = bare_words words c is none in
     two (λ ws. words ≡ word_of c ∷ ws → names_of words ≡ ws → IsRead words c)
     (λ s q ps pq same named. read_of words (s ∷ q ∷ []) (s ∷ q ∷ []) c None (word_of c) same
-    (subst (λ (a : App). Given a (s ∷ q ∷ []) (s ∷ q ∷ []) None) (sym app) (query_names s q ps pq)) named none refl)
+    (subst (λ (a : App). Given a (s ∷ q ∷ []) (s ∷ q ∷ []) None) (sym app) (query_names s q ps pq)) named none (refl, refl))
     (drop 1 words) b.plain (b.many ∙ count) b.same b.named
+
+-- those of one with one name
+one_read : (words : List Text) (c : Command) → is_command words c ≡ true → app_for c ≡ one_name → many_names c ≡ 1 → values_of words ≡ [] → IsRead words c
+one_read words c is app count none =
+    let b = bare_words words c is none in one_by words (drop 1 words) c app b.same b.plain (b.many ∙ count) b.named none
+
+-- those of one without a name
+none_read : (words : List Text) (c : Command) → is_command words c ≡ true → app_for c ≡ no_name → many_names c ≡ 0 → values_of words ≡ [] → IsRead words c
+none_read words c is app count none =
+    let b = bare_words words c is none in none_by words (drop 1 words) c app b.same (b.many ∙ count) b.named none
 
 read_by : (words : List Text) (c : Command) → is_command words c ≡ true → IsRead words c
 read_by words Compile is = two_read words Compile is refl refl (none_taken (values_of words) (values_are words Compile is))
@@ -277,22 +293,19 @@ read_by words Explain is = two_read words Explain is refl refl (none_taken (valu
 read_by words Run is =
     start_read words Run is refl refl (option_is words (codes "run") (word_is words Run is)) (run_values (values_of words) (values_are words Run is))
 read_by words Sim is = sim_read words is
-read_by words Load is =
-    let b = bare_words words Load is (none_taken (values_of words) (values_are words Load is)) in
-    load_by words (drop 1 words) b.same b.plain b.many b.named b.valued
+read_by words Load is = one_read words Load is refl refl (none_taken (values_of words) (values_are words Load is))
 read_by words Vcd is =
     start_read words Vcd is refl refl (option_is words (codes "vcd") (word_is words Vcd is)) (run_values (values_of words) (values_are words Vcd is))
-read_by words Undump is =
-    let b = bare_words words Undump is (none_taken (values_of words) (values_are words Undump is)) in
-    undump_by words (drop 1 words) b.same b.plain b.many b.named b.valued
+read_by words Undump is = one_read words Undump is refl refl (none_taken (values_of words) (values_are words Undump is))
 read_by words Many is = two_read words Many is refl refl (none_taken (values_of words) (values_are words Many is))
 read_by words ManyFigures is = two_read words ManyFigures is refl refl (none_taken (values_of words) (values_are words ManyFigures is))
 read_by words ManyRun is =
     start_read words ManyRun is refl refl (option_is words (codes "manyrun") (word_is words ManyRun is))
     (run_values (values_of words) (values_are words ManyRun is))
-read_by words Version is =
-    let b = bare_words words Version is (none_taken (values_of words) (values_are words Version is)) in
-    version_by words (drop 1 words) b.same b.many b.named b.valued
+read_by words HelpOf is = one_read words HelpOf is refl refl (none_taken (values_of words) (values_are words HelpOf is))
+read_by words Help is = none_read words Help is refl refl (none_taken (values_of words) (values_are words Help is))
+read_by words DashedHelp is = none_read words DashedHelp is refl refl (none_taken (values_of words) (values_are words DashedHelp is))
+read_by words Version is = none_read words Version is refl refl (none_taken (values_of words) (values_are words Version is))
 
 pub read : (words : List Text) (c : Command) → IsCommand words c → IsRead words c
 read words c is = read_by words c (is_one words c is)
@@ -311,6 +324,9 @@ simple Undump = refl
 simple Many = refl
 simple ManyFigures = refl
 simple ManyRun = refl
+simple HelpOf = refl
+simple Help = refl
+simple DashedHelp = refl
 simple Version = refl
 
 -- no other refusal than want of memory

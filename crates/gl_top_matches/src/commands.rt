@@ -79,8 +79,8 @@ fn command_for<'a>(alloc: Global, command: Command) -> Result<clap::Command<'a>,
             false,
         ),
         Command::Sim => with_option(alloc, three_names(alloc)?, "extra", true),
-        Command::Load | Command::Undump => one_name(alloc),
-        Command::Version => no_name(alloc),
+        Command::Load | Command::Undump | Command::HelpOf => one_name(alloc),
+        Command::Help | Command::DashedHelp | Command::Version => no_name(alloc),
     }
 }
 

@@ -19,6 +19,7 @@ use Rattle.gl_figures.specs.declared.Limit.TheVariants as limit
 use Rattle.gl_top_status.specs.declared.status.Status.{Status}
 use Rattle.gl_top_status.specs.declared.status.Status.TheVariants as status
 use Rattle.gl_top_forms.specs.Forms.{name_of}
+use Rattle.gl_top_forms.specs.Wrong.{wrong_line}
 
 -- a fault of a text as a refusal: want of memory is its own
 abbrev pub schema_refusal : SchemaFault → Refusal
@@ -210,7 +211,12 @@ kind_line head kind middle number = head ++ kind ++ line middle (decimal number)
 unfoldable pub usage_line : List ℕ
 usage_line =
     codes "usage: glacier compile S Q, figures S Q, explain S Q, run S Q T [--start N], sim S V T --extra N, load N, "
-    ++ codes "vcd S Q T [--start N], undump D, many S Q, manyfigures S Q, manyrun S Q T [--start N], --version\n"
+    ++ codes "vcd S Q T [--start N], undump D, many S Q, manyfigures S Q, manyrun S Q T [--start N], "
+    ++ codes "help [COMMAND], --version\n"
+
+-- what is told of words of no form: behind the line of all forms, which word is wrong
+abbrev pub usage_lines : List (List ℕ) → List ℕ
+usage_lines words = usage_line ++ wrong_line words
 
 -- the other lines that tell of no text
 unfoldable pub memory_line : List ℕ
@@ -237,9 +243,9 @@ verilog_line fault = kind_line (codes "verilog: ") (verilog_kind fault) (codes "
 abbrev pub dump_line : VcdFault → List ℕ
 dump_line fault = kind_line (codes "dump: ") (dump_kind fault) (codes " at ") (dump_place fault)
 
--- the line of each refusal
+-- the line of each refusal; words of no form have two
 abbrev pub note_of : List (List ℕ) → Refusal → List ℕ
-note_of words Usage = usage_line
+note_of words Usage = usage_lines words
 note_of words (Missing part) = line (codes "missing: ") (name_of words part)
 note_of words (ReadFault part) = line (codes "read fault: ") (name_of words part)
 note_of words (TooLong part) = line (codes "limit: Text ") (name_of words part)

@@ -1,10 +1,11 @@
-//! The one line that tells why the program ends as it does.
+//! The line that tells why the program ends as it does. Words of no form have two.
 
-ghost use Rattle.std.specs.Prelude.{decimal};
+ghost use Rattle.std.specs.Prelude.{◌≡◌, decimal};
 ghost use Rattle.gl_outside.specs.States.{Wrote};
 ghost use Rattle.gl_top_forms.specs.Forms as forms;
+ghost use Rattle.gl_top_forms.specs.Wrong.{wrong_line};
 ghost use Rattle.gl_top_status.specs.Refusals as told;
-ghost use Rattle.gl_top_status.specs.Refusals.{line, dump_line, kind_line, limit_line, no_end_line, note_of, verilog_line, usage_line, memory_line, write_line, puts, Notes};
+ghost use Rattle.gl_top_status.specs.Refusals.{line, dump_line, kind_line, limit_line, no_end_line, note_of, verilog_line, usage_line, usage_lines, memory_line, write_line, puts, Notes};
 ghost use Rattle.gl_top_status.specs.Written.{IsWritten};
 
 use crate::faults::{
@@ -15,7 +16,7 @@ use crate::refusal::{Refusal, status_of};
 use crate::status::Status;
 use gl_figures::Limit;
 use gl_outside::{Sink, Words, WriteFault, write_all_of};
-use gl_top_forms::{Part, Taken, name_of};
+use gl_top_forms::{Part, Taken, name_of, wrong_of, wrong_word};
 use gl_vcd::VcdFault;
 use gl_verilog_tokens::VerilogFault;
 use itoa::Buffer;
@@ -24,7 +25,7 @@ use itoa::Buffer;
 const USAGE: &[u8] =
     b"usage: glacier compile S Q, figures S Q, explain S Q, run S Q T [--start N], \
 sim S V T --extra N, load N, vcd S Q T [--start N], undump D, \
-many S Q, manyfigures S Q, manyrun S Q T [--start N], --version\n";
+many S Q, manyfigures S Q, manyrun S Q T [--start N], help [COMMAND], --version\n";
 
 // Writes a line of a head and what it tells of.
 #[tactic(auto, using(gl_outside::proofs::Takes::pieces))]
@@ -75,12 +76,30 @@ fn put_kind<N: Sink>(
     put_number(notes, middle, number)
 }
 
-// Writes the usage line.
+// The line of all forms.
 #[tactic(auto, unfolding(crate::specs::Refusals::usage_line))]
-fn put_usage<N: Sink>(notes: &mut N) -> Result<(), WriteFault>
-    ensures { Wrote (N.state notes.old) (N.state notes.new) usage_line result }
+fn usage() -> &'static [u8]
+    ensures { result.now ≡ usage_line }
 {
-    write_all_of(notes, USAGE)
+    USAGE
+}
+
+// Writes the line of the word that is wrong.
+#[tactic(auto, unfolding(gl_top_forms::specs::Wrong::wrong_line))]
+fn put_wrong<N: Sink>(notes: &mut N, words: &Words) -> Result<(), WriteFault>
+    ensures { Wrote (N.state notes.old) (N.state notes.new) (wrong_line words.now) result }
+{
+    let wrong = wrong_of(words);
+    put_line(notes, wrong.head(), wrong_word(words, wrong))
+}
+
+// Writes the lines of words of no form: that of all forms, and that of the word that is wrong.
+#[tactic(auto, using(gl_outside::proofs::Takes::pieces))]
+fn put_usage<N: Sink>(notes: &mut N, words: &Words) -> Result<(), WriteFault>
+    ensures { Wrote (N.state notes.old) (N.state notes.new) (usage_lines words.now) result }
+{
+    write_all_of(notes, usage())?;
+    put_wrong(notes, words)
 }
 
 // Writes the line of want of memory.
@@ -150,7 +169,7 @@ fn put_note<N: Sink>(notes: &mut N, words: &Words, refusal: &Refusal) -> Result<
     ensures { Wrote (N.state notes.old) (N.state notes.new) (note_of words.now refusal.now) result }
 {
     match refusal {
-        Refusal::Usage => put_usage(notes),
+        Refusal::Usage => put_usage(notes, words),
         Refusal::Missing(part) => put_name(notes, b"missing: ", words, *part),
         Refusal::ReadFault(part) => put_name(notes, b"read fault: ", words, *part),
         Refusal::TooLong(part) => put_name(notes, b"limit: Text ", words, *part),
