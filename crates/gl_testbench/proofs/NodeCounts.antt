@@ -52,7 +52,7 @@ once p t m [] h = omega arith
 once p t m (x ∷ xs) h =
     at-most (count_by p (x ∷ xs)) (count_by p xs) (p x) (counted p x xs)
     (λ e. none p xs (λ n y g. else_false (p y) (λ f.
-        let here = h zero x refl e in let there = h (suc n) y g f in omega (arith, here, there))))
+    let here = h zero x refl e in let there = h (suc n) y g f in omega (arith, here, there))))
     (once p t (suc m) xs (λ n y g f. let there = h (suc n) y g f in omega (arith, there)))
 
 step-one : (k : ℕ) (x : Node) → one (is_before (suc k) x) ≤ one (is_before k x) + one (is_at k x)
@@ -143,5 +143,5 @@ nodes_few net f =
     let k = length net.ports in
     let c = covers k net.nodes (λ n at w e. port-there net n at w f e) in
     let b = before k net.nodes (λ place. once (is_at place) (node-of (slice_get net.ports place)) 0 net.nodes
-        (λ n x e h. is-its-port net n place x f e h)) in
+    (λ n x e h. is-its-port net n place x f e h)) in
     omega (arith, c, b)
