@@ -81,11 +81,7 @@ fn head_sections(
 }
 
 // The labels of the nodes.
-fn labels_of_nodes(
-    alloc: Global,
-    net: &Netlist,
-    subject: Subject<'_>,
-) -> Result<Vec<Label>, Memory>
+fn labels_of_nodes(alloc: Global, net: &Netlist, subject: Subject<'_>) -> Result<Vec<Label>, Memory>
     ensures { IfOk result (λ labels. length labels.items ≡ length net.now.nodes) }
 {
     let columns = ColumnNames::new(alloc, subject)?;
