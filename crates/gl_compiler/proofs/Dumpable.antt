@@ -1,18 +1,16 @@
 -- A dump can tell the module of every compiled query.
-use Rattle.std.proofs.Common.{◌≡◌, ℕ, zero, suc, ◌*◌, ◌≤◌, Bool, true, false, List, [], ◌∷◌, length, map, take, refl, ap, ◌∙◌, subst, arith, length-append}
+use Rattle.std.proofs.Common.{◌≡◌, ℕ, zero, suc, ◌≤◌, Bool, true, false, List, [], ◌∷◌, length, map, take, refl, ap, ◌∙◌, subst, arith, length-append}
 use Rattle.std.specs.Prelude.{bytes_eq, if◌then◌else◌}
 use Rattle.std.specs.List.{AllByRecursion, list_any}
 use Rattle.gl_bits.proofs.AllLists.{all_mapped, all_weaker, length_map}
 use Rattle.gl_bits.proofs.Bools.{bytes_own, bytes_turned, neither}
-use Rattle.gl_values.specs.Kinds.{IsKind, width_of}
+use Rattle.gl_values.specs.Kinds.{IsKind}
 use Rattle.gl_bits.specs.Limits.{most_ports}
 use Rattle.gl_bits.specs.Words.{IsWidth}
 use Rattle.gl_schema.specs.declared.schema.Column.{Column}
-use Rattle.gl_schema.specs.declared.schema.Stream.{Stream}
 use Rattle.gl_schema.specs.declared.schema.Schema.{Schema}
-use Rattle.gl_schema.specs.Schemas.{IsSchema, IsStream, kinds_of}
-use Rattle.gl_schema.specs.Ports.{eos, out_column, out_eos, fault_group, fault_queue}
-use Rattle.gl_schema.specs.Profile.{ProfilePort, clk, column_inputs, column_outputs, input, input_ports, output, output_ports, profile, stream_inputs, streams_inputs, tick_input}
+use Rattle.gl_schema.specs.Schemas.{IsSchema, kinds_of}
+use Rattle.gl_schema.specs.Profile.{ProfilePort, clk, input, input_ports, output_ports, profile}
 use Rattle.gl_query.specs.declared.tree.Statement.{Statement}
 use Rattle.gl_query.specs.Laws.{AcceptedHaveRealColumns}
 use Rattle.gl_query.specs.Shapes.{query_shape}
@@ -22,6 +20,7 @@ use Rattle.gl_verilog.specs.Valid.{AreDistinct, Differs}
 use Rattle.gl_verilog.specs.Widths.{HasSize}
 use Rattle.gl_verilog_ports.specs.Profile.{HasProfile, declared}
 use Rattle.gl_verilog_ports.proofs.Declared.{distinct_take}
+use Rattle.gl_testbench.proofs.PortCounts.{inputs_few, outputs_many}
 use Rattle.gl_vcd.specs.Dumped.{Port}
 use Rattle.gl_vcd.specs.RoundTrip.{AreApart, is_named, names_of, signals_from}
 use Rattle.gl_vcd.specs.Signals.{show_none}
@@ -88,32 +87,9 @@ ports_are ticks m schema columns distinct face = ap ports_among face ∙ behind_
 
 -- ---- how many they are
 
-columns_many : (s : List ℕ) (cs : List Column) → length (column_inputs s cs) ≡ length cs
-columns_many s [] = refl
-columns_many s (c ∷ cs) = ap suc (columns_many s cs)
-
-streams_many : (ss : List Stream) → AllByRecursion IsStream ss → length (streams_inputs ss) ≤ 33 * length ss
-streams_many [] h = omega arith
-streams_many (s ∷ ss) h = omega (arith, length-append (stream_inputs s) (streams_inputs ss), columns_many s.name s.columns, h.0.most, streams_many ss h.1)
-
-tick_few : (ticks : Bool) → length (tick_input ticks) ≤ 1
-tick_few true = omega arith
-tick_few false = omega arith
-
 profile_many : (ticks : Bool) (schema : Schema) (columns : List Column) → IsSchema schema → length columns ≤ 32 → length (profile ticks schema columns) ≤ most_ports
 profile_many ticks schema columns fine few =
-    let tail = output out_eos 1 ∷ output fault_group 1 ∷ output fault_queue 1 ∷ [] in
-    omega (
-      arith,
-      length-append (input_ports ticks schema) (output_ports columns),
-      length-append (streams_inputs schema.streams) (input eos 1 ∷ tick_input ticks),
-      tick_few ticks,
-      length-append (column_outputs columns) tail,
-      length_map (λ (c : Column). output (out_column c.name) (width_of c.kind)) columns,
-      streams_many schema.streams fine.streams,
-      fine.most,
-      few,
-    )
+    omega (arith, length-append (input_ports ticks schema) (output_ports columns), inputs_few ticks schema fine, outputs_many columns, few)
 
 -- ---- a dump can tell them
 

@@ -1,5 +1,6 @@
 -- The text of a plan's netlist meets its statement.
-use Rattle.std.proofs.Common.{◌≡◌, ℕ, ◌+◌, ◌≤◌, Bool, List, ◌∷◌, ◌++◌, map, Some, sym, ap, subst, ◌∙◌, codes}
+use Rattle.std.proofs.Common.{◌≡◌, ℕ, ◌+◌, ◌≤◌, Bool, List, ◌∷◌, ◌++◌, length, map, Some, sym, ap, subst, ◌∙◌, arith, codes}
+use Rattle.gl_bits.specs.Limits.{most_weight}
 use Rattle.gl_bits.proofs.Options.{some_same}
 use Rattle.gl_schema.specs.declared.schema.Column.{Column}
 use Rattle.gl_schema.specs.declared.schema.Schema.{Schema}
@@ -16,7 +17,7 @@ use Rattle.gl_algebra.specs.Roots.{most_memory, most_registers}
 use Rattle.gl_algebra.specs.Shapes.{Shape, kinds_of as kinds_of_node}
 use Rattle.gl_algebra.specs.Views.{reads_time}
 use Rattle.gl_algebra.specs.declared.figures.Figures.{Figures}
-use Rattle.gl_net.specs.Net.{Net, memory_bits_of, register_bits_of}
+use Rattle.gl_net.specs.Net.{Net, memory_bits_of, register_bits_of, size_of}
 use Rattle.gl_net.specs.PortValues.{port_shapes}
 use Rattle.gl_verilog.specs.Run.{port_of}
 use Rattle.gl_verilog_ports.specs.Profile.{HasProfile, declared}
@@ -34,6 +35,7 @@ use Rattle.gl_testbench.specs.Overflow.{TellsGroup}
 use Rattle.gl_testbench.proofs.Emissions.{holds_of_runs}
 use Rattle.gl_testbench.proofs.OverflowRuns.{KeepsLine, RunLaws, keeps_past, tells_group}
 use Rattle.gl_testbench.proofs.PinLemmas.{outs_other}
+use Rattle.gl_testbench.proofs.PortCounts.{outputs_many, ports_few}
 use Rattle.gl_testbench.proofs.Showing.{NoClock, right_past, right_wider}
 use Rattle.gl_compiler.specs.Meets.{Meets, WhereDriven, result_columns, takes_ticks}
 use Rattle.gl_compiler.specs.Built.{gap_of, latency_of}
@@ -93,15 +95,20 @@ module _ (time : PlansTellTime) (schema : Schema) (statement : Statement) (net :
   text_keeps keeps = holds_of_runs net schema made.text.items text gap (λ all port. KeepsLine outs port) (keeps_past outs none)
       (λ run all trace are gaps stimulus. let h = keeps run all trace are gaps stimulus in record { lasts = h.lasts; stays = h.stays })
 
+  -- it has at most 303 ports
+  few : length net.ports ≤ 3900
+  few = omega (arith, ports_few ticks schema (output_ports columns) net is.of_schema takes, outputs_many columns, k.columns.most)
+
   -- a text of the plan's netlist meets the statement
-  pub text_meets : RunLaws → RootsAreRight → net.name ≡ Some (codes "q__" ++ statement.name.text) → OverBeats schema gap (λ all port. IsRight means latency all outs port) net → OverBeats schema gap (λ all port. KeepsGroup outs port) net
+  pub text_meets : RunLaws → RootsAreRight → size_of net ≤ most_weight → net.name ≡ Some (codes "q__" ++ statement.name.text) → OverBeats schema gap (λ all port. IsRight means latency all outs port) net → OverBeats schema gap (λ all port. KeepsGroup outs port) net
       → Meets schema statement (latency_of schema statement) (gap_of schema statement) made.text.items
-  text_meets laws tops called right keeps =
+  text_meets laws tops light called right keeps =
       subst (λ (f : Figures). Meets schema statement (f.le + 1) f.gt made.text.items) (tops schema statement is).figures
       (record {
         accepted = is.accepted;
         design = text.design;
         has = text.has;
+        fits = t.fits light few;
         name = some_same text.design.name (codes "q__" ++ statement.name.text) (text.name' ∙ called);
         face = face;
         runs = text.runs;

@@ -1,7 +1,8 @@
 -- What a compiled text is: a module of the statement's name with the ports of the schema and of the result, every run
 -- of which, in any order of events, over any beats that keep the gap and from any start, is right for the statement,
 -- and whose overflow line says what has come by each cycle.
-use Rattle.std.specs.Prelude.{◌≡◌, ℕ, ◌++◌, Bool, List, codes}
+use Rattle.std.specs.Prelude.{◌≡◌, ◌≤◌, ℕ, ◌++◌, Bool, List, codes, length}
+use Rattle.gl_outside.specs.declared.shelf.TheConstants.{TEXT_LIMIT}
 use Rattle.gl_schema.specs.declared.schema.Column.{Column}
 use Rattle.gl_schema.specs.declared.schema.Schema.{Schema}
 use Rattle.gl_schema.specs.Beats.{Beat}
@@ -37,11 +38,13 @@ WhereDriven m schema gap P = (beats : List Beat) (value : ℕ → Nets) (word : 
 -- the text has a module of the statement's name, whose ports are in order the clock, the inputs of the schema, the tick
 -- where the statement has a window of time, and the outputs of the result; there is a run of it from any start over any
 -- beats of the schema, and whatever drives it, what is seen is right for the statement, within the latency, and the
--- overflow line never falls, and is 1 only where what has come has a result that spills
+-- overflow line never falls, and is 1 only where what has come has a result that spills; it is no longer than a text that
+-- is read may be
 pub record Meets (schema : Schema) (statement : Statement) (latency gap : ℕ) (text : List ℕ) : Type 0 where
   pub accepted : IsAccepted schema statement
   pub design : Module
   pub has : HasModule text design
+  pub fits : length text ≤ TEXT_LIMIT
   pub name : design.name ≡ codes "q__" ++ statement.name.text
   pub face : HasProfile (takes_ticks statement) design schema (result_columns schema statement)
   pub runs : HasRunsOver design schema

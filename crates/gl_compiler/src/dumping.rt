@@ -38,11 +38,6 @@ pub fn dump<K: Sink>(alloc: Global, text: &[u8], run: Run<'_>, out: &mut K) -> O
 {
     one_module();
     inputs_are_ports();
-    // A simulator takes the module whole, so what stands in front of its cycles is written of
-    // another one of the same text.
-    let Ok(face) = read_known_module(alloc, text) else {
-        return Outcome::Memory;
-    };
     let Ok(design) = read_known_module(alloc, text) else {
         return Outcome::Memory;
     };
@@ -52,7 +47,7 @@ pub fn dump<K: Sink>(alloc: Global, text: &[u8], run: Run<'_>, out: &mut K) -> O
         start: run.start,
         extra: run.latency,
     };
-    dump_module(alloc, &face, design, run.kinds, task, out)
+    dump_module(alloc, design, run.kinds, task, out)
 }
 
 /// Runs the text of a compiled query over beats of its schema that keep its gap, in cycles, and writes

@@ -1,5 +1,8 @@
 //! The labels of a netlist.
 
+ghost use Rattle.std.specs.Prelude.{◌≡◌, length, IfOk};
+ghost use Rattle.gl_labels.specs.Labelled.{labelled_of};
+
 use crate::columns::ColumnNames;
 use crate::head::head_of;
 use crate::kinds::name_rest;
@@ -16,7 +19,9 @@ use std::alloc::Global;
 pub(crate) const MOST_NAMED: usize = 65_536;
 
 // So many labels that say nothing.
-fn empty_labels(alloc: Global, count: usize) -> Result<Vec<Label>, Memory> {
+fn empty_labels(alloc: Global, count: usize) -> Result<Vec<Label>, Memory>
+    ensures { IfOk result (λ labels. length labels.items ≡ count) }
+{
     let mut labels = Vec::new(alloc);
     for _ in 0..count {
         labels.push(Label {
@@ -80,7 +85,9 @@ fn labels_of_nodes(
     alloc: Global,
     net: &Netlist,
     subject: Subject<'_>,
-) -> Result<Vec<Label>, Memory> {
+) -> Result<Vec<Label>, Memory>
+    ensures { IfOk result (λ labels. length labels.items ≡ length net.now.nodes) }
+{
     let columns = ColumnNames::new(alloc, subject)?;
     let naming = Naming {
         subject,
@@ -97,7 +104,10 @@ fn labels_of_nodes(
 /// The labels of a module's text: what its netlist was made of, and names and headings of its nodes by the notes in it.
 ///
 /// The same query gives the same labels.
-pub fn labels_of(alloc: Global, net: &Netlist, subject: Subject<'_>) -> Result<Labels, Memory> {
+pub fn labels_of(alloc: Global, net: &Netlist, subject: Subject<'_>) -> Result<Labels, Memory>
+    ensures { let many = labelled_of (length net.now.nodes) in
+        IfOk result (λ labels. length labels.nodes.items ≡ many) }
+{
     let head = head_of(alloc, net, subject)?;
     if net.nodes().len() > MOST_NAMED {
         return Ok(Labels {

@@ -6,6 +6,7 @@ pub mod Times
 pub mod Standing
 pub mod Ports
 pub mod Results
+pub mod Sizes
 pub mod Meeting
 pub mod Made
 mod Shown

@@ -17,6 +17,7 @@ use Rattle.gl_algebra.specs.FigureTable.{figures_of}
 use Rattle.gl_net.specs.Net.{Net, memory_bits_of, register_bits_of}
 use Rattle.gl_verilog.specs.Run.{port_of}
 use Rattle.gl_verilog_ports.specs.Profile.{declared}
+use Rattle.gl_figures.specs.Reach.{OnceIsLess}
 use Rattle.gl_elaborate.specs.Plans.{Several, plans_of}
 use Rattle.gl_wiring.specs.Many.{AreWired, IsRightFor, ids_of, many_ports}
 use Rattle.gl_wiring.specs.Wired.{plan_means}
@@ -38,6 +39,7 @@ use Rattle.gl_many.specs.Meets.{IsRightAmong, MeetTogether, most_memory_of_all, 
 use Rattle.gl_many.specs.Roots.{CanStand, root_of, roots_of}
 use Rattle.gl_many.proofs.Ports.{takes_beats}
 use Rattle.gl_many.proofs.Results.{root_result}
+use Rattle.gl_many.proofs.Sizes.{few, light}
 use Rattle.gl_many.proofs.Standing.{AllStand, Laws, StandsAt, all_accepted, figures_own, ids_are, reads_ticks, they_stand, widest_own}
 
 -- ---- one of them
@@ -108,9 +110,9 @@ module _ (schema : Schema) (ss : List Statement) (p : PlannedSeveral) (is : AreP
 
 module _ (laws : Laws) (schema : Schema) (ss : List Statement) (p : PlannedSeveral) (can : CanStand schema ss) (is : ArePlanned schema ss p) where
   -- a text of the netlist of the statements' roots meets them
-  pub text_meets : RunLaws → (heap : Global) (net : Net) (made : Emitted) → AreWired schema p.plan (roots_of schema ss p.roots.items) net → IsEmitted net made
+  pub text_meets : RunLaws → OnceIsLess → (heap : Global) (net : Net) (made : Emitted) → AreWired schema p.plan (roots_of schema ss p.roots.items) net → IsEmitted net made
       → MeetTogether schema ss (shared_gap schema ss) made.text.items
-  text_meets runs heap net made wired t =
+  text_meets runs once heap net made wired t =
       let ids = p.roots.items in
       let all = they_stand laws schema ss p can is in
       let ticks = take_ticks ss in
@@ -124,6 +126,7 @@ module _ (laws : Laws) (schema : Schema) (ss : List Statement) (p : PlannedSever
         accepted = all_accepted p.plan schema ss ids all;
         design = text.design;
         has = text.has;
+        fits = t.fits (light laws schema ss p can is net once wired) (few laws schema ss p can is net takes);
         name = some_same text.design.name (codes "q__many") (text.name' ∙ wired.name);
         face = text.face ∙ ap (λ (ps : List ProfilePort). map declared (input clk 1 ∷ ps)) takes.ports;
         few_registers = subst (λ (n : ℕ). n ≤ most_registers_of_all (plans_of [] schema ss)) (sym text.registers) (few_registers schema ss p is net wired own);

@@ -1,8 +1,9 @@
 -- The statements of a text can stand on one module.
-use Rattle.std.proofs.Common.{◌≡◌, ℕ, List, map, sym, subst, ◌∙◌}
+use Rattle.std.proofs.Common.{◌≡◌, ℕ, ◌≤◌, List, length, map, sym, subst, ◌∙◌, arith}
 use Rattle.std.specs.Prelude.{bytes_eq}
 use Rattle.std.specs.List.{AllByRecursion, IsDistinct}
-use Rattle.gl_bits.proofs.AllLists.{all_mapped, all_of_mapped, all_weaker, map_map}
+use Rattle.gl_bits.specs.Limits.{most_statements}
+use Rattle.gl_bits.proofs.AllLists.{all_mapped, all_of_mapped, all_weaker, length_map, map_map}
 use Rattle.gl_schema.specs.declared.schema.Schema.{Schema}
 use Rattle.gl_schema.specs.Schemas.{IsSchema}
 use Rattle.gl_query.specs.declared.tree.Statement.{Statement}
@@ -44,9 +45,14 @@ module _ (schema : Schema) (all : List Checked) (over : AllByRecursion (list.IsC
     own_names : list.names_of (map tree_of all) ≡ names_of (statements_of all)
     own_names = map_map (λ (t : StatementTree). t.name.text) tree_of all ∙ sym (map_map (λ (s : Statement). s.name.text) (λ (c : Checked). c.statement) all)
 
+    are_few : StatementsAreListed → length (statements_of all) ≤ most_statements
+    are_few listed =
+        omega (arith, length_map (λ (c : Checked). c.statement) all, length_map tree_of all, (listed schema text (map tree_of all) has).most)
+
     pub can_stand : TreesAreAlike → StatementsAreListed → CanStand schema (statements_of all)
     can_stand alike listed = record {
       of_schema = fine;
+      few = are_few listed;
       checked = all_checked;
       named = all_named alike listed;
       distinct = subst (λ (names : List (List ℕ)). IsDistinct bytes_eq names) own_names (listed schema text (map tree_of all) has).distinct;

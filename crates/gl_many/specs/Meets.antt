@@ -1,8 +1,9 @@
 -- What the text of several statements is: one module with the ports of the schema and of each result, every run of
 -- which, in any order of events, over any beats that keep the gap and from any start, is right for each statement as if
 -- it stood alone, within its own latency and with its own overflow line.
-use Rattle.std.specs.Prelude.{◌≡◌, ℕ, ◌+◌, ◌*◌, ◌≤◌, ◌∷◌, ◌++◌, max, List, [], map, Bool, codes}
+use Rattle.std.specs.Prelude.{◌≡◌, ℕ, ◌+◌, ◌*◌, ◌≤◌, ◌∷◌, ◌++◌, max, List, [], length, map, Bool, codes}
 use Rattle.std.specs.List.{AllByRecursion, flat_map, list_any, sum_by}
+use Rattle.gl_outside.specs.declared.shelf.TheConstants.{TEXT_LIMIT}
 use Rattle.gl_schema.specs.declared.schema.Column.{Column}
 use Rattle.gl_schema.specs.declared.schema.Schema.{Schema}
 use Rattle.gl_schema.specs.Ports.{out_column}
@@ -96,11 +97,12 @@ pub record IsRightAmong (schema : Schema) (gap : ℕ) (design : Module) (stateme
 
 -- the text has one module, whose ports are in order the clock, the inputs of the schema and the outputs of each
 -- statement, and which declares no more bits than their joint plan counts; there is a run of it from any start over any
--- beats of the schema, and it is right for each statement
+-- beats of the schema, and it is right for each statement; it is no longer than a text that is read may be
 pub record MeetTogether (schema : Schema) (statements : List Statement) (gap : ℕ) (text : List ℕ) : Type 0 where
   pub accepted : AllByRecursion (IsAccepted schema) statements
   pub design : Module
   pub has : HasModule text design
+  pub fits : length text ≤ TEXT_LIMIT
   pub name : design.name ≡ codes "q__many"
   pub face : ports_of design ≡ map declared (input clk 1 ∷ profile_of_all schema statements)
   pub few_registers : register_bits design ≤ most_registers_of_all (plans_of [] schema statements)

@@ -1,7 +1,8 @@
 -- Statements that can stand on one module, and their roots in the joint plan, under the names of their results.
 -- A middle layer: no promise rests on it.
-use Rattle.std.specs.Prelude.{ℕ, List, [], ◌∷◌, map, bytes_eq}
+use Rattle.std.specs.Prelude.{ℕ, ◌≤◌, List, [], ◌∷◌, length, map, bytes_eq}
 use Rattle.std.specs.List.{AllByRecursion, IsDistinct}
+use Rattle.gl_bits.specs.Limits.{most_statements}
 use Rattle.gl_schema.specs.declared.schema.Schema.{Schema}
 use Rattle.gl_schema.specs.Schemas.{IsSchema, column_names}
 use Rattle.gl_query.specs.declared.tree.Statement.{Statement}
@@ -19,9 +20,10 @@ names_of statements = map (λ (s : Statement). s.name.text) statements
 abbrev pub IsNamed : Statement → Type 0
 IsNamed statement = StatementHasNames (statement_shape statement)
 
--- the statements were checked over the schema, the names in them are names, and no two have one name
+-- at most eight statements were checked over the schema, the names in them are names, and no two have one name
 pub record CanStand (schema : Schema) (statements : List Statement) : Type 0 where
   pub of_schema : IsSchema schema
+  pub few : length statements ≤ most_statements
   pub checked : AllByRecursion (IsChecked schema) statements
   pub named : AllByRecursion IsNamed statements
   pub distinct : IsDistinct bytes_eq (names_of statements)

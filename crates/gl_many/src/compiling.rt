@@ -17,6 +17,7 @@ use crate::rooting::roots_of;
 use gl_bits::Memory;
 use gl_compiler::CompileFault;
 use gl_elaborate::laws::{plans_are_right, plans_tell_time, several_are_right};
+use gl_figures::reach_laws::once_is_less;
 use gl_labels::{Figured, Subject, labels_of};
 use gl_net::Netlist;
 use gl_plan::{PlanFault, PlannedSeveral, plan_several};
@@ -103,6 +104,7 @@ fn text_of(
         MeetTogether schema.now asked (shared_gap schema.now asked) text.items) }
 {
     accepted_have_real_columns();
+    once_is_less();
     plans_are_right();
     plans_tell_time();
     several_are_right();

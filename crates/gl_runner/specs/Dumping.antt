@@ -46,17 +46,15 @@ abbrev pub end_in : Module → Option ℕ
 end_in m = number_of (profile.ports_of m) out_eos
 
 -- the watcher has a place for each port of the module but the clock, and knows where the end is shown
-pub record IsRoomFor (face : Here) (w : DumpLines) : Type 0 where
-  pub face' : w.face.now ≡ face
-  pub can : CanDump face
-  pub ports' : w.ports.items ≡ numbers_of (module_of face)
-  pub now' : widths_of w.now ≡ widths_in (module_of face)
-  pub before' : widths_of w.before ≡ widths_in (module_of face)
-  pub end' : w.end ≡ end_in (module_of face)
+pub record IsRoomFor (m : Module) (w : DumpLines) : Type 0 where
+  pub ports' : w.ports.items ≡ numbers_of m
+  pub now' : widths_of w.now ≡ widths_in m
+  pub before' : widths_of w.before ≡ widths_in m
+  pub end' : w.end ≡ end_in m
 
 -- the watcher has room for the module's ports and waits for the first cycle
-pub record IsInFront (face : Here) (w : DumpLines) : Type 0 where
-  pub room : IsRoomFor face w
+pub record IsInFront (m : Module) (w : DumpLines) : Type 0 where
+  pub room : IsRoomFor m w
   pub next' : w.next ≡ 0
 
 -- the watcher holds no port of the module yet
@@ -70,7 +68,6 @@ pub record IsEmptyFor (face : Here) (w : DumpLines) : Type 0 where
 
 -- one has a port more than the other
 pub record Adds (number width : ℕ) (old new : DumpLines) : Type 0 where
-  pub face' : new.face ≡ old.face
   pub next' : new.next ≡ old.next
   pub end' : new.end ≡ old.end
   pub ports' : new.ports.items ≡ old.ports.items ++ number ∷ []
@@ -79,8 +76,8 @@ pub record Adds (number width : ℕ) (old new : DumpLines) : Type 0 where
 
 -- the watcher is made for this module
 pub record Serves (w : DumpLines) (m : Module) : Type 0 where
-  pub room : IsRoomFor w.face.now w
-  pub face' : module_of w.face.now ≡ m
+  pub room : IsRoomFor m w
+  pub few : length (ports_of m) ≤ 8836
   pub plain : HasPlainPorts m
   pub line' : IsLineIn m out_eos
 

@@ -159,6 +159,13 @@ impl<'a> Drive<'a> {
         })
     }
 
+    /// The module that is driven.
+    pub(crate) fn design(&self) -> &Module
+        ensures { result.now ≡ self.now.sim.design }
+    {
+        self.sim.design()
+    }
+
     // The cycle of the last beat, and the last one in which the end is waited for.
     fn bounds(&self) -> (u64, u64)
         ensures last { result.0 ≡ last_cycle self.now.beats }

@@ -31,9 +31,7 @@ use std::mem;
 
 /// Writes the cycles of a dump.
 #[derive(Drop)]
-pub(crate) struct DumpLines<'a> {
-    /// The module, as its text says it.
-    pub face: &'a Module,
+pub(crate) struct DumpLines {
     /// The numbers of the ports that stand in it.
     pub ports: Vec<usize>,
     /// What they have in the cycle, and what they had in the one before.
@@ -46,15 +44,14 @@ pub(crate) struct DumpLines<'a> {
     pub ended: bool,
 }
 
-impl<'a> DumpLines<'a> {
+impl DumpLines {
     // In front of the first cycle of a module. Takes all the memory that it needs.
     #[tactic(auto, unfolding(gl_schema::specs::Ports::out_eos))]
-    fn new(alloc: Global, face: &'a Module) -> Result<DumpLines<'a>, Memory>
+    fn new(alloc: Global, face: &Module) -> Result<DumpLines, Memory>
         requires { CanDump face.now }
-        ensures { IfOk result (IsInFront face.now) }
+        ensures { IfOk result (IsInFront (module_of face.now)) }
     {
         let mut lines = DumpLines {
-            face,
             ports: Vec::new(alloc),
             now: Row::new(alloc),
             before: Row::new(alloc),
@@ -62,16 +59,15 @@ impl<'a> DumpLines<'a> {
             end: number_of(ports_in(face), b"out__eos"),
             ended: false,
         };
-        lines.add_all()?;
+        lines.add_all(face)?;
         Ok(lines)
     }
 
     // All ports but the clock stand in the dump.
-    fn add_all(&mut self) -> Result<(), Memory>
-        requires { IsEmptyFor self.old.face.now self.old }
-        ensures { OnOk result (IsInFront self.old.face.now self.new) }
+    fn add_all(&mut self, face: &Module) -> Result<(), Memory>
+        requires { IsEmptyFor face.now self.old }
+        ensures { OnOk result (IsInFront (module_of face.now) self.new) }
     {
-        let face = self.face;
         let ports = &face.declarations.as_slice()[..face.ports];
         for (number, port) in ports.iter().enumerate() {
             if is_dumped(port) {
@@ -106,7 +102,7 @@ fn row_before(row: &Row, cycle: u64) -> Option<&Row>
     Some(row)
 }
 
-impl Watch for DumpLines<'_> {
+impl Watch for DumpLines {
     ghost bytes = { λ w. dump_of_cycle };
 
     ghost ends = { λ w. end_of_cycle };
@@ -118,7 +114,7 @@ impl Watch for DumpLines<'_> {
     fn cycle<K: Sink>(&mut self, made: &Made<'_>, out: &mut K) -> Result<(), WriteFault> {
         set_row(made.sim, self.ports.as_slice(), &mut self.now);
         let before = row_before(&self.before, made.cycle);
-        cycle(self.face, made.cycle, before, &self.now, out)?;
+        cycle(made.sim.design(), made.cycle, before, &self.now, out)?;
         mem::swap(&mut self.before, &mut self.now);
         self.next = made.cycle + 1;
         self.ended = is_high(made.sim, self.end);
@@ -133,18 +129,18 @@ impl Watch for DumpLines<'_> {
 // Writes what stands in front of the first time, the cycles of a run, and the time behind the last.
 fn put_dump<K: Sink>(
     drive: &mut Drive<'_>,
-    lines: &mut DumpLines<'_>,
+    lines: &mut DumpLines,
     out: &mut K,
 ) -> Result<(), WriteFault>
-    requires front { IsInFront lines.old.face.now lines.old }
-    requires same { module_of lines.old.face.now ≡ design_of drive.old }
+    requires front { IsInFront (design_of drive.old) lines.old }
+    requires few { length (ports_of (design_of drive.old)) ≤ 8836 }
     requires plain { HasPlainPorts (design_of drive.old) }
     requires line { IsLineIn (design_of drive.old) out_eos }
     requires first { drive.old.cycle ≡ 0 }
     ensures { Dumped (OfTimelyDriven drive.old) drive.old.beats (K.state out.old) (K.state out.new)
         (outcome_in result) }
 {
-    header(lines.face, out)?;
+    header(drive.design(), out)?;
     let ending = drive.follow(lines, out);
     if matches!(ending, Ending::WriteFault) {
         return Err(WriteFault);
@@ -163,16 +159,14 @@ fn outcome_in(written: Result<(), WriteFault>) -> Outcome
 }
 
 /// Runs the module of a text over beats, as `execute_module` does, and writes the dump of its ports
-/// but the clock; `face` is that module once more. All memory is taken before the first byte.
+/// but the clock. All memory is taken before the first byte.
 pub fn dump_module<K: Sink>(
     alloc: Global,
-    face: &Module,
     design: Module,
     kinds: &[Kind],
     task: Task<'_>,
     out: &mut K,
 ) -> Outcome
-    requires same { module_of face.now ≡ module_of design }
     requires can { CanFollow (module_of design) task.schema.now kinds.now
         (plain_beats task.beats.now) }
     requires many { length kinds.now ≤ 32 }
@@ -186,7 +180,7 @@ pub fn dump_module<K: Sink>(
 {
     // Clauses alone speak of them.
     let _ = kinds;
-    let Ok(mut lines) = DumpLines::new(alloc, face) else {
+    let Ok(mut lines) = DumpLines::new(alloc, &design) else {
         return Outcome::Memory;
     };
     let Ok(mut drive) = Drive::new(alloc, design, task) else {

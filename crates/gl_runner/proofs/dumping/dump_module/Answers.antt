@@ -1,11 +1,8 @@
-use Rattle.std.proofs.Common.{◌≤◌, arith, length, sym, subst}
-use Rattle.std.specs.List.{AllByRecursion}
+use Rattle.std.proofs.Common.{arith, sym, subst}
 use Rattle.gl_bits.proofs.AllLists.{length_map}
 use Rattle.gl_tuples.specs.Gaps.{plain_beats}
-use Rattle.gl_vcd.specs.Written.{ports_of}
 use Rattle.gl_verilog.specs.Module.{Module}
 use Rattle.gl_verilog.specs.View.{declaration_of, module_of}
-use Rattle.gl_verilog.specs.Widths.{HasSize}
 use Rattle.gl_schema.specs.Ports.{out_eos}
 use Rattle.gl_runner.specs.Probes.{IsLineIn}
 use Rattle.gl_runner.specs.Dumping.{outcome_in}
@@ -15,14 +12,11 @@ use Rattle.gl_runner.proofs.Probing.{end_line}
 use Rattle.gl_runner.proofs.dumping.dump_module.Goals as goal
 
 pub new-requires : goal.new-requires
-new-requires g c =
-    let face = c.args.face.now in
-    let inside : (module_of face).ports ≤ length (module_of face).declarations = subst (λ (m : Module). m.ports ≤ length m.declarations) (sym c.requires.same) c.requires.plain.inside in
-    record {
-      inside = omega (arith, inside, length_map declaration_of face.declarations);
-      sizes = subst (λ (m : Module). AllByRecursion HasSize m.declarations) (sym c.requires.same) c.requires.can.valid.sizes;
-      few = subst (λ (m : Module). length (ports_of m) ≤ 8836) (sym c.requires.same) c.requires.few;
-    }
+new-requires g c = record {
+  inside = omega (arith, c.requires.plain.inside, length_map declaration_of c.args.design.declarations);
+  sizes = c.requires.can.valid.sizes;
+  few = c.requires.few;
+}
 
 pub new-requires-2-clause-can : goal.new-requires-2-clause-can
 new-requires-2-clause-can g c = can_drive (module_of c.args.design) c.args.task.schema.now c.args.kinds.now (plain_beats c.args.task.beats.now) c.requires.can

@@ -8,7 +8,6 @@ use Rattle.gl_runner.proofs.dumping.DumpLines.add_all.Given as goal
 -- the numbers and the widths of the ports so far
 abbrev pub invariant-loop-number : goal.invariant-loop-number
 invariant-loop-number l = record {
-  face : l.self.face ≡ l.initial.self.face;
   next : l.self.next ≡ 0;
   end' : l.self.end ≡ l.initial.self.end;
   ports : l.self.ports.items ++ numbers_from l.number (map declaration_of (drop l.number l.ports)) ≡ numbers_from 0 (map declaration_of l.ports);
