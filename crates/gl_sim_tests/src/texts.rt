@@ -1,4 +1,7 @@
 //! Texts as a row tells them.
+//!
+//! gl_query_tests has this file too: gl_bits is all that both use, and no row belongs into it, since the
+//! program stands on it.
 
 use std::alloc::{AllocError, Global};
 
