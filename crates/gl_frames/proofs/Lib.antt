@@ -1,0 +1,5 @@
+pub mod ListLemmas
+pub mod LastLemmas
+pub mod SumLemmas
+pub mod BestLemmas
+pub mod PartitionLemmas

@@ -1,0 +1,11 @@
+pub mod SinceLemmas
+pub mod RingLemmas
+pub mod WindLemmas
+pub mod RunLemmas
+pub mod ColumnLemmas
+pub mod StreamLemmas
+pub mod ReachLemmas
+pub mod RingNet
+pub mod CountNet
+pub mod LagNet
+pub mod SumNet

@@ -1,0 +1,9 @@
+pub mod Since
+pub mod Rings
+pub mod Running
+pub mod Laws
+pub mod Reaches
+pub mod RingNets
+pub mod CountNets
+pub mod LagNets
+pub mod SumNets
