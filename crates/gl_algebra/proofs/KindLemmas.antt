@@ -1,10 +1,10 @@
 -- The columns of a plan's nodes have kinds of columns.
 use Rattle.std.proofs.Common.{ℕ, List, All, map, sym, subst, lit<, lit≤}
 use Rattle.std.proofs.lemmas.List.Elements.{All-append, All-cons, All-map, All-weaker}
-use Rattle.gl_bits.specs.Kinds.{IsKind}
-use Rattle.gl_bits.specs.Operators.{sort_of}
-use Rattle.gl_bits.specs.declared.kind.Kind.{Kind}
-use Rattle.gl_bits.proofs.KindLemmas.{bit_is_kind, cast_kind, result_is}
+use Rattle.gl_values.specs.Kinds.{IsKind}
+use Rattle.gl_values.specs.Operators.{sort_of}
+use Rattle.gl_values.specs.declared.kind.Kind.{Kind}
+use Rattle.gl_values.proofs.KindLemmas.{bit_is_kind, cast_kind, result_is}
 use Rattle.gl_algebra.specs.declared.node.ColOp.{ColOp}
 use Rattle.gl_algebra.specs.declared.node.ColOp.TheVariants.{Not, Cast, Binary}
 use Rattle.gl_algebra.specs.declared.node.Operand.{Operand}

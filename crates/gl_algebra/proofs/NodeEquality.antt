@@ -4,17 +4,17 @@ use Rattle.std.specs.Bool.{Decides}
 use Rattle.std.specs.Cmp.{IsEquivalence, unsigned_Decides}
 use Rattle.std.specs.Cmp.Lexicographic.{pointwise, pointwise_decides}
 use Rattle.gl_bits.proofs.Bools.{and_parts}
-use Rattle.gl_bits.proofs.KindLemmas.{kinds_equal}
+use Rattle.gl_values.proofs.KindLemmas.{kinds_equal}
 use Rattle.gl_algebra.specs.Added.{same_node}
 use Rattle.gl_bits.specs.Words.{Word}
-use Rattle.gl_bits.specs.declared.kind.Kind.{Kind}
-use Rattle.gl_bits.specs.contracts.kind.KindPartialEq.TheImpl as OfKind
-use Rattle.gl_bits.specs.contracts.kind.KindEq.TheImpl.Laws as KindLaws
+use Rattle.gl_values.specs.declared.kind.Kind.{Kind}
+use Rattle.gl_values.specs.contracts.kind.KindPartialEq.TheImpl as OfKind
+use Rattle.gl_values.specs.contracts.kind.KindEq.TheImpl.Laws as KindLaws
 use Rattle.gl_bits.specs.contracts.word.WordPartialEq.TheImpl as OfWord
 use Rattle.gl_bits.specs.contracts.word.WordEq.TheImpl.Laws as WordLaws
-use Rattle.gl_bits.specs.declared.op.Op.{Op}
-use Rattle.gl_bits.specs.declared.op.Op.TheVariants.{Add, Sub, Mul, Eq, Ne, Lt, Le, Gt, Ge, And, Or}
-use Rattle.gl_bits.specs.contracts.op.OpPartialEq.TheImpl as OfOp
+use Rattle.gl_values.specs.declared.op.Op.{Op}
+use Rattle.gl_values.specs.declared.op.Op.TheVariants.{Add, Sub, Mul, Eq, Ne, Lt, Le, Gt, Ge, And, Or}
+use Rattle.gl_values.specs.contracts.op.OpPartialEq.TheImpl as OfOp
 use Rattle.gl_algebra.specs.declared.node.Operand.{Operand}
 use Rattle.gl_algebra.specs.declared.node.Operand.TheVariants.{Column, Literal}
 use Rattle.gl_algebra.specs.contracts.node.OperandPartialEq.TheImpl as OfOperand

@@ -1,14 +1,14 @@
 -- A node whose leaves are all a body's input reads that input alone, and without a window of time no node reads the time.
 use Rattle.std.proofs.Common.{◌≡◌, ℕ, List, [], ◌∷◌, Bool, true, false, All, Some, slice_get, refl, sym, ap, ◌∙◌, subst, lit<}
 use Rattle.std.proofs.lemmas.Bool.{false_from_ne_true}
-use Rattle.gl_bits.specs.declared.kind.Kind.{Kind}
-use Rattle.gl_bits.specs.Lists.{slices, Group as GroupOf, IsInterleaving}
+use Rattle.gl_values.specs.declared.kind.Kind.{Kind}
+use Rattle.gl_values.specs.Lists.{slices, Group as GroupOf, IsInterleaving}
 use Rattle.gl_algebra.specs.declared.node.PlanNode.{PlanNode}
 use Rattle.gl_algebra.specs.declared.node.PlanNode.TheVariants.{Stream, Body, Compute, Select, Project, Aggregate, Union, Beside, Window, TimeWindow, Group, Partition}
 use Rattle.gl_algebra.specs.Fits.{IsOverStream, IsPlan, Suits}
 use Rattle.gl_algebra.specs.Laws.{BodiesReadTheirInput, HaveSameRows, UntimedResults}
 use Rattle.gl_algebra.specs.Nodewise.{named_by}
-use Rattle.gl_bits.specs.Results.{Row, Results, IsChanged, IsOfBoth, AreBeside, AreJoined, IsOfParts, IsOfGroup}
+use Rattle.gl_values.specs.Results.{Row, Results, IsChanged, IsOfBoth, AreBeside, AreJoined, IsOfParts, IsOfGroup}
 use Rattle.gl_algebra.specs.Results.{Inputs, Meaning, given, meaning_from, IsPlanResult}
 use Rattle.gl_algebra.specs.Shapes.{Shape, shape_of, shape_from}
 use Rattle.gl_algebra.specs.Views.{is_time, reads_time}

@@ -1,13 +1,13 @@
 -- The meaning of a node is its row over the meanings of the nodes that it names, and later nodes change none.
 use Rattle.std.proofs.Common.{◌≡◌, ℕ, ◌<◌, Bool, false, List, map, slice_get, slice_index, refl, subst, arith}
-use Rattle.gl_bits.specs.Lists.{slices, groups, has_further, IsInterleaving}
-use Rattle.gl_bits.specs.Times.{tslices}
+use Rattle.gl_values.specs.Lists.{slices, groups, has_further, IsInterleaving}
+use Rattle.gl_values.specs.Times.{tslices}
 use Rattle.gl_algebra.specs.declared.node.PlanNode.{PlanNode}
 use Rattle.gl_algebra.specs.declared.node.PlanNode.TheVariants.{Stream, Body, Compute, Select, Project, Aggregate, Union, Beside, Window, TimeWindow, Group, Partition}
-use Rattle.gl_bits.specs.Partitions.{parts}
+use Rattle.gl_values.specs.Partitions.{parts}
 use Rattle.gl_algebra.specs.Nodewise.{named_by}
 use Rattle.gl_algebra.specs.Shapes.{Shape, shape_of}
-use Rattle.gl_bits.specs.Results.{Row, IsChanged, IsOfBoth, IsOfParts, IsOfGroup, AreBeside}
+use Rattle.gl_values.specs.Results.{Row, IsChanged, IsOfBoth, IsOfParts, IsOfGroup, AreBeside}
 use Rattle.gl_algebra.specs.Results.{Inputs, given, Meaning, NoMeaning, computed, selected, projected, times_with, totalled, meaning_from, IsPlanResult}
 use Rattle.gl_algebra.proofs.NodewiseLemmas.{Agree, AreInOrder, SameSteps, agree, agree_self, nodewise-kept, nodewise-node, FollowsRow}
 use Rattle.gl_algebra.proofs.ShapeLemmas.{shape-kept}

@@ -1,16 +1,16 @@
 -- A node without a union has one result at most.
 use Rattle.std.proofs.Common.{◌≡◌, ℕ, suc, ◌<◌, Bool, false, ◌||◌, ◌∷◌, map, slice_index, All, refl, sym, ◌∙◌, arith, lit<}
-use Rattle.gl_bits.specs.Lists.{slices, groups, Group as GroupOf, has_further}
-use Rattle.gl_bits.specs.Times.{tslices}
+use Rattle.gl_values.specs.Lists.{slices, groups, Group as GroupOf, has_further}
+use Rattle.gl_values.specs.Times.{tslices}
 use Rattle.gl_algebra.specs.declared.node.PlanNode.{PlanNode}
 use Rattle.gl_algebra.specs.declared.node.PlanNode.TheVariants.{Stream, Body, Compute, Select, Project, Aggregate, Union, Beside, Window, TimeWindow, Group, Partition}
-use Rattle.gl_bits.specs.Partitions.{parts}
+use Rattle.gl_values.specs.Partitions.{parts}
 use Rattle.gl_algebra.specs.Laws.{has_union_from, has_union, ResultsAreUnique}
 use Rattle.gl_algebra.specs.Nodewise.{named_by}
 use Rattle.gl_algebra.specs.Shapes.{Shape, shape_of}
-use Rattle.gl_bits.specs.Results.{Row, IsOfGroup}
+use Rattle.gl_values.specs.Results.{Row, IsOfGroup}
 use Rattle.gl_bits.proofs.Bools.{neither_parts}
-use Rattle.gl_bits.proofs.Unique.{HasOne, one_input, one_changed, one_of_parts, one_of_both}
+use Rattle.gl_values.proofs.Unique.{HasOne, one_input, one_changed, one_of_parts, one_of_both}
 use Rattle.gl_algebra.specs.Results.{Inputs, given, Meaning, computed, selected, projected, times_with, totalled, meaning_from, IsPlanResult}
 use Rattle.gl_algebra.proofs.NodewiseLemmas.{Agree, nodewise-node, FollowsRow}
 use Rattle.gl_algebra.proofs.PlanLemmas.{in_order, by_nodes}

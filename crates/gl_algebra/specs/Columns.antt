@@ -3,12 +3,12 @@
 use Rattle.std.specs.Prelude.{ℕ, ◌≡◌, ◌<◌, ◌≤◌, List, length, slice_index_or, All, IsTrue, ⊤}
 use Rattle.gl_bits.specs.Limits.{most_weights}
 use Rattle.gl_bits.specs.Words.{Word, IsWord}
-use Rattle.gl_bits.specs.Kinds.{width_of, can_cast, is_number, IsKind}
-use Rattle.gl_bits.specs.declared.kind.Kind.{Kind}
-use Rattle.gl_bits.specs.declared.kind.Kind.TheVariants.{Unsigned}
-use Rattle.gl_bits.specs.declared.op.Sort.{Sort}
-use Rattle.gl_bits.specs.declared.op.Sort.TheVariants.{Arithmetic, Comparison, Logic}
-use Rattle.gl_bits.specs.Operators.{sort_of, result_kind}
+use Rattle.gl_values.specs.Kinds.{width_of, can_cast, is_number, IsKind}
+use Rattle.gl_values.specs.declared.kind.Kind.{Kind}
+use Rattle.gl_values.specs.declared.kind.Kind.TheVariants.{Unsigned}
+use Rattle.gl_values.specs.declared.op.Sort.{Sort}
+use Rattle.gl_values.specs.declared.op.Sort.TheVariants.{Arithmetic, Comparison, Logic}
+use Rattle.gl_values.specs.Operators.{sort_of, result_kind}
 use Rattle.gl_algebra.specs.declared.node.Operand.{Operand}
 use Rattle.gl_algebra.specs.declared.node.Operand.TheVariants.{Column, Literal}
 use Rattle.gl_algebra.specs.declared.node.ColOp.{ColOp}

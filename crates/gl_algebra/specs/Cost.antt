@@ -1,7 +1,7 @@
 -- What bounds the register bits and the memory bits of a plan's circuit, where queues are rings in memories, and so are
 -- the states of a group's slots where its body is direct.
 use Rattle.std.specs.Prelude.{ℕ, zero, suc, ◌+◌, ◌*◌, ◌^◌, List, nat_le, if◌then◌else◌}
-use Rattle.gl_bits.specs.Kinds.{width_of}
+use Rattle.gl_values.specs.Kinds.{width_of}
 use Rattle.gl_algebra.specs.declared.figures.Figures.{Figures}
 use Rattle.gl_algebra.specs.declared.node.PlanNode.{PlanNode}
 use Rattle.gl_algebra.specs.declared.node.PlanNode.TheVariants.{Union, Group}

@@ -1,6 +1,6 @@
 -- What a body is: whether row operators and totals that stand once serve all slots of a group, or each takes a copy.
 use Rattle.std.specs.Prelude.{ℕ, suc, Bool, true, false, List, [], ◌∷◌, length}
-use Rattle.gl_bits.specs.declared.kind.Kind.{Kind}
+use Rattle.gl_values.specs.declared.kind.Kind.{Kind}
 use Rattle.gl_algebra.specs.declared.node.PlanNode.{PlanNode}
 use Rattle.gl_algebra.specs.declared.node.PlanNode.TheVariants.{Body, Compute, Select, Project, Aggregate}
 use Rattle.gl_algebra.specs.declared.node.PlanAgg.{PlanAgg}

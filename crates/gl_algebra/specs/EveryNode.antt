@@ -1,10 +1,10 @@
 -- The shapes of a small plan with a node of every kind.
 use Rattle.std.specs.Prelude.{true, false, List, [], ◌∷◌}
-use Rattle.gl_bits.specs.declared.kind.Kind.{Kind}
-use Rattle.gl_bits.specs.declared.kind.Kind.TheVariants.{Unsigned}
+use Rattle.gl_values.specs.declared.kind.Kind.{Kind}
+use Rattle.gl_values.specs.declared.kind.Kind.TheVariants.{Unsigned}
 use Rattle.gl_algebra.specs.declared.node.ColOp.{ColOp}
 use Rattle.gl_algebra.specs.declared.node.ColOp.TheVariants.{Binary}
-use Rattle.gl_bits.specs.declared.op.Op.TheVariants.{Eq}
+use Rattle.gl_values.specs.declared.op.Op.TheVariants.{Eq}
 use Rattle.gl_algebra.specs.declared.node.Operand.{Operand}
 use Rattle.gl_algebra.specs.declared.node.Operand.TheVariants.{Column}
 use Rattle.gl_algebra.specs.declared.node.PlanAgg.{PlanAgg}

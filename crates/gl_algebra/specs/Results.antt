@@ -1,14 +1,14 @@
 -- What a plan means over lists of rows: the results that each node may have, and whether rows were left out of its
 -- groups. After the operators of Mueller, Teubner and Alonso, Streams on Wires, PVLDB 2(1), 2009.
 use Rattle.std.specs.Prelude.{ℕ, false, List, [], ◌∷◌, ◌++◌, map, filter, nat_eq, slice_index}
-use Rattle.gl_bits.specs.Kinds.{width_of}
-use Rattle.gl_bits.specs.Lists.{slices, groups, has_further, IsInterleaving}
-use Rattle.gl_bits.specs.Partitions.{parts}
-use Rattle.gl_bits.specs.Results.{Row, Results, IsInput, IsChanged, IsOfBoth, AreBeside, IsOfParts, IsOfGroup}
-use Rattle.gl_bits.specs.Totals.{count_of, sum_total, least_of, greatest_of, average_of, weighted_sum}
-use Rattle.gl_bits.specs.Times.{tslices}
+use Rattle.gl_values.specs.Kinds.{width_of}
+use Rattle.gl_values.specs.Lists.{slices, groups, has_further, IsInterleaving}
+use Rattle.gl_values.specs.Partitions.{parts}
+use Rattle.gl_values.specs.Results.{Row, Results, IsInput, IsChanged, IsOfBoth, AreBeside, IsOfParts, IsOfGroup}
+use Rattle.gl_values.specs.Totals.{count_of, sum_total, least_of, greatest_of, average_of, weighted_sum}
+use Rattle.gl_values.specs.Times.{tslices}
 use Rattle.gl_bits.specs.Words.{bits_of}
-use Rattle.gl_bits.specs.declared.kind.Kind.{Kind}
+use Rattle.gl_values.specs.declared.kind.Kind.{Kind}
 use Rattle.gl_algebra.specs.declared.node.ColOp.{ColOp}
 use Rattle.gl_algebra.specs.declared.node.Operand.{Operand}
 use Rattle.gl_algebra.specs.declared.node.PlanAgg.{PlanAgg}

@@ -1,8 +1,8 @@
 -- The values of operations on one row. A row is the list of its words' numbers, in the order of the columns.
 use Rattle.std.specs.Prelude.{ℕ, List, slice_index}
-use Rattle.gl_bits.specs.Operators.{cast_of, operate}
+use Rattle.gl_values.specs.Operators.{cast_of, operate}
 use Rattle.gl_bits.specs.Words.{not_of}
-use Rattle.gl_bits.specs.declared.kind.Kind.{Kind}
+use Rattle.gl_values.specs.declared.kind.Kind.{Kind}
 use Rattle.gl_algebra.specs.declared.node.Operand.{Operand}
 use Rattle.gl_algebra.specs.declared.node.Operand.TheVariants.{Column, Literal}
 use Rattle.gl_algebra.specs.declared.node.ColOp.{ColOp}

@@ -1,7 +1,7 @@
 -- The weight of a node, which bounds its hardware, and the copies of bodies that it has.
 use Rattle.std.specs.Prelude.{ℕ, ◌+◌, ◌*◌, max, sum_by, List, [], ◌∷◌, length, if◌then◌else◌}
-use Rattle.gl_bits.specs.Kinds.{width_of}
-use Rattle.gl_bits.specs.declared.kind.Kind.{Kind}
+use Rattle.gl_values.specs.Kinds.{width_of}
+use Rattle.gl_values.specs.declared.kind.Kind.{Kind}
 use Rattle.gl_algebra.specs.declared.figures.Figures.{Figures}
 use Rattle.gl_algebra.specs.declared.node.PlanNode.{PlanNode}
 use Rattle.gl_algebra.specs.declared.node.PlanNode.TheVariants.{Stream, Body, Compute, Select, Project, Aggregate, Union, Beside, Window, TimeWindow, Group, Partition}

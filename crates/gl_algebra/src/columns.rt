@@ -2,10 +2,11 @@
 
 ghost use Rattle.std.specs.Prelude.{◌≡◌, ◌++◌, ◌∷◌, IfOk, map};
 ghost use Rattle.gl_algebra.specs.Columns.{kind_of_agg, kind_of_column, kind_of_op, kind_of_operand};
-ghost use Rattle.gl_bits.specs.Operators.{result_kind};
+ghost use Rattle.gl_values.specs.Operators.{result_kind};
 
 use crate::node::{ColOp, Kinds, Operand, PlanAgg};
-use gl_bits::{Kind, Listed, Memory, Sort};
+use gl_bits::{Listed, Memory};
+use gl_values::{Kind, Sort};
 use std::alloc::Global;
 
 /// The kind of a column; one bit where there is none.

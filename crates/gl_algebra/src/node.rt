@@ -1,7 +1,8 @@
 //! The nodes of a plan.
 
 use crate::number::PlanId;
-use gl_bits::{Kind, Listed, Op, Word};
+use gl_bits::{Listed, Word};
+use gl_values::{Kind, Op};
 use std::hash::Hash;
 
 /// Kinds of columns, in order.

@@ -14,7 +14,8 @@ use crate::columns::{
 };
 use crate::node::{Kinds, PlanNode};
 use crate::number::PlanId;
-use gl_bits::{Kind, Memory};
+use gl_bits::Memory;
+use gl_values::Kind;
 use indexmap::IndexSet;
 use std::alloc::Global;
 use std::marker::Model;

@@ -13,7 +13,7 @@ use crate::wide::{
     aggregated, delayed, groups_over, joined, merged, narrowed, partitions_over, settled, spaced,
     widened, windows_over,
 };
-use gl_bits::Kind;
+use gl_values::Kind;
 
 /// A stream, or the input of a body.
 pub fn input_figures() -> Figures
@@ -117,7 +117,7 @@ pub fn copies_of_time(size: u32, advance: u32) -> u32
     size / advance + 1
 }
 
-/// The windows that can be open at once where each of so many groups has its own.
+/// The windows that can be open at once where each of `groups` groups has its own.
 pub fn copies_of_partition(groups: u16, size: u32, advance: u32) -> u32
     requires room { copies_of_partition groups size advance < 2 ^ 32 }
     requires advance { 1 ≤ advance }
@@ -126,7 +126,7 @@ pub fn copies_of_partition(groups: u16, size: u32, advance: u32) -> u32
     groups as u32 * copies_of_window(size, advance)
 }
 
-/// Windows of so many copies.
+/// Windows of `copies` copies.
 pub fn window_figures(copies: u32, source: &Figures, body: &Figures) -> Option<Figures>
     ensures { result ≡ small_of (window_figures copies source.now body.now) }
 {
@@ -143,7 +143,7 @@ pub fn group_figures(groups: u32, source: &Figures, body: &Figures) -> Option<Fi
     narrowed(groups_over(groups as u128, source, widened(body)))
 }
 
-/// Windows of each key, of so many copies for all keys.
+/// Windows of each key, of `copies` copies for all keys.
 pub fn partition_figures(copies: u32, source: &Figures, body: &Figures) -> Option<Figures>
     ensures { result ≡ small_of (partition_figures copies source.now body.now) }
 {

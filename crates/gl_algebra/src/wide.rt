@@ -228,7 +228,7 @@ fn stride_of(body: Wide) -> u128
     body.le.saturating_sub(body.a) + 1
 }
 
-// Windows of so many copies, over a source that is spaced already.
+// Windows of `copies` copies, over a source that is spaced already.
 pub(crate) fn windows_over(copies: u128, f: Wide, body: Wide) -> Wide
     requires copies { copies < 2 ^ 32 }
     requires source { IsWide f }
@@ -269,7 +269,7 @@ pub(crate) fn groups_over(groups: u128, f: Wide, body: Wide) -> Wide
     }
 }
 
-// Windows of each key, of so many copies for all keys, over a source that is spaced already.
+// Windows of each key, of `copies` copies for all keys, over a source that is spaced already.
 pub(crate) fn partitions_over(copies: u128, f: Wide, body: Wide) -> Wide
     requires copies { copies < 2 ^ 32 }
     requires source { IsWide f }

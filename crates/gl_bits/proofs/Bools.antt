@@ -1,5 +1,5 @@
 -- Plain facts about truth values, numbers and texts that are compared, and numbers of one bit.
-use Rattle.std.proofs.Common.{◌≡◌, ◌≢◌, ℕ, ◌^◌, ◌<◌, ◌⊎◌, inl, inr, Bool, true, false, not, List, refl, sym, ap, ◌∙◌, arith, eq-eqb, ne_eqb}
+use Rattle.std.proofs.Common.{◌≡◌, ◌≢◌, ℕ, ◌^◌, ◌<◌, ◌⊎◌, inl, inr, Bool, true, false, not, List, refl, sym, ap, subst, ◌∙◌, arith, eq-eqb, ne_eqb}
 use Rattle.std.specs.Prelude.{◌&&◌, ◌||◌, bytes_eq, nat_eq, if◌then◌else◌}
 use Rattle.std.proofs.lemmas.Bool.Decides.{eqb_tells}
 use Rattle.std.proofs.lemmas.Slice.Eq.{bytes_eq-Decides}
@@ -133,6 +133,14 @@ bytes_own xs = (bytes_eq-Decides xs xs).1 refl
 
 pub bytes_other : (xs ys : List ℕ) → (xs ≡ ys → ⊥) → bytes_eq xs ys ≡ false
 bytes_other xs ys h = else_false (bytes_eq xs ys) (λ e. h (bytes_same xs ys e))
+
+pub bytes_differ : (xs ys : List ℕ) → bytes_eq xs ys ≡ false → xs ≡ ys → ⊥
+bytes_differ xs ys h e = not_both (bytes_eq xs ys) (subst (λ (zs : List ℕ). bytes_eq xs zs ≡ true) e (bytes_own xs)) h
+
+pub bytes_both_ways : (xs ys : List ℕ) → bytes_eq xs ys ≡ bytes_eq ys xs
+bytes_both_ways xs ys = same_when (bytes_eq xs ys) (bytes_eq ys xs)
+    (λ h. subst (λ (zs : List ℕ). bytes_eq zs xs ≡ true) (bytes_same xs ys h) (bytes_own xs))
+    (λ h. subst (λ (zs : List ℕ). bytes_eq zs ys ≡ true) (bytes_same ys xs h) (bytes_own ys))
 
 pub bytes_turned : (xs ys : List ℕ) → bytes_eq xs ys ≡ false → bytes_eq ys xs ≡ false
 bytes_turned xs ys h = bytes_other ys xs (λ e. not_both (bytes_eq xs ys) ((bytes_eq-Decides xs ys).1 (sym e)) h)

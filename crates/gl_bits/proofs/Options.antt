@@ -1,5 +1,5 @@
--- Plain facts about what may be absent.
-use Rattle.std.proofs.Common.{◌≡◌, true, Option, Some, None, refl, sym, subst}
+-- Plain facts about what may be absent, or an error.
+use Rattle.std.proofs.Common.{◌≡◌, true, Option, Some, None, Result, Ok, Err, OnOk, refl, sym, subst}
 use Rattle.std.specs.Prelude.{is_some, option_map, option_and_then, IsSomeAnd}
 
 pub some_same : {A : Type 0} (x y : A) → Some x ≡ Some y → x ≡ y
@@ -24,6 +24,20 @@ some_there (Some x) h = (x, refl)
 pub map_some : {A B : Type 0} (f : A → B) (o : Option A) (y : B) → option_map f o ≡ Some y → (x : A) × (o ≡ Some x) × (y ≡ f x)
 map_some f None y h = absurd cc
 map_some f (Some x) y h = (x, refl, (let g : f x ≡ y = cc in sym g))
+
+-- what was there, and what became of it
+pub record FoundIn {A B : Type 0} (f : A → B) (o : Option A) (r : B) : Type 0 where
+  pub found : A
+  pub there : o ≡ Some found
+  pub is : f found ≡ r
+
+pub map_found : {A B : Type 0} (f : A → B) (o : Option A) (r : B) → option_map f o ≡ Some r → FoundIn f o r
+map_found f None r e = absurd cc
+map_found f (Some x) r e = record { found = x; there = refl; is = cc }
+
+pub on_ok : {T E : Type 0} {P Q : Type 0} (r : Result T E) → (P → Q) → OnOk r P → OnOk r Q
+on_ok (Ok x) f p = f p
+on_ok (Err e) f p = tt
 
 pub then_some : {A B : Type 0} (f : A → Option B) (o : Option A) (y : B) → option_and_then f o ≡ Some y → (x : A) × (o ≡ Some x) × (f x ≡ Some y)
 then_some f None y h = absurd cc

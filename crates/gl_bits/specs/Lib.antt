@@ -1,12 +1,2 @@
 pub mod Words
-pub mod Kinds
 pub mod Limits
-pub mod Lists
-pub mod Times
-pub mod Partitions
-pub mod Operators
-pub mod Totals
-pub mod Results
-pub mod Laws
-pub mod Tables
-pub mod WorkedPartitions

@@ -240,7 +240,7 @@ fn greatest(width: u8) -> u128
 }
 
 // The number without the bits past a width.
-pub(crate) fn wrapped(number: u128, width: u8) -> u128
+pub fn wrapped(number: u128, width: u8) -> u128
     requires some { 1 ≤ width }
     requires most { width ≤ 128 }
     ensures { result ≡ number % 2 ^ width }

@@ -3,7 +3,8 @@
 use crate::circuit::Circuit;
 use crate::kinds::push_value;
 use crate::trace::Trace;
-use gl_bits::{Kind, Memory};
+use gl_bits::Memory;
+use gl_values::Kind;
 use gl_wire::Wire;
 use std::alloc::{AllocError, Global};
 

@@ -35,7 +35,7 @@ pub fn begin(alloc: Global) -> Result<Bench, Memory>
     Ok(Bench { net, left, right })
 }
 
-/// The stream of a port, with so many pairs of columns, all of which carry the same tuple.
+/// The stream of a port, with `pairs` pairs of columns, all of which carry the same tuple.
 pub fn put_source(
     alloc: Global,
     net: &mut NetBuilder,
@@ -77,7 +77,7 @@ pub fn finished(net: NetBuilder) -> Result<Netlist, Memory>
     Ok(net.finish())
 }
 
-/// A stream whose tuples come so many cycles behind their beats, in so many cycles more, and so many with the end at most.
+/// When the tuples of a stream come behind their beats, and how many come with the end at most.
 #[derive(Clone, Copy)]
 pub struct Side {
     /// How many cycles after its beat the first tuple may come.

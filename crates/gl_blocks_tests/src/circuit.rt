@@ -3,17 +3,18 @@
 ghost use Rattle.std.specs.Prelude.{◌≡◌, ◌≤◌, ◌∷◌, [], All, IfOk, None, length, map, ℕ};
 ghost use Rattle.gl_algebra.specs.Columns.{AggFits};
 ghost use Rattle.gl_algebra.specs.FigureTable.{IsSound};
-ghost use Rattle.gl_bits.specs.Kinds.{IsKind, width_of};
+ghost use Rattle.gl_values.specs.Kinds.{IsKind, width_of};
 ghost use Rattle.gl_bits.specs.Words.{IsWidth};
 ghost use Rattle.gl_net.specs.Net.{open_at};
 ghost use Rattle.gl_blocks_tests.specs.Circuits.{IsSourceOf};
 
 use gl_algebra::Figures;
-use gl_bits::{Kind, Memory};
+use gl_bits::Memory;
 use gl_divide::divide;
 use gl_net::{Buses, NetBuilder, Netlist};
 use gl_queue::UnionOf;
 use gl_totals::Table;
+use gl_values::Kind;
 use gl_wire::{Emitted, Faults, Operator, Wire, pad};
 use std::alloc::Global;
 
@@ -135,7 +136,7 @@ pub(crate) fn divider_of(alloc: Global, first: u8, second: u8) -> Result<Circuit
     })
 }
 
-/// The columns, of these widths, so many cycles later.
+/// The columns, of these widths, `cycles` cycles later.
 pub(crate) fn padded_of(
     alloc: Global,
     first: u8,

@@ -6,7 +6,7 @@ use gl_bits::Memory;
 use gl_net::cost_of;
 use std::alloc::Global;
 
-/// The bits that a union of two columns of 16 bits holds, whose sides bring at most so many tuples with the end: of registers whether they are at
+/// The bits that a union of two columns of 16 bits holds, whose sides bring at most `most` tuples with the end: of registers whether they are at
 /// most twice the bits of the columns and of two lines, and 200 more.
 pub(crate) fn bits_of(alloc: Global, most: u16) -> Result<String, Memory> {
     let side = Side {

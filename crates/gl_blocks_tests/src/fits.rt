@@ -2,14 +2,15 @@
 
 ghost use Rattle.std.specs.Prelude.{All, IsTrue};
 ghost use Rattle.gl_algebra.specs.Columns.{AggFits, OpFits, OperandFits, SortFits, WeightFits};
-ghost use Rattle.gl_bits.specs.Kinds.{IsKind};
+ghost use Rattle.gl_values.specs.Kinds.{IsKind};
 
 use gl_algebra::columns::kind_of_operand;
 use gl_algebra::{ColOp, Operand, PlanAgg};
-use gl_bits::{Kind, Sort, Word};
+use gl_bits::Word;
+use gl_values::{Kind, Sort};
 
 /// Whether there is such a kind.
-#[tactic(auto, using(gl_bits::proofs::KindLemmas::tested_kind))]
+#[tactic(auto, using(gl_values::proofs::KindLemmas::tested_kind))]
 pub fn is_kind(kind: Kind) -> bool
     ensures { IsTrue result → IsKind kind }
 {

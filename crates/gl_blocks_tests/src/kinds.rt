@@ -1,7 +1,7 @@
 //! Kinds, and values of them: numbers in decimal, texts by their letters.
 
 use crate::fits::is_kind;
-use gl_bits::Kind;
+use gl_values::Kind;
 use std::alloc::AllocError;
 
 // A number of at most 8 bits; 0 where there is none.
@@ -18,7 +18,7 @@ pub(crate) fn kind_of(text: &str) -> Kind {
     }
 }
 
-// The letters of a text of so many bytes as a number: the first one highest, and zero bytes behind them.
+// The letters of a text of `bytes` bytes as a number: the first one highest, and zero bytes behind them.
 fn letters_of(text: &str, bytes: u8) -> u128 {
     let mut number: u128 = 0;
     for at in 0..usize::from(bytes) {

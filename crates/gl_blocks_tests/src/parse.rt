@@ -12,9 +12,10 @@ use crate::fits::{aggs_fit, is_kind, operands_fit, ops_fit};
 use crate::kinds::{kind_of, value_of};
 use gl_algebra::columns::{kind_of_agg, kind_of_op, kind_of_operand};
 use gl_algebra::{ColOp, Operand, PlanAgg};
-use gl_bits::{Kind, Listed, Memory, Op, Word};
+use gl_bits::{Listed, Memory, Word};
 use gl_rows::{ComputeRow, ProjectRow, SelectRow};
 use gl_totals::{Table, Totals};
+use gl_values::{Kind, Op};
 use std::alloc::Global;
 
 // No column, which fits nothing.
@@ -220,7 +221,7 @@ fn totalled(alloc: Global, kinds: [Kind; 2], text: &str) -> Result<Option<Circui
     Ok(Some(circuit))
 }
 
-// The columns, so many cycles later.
+// The columns, as many cycles later as the text says.
 fn padded(alloc: Global, kinds: [Kind; 2], text: &str) -> Result<Option<Circuit>, Memory> {
     let [first, second] = kinds;
     if !is_kind(first) || !is_kind(second) {

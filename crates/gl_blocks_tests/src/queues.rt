@@ -31,7 +31,7 @@ const PAIRS: Side = Side {
     most: 2,
 };
 
-// What a queue of so many places shows, for what comes, and where a letter holds it.
+// What a queue of `depth` places shows, for what comes, and where a letter holds it.
 fn queue_shows(alloc: Global, depth: u16, push: &str, hold: &str) -> Result<Vec<u8>, Memory> {
     let Bench {
         mut net,
@@ -58,7 +58,7 @@ fn queue_shows(alloc: Global, depth: u16, push: &str, hold: &str) -> Result<Vec<
     shown.letters(alloc, &netlist, push.as_bytes(), hold.as_bytes())
 }
 
-// What a union of two streams with these figures and so many pairs of columns shows.
+// What a union of two streams with these figures and `pairs` pairs of columns shows.
 fn union_shows(
     alloc: Global,
     sides: (Side, Side),
@@ -241,7 +241,7 @@ fn figures_told(alloc: Global, f: Figures) -> Result<String, AllocError> {
     )
 }
 
-// The bits of an address in a queue of so many places, at most 2^32.
+// The bits of an address in a queue of `depth` places, at most 2^32.
 fn bits_told(alloc: Global, depth: u64) -> Result<String, AllocError> {
     if depth <= 4_294_967_296 {
         format!(in alloc; "> {}", address_bits(depth))

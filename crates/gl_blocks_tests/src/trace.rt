@@ -41,7 +41,7 @@ fn above(value: u128, low: u8) -> u128 {
     if low < 128 { value >> low } else { 0 }
 }
 
-// A word above another one of so many bits.
+// A word above another one of `width` bits.
 fn joined(high: u128, low: u128, width: u8) -> u128 {
     high.checked_shl(u32::from(width)).unwrap_or(0) | low
 }

@@ -4,7 +4,7 @@ use Rattle.std.specs.Prelude.{bytes_eq, if◌then◌else◌}
 use Rattle.std.specs.List.{AllByRecursion, list_any}
 use Rattle.gl_bits.proofs.AllLists.{all_mapped, all_weaker, length_map}
 use Rattle.gl_bits.proofs.Bools.{bytes_own, bytes_turned, neither}
-use Rattle.gl_bits.specs.Kinds.{IsKind, width_of}
+use Rattle.gl_values.specs.Kinds.{IsKind, width_of}
 use Rattle.gl_bits.specs.Limits.{most_ports}
 use Rattle.gl_bits.specs.Words.{IsWidth}
 use Rattle.gl_schema.specs.declared.schema.Column.{Column}

@@ -12,9 +12,9 @@ use Rattle.gl_query.specs.Laws.{AcceptedHaveRealColumns}
 use Rattle.gl_verilog.specs.Module.{Module, Nets, Memories}
 use Rattle.gl_verilog.specs.Run.{port_of}
 use Rattle.gl_verilog.specs.Text.{HasModule}
-use Rattle.gl_verilog_orders.specs.Events.{IsEventRun}
-use Rattle.gl_verilog_orders.specs.declared.start.Start.{Start}
-use Rattle.gl_verilog_orders.proofs.EventRuns.{is_run}
+use Rattle.gl_verilog.specs.Events.{IsEventRun}
+use Rattle.gl_verilog.specs.declared.start.Start.{Start}
+use Rattle.gl_verilog.proofs.EventRuns.{is_run}
 use Rattle.gl_verilog_ports.specs.Profile.{HasProfile, result_names}
 use Rattle.gl_vcd.specs.RoundTrip.{DumpsReadBack}
 use Rattle.gl_vcd.specs.Written.{dump_text, ports_of}

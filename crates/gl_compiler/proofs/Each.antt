@@ -1,8 +1,8 @@
 -- From the runs of the module that was read to each run of the text's module.
 use Rattle.std.proofs.Common.{◌≡◌, ℕ, List, sym, subst, map}
 use Rattle.std.specs.Prelude.{IsOk}
-use Rattle.gl_bits.specs.declared.kind.Kind.{Kind}
-use Rattle.gl_bits.specs.Kinds.{width_of}
+use Rattle.gl_values.specs.declared.kind.Kind.{Kind}
+use Rattle.gl_values.specs.Kinds.{width_of}
 use Rattle.gl_schema.specs.declared.schema.Schema.{Schema}
 use Rattle.gl_schema.specs.Beats.{Beat, AreBeats}
 use Rattle.gl_schema.specs.Ports.{PortValues}
@@ -11,7 +11,7 @@ use Rattle.gl_verilog.specs.declared.module.Module.{Module as Rust}
 use Rattle.gl_verilog.specs.Run.{port_of}
 use Rattle.gl_verilog.specs.Text.{HasModule}
 use Rattle.gl_verilog.specs.View.{module_of}
-use Rattle.gl_verilog_orders.specs.declared.start.Start.{Start}
+use Rattle.gl_verilog.specs.declared.start.Start.{Start}
 use Rattle.gl_outside.specs.States.{SinkState}
 use Rattle.gl_runner.specs.declared.executing.Outcome.{Outcome}
 use Rattle.gl_runner.specs.declared.executing.Outcome.TheVariants.{Done, WriteFault, Memory}

@@ -1,7 +1,7 @@
 -- The ports of a text's module that meets its statement fit the schema, and show the columns of the result.
 use Rattle.std.proofs.Common.{◌≡◌, ℕ, List, map}
 use Rattle.std.specs.Prelude.{IsOk}
-use Rattle.gl_bits.specs.Kinds.{width_of}
+use Rattle.gl_values.specs.Kinds.{width_of}
 use Rattle.gl_schema.specs.declared.schema.Schema.{Schema}
 use Rattle.gl_schema.specs.Schemas.{IsSchema, column_names, kinds_of}
 use Rattle.gl_schema.specs.Ports.{out_column}

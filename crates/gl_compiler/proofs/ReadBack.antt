@@ -16,8 +16,8 @@ use Rattle.gl_verilog.specs.Run.{Fit, port_of}
 use Rattle.gl_verilog.specs.Text.{HasModule}
 use Rattle.gl_verilog.specs.Valid.{AreDistinct}
 use Rattle.gl_verilog.proofs.Distinct.{number_at}
-use Rattle.gl_verilog_orders.specs.Events.{IsEventRun}
-use Rattle.gl_verilog_orders.proofs.EventRuns.{is_run}
+use Rattle.gl_verilog.specs.Events.{IsEventRun}
+use Rattle.gl_verilog.proofs.EventRuns.{is_run}
 use Rattle.gl_verilog_ports.proofs.Declared.{distinct_take, get_take}
 use Rattle.gl_vcd.specs.Dumped.{IsDumped, Port}
 use Rattle.gl_vcd.specs.Dumped as dumped

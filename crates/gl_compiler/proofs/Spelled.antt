@@ -1,9 +1,10 @@
 -- The names of a text's module and of its ports are tokens of a dump.
 use Rattle.std.proofs.Common.{◌≡◌, ℕ, ◌+◌, true, List, [], ◌∷◌, ◌++◌, length, map, take, Option, Some, None, refl, sym, ap, ◌∙◌, subst, append_assoc, take_at}
-use Rattle.std.specs.Prelude.{option_and_then, option_map}
+use Rattle.std.specs.Prelude.{option_and_then}
 use Rattle.std.specs.List.{AllByRecursion}
 use Rattle.std.proofs.lemmas.List.{append-nil}
 use Rattle.gl_bits.proofs.AllLists.{all_back, all_front, length_map}
+use Rattle.gl_bits.proofs.Options.{FoundIn, map_found}
 use Rattle.gl_verilog.specs.Module.{Module, Declaration, Wire, Register, Memory, number_of}
 use Rattle.gl_verilog.specs.Resolve.{Resolved, resolve_items, resolve_expr, resolve_statement, module_from, declare, declare_port, port_kind, three, with_assignment, with_block, clocked, address_bits_of, decimal_number}
 use Rattle.gl_verilog.specs.Text.{HasModule}
@@ -60,15 +61,6 @@ items_go_on ds (Always clock body ∷ is) r e =
     let all = three_there with_block (clocked ds clock) (resolve_statement ds body) (resolve_items ds is) r e in
     let same : all.third.declarations ≡ r.declarations = ap (λ (x : Resolved). x.declarations) all.is in
     subst (GoesOn ds) same (items_go_on ds is all.third all.last)
-
-record FoundIn {A B : Type 0} (f : A → B) (o : Option A) (r : B) : Type 0 where
-  found : A
-  there : o ≡ Some found
-  is : f found ≡ r
-
-map_found : {A B : Type 0} (f : A → B) (o : Option A) (r : B) → option_map f o ≡ Some r → FoundIn f o r
-map_found f None r e = absurd cc
-map_found f (Some x) r e = record { found = x; there = refl; is = cc }
 
 -- ---- their names are tokens
 

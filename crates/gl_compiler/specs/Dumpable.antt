@@ -1,7 +1,7 @@
 -- Which modules a dump can tell, whatever they run over, and when a text tells a run of one.
 use Rattle.std.specs.Prelude.{◌≡◌, ◌≤◌, ◌+◌, ℕ, true, false, List, length, map}
 use Rattle.std.specs.List.{AllByRecursion}
-use Rattle.gl_bits.specs.declared.kind.Kind.TheVariants.{Unsigned}
+use Rattle.gl_values.specs.declared.kind.Kind.TheVariants.{Unsigned}
 use Rattle.gl_bits.specs.Limits.{latest_time, most_ports}
 use Rattle.gl_bits.specs.Words.{IsWidth}
 use Rattle.gl_schema.specs.declared.schema.Schema.{Schema}
@@ -11,7 +11,7 @@ use Rattle.gl_schema.specs.Ports.{PortValues}
 use Rattle.gl_schema.specs.Seen.{lines, seen}
 use Rattle.gl_query.specs.declared.tree.Statement.{Statement}
 use Rattle.gl_verilog.specs.Module.{Module}
-use Rattle.gl_verilog_orders.specs.declared.start.Start.{Start}
+use Rattle.gl_verilog.specs.declared.start.Start.{Start}
 use Rattle.gl_verilog_ports.specs.Profile.{result_names, result_widths}
 use Rattle.gl_vcd.specs.Dumped.{IsDumped, OfLines}
 use Rattle.gl_vcd.specs.Written.{ports_of}

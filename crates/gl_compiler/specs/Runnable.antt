@@ -1,7 +1,7 @@
 -- Which compiled queries can be run.
 use Rattle.std.specs.Prelude.{◌≡◌, ◌≤◌, ◌^◌, length}
 use Rattle.std.specs.List.{AllByRecursion}
-use Rattle.gl_bits.specs.Kinds.{IsKind}
+use Rattle.gl_values.specs.Kinds.{IsKind}
 use Rattle.gl_schema.specs.Schemas.{IsSchema, kinds_of}
 use Rattle.gl_compiler.specs.declared.compiling.Compiled.{Compiled}
 use Rattle.gl_compiler.specs.Meets.{Meets, result_columns}

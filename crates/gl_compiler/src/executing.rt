@@ -2,19 +2,19 @@
 
 ghost use Rattle.std.specs.Prelude.{◌≤◌, length};
 ghost use Rattle.std.specs.List.{AllByRecursion};
-ghost use Rattle.gl_bits.specs.Kinds.{IsKind};
+ghost use Rattle.gl_values.specs.Kinds.{IsKind};
 ghost use Rattle.gl_schema.specs.Beats.{AreBeats};
 ghost use Rattle.gl_schema.specs.Schemas.{IsSchema};
 ghost use Rattle.gl_tuples.specs.Gaps.{plain_beats};
 ghost use Rattle.gl_runner.specs.Prints.{CanRun, OfEachRun, Ran};
 
-use gl_bits::Kind;
 use gl_outside::Sink;
 use gl_runner::{Outcome, Task, execute_module};
 use gl_schema::Schema;
 use gl_tuples::Beats;
+use gl_values::Kind;
+use gl_verilog::Start;
 use gl_verilog_grammar::laws::one_module;
-use gl_verilog_orders::Start;
 use gl_verilog_ports::laws::inputs_are_ports;
 use gl_verilog_reader::read_known_module;
 use std::alloc::Global;

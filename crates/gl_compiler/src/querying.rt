@@ -2,7 +2,7 @@
 
 ghost use Rattle.std.specs.Prelude.{◌≡◌, ◌≤◌, ◌^◌, IfOk, IfErr, length};
 ghost use Rattle.std.specs.List.{AllByRecursion};
-ghost use Rattle.gl_bits.specs.Kinds.{IsKind};
+ghost use Rattle.gl_values.specs.Kinds.{IsKind};
 ghost use Rattle.gl_schema.specs.Schemas.{IsSchema, kinds_of};
 ghost use Rattle.gl_query.specs.declared.tree.Statement.{Statement as Stated};
 ghost use Rattle.gl_algebra.specs.Added.{placed_at};

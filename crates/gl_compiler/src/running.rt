@@ -13,7 +13,7 @@ use gl_outside::Sink;
 use gl_query::laws::accepted_have_real_columns;
 use gl_runner::Outcome;
 use gl_tuples::Beats;
-use gl_verilog_orders::Start;
+use gl_verilog::Start;
 use std::alloc::Global;
 
 /// Runs the text of a compiled query over beats of its schema that keep its gap, in cycles, and writes

@@ -3,14 +3,14 @@ use Rattle.std.proofs.Common.{◌≡◌, ℕ, ◌^◌, ◌<◌, true, List, leng
 use Rattle.std.specs.Prelude.{IsTrue, bytes_eq, neg_ℤ, pos}
 use Rattle.std.proofs.lemmas.List.{length-map}
 use Rattle.std.proofs.lemmas.Option.{slice_get_within}
-use Rattle.gl_bits.specs.Kinds.{IsKind, bytes_in, can_cast, negative_word, width_of}
-use Rattle.gl_bits.specs.Operators.{sort_of}
-use Rattle.gl_bits.specs.declared.kind.Kind.{Kind}
-use Rattle.gl_bits.specs.declared.kind.Kind.TheVariants.{Unsigned}
-use Rattle.gl_bits.specs.declared.op.Sort.{Sort}
-use Rattle.gl_bits.specs.declared.op.Sort.TheVariants.{Arithmetic, Comparison, Logic}
-use Rattle.gl_bits.proofs.KindLemmas.{kind_some, range_below}
-use Rattle.gl_bits.proofs.Signs.{word_fits}
+use Rattle.gl_values.specs.Kinds.{IsKind, bytes_in, can_cast, negative_word, width_of}
+use Rattle.gl_values.specs.Operators.{sort_of}
+use Rattle.gl_values.specs.declared.kind.Kind.{Kind}
+use Rattle.gl_values.specs.declared.kind.Kind.TheVariants.{Unsigned}
+use Rattle.gl_values.specs.declared.op.Sort.{Sort}
+use Rattle.gl_values.specs.declared.op.Sort.TheVariants.{Arithmetic, Comparison, Logic}
+use Rattle.gl_values.proofs.KindLemmas.{kind_some, range_below}
+use Rattle.gl_values.proofs.Signs.{word_fits}
 use Rattle.gl_schema.specs.declared.schema.Column.{Column as NamedColumn}
 use Rattle.gl_schema.specs.Schemas.{kinds_of, has_column, text_word}
 use Rattle.gl_query.specs.Shapes.{ExprShape}

@@ -5,17 +5,17 @@ use Rattle.std.specs.List.{AllByRecursion, AllZip, list_any, position_or_len}
 use Rattle.std.proofs.lemmas.List.{length-map, get_or_append_left, get_or-append-add}
 use Rattle.std.proofs.lemmas.Option.{slice_get-map, slice_get_within, get_or_from_slice_get, same_Some}
 use Rattle.indexmap.specs.IndexSet.{insert_key, insert_all}
-use Rattle.gl_bits.specs.Kinds.{can_cast}
+use Rattle.gl_values.specs.Kinds.{can_cast}
 use Rattle.gl_bits.specs.Words.{not_of}
-use Rattle.gl_bits.specs.declared.kind.Kind.{Kind}
+use Rattle.gl_values.specs.declared.kind.Kind.{Kind}
 use Rattle.gl_algebra.specs.declared.node.Operand.{Operand}
-use Rattle.gl_bits.specs.declared.op.Op.{Op}
+use Rattle.gl_values.specs.declared.op.Op.{Op}
 use Rattle.gl_algebra.specs.declared.node.ColOp.{ColOp}
 use Rattle.gl_algebra.specs.declared.node.ColOp.TheVariants as op
-use Rattle.gl_bits.specs.Operators.{result_kind, sort_of}
+use Rattle.gl_values.specs.Operators.{result_kind, sort_of}
 use Rattle.gl_bits.proofs.AllLists.{all_append, all_front, all_back}
 use Rattle.gl_bits.proofs.Bools.{by_cases}
-use Rattle.gl_bits.specs.Results.{Row}
+use Rattle.gl_values.specs.Results.{Row}
 use Rattle.gl_algebra.specs.Columns.{bit_kind, kind_of_operand, kind_of_op, OperandFits, OpFits, SortFits}
 use Rattle.gl_algebra.specs.Values.{value_of_operand, value_of_op}
 use Rattle.gl_algebra.specs.Results.{computed}

@@ -1,10 +1,10 @@
 -- Rows that are as long as columns are many: in parts of a list, and in results.
 use Rattle.std.proofs.Common.{◌≡◌, ℕ, Bool, List, [], ◌∷◌, sym, subst, map, take, nat_eq}
 use Rattle.std.specs.List.{AllByRecursion}
-use Rattle.gl_bits.specs.Lists.{Group, groups, keys_of, rows_with}
-use Rattle.gl_bits.specs.Partitions.{parts}
+use Rattle.gl_values.specs.Lists.{Group, groups, keys_of, rows_with}
+use Rattle.gl_values.specs.Partitions.{parts}
 use Rattle.gl_bits.proofs.AllLists.{all_weaker}
-use Rattle.gl_bits.specs.Results.{Row}
+use Rattle.gl_values.specs.Results.{Row}
 use Rattle.gl_schema.specs.declared.schema.Column.{Column}
 use Rattle.gl_schema.specs.declared.schema.Stream.{Stream}
 use Rattle.gl_query.specs.Shapes.{QueryShape}

@@ -3,10 +3,10 @@ use Rattle.std.proofs.Common.{◌≡◌, ◌≢◌, ℕ, Bool, true, false, ◌&
 use Rattle.std.specs.List.{AllByRecursion}
 use Rattle.std.specs.Prelude.{IsSome}
 use Rattle.std.proofs.lemmas.List.{map-append}
-use Rattle.gl_bits.specs.Lists.{Group, groups, has_further}
-use Rattle.gl_bits.specs.Partitions.{parts}
-use Rattle.gl_bits.specs.Results.{Row, Results, AreBeside, AreJoined, IsOfBoth, IsOfGroup, IsOfParts}
-use Rattle.gl_bits.specs.declared.kind.Kind.{Kind}
+use Rattle.gl_values.specs.Lists.{Group, groups, has_further}
+use Rattle.gl_values.specs.Partitions.{parts}
+use Rattle.gl_values.specs.Results.{Row, Results, AreBeside, AreJoined, IsOfBoth, IsOfGroup, IsOfParts}
+use Rattle.gl_values.specs.declared.kind.Kind.{Kind}
 use Rattle.gl_schema.specs.declared.schema.Stream.{Stream}
 use Rattle.gl_schema.specs.Schemas.{kinds_of}
 use Rattle.gl_query.specs.declared.tree.Measure.{Measure}

@@ -3,9 +3,9 @@ use Rattle.std.proofs.Common.{◌≡◌, ◌≢◌, ℕ, ◌<◌, Bool, true, fa
 use Rattle.std.specs.List.{AllByRecursion}
 use Rattle.std.specs.Prelude.{bytes_eq}
 use Rattle.std.proofs.lemmas.List.Elements.{All-nil, All-from_recursion}
-use Rattle.gl_bits.specs.Kinds.{IsKind}
-use Rattle.gl_bits.specs.Results.{Row}
-use Rattle.gl_bits.specs.declared.kind.Kind.{Kind}
+use Rattle.gl_values.specs.Kinds.{IsKind}
+use Rattle.gl_values.specs.Results.{Row}
+use Rattle.gl_values.specs.declared.kind.Kind.{Kind}
 use Rattle.gl_bits.proofs.AllLists.{all_append, all_mapped}
 use Rattle.gl_bits.proofs.Bools.{by_cases}
 use Rattle.gl_schema.specs.declared.schema.Column.{Column as NamedColumn}

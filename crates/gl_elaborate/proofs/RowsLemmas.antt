@@ -4,10 +4,10 @@ use Rattle.std.specs.Prelude.{IsTrue, option_to_list}
 use Rattle.std.specs.List.{AllByRecursion, AllZip, range_with_len}
 use Rattle.std.proofs.lemmas.List.{length-map}
 use Rattle.std.proofs.lemmas.Option.{slice_get-get_or}
-use Rattle.gl_bits.specs.Kinds.{can_cast, width_of}
-use Rattle.gl_bits.specs.Operators.{cast_of}
-use Rattle.gl_bits.specs.declared.kind.Kind.{Kind}
-use Rattle.gl_bits.specs.declared.kind.Kind.TheVariants.{Unsigned}
+use Rattle.gl_values.specs.Kinds.{can_cast, width_of}
+use Rattle.gl_values.specs.Operators.{cast_of}
+use Rattle.gl_values.specs.declared.kind.Kind.{Kind}
+use Rattle.gl_values.specs.declared.kind.Kind.TheVariants.{Unsigned}
 use Rattle.gl_schema.specs.declared.schema.Column.{Column as NamedColumn}
 use Rattle.gl_schema.specs.Schemas.{kinds_of}
 use Rattle.gl_query.specs.Shapes.{ExprShape, ItemShape, PickShape}
@@ -19,7 +19,7 @@ use Rattle.gl_query.specs.Results.{picked, keeps, kept}
 use Rattle.gl_algebra.specs.declared.node.PlanNode.{PlanNode}
 use Rattle.gl_algebra.specs.Columns.{bit_kind, kind_of_operand, OperandFits}
 use Rattle.gl_algebra.specs.Shapes.{Shape, Pace, unsteady}
-use Rattle.gl_bits.specs.Results.{Row, Results, IsChanged}
+use Rattle.gl_values.specs.Results.{Row, Results, IsChanged}
 use Rattle.gl_bits.proofs.Bools.{by_cases}
 use Rattle.gl_query.specs.Laws.{AreKinds, IsLongAs}
 use Rattle.gl_algebra.specs.Added.{Placed}

@@ -4,7 +4,7 @@ use Rattle.std.specs.Prelude.{option_map, option_to_list}
 use Rattle.std.specs.List.{AllByRecursion, AllZip}
 use Rattle.std.proofs.lemmas.List.{length-map, map-id}
 use Rattle.std.proofs.lemmas.List.Elements.{All-cons, All-nil, All-from_recursion}
-use Rattle.gl_bits.specs.declared.kind.Kind.{Kind}
+use Rattle.gl_values.specs.declared.kind.Kind.{Kind}
 use Rattle.gl_algebra.specs.declared.node.Operand.{Operand}
 use Rattle.gl_algebra.specs.declared.node.ColOp.{ColOp}
 use Rattle.gl_algebra.specs.declared.node.PlanAgg.{PlanAgg}
@@ -13,7 +13,7 @@ use Rattle.gl_algebra.specs.declared.node.PlanNode.TheVariants as node
 use Rattle.gl_algebra.specs.Columns.{bit_kind, kind_of_operand, kind_of_agg, OperandFits, OpFits, AggFits}
 use Rattle.gl_algebra.specs.Fits.{Fits}
 use Rattle.gl_algebra.specs.Shapes.{Shape, unsteady, once, shape_from, shape_of}
-use Rattle.gl_bits.specs.Results.{Row, Results, IsChanged}
+use Rattle.gl_values.specs.Results.{Row, Results, IsChanged}
 use Rattle.gl_bits.proofs.AllLists.{all_append, all_front, all_back, map_map}
 use Rattle.gl_algebra.specs.Added.{Placed, added}
 use Rattle.gl_algebra.specs.Results.{Inputs, Meaning, IsPlanResult, meaning_from, computed, selected, projected, totalled}

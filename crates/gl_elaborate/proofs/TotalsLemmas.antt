@@ -5,9 +5,9 @@ use Rattle.std.specs.List.{AllByRecursion, AllZip, All}
 use Rattle.std.proofs.lemmas.List.{length-map}
 use Rattle.std.proofs.lemmas.List.Elements.{All-from_recursion}
 use Rattle.gl_bits.specs.Words.{bits_of}
-use Rattle.gl_bits.specs.Kinds.{IsKind, is_number, width_of}
-use Rattle.gl_bits.specs.Totals.{count_of, sum_total, least_of, greatest_of, average_of, weighted_sum}
-use Rattle.gl_bits.specs.declared.kind.Kind.{Kind}
+use Rattle.gl_values.specs.Kinds.{IsKind, is_number, width_of}
+use Rattle.gl_values.specs.Totals.{count_of, sum_total, least_of, greatest_of, average_of, weighted_sum}
+use Rattle.gl_values.specs.declared.kind.Kind.{Kind}
 use Rattle.gl_schema.specs.declared.schema.Column.{Column as NamedColumn}
 use Rattle.gl_schema.specs.Schemas.{kinds_of}
 use Rattle.gl_query.specs.Shapes.{ExprShape, AggShape, AggItemShape}
@@ -25,9 +25,9 @@ use Rattle.gl_algebra.specs.Shapes.{Shape, once, shape_of}
 use Rattle.gl_algebra.specs.FigureTable.{delay_of_agg, delay_of_aggs}
 use Rattle.gl_elaborate.specs.Figures.{agg_delay, aggs_delay}
 use Rattle.gl_bits.specs.Words.{IsWidth}
-use Rattle.gl_bits.specs.Results.{Row, Results, IsChanged}
+use Rattle.gl_values.specs.Results.{Row, Results, IsChanged}
 use Rattle.gl_bits.proofs.AllLists.{all_append}
-use Rattle.gl_bits.proofs.KindLemmas.{kind_some, range_below}
+use Rattle.gl_values.proofs.KindLemmas.{kind_some, range_below}
 use Rattle.gl_query.specs.Laws.{AreKinds}
 use Rattle.gl_query.specs.Values.{IsNumberOf}
 use Rattle.gl_algebra.specs.Added.{Placed}

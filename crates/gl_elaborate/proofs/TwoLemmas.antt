@@ -3,9 +3,9 @@ use Rattle.std.proofs.Common.{◌≡◌, ◌≢◌, ℕ, ◌<◌, ◌≤◌, Boo
 use Rattle.std.specs.List.{AllByRecursion}
 use Rattle.std.specs.Prelude.{not}
 use Rattle.std.proofs.lemmas.List.Elements.{All-cons, All-nil, All-from_recursion}
-use Rattle.gl_bits.specs.Lists.{IsInterleaving, groups, has_further}
-use Rattle.gl_bits.specs.Partitions.{parts}
-use Rattle.gl_bits.specs.Results.{Row, IsOfBoth, AreBeside, IsOfParts, IsOfGroup}
+use Rattle.gl_values.specs.Lists.{IsInterleaving, groups, has_further}
+use Rattle.gl_values.specs.Partitions.{parts}
+use Rattle.gl_values.specs.Results.{Row, IsOfBoth, AreBeside, IsOfParts, IsOfGroup}
 use Rattle.gl_query.specs.declared.tree.Measure.{Measure}
 use Rattle.gl_query.specs.declared.tree.Measure.TheVariants.{Tuples, Time}
 use Rattle.gl_query.specs.Accepted.{IsWindow}

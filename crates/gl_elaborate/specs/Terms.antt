@@ -1,11 +1,11 @@
 -- Expressions over numbered columns: names are looked up, and each literal has the kind that its place gives.
 use Rattle.std.specs.Prelude.{ℕ, ◌+◌, max, List, [], ◌∷◌, ◌≡◌, ◌<◌, IsTrue, length, slice_index}
 use Rattle.gl_bits.specs.Words.{Word, IsWord, not_of}
-use Rattle.gl_bits.specs.Kinds.{bytes_in, can_cast, negative_word, width_of, IsKind}
-use Rattle.gl_bits.specs.Operators.{cast_of, sort_of, result_kind, operate}
-use Rattle.gl_bits.specs.declared.kind.Kind.{Kind}
-use Rattle.gl_bits.specs.declared.kind.Kind.TheVariants.{Unsigned}
-use Rattle.gl_bits.specs.declared.op.Op.{Op}
+use Rattle.gl_values.specs.Kinds.{bytes_in, can_cast, negative_word, width_of, IsKind}
+use Rattle.gl_values.specs.Operators.{cast_of, sort_of, result_kind, operate}
+use Rattle.gl_values.specs.declared.kind.Kind.{Kind}
+use Rattle.gl_values.specs.declared.kind.Kind.TheVariants.{Unsigned}
+use Rattle.gl_values.specs.declared.op.Op.{Op}
 use Rattle.gl_schema.specs.declared.schema.Column.{Column as NamedColumn}
 use Rattle.gl_schema.specs.Schemas.{text_word}
 use Rattle.gl_query.specs.Shapes.{ExprShape}

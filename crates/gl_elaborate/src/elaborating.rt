@@ -27,7 +27,7 @@ use gl_query_check::Checked;
 use gl_schema::Columns;
 use std::alloc::Global;
 
-// How windows are cut: each has so many rows or ticks, and one begins at each `advance`.
+// How windows are cut: each has `size` rows or ticks, and one begins at each `advance`.
 #[derive(Clone, Copy)]
 struct Cut {
     size: u128,

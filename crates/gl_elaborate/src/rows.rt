@@ -17,10 +17,11 @@ ghost use Rattle.gl_elaborate.specs.Fitting.{CanPlaceRows, FilterTerm, ProjectFi
 use crate::levels::{levelled, put};
 use crate::{Tree, operand_of, tree_of};
 use gl_algebra::{Operand, Operands, Plan, PlanId, PlanNode};
-use gl_bits::{Kind, Listed, Memory};
+use gl_bits::{Listed, Memory};
 use gl_query::kinds::kind_alone;
 use gl_query::{Expr, Item, Pick};
 use gl_schema::Column;
+use gl_values::Kind;
 use std::alloc::Global;
 
 // Adds the trees of items.

@@ -3,16 +3,17 @@
 ghost use Rattle.std.specs.Prelude.{◌≡◌, ◌<◌, [], length, IfOk};
 ghost use Rattle.gl_schema.specs.Schemas.{kinds_of, text_word};
 ghost use Rattle.gl_query.specs.Shapes.{expr_shape};
-ghost use Rattle.gl_bits.specs.Kinds.{bytes_in, negative_word};
+ghost use Rattle.gl_values.specs.Kinds.{bytes_in, negative_word};
 ghost use Rattle.gl_query.specs.Values.{HasKind, IsLettersOf};
 ghost use Rattle.gl_elaborate.specs.Terms.{literal, term_of, IsTerm};
 ghost use Rattle.gl_elaborate.specs.Trees.{term};
 
 use crate::trees::Tree;
-use gl_bits::{Kind, Memory, Word};
+use gl_bits::{Memory, Word};
 use gl_query::Expr;
 use gl_query::kinds::{column_number, kind_alone, operand_place};
 use gl_schema::{Column, text_number};
+use gl_values::Kind;
 use std::alloc::Global;
 
 // A literal of a kind.

@@ -2,7 +2,7 @@
 
 ghost use Rattle.std.specs.Prelude.{◌≡◌, ◌<◌, ◌^◌, ◌++◌, ◌∷◌, [], length, map, IfOk, OnOk};
 ghost use Rattle.std.specs.List.{AllByRecursion};
-ghost use Rattle.gl_bits.specs.Kinds.{IsKind, width_of};
+ghost use Rattle.gl_values.specs.Kinds.{IsKind, width_of};
 ghost use Rattle.gl_schema.specs.Schemas.{kinds_of};
 ghost use Rattle.gl_query.specs.declared.tree.Num.{Num};
 ghost use Rattle.gl_query.specs.Shapes.{agg_item_shape, agg_shape, expr_shape, AggItemShape};
@@ -18,10 +18,11 @@ ghost use Rattle.gl_elaborate.specs.Fitting.{CanPlaceTotal, TotalsFit};
 use crate::levels::{levelled, put};
 use crate::{Tree, operand_of, tree_of};
 use gl_algebra::{Operand, Plan, PlanAgg, PlanAggs, PlanId, PlanNode, Weights};
-use gl_bits::{Kind, Listed, Memory, Word};
+use gl_bits::{Listed, Memory, Word};
 use gl_query::kinds::{kind_alone, kind_of};
 use gl_query::{Agg, AggItem, Expr, Num};
 use gl_schema::Column;
+use gl_values::Kind;
 use std::alloc::Global;
 
 // Adds the tree of an expression.

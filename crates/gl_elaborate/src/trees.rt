@@ -5,7 +5,8 @@ ghost use Rattle.gl_elaborate.specs.Levels.{leaf_of, op_of, operand_of};
 ghost use Rattle.gl_elaborate.specs.Trees.{term};
 
 use gl_algebra::{ColOp, Operand};
-use gl_bits::{Kind, Op, Word};
+use gl_bits::Word;
+use gl_values::{Kind, Op};
 
 /// An expression over the columns of a node, by their numbers.
 #[derive(Drop)]

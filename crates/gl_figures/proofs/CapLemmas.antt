@@ -1,7 +1,8 @@
 -- Copies and weights from capped ones are the same but for the cap, and a node has no more copies than it weighs.
 use Rattle.std.proofs.Common.{◌≡◌, ℕ, ◌+◌, ◌*◌, ◌^◌, ◌<◌, ◌≤◌, ◌⊎◌, inl, inr, List, length, All, refl, ap, arith, lit<}
-use Rattle.std.proofs.Math.Nat.{mul-le-mul_left, mul-le-mul_right}
+use Rattle.std.proofs.Math.Nat.{mul-le-mul_left}
 use Rattle.std.proofs.lemmas.Bool.{cases_lt}
+use Rattle.gl_bits.proofs.Numbers.{le_times}
 use Rattle.gl_algebra.specs.declared.figures.Figures.{Figures}
 use Rattle.gl_algebra.specs.declared.node.PlanNode.{PlanNode}
 use Rattle.gl_algebra.specs.declared.node.PlanNode.TheVariants.{Stream, Body, Compute, Select, Project, Aggregate, Union, Beside, Window, TimeWindow, Group, Partition}
@@ -20,9 +21,6 @@ use Rattle.gl_figures.specs.Known.{capped_at}
 -- two numbers are one, or both pass the cap
 abbrev Alike : ℕ → ℕ → Type 0
 Alike x y = (x ≡ y) ⊎ ((2 ^ 62 ≤ x) × (2 ^ 62 ≤ y))
-
-le_times : (c x : ℕ) → 1 ≤ c → x ≤ c * x
-le_times c x some = let least : 1 * x ≤ c * x = mul-le-mul_right x some in omega arith
 
 -- a multiple of a sum with a capped number
 times_alike : (c k b : ℕ) → 1 ≤ c → Alike (c * (capped b + k)) (c * (b + k))

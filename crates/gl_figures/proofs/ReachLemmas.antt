@@ -8,13 +8,13 @@ use Rattle.gl_bits.proofs.AllLists.{get_there}
 use Rattle.gl_algebra.specs.declared.node.PlanNode.{PlanNode}
 use Rattle.gl_algebra.specs.Cost.{keys_of, lean_of, store_of}
 use Rattle.gl_algebra.specs.Fits.{IsPlan}
+use Rattle.gl_algebra.specs.Laws.{NodesFollowTables}
 use Rattle.gl_algebra.specs.Nodewise.{named_by}
 use Rattle.gl_algebra.specs.Views.{body_of, children_of}
 use Rattle.gl_algebra.specs.Weights.{sum_over, sum_over_children, weight_of}
 use Rattle.gl_algebra.proofs.ListLemmas.{all_left}
 use Rattle.gl_algebra.proofs.NodewiseLemmas.{Agree, AreInOrder, nodewise-node}
 use Rattle.gl_algebra.proofs.PlanLemmas.{in_order}
-use Rattle.gl_algebra.proofs.TableLemmas.{nodes_follow_tables}
 use Rattle.gl_figures.specs.Reach.{OnceIsLess, below_from, lies_below, reaches, reached, sum_where, weight_part, lean_part, keys_part, store_part}
 use Rattle.gl_figures.proofs.SumLemmas.{sum-one, sum-either, sum-any, sum-same}
 
@@ -104,18 +104,18 @@ module _ (nodes : List PlanNode) (order : AreInOrder nodes (length nodes)) (own 
 
 -- ---- weight, registers, keys and memories
 
-module _ (nodes : List PlanNode) (plan : IsPlan nodes) where
+module _ (follow : NodesFollowTables) (nodes : List PlanNode) (plan : IsPlan nodes) where
   pub weight_is_total : IsTotal nodes (weight_part nodes) (weight_of nodes)
-  weight_is_total number node is = rw is ((nodes_follow_tables nodes number node plan is).weight)
+  weight_is_total number node is = rw is ((follow nodes number node plan is).weight)
 
   pub lean_is_total : IsTotal nodes (lean_part nodes) (lean_of nodes)
-  lean_is_total number node is = rw is ((nodes_follow_tables nodes number node plan is).lean)
+  lean_is_total number node is = rw is ((follow nodes number node plan is).lean)
 
   pub keys_is_total : IsTotal nodes (keys_part nodes) (keys_of nodes)
-  keys_is_total number node is = rw is ((nodes_follow_tables nodes number node plan is).keys)
+  keys_is_total number node is = rw is ((follow nodes number node plan is).keys)
 
   pub store_is_total : IsTotal nodes (store_part nodes) (store_of nodes)
-  store_is_total number node is = rw is ((nodes_follow_tables nodes number node plan is).store)
+  store_is_total number node is = rw is ((follow nodes number node plan is).store)
 
 -- what roots reach below any limit
 pub record AreOnce (nodes : List PlanNode) (roots : List ℕ) (limit : ℕ) : Type 0 where
@@ -124,18 +124,18 @@ pub record AreOnce (nodes : List PlanNode) (roots : List ℕ) (limit : ℕ) : Ty
   pub keys : sum_where (reached nodes roots) (keys_part nodes) limit ≤ sum_by (keys_of nodes) roots
   pub store : sum_where (reached nodes roots) (store_part nodes) limit ≤ sum_by (store_of nodes) roots
 
-pub once_below : (nodes : List PlanNode) (roots : List ℕ) (limit : ℕ) → IsPlan nodes → All (λ root. root < length nodes) roots
+pub once_below : NodesFollowTables → (nodes : List PlanNode) (roots : List ℕ) (limit : ℕ) → IsPlan nodes → All (λ root. root < length nodes) roots
     → AreOnce nodes roots limit
-once_below nodes roots limit plan rooted =
+once_below follow nodes roots limit plan rooted =
     let order = in_order nodes plan (length nodes) in
     record {
-      weight = once_for_all nodes order (weight_part nodes) (weight_of nodes) (weight_is_total nodes plan) limit roots rooted;
-      lean = once_for_all nodes order (lean_part nodes) (lean_of nodes) (lean_is_total nodes plan) limit roots rooted;
-      keys = once_for_all nodes order (keys_part nodes) (keys_of nodes) (keys_is_total nodes plan) limit roots rooted;
-      store = once_for_all nodes order (store_part nodes) (store_of nodes) (store_is_total nodes plan) limit roots rooted;
+      weight = once_for_all nodes order (weight_part nodes) (weight_of nodes) (weight_is_total follow nodes plan) limit roots rooted;
+      lean = once_for_all nodes order (lean_part nodes) (lean_of nodes) (lean_is_total follow nodes plan) limit roots rooted;
+      keys = once_for_all nodes order (keys_part nodes) (keys_of nodes) (keys_is_total follow nodes plan) limit roots rooted;
+      store = once_for_all nodes order (store_part nodes) (store_of nodes) (store_is_total follow nodes plan) limit roots rooted;
     }
 
-pub once_is_less : OnceIsLess
-once_is_less nodes roots plan rooted =
-    let h = once_below nodes roots (length nodes) plan rooted in
+pub once_is_less : NodesFollowTables → OnceIsLess
+once_is_less follow nodes roots plan rooted =
+    let h = once_below follow nodes roots (length nodes) plan rooted in
     record { weight = h.weight; lean = h.lean; keys = h.keys; store = h.store }

@@ -1,6 +1,6 @@
 -- A worked plan: windows over one projection, a sum over it, and the projection as both sides of a union.
 use Rattle.std.specs.Prelude.{ℕ, ◌≡◌, ◌+◌, List, [], ◌∷◌, map, Bool, true, false}
-use Rattle.gl_bits.specs.declared.kind.Kind.TheVariants.{Unsigned}
+use Rattle.gl_values.specs.declared.kind.Kind.TheVariants.{Unsigned}
 use Rattle.gl_algebra.specs.declared.node.PlanNode.{PlanNode}
 use Rattle.gl_algebra.specs.declared.node.PlanNode.TheVariants.{Stream, Body, Project, Aggregate, Union, Window, TimeWindow, Partition}
 use Rattle.gl_algebra.specs.declared.node.PlanAgg.TheVariants.{Count, Sum}

@@ -20,7 +20,7 @@ use gl_algebra::{Figures, Plan, PlanId, PlanNode};
 use gl_bits::Memory;
 use std::alloc::Global;
 
-/// A place for the figures of each of so many nodes.
+/// A place for the figures of each of `many` nodes.
 pub fn places(alloc: Global, many: usize) -> Result<Vec<Figures>, Memory>
     ensures { IfOk result (λ v. length v.items ≡ many) }
 {

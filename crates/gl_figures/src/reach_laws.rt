@@ -3,10 +3,14 @@
 ghost use Rattle.gl_figures.specs.Reach.{OnceIsLess};
 ghost use Rattle.gl_figures.specs.WorkedReach.{WorkedReach};
 
+use gl_algebra::laws::nodes_follow_tables;
+
 /// What roots reach, each node once, counts no more than the roots do together.
 pub fn once_is_less()
     ensures { OnceIsLess }
-{}
+{
+    nodes_follow_tables();
+}
 
 /// A worked plan.
 pub fn worked_reach()

@@ -40,7 +40,7 @@ fn weight_at(plan: &Plan, weights: &[u64], id: PlanId) -> u64
     weights[id.number()]
 }
 
-// The weight with the output, or 2^62 where it is more, of windows that have so many further copies: their own weight, that of
+// The weight with the output, or 2^62 where it is more, of windows that have `further` copies more: their own weight, that of
 // their body, the lines of their source and their own.
 fn weight_with_further(weight: u64, body: u64, source: u128, own: u128, further: u32) -> u64
     requires source { source < 2 ^ 65 }

@@ -16,7 +16,7 @@ use gl_bits::Memory;
 use gl_bits::limits::MOST_WEIGHT;
 use std::alloc::Global;
 
-/// A place for the weight of each of so many nodes.
+/// A place for the weight of each of `many` nodes.
 pub fn zeros(alloc: Global, many: usize) -> Result<Vec<u64>, Memory>
     ensures { IfOk result (λ v. length v.items ≡ many) }
 {

@@ -17,7 +17,7 @@ use gl_algebra::table::{
     copies_of_partition, copies_of_time, copies_of_window, delay_of_agg, delay_of_aggs, wait_of,
 };
 use gl_algebra::{Figures, Plan, PlanAgg, PlanId, PlanNode};
-use gl_bits::Kind;
+use gl_values::Kind;
 
 // The lines of a node's wire.
 pub(crate) fn lines_of(plan: &Plan, id: PlanId) -> u128
@@ -68,7 +68,7 @@ fn weight_of_aggs(kinds: &[Kind], delay: u32, aggs: &[PlanAgg]) -> u128
     }
 }
 
-// The part of the spacer before a body of this gap, where one stands, over a source of so many lines.
+// The part of the spacer before a body of this gap, where one stands, over a source of `lines` lines.
 fn weight_of_spacer(gap: u32, f: &Figures, lines: u128) -> u128
     requires { lines < 2 ^ 65 }
     ensures value { result ≡ weight_of_spacer gap f.now lines }
@@ -132,7 +132,7 @@ fn weight_of_children(plan: &Plan, weights: &[u64], number: usize, node: &PlanNo
     }
 }
 
-// Windows that have so many copies of this body over this source.
+// Windows that have `copies` copies of this body over this source.
 #[derive(Drop)]
 struct Windows {
     source: PlanId,
@@ -140,7 +140,7 @@ struct Windows {
     copies: u32,
 }
 
-// The own part of windows, as the node of this number, which has so many lines.
+// The own part of windows, as the node of this number, which has `lines` lines.
 fn weight_of_windows(
     plan: &Plan,
     figures: &[Figures],
@@ -171,7 +171,7 @@ fn weight_of_windows(
     weight_of_copies(windows.copies, weight, lines, own) + 4 * inside.a as u128 + spacer
 }
 
-// The own part of the node of this number, which has so many lines.
+// The own part of the node of this number, which has `lines` lines.
 fn own_weight(
     plan: &Plan,
     figures: &[Figures],
@@ -270,7 +270,7 @@ fn own_weight(
     }
 }
 
-// The weight of the node of this number, which has so many lines, from those of the nodes before it.
+// The weight of the node of this number, which has `lines` lines, from those of the nodes before it.
 pub(crate) fn weight_over(
     plan: &Plan,
     figures: &[Figures],

@@ -3,8 +3,8 @@ use Rattle.std.proofs.Common.{◌≡◌, ℕ, zero, suc, ◌<◌, List, [], ◌�
 use Rattle.std.specs.Prelude.{slice_get, not, ◌&&◌, ◌||◌, if◌then◌else◌, nat_eq, nat_lt, length}
 use Rattle.std.specs.List.{list_any}
 use Rattle.std.proofs.lemmas.Bool.{cases_lt}
-use Rattle.gl_bits.specs.Results.{Row}
-use Rattle.gl_bits.specs.Tables.{with_key}
+use Rattle.gl_values.specs.Results.{Row}
+use Rattle.gl_values.specs.Tables.{with_key}
 use Rattle.gl_bits.proofs.Bools.{and_left, and_parts, and_right, by_cases, neither_parts, not_both, or_cases, or_left, or_right, same_when}
 use Rattle.gl_net.proofs.Lists.{get_push_cases}
 use Rattle.gl_wire.specs.Wire.{Carried}

@@ -3,8 +3,8 @@ use Rattle.std.proofs.Common.{◌≡◌, ℕ, zero, suc, ◌<◌, ◌≤◌, Lis
 use Rattle.std.specs.Prelude.{if◌then◌else◌, is_some, not, nat_eq, nat_lt, slice_get}
 use Rattle.std.specs.List.{list_any}
 use Rattle.std.proofs.lemmas.Bool.{le-ltb, lt-ltb, ltb-false, ltb-true, ne_eqb}
-use Rattle.gl_bits.specs.Results.{Row}
-use Rattle.gl_bits.specs.Tables.{with_key}
+use Rattle.gl_values.specs.Results.{Row}
+use Rattle.gl_values.specs.Tables.{with_key}
 use Rattle.gl_bits.proofs.Bools.{and_both, and_left, and_parts, and_right, by_cases, not_both, not_false, not_true, or_cases, or_left, or_none, or_right, same_when}
 use Rattle.gl_wire.specs.Apart.{Carries, a_tuple, an_end}
 use Rattle.gl_wire.specs.Wire.{Carried}

@@ -4,8 +4,8 @@ use Rattle.std.specs.Prelude.{option_to_list, not, nat_eq}
 use Rattle.std.specs.List.{list_any}
 use Rattle.std.proofs.lemmas.Bool.{or_cases, or_left, or_right}
 use Rattle.std.proofs.lemmas.List.{append-nil}
-use Rattle.gl_bits.specs.Lists.{keys_of, has_further}
-use Rattle.gl_bits.specs.Results.{Row}
+use Rattle.gl_values.specs.Lists.{keys_of, has_further}
+use Rattle.gl_values.specs.Results.{Row}
 use Rattle.gl_bits.proofs.Bools.{or_none}
 use Rattle.gl_wire.specs.Apart.{Carries, a_tuple}
 use Rattle.gl_wire.specs.Wire.{Carried, pending, stream}

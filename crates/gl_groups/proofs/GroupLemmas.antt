@@ -1,8 +1,8 @@
 -- The law of groups: slots with keys over copies of a body serve what the body makes of each group, with the figures of groups.
 use Rattle.std.proofs.Common.{◌≡◌, ℕ, zero, suc, ◌+◌, ◌-◌, ◌*◌, ◌<◌, ◌≤◌, max, List, [], ◌∷◌, map, Option, Some, Bool, true, false, ◌||◌, refl, sym, ap, ◌∙◌, subst, arith}
 use Rattle.std.specs.Prelude.{slice_get}
-use Rattle.gl_bits.specs.Lists.{Group, groups, has_further}
-use Rattle.gl_bits.specs.Results.{Row, Results, AreJoined, IsChanged, IsOfGroup, IsOfParts}
+use Rattle.gl_values.specs.Lists.{Group, groups, has_further}
+use Rattle.gl_values.specs.Results.{Row, Results, AreJoined, IsChanged, IsOfGroup, IsOfParts}
 use Rattle.gl_bits.proofs.Bools.{or_join}
 use Rattle.gl_algebra.specs.declared.figures.Figures.{Figures}
 use Rattle.gl_algebra.specs.FigureTable.{IsSound, group_gap, groups_over, stride_of}

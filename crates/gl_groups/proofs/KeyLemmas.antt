@@ -6,20 +6,14 @@ use Rattle.std.proofs.lemmas.List.{map-append}
 use Rattle.std.proofs.lemmas.List.Elements.{filter-append}
 use Rattle.std.proofs.lemmas.List.Folds.{list_any-append}
 use Rattle.std.proofs.lemmas.Bool.{cases_lt, cases_Bool, lt-ltb, le-ltb, or_parts, or_left, or_right, or_from, eq-eqb}
-use Rattle.gl_bits.specs.Lists.{distinct, keys_of, rows_with, has_further}
-use Rattle.gl_bits.specs.Tables.{with_key}
+use Rattle.gl_values.specs.Lists.{distinct, keys_of, rows_with, has_further}
+use Rattle.gl_values.specs.Tables.{with_key}
 use Rattle.gl_bits.proofs.Bools.{or_none, eq_turned}
-use Rattle.gl_bits.proofs.Grouping.{first_keys_room, first_keys_full, any_other}
-use Rattle.gl_bits.specs.Results.{Row}
+use Rattle.gl_bits.proofs.AllLists.{any_front}
+use Rattle.gl_values.proofs.Parting.{any_distinct}
+use Rattle.gl_values.proofs.Grouping.{first_keys_room, first_keys_full}
+use Rattle.gl_values.specs.Results.{Row}
 use Rattle.gl_groups.specs.Slots.{same_key, of_slot, rows_of_key}
-
-pub any_distinct : (x : ℕ) (ks : List ℕ) → list_any (nat_eq x) (distinct ks) ≡ list_any (nat_eq x) ks
-any_distinct x [] = refl
-any_distinct x (y ∷ ys) = split (nat_eq x y) refl (any_distinct x ys)
-  where
-    split : (b : Bool) → nat_eq x y ≡ b → list_any (nat_eq x) (distinct ys) ≡ list_any (nat_eq x) ys → (b || list_any (nat_eq x) (filter (λ z. not (nat_eq y z)) (distinct ys))) ≡ (b || list_any (nat_eq x) ys)
-    split true e later = refl
-    split false e later = any_other x y (distinct ys) e ∙ later
 
 none_with : (key : Row → ℕ) (x : ℕ) (xs : List Row) → list_any (nat_eq x) (map key xs) ≡ false → rows_with key xs x ≡ []
 none_with key x [] h = refl
@@ -94,14 +88,6 @@ rows-push key xs (Some r) ks k = by (slice_get ks k)
 
 -- ---- rows of further keys
 
-any_number : (p : ℕ → Bool) (xs ys : List ℕ) → list_any p xs ≡ true → list_any p (xs ++ ys) ≡ true
-any_number p [] ys h = absurd (cc)
-any_number p (x ∷ xs) ys h = split (p x) h (λ e. any_number p xs ys e)
-  where
-    split : (b : Bool) → (b || list_any p xs) ≡ true → (list_any p xs ≡ true → list_any p (xs ++ ys) ≡ true) → (b || list_any p (xs ++ ys)) ≡ true
-    split true e later = refl
-    split false e later = later e
-
 -- where a list has all keys of some rows, none of these is further
 none_further : (key : Row → ℕ) (ks : List ℕ) (xs : List Row) → ((y : ℕ) → list_any (nat_eq y) (map key xs) ≡ true → list_any (nat_eq y) ks ≡ true) → list_any (λ x. not (list_any (nat_eq (key x)) ks)) xs ≡ false
 none_further key ks [] h = refl
@@ -128,7 +114,7 @@ further-push n key xs r =
         ∙ sym (none_further key kept xs has)
       where
         more : (y : ℕ) (b : Bool) → list_any (nat_eq y) kept ≡ true → list_any (nat_eq y) (if b then kept ++ key r ∷ [] else kept) ≡ true
-        more y true e = any_number (nat_eq y) kept (key r ∷ []) e
+        more y true e = any_front (nat_eq y) kept (key r ∷ []) e
         more y false e = e
 
 pub further-none : (n : ℕ) (key : Row → ℕ) → has_further n key [] ≡ false

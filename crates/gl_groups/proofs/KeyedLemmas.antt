@@ -1,7 +1,7 @@
 -- A key in front of each row of a wire.
 use Rattle.std.proofs.Common.{◌≡◌, ℕ, zero, suc, ◌+◌, ◌-◌, ◌<◌, ◌≤◌, ◌∷◌, ◌++◌, length, map, Option, Some, None, true, sym, ap, ◌∙◌, refl, arith}
 use Rattle.std.specs.Prelude.{option_to_list}
-use Rattle.gl_bits.specs.Results.{Row, Results, IsChanged}
+use Rattle.gl_values.specs.Results.{Row, Results, IsChanged}
 use Rattle.gl_algebra.specs.declared.figures.Figures.{Figures}
 use Rattle.gl_algebra.specs.FigureTable.{IsSound}
 use Rattle.gl_wire.specs.Beats.{Beats, Spaced, last}

@@ -1,7 +1,7 @@
 -- The machine of slots one cycle behind a source, told by one wire.
 use Rattle.std.proofs.Common.{◌≡◌, ℕ, zero, suc, ◌<◌, Some, None, Bool, true, false, refl, sym, ap, ◌∙◌, inl, inr, eqb-true}
 use Rattle.std.specs.Prelude.{is_some, ◌&&◌, ◌||◌, if◌then◌else◌, nat_eq}
-use Rattle.gl_bits.specs.Results.{Row}
+use Rattle.gl_values.specs.Results.{Row}
 use Rattle.gl_bits.proofs.Bools.{and_parts, or_cases}
 use Rattle.gl_wire.specs.Wire.{Carried}
 use Rattle.gl_groups.specs.Slots.{keys_at, slot_at, slot_ends_at, slot_takes, slots_at}

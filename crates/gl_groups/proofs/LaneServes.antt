@@ -1,7 +1,7 @@
 -- A lane in place of copies.
 use Rattle.std.proofs.Common.{◌≡◌, ℕ, ◌+◌, ◌<◌, ◌≤◌, List, [], ◌∷◌, Option, Some, Bool, true, false, refl, sym, ap, ◌∙◌, subst, arith}
 use Rattle.std.specs.Prelude.{filter_map}
-use Rattle.gl_bits.specs.Results.{Row, Results, IsInput}
+use Rattle.gl_values.specs.Results.{Row, Results, IsInput}
 use Rattle.gl_algebra.specs.declared.figures.Figures.{Figures}
 use Rattle.gl_algebra.specs.FigureTable.{IsSound, delayed, group_gap, input_figures}
 use Rattle.gl_wire.specs.Bodies.{OfBody}

@@ -3,7 +3,7 @@ use Rattle.std.proofs.Common.{◌≡◌, ℕ, suc, ◌<◌, List, [], ◌∷◌,
 use Rattle.std.specs.Prelude.{if◌then◌else◌, not, nat_eq, nat_lt, slice_get}
 use Rattle.std.specs.List.{list_any}
 use Rattle.std.proofs.lemmas.Bool.{lt-ltb, ltb-false, ltb-true}
-use Rattle.gl_bits.specs.Tables.{with_key}
+use Rattle.gl_values.specs.Tables.{with_key}
 use Rattle.gl_bits.proofs.AllLists.{get_below, get_front, get_last, get_there}
 use Rattle.gl_bits.proofs.Bools.{and_both, and_parts, by_cases, not_both, not_false, not_true, or_cases, or_left, or_right, same_when}
 use Rattle.gl_groups.specs.Slots.{same_key}

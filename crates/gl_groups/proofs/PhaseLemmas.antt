@@ -1,7 +1,7 @@
 -- The machine of slots at every cycle: a stream comes, or its end was the last that came.
 use Rattle.std.proofs.Common.{◌≡◌, ℕ, zero, suc, ◌+◌, ◌-◌, ◌*◌, ◌<◌, ◌≤◌, List, [], ◌∷◌, ◌++◌, take, take_all, map, Option, Some, None, Bool, true, false, refl, sym, ap, ◌∙◌, subst, arith, mul-le-mul_right}
-use Rattle.gl_bits.specs.Lists.{groups, keys_of}
-use Rattle.gl_bits.specs.Results.{Row}
+use Rattle.gl_values.specs.Lists.{groups, keys_of}
+use Rattle.gl_values.specs.Results.{Row}
 use Rattle.gl_wire.specs.Apart.{Carries, a_tuple, an_end}
 use Rattle.gl_wire.specs.Wire.{pending, stream}
 use Rattle.gl_wire.specs.Lift.{Visits, visits}

@@ -8,7 +8,7 @@ use Rattle.std.proofs.lemmas.List.Folds.{list_any-append}
 use Rattle.std.proofs.Math.Bool.{and-true, and-false, or-true}
 use Rattle.gl_bits.proofs.AllLists.{get_last, get_past}
 use Rattle.gl_bits.proofs.Bools.{or_join, or_none}
-use Rattle.gl_bits.specs.Tables.{with_key}
+use Rattle.gl_values.specs.Tables.{with_key}
 use Rattle.gl_wire_registers.specs.Lines.{any_to}
 use Rattle.gl_wire_registers.proofs.LineLemmas.{any_same}
 use Rattle.gl_groups.specs.Seeking.{Sought, asked, asks, found, has, is_new, is_next, kept, matches, takes}

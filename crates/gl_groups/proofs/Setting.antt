@@ -1,6 +1,6 @@
 -- What is given where a front of groups is reasoned about: the machine behind a source, and what the source keeps to in time.
 use Rattle.std.proofs.Common.{ℕ, ◌+◌, ◌-◌, ◌*◌, ◌≤◌, arith}
-use Rattle.gl_bits.specs.Results.{Row}
+use Rattle.gl_values.specs.Results.{Row}
 use Rattle.gl_wire.specs.Wire.{Carried}
 use Rattle.gl_wire.specs.Coming.{by_tuples}
 use Rattle.gl_wire.specs.Timed.{Timed}

@@ -3,8 +3,8 @@ use Rattle.std.proofs.Common.{◌≡◌, ℕ, suc, ◌+◌, ◌*◌, ◌<◌, �
 use Rattle.std.specs.Prelude.{option_to_list, if◌then◌else◌, nat_eq, nat_lt, slice_get}
 use Rattle.std.proofs.lemmas.Bool.{cases_lt, cases_Bool, ne_eqb, and_from, and_left, and_right, lt-ltb, le-ltb}
 use Rattle.std.proofs.lemmas.List.{append-nil}
-use Rattle.gl_bits.specs.Lists.{keys_of, rows_with, Group}
-use Rattle.gl_bits.specs.Results.{Row}
+use Rattle.gl_values.specs.Lists.{keys_of, rows_with, Group}
+use Rattle.gl_values.specs.Results.{Row}
 use Rattle.gl_bits.proofs.AllLists.{get_past}
 use Rattle.gl_wire.specs.Apart.{Carries}
 use Rattle.gl_wire.specs.Wire.{pending, stream}

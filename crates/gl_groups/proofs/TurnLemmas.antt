@@ -2,7 +2,7 @@
 use Rattle.std.proofs.Common.{◌≡◌, ℕ, zero, suc, ◌+◌, ◌-◌, ◌*◌, ◌<◌, ◌≤◌, List, length, Option, Some, None, Bool, true, false, ◌&&◌, refl, sym, ap, ◌∙◌, arith, inl, inr, mul-le-mul_right}
 use Rattle.std.specs.Prelude.{nat_eq, nat_lt, slice_get}
 use Rattle.std.proofs.lemmas.Bool.{cases_lt, eqb-true, and_parts, le-ltb, ltb-true}
-use Rattle.gl_bits.specs.Results.{Row}
+use Rattle.gl_values.specs.Results.{Row}
 use Rattle.gl_wire.specs.Apart.{Carries, an_end}
 use Rattle.gl_wire.specs.Wire.{stream}
 use Rattle.gl_wire.specs.Lift.{Visits, visits, with_visit}

@@ -1,7 +1,7 @@
 -- Where the streams of slots begin: with the row that takes a slot.
 use Rattle.std.specs.Prelude.{◌≡◌, ℕ, zero, suc, Some, None, Bool, false, not, ◌&&◌, ◌||◌, is_some, nat_eq}
 use Rattle.std.specs.List.{list_any}
-use Rattle.gl_bits.specs.Results.{Row}
+use Rattle.gl_values.specs.Results.{Row}
 use Rattle.gl_wire.specs.Wire.{Carried}
 use Rattle.gl_groups.specs.Slots.{freed, keys_at, slot_at, slot_ends_at, slot_takes, slots_at}
 

@@ -1,7 +1,7 @@
 -- A front of groups in a netlist: its wires, its keys and its own line.
 use Rattle.std.specs.Prelude.{◌≡◌, ℕ, suc, ◌+◌, ◌-◌, ◌*◌, ◌<◌, ◌≤◌, List, length, Some, None, Bool, slice_get, slice_index, if◌then◌else◌, nat_eq, not, ◌&&◌, ◌||◌}
 use Rattle.std.specs.List.{sum}
-use Rattle.gl_bits.specs.Results.{Row}
+use Rattle.gl_values.specs.Results.{Row}
 use Rattle.gl_net.specs.declared.node.Bus.{Bus}
 use Rattle.gl_net.specs.declared.node.Bit.{Bit}
 use Rattle.gl_net.specs.Net.{Net, Run, IsRun, IsBit, IsBus, Keeps}

@@ -3,8 +3,8 @@ use Rattle.std.specs.Prelude.{◌≡◌, ℕ, ◌+◌, ◌*◌, ◌^◌, ◌<◌
 use Rattle.gl_algebra.specs.declared.figures.Figures.{Figures}
 use Rattle.gl_algebra.specs.declared.node.PlanNode.{PlanNode}
 use Rattle.gl_algebra.specs.FigureTable.{IsSound, group_gap, groups_over, stride_of}
-use Rattle.gl_bits.specs.Lists.{groups, has_further}
-use Rattle.gl_bits.specs.Results.{Row, Results, AreJoined, IsOfGroup}
+use Rattle.gl_values.specs.Lists.{groups, has_further}
+use Rattle.gl_values.specs.Results.{Row, Results, AreJoined, IsOfGroup}
 use Rattle.gl_wire.specs.Apart.{Carries, CarriesApart}
 use Rattle.gl_wire.specs.Beats.{Beats, Spaced, beats_of}
 use Rattle.gl_wire.specs.Serves.{Fits}

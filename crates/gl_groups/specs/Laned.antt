@@ -2,7 +2,7 @@
 use Rattle.std.specs.Prelude.{◌≡◌, ℕ, suc, ◌+◌, ◌*◌, ◌^◌, ◌<◌, ◌≤◌, ◌||◌, ◌∷◌, List, length, Some, Bool, true, false, slice_get, slice_index}
 use Rattle.std.specs.List.{sum}
 use Rattle.gl_algebra.specs.FigureTable.{stride_of}
-use Rattle.gl_bits.specs.Results.{Row}
+use Rattle.gl_values.specs.Results.{Row}
 use Rattle.gl_net.specs.declared.node.Bus.{Bus}
 use Rattle.gl_net.specs.Net.{Net, Run, IsRun, IsBit, IsBus, Keeps, register_bits_of}
 use Rattle.gl_wire.specs.declared.wire.Wire.{Wire}

@@ -1,9 +1,9 @@
 -- The front of groups as a machine: which slot takes a tuple, and which takes an end.
 use Rattle.std.specs.Prelude.{◌≡◌, ℕ, zero, suc, ◌-◌, ◌<◌, List, [], length, Option, Some, None, Bool, true, false, not, ◌&&◌, if◌then◌else◌, nat_eq, nat_lt, slice_get, take}
 use Rattle.std.specs.List.{list_any}
-use Rattle.gl_bits.specs.Lists.{keys_of, rows_with}
-use Rattle.gl_bits.specs.Tables.{with_key}
-use Rattle.gl_bits.specs.Results.{Row}
+use Rattle.gl_values.specs.Lists.{keys_of, rows_with}
+use Rattle.gl_values.specs.Tables.{with_key}
+use Rattle.gl_values.specs.Results.{Row}
 use Rattle.gl_wire.specs.Wire.{Carried, stream}
 use Rattle.gl_wire.specs.Lift.{Visits}
 

@@ -1,6 +1,6 @@
 -- The front's registers as numbers, and what each cycle makes of them.
 use Rattle.std.specs.Prelude.{◌≡◌, ℕ, ◌-◌, ◌<◌, ◌≤◌, length, Some, None, Bool, true, if◌then◌else◌, nat_eq, not, ◌&&◌, ◌||◌, slice_get}
-use Rattle.gl_bits.specs.Results.{Row}
+use Rattle.gl_values.specs.Results.{Row}
 use Rattle.gl_wire_registers.specs.Held.{counted_down}
 use Rattle.gl_groups.specs.Seeking.{Sought, has, is_next, matches}
 use Rattle.gl_groups.specs.Slots.{Slots}

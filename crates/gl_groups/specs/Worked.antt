@@ -1,6 +1,6 @@
 -- Worked streams before a front of groups, with the visits of its slots as they were worked out by hand.
 use Rattle.std.specs.Prelude.{◌≡◌, ℕ, zero, suc, List, [], ◌∷◌, map, Option, Some, None, Bool, false, ◌&&◌, ◌||◌, nat_eq, slice_get, slice_index, if◌then◌else◌}
-use Rattle.gl_bits.specs.Results.{Row}
+use Rattle.gl_values.specs.Results.{Row}
 use Rattle.gl_wire.specs.Wire.{Carried}
 use Rattle.gl_wire.specs.Lift.{visits}
 use Rattle.gl_groups.specs.Slots.{further_line, key_or, keys_at, slot_at, slot_ends_at, slot_or, slot_takes, slots_at, who_slots}

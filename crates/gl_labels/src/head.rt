@@ -14,7 +14,7 @@ use std::alloc::Global;
 /// The version of Glacier.
 pub const VERSION: &[u8] = b"0.2";
 
-// A line is cut at so many bytes.
+// The bytes at which a line is cut.
 const LONG: usize = 4096;
 
 // So many nodes of a plan are told.

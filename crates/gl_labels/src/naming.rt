@@ -17,7 +17,7 @@ pub(crate) struct Naming<'a> {
     pub(crate) columns: &'a ColumnNames,
 }
 
-// What stands around is cut at so many bytes: what is printed of names and headings is short.
+// The bytes at which what stands around is cut: what is printed of names and headings is short.
 const MOST_AROUND: usize = 64;
 
 // The first bytes of others.

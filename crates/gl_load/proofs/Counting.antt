@@ -2,9 +2,9 @@
 use Rattle.std.proofs.Common.{◌≡◌, ℕ, ◌%◌, ◌^◌, ◌<◌, List, [], ◌∷◌, length, Bool, refl, sym, ap, subst, arith}
 use Rattle.std.specs.List.{AllByRecursion}
 use Rattle.std.proofs.Math.Nat.{mod-lt}
-use Rattle.gl_bits.specs.declared.kind.Kind.TheVariants.{Unsigned}
-use Rattle.gl_bits.specs.Results.{AreJoined, Results, Row}
-use Rattle.gl_bits.specs.Totals.{count_of}
+use Rattle.gl_values.specs.declared.kind.Kind.TheVariants.{Unsigned}
+use Rattle.gl_values.specs.Results.{AreJoined, Results, Row}
+use Rattle.gl_values.specs.Totals.{count_of}
 use Rattle.gl_bits.proofs.AllLists.{all_append}
 use Rattle.gl_schema.specs.Schemas.{kinds_of}
 use Rattle.gl_query.specs.Alike.{query_alike}

@@ -4,8 +4,8 @@ use Rattle.std.specs.Prelude.{not, ◌&&◌, ◌||◌, codes, decimal, nat_le, I
 use Rattle.std.specs.List.{AllByRecursion, cons_option, fold, list_all, sum}
 use Rattle.std.proofs.lemmas.Bool.{leb-true}
 use Rattle.std.proofs.lemmas.List.Sums.{sum_by-cons}
-use Rattle.gl_bits.specs.declared.kind.Kind.{Kind}
-use Rattle.gl_bits.specs.declared.kind.Kind.TheVariants.{Unsigned, Signed, Text}
+use Rattle.gl_values.specs.declared.kind.Kind.{Kind}
+use Rattle.gl_values.specs.declared.kind.Kind.TheVariants.{Unsigned, Signed, Text}
 use Rattle.gl_bits.proofs.AllLists.{all_append, all_weaker}
 use Rattle.gl_bits.proofs.Bools.{and_left, and_right}
 use Rattle.gl_schema.specs.Ports.{PortValues}

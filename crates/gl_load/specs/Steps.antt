@@ -3,7 +3,7 @@
 use Rattle.std.specs.Prelude.{◌≡◌, ℕ, ◌*◌, ◌≤◌, List, Some}
 use Rattle.gl_schema.specs.Schemas.{kinds_of}
 use Rattle.gl_schema.specs.Beats.{Beat}
-use Rattle.gl_verilog_orders.specs.declared.start.Start.TheVariants.{Zero}
+use Rattle.gl_verilog.specs.declared.start.Start.TheVariants.{Zero}
 use Rattle.gl_compiler.specs.declared.compiling.Compiled.{Compiled}
 use Rattle.gl_compiler.specs.Meets.{result_columns}
 use Rattle.gl_compiler.specs.Texts.{IsCompiledText}

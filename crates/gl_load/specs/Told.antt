@@ -2,7 +2,7 @@
 -- seen.
 use Rattle.std.specs.Prelude.{ℕ, List, [], ◌++◌, length, map, Option, Some, None, codes, decimal, slice_index}
 use Rattle.std.specs.List.{fold, sum}
-use Rattle.gl_bits.specs.declared.kind.Kind.{Kind}
+use Rattle.gl_values.specs.declared.kind.Kind.{Kind}
 use Rattle.gl_schema.specs.Seen.{Shown, rows_of, values_text}
 
 -- how many tuples a result counts stands in its first column

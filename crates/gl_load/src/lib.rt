@@ -1,4 +1,4 @@
-//! The load: a fixed schema and query, so many tuples, and what the query's Verilog text gives over
+//! The load: a fixed schema and query, N tuples, and what the query's Verilog text gives over
 //! them, in five lines.
 //!
 //! Here belongs what the load is and what it comes to. How queries are compiled and texts run stands

@@ -15,8 +15,8 @@ use gl_bits::Memory;
 use gl_compiler::{CompileFault, Compiled, Outcome, compile, run_compiled};
 use gl_query::laws::accepted_have_real_columns;
 use gl_tuples::Beats;
+use gl_verilog::Start;
 use gl_verilog_grammar::laws::one_module;
-use gl_verilog_orders::Start;
 use std::alloc::Global;
 
 /// What a load leaves: what is told of its run, and the compiled query whose text was run.
@@ -71,7 +71,7 @@ fn run(alloc: Global, compiled: &Compiled, beats: &Beats) -> Result<TextSink, Me
     ended(outcome, sink)
 }
 
-/// Compiles the query of the load, runs its text over so many tuples from registers and words of 0,
+/// Compiles the query of the load, runs its text over `count` tuples from registers and words of 0,
 /// and tells what came out.
 pub fn load(alloc: Global, count: u32) -> Result<Loaded, Memory>
     requires some { 1 ≤ count }

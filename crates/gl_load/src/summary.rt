@@ -28,7 +28,7 @@ fn put_number(text: &mut Vec<u8>, head: &[u8], number: u128) -> Result<(), Memor
     put_line(text, head, buffer.format(number).as_bytes())
 }
 
-/// What is told of a run of so many tuples that has these lines.
+/// What is told of a run of `count` tuples that has these lines.
 #[tactic(auto, unfolding(crate::specs::Tallies::summary_of, crate::specs::Told::five_lines))]
 pub(crate) fn summary_of(alloc: Global, count: u32, lines: &[u8]) -> Result<Vec<u8>, Memory>
     ensures { IfOk result (λ text. text.items ≡ tallies.summary_of count lines.now) }

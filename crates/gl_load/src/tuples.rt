@@ -50,7 +50,7 @@ fn load_row(alloc: Global, index: u32) -> Result<Row, Memory>
     Ok(row)
 }
 
-// The beat of a tuple, one of so many.
+// The beat of the tuple `index`, of `count`.
 fn load_beat(alloc: Global, count: u32, index: u32) -> Result<Beat, Memory>
     requires { index < count }
     ensures plain { IfOk result (λ beat. plain_beat beat ≡ spec.load_beat count index) }
@@ -67,7 +67,7 @@ fn load_beat(alloc: Global, count: u32, index: u32) -> Result<Beat, Memory>
     })
 }
 
-/// The beats of so many tuples.
+/// The beats of `count` tuples.
 pub(crate) fn load_beats(alloc: Global, schema: &Schema, count: u32) -> Result<Beats, Memory>
     requires { schema.now ≡ load_schema }
     ensures { IfOk result (λ beats. plain_beats beats ≡ spec.load_beats count) }

@@ -3,8 +3,8 @@ use Rattle.std.proofs.Common.{◌≡◌, ℕ, List, [], ◌∷◌, ◌++◌, map
 use Rattle.std.specs.List.{AllByRecursion, flat_map}
 use Rattle.std.proofs.lemmas.List.{map-append}
 use Rattle.gl_bits.proofs.AllLists.{all_append, all_mapped}
-use Rattle.gl_bits.specs.Kinds.{width_of}
-use Rattle.gl_bits.specs.declared.kind.Kind.{Kind}
+use Rattle.gl_values.specs.Kinds.{width_of}
+use Rattle.gl_values.specs.declared.kind.Kind.{Kind}
 use Rattle.gl_schema.specs.declared.schema.Column.{Column}
 use Rattle.gl_schema.specs.declared.schema.Schema.{Schema}
 use Rattle.gl_schema.specs.Schemas.{column_names, kinds_of}

@@ -10,7 +10,7 @@ use Rattle.gl_query.specs.Laws.{AcceptedHaveRealColumns}
 use Rattle.gl_verilog.specs.Module.{Module, Nets, Memories}
 use Rattle.gl_verilog.specs.Run.{port_of}
 use Rattle.gl_verilog.specs.Text.{HasModule}
-use Rattle.gl_verilog_orders.specs.declared.start.Start.{Start}
+use Rattle.gl_verilog.specs.declared.start.Start.{Start}
 use Rattle.gl_verilog_ports.specs.Profile.{HasInputPorts}
 use Rattle.gl_testbench.specs.Driven.{Drives}
 use Rattle.gl_testbench.specs.Views.{seen_as}

@@ -4,7 +4,7 @@ use Rattle.std.specs.Prelude.{slice_get}
 use Rattle.std.specs.List.{AllByRecursion, flat_map}
 use Rattle.gl_bits.proofs.AllLists.{all_append, all_back, all_by_place, all_front, all_mapped, all_of_mapped, all_weaker, get_mapped}
 use Rattle.gl_bits.proofs.Bools.{bytes_own}
-use Rattle.gl_bits.specs.Kinds.{IsKind, width_of}
+use Rattle.gl_values.specs.Kinds.{IsKind, width_of}
 use Rattle.gl_schema.specs.declared.schema.Column.{Column}
 use Rattle.gl_schema.specs.declared.schema.Schema.{Schema}
 use Rattle.gl_schema.specs.Ports.{fault_group, fault_queue, out_column, out_eos, out_valid}

@@ -9,7 +9,7 @@ use Rattle.gl_query.specs.declared.tree.Statement.{Statement}
 use Rattle.gl_verilog.specs.Module.{Module, Nets, Memories}
 use Rattle.gl_verilog.specs.Run.{port_of}
 use Rattle.gl_verilog.specs.Text.{HasModule}
-use Rattle.gl_verilog_orders.specs.declared.start.Start.{Start}
+use Rattle.gl_verilog.specs.declared.start.Start.{Start}
 use Rattle.gl_compiler.specs.Meets.{result_columns}
 use Rattle.gl_runner.specs.Cycles.{CanDrive}
 use Rattle.gl_runner.specs.Faces.{HasFace}

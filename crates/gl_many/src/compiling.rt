@@ -26,7 +26,7 @@ use gl_query_texts::{Statements, read_statements};
 use gl_schema::Schema;
 use gl_testbench::emit;
 use gl_verilog::laws::{runs_are_causal, valid_modules_run};
-use gl_verilog_orders::laws::event_runs_are_runs;
+use gl_verilog::orders::event_runs_are_runs;
 use gl_verilog_ports::laws::inputs_are_ports;
 use gl_verilog_writer::Labels;
 use gl_wiring::wire_roots;

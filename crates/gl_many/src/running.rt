@@ -14,7 +14,7 @@ use gl_outside::Sink;
 use gl_query::laws::accepted_have_real_columns;
 use gl_runner::{Outcome, Task};
 use gl_tuples::Beats;
-use gl_verilog_orders::Start;
+use gl_verilog::Start;
 use gl_verilog_ports::laws::inputs_are_ports;
 use std::alloc::Global;
 

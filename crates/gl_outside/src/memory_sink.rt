@@ -43,7 +43,7 @@ impl Model for MemorySink {
 }
 
 impl MemorySink {
-    /// A sink with room for so many bytes.
+    /// A sink with room for `room` bytes.
     pub fn new(alloc: Global, room: usize) -> Result<MemorySink, Memory>
         ensures { IfOk result (λ s. s ≡ spec.new_sink room) }
     {

@@ -2,10 +2,10 @@
 use Rattle.std.proofs.Common.{◌≡◌, ℕ, suc, ◌+◌, ◌-◌, ◌*◌, ◌%◌, ◌<◌, ◌≤◌, List, [], ◌∷◌, ◌++◌, length, take, Option, Some, None, Bool, true, false, ◌&&◌, refl, sym, ap, ◌∙◌, subst, arith, inl, inr, mul-le-mul_right}
 use Rattle.std.specs.Prelude.{if◌then◌else◌, nat_eq, nat_le, nat_lt, slice_get}
 use Rattle.std.proofs.lemmas.Bool.{cases_lt, and_parts, eqb-true, leb-true, ltb-true}
-use Rattle.gl_bits.specs.Lists.{keys_of}
-use Rattle.gl_bits.specs.Results.{Row}
+use Rattle.gl_values.specs.Lists.{keys_of}
+use Rattle.gl_values.specs.Results.{Row}
 use Rattle.gl_bits.proofs.Bools.{else_false}
-use Rattle.gl_bits.proofs.Grouping.{AreDistinct, distinct_once, distinct_take}
+use Rattle.gl_values.proofs.Grouping.{AreDistinct, distinct_once, distinct_take}
 use Rattle.gl_wire.specs.Apart.{a_tuple}
 use Rattle.gl_wire.specs.Wire.{stream}
 use Rattle.gl_groups.specs.Slots.{Slots, freed, keys_now, of_slot, rows_of_key, same_key, with_tuple}

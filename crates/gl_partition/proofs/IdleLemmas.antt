@@ -4,9 +4,9 @@ use Rattle.std.specs.Prelude.{if◌then◌else◌, option_to_list, nat_eq, nat_l
 use Rattle.std.proofs.lemmas.Bool.{cases_lt, and_from, and_left, and_right, eqb-true, lt-ltb, le-ltb, le-leb, lt-leb}
 use Rattle.std.proofs.lemmas.List.{append-nil, append_assoc}
 use Rattle.std.proofs.lemmas.Nat.{div-add-mod', mod_below}
-use Rattle.gl_bits.specs.Lists.{Group, keys_of, part, rows_with}
-use Rattle.gl_bits.specs.Partitions.{fulls, keyed, short_slices}
-use Rattle.gl_bits.specs.Results.{Row}
+use Rattle.gl_values.specs.Lists.{Group, keys_of, part, rows_with}
+use Rattle.gl_values.specs.Partitions.{fulls, keyed, short_slices}
+use Rattle.gl_values.specs.Results.{Row}
 use Rattle.gl_bits.proofs.AllLists.{get_past}
 use Rattle.gl_bits.proofs.Bools.{true_or_false}
 use Rattle.gl_wire.specs.Apart.{Carries, a_tuple, an_end}

@@ -3,8 +3,8 @@ use Rattle.std.proofs.Common.{◌≡◌, ℕ, zero, suc, ◌+◌, ◌-◌, ◌*�
 use Rattle.std.specs.Prelude.{if◌then◌else◌, nat_eq, nat_lt, slice_get}
 use Rattle.std.specs.List.{list_any}
 use Rattle.std.proofs.lemmas.Bool.{cases_lt}
-use Rattle.gl_bits.specs.Results.{Row}
-use Rattle.gl_bits.specs.Tables.{with_key}
+use Rattle.gl_values.specs.Results.{Row}
+use Rattle.gl_values.specs.Tables.{with_key}
 use Rattle.gl_bits.proofs.AllLists.{get_front}
 use Rattle.gl_wire.specs.Apart.{Carries, a_tuple, an_end}
 use Rattle.gl_groups.specs.Slots.{Slots, freed, keys_now}

@@ -3,7 +3,7 @@ use Rattle.std.proofs.Common.{◌≡◌, ℕ, suc, ◌+◌, ◌-◌, ◌%◌, �
 use Rattle.std.specs.Prelude.{nat_eq, not, ◌&&◌, ◌||◌, if◌then◌else◌}
 use Rattle.std.proofs.lemmas.Nat.{mod_below}
 use Rattle.std.proofs.Math.Bool.{and-true, and-false}
-use Rattle.gl_bits.specs.Results.{Row}
+use Rattle.gl_values.specs.Results.{Row}
 use Rattle.gl_bits.proofs.Bools.{and_right, or_none, same_test, eq_turned}
 use Rattle.gl_wire_registers.specs.Held.{counted_down, turned}
 use Rattle.gl_wire_registers.specs.Lines.{any_to}

@@ -5,7 +5,7 @@ use Rattle.std.proofs.lemmas.Bool.{cases_lt, eq-eqb, ne_eqb, and_from, and_left,
 use Rattle.std.proofs.lemmas.List.{drop_all, drop-append-le, append-nil}
 use Rattle.std.proofs.Math.Nat.{add-mod_right}
 use Rattle.std.proofs.lemmas.Nat.{mod_below}
-use Rattle.gl_bits.specs.Results.{Row}
+use Rattle.gl_values.specs.Results.{Row}
 use Rattle.gl_wire.specs.Wire.{Carried, pending, stream}
 use Rattle.gl_windows.proofs.SliceLemmas.{mod_apart}
 use Rattle.gl_partition.specs.Machine.{Windows, opening, one_opened, closing, taken, closed_by, copy_of, comes, kept, due, windows_at}

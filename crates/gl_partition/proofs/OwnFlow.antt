@@ -3,7 +3,7 @@ use Rattle.std.proofs.Common.{◌≡◌, ℕ, zero, suc, ◌+◌, ◌-◌, ◌*�
 use Rattle.std.specs.Prelude.{option_to_list, if◌then◌else◌, nat_eq}
 use Rattle.std.proofs.lemmas.Bool.{cases_lt, eqb-true, eq-eqb, and_from, and_left, and_right}
 use Rattle.std.proofs.lemmas.List.{drop-append-le, append-nil}
-use Rattle.gl_bits.specs.Results.{Row}
+use Rattle.gl_values.specs.Results.{Row}
 use Rattle.gl_wire.specs.Wire.{stream}
 use Rattle.gl_wire.proofs.NumberLemmas.{mul_below}
 use Rattle.gl_partition.specs.Machine.{Windows, opening, one_opened, closing, taken, closed_by, counted, next}

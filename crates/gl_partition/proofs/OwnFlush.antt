@@ -3,8 +3,8 @@ use Rattle.std.proofs.Common.{◌≡◌, ℕ, suc, ◌+◌, ◌-◌, ◌*◌, �
 use Rattle.std.specs.Prelude.{option_to_list, if◌then◌else◌, nat_eq}
 use Rattle.std.proofs.lemmas.Bool.{cases_lt, eq-eqb, ne_eqb, and_from, and_left, and_right}
 use Rattle.std.proofs.lemmas.List.{take_all, drop-append-le, append-nil}
-use Rattle.gl_bits.specs.Lists.{part}
-use Rattle.gl_bits.specs.Results.{Row}
+use Rattle.gl_values.specs.Lists.{part}
+use Rattle.gl_values.specs.Results.{Row}
 use Rattle.gl_wire.specs.Wire.{stream}
 use Rattle.gl_windows.proofs.SliceLemmas.{mod_apart}
 use Rattle.gl_partition.specs.Machine.{Windows, opening, closing, taken, closed_by, counted, next}

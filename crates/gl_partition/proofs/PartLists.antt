@@ -8,11 +8,11 @@ use Rattle.std.proofs.lemmas.List.{append-nil, append_assoc, map-append}
 use Rattle.std.proofs.lemmas.List.Elements.{filter-append}
 use Rattle.std.proofs.lemmas.Nat.{div-add-mod', div-mul-add, mod-mul-add}
 use Rattle.gl_algebra.proofs.ListLemmas.{get-append}
-use Rattle.gl_bits.specs.Lists.{Group, groups, keys_of, part, rows_with}
-use Rattle.gl_bits.specs.Partitions.{completed, keyed, short_slices, shorts}
+use Rattle.gl_values.specs.Lists.{Group, groups, keys_of, part, rows_with}
+use Rattle.gl_values.specs.Partitions.{completed, keyed, short_slices, shorts}
 use Rattle.gl_bits.proofs.AllLists.{get_past}
 use Rattle.gl_bits.proofs.Bools.{true_or_false}
-use Rattle.gl_bits.proofs.Grouping.{AreDistinct}
+use Rattle.gl_values.proofs.Grouping.{AreDistinct}
 use Rattle.gl_wire.proofs.NumberLemmas.{mul_below}
 use Rattle.gl_windows.specs.Firsts.{firsts}
 use Rattle.gl_windows.proofs.SliceLemmas.{firsts-slices}

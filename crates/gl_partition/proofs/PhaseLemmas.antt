@@ -2,9 +2,9 @@
 use Rattle.std.proofs.Common.{◌≡◌, ℕ, zero, suc, ◌+◌, ◌-◌, ◌*◌, ◌/◌, ◌%◌, ◌<◌, ◌≤◌, List, [], ◌∷◌, ◌++◌, length, take, length-take, map, Option, Some, None, Bool, true, false, refl, sym, ap, ◌∙◌, subst, arith}
 use Rattle.std.specs.Prelude.{slice_get}
 use Rattle.std.proofs.lemmas.Nat.{div-add-mod', mod_below}
-use Rattle.gl_bits.specs.Lists.{keys_of, rows_with}
-use Rattle.gl_bits.specs.Partitions.{fulls, parts, short_slices}
-use Rattle.gl_bits.specs.Results.{Row}
+use Rattle.gl_values.specs.Lists.{keys_of, rows_with}
+use Rattle.gl_values.specs.Partitions.{fulls, parts, short_slices}
+use Rattle.gl_values.specs.Results.{Row}
 use Rattle.gl_bits.proofs.AllLists.{get_below}
 use Rattle.gl_wire.specs.Apart.{Carries, a_tuple, an_end}
 use Rattle.gl_wire.specs.Wire.{pending, stream}

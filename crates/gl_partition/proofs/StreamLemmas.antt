@@ -4,13 +4,13 @@ use Rattle.std.specs.Prelude.{if◌then◌else◌, option_to_list, nat_eq, slice
 use Rattle.std.specs.List.{list_any}
 use Rattle.std.proofs.lemmas.Bool.{cases_lt, and_left, eq-eqb, eqb-true}
 use Rattle.std.proofs.lemmas.List.{append-nil}
-use Rattle.gl_bits.specs.Lists.{Group, keys_of, rows_with}
-use Rattle.gl_bits.specs.Partitions.{completed, completed_by, fulls, has_key, keyed}
-use Rattle.gl_bits.specs.Results.{Row}
+use Rattle.gl_values.specs.Lists.{Group, keys_of, rows_with}
+use Rattle.gl_values.specs.Partitions.{completed, completed_by, fulls, has_key, keyed}
+use Rattle.gl_values.specs.Results.{Row}
 use Rattle.gl_bits.proofs.AllLists.{get_below}
 use Rattle.gl_bits.proofs.Bools.{true_or_false}
-use Rattle.gl_bits.proofs.Grouping.{AreDistinct, distinct_once, distinct_take}
-use Rattle.gl_bits.proofs.Parting.{fulls-push}
+use Rattle.gl_values.proofs.Grouping.{AreDistinct, distinct_once, distinct_take}
+use Rattle.gl_values.proofs.Parting.{fulls-push}
 use Rattle.gl_wire.specs.Wire.{pending, stream}
 use Rattle.gl_wire.proofs.VisitLemmas.{did, did_none, did_one}
 use Rattle.gl_groups.specs.Slots.{freed, with_tuple, of_slot, rows_of_key, same_key}

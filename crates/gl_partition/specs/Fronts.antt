@@ -1,7 +1,7 @@
 -- A front of windows of each key in a netlist: its slots, its wires, its keys and its own line.
 use Rattle.std.specs.Prelude.{◌≡◌, ℕ, suc, ◌+◌, ◌*◌, ◌<◌, List, length, replicate, flat_map, true, false, Some, None, is_some, slice_get, slice_index, not, ◌&&◌, ◌||◌}
 use Rattle.std.specs.List.{sum}
-use Rattle.gl_bits.specs.Results.{Row}
+use Rattle.gl_values.specs.Results.{Row}
 use Rattle.gl_net.specs.declared.node.Bus.{Bus}
 use Rattle.gl_net.specs.declared.node.Bit.{Bit}
 use Rattle.gl_net.specs.Net.{Net, Run, IsRun, IsBit, IsBus, Keeps}

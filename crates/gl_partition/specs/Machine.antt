@@ -2,7 +2,7 @@
 -- It tells which copies take a tuple, and which takes an end. Which key a slot has, and how the turns after an end go by,
 -- is the machine of slots.
 use Rattle.std.specs.Prelude.{◌≡◌, ℕ, zero, suc, ◌+◌, ◌-◌, ◌*◌, ◌%◌, ◌<◌, Option, Some, None, Bool, true, false, not, ◌&&◌, ◌||◌, if◌then◌else◌, nat_eq, nat_le, nat_lt}
-use Rattle.gl_bits.specs.Results.{Row}
+use Rattle.gl_values.specs.Results.{Row}
 use Rattle.gl_wire.specs.Wire.{Carried}
 use Rattle.gl_wire.specs.Lift.{Visits}
 use Rattle.gl_groups.specs.Slots.{Slots, keys_at, of_slot, slots_at}

@@ -3,9 +3,9 @@ use Rattle.std.specs.Prelude.{◌≡◌, ℕ, ◌+◌, ◌*◌, ◌^◌, ◌<◌
 use Rattle.gl_algebra.specs.declared.figures.Figures.{Figures}
 use Rattle.gl_algebra.specs.declared.node.PlanNode.{PlanNode}
 use Rattle.gl_algebra.specs.FigureTable.{IsSound, partitions_over, stride_of, window_gap}
-use Rattle.gl_bits.specs.Lists.{has_further}
-use Rattle.gl_bits.specs.Partitions.{parts}
-use Rattle.gl_bits.specs.Results.{Row, Results, AreJoined, IsOfGroup}
+use Rattle.gl_values.specs.Lists.{has_further}
+use Rattle.gl_values.specs.Partitions.{parts}
+use Rattle.gl_values.specs.Results.{Row, Results, AreJoined, IsOfGroup}
 use Rattle.gl_wire.specs.Apart.{Carries, CarriesApart}
 use Rattle.gl_wire.specs.Beats.{Beats, Spaced, beats_of}
 use Rattle.gl_wire.specs.Serves.{Fits}

@@ -1,6 +1,6 @@
 -- Worked streams before a front of windows of each key, with the visits of its copies as they were worked out by hand.
 use Rattle.std.specs.Prelude.{◌≡◌, ℕ, zero, suc, ◌/◌, ◌%◌, List, [], ◌∷◌, Option, Some, None, Bool, false, ◌&&◌, ◌||◌, nat_eq, slice_index}
-use Rattle.gl_bits.specs.Results.{Row}
+use Rattle.gl_values.specs.Results.{Row}
 use Rattle.gl_wire.specs.Wire.{Carried}
 use Rattle.gl_wire.specs.Lift.{visits}
 use Rattle.gl_partition.specs.Machine.{Numbers, closes, comes, due, kept, mid, oldest, taken, who_ends}

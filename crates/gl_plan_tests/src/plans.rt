@@ -1,14 +1,15 @@
 //! Plans that are made by hand: one with a node of every kind, and one that is given a node twice.
 
 ghost use Rattle.std.specs.Prelude.{◌≡◌, ◌∷◌, [], length, IfOk, OnOk};
-ghost use Rattle.gl_bits.specs.declared.kind.Kind.TheVariants.{Unsigned};
+ghost use Rattle.gl_values.specs.declared.kind.Kind.TheVariants.{Unsigned};
 ghost use Rattle.gl_algebra.specs.EveryNode as every;
 ghost use Rattle.gl_algebra.specs.Fits.{Fits};
 ghost use Rattle.gl_algebra.specs.Shapes.{shape_from, shape_of, HasShape, KeepsShapes};
 ghost use Rattle.gl_algebra.specs.Worked.{WorkedBits, WorkedFigures, WorkedWeights};
 
 use gl_algebra::*;
-use gl_bits::{Kind, Listed, Memory, Op};
+use gl_bits::{Listed, Memory};
+use gl_values::{Kind, Op};
 use std::alloc::{AllocError, Global};
 
 // The figures, weights and bits of plans that were worked out by hand.

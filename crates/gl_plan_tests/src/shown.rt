@@ -1,7 +1,8 @@
 //! A plan as text: a line for each node, with its words and its figures.
 
 use gl_algebra::{ColOp, Figures, Operand, Plan, PlanAgg, PlanNode};
-use gl_bits::{Kind, Word};
+use gl_bits::Word;
+use gl_values::Kind;
 use gl_schema::Schema;
 use std::alloc::{AllocError, Global};
 

@@ -3,15 +3,15 @@ use Rattle.std.proofs.Common.{◌≡◌, ℕ, zero, suc, ◌+◌, ◌<◌, ◌�
 use Rattle.std.specs.Prelude.{◌&&◌, not, pos, bytes_eq, nat_le, nat_lt, option_map, slice_get, if◌then◌else◌}
 use Rattle.std.specs.List.{AllByRecursion, IsDistinct, list_any}
 use Rattle.std.proofs.lemmas.Bool.{leb-true, le-leb, ltb-true, lt-ltb}
-use Rattle.gl_bits.specs.declared.kind.Kind.{Kind}
-use Rattle.gl_bits.specs.declared.kind.Kind.TheVariants.{Unsigned}
-use Rattle.gl_bits.specs.declared.op.Sort.{Sort}
-use Rattle.gl_bits.specs.declared.op.Sort.TheVariants.{Arithmetic, Comparison, Logic}
-use Rattle.gl_bits.specs.Kinds.{can_cast, has_negative, in_range, is_number, is_text}
-use Rattle.gl_bits.specs.Operators.{same_kind, sort_of}
+use Rattle.gl_values.specs.declared.kind.Kind.{Kind}
+use Rattle.gl_values.specs.declared.kind.Kind.TheVariants.{Unsigned}
+use Rattle.gl_values.specs.declared.op.Sort.{Sort}
+use Rattle.gl_values.specs.declared.op.Sort.TheVariants.{Arithmetic, Comparison, Logic}
+use Rattle.gl_values.specs.Kinds.{can_cast, has_negative, in_range, is_number, is_text}
+use Rattle.gl_values.specs.Operators.{same_kind, sort_of}
 use Rattle.gl_bits.proofs.AllLists.{length_map, get_past}
 use Rattle.gl_bits.proofs.Bools.{and_both, and_parts, not_false, not_true}
-use Rattle.gl_bits.proofs.KindLemmas.{equal_kinds, kinds_equal}
+use Rattle.gl_values.proofs.KindLemmas.{equal_kinds, kinds_equal}
 use Rattle.gl_schema.specs.declared.schema.Column.{Column as NamedColumn}
 use Rattle.gl_schema.specs.Schemas.{has_column}
 use Rattle.gl_schema.proofs.Distinct.{more_named, new_named}

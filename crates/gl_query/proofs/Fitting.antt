@@ -6,20 +6,20 @@ use Rattle.std.proofs.lemmas.Bool.{leb-true, ltb-true}
 use Rattle.std.proofs.Math.Nat.{mod-lt, div-lt_iff_lt-mul, mul_comm, mul-lt-mul_of_pos_right}
 use Rattle.std.proofs.lemmas.Nat.{pow_pos, and_le_l, or_lt}
 use Rattle.std.proofs.lemmas.List.{length-append, length-replicate}
-use Rattle.gl_bits.specs.declared.kind.Kind.{Kind}
-use Rattle.gl_bits.specs.declared.kind.Kind.TheVariants.{Unsigned, Signed, Text}
-use Rattle.gl_bits.specs.declared.op.Op.{Op}
-use Rattle.gl_bits.specs.declared.op.Op.TheVariants as op
-use Rattle.gl_bits.specs.Kinds.{IsKind, bytes_in, width_of, is_at_most, is_below, signed_number}
-use Rattle.gl_bits.specs.Operators.{cast_of, operate, result_kind, sort_of}
-use Rattle.gl_bits.specs.Results.{Row}
-use Rattle.gl_bits.specs.Totals.{count_of, greater, greatest_of, least_of, lesser, sum_total, weighted, weighted_sum}
+use Rattle.gl_values.specs.declared.kind.Kind.{Kind}
+use Rattle.gl_values.specs.declared.kind.Kind.TheVariants.{Unsigned, Signed, Text}
+use Rattle.gl_values.specs.declared.op.Op.{Op}
+use Rattle.gl_values.specs.declared.op.Op.TheVariants as op
+use Rattle.gl_values.specs.Kinds.{IsKind, bytes_in, width_of, is_at_most, is_below, signed_number}
+use Rattle.gl_values.specs.Operators.{cast_of, operate, result_kind, sort_of}
+use Rattle.gl_values.specs.Results.{Row}
+use Rattle.gl_values.specs.Totals.{count_of, greater, greatest_of, least_of, lesser, sum_total, weighted, weighted_sum}
 use Rattle.gl_bits.specs.Words.{difference_of, eq_of, not_of, product_of, sum_of}
 use Rattle.gl_bits.proofs.AllLists.{all_append}
 use Rattle.gl_bits.proofs.Bools.{and_left, and_parts, and_right, bit_fits, by_cases}
-use Rattle.gl_bits.proofs.KindLemmas.{range_below, text_width}
-use Rattle.gl_bits.proofs.Signs.{word_fits}
-use Rattle.gl_bits.proofs.Totalling.{average_fits}
+use Rattle.gl_values.proofs.KindLemmas.{range_below, text_width}
+use Rattle.gl_values.proofs.Signs.{word_fits}
+use Rattle.gl_values.proofs.Totalling.{average_fits}
 use Rattle.gl_schema.specs.declared.schema.Column.{Column}
 use Rattle.gl_schema.specs.Schemas.{IsRowOf, has_column, kinds_of, number_of, padded, text_word}
 use Rattle.gl_query.specs.Shapes.{AggItemShape, AggShape, ExprShape, ItemShape, PickShape}

@@ -2,10 +2,10 @@
 use Rattle.std.proofs.Common.{◌≡◌, ℕ, zero, suc, ◌-◌, ◌+◌, ◌*◌, ◌%◌, ◌/◌, Bool, false, List, [], ◌∷◌, ◌++◌, length, refl, sym, subst, map, filter, take, drop, nat_lt, nat_eq}
 use Rattle.std.specs.Prelude.{◌&&◌, nat_le, IsTrue, bytes_eq, flat_map, not, slice_index}
 use Rattle.std.specs.List.{AllByRecursion, range_with_len}
-use Rattle.gl_bits.specs.Lists.{Group, IsInterleaving, nothing, from_first, from_second, distinct, groups, keys_of, part, rows_with, slices}
-use Rattle.gl_bits.specs.Partitions.{completed, completed_by, fulls, has_key, keyed, parts, short_slices}
-use Rattle.gl_bits.specs.Results.{Row, Results, AreJoined, IsOfGroup, beside}
-use Rattle.gl_bits.specs.Times.{tfirsts, tpart}
+use Rattle.gl_values.specs.Lists.{Group, IsInterleaving, nothing, from_first, from_second, distinct, groups, keys_of, part, rows_with, slices}
+use Rattle.gl_values.specs.Partitions.{completed, completed_by, fulls, has_key, keyed, parts, short_slices}
+use Rattle.gl_values.specs.Results.{Row, Results, AreJoined, IsOfGroup, beside}
+use Rattle.gl_values.specs.Times.{tfirsts, tpart}
 use Rattle.gl_bits.proofs.AllLists.{all_append, all_weaker}
 use Rattle.gl_bits.proofs.Bools.{by_cases}
 use Rattle.gl_schema.specs.declared.schema.Column.{Column}

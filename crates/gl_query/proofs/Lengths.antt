@@ -1,6 +1,6 @@
 -- The rows of a result are as long as the query's columns are many.
 use Rattle.std.proofs.Common.{◌≡◌, suc, ◌+◌, List, ◌++◌, length, map, sym, ap, ◌∙◌, length-append}
-use Rattle.gl_bits.specs.Results.{Row}
+use Rattle.gl_values.specs.Results.{Row}
 use Rattle.gl_bits.proofs.AllLists.{length_map}
 use Rattle.gl_schema.specs.declared.schema.Column.{Column}
 use Rattle.gl_schema.specs.Schemas.{kinds_of}

@@ -9,3 +9,4 @@ pub mod Fitting
 pub mod Real
 pub mod Deciding
 pub mod FirstFaults
+pub mod LongRows

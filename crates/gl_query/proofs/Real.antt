@@ -2,16 +2,16 @@
 use Rattle.std.proofs.Common.{◌≡◌, ℕ, zero, suc, ◌≤◌, Bool, true, false, List, [], ◌∷◌, length, map, sym, subst, arith, lit≤, length-append}
 use Rattle.std.specs.Prelude.{◌||◌, IfSome, Option, None, Some, bytes_eq, slice_get, unwrap_or, option_map}
 use Rattle.std.specs.List.{AllByRecursion, IsDistinct, list_any}
-use Rattle.gl_bits.specs.declared.kind.Kind.{Kind}
-use Rattle.gl_bits.specs.declared.kind.Kind.TheVariants.{Unsigned}
-use Rattle.gl_bits.specs.declared.op.Op.{Op}
-use Rattle.gl_bits.specs.declared.op.Sort.{Sort}
-use Rattle.gl_bits.specs.declared.op.Sort.TheVariants.{Arithmetic, Comparison, Logic}
-use Rattle.gl_bits.specs.Kinds.{IsKind}
-use Rattle.gl_bits.specs.Operators.{sort_of}
+use Rattle.gl_values.specs.declared.kind.Kind.{Kind}
+use Rattle.gl_values.specs.declared.kind.Kind.TheVariants.{Unsigned}
+use Rattle.gl_values.specs.declared.op.Op.{Op}
+use Rattle.gl_values.specs.declared.op.Sort.{Sort}
+use Rattle.gl_values.specs.declared.op.Sort.TheVariants.{Arithmetic, Comparison, Logic}
+use Rattle.gl_values.specs.Kinds.{IsKind}
+use Rattle.gl_values.specs.Operators.{sort_of}
 use Rattle.gl_bits.proofs.AllLists.{all_append, length_map}
 use Rattle.gl_bits.proofs.Bools.{by_cases}
-use Rattle.gl_bits.proofs.KindLemmas.{bit_is_kind, cast_kind}
+use Rattle.gl_values.proofs.KindLemmas.{bit_is_kind, cast_kind}
 use Rattle.gl_schema.specs.declared.schema.Column.{Column}
 use Rattle.gl_schema.specs.declared.schema.Stream.{Stream}
 use Rattle.gl_schema.proofs.KindTable.{written_is}

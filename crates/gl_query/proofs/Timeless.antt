@@ -1,9 +1,9 @@
 -- Without a window of time, results go by the rows of the streams.
 use Rattle.std.proofs.Common.{◌≡◌, ℕ, ◌+◌, false, List, [], ◌∷◌, refl, ap, ◌∙◌, subst}
 use Rattle.std.specs.Prelude.{bytes_eq, map, slice_index}
-use Rattle.gl_bits.specs.Lists.{IsInterleaving, groups, has_further, slices}
-use Rattle.gl_bits.specs.Partitions.{parts}
-use Rattle.gl_bits.specs.Results.{Row, Results, AreBeside, IsChanged, IsInput, IsOfBoth, IsOfGroup, IsOfParts}
+use Rattle.gl_values.specs.Lists.{IsInterleaving, groups, has_further, slices}
+use Rattle.gl_values.specs.Partitions.{parts}
+use Rattle.gl_values.specs.Results.{Row, Results, AreBeside, IsChanged, IsInput, IsOfBoth, IsOfGroup, IsOfParts}
 use Rattle.gl_bits.proofs.Bools.{by_cases, neither_parts}
 use Rattle.gl_schema.specs.declared.schema.Stream.{Stream}
 use Rattle.gl_schema.specs.Beats.{Inputs}

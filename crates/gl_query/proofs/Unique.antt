@@ -1,6 +1,6 @@
 -- A query without UNION has at most one result.
 use Rattle.gl_query.specs.Shapes as shape
-use Rattle.gl_bits.proofs.Unique.{one_input, one_changed, one_of_parts, one_of_both}
+use Rattle.gl_values.proofs.Unique.{one_input, one_changed, one_of_parts, one_of_both}
 use Rattle.gl_query.specs.Results.{IsResultIn, rows_of}
 use Rattle.gl_query.specs.Laws.{HasOneResult}
 

@@ -3,8 +3,8 @@ use Rattle.std.specs.Prelude.{◌≡◌, ◌↔◌, ℕ, ◌≤◌, Bool, List, 
 use Rattle.std.specs.List.{AllByRecursion}
 use Rattle.gl_query.specs.Shapes.{QueryShape}
 use Rattle.gl_query.specs.Shapes as shape
-use Rattle.gl_bits.specs.Kinds.{IsKind}
-use Rattle.gl_bits.specs.Results.{Row, AreSame}
+use Rattle.gl_values.specs.Kinds.{IsKind}
+use Rattle.gl_values.specs.Results.{Row, AreSame}
 use Rattle.gl_query.specs.declared.tree.Statement.{Statement}
 use Rattle.gl_query.specs.Shapes.{query_shape, statement_shape}
 use Rattle.gl_query.specs.Trees.{StatementTree, statement_tree}

@@ -1,12 +1,12 @@
 -- The results of a query: a relation between the rows of its sources, the rows of a result, and whether rows of further
 -- keys were left out. After the operators of Mueller, Teubner and Alonso, Streams on Wires, PVLDB 2(1), 2009.
 use Rattle.std.specs.Prelude.{ℕ, ◌+◌, Bool, true, false, List, [], ◌∷◌, map, filter, find, Option, Some, None, unwrap_or, option_map, bytes_eq, nat_eq, slice_index}
-use Rattle.gl_bits.specs.declared.kind.Kind.TheVariants.{Unsigned}
-use Rattle.gl_bits.specs.Kinds.{width_of}
-use Rattle.gl_bits.specs.Lists.{IsInterleaving, groups, has_further}
-use Rattle.gl_bits.specs.Partitions.{parts}
-use Rattle.gl_bits.specs.Results.{Row, Results, IsInput, IsChanged, IsOfBoth, AreBeside, IsOfParts, IsOfGroup}
-use Rattle.gl_bits.specs.Totals.{average_of, count_of, greatest_of, least_of, sum_total, weighted_sum}
+use Rattle.gl_values.specs.declared.kind.Kind.TheVariants.{Unsigned}
+use Rattle.gl_values.specs.Kinds.{width_of}
+use Rattle.gl_values.specs.Lists.{IsInterleaving, groups, has_further}
+use Rattle.gl_values.specs.Partitions.{parts}
+use Rattle.gl_values.specs.Results.{Row, Results, IsInput, IsChanged, IsOfBoth, AreBeside, IsOfParts, IsOfGroup}
+use Rattle.gl_values.specs.Totals.{average_of, count_of, greatest_of, least_of, sum_total, weighted_sum}
 use Rattle.gl_schema.specs.declared.schema.Column.{Column}
 use Rattle.gl_schema.specs.declared.schema.Stream.{Stream}
 use Rattle.gl_schema.specs.declared.schema.Schema.{Schema}

@@ -1,7 +1,7 @@
 -- Statements without their places. Two statements are alike where their shapes are equal.
 use Rattle.std.specs.Prelude.{ℕ, List, map, Option, option_map}
-use Rattle.gl_bits.specs.declared.kind.Kind.{Kind}
-use Rattle.gl_bits.specs.declared.op.Op.{Op}
+use Rattle.gl_values.specs.declared.kind.Kind.{Kind}
+use Rattle.gl_values.specs.declared.op.Op.{Op}
 use Rattle.gl_query.specs.declared.tree.Measure.{Measure}
 use Rattle.gl_query.specs.declared.tree.Measure.TheVariants.{Tuples, Time}
 use Rattle.gl_query.specs.declared.tree.Num.{Num}

@@ -2,13 +2,13 @@
 use Rattle.std.specs.Prelude.{◌≡◌, ℕ, pos, Bool, true, false, ◌&&◌, ◌||◌, List, length, Option, Some, None, is_none, unwrap_or, option_map, nat_le, nat_lt, slice_get, slice_index, bytes_eq, IsTrue, if◌then◌else◌}
 use Rattle.std.specs.List.{list_all, position_or_len}
 use Rattle.std.specs.Option.{option_or}
-use Rattle.gl_bits.specs.declared.kind.Kind.{Kind}
-use Rattle.gl_bits.specs.declared.kind.Kind.TheVariants.{Unsigned, Signed, Text}
-use Rattle.gl_bits.specs.declared.op.Op.{Op}
-use Rattle.gl_bits.specs.declared.op.Sort.{Sort}
-use Rattle.gl_bits.specs.declared.op.Sort.TheVariants.{Arithmetic, Comparison, Logic}
-use Rattle.gl_bits.specs.Kinds.{bytes_in, can_cast, has_negative, in_range, is_number, is_text, negative_word}
-use Rattle.gl_bits.specs.Operators.{cast_of, sort_of, operate}
+use Rattle.gl_values.specs.declared.kind.Kind.{Kind}
+use Rattle.gl_values.specs.declared.kind.Kind.TheVariants.{Unsigned, Signed, Text}
+use Rattle.gl_values.specs.declared.op.Op.{Op}
+use Rattle.gl_values.specs.declared.op.Sort.{Sort}
+use Rattle.gl_values.specs.declared.op.Sort.TheVariants.{Arithmetic, Comparison, Logic}
+use Rattle.gl_values.specs.Kinds.{bytes_in, can_cast, has_negative, in_range, is_number, is_text, negative_word}
+use Rattle.gl_values.specs.Operators.{cast_of, sort_of, operate}
 use Rattle.gl_bits.specs.Words.{not_of}
 use Rattle.gl_schema.specs.declared.schema.Column.{Column}
 use Rattle.gl_schema.specs.Schemas.{has_column, text_word}

@@ -2,9 +2,9 @@
 -- has one of time.
 use Rattle.std.specs.Prelude.{ℕ, ◌+◌, ◌/◌, Bool, true, false, ◌||◌, List, IsFalse}
 use Rattle.std.specs.Int.{div_ceil}
-use Rattle.gl_bits.specs.Lists.{slices}
-use Rattle.gl_bits.specs.Results.{Row}
-use Rattle.gl_bits.specs.Times.{tslices}
+use Rattle.gl_values.specs.Lists.{slices}
+use Rattle.gl_values.specs.Results.{Row}
+use Rattle.gl_values.specs.Times.{tslices}
 use Rattle.gl_query.specs.declared.tree.Measure.{Measure}
 use Rattle.gl_query.specs.declared.tree.Measure.TheVariants.{Tuples, Time}
 use Rattle.gl_query.specs.Shapes.{QueryShape}

@@ -9,8 +9,9 @@ ghost use Rattle.gl_query.specs.Sources.{scope_of};
 
 use crate::kinds::{column_kind, kind_alone, kind_of};
 use crate::tree::{Agg, AggItem, Item, Pick, Query};
-use gl_bits::{Kind, Listed, Memory};
+use gl_bits::{Listed, Memory};
 use gl_schema::{Column, Columns, NameText, Stream};
+use gl_values::Kind;
 use std::alloc::Global;
 
 /// What a query may read: the streams of a schema, or the variable of the body around.

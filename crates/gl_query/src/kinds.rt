@@ -5,8 +5,8 @@ ghost use Rattle.gl_query.specs.Shapes.{expr_shape};
 ghost use Rattle.gl_query.specs.Values.{begins_with_text, column_kind, column_number, has_minus, kind_alone, kind_of, loose_kind, operand_place, operator_kind, own_kind};
 
 use crate::tree::Expr;
-use gl_bits::{Kind, Op, Sort};
 use gl_schema::Column;
+use gl_values::{Kind, Op, Sort};
 
 /// The number of the column with a name; the number of columns where there is none.
 pub fn column_number(columns: &[Column], name: &[u8]) -> usize

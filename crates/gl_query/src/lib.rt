@@ -10,7 +10,7 @@ pub mod tree;
 
 pub use columns::Sources;
 pub use fault::QueryFault;
-pub use gl_bits::{Op, Sort};
+pub use gl_values::{Op, Sort};
 pub use tree::{
     Agg, AggItem, AggItems, Expr, Item, ItemList, Measure, Name, Num, Nums, Pick, Query, Statement,
     TextBytes,

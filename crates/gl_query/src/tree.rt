@@ -1,7 +1,8 @@
 //! Statements as trees, each name, number and operator with the byte where it stands in the text.
 
-use gl_bits::{Kind, Listed, Op};
+use gl_bits::Listed;
 use gl_schema::NameText;
+use gl_values::{Kind, Op};
 
 /// The bytes of a text literal: 0 to 8 bytes 0x20 to 0x7E.
 pub type TextBytes = Listed<u8>;

@@ -1,9 +1,9 @@
 -- What is known of an expression before its place is.
 -- A middle layer, proved equal to gl_query (`Faults`): no promise rests on it.
 use Rattle.std.specs.Prelude.{◌≡◌, List, Option, Some, None, unwrap_or}
-use Rattle.gl_bits.specs.declared.kind.Kind.{Kind}
-use Rattle.gl_bits.specs.declared.kind.Kind.TheVariants.{Unsigned}
-use Rattle.gl_bits.specs.declared.op.Sort.{Sort}
+use Rattle.gl_values.specs.declared.kind.Kind.{Kind}
+use Rattle.gl_values.specs.declared.kind.Kind.TheVariants.{Unsigned}
+use Rattle.gl_values.specs.declared.op.Sort.{Sort}
 use Rattle.gl_schema.specs.declared.schema.Column.{Column}
 use Rattle.gl_query.specs.declared.fault.QueryFault.{QueryFault}
 use Rattle.gl_query.specs.Alike.{expr_alike}

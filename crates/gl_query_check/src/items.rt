@@ -2,7 +2,7 @@
 
 ghost use Rattle.std.specs.Prelude.{◌≡◌, ◌≤◌, bytes_eq, drop, length, map, slice_get, take};
 ghost use Rattle.std.specs.List.{list_any};
-ghost use Rattle.gl_bits.specs.Kinds.{is_number};
+ghost use Rattle.gl_values.specs.Kinds.{is_number};
 ghost use Rattle.gl_bits.specs.Limits.{most_weights};
 ghost use Rattle.gl_query.specs.Faults as faults;
 ghost use Rattle.gl_query.specs.declared.fault.QueryFault.TheVariants.{KindsDiffer};
@@ -10,7 +10,7 @@ ghost use Rattle.gl_query.specs.Trees.{AggItemTree, ItemTree, agg_item_tree, agg
 
 use crate::expressions::{Placed, judge_whole, number_fault};
 use crate::rules::{or_else, unless};
-use gl_bits::Kind;
+use gl_values::Kind;
 use gl_bits::limits::{MOST_COLUMNS, MOST_WEIGHTS};
 use gl_query::{Agg, AggItem, Item, Name, Num, Pick, QueryFault};
 use gl_schema::Column;

@@ -8,7 +8,7 @@ ghost use Rattle.gl_query.specs.Sources.{scope_of};
 ghost use Rattle.gl_query.specs.Values as values;
 ghost use Rattle.gl_query_check.specs.Answers.{Refuses};
 
-use gl_bits::Kind;
+use gl_values::Kind;
 use gl_query::{QueryFault, Sources};
 use gl_schema::{Column, Stream};
 

@@ -9,7 +9,7 @@ use Rattle.std.proofs.lemmas.Slice.Eq.{bytes_eq-Decides}
 use Rattle.std.proofs.lemmas.Str.Parse.{tells_digits, numerals_by_fold, FoldsDigits, IsNumeralModel}
 use Rattle.std.proofs.lemmas.Fmt.{decimal_is_IsNumeral_wide}
 use Rattle.gl_schema.specs.Names.{is_name, is_digit, begins_with_letter}
-use Rattle.gl_bits.specs.declared.op.Op.TheVariants as op
+use Rattle.gl_values.specs.declared.op.Op.TheVariants as op
 use Rattle.gl_bits.proofs.AllLists.{heads}
 use Rattle.std.specs.List as lists
 use Rattle.gl_query_tokens.specs.declared.token.Fold.TheVariants as fold

@@ -1,5 +1,5 @@
 -- Windows of each key, put piece by piece, make the whole.
-use Rattle.std.proofs.Common.{◌≡◌, ℕ, Bool, List, [], ◌∷◌, ◌++◌, Ok, Err, Result, OnOk, sym, ap, ◌∙◌, append_assoc}
+use Rattle.std.proofs.Common.{◌≡◌, ℕ, Bool, List, [], ◌∷◌, ◌++◌, sym, ap, ◌∙◌, append_assoc}
 use Rattle.gl_query.specs.declared.tree.Measure.TheVariants.{Tuples}
 use Rattle.gl_query.specs.Shapes.{QueryShape}
 use Rattle.gl_query.specs.Shapes as shape
@@ -10,10 +10,6 @@ use Rattle.gl_query_reader.specs.Written.{Query, spell_query, spell_window, spel
 use Rattle.gl_query_printer.specs.Brackets.{is_stream, opening, closing}
 use Rattle.gl_query_printer.specs.Canonical.{name_of, window_of, grouping_of, source_of, query_of}
 use Rattle.gl_query_printer.proofs.Operands.{spell_bracketed}
-
-pub on_ok : {T E : Type 0} {P Q : Type 0} (r : Result T E) → (P → Q) → OnOk r P → OnOk r Q
-on_ok (Ok x) f p = f p
-on_ok (Err e) f p = tt
 
 -- pieces put one behind another
 gathered : (t head s c g w b e : List Token)

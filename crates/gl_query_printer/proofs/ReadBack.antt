@@ -6,8 +6,8 @@ use Rattle.std.proofs.lemmas.Bool.{ltb-true, true≢false}
 use Rattle.std.proofs.lemmas.Slice.Eq.{bytes_eq-Decides}
 use Rattle.gl_schema.specs.SchemaText.{kind_text}
 use Rattle.gl_query.specs.declared.tree.Num.{Num}
-use Rattle.gl_bits.specs.declared.op.Op.{Op}
-use Rattle.gl_bits.specs.declared.op.Op.TheVariants as op
+use Rattle.gl_values.specs.declared.op.Op.{Op}
+use Rattle.gl_values.specs.declared.op.Op.TheVariants as op
 use Rattle.gl_query.specs.Shapes.{ExprShape, AggShape, ItemShape, AggItemShape}
 use Rattle.gl_query.specs.Shapes as shape
 use Rattle.gl_query_tokens.specs.declared.token.Fold.{Fold}

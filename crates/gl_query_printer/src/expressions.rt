@@ -11,10 +11,11 @@ ghost use Rattle.gl_query_printer.specs.Canonical.{expr_of, name_of};
 use crate::tokens::{
     close_unless, open_unless, put, put_kind, put_name, put_number, put_open, put_plain,
 };
-use gl_bits::{Kind, Memory};
+use gl_bits::Memory;
 use gl_query::{Expr, Op, TextBytes};
 use gl_query_reader::{left_looseness, looseness};
 use gl_query_tokens::{Plain, Token};
+use gl_values::Kind;
 use std::alloc::Global;
 
 // How loose an expression is.

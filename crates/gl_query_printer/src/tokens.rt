@@ -7,10 +7,11 @@ ghost use Rattle.gl_query_tokens.specs.declared.token.Plain.TheVariants as plain
 ghost use Rattle.gl_query_printer.specs.Canonical.{name_of, num_of};
 ghost use Rattle.gl_query_printer.specs.Brackets.{opening, closing};
 
-use gl_bits::{Kind, Memory};
+use gl_bits::Memory;
 use gl_query::{Name, Num};
 use gl_query_tokens::{Plain, Token};
 use gl_schema::{NameText, kind_front, kind_size};
+use gl_values::Kind;
 use itoa::Buffer;
 use std::alloc::Global;
 

@@ -8,7 +8,7 @@ use Rattle.gl_query.specs.declared.tree.Measure.{Measure}
 use Rattle.gl_query.specs.declared.tree.Measure.TheVariants.{Tuples, Time}
 use Rattle.gl_query.specs.declared.tree.Name.{Name}
 use Rattle.gl_query.specs.declared.tree.Num.{Num}
-use Rattle.gl_bits.specs.declared.op.Op.TheVariants as op
+use Rattle.gl_values.specs.declared.op.Op.TheVariants as op
 use Rattle.gl_query_tokens.specs.declared.token.Plain.{Plain}
 use Rattle.gl_query_tokens.specs.declared.token.Plain.TheVariants as plain
 use Rattle.gl_query_tokens.specs.declared.token.Token.{Token}

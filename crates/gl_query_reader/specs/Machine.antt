@@ -1,12 +1,12 @@
 -- Reading a statement from left to right, a token at a time, with what is open on a stack.
 -- A middle layer, proved equal to `Grammar`: no promise rests on it.
 use Rattle.std.specs.Prelude.{ℕ, Bool, true, false, ◌&&◌, List, [], ◌∷◌, ◌++◌, Option, Some, None, option_and_then, nat_lt, nat_le, if◌then◌else◌}
-use Rattle.gl_bits.specs.declared.kind.Kind.{Kind}
+use Rattle.gl_values.specs.declared.kind.Kind.{Kind}
 use Rattle.gl_schema.specs.SchemaFaults.{kind_named}
 use Rattle.gl_query.specs.declared.tree.Name.{Name}
 use Rattle.gl_query.specs.declared.tree.Num.{Num}
-use Rattle.gl_bits.specs.declared.op.Op.{Op}
-use Rattle.gl_bits.specs.declared.op.Op.TheVariants as op
+use Rattle.gl_values.specs.declared.op.Op.{Op}
+use Rattle.gl_values.specs.declared.op.Op.TheVariants as op
 use Rattle.gl_query_tokens.specs.declared.token.Fold.{Fold}
 use Rattle.gl_query_tokens.specs.declared.token.Plain.{Plain}
 use Rattle.gl_query_tokens.specs.declared.token.Plain.TheVariants as plain

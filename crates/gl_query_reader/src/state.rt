@@ -4,7 +4,7 @@ use crate::frames::{
     BodyHead, CastHead, GroupsHead, Head, SelectFrom, Unnamed, WindowHead, WsumHead,
 };
 use crate::written::{Window, WrittenAgg, WrittenExpr, WrittenItems, WrittenQuery};
-use gl_bits::Kind;
+use gl_values::Kind;
 use gl_query::{Name, Num, Nums};
 use gl_query_tokens::Fold;
 

@@ -1,7 +1,8 @@
 //! Statements as they are written: trees that keep the tokens that they were read from, except those
 //! that every tree of their form has, and the places that a statement keeps.
 
-use gl_bits::{Kind, Listed};
+use gl_bits::Listed;
+use gl_values::Kind;
 use gl_query::{Measure, Name, Num, Nums, Op, TextBytes};
 use gl_query_tokens::{Fold, Join};
 

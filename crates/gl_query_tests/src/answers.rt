@@ -1,12 +1,13 @@
 //! What statements answer over rows.
 
-use gl_bits::{Kind, Listed, Memory, Table};
+use gl_bits::{Listed, Memory};
 use gl_query::columns::columns_of;
 use gl_query::{Sources, Statement};
 use gl_query_reader::read_query;
 use gl_reference::{Answer, Times, evaluate};
 use gl_schema::value::text_number;
 use gl_schema::{Column, Schema, read_schema};
+use gl_values::{Kind, Table};
 use std::alloc::{AllocError, Global};
 
 /// The text of the schema, the rows that come in on two streams, the times of the first one's, and
@@ -25,7 +26,7 @@ pub struct Given {
     pub ticks: String,
 }
 
-// The letters of a field as a number, if the kind has so many; 0 otherwise.
+// The letters of a field as a number, if they are at most `bytes`; 0 otherwise.
 fn letters_of(field: &[u8], bytes: u8) -> u128 {
     let bytes = bytes as usize;
     if bytes <= 8 && field.len() <= bytes {
@@ -36,7 +37,7 @@ fn letters_of(field: &[u8], bytes: u8) -> u128 {
 }
 
 // A number behind a minus sign as a word of a kind; 0 where there is no such kind.
-#[tactic(auto, using(gl_bits::proofs::KindLemmas::tested_kind))]
+#[tactic(auto, using(gl_values::proofs::KindLemmas::tested_kind))]
 fn negative_of(kind: Kind, digits: &str) -> u128 {
     if !kind.is_kind() {
         return 0;
@@ -132,7 +133,7 @@ fn inputs_of(alloc: Global, schema: &Schema, given: &Given) -> Result<Inputs, Me
 }
 
 // Adds a number, which may be below 0.
-#[tactic(auto, using(gl_bits::proofs::KindLemmas::tested_kind))]
+#[tactic(auto, using(gl_values::proofs::KindLemmas::tested_kind))]
 fn push_number(out: &mut String, kind: Kind, value: u128) -> Result<(), AllocError> {
     if kind.is_kind() && kind.is_below(value, 0) {
         write!(out, "-{}", (1u128 << kind.width()).saturating_sub(value))

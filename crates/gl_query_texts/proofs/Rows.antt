@@ -1,7 +1,7 @@
 -- Worked rows: texts, their pieces, and what they come to.
-use Rattle.std.proofs.Common.{◌≡◌, ℕ, List, [], ◌∷◌, ◌++◌, length, map, Result, Ok, Err, refl, subst}
+use Rattle.std.proofs.Common.{◌≡◌, ℕ, List, [], ◌∷◌, length, map, Result, Ok, Err, refl, subst}
 use Rattle.std.specs.Prelude.{codes}
-use Rattle.gl_bits.specs.declared.kind.Kind.TheVariants.{Text}
+use Rattle.gl_values.specs.declared.kind.Kind.TheVariants.{Text}
 use Rattle.gl_schema.specs.declared.schema.Schema.{Schema}
 use Rattle.gl_schema.specs.Names.{is_name, begins_with_letter, has_name_bytes, has_loose_underscore, is_taken, keywords, reserved}
 use Rattle.gl_schema.specs.Schemas.{has_column, has_stream}

@@ -2,7 +2,7 @@
 use Rattle.std.specs.Prelude.{ℕ, ◌+◌, ◌-◌, ◌*◌, ◌^◌, Bool, ◌&&◌, List, map, codes, bytes_eq, nat_lt, Option, Some, None, unwrap_or, if◌then◌else◌}
 use Rattle.std.specs.List.{fold}
 use Rattle.std.specs.Char.{to_ascii_lowercase}
-use Rattle.gl_bits.specs.declared.op.Op.TheVariants.{And, Or}
+use Rattle.gl_values.specs.declared.op.Op.TheVariants.{And, Or}
 use Rattle.gl_query_tokens.specs.declared.token.Fold.TheVariants.{Sum, Min, Max, Avg}
 use Rattle.gl_query_tokens.specs.declared.token.Join.TheVariants.{Union, Concat}
 use Rattle.gl_query_tokens.specs.declared.token.Plain.TheVariants.{Select, From, Where, Group, Groups, In, Advance, Tuples, Time, Into, As}

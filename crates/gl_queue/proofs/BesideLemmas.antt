@@ -4,7 +4,7 @@ use Rattle.std.specs.Prelude.{option_to_list, is_some, if◌then◌else◌, nat_
 use Rattle.std.proofs.lemmas.Bool.{eqb-true}
 use Rattle.std.proofs.lemmas.List.{append-nil}
 use Rattle.gl_bits.proofs.Bools.{and_left, and_right}
-use Rattle.gl_bits.specs.Results.{Row, AreBeside, beside}
+use Rattle.gl_values.specs.Results.{Row, AreBeside, beside}
 use Rattle.gl_algebra.specs.declared.figures.Figures.{Figures}
 use Rattle.gl_algebra.specs.FigureTable.{in_step, is_fixed}
 use Rattle.gl_wire.specs.Beats.{Beats, last, most}

@@ -3,7 +3,7 @@ use Rattle.std.proofs.Common.{◌≡◌, ℕ, zero, suc, ◌+◌, ◌-◌, ◌<�
 use Rattle.std.specs.Prelude.{option_to_list}
 use Rattle.std.proofs.lemmas.Bool.{cases_lt, cases_order}
 use Rattle.gl_bits.proofs.Options.{some_same}
-use Rattle.gl_bits.specs.Results.{Row}
+use Rattle.gl_values.specs.Results.{Row}
 use Rattle.gl_wire.specs.Beats.{Beats}
 use Rattle.gl_wire.specs.Wire.{Carried, rows}
 use Rattle.gl_queue.specs.Queue.{oldest}

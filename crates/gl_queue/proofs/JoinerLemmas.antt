@@ -4,14 +4,14 @@ use Rattle.std.specs.Prelude.{option_to_list, is_some, ◌&&◌, max}
 use Rattle.std.proofs.lemmas.Bool.{cases_lt, cases_order, false_from_ne_true, and_parts}
 use Rattle.gl_bits.proofs.Options.{some_same}
 use Rattle.gl_algebra.specs.declared.figures.Figures.{Figures}
-use Rattle.gl_bits.specs.Results.{Row}
+use Rattle.gl_values.specs.Results.{Row}
 use Rattle.gl_algebra.specs.FigureTable.{IsSound, at_end}
 use Rattle.gl_wire.specs.Beats.{Beats, last, most, Spaced}
 use Rattle.gl_wire.specs.Wire.{Carried, stream, rows}
 use Rattle.gl_wire.specs.Serves.{HasEnd, Fits}
 use Rattle.gl_wire.specs.Spills.{ServedWithLines2, never2, no_lines}
 use Rattle.gl_wire.specs.Pace.{WithEnds}
-use Rattle.gl_bits.specs.Results.{AreBeside}
+use Rattle.gl_values.specs.Results.{AreBeside}
 use Rattle.gl_queue.specs.Joining.{IsJoiner, JoinerServes}
 use Rattle.gl_wire.specs.Sides.{IsOpen, IsIdle, ItsEnd, Side}
 use Rattle.gl_wire.specs.Laws.{FitsIsSide}

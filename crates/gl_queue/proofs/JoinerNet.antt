@@ -11,7 +11,7 @@ use Rattle.gl_algebra.specs.Shapes.{once, with_stream}
 use Rattle.gl_algebra.specs.Weights.{pad_of}
 use Rattle.gl_algebra.proofs.SoundLemmas.{delayed_sound}
 use Rattle.gl_bits.proofs.Bools.{and_left, and_right, or_none}
-use Rattle.gl_bits.specs.Results.{AreBeside, Row}
+use Rattle.gl_values.specs.Results.{AreBeside, Row}
 use Rattle.gl_net.specs.Net.{Net, Run, IsRun}
 use Rattle.gl_net.proofs.Determined.{keeps_then}
 use Rattle.gl_wire.specs.declared.emitted.Emitted.{Emitted}

@@ -2,9 +2,10 @@
 use Rattle.std.proofs.Common.{◌≡◌, ℕ, zero, suc, ◌+◌, ◌-◌, ◌%◌, ◌^◌, ◌<◌, List, Bool, true, false, refl, sym, ap, ◌∙◌, subst, arith}
 use mathlib.Core.Path.{fun_ext}
 use Rattle.std.specs.Prelude.{not, ◌&&◌, if◌then◌else◌, nat_eq, nat_lt}
-use Rattle.std.proofs.lemmas.Bool.{lt-ltb, ne_eqb}
+use Rattle.std.proofs.lemmas.Bool.{lt-ltb}
 use Rattle.std.proofs.Math.Nat.{mod-eq_of_lt, add-mod_left}
 use Rattle.gl_bits.specs.Words.{bit, choose_of, difference_of, lt_of}
+use Rattle.gl_bits.proofs.Numbers.{not_zero}
 use Rattle.gl_net.specs.declared.node.Bus.{Bus}
 use Rattle.gl_net.specs.declared.node.Bit.{Bit}
 use Rattle.gl_net.specs.Net.{Run}
@@ -13,9 +14,6 @@ use Rattle.gl_wire.proofs.StageLemmas.{line_first}
 use Rattle.gl_queue.specs.declared.pacing.Paced.{Paced}
 use Rattle.gl_queue.specs.Queue.{IsQueue}
 use Rattle.gl_queue.specs.SpacerLines.{count_at, IsPacing}
-
-not_zero : (n : ℕ) → nat_eq (suc n) 0 ≡ false
-not_zero n = ne_eqb (suc n) 0 (λ q. omega (arith, q))
 
 above_zero : (n : ℕ) → nat_eq (lt_of 0 n) 1 ≡ not (nat_eq n 0)
 unfolding lt_of

@@ -6,7 +6,7 @@ use Rattle.std.proofs.lemmas.Bool.{cases_lt, cases_order, or_right, or_left}
 use Rattle.std.proofs.lemmas.List.{length-map}
 use Rattle.std.proofs.Math.Nat.{mul-le-mul_left}
 use Rattle.gl_algebra.specs.declared.figures.Figures.{Figures}
-use Rattle.gl_bits.specs.Results.{Row}
+use Rattle.gl_values.specs.Results.{Row}
 use Rattle.gl_algebra.specs.FigureTable.{IsSound, spacer_figures, last_of}
 use Rattle.gl_algebra.proofs.FigureLemmas.{last_of-some}
 use Rattle.gl_wire.specs.Beats.{Beats, last, most, Spaced}

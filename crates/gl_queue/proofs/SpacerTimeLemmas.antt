@@ -5,7 +5,7 @@ use Rattle.std.proofs.lemmas.Bool.{cases_lt, cases_order, false_from_ne_true, or
 use Rattle.std.proofs.Math.Nat.{mul-le-mul_left}
 use Rattle.gl_bits.proofs.Options.{some_same}
 use Rattle.gl_algebra.specs.declared.figures.Figures.{Figures}
-use Rattle.gl_bits.specs.Results.{Row}
+use Rattle.gl_values.specs.Results.{Row}
 use Rattle.gl_wire.specs.Beats.{Beats, last, most}
 use Rattle.gl_wire.specs.Wire.{Carried, rows}
 use Rattle.gl_wire.specs.Sides.{IsOpen, IsIdle, Side}

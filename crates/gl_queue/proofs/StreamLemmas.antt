@@ -3,8 +3,8 @@ use Rattle.std.proofs.Common.{◌≡◌, ℕ, zero, suc, ◌<◌, List, [], ◌�
 use Rattle.std.specs.Prelude.{option_to_list, not, ◌&&◌, ◌||◌, if◌then◌else◌}
 use Rattle.std.proofs.lemmas.Bool.{cases_lt, false_from_ne_true}
 use Rattle.std.proofs.lemmas.List.{append-nil}
-use Rattle.gl_bits.specs.Results.{Row}
-use Rattle.gl_bits.specs.Lists.{IsInterleaving, nothing, from_first, from_second}
+use Rattle.gl_values.specs.Results.{Row}
+use Rattle.gl_values.specs.Lists.{IsInterleaving, nothing, from_first, from_second}
 use Rattle.gl_wire.specs.Wire.{Carried, pending, stream}
 use Rattle.gl_queue.specs.Phases.{Held, Works}
 use Rattle.gl_queue.proofs.HeldLemmas.{flag_off, flag_on, flag_kept}

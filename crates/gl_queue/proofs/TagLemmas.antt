@@ -4,7 +4,7 @@ use Rattle.std.specs.Prelude.{option_to_list, is_some, if◌then◌else◌}
 use Rattle.std.specs.Option.{option_map}
 use Rattle.std.proofs.lemmas.Bool.{cases_lt, or_parts}
 use Rattle.std.proofs.lemmas.List.{append-nil, map-append}
-use Rattle.gl_bits.specs.Results.{Row}
+use Rattle.gl_values.specs.Results.{Row}
 use Rattle.gl_bits.proofs.AllLists.{heads}
 use Rattle.gl_wire.specs.Wire.{Carried, pending, rows}
 use Rattle.gl_queue.specs.Queue.{behind, entries}

@@ -5,7 +5,7 @@ use Rattle.std.proofs.lemmas.Bool.{cases_lt, false_from_ne_true, or_from}
 use Rattle.gl_algebra.specs.declared.figures.Figures.{Figures}
 use Rattle.gl_algebra.specs.FigureTable.{IsSound, merged, last_of}
 use Rattle.gl_algebra.proofs.FigureLemmas.{last_of-some}
-use Rattle.gl_bits.specs.Lists.{IsInterleaving}
+use Rattle.gl_values.specs.Lists.{IsInterleaving}
 use Rattle.gl_wire.specs.Beats.{Beats, last, most, Spaced}
 use Rattle.gl_wire.specs.Wire.{Carried, stream, rows}
 use Rattle.gl_wire.specs.Serves.{HasEnd, Fits, Served2}

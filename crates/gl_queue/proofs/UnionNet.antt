@@ -9,9 +9,9 @@ use Rattle.gl_algebra.specs.FigureTable.{IsSound, delayed, union_figures, wait_o
 use Rattle.gl_algebra.specs.Weights.{pad_of}
 use Rattle.gl_algebra.proofs.SoundLemmas.{delayed_sound}
 use Rattle.gl_bits.proofs.Bools.{or_none}
-use Rattle.gl_bits.specs.Lists.{IsInterleaving}
+use Rattle.gl_values.specs.Lists.{IsInterleaving}
 use Rattle.gl_net.specs.declared.node.Bit.{Bit}
-use Rattle.gl_bits.specs.Results.{Row}
+use Rattle.gl_values.specs.Results.{Row}
 use Rattle.gl_net.specs.Net.{Net, Run, IsRun}
 use Rattle.gl_net.proofs.Determined.{keeps_then}
 use Rattle.gl_wire.specs.declared.emitted.Emitted.{Emitted}

@@ -4,7 +4,7 @@ use Rattle.std.specs.List.{sum}
 use Rattle.gl_algebra.specs.declared.figures.Figures.{Figures}
 use Rattle.gl_algebra.specs.FigureTable.{beside_figures, is_fixed, wait_of}
 use Rattle.gl_algebra.specs.Weights.{pad_of}
-use Rattle.gl_bits.specs.Results.{AreBeside}
+use Rattle.gl_values.specs.Results.{AreBeside}
 use Rattle.gl_net.specs.Net.{Net, Run, IsRun}
 use Rattle.gl_wire.specs.declared.emitted.Emitted.{Emitted}
 use Rattle.gl_wire.specs.Blocks.{IsBehind2}

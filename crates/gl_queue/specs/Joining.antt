@@ -3,7 +3,7 @@
 use Rattle.std.specs.Prelude.{◌≡◌, ℕ, suc, ◌++◌, Some, None, Bool, false, not, ◌&&◌, ◌||◌, if◌then◌else◌}
 use Rattle.gl_algebra.specs.declared.figures.Figures.{Figures}
 use Rattle.gl_algebra.specs.FigureTable.{IsSound, at_end}
-use Rattle.gl_bits.specs.Results.{AreBeside, Row}
+use Rattle.gl_values.specs.Results.{AreBeside, Row}
 use Rattle.gl_wire.specs.Pace.{BothWithEnds}
 use Rattle.gl_wire.specs.Spills.{ServesWhen2, never2, no_lines}
 use Rattle.gl_wire.specs.Wire.{Carried}

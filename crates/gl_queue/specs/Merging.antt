@@ -2,8 +2,8 @@
 use Rattle.std.specs.Prelude.{◌≡◌, ℕ, suc, Option, Some, None, Bool, true, false, is_some, not, ◌&&◌, ◌||◌}
 use Rattle.gl_algebra.specs.declared.figures.Figures.{Figures}
 use Rattle.gl_algebra.specs.FigureTable.{IsSound, merged}
-use Rattle.gl_bits.specs.Lists.{IsInterleaving}
-use Rattle.gl_bits.specs.Results.{Row}
+use Rattle.gl_values.specs.Lists.{IsInterleaving}
+use Rattle.gl_values.specs.Results.{Row}
 use Rattle.gl_wire.specs.Spills.{Lines, ServesWhen2, always, never2}
 use Rattle.gl_wire.specs.Wire.{Carried}
 use Rattle.gl_queue.specs.Queue.{IsQueue}

@@ -1,6 +1,6 @@
 -- How far a union is, before each cycle.
 use Rattle.std.specs.Prelude.{◌≡◌, ℕ, suc, ◌+◌, ◌<◌, ◌≤◌, List, ◌++◌, length, Some, Bool, true, false, is_some, not, ◌&&◌, ◌||◌, if◌then◌else◌, option_to_list}
-use Rattle.gl_bits.specs.Results.{Row}
+use Rattle.gl_values.specs.Results.{Row}
 use Rattle.gl_wire.specs.Beats.{Beats}
 use Rattle.gl_wire.specs.Wire.{Carried}
 use Rattle.gl_queue.specs.Queue.{oldest, behind}

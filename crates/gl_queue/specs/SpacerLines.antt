@@ -1,7 +1,7 @@
 -- A spacer as lines and buses of a netlist carry it: its queue's columns are the wire's, with the valid line and the
 -- end in front.
 use Rattle.std.specs.Prelude.{◌≡◌, ℕ, zero, suc, ◌-◌, List, [], ◌∷◌, Some, None, false, not, ◌&&◌, if◌then◌else◌, nat_eq}
-use Rattle.gl_bits.specs.Results.{Row}
+use Rattle.gl_values.specs.Results.{Row}
 use Rattle.gl_net.specs.declared.node.Bus.{Bus}
 use Rattle.gl_net.specs.declared.node.Bit.{Bit}
 use Rattle.gl_net.specs.Net.{Net, Run, IsRun, IsBit, IsBus, Keeps}

@@ -2,7 +2,7 @@
 use Rattle.std.specs.Prelude.{◌≡◌, ℕ, suc, ◌+◌, ◌-◌, ◌≤◌, Option, Some, None, Bool, false, is_some, ◌&&◌, if◌then◌else◌, nat_eq}
 use Rattle.gl_algebra.specs.declared.figures.Figures.{Figures}
 use Rattle.gl_algebra.specs.FigureTable.{IsSound, spacer_figures}
-use Rattle.gl_bits.specs.Results.{Row}
+use Rattle.gl_values.specs.Results.{Row}
 use Rattle.gl_wire.specs.Apart.{CarriesApart, carries}
 use Rattle.gl_wire.specs.Beats.{Beats, Spaced}
 use Rattle.gl_wire.specs.Serves.{Fits}

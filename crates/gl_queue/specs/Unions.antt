@@ -5,7 +5,7 @@ use Rattle.gl_algebra.specs.Cost.{ring}
 use Rattle.gl_algebra.specs.declared.figures.Figures.{Figures}
 use Rattle.gl_algebra.specs.FigureTable.{union_figures, wait_of}
 use Rattle.gl_algebra.specs.Weights.{pad_of}
-use Rattle.gl_bits.specs.Lists.{IsInterleaving}
+use Rattle.gl_values.specs.Lists.{IsInterleaving}
 use Rattle.gl_net.specs.Net.{Net, Run, IsRun}
 use Rattle.gl_wire.specs.declared.emitted.Emitted.{Emitted}
 use Rattle.gl_wire.specs.Blocks.{IsBehind2, any_pace}

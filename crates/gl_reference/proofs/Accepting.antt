@@ -1,7 +1,7 @@
 -- The worked statements are accepted, or not, by computing.
 use Rattle.std.proofs.Common.{◌≡◌, false, true, refl, ap, arith, lit≤}
 use Rattle.std.specs.List.{IsDistinct}
-use Rattle.gl_bits.specs.Kinds.{width_of}
+use Rattle.gl_values.specs.Kinds.{width_of}
 use Rattle.gl_schema.specs.Schemas.{has_column, has_stream}
 use Rattle.gl_reference.specs.Worked.{AreAccepted, AreRefused}
 

@@ -2,7 +2,7 @@
 use Rattle.std.proofs.Common.{◌≡◌, ℕ, ◌<◌, List, length, get_or}
 use Rattle.std.specs.Prelude.{map}
 use Rattle.gl_bits.proofs.AllLists.{all_of_mapped}
-use Rattle.gl_bits.specs.Results.{Row}
+use Rattle.gl_values.specs.Results.{Row}
 use Rattle.gl_schema.specs.declared.schema.Column.{Column}
 use Rattle.gl_query.specs.declared.tree.Item.{Item}
 use Rattle.gl_query.specs.declared.tree.AggItem.{AggItem}

@@ -2,11 +2,11 @@
 use Rattle.std.proofs.Common.{◌≡◌, ℕ, zero, suc, ◌+◌, ◌<◌, Bool, true, List, [], ◌∷◌, length, refl, sym, ap, subst, ◌∙◌, map, take, nat_eq, get_or, arith}
 use Rattle.std.specs.Prelude.{bytes_eq, slice_index, Option}
 use Rattle.std.specs.List.{AllByRecursion}
-use Rattle.gl_bits.specs.Lists.{Group as GroupOf}
-use Rattle.gl_bits.specs.Lists.{groups, keys_of, rows_with}
-use Rattle.gl_bits.specs.Tables.{keyed_groups}
-use Rattle.gl_bits.specs.Results.{Row}
-use Rattle.gl_bits.specs.declared.lists.Group.{Group}
+use Rattle.gl_values.specs.Lists.{Group as GroupOf}
+use Rattle.gl_values.specs.Lists.{groups, keys_of, rows_with}
+use Rattle.gl_values.specs.Tables.{keyed_groups}
+use Rattle.gl_values.specs.Results.{Row}
+use Rattle.gl_values.specs.declared.lists.Group.{Group}
 use Rattle.gl_bits.proofs.Bools.{by_cases}
 use Rattle.gl_schema.specs.declared.schema.Column.{Column}
 use Rattle.gl_schema.specs.declared.schema.Schema.{Schema}

@@ -1,16 +1,16 @@
 -- The result of a form, from the results of its parts.
 use Rattle.std.proofs.Common.{◌≡◌, ℕ, List, ◌++◌, Bool, false, sym, ap, subst, ◌∙◌}
 use Rattle.std.specs.Prelude.{◌||◌, slice_index}
-use Rattle.gl_bits.specs.Lists.{Group, IsInterleaving, groups, has_further}
-use Rattle.gl_bits.specs.Partitions.{parts}
-use Rattle.gl_bits.specs.Tables.{keyed_groups}
-use Rattle.gl_bits.specs.declared.lists.Group.{Group as Keyed}
+use Rattle.gl_values.specs.Lists.{Group, IsInterleaving, groups, has_further}
+use Rattle.gl_values.specs.Partitions.{parts}
+use Rattle.gl_values.specs.Tables.{keyed_groups}
+use Rattle.gl_values.specs.declared.lists.Group.{Group as Keyed}
 use Rattle.gl_schema.specs.declared.schema.Column.{Column}
 use Rattle.gl_query.specs.declared.tree.Measure.{Measure}
 use Rattle.gl_query.specs.Shapes.{QueryShape}
 use Rattle.gl_query.specs.Shapes as shape
 use Rattle.gl_query.specs.Values.{column_number}
-use Rattle.gl_bits.specs.Results.{Row, AreBeside}
+use Rattle.gl_values.specs.Results.{Row, AreBeside}
 use Rattle.gl_query.specs.Results.{Env, IsResultIn, columns_in, ticks_in, times_in}
 use Rattle.gl_query.specs.Windows.{parts_of}
 use Rattle.gl_query.proofs.Existing.{first_then_second}

@@ -1,7 +1,7 @@
 -- The sources of a schema, one stream more.
 use Rattle.std.proofs.Common.{◌≡◌, ℕ, zero, suc, ◌+◌, ◌<◌, List, [], ◌∷◌, ◌++◌, length, take, get_or, refl, sym, ap, ◌∙◌, arith}
 use Rattle.gl_schema.specs.declared.schema.Stream.{Stream}
-use Rattle.gl_bits.specs.Results.{Row}
+use Rattle.gl_values.specs.Results.{Row}
 use Rattle.gl_schema.specs.Beats.{Inputs}
 use Rattle.gl_query.specs.Results.{Source, numbered}
 use Rattle.std.specs.Prelude.{slice_get, unwrap_or}

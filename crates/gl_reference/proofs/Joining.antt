@@ -1,7 +1,7 @@
 -- Results joined in order, one part more.
 use Rattle.std.proofs.Common.{◌≡◌, ℕ, zero, suc, ◌+◌, ◌<◌, List, [], ◌∷◌, ◌++◌, Bool, false, length, take, get_or, refl, sym, ap, ◌∙◌, arith, append_assoc, append-nil}
 use Rattle.std.specs.Prelude.{map, ◌||◌}
-use Rattle.gl_bits.specs.Results.{Row, Results, AreJoined}
+use Rattle.gl_values.specs.Results.{Row, Results, AreJoined}
 use Rattle.gl_bits.proofs.Bools.{or_join, or_none}
 
 pub joined_push : {A : Type 0} (body : A → Results) (parts : List A) (part : A) (out o : List Row) (p q : Bool) → AreJoined body parts out p → body part o q → AreJoined body (parts ++ part ∷ []) (out ++ o) (p || q)

@@ -3,14 +3,14 @@ use Rattle.std.proofs.Common.{◌≡◌, ℕ, ◌+◌, ◌<◌, List, [], ◌∷
 use Rattle.std.specs.Prelude.{flat_map, nat_eq, nat_lt, slice_index}
 use Rattle.std.specs.List.{AllByRecursion, list_any}
 use Rattle.std.proofs.lemmas.List.{map-append}
-use Rattle.gl_bits.specs.Lists.{Group as GroupOf, groups, keys_of, slices}
-use Rattle.gl_bits.specs.Partitions.{completed_by, fulls, has_key, keyed, parts, short_slices, shorts}
-use Rattle.gl_bits.specs.Results.{Row}
-use Rattle.gl_bits.specs.Tables.{keyed_groups, table_group}
-use Rattle.gl_bits.specs.declared.lists.Group.{Group}
+use Rattle.gl_values.specs.Lists.{Group as GroupOf, groups, keys_of, slices}
+use Rattle.gl_values.specs.Partitions.{completed_by, fulls, has_key, keyed, parts, short_slices, shorts}
+use Rattle.gl_values.specs.Results.{Row}
+use Rattle.gl_values.specs.Tables.{keyed_groups, table_group}
+use Rattle.gl_values.specs.declared.lists.Group.{Group}
 use Rattle.gl_bits.proofs.AllLists.{all_mapped, all_weaker, taken_next}
 use Rattle.gl_bits.proofs.Bools.{by_cases}
-use Rattle.gl_bits.proofs.Grouping.{keyed_groups_are}
+use Rattle.gl_values.proofs.Grouping.{keyed_groups_are}
 use Rattle.gl_query.proofs.Holding.{IsGroupOf, all_windows_of}
 use Rattle.gl_reference.specs.Partitions.{shown, table_fulls, table_parts, table_short, table_shorts, table_shorts_of, table_windows}
 

@@ -1,6 +1,6 @@
 -- Rows side by side, one more of each.
 use Rattle.std.proofs.Common.{◌≡◌, ℕ, zero, suc, ◌+◌, ◌<◌, List, [], ◌∷◌, ◌++◌, length, take, get_or, sym, ap, ◌∙◌, arith}
-use Rattle.gl_bits.specs.Results.{beside}
+use Rattle.gl_values.specs.Results.{beside}
 
 pub beside_more : (ls rs : List (List ℕ)) (i : ℕ) (l r : List ℕ) → i < length ls → i < length rs → l ≡ get_or ls i l → r ≡ get_or rs i r
     → beside (take (i + 1) ls) (take (i + 1) rs) ≡ beside (take i ls) (take i rs) ++ (l ++ r) ∷ []

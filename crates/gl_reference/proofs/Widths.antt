@@ -1,11 +1,11 @@
 -- The widths of kinds, and casts by what a kind's values are.
 use Rattle.std.proofs.Common.{◌≡◌, ℕ, ◌*◌, ◌/◌, ◌^◌, ◌≤◌, refl, arith}
-use Rattle.gl_bits.specs.declared.kind.Family.TheVariants.{Numbers, Texts}
-use Rattle.gl_bits.specs.declared.kind.Kind.{Kind}
-use Rattle.gl_bits.specs.declared.kind.Kind.TheVariants.{Unsigned, Signed, Text}
-use Rattle.gl_bits.specs.Kinds.{IsKind, family_of, number_of, width_of, word_of}
-use Rattle.gl_bits.proofs.KindLemmas.{kind_some}
-use Rattle.gl_bits.specs.Operators.{cast_of}
+use Rattle.gl_values.specs.declared.kind.Family.TheVariants.{Numbers, Texts}
+use Rattle.gl_values.specs.declared.kind.Kind.{Kind}
+use Rattle.gl_values.specs.declared.kind.Kind.TheVariants.{Unsigned, Signed, Text}
+use Rattle.gl_values.specs.Kinds.{IsKind, family_of, number_of, width_of, word_of}
+use Rattle.gl_values.proofs.KindLemmas.{kind_some}
+use Rattle.gl_values.specs.Operators.{cast_of}
 
 pub kind_width : (kind : Kind) → IsKind kind → (1 ≤ width_of kind) × (width_of kind ≤ 128)
 kind_width kind k = (kind_some kind k, omega (arith, k.1))

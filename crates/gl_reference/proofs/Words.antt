@@ -1,11 +1,11 @@
 -- An expression of a kind over a row that fits has a word of that kind, and so have its parts.
 use Rattle.std.proofs.Common.{ℕ, ◌<◌, ◌≤◌, ◌^◌, List, arith}
 use Rattle.std.proofs.Math.Nat.{pow-le-pow_right}
-use Rattle.gl_bits.specs.declared.kind.Kind.{Kind}
-use Rattle.gl_bits.specs.declared.op.Op.{Op}
-use Rattle.gl_bits.specs.Kinds.{IsKind, width_of}
-use Rattle.gl_bits.specs.Results.{Row}
-use Rattle.gl_bits.proofs.KindLemmas.{kind_width}
+use Rattle.gl_values.specs.declared.kind.Kind.{Kind}
+use Rattle.gl_values.specs.declared.op.Op.{Op}
+use Rattle.gl_values.specs.Kinds.{IsKind, width_of}
+use Rattle.gl_values.specs.Results.{Row}
+use Rattle.gl_values.proofs.KindLemmas.{kind_width}
 use Rattle.gl_schema.specs.declared.schema.Column.{Column}
 use Rattle.gl_query.specs.Shapes.{ExprShape}
 use Rattle.gl_query.specs.Shapes as shape

@@ -1,10 +1,10 @@
 -- A body over each part of a source, its results joined in order.
 -- A middle layer, proved equal to gl_query (`Results`): no promise rests on it.
 use Rattle.std.specs.Prelude.{ℕ, List, ◌∷◌, map}
-use Rattle.gl_bits.specs.declared.lists.Group.{Group}
+use Rattle.gl_values.specs.declared.lists.Group.{Group}
 use Rattle.gl_schema.specs.declared.schema.Column.{Column}
 use Rattle.gl_query.specs.Shapes.{QueryShape}
-use Rattle.gl_bits.specs.Results.{Row, Results, AreJoined, IsChanged}
+use Rattle.gl_values.specs.Results.{Row, Results, AreJoined, IsChanged}
 use Rattle.gl_query.specs.Results.{IsResultIn, only}
 
 -- over lists of rows

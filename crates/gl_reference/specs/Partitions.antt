@@ -2,9 +2,9 @@
 -- A middle layer, proved equal to gl_bits (`Partitions`): no promise rests on it.
 use Rattle.std.specs.Prelude.{ℕ, Bool, List, [], ◌∷◌, length, map, flat_map, slice_index, nat_eq, nat_lt, if◌then◌else◌}
 use Rattle.std.specs.List.{list_any}
-use Rattle.gl_bits.specs.Lists.{Group as GroupOf, rows_with, slices}
-use Rattle.gl_bits.specs.Partitions.{completed, fulls, has_key, keyed, parts, shorts}
-use Rattle.gl_bits.specs.declared.lists.Group.{Group}
+use Rattle.gl_values.specs.Lists.{Group as GroupOf, rows_with, slices}
+use Rattle.gl_values.specs.Partitions.{completed, fulls, has_key, keyed, parts, shorts}
+use Rattle.gl_values.specs.declared.lists.Group.{Group}
 
 -- a group as the code has it
 abbrev pub shown : GroupOf (List ℕ) → Group

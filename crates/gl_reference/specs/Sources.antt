@@ -1,7 +1,7 @@
 -- What a query may read, as the code is given it, and what it is answered.
 -- A middle layer, proved equal to gl_query (`Results`): no promise rests on it.
 use Rattle.std.specs.Prelude.{ℕ, List, [], map, Option, None, Some, slice_get, unwrap_or}
-use Rattle.gl_bits.specs.Results.{Row}
+use Rattle.gl_values.specs.Results.{Row}
 use Rattle.gl_schema.specs.Beats.{Inputs}
 use Rattle.gl_schema.specs.declared.schema.Column.{Column}
 use Rattle.gl_query.specs.declared.tree.Query.{Query}

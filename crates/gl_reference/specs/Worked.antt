@@ -1,9 +1,9 @@
 -- Statements that are accepted over two streams of trades, and statements that are not.
 use Rattle.std.specs.Prelude.{true, false, List, [], ◌∷◌, Some, None, codes}
-use Rattle.gl_bits.specs.declared.kind.Kind.TheVariants.{Unsigned, Text}
+use Rattle.gl_values.specs.declared.kind.Kind.TheVariants.{Unsigned, Text}
 use Rattle.gl_schema.specs.declared.schema.Column.{Column}
 use Rattle.gl_schema.specs.declared.schema.Stream.{Stream}
-use Rattle.gl_bits.specs.declared.op.Op.TheVariants as op
+use Rattle.gl_values.specs.declared.op.Op.TheVariants as op
 use Rattle.gl_query.specs.declared.tree.Measure.TheVariants.{Tuples, Time}
 use Rattle.gl_query.specs.Shapes.{ExprShape, AggShape, QueryShape, Binary, Letters, Number, Count, All, Items, Read, Rows, Total, Each, Union, Concat}
 use Rattle.gl_query.specs.Shapes as shape

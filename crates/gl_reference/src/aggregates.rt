@@ -1,8 +1,8 @@
 //! Aggregates over rows.
 
 ghost use Rattle.std.specs.Prelude.{◌≡◌, IfOk, map};
-ghost use Rattle.gl_bits.specs.Kinds.{IsKind, width_of};
-ghost use Rattle.gl_bits.specs.Totals.{average_of, sum_total, weighted_sum};
+ghost use Rattle.gl_values.specs.Kinds.{IsKind, width_of};
+ghost use Rattle.gl_values.specs.Totals.{average_of, sum_total, weighted_sum};
 ghost use Rattle.gl_query.specs.Accepted.{IsAgg};
 ghost use Rattle.gl_query.specs.Laws.{AreKinds};
 ghost use Rattle.gl_query.specs.Results.{agg_value, total_row, values_of};
@@ -12,9 +12,10 @@ ghost use Rattle.gl_reference.specs.Fits.{AreAggs, AreRows, HasKindAlone, IsOrMe
 
 use crate::rows::Fault;
 use crate::values::value_of;
-use gl_bits::{Kind, Listed, Memory, totals};
+use gl_bits::{Listed, Memory};
 use gl_query::{Agg, AggItem, Expr, Num, kinds};
 use gl_schema::Column;
+use gl_values::{Kind, totals};
 use std::alloc::Global;
 
 /// The values of an expression over rows.
@@ -39,7 +40,7 @@ fn values_over(
 }
 
 /// The sum in the width of a kind.
-#[tactic(auto, using(crate::proofs::Widths::kind_width, gl_bits::proofs::KindLemmas::passes_test, gl_bits::proofs::KindLemmas::tested_kind))]
+#[tactic(auto, using(crate::proofs::Widths::kind_width, gl_values::proofs::KindLemmas::passes_test, gl_values::proofs::KindLemmas::tested_kind))]
 fn sum_in(kind: Kind, values: &[u128]) -> Result<u128, Fault>
     ensures value { IfOk result (λ v. v ≡ sum_total (width_of kind) values.now) }
     ensures fits { IsKind kind → IsOrMemory result }
@@ -51,7 +52,7 @@ fn sum_in(kind: Kind, values: &[u128]) -> Result<u128, Fault>
 }
 
 /// The average in a kind.
-#[tactic(auto, using(gl_bits::proofs::KindLemmas::passes_test, gl_bits::proofs::KindLemmas::tested_kind))]
+#[tactic(auto, using(gl_values::proofs::KindLemmas::passes_test, gl_values::proofs::KindLemmas::tested_kind))]
 fn average_in(kind: Kind, values: &[u128]) -> Result<u128, Fault>
     ensures value { IfOk result (λ v. v ≡ average_of kind values.now) }
     ensures fits { IsKind kind → IsOrMemory result }
@@ -63,7 +64,7 @@ fn average_in(kind: Kind, values: &[u128]) -> Result<u128, Fault>
 }
 
 /// The sum by weights in the width of a kind.
-#[tactic(auto, using(crate::proofs::Widths::kind_width, gl_bits::proofs::KindLemmas::passes_test, gl_bits::proofs::KindLemmas::tested_kind))]
+#[tactic(auto, using(crate::proofs::Widths::kind_width, gl_values::proofs::KindLemmas::passes_test, gl_values::proofs::KindLemmas::tested_kind))]
 fn weigh_in(kind: Kind, weights: &[u128], values: &[u128]) -> Result<u128, Fault>
     ensures value { IfOk result (λ v. v ≡ weighted_sum (width_of kind) weights.now values.now) }
     ensures fits { IsKind kind → IsOrMemory result }

@@ -2,10 +2,10 @@
 
 ghost use Rattle.std.specs.Prelude.{◌≡◌, ◌≤◌, ◌||◌, ◌++◌, IfOk, length, map, option_map};
 ghost use Rattle.gl_bits.specs.Limits.{most_groups};
-ghost use Rattle.gl_bits.specs.Lists.{slices};
+ghost use Rattle.gl_values.specs.Lists.{slices};
 ghost use Rattle.gl_query.specs.Shapes.{agg_item_shape, expr_shape, pick_shape, query_shape};
 ghost use Rattle.gl_query.specs.Shapes as shape;
-ghost use Rattle.gl_bits.specs.Results.{AreBeside};
+ghost use Rattle.gl_values.specs.Results.{AreBeside};
 ghost use Rattle.gl_query.specs.Accepted.{IsRows, IsWindow};
 ghost use Rattle.gl_query.specs.declared.tree.Measure.TheVariants.{Tuples};
 ghost use Rattle.gl_reference.specs.Fits.{AreAggs, AreRows, IsOrMemory};
@@ -14,10 +14,11 @@ ghost use Rattle.gl_reference.specs.Sources.{IsAnswer, columns_over};
 use crate::aggregates::total_row;
 use crate::columns::{Source, columns_of, source_named};
 use crate::rows::{Fault, beside, copy_of_table, joined, picked_rows};
+use gl_bits::Listed;
 use gl_bits::limits::{MOST_GROUPS, MOST_ROWS};
-use gl_bits::lists::slices_of;
-use gl_bits::{Listed, Table};
 use gl_query::{AggItem, Expr, Name, Pick, Query};
+use gl_values::Table;
+use gl_values::lists::slices_of;
 use std::alloc::Global;
 
 /// A result: its rows, and whether rows of further keys were left out.

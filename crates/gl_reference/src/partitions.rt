@@ -1,7 +1,7 @@
 //! Windows of each key of rows, answered as plainly as they are defined.
 
 ghost use Rattle.std.specs.Prelude.{◌≡◌, ◌++◌, ◌≤◌, IfOk, OnOk, flat_map, option_map, option_to_list, slice_index};
-ghost use Rattle.gl_bits.specs.Partitions.{completed, has_key};
+ghost use Rattle.gl_values.specs.Partitions.{completed, has_key};
 ghost use Rattle.gl_query.specs.Accepted.{IsWindow};
 ghost use Rattle.gl_query.specs.declared.tree.Measure.TheVariants.{Tuples};
 ghost use Rattle.gl_reference.specs.Fits.{IsOrMemory};
@@ -9,8 +9,9 @@ ghost use Rattle.gl_reference.specs.Partitions.{is_key, table_fulls, table_parts
 
 use crate::rows::{Fault, copy_of_table};
 use gl_bits::limits::MOST_ROWS;
-use gl_bits::lists::{groups_of, number_at, rows_with_key, slices_of};
-use gl_bits::{Group, Listed, Memory};
+use gl_bits::{Listed, Memory};
+use gl_values::Group;
+use gl_values::lists::{groups_of, number_at, rows_with_key, slices_of};
 use std::alloc::Global;
 
 // Whether a key is that of a group.

@@ -3,7 +3,7 @@
 ghost use Rattle.std.specs.Prelude.{◌≡◌, Bool, IfOk, length, map};
 ghost use Rattle.gl_query.specs.Shapes.{query_shape};
 ghost use Rattle.std.specs.List.{AllByRecursion};
-ghost use Rattle.gl_bits.specs.declared.lists.Group.{Group};
+ghost use Rattle.gl_values.specs.declared.lists.Group.{Group};
 ghost use Rattle.gl_schema.specs.Schemas.{IsRowOf};
 ghost use Rattle.gl_query.specs.Accepted.{IsAcceptedOver};
 ghost use Rattle.gl_query.specs.Laws.{scope_of};
@@ -19,12 +19,13 @@ use crate::columns::{Clock, Source, columns_of};
 use crate::partitions::partitions_of;
 use crate::rows::{Fault, joined, with_key};
 use crate::windows::{clock_of, slices_in, time_windows_of};
-use gl_bits::lists::{groups_of, some_further};
-use gl_bits::{Group, Listed, Memory, Table};
+use gl_bits::{Listed, Memory};
 use gl_query::kinds::column_number;
 use gl_query::laws::results_fit;
 use gl_query::{Query, Statement};
 use gl_schema::{Column, Schema, Stream};
+use gl_values::lists::{groups_of, some_further};
+use gl_values::{Group, Table};
 use std::alloc::Global;
 
 /// A body over each slice, its results joined in order.
@@ -257,7 +258,7 @@ fn sources_of<'a>(
 }
 
 /// One result of an accepted statement over a schema: the inputs and their times are those of the
-/// streams, in order, and so many ticks come in all.
+/// streams, in order, and `ticks` ticks come in all.
 pub fn evaluate(
     alloc: Global,
     schema: &Schema,

@@ -2,18 +2,19 @@
 
 ghost use Rattle.std.specs.Prelude.{◌≡◌, ◌++◌, ◌∷◌, IfOk, length, map, option_map};
 ghost use Rattle.gl_query.specs.Shapes.{Items, expr_shape, item_shape, pick_shape};
-ghost use Rattle.gl_bits.specs.Results.{beside};
+ghost use Rattle.gl_values.specs.Results.{beside};
 ghost use Rattle.gl_query.specs.Accepted.{IsPick, IsRows};
 ghost use Rattle.gl_query.specs.Results.{kept, picked};
 ghost use Rattle.gl_reference.specs.declared.rows.Fault.TheVariants as fault;
 ghost use Rattle.gl_reference.specs.Fits.{AreRows, IsOrMemory, IsRow};
 
 use crate::values::{keeps, value_of};
-use gl_bits::lists::copy_of_row;
-use gl_bits::{Listed, Memory, Table};
+use gl_bits::{Listed, Memory};
 use gl_query::kinds::kind_alone;
 use gl_query::{Expr, Item, Pick};
 use gl_schema::Column;
+use gl_values::Table;
+use gl_values::lists::copy_of_row;
 use std::alloc::{AllocError, AllocFailed, Global};
 
 /// Why there is no answer.

@@ -5,18 +5,18 @@ ghost use Rattle.std.specs.Prelude.{◌≡◌, ◌^◌, ◌<◌, IfSome, IsSome,
 ghost use Rattle.gl_bits.specs.Words.{bit as bit_of, eq_of, not_of};
 ghost use Rattle.gl_schema.specs.Schemas.{text_word};
 ghost use Rattle.gl_query.specs.Shapes.{expr_shape};
-ghost use Rattle.gl_bits.specs.Kinds.{IsKind, bytes_in, can_cast, negative_word};
-ghost use Rattle.gl_bits.specs.Operators.{cast_of, operate};
+ghost use Rattle.gl_values.specs.Kinds.{IsKind, bytes_in, can_cast, negative_word};
+ghost use Rattle.gl_values.specs.Operators.{cast_of, operate};
 ghost use Rattle.gl_query.specs.Accepted.{IsFilter};
 ghost use Rattle.gl_query.specs.Values.{IsLettersOf, value_of};
 ghost use Rattle.gl_query.specs.Results.{keeps};
 ghost use Rattle.gl_reference.specs.Fits.{HasWord, IsRow};
 
-use gl_bits::lists::number_at;
-use gl_bits::{Family, Kind};
 use gl_query::kinds::{column_number, kind_alone, kind_of, operand_place};
 use gl_query::{Expr, Op};
 use gl_schema::{Column, text_number};
+use gl_values::lists::number_at;
+use gl_values::{Family, Kind};
 
 /// A power of two; None past 127.
 fn power(width: u16) -> Option<u128>
@@ -66,7 +66,7 @@ fn letters(place: Kind, text: &[u8]) -> Option<u128>
 }
 
 /// The word of a number behind a minus sign in its kind.
-#[tactic(auto, using(gl_bits::proofs::KindLemmas::passes_test, gl_bits::proofs::KindLemmas::tested_kind))]
+#[tactic(auto, using(gl_values::proofs::KindLemmas::passes_test, gl_values::proofs::KindLemmas::tested_kind))]
 fn negative(place: Kind, number: u128) -> Option<u128>
     ensures value { IfSome result (λ v. v ≡ negative_word place number) }
     ensures fits { IsKind place → IsSome result }
@@ -78,7 +78,7 @@ fn negative(place: Kind, number: u128) -> Option<u128>
 }
 
 /// The word of one kind as another.
-#[tactic(auto, using(crate::proofs::Widths::kind_width, crate::proofs::Widths::number_cast, crate::proofs::Widths::text_cast, gl_bits::proofs::KindLemmas::cast_kind, gl_bits::proofs::KindLemmas::passes_test, gl_bits::proofs::KindLemmas::tested_kind))]
+#[tactic(auto, using(crate::proofs::Widths::kind_width, crate::proofs::Widths::number_cast, crate::proofs::Widths::text_cast, gl_values::proofs::KindLemmas::cast_kind, gl_values::proofs::KindLemmas::passes_test, gl_values::proofs::KindLemmas::tested_kind))]
 fn cast(from: Kind, to: Kind, word: u128) -> Option<u128>
     ensures value { IfSome result (λ v. v ≡ cast_of from to word) }
     ensures fits { IsKind from → IsTrue (can_cast from to) → word < 2 ^ 64 → IsSome result }
@@ -93,7 +93,7 @@ fn cast(from: Kind, to: Kind, word: u128) -> Option<u128>
 }
 
 /// What an operator gives of two words of a kind.
-#[tactic(auto, using(gl_bits::proofs::KindLemmas::passes_test), unfolding(gl_bits::specs::Words::sum_of, gl_bits::specs::Words::difference_of, gl_bits::specs::Words::product_of))]
+#[tactic(auto, using(gl_values::proofs::KindLemmas::passes_test), unfolding(gl_bits::specs::Words::sum_of, gl_bits::specs::Words::difference_of, gl_bits::specs::Words::product_of))]
 fn operate(op: Op, kind: Kind, x: u128, y: u128) -> Option<u128>
     ensures value { IfSome result (λ v. v ≡ operate op kind x y) }
     ensures fits { IsKind kind → x < 2 ^ 64 → y < 2 ^ 64 → IsSome result }

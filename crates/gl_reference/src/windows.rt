@@ -1,7 +1,7 @@
 //! Windows over time, and the clock that they go by.
 
 ghost use Rattle.std.specs.Prelude.{◌≡◌, ◌≤◌, ◌*◌, ◌^◌, ◌++◌, IfOk, OnOk, [], map};
-ghost use Rattle.gl_bits.specs.Times.{tfirsts, tpart, tslices};
+ghost use Rattle.gl_values.specs.Times.{tfirsts, tpart, tslices};
 ghost use Rattle.gl_query.specs.Accepted.{IsWindow};
 ghost use Rattle.gl_query.specs.Results.{ticks_in, times_in};
 ghost use Rattle.gl_query.specs.Shapes.{query_shape};
@@ -12,9 +12,10 @@ ghost use Rattle.gl_reference.specs.Sources.{env_view, ticks_on, times_on};
 use crate::columns::{Clock, Source, source_named};
 use crate::rows::Fault;
 use gl_bits::limits::MOST_ROWS;
-use gl_bits::lists::copy_of_row;
-use gl_bits::{Listed, Memory, Table};
+use gl_bits::{Listed, Memory};
 use gl_query::Query;
+use gl_values::Table;
+use gl_values::lists::copy_of_row;
 use std::alloc::Global;
 
 /// The clock of a query that is a stream itself.
@@ -38,7 +39,7 @@ pub fn clock_of<'a>(sources: &[Source<'a>], query: &Query) -> Option<Clock<'a>>
     }
 }
 
-// Adds the rows whose time is from a number on, within so many ticks.
+// Adds the rows whose time is in the `size` ticks from `from` on.
 fn add_part(
     alloc: Global,
     from: u128,
@@ -65,7 +66,7 @@ fn add_part(
     add_part(alloc, from, size, later, others, part)
 }
 
-// The rows whose time is from a number on, within so many ticks.
+// The rows whose time is in the `size` ticks from `from` on.
 fn part_of(
     alloc: Global,
     from: u128,
@@ -92,7 +93,7 @@ fn start_of(number: u128, advance: u128) -> u128
     number * advance
 }
 
-// The first windows, so many.
+// The first `count` windows.
 fn first_windows(
     alloc: Global,
     size: u128,
@@ -116,7 +117,7 @@ fn first_windows(
     Ok(out)
 }
 
-// The windows of rows with these times, where so many ticks come in all.
+// The windows of rows with these times, where `ticks` ticks come in all.
 fn windows_in(
     alloc: Global,
     size: u128,

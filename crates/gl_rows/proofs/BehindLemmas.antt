@@ -1,8 +1,8 @@
 -- Columns made of a wire's columns, as an operator behind it.
 use Rattle.std.proofs.Common.{List, map, Some, refl, arith}
 use Rattle.std.proofs.lemmas.List.{length-map}
-use Rattle.gl_bits.specs.Kinds.{width_of}
-use Rattle.gl_bits.specs.declared.kind.Kind.{Kind}
+use Rattle.gl_values.specs.Kinds.{width_of}
+use Rattle.gl_values.specs.declared.kind.Kind.{Kind}
 use Rattle.gl_algebra.specs.declared.node.Operand.{Operand}
 use Rattle.gl_algebra.specs.Columns.{kind_of_operand}
 use Rattle.gl_algebra.specs.Results.{projected}

@@ -4,9 +4,9 @@ use Rattle.std.specs.Prelude.{if◌then◌else◌, nat_eq}
 use Rattle.std.proofs.Math.Nat.{add-mul-div_right, mod-eq_of_lt, div-eq_of_lt, div-one, mul-one, div-lt_iff_lt-mul}
 use Rattle.std.proofs.lemmas.Bool.{cases_lt, le-ltb, lt-ltb}
 use Rattle.std.proofs.lemmas.Nat.{pow-add, pow_pos}
-use Rattle.gl_bits.specs.Kinds.{signed_number, word_of}
+use Rattle.gl_values.specs.Kinds.{signed_number, word_of}
 use Rattle.gl_bits.specs.Words.{choose_of, cut_of, join_of}
-use Rattle.gl_bits.proofs.Signs.{half_of, sign_high, sign_low}
+use Rattle.gl_values.proofs.Signs.{half_of, sign_high, sign_low}
 use Rattle.gl_bits.proofs.Wrapping.{fits_wider}
 
 -- the highest bits

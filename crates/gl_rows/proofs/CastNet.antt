@@ -2,8 +2,8 @@
 use Rattle.std.proofs.Common.{◌≡◌, ℕ, ◌+◌, ◌-◌, ◌*◌, ◌/◌, ◌%◌, ◌^◌, ◌<◌, ◌≤◌, true, false, sym, ap, subst, ◌∙◌, arith}
 use Rattle.std.proofs.Math.Nat.{mod-eq_of_lt}
 use Rattle.std.specs.Prelude.{if◌then◌else◌}
-use Rattle.gl_bits.proofs.KindLemmas.{text_cast}
-use Rattle.gl_bits.proofs.Signs.{resized_plain, resized_signed, sign_cut}
+use Rattle.gl_values.proofs.KindLemmas.{text_cast}
+use Rattle.gl_values.proofs.Signs.{resized_plain, resized_signed, sign_cut}
 use Rattle.gl_bits.proofs.Wrapping.{fits_wider, cut_low}
 use Rattle.gl_bits.specs.Words.{join_of}
 use Rattle.gl_net.specs.declared.node.Bus.{Bus}
@@ -12,12 +12,12 @@ use Rattle.gl_net.specs.Net.{Net, IsBus, Keeps}
 use Rattle.gl_net.proofs.Determined.{keeps_then}
 use Rattle.gl_net.proofs.Values.{bus_fits}
 use Rattle.gl_wire.specs.Costs.{CostsAtMost, nodes_alone}
-use Rattle.gl_bits.specs.Kinds.{are_alike, family_of, is_signed, number_of, signed_number, width_of, word_of}
-use Rattle.gl_bits.specs.Operators.{cast_of}
-use Rattle.gl_bits.specs.declared.kind.Family.{Family}
-use Rattle.gl_bits.specs.declared.kind.Family.TheVariants.{Numbers, Texts}
-use Rattle.gl_bits.specs.declared.kind.Kind.{Kind}
-use Rattle.gl_bits.specs.declared.kind.Kind.TheVariants.{Unsigned, Signed, Text}
+use Rattle.gl_values.specs.Kinds.{are_alike, family_of, is_signed, number_of, signed_number, width_of, word_of}
+use Rattle.gl_values.specs.Operators.{cast_of}
+use Rattle.gl_values.specs.declared.kind.Family.{Family}
+use Rattle.gl_values.specs.declared.kind.Family.TheVariants.{Numbers, Texts}
+use Rattle.gl_values.specs.declared.kind.Kind.{Kind}
+use Rattle.gl_values.specs.declared.kind.Kind.TheVariants.{Unsigned, Signed, Text}
 use Rattle.gl_rows.specs.Made.{AreHigh, AreLow, Carries, IsCast, IsExtended, IsNumber}
 use Rattle.gl_rows.proofs.CastLemmas.{high_cut, high_join}
 use Rattle.gl_rows.proofs.MadeLemmas.{carries_as, carries_within}

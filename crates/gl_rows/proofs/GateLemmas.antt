@@ -1,13 +1,13 @@
 -- What an operator's gate gives of two words of a kind.
 use Rattle.std.proofs.Common.{◌≡◌, ℕ, ◌^◌, ◌<◌, ◌≤◌, true, false, refl, ap, ◌∙◌}
-use Rattle.gl_bits.specs.Kinds.{is_signed, width_of}
-use Rattle.gl_bits.specs.Operators.{operate, result_kind, sort_of}
+use Rattle.gl_values.specs.Kinds.{is_signed, width_of}
+use Rattle.gl_values.specs.Operators.{operate, result_kind, sort_of}
 use Rattle.gl_bits.specs.Words.{bit, le_of, lt_of}
-use Rattle.gl_bits.specs.declared.kind.Kind.{Kind}
-use Rattle.gl_bits.specs.declared.kind.Kind.TheVariants.{Unsigned, Signed, Text}
-use Rattle.gl_bits.specs.declared.op.Op.{Op}
-use Rattle.gl_bits.specs.declared.op.Op.TheVariants.{Add, Sub, Mul, Eq, Ne, Lt, Le, Gt, Ge, And, Or}
-use Rattle.gl_bits.proofs.Signs.{turned_below, turned_most}
+use Rattle.gl_values.specs.declared.kind.Kind.{Kind}
+use Rattle.gl_values.specs.declared.kind.Kind.TheVariants.{Unsigned, Signed, Text}
+use Rattle.gl_values.specs.declared.op.Op.{Op}
+use Rattle.gl_values.specs.declared.op.Op.TheVariants.{Add, Sub, Mul, Eq, Ne, Lt, Le, Gt, Ge, And, Or}
+use Rattle.gl_values.proofs.Signs.{turned_below, turned_most}
 use Rattle.gl_algebra.specs.Columns.{SortFits}
 use Rattle.gl_net.specs.Net.{binary_width}
 use Rattle.gl_rows.specs.Gates.{gate_of, gated, is_order, top_turned}

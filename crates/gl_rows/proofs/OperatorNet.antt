@@ -1,11 +1,11 @@
 -- A gate that takes two buses of a kind, as an operator.
 use Rattle.std.proofs.Common.{◌≡◌, ℕ, ◌^◌, ◌<◌, true, false, refl, sym, ap, subst, ◌∙◌, arith}
 use Rattle.std.specs.Prelude.{Bool, if◌then◌else◌}
-use Rattle.gl_bits.specs.Kinds.{is_signed, width_of}
-use Rattle.gl_bits.specs.Operators.{operate, result_kind, sort_of}
-use Rattle.gl_bits.specs.declared.kind.Kind.{Kind}
-use Rattle.gl_bits.specs.declared.kind.Kind.TheVariants.{Unsigned, Signed, Text}
-use Rattle.gl_bits.specs.declared.op.Op.{Op}
+use Rattle.gl_values.specs.Kinds.{is_signed, width_of}
+use Rattle.gl_values.specs.Operators.{operate, result_kind, sort_of}
+use Rattle.gl_values.specs.declared.kind.Kind.{Kind}
+use Rattle.gl_values.specs.declared.kind.Kind.TheVariants.{Unsigned, Signed, Text}
+use Rattle.gl_values.specs.declared.op.Op.{Op}
 use Rattle.gl_algebra.specs.Columns.{SortFits}
 use Rattle.gl_net.specs.declared.node.Bus.{Bus}
 use Rattle.gl_net.specs.Net.{Net, IsBus, binary_of, binary_width}

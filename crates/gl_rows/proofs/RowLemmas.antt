@@ -1,7 +1,7 @@
 -- Columns made of a wire's columns, under its lines.
 use Rattle.std.proofs.Common.{◌≡◌, ℕ, zero, suc, List, Some, None, Bool, true, false, refl, sym, ap, ◌∙◌}
 use Rattle.std.specs.Prelude.{if◌then◌else◌, nat_eq, option_and_then, slice_get, slice_index, ◌&&◌}
-use Rattle.gl_bits.specs.Results.{Row}
+use Rattle.gl_values.specs.Results.{Row}
 use Rattle.gl_net.specs.declared.node.Bus.{Bus}
 use Rattle.gl_net.specs.declared.node.Bit.{Bit}
 use Rattle.gl_net.specs.Net.{Run}

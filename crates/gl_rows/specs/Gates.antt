@@ -1,6 +1,6 @@
 -- The gate of each operator, and whether it takes the right operand first: there is no gate for > and >=.
 use Rattle.std.specs.Prelude.{ℕ, ◌-◌, ◌^◌, Bool, true, false, bit_xor, if◌then◌else◌}
-use Rattle.gl_bits.specs.declared.op.Op.{Op}
+use Rattle.gl_values.specs.declared.op.Op.{Op}
 use Rattle.gl_net.specs.declared.node.BinaryOp.{BinaryOp}
 use Rattle.gl_net.specs.declared.node.BinaryOp.TheVariants as Gate
 use Rattle.gl_net.specs.Net.{binary_of}

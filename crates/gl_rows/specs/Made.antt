@@ -1,14 +1,14 @@
 -- What is made of columns: buses that carry values of a run, in every cycle.
 use Rattle.std.specs.Prelude.{◌≡◌, ℕ, ◌-◌, ◌*◌, ◌/◌, ◌%◌, ◌^◌, List, length, map}
-use Rattle.gl_bits.specs.Kinds.{number_of, signed_number, width_of, word_of}
-use Rattle.gl_bits.specs.Results.{Row}
-use Rattle.gl_bits.specs.declared.kind.Kind.{Kind}
+use Rattle.gl_values.specs.Kinds.{number_of, signed_number, width_of, word_of}
+use Rattle.gl_values.specs.Results.{Row}
+use Rattle.gl_values.specs.declared.kind.Kind.{Kind}
 use Rattle.gl_algebra.specs.declared.node.ColOp.{ColOp}
 use Rattle.gl_algebra.specs.declared.node.Operand.{Operand}
 use Rattle.gl_algebra.specs.Columns.{kind_of_op, kind_of_operand}
 use Rattle.gl_algebra.specs.Values.{value_of_op, value_of_operand}
-use Rattle.gl_bits.specs.declared.op.Op.{Op}
-use Rattle.gl_bits.specs.Operators.{cast_of, operate, result_kind, sort_of}
+use Rattle.gl_values.specs.declared.op.Op.{Op}
+use Rattle.gl_values.specs.Operators.{cast_of, operate, result_kind, sort_of}
 use Rattle.gl_net.specs.declared.node.Bus.{Bus}
 use Rattle.gl_net.specs.Net.{Net, Run, IsRun, IsBus, Keeps, binary_width}
 use Rattle.gl_rows.specs.Gates.{gate_of, gated, top_turned}

@@ -1,12 +1,13 @@
 //! Casts.
 
 ghost use Rattle.std.specs.Prelude.{◌≡◌, ◌-◌, ◌^◌, ◌<◌, IfOk, IsTrue};
-ghost use Rattle.gl_bits.specs.Kinds.{can_cast, width_of};
+ghost use Rattle.gl_values.specs.Kinds.{can_cast, width_of};
 ghost use Rattle.gl_bits.specs.Words.{IsWidth};
 ghost use Rattle.gl_net.specs.Net.{IsBus};
 ghost use Rattle.gl_rows.specs.Made.{AreHigh, AreLow, Carries, IsCast, IsExtended, IsNumber};
 
-use gl_bits::{Family, Kind, Memory, Word};
+use gl_bits::{Memory, Word};
+use gl_values::{Family, Kind};
 use gl_net::{Bus, NetBuilder};
 
 // The word 0.
@@ -129,7 +130,7 @@ pub fn put_number(net: &mut NetBuilder, bus: Bus, kind: Kind, width: u8) -> Resu
 }
 
 /// A value of a kind as another one: a number that keeps its sign, or its lowest bits; a text's first bytes.
-#[tactic(auto, using(gl_bits::proofs::KindLemmas::cast_kind))]
+#[tactic(auto, using(gl_values::proofs::KindLemmas::cast_kind))]
 pub fn put_cast(net: &mut NetBuilder, bus: Bus, from: Kind, to: Kind) -> Result<Bus, Memory>
     requires bus { IsBus net.old bus }
     requires width { bus.width ≡ width_of from }

@@ -4,7 +4,7 @@ ghost use Rattle.std.specs.Prelude.{◌≡◌, ◌++◌, All, IfOk, Some, length
 ghost use Rattle.gl_algebra.specs.Columns.{OpFits};
 ghost use Rattle.gl_algebra.specs.FigureTable.{delayed, settled};
 ghost use Rattle.gl_algebra.specs.Results.{computed};
-ghost use Rattle.gl_bits.specs.Kinds.{width_of};
+ghost use Rattle.gl_values.specs.Kinds.{width_of};
 ghost use Rattle.gl_net.specs.declared.node.Bus.{Bus};
 ghost use Rattle.gl_rows.specs.Costs.{computed_widths, cost_of_rows};
 ghost use Rattle.gl_wire.specs.Blocks.{IsBehind};
@@ -15,7 +15,8 @@ use crate::figures::later_figures;
 use crate::operand::Source;
 use crate::operation::put_operations;
 use gl_algebra::{ColOp, Figures};
-use gl_bits::{Kind, Memory};
+use gl_bits::Memory;
+use gl_values::Kind;
 use gl_net::{Bus, Buses, NetBuilder};
 use gl_wire::laws::steady_serves;
 use gl_wire::{Emitted, Operator, stage};

@@ -5,7 +5,8 @@ ghost use Rattle.gl_algebra.specs.Columns.{OperandFits};
 ghost use Rattle.gl_rows.specs.Made.{AreOperands, IsOperand, IsSource};
 
 use gl_algebra::Operand;
-use gl_bits::{Kind, Memory};
+use gl_bits::Memory;
+use gl_values::Kind;
 use gl_net::{Bus, Buses, NetBuilder};
 use std::alloc::Global;
 

@@ -2,12 +2,12 @@
 
 ghost use Rattle.std.specs.Prelude.{◌≡◌, ◌-◌, ◌^◌, All, IfOk};
 ghost use Rattle.gl_algebra.specs.Columns.{OpFits, SortFits};
-ghost use Rattle.gl_bits.specs.Kinds.{width_of};
-ghost use Rattle.gl_bits.specs.Operators.{sort_of};
+ghost use Rattle.gl_values.specs.Kinds.{width_of};
+ghost use Rattle.gl_values.specs.Operators.{sort_of};
 ghost use Rattle.gl_net.specs.Net.{IsBus};
 ghost use Rattle.gl_algebra.specs.declared.node.ColOp.TheVariants.{Binary, Cast, Not};
 ghost use Rattle.gl_bits.specs.Words.{IsWidth};
-ghost use Rattle.gl_bits.specs.declared.kind.Kind.TheVariants.{Signed};
+ghost use Rattle.gl_values.specs.declared.kind.Kind.TheVariants.{Signed};
 ghost use Rattle.gl_rows.specs.Gates.{gate_of, is_order, is_turned};
 ghost use Rattle.gl_rows.specs.Made.{AreOperations, IsGated, IsGatedTurned, IsOperated, IsOperation, IsSource};
 
@@ -15,7 +15,8 @@ use crate::cast::put_cast;
 use crate::operand::{Source, put_operand};
 use gl_algebra::columns::kind_of_operand;
 use gl_algebra::{ColOp, Operand};
-use gl_bits::{Kind, Memory, Op, Word};
+use gl_bits::{Memory, Word};
+use gl_values::{Kind, Op};
 use gl_net::{BinaryOp, Bus, Buses, NetBuilder, Note};
 use std::alloc::Global;
 

@@ -4,7 +4,7 @@ ghost use Rattle.std.specs.Prelude.{◌≡◌, All, IfOk, Some, map};
 ghost use Rattle.gl_algebra.specs.Columns.{OperandFits};
 ghost use Rattle.gl_algebra.specs.FigureTable.{settled};
 ghost use Rattle.gl_algebra.specs.Results.{projected};
-ghost use Rattle.gl_bits.specs.Kinds.{width_of};
+ghost use Rattle.gl_values.specs.Kinds.{width_of};
 ghost use Rattle.gl_rows.specs.Costs.{cost_of_items, projected_widths};
 ghost use Rattle.gl_wire.specs.Blocks.{IsBehind};
 ghost use Rattle.gl_wire.specs.Shapes.{Mapped, Steady};
@@ -12,7 +12,8 @@ ghost use Rattle.gl_wire.specs.Wire.{IsWire, widths};
 
 use crate::operand::{Source, put_operands};
 use gl_algebra::{Figures, Operand};
-use gl_bits::{Kind, Memory};
+use gl_bits::Memory;
+use gl_values::Kind;
 use gl_net::NetBuilder;
 use gl_wire::laws::steady_serves;
 use gl_wire::{Emitted, Operator, Wire, settled_figures};

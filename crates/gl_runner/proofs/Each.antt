@@ -1,7 +1,7 @@
 -- From the runs that what drives a module is before to each run of the module.
 use Rattle.std.proofs.Common.{◌≡◌, ℕ, inl, inr, true, false, List, Option, Ok, refl, sym, subst}
 use Rattle.std.specs.Prelude.{IsOk}
-use Rattle.gl_bits.specs.declared.kind.Kind.{Kind}
+use Rattle.gl_values.specs.declared.kind.Kind.{Kind}
 use Rattle.gl_schema.specs.declared.schema.Schema.{Schema}
 use Rattle.gl_schema.specs.Beats.{Beat, AreBeats}
 use Rattle.gl_schema.specs.Ports.{PortValues, IsStimulus}
@@ -9,11 +9,11 @@ use Rattle.gl_schema.specs.Seen.{shown, seen, lines}
 use Rattle.gl_verilog.specs.Module.{Module, Nets, Memories}
 use Rattle.gl_verilog.specs.declared.module.Module.{Module as Rust}
 use Rattle.gl_verilog.specs.Run.{IsRun, port_of, input_values}
-use Rattle.gl_verilog_orders.specs.Laws.{EventRunsAreRuns}
+use Rattle.gl_verilog.specs.Laws.{EventRunsAreRuns}
 use Rattle.gl_verilog.specs.View.{module_of}
 use Rattle.gl_sim.specs.Simulation.{Simulation, IsAt}
 use Rattle.gl_sim.specs.Starts.{StartsFrom}
-use Rattle.gl_verilog_orders.specs.declared.start.Start.{Start}
+use Rattle.gl_verilog.specs.declared.start.Start.{Start}
 use Rattle.gl_outside.specs.States.{Appends, AppendsFront, SinkState}
 use Rattle.gl_runner.specs.declared.tracing.Ending.{Ending}
 use Rattle.gl_runner.specs.declared.tracing.Ending.TheVariants as ending

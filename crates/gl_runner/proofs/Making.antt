@@ -22,7 +22,7 @@ use Rattle.gl_runner.specs.Cycles.{CanDrive, CanFollow, IsFollowed, IsMade}
 use Rattle.gl_verilog_ports.specs.Profile.{ports_of}
 use Rattle.gl_verilog_ports.proofs.Declared.{distinct_take, get_take, number_at}
 use Rattle.gl_testbench.proofs.Inputs.{asked_of, carried_at, inputs_fit, run_has_inputs}
-use Rattle.gl_bits.specs.declared.kind.Kind.{Kind}
+use Rattle.gl_values.specs.declared.kind.Kind.{Kind}
 
 -- where the lines of one result can be written, the module can be driven
 pub can_drive : (m : Module) (schema : Schema) (kinds : List Kind) (beats : List Beat) → CanFollow m schema kinds beats → CanDrive m schema beats

@@ -4,8 +4,8 @@ use Rattle.std.specs.Prelude.{bytes_eq, codes, find, nat_le, slice_get, slice_in
 use Rattle.std.specs.List.{AllByRecursion, AllZip, flat_map, list_all}
 use Rattle.gl_bits.proofs.AllLists.{length_map, map_map}
 use Rattle.gl_bits.proofs.Bools.{bytes_same}
-use Rattle.gl_bits.specs.declared.kind.Kind.{Kind}
-use Rattle.gl_bits.specs.Kinds.{IsKind, width_of}
+use Rattle.gl_values.specs.declared.kind.Kind.{Kind}
+use Rattle.gl_values.specs.Kinds.{IsKind, width_of}
 use Rattle.gl_bits.specs.Words.{Word, bits_of, widths_of}
 use Rattle.gl_outside.specs.States.{Broke, SinkState, Took, Wrote}
 use Rattle.gl_outside.proofs.Takes.{broke_more, wrote_then}

@@ -5,7 +5,7 @@ use Rattle.std.specs.Option.{option_map}
 use Rattle.std.proofs.lemmas.List.{append-nil}
 use Rattle.std.proofs.lemmas.Bool.{cases_lt, cases_eq}
 use Rattle.gl_bits.proofs.Bools.{or_join, or_none}
-use Rattle.gl_bits.specs.declared.kind.Kind.{Kind}
+use Rattle.gl_values.specs.declared.kind.Kind.{Kind}
 use Rattle.gl_outside.specs.States.{Appends, AppendsFront, Broke, Counts, SinkState, Took, Wrote}
 use Rattle.gl_outside.specs.Counts.{Rose}
 use Rattle.gl_outside.proofs.Takes.{appends_none, appends_then, front_then, front_more}

@@ -1,8 +1,8 @@
 -- A module that is driven through the cycles of a file: what stands around it, what it has on its ports in a cycle, and
 -- where it then is.
 use Rattle.std.specs.Prelude.{◌≡◌, ℕ, suc, ◌+◌, ◌<◌, ◌≤◌, ◌^◌, false, List, None, Some, map, length, slice_get, slice_index, take}
-use Rattle.gl_bits.specs.declared.kind.Kind.{Kind}
-use Rattle.gl_bits.specs.Kinds.{width_of}
+use Rattle.gl_values.specs.declared.kind.Kind.{Kind}
+use Rattle.gl_values.specs.Kinds.{width_of}
 use Rattle.gl_schema.specs.declared.schema.Schema.{Schema}
 use Rattle.gl_schema.specs.Beats.{Beat, AreBeats}
 use Rattle.gl_schema.specs.Ports.{PortValues, IsStimulus}
@@ -14,7 +14,7 @@ use Rattle.gl_verilog.specs.View.{module_of}
 use Rattle.gl_verilog.specs.Valid.{IsValid}
 use Rattle.gl_verilog.specs.Widths.{IsNet, IsReadable, is_clock}
 use Rattle.gl_sim.specs.Simulation.{Simulation, IsAt}
-use Rattle.gl_verilog_orders.specs.declared.start.Start.{Start}
+use Rattle.gl_verilog.specs.declared.start.Start.{Start}
 use Rattle.gl_testbench.specs.declared.pins.Pin.{Pin}
 use Rattle.gl_testbench.specs.Carried.{pin_at}
 use Rattle.gl_testbench.specs.Dues.{AreDue}

@@ -1,7 +1,7 @@
 -- When a module has the ports of a result that stands beside others.
 use Rattle.std.specs.Prelude.{◌≡◌, ◌≤◌, ℕ, List, Some, true, length, IfSome}
 use Rattle.std.specs.List.{AllByRecursion}
-use Rattle.gl_bits.specs.Kinds.{IsKind, width_of}
+use Rattle.gl_values.specs.Kinds.{IsKind, width_of}
 use Rattle.gl_schema.specs.declared.schema.Column.{Column}
 use Rattle.gl_schema.specs.Ports.{fault_group, out_column, out_eos, out_valid}
 use Rattle.gl_testbench.specs.Views.{within}

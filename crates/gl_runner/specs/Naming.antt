@@ -3,7 +3,7 @@
 use Rattle.std.specs.Prelude.{◌≡◌, ℕ, false, List, map, unwrap_or}
 use Rattle.std.specs.List.{AllZip}
 use Rattle.gl_bits.specs.Words.{widths_of}
-use Rattle.gl_bits.specs.Kinds.{width_of}
+use Rattle.gl_values.specs.Kinds.{width_of}
 use Rattle.gl_schema.specs.declared.schema.Column.{Column}
 use Rattle.gl_schema.specs.Ports.{PortValues, fault_group, out_column, out_eos, out_valid}
 use Rattle.gl_schema.specs.Schemas.{kinds_of}

@@ -1,7 +1,7 @@
 -- What running a text over beats writes: the lines of the run of that very text, up to its end.
 use Rattle.std.specs.Prelude.{◌≡◌, ℕ, ◌+◌, ◌<◌, ◌≤◌, ◌^◌, List, Option, map, IsTrue, IsFalse, IsOk}
-use Rattle.gl_bits.specs.declared.kind.Kind.{Kind}
-use Rattle.gl_bits.specs.Kinds.{width_of}
+use Rattle.gl_values.specs.declared.kind.Kind.{Kind}
+use Rattle.gl_values.specs.Kinds.{width_of}
 use Rattle.gl_schema.specs.declared.schema.Schema.{Schema}
 use Rattle.gl_schema.specs.Beats.{Beat, last_cycle}
 use Rattle.gl_schema.specs.Ports.{PortValues, IsStimulus}
@@ -13,8 +13,8 @@ use Rattle.gl_runner.specs.declared.executing.Outcome.TheVariants.{Done, WriteFa
 use Rattle.gl_verilog.specs.Module.{Module, Nets, Memories}
 use Rattle.gl_verilog.specs.Run.{port_of, input_values}
 use Rattle.gl_verilog.specs.Text.{HasModule}
-use Rattle.gl_verilog_orders.specs.Events.{IsEventRun}
-use Rattle.gl_verilog_orders.specs.declared.start.Start.{Start}
+use Rattle.gl_verilog.specs.Events.{IsEventRun}
+use Rattle.gl_verilog.specs.declared.start.Start.{Start}
 use Rattle.gl_sim.specs.Starts.{StartsFrom}
 use Rattle.gl_verilog_ports.specs.Fit.{fit_of}
 use Rattle.gl_verilog_ports.specs.Profile.{result_names, result_widths}

@@ -2,8 +2,8 @@
 -- A middle layer, proved equal to `Seen`: no promise rests on it.
 use Rattle.std.specs.Prelude.{◌≡◌, ◌==◌, ◌<◌, ◌≤◌, ℕ, Bool, false, List, Option, Some, map, length, option_map, bytes_eq, codes, slice_get, unwrap_or, IfSome}
 use Rattle.std.specs.List.{AllByRecursion}
-use Rattle.gl_bits.specs.declared.kind.Kind.{Kind}
-use Rattle.gl_bits.specs.Kinds.{IsKind, width_of}
+use Rattle.gl_values.specs.declared.kind.Kind.{Kind}
+use Rattle.gl_values.specs.Kinds.{IsKind, width_of}
 use Rattle.gl_bits.specs.Words.{Word, widths_of}
 use Rattle.gl_schema.specs.Ports.{PortValues, fault_group, out_eos, out_valid}
 use Rattle.gl_schema.specs.Seen.{is_high, value_at}

@@ -1,8 +1,8 @@
 -- What is written of a cycle of a file, by the values of a module's ports in a run.
 use Rattle.std.specs.Prelude.{◌≡◌, ℕ, zero, suc, Bool, false, List, [], ◌∷◌, ◌++◌, map, Option, Some, None}
 use Rattle.std.specs.List.{list_any}
-use Rattle.gl_bits.specs.declared.kind.Kind.{Kind}
-use Rattle.gl_bits.specs.Kinds.{width_of}
+use Rattle.gl_values.specs.declared.kind.Kind.{Kind}
+use Rattle.gl_values.specs.Kinds.{width_of}
 use Rattle.gl_bits.specs.Words.{Word, widths_of}
 use Rattle.gl_vcd.specs.Dumped.{Port}
 use Rattle.gl_vcd.specs.Signals.{seen_below}

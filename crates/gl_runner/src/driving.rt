@@ -19,10 +19,9 @@ use gl_sim::Sim;
 use gl_sim::room::{ports_of, zeros};
 use gl_testbench::{Pin, pins_at, set_beat, set_reset};
 use gl_tuples::{BeatView, Beats};
-use gl_verilog::Module;
 use gl_verilog::laws::valid_modules_run;
-use gl_verilog_orders::Start;
-use gl_verilog_orders::laws::event_runs_are_runs;
+use gl_verilog::orders::event_runs_are_runs;
+use gl_verilog::{Module, Start};
 use std::alloc::Global;
 use std::marker::Model;
 
@@ -88,7 +87,7 @@ fn pins_of(alloc: Global, schema: &Schema, design: &Module) -> Result<Vec<Pin>, 
     pins_at(alloc, schema, declarations, &ports)
 }
 
-// The place behind one of so many.
+// The place behind one, in a ring of `many`.
 fn behind(place: usize, many: usize) -> usize
     requires { place < many }
     ensures { result ≡ place + 1 }

@@ -2,7 +2,7 @@
 
 ghost use Rattle.std.specs.Prelude.{◌≡◌, ◌≤◌, ◌^◌, None, Some, length, nat_eq, option_map, IfOk, OnOk, if◌then◌else◌};
 ghost use Rattle.std.specs.List.{AllByRecursion};
-ghost use Rattle.gl_bits.specs.Kinds.{IsKind};
+ghost use Rattle.gl_values.specs.Kinds.{IsKind};
 ghost use Rattle.gl_bits.specs.Words.{IsWidth};
 ghost use Rattle.gl_schema.specs.Ports.{out_eos};
 ghost use Rattle.gl_tuples.specs.Gaps.{plain_beats};
@@ -19,9 +19,10 @@ use crate::executing::Outcome;
 use crate::sampling::{is_high, set_row};
 use crate::tracing::Ending;
 use crate::watching::{Made, Watch};
-use gl_bits::{Kind, Memory, Row, Word};
+use gl_bits::{Memory, Row, Word};
 use gl_outside::{Sink, WriteFault};
 use gl_testbench::number_of;
+use gl_values::Kind;
 use gl_vcd::{cycle, header, is_dumped, last_time};
 use gl_verilog::Module;
 use gl_verilog_ports::ports_of as ports_in;

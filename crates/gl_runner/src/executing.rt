@@ -2,7 +2,7 @@
 
 ghost use Rattle.std.specs.Prelude.{◌≡◌, ◌≤◌, ◌^◌, length};
 ghost use Rattle.std.specs.List.{AllByRecursion};
-ghost use Rattle.gl_bits.specs.Kinds.{IsKind};
+ghost use Rattle.gl_values.specs.Kinds.{IsKind};
 ghost use Rattle.gl_tuples.specs.Gaps.{plain_beats};
 ghost use Rattle.gl_verilog.specs.View.{module_of};
 ghost use Rattle.gl_runner.specs.Cycles.{CanFollow, OfTimely, outcome_of};
@@ -11,9 +11,9 @@ ghost use Rattle.gl_runner.specs.Prints.{Ran};
 use crate::driving::Task;
 use crate::following::follow_module;
 use crate::tracing::Ending;
-use gl_bits::Kind;
 use gl_outside::Sink;
 use gl_testbench::shows_of;
+use gl_values::Kind;
 use gl_verilog::Module;
 use std::alloc::Global;
 

@@ -7,9 +7,10 @@ ghost use Rattle.gl_verilog.specs.View.{module_of};
 ghost use Rattle.gl_verilog_ports.specs.Profile as profile;
 ghost use Rattle.gl_runner.specs.Naming.{AreShownBy, column_at};
 
-use gl_bits::{Kind, Memory};
+use gl_bits::Memory;
 use gl_schema::{Column, Columns, NameText};
 use gl_testbench::{Shows, number_of};
+use gl_values::Kind;
 use gl_verilog::Module;
 use gl_verilog_ports::ports_of;
 use std::alloc::Global;

@@ -2,7 +2,7 @@
 
 ghost use Rattle.std.specs.Prelude.{◌≤◌, ◌^◌, length, IfOk};
 ghost use Rattle.std.specs.List.{AllByRecursion};
-ghost use Rattle.gl_bits.specs.Kinds.{IsKind};
+ghost use Rattle.gl_values.specs.Kinds.{IsKind};
 ghost use Rattle.gl_tuples.specs.Gaps.{plain_beats};
 ghost use Rattle.gl_verilog.specs.View.{module_of};
 ghost use Rattle.gl_testbench.specs.Benches.{AreShows};
@@ -15,10 +15,11 @@ use crate::driving::{Drive, Task};
 use crate::sampling::{sample_of, set_row};
 use crate::tracing::Ending;
 use crate::watching::{Made, Watch};
-use gl_bits::{Kind, Memory, Row};
+use gl_bits::{Memory, Row};
 use gl_outside::{Sink, WriteFault};
 use gl_testbench::Shows;
 use gl_tuples::{put_cycle, zero_row};
+use gl_values::Kind;
 use gl_verilog::Module;
 use std::alloc::Global;
 

@@ -13,10 +13,11 @@ ghost use Rattle.gl_runner.specs.Watches.{IsMadeOf, module_in};
 use crate::faces::{Face, kinds_in, shows_within};
 use crate::sampling::{sample_of, set_row};
 use crate::watching::{Made, Watch};
-use gl_bits::{Kind, Memory, Row};
+use gl_bits::{Memory, Row};
 use gl_outside::{Sink, WriteFault};
 use gl_testbench::Shows;
 use gl_tuples::{Format, put_lines, zero_row};
+use gl_values::Kind;
 use gl_verilog::Module;
 use std::alloc::Global;
 

@@ -13,10 +13,11 @@ ghost use Rattle.gl_runner.specs.Traces.{OfRunsOf, Traced, decimal_kinds};
 
 use crate::driving::Task;
 use crate::following::follow_module;
-use gl_bits::{Kind, Memory};
+use gl_bits::Memory;
 use gl_outside::Sink;
 use gl_testbench::laws::has_runs_over;
 use gl_testbench::shows_at;
+use gl_values::Kind;
 use gl_verilog::Module;
 use gl_verilog_ports::{Ports, ports_of, shows_column};
 use std::alloc::Global;

@@ -4,7 +4,7 @@ use Rattle.std.specs.Prelude.{nat_le, bytes_eq, ◌==◌, if◌then◌else◌}
 use Rattle.std.specs.List.{AllByRecursion, IsDistinct, list_any}
 use Rattle.std.proofs.lemmas.List.{append_cancel_left, map-append}
 use Rattle.gl_bits.proofs.AllLists.{all_append, all_weaker}
-use Rattle.gl_bits.proofs.Bools.{neither_left, neither_right, not_both, and_left, and_right, not_true, bytes_own}
+use Rattle.gl_bits.proofs.Bools.{neither_left, neither_right, not_both, and_left, and_right, not_true, bytes_differ}
 use Rattle.gl_schema.specs.declared.schema.Column.{Column}
 use Rattle.gl_schema.specs.declared.schema.Stream.{Stream}
 use Rattle.gl_schema.specs.declared.schema.Schema.{Schema}
@@ -28,12 +28,9 @@ pub both_apart : (xs ys : List (List ℕ)) → AreApart xs → AreApart ys → A
 both_apart [] ys h k across = k
 both_apart (x ∷ xs) ys h k across = (all_append (λ m. x ≡ m → ⊥) xs ys h.0 across.0, both_apart xs ys h.1 k across.1)
 
-pub texts_differ : (n m : List ℕ) → bytes_eq n m ≡ false → n ≡ m → ⊥
-texts_differ n m h e = not_both (bytes_eq n m) (subst (λ (x : List ℕ). bytes_eq n x ≡ true) e (bytes_own n)) h
-
 pub apart_all : (names : List (List ℕ)) (n : List ℕ) → AllByRecursion (λ m. bytes_eq n m ≡ false) names → Apart n names
 apart_all [] n absent = tt
-apart_all (m ∷ ms) n absent = (texts_differ n m absent.0, apart_all ms n absent.1)
+apart_all (m ∷ ms) n absent = (bytes_differ n m absent.0, apart_all ms n absent.1)
 
 pub apart_distinct : (names : List (List ℕ)) → IsDistinct bytes_eq names → AreApart names
 unfolding IsDistinct
@@ -47,7 +44,7 @@ first_byte [] = 0
 first_byte (b ∷ bs) = b
 
 -- the bytes in front of the first double underscore
-before_double : List ℕ → List ℕ
+pub before_double : List ℕ → List ℕ
 before_double [] = []
 before_double (a ∷ []) = a ∷ []
 before_double (a ∷ b ∷ bs) = if (a == 95) && (b == 95) then [] else a ∷ before_double (b ∷ bs)
@@ -56,14 +53,14 @@ before_double (a ∷ b ∷ bs) = if (a == 95) && (b == 95) then [] else a ∷ be
 stream_of : List ℕ → List ℕ
 stream_of name = before_double (drop 4 name)
 
-before_name : (s rest : List ℕ) → has_loose_underscore s ≡ false → before_double (s ++ 95 ∷ 95 ∷ rest) ≡ s
+pub before_name : (s rest : List ℕ) → has_loose_underscore s ≡ false → before_double (s ++ 95 ∷ 95 ∷ rest) ≡ s
 unfolding before_double has_loose_underscore
 before_name [] rest h = refl
 before_name (a ∷ []) rest h = rw h refl
 before_name (a ∷ b ∷ bs) rest h =
     rw (neither_left ((a == 95) && (b == 95)) (has_loose_underscore (b ∷ bs)) h) (ap (λ t. a ∷ t) (before_name (b ∷ bs) rest (neither_right ((a == 95) && (b == 95)) (has_loose_underscore (b ∷ bs)) h)))
 
-single : (n : List ℕ) → IsName n → has_loose_underscore n ≡ false
+pub single : (n : List ℕ) → IsName n → has_loose_underscore n ≡ false
 unfolding is_name
 single n h =
     let front = nat_le (length n) 32 && begins_with_letter n && has_name_bytes n in
@@ -173,15 +170,15 @@ front_apart n ss all other end last =
 
 rst_differs : (first_byte rst ≡ 105 → ⊥) × (rst ≡ eos → ⊥) × (rst ≡ tick → ⊥)
 unfolding rst eos tick
-rst_differs = (λ e. absurd (omega (arith, e)), texts_differ rst eos refl, texts_differ rst tick refl)
+rst_differs = (λ e. absurd (omega (arith, e)), bytes_differ rst eos refl, bytes_differ rst tick refl)
 
 clk_differs : (first_byte clk ≡ 105 → ⊥) × (clk ≡ rst → ⊥) × (clk ≡ eos → ⊥) × (clk ≡ tick → ⊥)
 unfolding clk rst eos tick
-clk_differs = (λ e. absurd (omega (arith, e)), texts_differ clk rst refl, texts_differ clk eos refl, texts_differ clk tick refl)
+clk_differs = (λ e. absurd (omega (arith, e)), bytes_differ clk rst refl, bytes_differ clk eos refl, bytes_differ clk tick refl)
 
 eos_differs : (first_byte eos ≡ 105 → ⊥) × (eos ≡ tick → ⊥)
 unfolding eos tick
-eos_differs = (λ e. absurd (omega (arith, e)), texts_differ eos tick refl)
+eos_differs = (λ e. absurd (omega (arith, e)), bytes_differ eos tick refl)
 
 tick_differs : first_byte tick ≡ 105 → ⊥
 unfolding tick

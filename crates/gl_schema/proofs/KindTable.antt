@@ -6,11 +6,11 @@ use Rattle.std.specs.Fmt.{digits}
 use Rattle.std.proofs.lemmas.Bool.{agree_below_at, and_parts, or_cases, eqb-true, leb-true, cases_Bool, true≢false, false_from_ne_true}
 use Rattle.std.proofs.lemmas.Slice.Eq.{bytes_eq-Decides}
 use Rattle.std.proofs.lemmas.Bool.Decides.{nat_tests}
-use Rattle.gl_bits.specs.declared.kind.Kind.{Kind}
-use Rattle.gl_bits.specs.declared.kind.Kind.TheVariants.{Unsigned, Signed, Text}
-use Rattle.gl_bits.specs.Kinds.{IsKind, is_kind}
-use Rattle.gl_bits.specs.Operators.{same_kind}
-use Rattle.gl_bits.proofs.KindLemmas.{equal_kinds, kinds_equal, tested_kind}
+use Rattle.gl_values.specs.declared.kind.Kind.{Kind}
+use Rattle.gl_values.specs.declared.kind.Kind.TheVariants.{Unsigned, Signed, Text}
+use Rattle.gl_values.specs.Kinds.{IsKind, is_kind}
+use Rattle.gl_values.specs.Operators.{same_kind}
+use Rattle.gl_values.proofs.KindLemmas.{equal_kinds, kinds_equal, tested_kind}
 use Rattle.gl_schema.specs.SchemaText.{kind_text, row_of, size_in}
 use Rattle.gl_schema.specs.SchemaFaults.{kind_named}
 use Rattle.gl_schema.specs.Written.{Written, is_written, kinds, numbers, signed_numbers, texts}

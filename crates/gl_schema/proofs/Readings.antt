@@ -1,7 +1,7 @@
 -- Each text has one reading, and no fault of a text is want of memory.
 use Rattle.std.proofs.Common.{◌≡◌, ◌↔◌, ◌⊎◌, inl, inr, ℕ, Bool, true, false, cond, List, [], ◌∷◌, Option, Some, None, Result, Ok, Err, refl, sym, ◌∙◌}
 use Rattle.std.specs.Prelude.{bytes_eq, codes, nat_le, not, length, ◌==◌}
-use Rattle.gl_bits.specs.declared.kind.Kind.{Kind}
+use Rattle.gl_values.specs.declared.kind.Kind.{Kind}
 use Rattle.gl_schema.specs.declared.fault.SchemaFault.{SchemaFault}
 use Rattle.gl_schema.specs.declared.fault.SchemaFault.TheVariants.{Syntax, BadName, BadKind, Twice, TooMany, Memory}
 use Rattle.gl_schema.specs.declared.schema.Stream.{Stream}

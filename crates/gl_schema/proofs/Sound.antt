@@ -6,7 +6,7 @@ use Rattle.std.proofs.lemmas.Bool.{leb-false, eqb-true, not-false, cases_Bool}
 use Rattle.std.proofs.lemmas.List.{length-append, append-nil}
 use Rattle.std.proofs.lemmas.Slice.Eq.{bytes_eq-Decides}
 use Rattle.std.proofs.lemmas.Grind.{flat_map-append}
-use Rattle.gl_bits.specs.declared.kind.Kind.{Kind}
+use Rattle.gl_values.specs.declared.kind.Kind.{Kind}
 use Rattle.gl_schema.specs.declared.fault.SchemaFault.{SchemaFault}
 use Rattle.gl_schema.specs.declared.fault.SchemaFault.TheVariants.{Syntax, BadName, Twice, TooMany}
 use Rattle.gl_schema.specs.declared.schema.Column.{Column}

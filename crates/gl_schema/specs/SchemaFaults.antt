@@ -1,6 +1,6 @@
 -- The first fault of a text that has no schema, read from the left.
 use Rattle.std.specs.Prelude.{◌≡◌, ℕ, ◌∷◌, not, List, [], ◌++◌, length, codes, bytes_eq, nat_le, ◌==◌, find, Option, Some, None, Result, Ok, Err, if◌then◌else◌}
-use Rattle.gl_bits.specs.declared.kind.Kind.{Kind}
+use Rattle.gl_values.specs.declared.kind.Kind.{Kind}
 use Rattle.gl_bits.specs.Limits.{most_columns, most_streams}
 use Rattle.gl_schema.specs.declared.schema.Stream.{Stream}
 use Rattle.gl_schema.specs.declared.schema.Schema.{Schema}

@@ -3,8 +3,8 @@ use Rattle.std.specs.Prelude.{ℕ, zero, suc, Bool, false, not, ◌&&◌, ◌||�
 use Rattle.std.specs.List.{list_any, flat_map}
 use Rattle.std.specs.Fmt.{signed_decimal}
 use Rattle.std.specs.Int.{bytes_high_first}
-use Rattle.gl_bits.specs.declared.kind.Kind.{Kind}
-use Rattle.gl_bits.specs.Kinds.{bytes_in, is_number, number_of}
+use Rattle.gl_values.specs.declared.kind.Kind.{Kind}
+use Rattle.gl_values.specs.Kinds.{bytes_in, is_number, number_of}
 use Rattle.gl_schema.specs.Ports.{PortValues, out_valid, out_eos, fault_group, fault_queue}
 
 -- what a file cycle shows: a row, the end, that a further group came, that a queue overflowed

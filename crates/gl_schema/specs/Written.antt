@@ -1,9 +1,9 @@
 -- The kinds that texts can name: a front, and behind it a size.
 use Rattle.std.specs.Prelude.{ℕ, ◌+◌, ◌-◌, Bool, List, [], ◌∷◌, codes, map}
 use Rattle.std.specs.List.{flat_map, list_any, range_with_len}
-use Rattle.gl_bits.specs.Operators.{same_kind}
-use Rattle.gl_bits.specs.declared.kind.Kind.{Kind}
-use Rattle.gl_bits.specs.declared.kind.Kind.TheVariants.{Unsigned, Signed, Text}
+use Rattle.gl_values.specs.Operators.{same_kind}
+use Rattle.gl_values.specs.declared.kind.Kind.{Kind}
+use Rattle.gl_values.specs.declared.kind.Kind.TheVariants.{Unsigned, Signed, Text}
 
 -- a front, the bits of a size of 1, the sizes from the least to the most, and the kind of a size
 pub record Written : Type 0 where

@@ -5,7 +5,7 @@ ghost use Rattle.gl_schema.specs.SchemaText.{row_of, size_in};
 ghost use Rattle.gl_schema.specs.SchemaFaults as spec;
 ghost use Rattle.gl_schema.specs.KindReading as read;
 
-use gl_bits::Kind;
+use gl_values::Kind;
 
 /// The kind that a word is the text of: `u1` to `u64`, `s2` to `s64`, `text1` to `text8`.
 pub fn kind_named(word: &[u8]) -> Option<Kind>

@@ -10,8 +10,8 @@ use crate::fault::SchemaFault;
 use crate::kind::kind_named;
 use crate::name::is_name;
 use crate::schema::{Column, Columns, NameText, Schema, Stream, Streams};
-use gl_bits::Kind;
 use gl_bits::limits::{MOST_COLUMNS, MOST_STREAMS};
+use gl_values::Kind;
 use std::alloc::Global;
 
 /// What may come next.

@@ -1,6 +1,7 @@
 //! Schemas: streams of named columns.
 
-use gl_bits::{Kind, Listed};
+use gl_bits::Listed;
+use gl_values::Kind;
 
 /// The bytes of a name.
 pub type NameText = Listed<u8>;

@@ -17,7 +17,7 @@ use Rattle.gl_verilog.specs.Runnable.{SameState}
 use Rattle.gl_verilog.proofs.Fits.{width_at-found}
 use Rattle.gl_verilog.proofs.Stores.{same_item, store_put}
 use Rattle.gl_sim.proofs.Fresh.{zeros_at, zero_words_at}
-use Rattle.gl_verilog_orders.specs.declared.start.Start.TheVariants.{Zero, Drawn}
+use Rattle.gl_verilog.specs.declared.start.Start.TheVariants.{Zero, Drawn}
 use Rattle.gl_sim.specs.Starts.{next_draw, draw, draws_for, draws_before, word_drawn, register_at, word_at, zero_bank, DrawsOne, IsDrawnTo}
 
 pub draw-suc : (s k : ℕ) → draw s (suc k) ≡ next_draw (draw s k)

@@ -11,8 +11,8 @@ use Rattle.gl_verilog.specs.Order.{with_net}
 use Rattle.gl_verilog.specs.Runnable.{HasRuns, IsRunnable, is_input, inputs_from, inputs_of, FitInputs, SameInputs, RunsFrom}
 use Rattle.gl_verilog.proofs.Fits.{width_at-found}
 use Rattle.gl_verilog.proofs.Settles.{with_net-same, with_net-other}
-use Rattle.gl_verilog_orders.specs.declared.start.Start.{Start}
-use Rattle.gl_verilog_orders.specs.declared.start.Start.TheVariants.{Zero, Drawn}
+use Rattle.gl_verilog.specs.declared.start.Start.{Start}
+use Rattle.gl_verilog.specs.declared.start.Start.TheVariants.{Zero, Drawn}
 use Rattle.gl_sim.specs.Starts.{register_at, word_at, draws_before, RunsWith}
 use Rattle.gl_sim.specs.Inputs.{with_inputs}
 use Rattle.gl_sim.proofs.Draws.{word_drawn-fits}

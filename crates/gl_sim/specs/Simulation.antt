@@ -6,7 +6,7 @@ use Rattle.gl_verilog.specs.Evaluate.{IsStore, nets_of, memories_of}
 use Rattle.gl_verilog.specs.Runnable.{IsRunnable, inputs_of, HasInputs, SameState, SameNets}
 use Rattle.gl_verilog.specs.Run.{IsRun}
 use Rattle.gl_verilog.specs.declared.module.Module.{Module}
-use Rattle.gl_verilog_orders.specs.Events.{State, IsCycle, StandsBefore}
+use Rattle.gl_verilog.specs.Events.{State, IsCycle, StandsBefore}
 use Rattle.gl_verilog_check.specs.Orders.{IsOrderOf}
 use Rattle.gl_sim.specs.Updates.{writes_in}
 

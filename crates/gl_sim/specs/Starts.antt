@@ -6,8 +6,8 @@ use Rattle.gl_verilog.specs.Run.{IsRegister, IsRun}
 use Rattle.gl_verilog.specs.Evaluate.{IsStore, memories_of}
 use Rattle.gl_verilog.specs.Runnable.{SameState, HasInputs}
 use Rattle.gl_verilog.specs.Widths.{width_at, words_in}
-use Rattle.gl_verilog_orders.specs.declared.start.Start.{Start}
-use Rattle.gl_verilog_orders.specs.declared.start.Start.TheVariants.{Zero, Drawn}
+use Rattle.gl_verilog.specs.declared.start.Start.{Start}
+use Rattle.gl_verilog.specs.declared.start.Start.TheVariants.{Zero, Drawn}
 
 -- the next number of the sequence
 abbrev pub next_draw : ℕ → ℕ

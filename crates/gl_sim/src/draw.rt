@@ -5,11 +5,10 @@ ghost use Rattle.gl_verilog.specs.View.{module_of};
 ghost use Rattle.gl_verilog.specs.Evaluate.{IsStore, nets_of, memories_of};
 ghost use Rattle.gl_verilog.specs.Runnable.{IsRunnable, SameState};
 ghost use Rattle.gl_sim.specs.Starts.{next_draw, draw as draw_of, word_drawn, DrawsOne, register_at, word_at, zero_bank};
-ghost use Rattle.gl_verilog_orders.specs.declared.start.Start.TheVariants.{Drawn};
+ghost use Rattle.gl_verilog.specs.declared.start.Start.TheVariants.{Drawn};
 ghost use Rattle.gl_verilog.specs.Module.{Declaration as Declared};
 
-use gl_verilog::{Bank, Kind, Module, mask};
-use gl_verilog_orders::Start;
+use gl_verilog::{Bank, Kind, Module, Start, mask};
 
 // The next number of the sequence.
 fn draw(state: &mut u64) -> u64

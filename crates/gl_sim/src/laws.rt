@@ -3,7 +3,7 @@
 ghost use Rattle.std.specs.Prelude.{ℕ, List};
 ghost use Rattle.gl_verilog.specs.Module.{Module as Design};
 ghost use Rattle.gl_verilog.specs.Runnable.{IsRunnable, FitInputs};
-ghost use Rattle.gl_verilog_orders.specs.declared.start.Start.{Start as Begin};
+ghost use Rattle.gl_verilog.specs.declared.start.Start.{Start as Begin};
 ghost use Rattle.gl_sim.specs.Starts.{RunsWith};
 
 use gl_verilog::laws::has_runs;

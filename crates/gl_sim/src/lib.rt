@@ -1,5 +1,5 @@
 //! Runs a module cycle by cycle, so that each run in whatever order of events is followed. Here
-//! belongs what computes a run; what runs are stands in `gl_verilog`, orders in `gl_verilog_orders`.
+//! belongs what computes a run; what runs are stands in `gl_verilog`, orders in `gl_verilog`.
 #![tactic(auto)]
 
 pub mod cycle;

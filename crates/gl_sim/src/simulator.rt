@@ -5,7 +5,7 @@ ghost use Rattle.gl_verilog.specs.View.{module_of};
 ghost use Rattle.gl_verilog.specs.Runnable.{IsRunnable, FitInputs};
 ghost use Rattle.gl_verilog.specs.Valid.{IsValid};
 ghost use Rattle.gl_verilog.specs.Module.{Nets, Memories};
-ghost use Rattle.gl_verilog_orders.specs.Laws.{ComesToRest};
+ghost use Rattle.gl_verilog.specs.Laws.{ComesToRest};
 ghost use Rattle.gl_sim.specs.Simulation.{IsAt, FollowsRuns, FollowsOrders};
 ghost use Rattle.gl_sim.specs.Starts.{StartsFrom};
 
@@ -16,9 +16,8 @@ use crate::order::order_in;
 use crate::room::{banks_of, ports_of, updates_of, zeros};
 use crate::update::Update;
 use gl_bits::Memory;
-use gl_verilog::{Bank, Module};
-use gl_verilog_orders::Start;
-use gl_verilog_orders::laws::{comes_to_rest, cycles_are_two_phase};
+use gl_verilog::{Bank, Module, Start};
+use gl_verilog::orders::{comes_to_rest, cycles_are_two_phase};
 use std::alloc::Global;
 use std::marker::Model;
 

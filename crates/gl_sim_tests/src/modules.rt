@@ -56,7 +56,7 @@ fn assign(target: usize, value: Expr) -> Assignment {
     Assignment { target, value }
 }
 
-/// An input of 8 bits and so many wires, each assigned what the one before it has, the last first.
+/// An input of 8 bits and `count` wires, each assigned what the one before it has, the last first.
 pub fn falling(alloc: Global, count: usize) -> Result<Option<Module>, Memory>
     requires { count < 1000000 }
     ensures { IfOk result (λ o. IfSome o (λ m. IsRunnable (module_of m))) }

@@ -13,8 +13,7 @@ use gl_bits::{Memory, Word};
 use gl_sim::Sim;
 use gl_sim::laws::a_run_is_there;
 use gl_sim::room::ports_of;
-use gl_verilog::{Declaration, Kind, Module};
-use gl_verilog_orders::Start;
+use gl_verilog::{Declaration, Kind, Module, Start};
 use std::alloc::{AllocError, Global};
 
 // The bits of the declaration of a number.

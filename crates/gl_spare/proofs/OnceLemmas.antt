@@ -4,7 +4,7 @@ use Rattle.std.specs.Prelude.{option_to_list}
 use Rattle.std.proofs.lemmas.List.{append-nil}
 use Rattle.gl_algebra.specs.declared.figures.Figures.{Figures}
 use Rattle.gl_algebra.specs.FigureTable.{IsSound}
-use Rattle.gl_bits.specs.Results.{Row, Results, AreJoined}
+use Rattle.gl_values.specs.Results.{Row, Results, AreJoined}
 use Rattle.gl_wire.specs.Beats.{beats_of, Ends}
 use Rattle.gl_wire.specs.Wire.{Carried, pending, stream, rows}
 use Rattle.gl_wire.specs.Shapes.{IsDelayed}

@@ -4,7 +4,7 @@ use Rattle.std.specs.List.{sum}
 use Rattle.gl_algebra.specs.declared.figures.Figures.{Figures}
 use Rattle.gl_algebra.specs.FigureTable.{IsSound, stride_of}
 use Rattle.gl_algebra.specs.Results.{IsPlanResult}
-use Rattle.gl_bits.specs.Results.{Results}
+use Rattle.gl_values.specs.Results.{Results}
 use Rattle.gl_net.specs.declared.node.Bit.{Bit}
 use Rattle.gl_net.specs.declared.node.Bus.{Bus}
 use Rattle.gl_net.specs.Net.{Net, Run, IsRun}

@@ -2,8 +2,8 @@
 use Rattle.std.proofs.Common.{◌≡◌, ℕ, zero, suc, ◌+◌, ◌-◌, ◌*◌, ◌%◌, ◌<◌, ◌≤◌, List, [], ◌++◌, length, map, Option, Some, None, Bool, true, false, ◌&&◌, refl, sym, ap, ◌∙◌, subst, arith, inl, inr, mul-le-mul_right, length-append}
 use Rattle.std.specs.Prelude.{option_to_list, if◌then◌else◌, nat_eq}
 use Rattle.std.proofs.lemmas.Bool.{cases_lt, eqb-true, and_parts}
-use Rattle.gl_bits.specs.Lists.{slices}
-use Rattle.gl_bits.specs.Results.{Row}
+use Rattle.gl_values.specs.Lists.{slices}
+use Rattle.gl_values.specs.Results.{Row}
 use Rattle.gl_algebra.specs.declared.figures.Figures.{Figures}
 use Rattle.gl_wire.specs.Apart.{Carries, a_tuple, an_end}
 use Rattle.gl_wire.specs.Wire.{pending, stream, rows}

@@ -1,7 +1,7 @@
 -- A wire whose ends come late, each with its tuple.
 use Rattle.std.specs.Prelude.{◌≡◌, ℕ, suc, ◌+◌, ◌-◌, ◌<◌, ◌≤◌, Some, None, if◌then◌else◌}
 use Rattle.std.specs.Prelude.{Bool, true, false, not, ◌&&◌, ◌||◌}
-use Rattle.gl_bits.specs.Results.{Row}
+use Rattle.gl_values.specs.Results.{Row}
 use Rattle.gl_wire.specs.Apart.{Carries}
 use Rattle.gl_wire.specs.Wire.{Carried}
 use Rattle.gl_wire_registers.specs.Timers.{IsClose}

@@ -4,8 +4,8 @@ use Rattle.gl_algebra.specs.declared.figures.Figures.{Figures}
 use Rattle.gl_algebra.specs.declared.node.PlanNode.{PlanNode}
 use Rattle.gl_algebra.specs.FigureTable.{IsSound, stride_of}
 use Rattle.gl_algebra.specs.Results.{Inputs, IsPlanResult}
-use Rattle.gl_bits.specs.Lists.{slices}
-use Rattle.gl_bits.specs.Results.{IsOfParts, Row}
+use Rattle.gl_values.specs.Lists.{slices}
+use Rattle.gl_values.specs.Results.{IsOfParts, Row}
 use Rattle.gl_wire.specs.Beats.{Beats, Spaced, beats_of}
 use Rattle.gl_wire.specs.Once.{OneStream, ServingOnce}
 use Rattle.gl_wire.specs.Serving.{Serving}

@@ -12,7 +12,7 @@ use Rattle.gl_verilog.specs.Run.{input_values, is_input, port_of}
 use Rattle.gl_verilog.specs.Text.{HasModule}
 use Rattle.gl_verilog.specs.Valid.{IsValid}
 use Rattle.gl_verilog.specs.Widths.{IsNet}
-use Rattle.gl_verilog_orders.specs.Laws.{EventRunsAreRuns, HasEventRuns}
+use Rattle.gl_verilog.specs.Laws.{EventRunsAreRuns, HasEventRuns}
 use Rattle.gl_verilog_writer.specs.Meaning.{IsTextOf}
 use Rattle.gl_verilog_ports.specs.Profile.{HasInputPorts, declared, ports_of}
 use Rattle.gl_verilog_ports.proofs.Declared.{get_take}

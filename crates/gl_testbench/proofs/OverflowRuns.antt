@@ -16,7 +16,7 @@ use Rattle.gl_verilog.specs.Run.{port_of, input_values}
 use Rattle.gl_verilog.specs.Runnable.{IsRunnable, RunsAreCausal, SameInputs, SameNets, is_input}
 use Rattle.gl_verilog.specs.Text.{HasModule}
 use Rattle.gl_verilog.specs.Valid.{IsValid}
-use Rattle.gl_verilog_orders.specs.Laws.{EventRunsAreRuns}
+use Rattle.gl_verilog.specs.Laws.{EventRunsAreRuns}
 use Rattle.gl_verilog_ports.specs.Profile.{HasInputPorts, ports_of}
 use Rattle.gl_verilog_ports.proofs.Declared.{get_take}
 use Rattle.gl_sim.proofs.Settling.{IsInputPort}

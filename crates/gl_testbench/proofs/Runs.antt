@@ -17,8 +17,8 @@ use Rattle.gl_verilog.specs.Run.{Fit, input_number, input_values, is_input}
 use Rattle.gl_verilog.specs.Runnable.{FitInputs, SameInputs, SameState, inputs_of}
 use Rattle.gl_verilog.specs.Valid.{IsValid}
 use Rattle.gl_verilog.specs.Widths.{is_clock, width_at}
-use Rattle.gl_verilog_orders.specs.Laws.{HasEventRuns}
-use Rattle.gl_verilog_orders.specs.declared.start.Start.{Start}
+use Rattle.gl_verilog.specs.Laws.{HasEventRuns}
+use Rattle.gl_verilog.specs.declared.start.Start.{Start}
 use Rattle.gl_verilog_ports.specs.declared.fitting.Ports.{Ports}
 use Rattle.gl_verilog_ports.specs.declared.fitting.Misfit.{Misfit}
 use Rattle.gl_verilog_ports.specs.Fit.{fit_of}

@@ -5,7 +5,7 @@ use Rattle.gl_schema.specs.Beats.{Beat, AreBeats, KeepsGap}
 use Rattle.gl_schema.specs.Ports.{IsStimulus, PortValues}
 use Rattle.gl_verilog.specs.Module.{Module, Nets, Memories}
 use Rattle.gl_verilog.specs.Run.{port_of, input_values}
-use Rattle.gl_verilog_orders.specs.Events.{IsEventRun}
+use Rattle.gl_verilog.specs.Events.{IsEventRun}
 
 -- beats of the schema that keep the gap drive the module in this run of it, whatever the order of its events
 pub record Drives (m : Module) (schema : Schema) (gap : ℕ) (beats : List Beat) (value : ℕ → Nets) (word : ℕ → Memories)

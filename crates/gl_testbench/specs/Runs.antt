@@ -6,8 +6,8 @@ use Rattle.gl_schema.specs.Ports.{IsStimulus}
 use Rattle.gl_verilog.specs.Module.{Module, Nets, Memories}
 use Rattle.gl_verilog.specs.Run.{Fit, input_values}
 use Rattle.gl_verilog.specs.Runnable.{SameState}
-use Rattle.gl_verilog_orders.specs.Events.{IsEventRun}
-use Rattle.gl_verilog_orders.specs.declared.start.Start.{Start}
+use Rattle.gl_verilog.specs.Events.{IsEventRun}
+use Rattle.gl_verilog.specs.declared.start.Start.{Start}
 use Rattle.gl_sim.specs.Starts.{register_at, word_at}
 
 -- a run of the module in some order of events with these beats on its inputs, which begins with these registers and

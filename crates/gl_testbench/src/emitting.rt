@@ -5,7 +5,7 @@ ghost use Rattle.gl_testbench.specs.Emitted.{IsEmitted};
 
 use gl_bits::Memory;
 use gl_net::{Cost, Netlist, cost_of};
-use gl_verilog_orders::laws::{event_runs_are_runs, has_event_runs};
+use gl_verilog::orders::{event_runs_are_runs, has_event_runs};
 use gl_verilog_ports::laws::inputs_are_ports;
 use gl_verilog_writer::{Labels, write_module};
 use std::alloc::Global;

@@ -10,7 +10,7 @@ ghost use Rattle.gl_testbench.specs.Runs.{HasRunsOver, HasStartedRuns};
 
 use gl_sim::laws::a_run_is_there;
 use gl_verilog::laws::valid_modules_run;
-use gl_verilog_orders::laws::has_event_runs;
+use gl_verilog::orders::has_event_runs;
 
 /// A valid module whose ports fit a schema has a run in some order of events over any beats of the schema, from any
 /// registers and words, and from any start.

@@ -14,7 +14,7 @@ use Rattle.gl_top_forms.specs.declared.command.Part.TheVariants as part
 use Rattle.gl_top_forms.specs.Forms.{IsCommand, IsForm, IsOfRun, extra_of}
 use Rattle.gl_top_forms.proofs.Named.{form_of, named_form, one_command}
 use Rattle.gl_outside.specs.States.{IsCalm, Took}
-use Rattle.gl_verilog_orders.specs.declared.start.Start.TheVariants.{Zero}
+use Rattle.gl_verilog.specs.declared.start.Start.TheVariants.{Zero}
 use Rattle.gl_tuples.specs.declared.beats.Beat.{Beat}
 use Rattle.gl_tuples.specs.Gaps.{plain_beats}
 use Rattle.gl_verilog.specs.Module.{Module}

@@ -15,7 +15,7 @@ use gl_runner::{Ending, Task, trace};
 use gl_top_forms::Taken;
 use gl_top_inputs::{Fitted, Simulation, judge_sim};
 use gl_top_status::{Refusal, Status, tell, tell_no_end, tell_write_fault};
-use gl_verilog_orders::Start;
+use gl_verilog::Start;
 use gl_verilog_ports::laws::inputs_are_ports;
 use std::alloc::Global;
 

@@ -6,8 +6,8 @@ use Rattle.std.proofs.lemmas.Bool.{eqb-true}
 use Rattle.gl_bits.proofs.Bools.{and_left, and_right}
 use Rattle.gl_bits.proofs.Options.{some_there}
 use Rattle.gl_outside.proofs.Places.{found_is}
-use Rattle.gl_verilog_orders.specs.declared.start.Start.{Start}
-use Rattle.gl_verilog_orders.specs.declared.start.Start.TheVariants.{Zero}
+use Rattle.gl_verilog.specs.declared.start.Start.{Start}
+use Rattle.gl_verilog.specs.declared.start.Start.TheVariants.{Zero}
 use Rattle.gl_top_forms.specs.declared.command.Part.{Part}
 use Rattle.gl_top_forms.specs.declared.command.Part.TheVariants.{Schema, Query, Module, Tuples, Dump, Queries}
 use Rattle.gl_top_forms.specs.declared.command.Command.{Command}

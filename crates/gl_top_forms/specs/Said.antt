@@ -1,7 +1,7 @@
 -- What the names and the value of the option make of some words.
 use Rattle.std.specs.Prelude.{◌≡◌, ℕ, List, Option, Some, None, unwrap_or}
-use Rattle.gl_verilog_orders.specs.declared.start.Start.{Start}
-use Rattle.gl_verilog_orders.specs.declared.start.Start.TheVariants.{Zero}
+use Rattle.gl_verilog.specs.declared.start.Start.{Start}
+use Rattle.gl_verilog.specs.declared.start.Start.TheVariants.{Zero}
 use Rattle.gl_tuples.specs.Values.{number_of}
 use Rattle.gl_top_forms.specs.declared.command.Part.TheVariants.{Dump, Schema, Query, Tuples}
 use Rattle.gl_top_forms.specs.Forms.{extra_at, extra_of, load_at, load_of, name_of, start_at, start_of}

@@ -8,7 +8,7 @@ ghost use Rattle.gl_top_forms.specs.Steps as steps;
 use crate::command::{Command, Part};
 use gl_outside::Words;
 use gl_tuples::value::number_of;
-use gl_verilog_orders::Start;
+use gl_verilog::Start;
 
 // ---- the option
 
@@ -155,7 +155,7 @@ fn has_name(words: &Words, index: usize) -> bool
     }
 }
 
-// Whether there are so many names.
+// Whether there are `count` names.
 #[tactic(auto, using(crate::proofs::Counts::counted))]
 fn has_names(words: &Words, count: usize) -> bool
     ensures { result ≡ (length (forms.names_of words.now) == count) }
@@ -235,7 +235,7 @@ fn start_in(words: &Words) -> Option<Start>
 
 // ---- the cycles that are waited for the end
 
-/// The cycles that a text says, if so many may be waited.
+/// The cycles that a text says, if that number may be waited.
 pub fn extra_at(value: &[u8]) -> Option<u32>
     ensures { result ≡ forms.extra_at (number_of value.now) }
 {
@@ -259,7 +259,7 @@ fn extra_in(words: &Words) -> Option<u32>
 
 // ---- the tuples of a load
 
-/// The tuples that a text says, if a load may have so many.
+/// The tuples that a text says, if a load may have that number.
 pub fn load_at(name: &[u8]) -> Option<u32>
     ensures value { result ≡ forms.load_at (number_of name.now) }
     ensures some { IfSome result (λ count. 1 ≤ count) }

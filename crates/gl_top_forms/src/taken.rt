@@ -7,7 +7,7 @@ ghost use Rattle.gl_top_forms.specs.Said.{IsSaid};
 use crate::command::Part;
 use crate::reading::{extra_at, load_at, start_at};
 use gl_outside::Words;
-use gl_verilog_orders::Start;
+use gl_verilog::Start;
 use std::marker::Model;
 
 /// The words of a command, taken apart.

@@ -1,3 +1,4 @@
 pub mod Texts
 pub mod Modules
 pub mod Changes
+pub mod Placed

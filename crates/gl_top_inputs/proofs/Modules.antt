@@ -24,8 +24,8 @@ use Rattle.gl_verilog_reader.proofs.Places.{only_memory, only_module}
 use Rattle.gl_verilog_ports.specs.declared.fitting.Ports.{Ports}
 use Rattle.gl_verilog_ports.specs.declared.fitting.Misfit.{Misfit}
 use Rattle.gl_verilog_ports.specs.Fit.{fit_of}
-use Rattle.gl_verilog_fit.specs.Laws.{PortFaultsAreTold, TellsPort}
-use Rattle.gl_verilog_fit.specs.Places.{IsPortFault, fit_at, misfit_token}
+use Rattle.gl_top_inputs.specs.Laws.{PortFaultsAreTold, TellsPort}
+use Rattle.gl_top_inputs.specs.Places.{IsPortFault, fit_at, misfit_token}
 use Rattle.gl_top_forms.specs.declared.command.Command.TheVariants.{Sim}
 use Rattle.gl_top_forms.specs.declared.command.Part.TheVariants as part
 use Rattle.gl_top_forms.specs.Forms.{IsCommand}

@@ -19,7 +19,7 @@ use Rattle.gl_verilog.specs.Module.{Module}
 use Rattle.gl_verilog_tokens.specs.declared.fault.VerilogFault.{VerilogFault}
 use Rattle.gl_verilog_tokens.specs.declared.fault.VerilogFault.TheVariants as verilog
 use Rattle.gl_verilog_reader.specs.Reading.{IsFaultIn}
-use Rattle.gl_verilog_fit.specs.Places.{IsPortFault}
+use Rattle.gl_top_inputs.specs.Places.{IsPortFault}
 use Rattle.gl_top_forms.specs.declared.command.Part.{Part}
 use Rattle.gl_top_forms.specs.declared.command.Part.TheVariants as part
 use Rattle.gl_top_status.specs.declared.refusal.Refusal.{Refusal}

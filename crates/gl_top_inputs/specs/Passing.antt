@@ -1,7 +1,7 @@
 -- What the texts give that the words name, one after the other. What is said of a text holds where the shelf tells it.
 use Rattle.std.specs.Prelude.{◌≡◌, ℕ, ◌≤◌, ◌^◌, List, length, map, Result, Ok}
 use Rattle.std.specs.List.{AllByRecursion}
-use Rattle.gl_bits.specs.Kinds.{IsKind}
+use Rattle.gl_values.specs.Kinds.{IsKind}
 use Rattle.gl_outside.specs.Told.{Told}
 use Rattle.gl_schema.specs.declared.schema.Schema.{Schema}
 use Rattle.gl_schema.specs.Schemas.{IsSchema, kinds_of}

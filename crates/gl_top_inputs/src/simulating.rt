@@ -9,6 +9,8 @@ ghost use Rattle.gl_top_inputs.specs.Causes.{IsModuleFaultOrMemory, Leaves};
 ghost use Rattle.gl_top_inputs.specs.Passing.{ModulePasses, FilePasses, IsFitted, IsFittedText, IsTraceable};
 ghost use Rattle.gl_top_status.specs.Texts.{SchemaPasses};
 
+use crate::fit;
+use crate::laws::port_faults_are_told;
 use gl_outside::Shelf;
 use gl_schema::Schema;
 use gl_top_forms::{Part, Taken};
@@ -16,8 +18,6 @@ use gl_top_status::{Refusal, fetch, fetch_schema};
 use gl_tuple_reader::read_tuples;
 use gl_tuples::Beats;
 use gl_verilog::Module;
-use gl_verilog_fit::fit;
-use gl_verilog_fit::laws::port_faults_are_told;
 use gl_verilog_ports::Ports;
 use gl_verilog_reader::read_source;
 use gl_verilog_tokens::VerilogFault;

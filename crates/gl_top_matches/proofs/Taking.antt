@@ -6,7 +6,7 @@ use Rattle.std.proofs.lemmas.Bool.{eqb-true, leb-true}
 use Rattle.gl_bits.proofs.Bools.{and_left, and_right, bytes_same}
 use Rattle.gl_schema.specs.Names.{is_digit}
 use Rattle.gl_tuples.specs.Values.{are_digits, is_number, number_in, number_of}
-use Rattle.gl_verilog_orders.specs.declared.start.Start.TheVariants.{Zero}
+use Rattle.gl_verilog.specs.declared.start.Start.TheVariants.{Zero}
 use Rattle.clap.specs.Words.{App, HasMatchesOf, Text, first_of, found_of, is_simple, matches_of, rows_of, takes}
 use Rattle.clap.specs.declared.parser.matches.ArgMatches.{ArgMatches}
 use Rattle.clap.proofs.WalkLemmas.{first_value-rows}
@@ -18,7 +18,7 @@ use Rattle.gl_top_matches.specs.Apps.{Tells, app_for, two_names}
 use Rattle.gl_top_forms.specs.Said.{IsSaid, extra_by, start_by}
 use Rattle.gl_top_matches.proofs.Ends.{Given}
 use Rattle.gl_top_matches.proofs.Laid.{AreNames, bare, placed, three}
-use Rattle.gl_top_matches.proofs.Names.{load_names, query_names, version_names}
+use Rattle.gl_top_matches.proofs.Names.{load_names, query_names}
 use Rattle.gl_top_matches.proofs.Layouts.{laid}
 use Rattle.gl_top_matches.proofs.Runs.{run_app, run_bare, run_layouts}
 use Rattle.gl_top_matches.proofs.Sims.{sim_app, sim_layouts}

@@ -1,8 +1,8 @@
 -- Aggregates of rows, from totals of values.
 use Rattle.std.proofs.Common.{◌≡◌, ℕ, suc, ◌+◌, ◌-◌, ◌*◌, ◌%◌, ◌^◌, ◌≤◌, List, map, refl, ap, ◌∙◌, arith}
-use Rattle.gl_bits.specs.Kinds.{width_of}
-use Rattle.gl_bits.specs.Results.{Row}
-use Rattle.gl_bits.specs.Totals.{count_of, greatest_of, least_of}
+use Rattle.gl_values.specs.Kinds.{width_of}
+use Rattle.gl_values.specs.Results.{Row}
+use Rattle.gl_values.specs.Totals.{count_of, greatest_of, least_of}
 use Rattle.gl_algebra.specs.declared.node.Operand.{Operand}
 use Rattle.gl_algebra.specs.declared.node.PlanAgg.{PlanAgg}
 use Rattle.gl_algebra.specs.declared.node.PlanAgg.TheVariants.{Count, Max, Min}

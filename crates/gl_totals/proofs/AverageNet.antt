@@ -4,13 +4,13 @@ use Rattle.std.specs.Prelude.{ℤ, pos, if◌then◌else◌, int_div, nat_eq}
 use Rattle.std.proofs.Math.Nat.{div-le_self, mod-eq_of_lt, mod-lt, mod_self, zero-div, zero-mod}
 use Rattle.std.proofs.lemmas.Bool.{cases_lt, eqb-false, le-ltb, lt-ltb}
 use Rattle.std.proofs.lemmas.Nat.{pow_pos}
-use Rattle.gl_bits.proofs.Signs.{half_of, low_number}
-use Rattle.gl_bits.proofs.Totalling.{quotient_high, quotient_plain, words_sum}
-use Rattle.gl_bits.specs.Kinds.{number_of, signed_number, word_of}
-use Rattle.gl_bits.specs.Totals.{quotient_of, sum_of_numbers, sum_total}
+use Rattle.gl_values.proofs.Signs.{half_of, low_number}
+use Rattle.gl_values.proofs.Totalling.{quotient_high, quotient_plain, words_sum}
+use Rattle.gl_values.specs.Kinds.{number_of, signed_number, word_of}
+use Rattle.gl_values.specs.Totals.{quotient_of, sum_of_numbers, sum_total}
 use Rattle.gl_bits.specs.Words.{choose_of, difference_of}
-use Rattle.gl_bits.specs.declared.kind.Kind.{Kind}
-use Rattle.gl_bits.specs.declared.kind.Kind.TheVariants.{Unsigned}
+use Rattle.gl_values.specs.declared.kind.Kind.{Kind}
+use Rattle.gl_values.specs.declared.kind.Kind.TheVariants.{Unsigned}
 use Rattle.gl_divide.specs.Division.{highest}
 use Rattle.gl_divide.proofs.BitLemmas.{highest_none, highest_some}
 use Rattle.gl_net.specs.declared.node.Bus.{Bus}

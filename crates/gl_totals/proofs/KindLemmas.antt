@@ -1,9 +1,9 @@
 -- The kinds and widths of operands.
 use Rattle.std.proofs.Common.{◌≤◌, List}
 use Rattle.std.specs.Prelude.{All}
-use Rattle.gl_bits.specs.Kinds.{IsKind, width_of}
-use Rattle.gl_bits.specs.declared.kind.Kind.{Kind}
-use Rattle.gl_bits.proofs.KindLemmas.{kind_width}
+use Rattle.gl_values.specs.Kinds.{IsKind, width_of}
+use Rattle.gl_values.specs.declared.kind.Kind.{Kind}
+use Rattle.gl_values.proofs.KindLemmas.{kind_width}
 use Rattle.gl_algebra.specs.declared.node.Operand.{Operand}
 use Rattle.gl_algebra.specs.declared.node.Operand.TheVariants.{Column, Literal}
 use Rattle.gl_algebra.specs.Columns.{OperandFits, bit_kind, kind_of_operand}

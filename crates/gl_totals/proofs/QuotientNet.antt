@@ -1,8 +1,8 @@
 -- Quotients, said otherwise.
 use Rattle.std.proofs.Common.{◌≡◌, ℕ, suc, ap, arith, ◌∙◌}
 use Rattle.std.specs.Prelude.{ℤ}
-use Rattle.gl_bits.specs.Kinds.{word_of}
-use Rattle.gl_bits.specs.Totals.{quotient_of}
+use Rattle.gl_values.specs.Kinds.{word_of}
+use Rattle.gl_values.specs.Totals.{quotient_of}
 use Rattle.gl_net.specs.declared.node.Bus.{Bus}
 use Rattle.gl_net.specs.Net.{Net}
 use Rattle.gl_wire.specs.Costs.{Cost}

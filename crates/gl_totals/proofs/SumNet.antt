@@ -1,6 +1,6 @@
 -- Sums and counts, from folds.
 use Rattle.std.proofs.Common.{◌≡◌, ℕ, suc, ap, ◌∙◌}
-use Rattle.gl_bits.specs.Totals.{count_of, sum_total}
+use Rattle.gl_values.specs.Totals.{count_of, sum_total}
 use Rattle.gl_bits.specs.Words.{sum_of}
 use Rattle.gl_net.specs.declared.node.Bus.{Bus}
 use Rattle.gl_net.specs.Net.{Run}

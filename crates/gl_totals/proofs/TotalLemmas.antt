@@ -2,9 +2,9 @@
 use Rattle.std.proofs.Common.{◌≡◌, ℕ, ◌+◌, ◌%◌, ◌^◌, List, [], ◌∷◌, map, length, refl, sym, ap, ◌∙◌, arith}
 use Rattle.std.specs.Prelude.{fold, if◌then◌else◌, nat_eq, sum}
 use Rattle.std.proofs.Math.Nat.{mod-add-mod, zero-mod}
-use Rattle.gl_bits.specs.Totals.{count_of, greatest_of, least_of, sum_total}
+use Rattle.gl_values.specs.Totals.{count_of, greatest_of, least_of, sum_total}
 use Rattle.gl_bits.specs.Words.{sum_of}
-use Rattle.gl_bits.specs.declared.kind.Kind.{Kind}
+use Rattle.gl_values.specs.declared.kind.Kind.{Kind}
 use Rattle.gl_totals.specs.Folds.{better}
 use Rattle.gl_totals.specs.Totals.{extreme_of}
 use Rattle.gl_totals.specs.declared.fold.Extreme.{Extreme}

@@ -5,7 +5,7 @@ use Rattle.std.proofs.Math.Nat.{add-mod-mod, div-eq_of_eq-mul_left, mod-add-mod,
 use Rattle.std.proofs.Math.Pow.{pow-lt}
 use Rattle.std.proofs.lemmas.Bool.{cases_lt}
 use Rattle.std.proofs.lemmas.Nat.{mul-mod_first, pow-add}
-use Rattle.gl_bits.specs.Totals.{weighted, weighted_sum}
+use Rattle.gl_values.specs.Totals.{weighted, weighted_sum}
 use Rattle.gl_bits.specs.Words.{product_of, sum_of}
 use Rattle.gl_divide.specs.Division.{with_bit}
 use Rattle.gl_totals.specs.Weighing.{picked}

@@ -1,9 +1,9 @@
 -- The fraction whose quotient an average is.
 use Rattle.std.specs.Prelude.{◌≡◌, ℕ, ℤ, suc, ◌+◌, nat_eq, if◌then◌else◌}
-use Rattle.gl_bits.specs.Kinds.{width_of, word_of}
-use Rattle.gl_bits.specs.Totals.{count_of, quotient_of, sum_of_numbers}
+use Rattle.gl_values.specs.Kinds.{width_of, word_of}
+use Rattle.gl_values.specs.Totals.{count_of, quotient_of, sum_of_numbers}
 use Rattle.gl_bits.specs.Words.{difference_of}
-use Rattle.gl_bits.specs.declared.kind.Kind.{Kind}
+use Rattle.gl_values.specs.declared.kind.Kind.{Kind}
 use Rattle.gl_net.specs.declared.node.Bus.{Bus}
 use Rattle.gl_net.specs.declared.node.Bit.{Bit}
 use Rattle.gl_net.specs.Net.{Net, Run, IsRun, IsBit, IsBus, Keeps}

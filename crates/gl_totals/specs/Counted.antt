@@ -1,6 +1,6 @@
 -- What aggregates cost is within what a plan counts for them.
 use Rattle.std.specs.Prelude.{ℕ, All, List}
-use Rattle.gl_bits.specs.Kinds.{IsKind}
+use Rattle.gl_values.specs.Kinds.{IsKind}
 use Rattle.gl_algebra.specs.Columns.{AggFits}
 use Rattle.gl_algebra.specs.declared.figures.Figures.{Figures}
 use Rattle.gl_algebra.specs.declared.node.PlanAgg.{PlanAgg}

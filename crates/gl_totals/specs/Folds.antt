@@ -1,9 +1,9 @@
 -- What folds the rows of the open stream: what it does with a row, and what it carries.
 use Rattle.std.specs.Prelude.{◌≡◌, ℕ, suc, Bool, false, if◌then◌else◌, ⊤}
-use Rattle.gl_bits.specs.Kinds.{is_below, width_of}
-use Rattle.gl_bits.specs.Totals.{greater, lesser}
+use Rattle.gl_values.specs.Kinds.{is_below, width_of}
+use Rattle.gl_values.specs.Totals.{greater, lesser}
 use Rattle.gl_bits.specs.Words.{bit, sum_of}
-use Rattle.gl_bits.specs.declared.kind.Kind.{Kind}
+use Rattle.gl_values.specs.declared.kind.Kind.{Kind}
 use Rattle.gl_divide.specs.Division.{with_bit}
 use Rattle.gl_net.specs.declared.node.Bus.{Bus}
 use Rattle.gl_net.specs.Net.{Net, Run, IsRun, IsBus, IsBit, Keeps}

@@ -1,6 +1,6 @@
 -- The rows of streams, as a lane, and the values that a bus carries with those of the open stream.
 use Rattle.std.specs.Prelude.{◌≡◌, ℕ, zero, suc, List, Bool, false, ⊤}
-use Rattle.gl_bits.specs.Results.{Row}
+use Rattle.gl_values.specs.Results.{Row}
 use Rattle.gl_net.specs.declared.node.Bus.{Bus}
 use Rattle.gl_net.specs.declared.node.Bit.{Bit}
 use Rattle.gl_net.specs.Net.{Net, Run, IsAddressWidth, IsBit, IsBus}

@@ -1,8 +1,8 @@
 //! The average of the values of the open stream.
 
 ghost use Rattle.std.specs.Prelude.{◌≡◌, ◌+◌, IfOk, pos};
-ghost use Rattle.gl_bits.specs.Kinds.{IsKind, number_in, signed_number, width_of};
-ghost use Rattle.gl_bits.specs.Totals.{average_of};
+ghost use Rattle.gl_values.specs.Kinds.{IsKind, number_in, signed_number, width_of};
+ghost use Rattle.gl_values.specs.Totals.{average_of};
 ghost use Rattle.gl_net.specs.Net.{IsBit, IsBus};
 ghost use Rattle.gl_totals.specs.Averages.{IsFraction, IsGuarded, IsQuotient};
 ghost use Rattle.gl_totals.specs.Costs.{cost_of_average, cost_of_divided, cost_of_quotient};
@@ -14,7 +14,8 @@ use crate::fold::small_word;
 use crate::rows::Rows;
 use crate::sign::{put_magnitude, put_negated};
 use crate::sum::{put_count, put_sum};
-use gl_bits::{Kind, Memory};
+use gl_bits::Memory;
+use gl_values::Kind;
 use gl_divide::divide;
 use gl_net::{Bit, Bus, NetBuilder};
 use gl_rows::cast::{low_bits, put_number};

@@ -1,7 +1,7 @@
 //! The least and the greatest value of the open stream.
 
 ghost use Rattle.std.specs.Prelude.{◌≡◌, IfOk};
-ghost use Rattle.gl_bits.specs.Kinds.{width_of};
+ghost use Rattle.gl_values.specs.Kinds.{width_of};
 ghost use Rattle.gl_net.specs.Net.{IsBit, IsBus};
 ghost use Rattle.gl_totals.specs.Costs.{cost_of_extreme};
 ghost use Rattle.gl_totals.specs.Extremes.{IsHeldBest, IsPick, IsPicked};
@@ -11,7 +11,8 @@ ghost use Rattle.gl_totals.specs.Totals.{IsTotalOf, extreme_of};
 
 use crate::fold::{Best, Extreme, Step, put_better, put_state, small_word};
 use crate::rows::{Keep, Rows};
-use gl_bits::{Kind, Memory};
+use gl_bits::Memory;
+use gl_values::Kind;
 use gl_net::{BinaryOp, Bit, Bus, NetBuilder};
 use gl_wire::{both, but_not, note_bus};
 

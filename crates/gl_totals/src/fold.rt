@@ -9,7 +9,8 @@ ghost use Rattle.gl_totals.specs.Slots.{IsNow, IsPassing};
 ghost use Rattle.gl_totals.specs.declared.fold.Step.TheVariants.{Add, Keep, Set, Shift};
 
 use crate::rows::{self, Rows};
-use gl_bits::{Kind, Memory, Op, Word};
+use gl_bits::{Memory, Word};
+use gl_values::{Kind, Op};
 use gl_divide::digit::shift;
 use gl_net::{BinaryOp, Bit, Bus, NetBuilder};
 use gl_rows::operation::put_operator;

@@ -1,7 +1,7 @@
 //! Sums and counts of the open stream.
 
 ghost use Rattle.std.specs.Prelude.{IfOk};
-ghost use Rattle.gl_bits.specs.Totals.{count_of, sum_total};
+ghost use Rattle.gl_values.specs.Totals.{count_of, sum_total};
 ghost use Rattle.gl_net.specs.Net.{IsBit, IsBus};
 ghost use Rattle.gl_totals.specs.Costs.{cost_of_count, cost_of_fold};
 ghost use Rattle.gl_totals.specs.Open.{KeepFits};

@@ -2,7 +2,7 @@
 
 ghost use Rattle.std.specs.Prelude.{◌≡◌, ◌≤◌, All, IfOk, length, map};
 ghost use Rattle.gl_algebra.specs.Columns.{AggFits};
-ghost use Rattle.gl_bits.specs.Kinds.{IsKind, width_of};
+ghost use Rattle.gl_values.specs.Kinds.{IsKind, width_of};
 ghost use Rattle.gl_net.specs.Net.{IsBit, IsBus};
 ghost use Rattle.gl_totals.specs.Open.{in_memory};
 ghost use Rattle.gl_totals.specs.Tables.{AreLinesBehind, IsTable};
@@ -13,7 +13,8 @@ use crate::rows::{Keep, Rows};
 use crate::total::{Stream, put_aggs};
 use gl_algebra::PlanAgg;
 use gl_algebra::table::delay_of_aggs;
-use gl_bits::{Kind, Memory};
+use gl_bits::Memory;
+use gl_values::Kind;
 use gl_net::{Bit, Bus, NetBuilder};
 use gl_rows::Source;
 use gl_wire::{Wire, later, later_bit, note_bit, note_bus};

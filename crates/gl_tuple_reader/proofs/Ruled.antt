@@ -4,7 +4,7 @@ use Rattle.std.specs.Prelude.{slice_set, is_some, IfSome, IsTrue, IsFalse, nat_l
 use Rattle.std.specs.List.{AllByRecursion}
 use Rattle.std.proofs.lemmas.Bool.{ltb-false, le-ltb, true≢false}
 use Rattle.std.proofs.lemmas.List.{append-nil}
-use Rattle.gl_bits.proofs.AllLists.{all_append, all_back, all_weaker}
+use Rattle.gl_bits.proofs.AllLists.{all_back, all_weaker, all_push}
 use Rattle.gl_schema.specs.declared.schema.Schema.{Schema}
 use Rattle.gl_tuples.specs.declared.beats.Beat.{Beat}
 use Rattle.gl_tuple_reader.specs.declared.entry.Entry.{Entry}
@@ -21,9 +21,6 @@ use Rattle.gl_tuple_reader.proofs.FileBeating.{Stands, stands_first, stands_next
 use Rattle.gl_tuple_reader.proofs.Entering.{Enters, enters, end_entered, tick_entered, row_given, tuple_entered}
 
 -- ---- lists
-
-all_push : {A : Type 0} (P : A → Type 0) (xs : List A) (x : A) → AllByRecursion P xs → P x → AllByRecursion P (xs ++ x ∷ [])
-all_push P xs x h p = all_append P xs (x ∷ []) h (p, tt)
 
 all_last : {A : Type 0} (P : A → Type 0) (xs : List A) (x : A) → AllByRecursion P (xs ++ x ∷ []) → P x
 all_last P xs x h = (all_back P xs (x ∷ []) h).0

@@ -7,6 +7,8 @@ use Rattle.std.proofs.lemmas.Bool.{eq-eqb, ne_eqb}
 use Rattle.std.proofs.lemmas.List.{append-nil, drop-append-le, map-append, length-append}
 use Rattle.std.proofs.Math.Seq.{drop-append_seam}
 use Rattle.gl_bits.specs.Words.{Word, bit, bits_of, widths_of}
+use Rattle.gl_bits.proofs.AllLists.{all_push}
+use Rattle.gl_tuples.proofs.Rows.{widths_length}
 use Rattle.gl_tuples.specs.declared.beats.Beat.{Beat}
 use Rattle.gl_tuples.specs.declared.beats.Head.{Head}
 use Rattle.gl_tuples.specs.Flat.{words_in, row_in, row_size, is_odd, rows_in, rows_size, beat_in, beats_in, IsInside, RowAdded, RowsAdded}
@@ -22,17 +24,13 @@ pub bits_long : (row : List Word) → length (bits_of row) ≡ length row
 bits_long [] = refl
 bits_long (w ∷ row) = ap suc (bits_long row)
 
-widths_long : (row : List Word) → length (widths_of row) ≡ length row
-widths_long [] = refl
-widths_long (w ∷ row) = ap suc (widths_long row)
-
 pub words_whole : (row : List Word) (columns more : List ℕ) → widths_of row ≡ columns → words_in columns (bits_of row ++ more) ≡ row
 words_whole row columns more e = ap (λ (ws : List ℕ). words_in ws (bits_of row ++ more)) (sym e) ∙ words_back row more
 
 -- a row that is added, and one that is not there
 pub row_added : (columns : List ℕ) (row : List Word) (old new : List ℕ) → widths_of row ≡ columns → new ≡ old ++ bits_of row → RowAdded columns (Some row) old new true
 row_added columns row old new e is =
-    record { numbers = bits_of row; grown = is; size = ap length (sym e) ∙ widths_long row ∙ sym (bits_long row); back = λ more. ap Some (words_whole row columns more e) }
+    record { numbers = bits_of row; grown = is; size = ap length (sym e) ∙ widths_length row ∙ sym (bits_long row); back = λ more. ap Some (words_whole row columns more e) }
 
 pub none_added : (columns old : List ℕ) → RowAdded columns None old old false
 none_added columns old = record { numbers = []; grown = sym (append-nil old); size = refl; back = λ more. refl }
@@ -136,10 +134,6 @@ inside_still shape old new more hs e inside = subst (λ (ns : List ℕ). AllByRe
 
 pub beats_still : (shape : List (List ℕ)) (old new more : List ℕ) (hs : List Head) → new ≡ old ++ more → AllByRecursion (IsInside shape old) hs → beats_in shape new hs ≡ beats_in shape old hs
 beats_still shape old new more hs e inside = ap (λ (ns : List ℕ). beats_in shape ns hs) e ∙ beats_same shape old more hs inside
-
-all_push : {A : Type 0} (P : A → Type 0) (xs : List A) (x : A) → AllByRecursion P xs → P x → AllByRecursion P (xs ++ x ∷ [])
-all_push P [] x all one = (one, tt)
-all_push P (y ∷ xs) x all one = (all.0, all_push P xs x all.1 one)
 
 -- a beat that is added
 pub inside_pushed : (shape : List (List ℕ)) (rows : List (Option (List Word))) (old new : List ℕ) (hs : List Head) (h : Head) → AllByRecursion (IsInside shape old) hs → h.first ≡ length old

@@ -7,11 +7,11 @@ use Rattle.std.proofs.lemmas.Bool.{eq-eqb, ne_eqb, cases_Bool, cases_lt, false�
 use Rattle.std.proofs.lemmas.Str.{utf8_valid_len-IsUtf8}
 use Rattle.std.proofs.lemmas.List.Sums.{fold_more}
 use Rattle.std.proofs.Math.Nat.{min-eq_left, min-eq_right, mod-eq_of_lt, pow-le-pow_right}
-use Rattle.gl_bits.specs.declared.kind.Kind.{Kind}
-use Rattle.gl_bits.specs.Kinds.{IsKind, has_negative, in_range, is_signed, negative_word, width_of}
+use Rattle.gl_values.specs.declared.kind.Kind.{Kind}
+use Rattle.gl_values.specs.Kinds.{IsKind, has_negative, in_range, is_signed, negative_word, width_of}
 use Rattle.gl_bits.specs.Words.{Word}
 use Rattle.gl_bits.proofs.Bools.{and_right}
-use Rattle.gl_bits.proofs.KindLemmas.{range_below}
+use Rattle.gl_values.proofs.KindLemmas.{range_below}
 use Rattle.gl_tuples.specs.Values.{fitting, fitting_negative, number_in}
 
 pub text_is_utf8 : (bs : List ℕ) → IsUtf8 bs → (utf8_valid_len bs == length bs) ≡ true

@@ -8,11 +8,11 @@ use Rattle.std.proofs.lemmas.Bool.{cases_lt, le-ltb, lt-ltb, ltb-true, true≢fa
 use Rattle.std.proofs.lemmas.Fmt.{length-decimal-le}
 use Rattle.std.proofs.lemmas.Int.{ints}
 use Rattle.std.proofs.lemmas.Nat.{pow_pos}
-use Rattle.gl_bits.specs.declared.kind.Family.TheVariants.{Numbers, Texts}
-use Rattle.gl_bits.specs.declared.kind.Kind.{Kind}
-use Rattle.gl_bits.specs.declared.kind.Kind.TheVariants.{Unsigned, Signed, Text}
-use Rattle.gl_bits.specs.Kinds.{IsKind, bytes_in, family_of, is_below, number_of, signed_number, width_of}
-use Rattle.gl_bits.proofs.Signs.{half_of, high_number, low_number, shifted}
+use Rattle.gl_values.specs.declared.kind.Family.TheVariants.{Numbers, Texts}
+use Rattle.gl_values.specs.declared.kind.Kind.{Kind}
+use Rattle.gl_values.specs.declared.kind.Kind.TheVariants.{Unsigned, Signed, Text}
+use Rattle.gl_values.specs.Kinds.{IsKind, bytes_in, family_of, is_below, number_of, signed_number, width_of}
+use Rattle.gl_values.proofs.Signs.{half_of, high_number, low_number, shifted}
 use Rattle.gl_schema.specs.Seen.{printed, quoted, unpadded}
 
 pub number_printed : (kind : Kind) (v : ℕ) → family_of kind ≡ Numbers → signed_decimal (number_of kind v) ≡ printed kind v

@@ -1,7 +1,7 @@
 -- The lines of a cycle, from their pieces, and of a result that stands alone.
 use Rattle.std.proofs.Common.{◌≡◌, ℕ, List, [], ◌∷◌, Bool, true, false, Option, Some, None, Result, Ok, Err, IsErrAnd, refl, sym, ap, ◌∙◌, append_assoc}
 use Rattle.std.specs.Prelude.{not, ◌&&◌, ◌++◌, decimal, codes, if◌then◌else◌}
-use Rattle.gl_bits.specs.declared.kind.Kind.{Kind}
+use Rattle.gl_values.specs.declared.kind.Kind.{Kind}
 use Rattle.gl_outside.specs.States.{SinkState, Broke, Wrote}
 use Rattle.gl_schema.specs.Seen.{Shown, cycle_lines, end_line, line_of, overflow_line, row_line, values_text}
 use Rattle.gl_tuples.specs.declared.lines.Sample.{Sample}

@@ -1,7 +1,7 @@
 -- Beats that more are added to, and which rows have their columns.
 use Rattle.std.specs.Prelude.{◌≡◌, ℕ, ◌≤◌, List, [], ◌∷◌, ◌++◌, map, Option, IfSome}
 use Rattle.std.specs.List.{AllByRecursion}
-use Rattle.gl_bits.specs.Kinds.{width_of}
+use Rattle.gl_values.specs.Kinds.{width_of}
 use Rattle.gl_bits.specs.Words.{Word, widths_of}
 use Rattle.gl_schema.specs.declared.schema.Schema.{Schema}
 use Rattle.gl_schema.specs.declared.schema.Stream.{Stream}

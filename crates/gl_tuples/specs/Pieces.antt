@@ -1,7 +1,7 @@
 -- What a cycle shows, and the pieces of its lines, with a name or without.
 -- A middle layer, proved equal to `Seen`: no promise rests on it.
 use Rattle.std.specs.Prelude.{ℕ, Bool, false, not, ◌&&◌, List, [], ◌∷◌, ◌++◌, Option, Some, None, codes, decimal, option_map, if◌then◌else◌}
-use Rattle.gl_bits.specs.declared.kind.Kind.{Kind}
+use Rattle.gl_values.specs.declared.kind.Kind.{Kind}
 use Rattle.gl_schema.specs.Seen.{Shown, values_text}
 use Rattle.gl_tuples.specs.declared.lines.Format.{Format}
 use Rattle.gl_tuples.specs.declared.lines.Sample.{Sample}

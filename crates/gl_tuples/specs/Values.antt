@@ -2,9 +2,9 @@
 use Rattle.std.specs.Prelude.{ℕ, pos, ◌+◌, ◌-◌, ◌*◌, Bool, false, not, ◌&&◌, List, [], ◌∷◌, length, drop, Option, Some, None, nat_le, ◌==◌, if◌then◌else◌}
 use Rattle.std.specs.List.{fold, list_all}
 use Rattle.std.specs.Str.Lossy.{utf8_valid_len}
-use Rattle.gl_bits.specs.declared.kind.Kind.{Kind}
-use Rattle.gl_bits.specs.Kinds.{bytes_in, has_negative, in_range, negative_word, width_of}
-use Rattle.gl_bits.specs.Kinds as kinds
+use Rattle.gl_values.specs.declared.kind.Kind.{Kind}
+use Rattle.gl_values.specs.Kinds.{bytes_in, has_negative, in_range, negative_word, width_of}
+use Rattle.gl_values.specs.Kinds as kinds
 use Rattle.gl_bits.specs.Words.{Word}
 use Rattle.gl_schema.specs.Names.{is_digit}
 use Rattle.gl_schema.specs.Schemas.{text_word}

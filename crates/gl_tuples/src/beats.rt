@@ -1,7 +1,7 @@
 //! Beats: the cycles in which tuples come, ticks of the clock, and the end.
 
 ghost use Rattle.std.specs.Prelude.{◌≡◌, ◌+◌, ◌^◌, ◌≤◌, ◌↔◌, ℕ, List, length, map, nat_lt, option_map, slice_get, IfOk, IsOk, OnOk, MatchResult};
-ghost use Rattle.gl_bits.specs.Kinds.{width_of};
+ghost use Rattle.gl_values.specs.Kinds.{width_of};
 ghost use Rattle.gl_schema.specs.Beats.{KeepsGap, row_in};
 ghost use Rattle.gl_schema.specs.Schemas.{IsSchema};
 ghost use Rattle.gl_tuples.specs.Flat.{beats_in};

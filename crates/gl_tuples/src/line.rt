@@ -4,12 +4,13 @@ ghost use Rattle.std.specs.Prelude.{◌≡◌, ◌≤◌, ◌<◌, ◌+◌, ◌-
 ghost use Rattle.std.specs.Fmt.{signed_decimal};
 ghost use Rattle.std.specs.List.{AllByRecursion};
 ghost use Rattle.std.specs.Int.{bytes_high_first};
-ghost use Rattle.gl_bits.specs.Kinds.{IsKind, is_below, number_of, width_of};
+ghost use Rattle.gl_values.specs.Kinds.{IsKind, is_below, number_of, width_of};
 ghost use Rattle.gl_bits.specs.Words.{bits_of, widths_of};
 ghost use Rattle.gl_schema.specs.Seen.{line_of, printed, quoted, doubled, values_text};
 ghost use Rattle.gl_schema.specs.Seen as seen;
 
-use gl_bits::{Family, Kind, Row, Word};
+use gl_bits::{Row, Word};
+use gl_values::{Family, Kind};
 use itoa::Buffer;
 
 /// Writes the line of a result into a buffer and answers its length, at most 700: the cycle, each

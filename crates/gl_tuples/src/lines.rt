@@ -2,15 +2,16 @@
 
 ghost use Rattle.std.specs.Prelude.{◌≡◌, ◌+◌, ◌≤◌, ◌++◌, ◌∷◌, length, map, option_map, take, decimal, not, ◌&&◌};
 ghost use Rattle.std.specs.List.{AllByRecursion};
-ghost use Rattle.gl_bits.specs.Kinds.{IsKind, width_of};
+ghost use Rattle.gl_values.specs.Kinds.{IsKind, width_of};
 ghost use Rattle.gl_bits.specs.Words.{widths_of, bits_of};
 ghost use Rattle.gl_outside.specs.States.{Wrote};
 ghost use Rattle.gl_schema.specs.Seen.{cycle_lines};
 ghost use Rattle.gl_tuples.specs.Pieces.{line_if, line_with, lines_with, name_in, sampled, told_of};
 
 use crate::line::{put, values_into};
-use gl_bits::{Kind, Row};
+use gl_bits::Row;
 use gl_outside::{Sink, WriteFault, write_all_of};
+use gl_values::Kind;
 use itoa::Buffer;
 
 /// What a cycle shows, beside the columns.

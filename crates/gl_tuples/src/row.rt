@@ -2,10 +2,11 @@
 
 ghost use Rattle.std.specs.Prelude.{◌≡◌, ◌<◌, ◌^◌, length, map, replicate, slice_index, slice_set, IfOk};
 ghost use Rattle.std.specs.List.{AllByRecursion};
-ghost use Rattle.gl_bits.specs.Kinds.{IsKind, width_of};
+ghost use Rattle.gl_values.specs.Kinds.{IsKind, width_of};
 ghost use Rattle.gl_bits.specs.Words.{widths_of, bits_of};
 
-use gl_bits::{Kind, Memory, Row, Word};
+use gl_bits::{Memory, Row, Word};
+use gl_values::Kind;
 use std::alloc::Global;
 
 // The word of a kind that is 0.

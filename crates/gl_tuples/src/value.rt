@@ -1,12 +1,13 @@
 //! Values of fields.
 
 ghost use Rattle.std.specs.Prelude.{◌≡◌, ◌^◌, IsTrue, option_map, min};
-ghost use Rattle.gl_bits.specs.Kinds.{IsKind, is_text};
+ghost use Rattle.gl_values.specs.Kinds.{IsKind, is_text};
 ghost use Rattle.gl_schema.specs.Names as names;
 ghost use Rattle.gl_tuples.specs.Values as spec;
 
-use gl_bits::{Family, Kind, Word};
+use gl_bits::Word;
 use gl_schema::text_number;
+use gl_values::{Family, Kind};
 
 /// What stands for every number that 64 bits do not hold.
 const TOO_LARGE: u128 = 0x1_0000_0000_0000_0000;

@@ -88,7 +88,7 @@ fn byte_at(place: usize) -> u8 {
     (place % 251) as u8
 }
 
-/// A text of so many bytes, which differ.
+/// A text of `size` bytes, which differ.
 pub fn many_bytes(alloc: Global, size: usize) -> Result<Vec<u8>, Memory> {
     let mut bytes = Vec::new(alloc);
     for place in 0..size {

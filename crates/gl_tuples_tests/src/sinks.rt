@@ -13,7 +13,7 @@ use gl_outside::*;
 use std::alloc::Global;
 use std::io;
 
-// A writer that takes so many bytes a call, up to a number in all.
+// A writer that takes at most `most` bytes a call, up to a number in all.
 #[derive(Drop)]
 struct Narrow {
     most: usize,

@@ -9,10 +9,11 @@ ghost use Rattle.std.specs.Prelude.{◌≡◌, [], ◌∷◌, IfOk, IfSome};
 ghost use Rattle.gl_bits.specs.Words.{widths_of};
 
 use crate::pieces::{bytes_of, number_before};
-use gl_bits::{Kind, Memory, Row, Word};
+use gl_bits::{Memory, Row, Word};
 use gl_schema::{Schema, read_schema};
 use gl_tuple_reader::read_tuples;
 use gl_tuples::{BeatView, Beats, TupleFault, line_into};
+use gl_values::Kind;
 use std::alloc::{AllocError, Global};
 use std::io;
 
@@ -124,7 +125,7 @@ fn print_line(rt: &HostRuntime, text: u128, number: u128) -> io::Result<()> {
     print!(rt; "{}", str::from_utf8(&line[..len]).unwrap_or("?"))
 }
 
-// A tuple file of so many ticks, one in each cycle, with this text behind them.
+// A tuple file of `ticks` ticks, one in each cycle, with this text behind them.
 fn behind_ticks(alloc: Global, ticks: u64, text: &[u8]) -> Result<Vec<u8>, AllocError> {
     let mut file = Vec::new(alloc);
     for cycle in 0..ticks {

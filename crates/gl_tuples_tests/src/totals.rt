@@ -8,10 +8,10 @@
 
 use crate::pieces::{number_before, numbers_of, word_before};
 use gl_bits::Memory;
-use gl_bits::kind::Kind;
 use gl_bits::listed::Listed;
-use gl_bits::lists::{Table, copy_of_row, groups_of, slice_of, slices_of, some_further};
-use gl_bits::totals::{average, count, greatest, least, sum, weigh};
+use gl_values::kind::Kind;
+use gl_values::lists::{Table, copy_of_row, groups_of, slice_of, slices_of, some_further};
+use gl_values::totals::{average, count, greatest, least, sum, weigh};
 use std::alloc::Global;
 use std::io;
 

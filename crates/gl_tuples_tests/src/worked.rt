@@ -1,9 +1,9 @@
 //! The definitions on worked rows: what cycles show, what stands on ports, and records that no file has.
 
 ghost use Rattle.std.specs.Prelude.{◌≡◌, ℕ, ◌+◌, List, [], ◌∷◌, Some, None, true, false, codes, bytes_eq, ◌==◌, if◌then◌else◌};
-ghost use Rattle.gl_bits.specs.declared.kind.Kind.TheVariants as kinds;
+ghost use Rattle.gl_values.specs.declared.kind.Kind.TheVariants as kinds;
 ghost use Rattle.gl_schema.specs.Schemas.{text_word};
-ghost use Rattle.gl_bits.specs.Times.{tslices};
+ghost use Rattle.gl_values.specs.Times.{tslices};
 ghost use Rattle.gl_schema.specs.Beats.{ticks_of, times_of};
 ghost use Rattle.gl_schema.specs.Ports as ports;
 ghost use Rattle.gl_schema.specs.Seen as seen;

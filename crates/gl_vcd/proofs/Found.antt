@@ -4,19 +4,14 @@ use Rattle.std.specs.Prelude.{◌⊎◌, ◌&&◌, ◌||◌, bytes_eq, filter, o
 use Rattle.std.specs.List.{AllByRecursion, list_any}
 use Rattle.std.proofs.lemmas.Bool.{cond-false, cond-true, or_from}
 use Rattle.std.proofs.lemmas.List.{map-append}
-use Rattle.std.proofs.lemmas.Slice.Eq.{bytes_eq-Decides}
 use Rattle.gl_bits.specs.Words.{IsWidth}
 use Rattle.gl_bits.proofs.AllLists.{all_append, heads, tails}
-use Rattle.gl_bits.proofs.Bools.{bytes_own, same_when}
+use Rattle.gl_bits.proofs.Bools.{bytes_own, bytes_both_ways}
 use Rattle.gl_bits.proofs.Options.{some_same}
+use Rattle.gl_bits.proofs.Places.{place_step}
 use Rattle.gl_vcd.specs.Signals.{Signal, number_of_name}
 use Rattle.gl_vcd.specs.Standing.{AreNumbered, words_in}
-use Rattle.gl_vcd.proofs.Numbered.{none_split, place_step}
-
-turned : (x y : List ℕ) → bytes_eq x y ≡ bytes_eq y x
-turned x y = same_when (bytes_eq x y) (bytes_eq y x)
-    (λ h. (bytes_eq-Decides y x).1 (sym ((bytes_eq-Decides x y).0 h)))
-    (λ h. (bytes_eq-Decides x y).1 (sym ((bytes_eq-Decides y x).0 h)))
+use Rattle.gl_vcd.proofs.Numbered.{none_split}
 
 -- a word has the place of the signal that has it
 pub number_is : (keys : List (Bor (List ℕ))) (signals : List Signal) (f : Signal → List ℕ) (word : List ℕ) → words_in keys ≡ map f signals
@@ -26,7 +21,7 @@ number_is [] (s ∷ signals) f word same = absurd cc
 number_is (k ∷ keys) [] f word same = absurd cc
 number_is (k ∷ keys) (s ∷ signals) f word same =
     let first : k.now ≡ f s = heads k.now (f s) (words_in keys) (map f signals) same in
-    let test : bytes_eq word k.now ≡ bytes_eq (f s) word = ap (bytes_eq word) first ∙ turned word (f s) in
+    let test : bytes_eq word k.now ≡ bytes_eq (f s) word = ap (bytes_eq word) first ∙ bytes_both_ways word (f s) in
     place_step (λ (x : Bor (List ℕ)). bytes_eq word x.now) k keys
     ∙ ap (λ (b : Bool). if b then Some 0 else option_map (λ m. m + 1) (position (λ x. bytes_eq word x.now) keys)) test
     ∙ ap (λ (o : Option ℕ). if bytes_eq (f s) word then Some 0 else option_map (λ m. m + 1) o) (number_is keys signals f word (tails k.now (f s) (words_in keys) (map f signals) same))
@@ -37,7 +32,7 @@ any_of : (signals : List Signal) (f : Signal → List ℕ) (word : List ℕ) →
 any_of [] f word none = refl
 any_of (s ∷ signals) f word none =
     let parts = none_split (bytes_eq (f s) word) (position (λ x. bytes_eq (f x) word) signals) (sym (place_step (λ (x : Signal). bytes_eq (f x) word) s signals) ∙ none) in
-    or_from (bytes_eq word (f s)) (list_any (bytes_eq word) (map f signals)) (turned word (f s) ∙ parts.0) (any_of signals f word parts.1)
+    or_from (bytes_eq word (f s)) (list_any (bytes_eq word) (map f signals)) (bytes_both_ways word (f s) ∙ parts.0) (any_of signals f word parts.1)
 
 pub new_word : (words : List (List ℕ)) (signals : List Signal) (f : Signal → List ℕ) (word : List ℕ) → words ≡ map f signals → position (λ s. bytes_eq (f s) word) signals ≡ None
     → list_any (bytes_eq word) words ≡ false

@@ -9,6 +9,7 @@ use Rattle.std.proofs.lemmas.Bool.Decides.{eqb_tells}
 use Rattle.gl_bits.specs.Words.{Word}
 use Rattle.gl_bits.proofs.AllLists.{all_append, get_mapped, length_map}
 use Rattle.gl_bits.proofs.Options.{some_same}
+use Rattle.gl_bits.proofs.Places.{place_step}
 use Rattle.gl_vcd.specs.declared.changing.Changing.{Changing}
 use Rattle.gl_vcd.specs.declared.changing.Waiting.TheVariants.{Change as NoneBegun}
 use Rattle.gl_vcd.specs.declared.fault.VcdFault.TheVariants.{Syntax, TooWide, UnknownSignal}
@@ -17,7 +18,6 @@ use Rattle.gl_vcd.specs.Reading.{Reading, Stage, begun, by_byte, change_next, en
 use Rattle.gl_vcd.specs.Tokens.{Token}
 use Rattle.gl_vcd.specs.Signals.{Change, Signal, all_given, given_from, number_of_code, value_at}
 use Rattle.gl_vcd.specs.Standing.{HaveRoom, Holds, bits_in, now_of, signal_of}
-use Rattle.gl_vcd.proofs.Numbered.{place_step}
 use Rattle.gl_vcd.proofs.Values.{given_all, given_append}
 
 -- ---- places

@@ -1,29 +1,17 @@
 -- The numbers of signals by their identifiers and by their names.
-use Rattle.std.proofs.Common.{◌≡◌, ℕ, zero, suc, ◌+◌, ◌/◌, ◌%◌, ◌<◌, inl, inr, Bool, true, false, cond, not, ◌&&◌, List, [], ◌∷◌, ◌++◌, length, Option, Some, None, refl, sym, ap, ◌∙◌, arith, add-one}
-use Rattle.std.specs.Prelude.{bytes_eq, codes, nat_lt, option_map, position, slice_get, if◌then◌else◌}
-use Rattle.std.specs.List.{AllByRecursion, list_any, position_or_len}
-use Rattle.std.proofs.lemmas.Bool.{cases_lt, cond-false, cond-true, false_from_ne_true, le-ltb, lt-ltb, or_parts}
+use Rattle.std.proofs.Common.{◌≡◌, ℕ, zero, suc, ◌+◌, ◌/◌, ◌%◌, ◌<◌, Bool, true, false, cond, ◌&&◌, List, [], ◌∷◌, ◌++◌, length, Option, Some, None, refl, sym, ap, ◌∙◌, arith, add-one}
+use Rattle.std.specs.Prelude.{bytes_eq, codes, option_map, position, slice_get, if◌then◌else◌}
+use Rattle.std.specs.List.{AllByRecursion, list_any}
+use Rattle.std.proofs.lemmas.Bool.{cond-false, cond-true, false_from_ne_true, or_parts}
 use Rattle.std.proofs.lemmas.Slice.Eq.{bytes_eq-Decides}
 use Rattle.gl_bits.proofs.AllLists.{heads, tails}
+use Rattle.gl_bits.proofs.Places.{place_step}
 use Rattle.gl_vcd.specs.Dumped.{Port}
 use Rattle.gl_vcd.specs.RoundTrip.{AreApart, names_of, signal_at, signals_from}
 use Rattle.gl_vcd.specs.Signals.{Signal, number_of_code, number_of_name}
 use Rattle.gl_vcd.specs.Written.{code_of}
 
 -- ---- the first place
-
-later : (k n : ℕ) → cond (nat_lt (1 + k) (suc n)) (Some (1 + k)) None ≡ option_map (λ m. m + 1) (cond (nat_lt k n) (Some k) None)
-later k n = elim (cases_lt k n) [
-  | inl h ↦ rw (lt-ltb (1 + k) (suc n) (omega (arith, h)), lt-ltb k n h) (ap Some (let e : 1 + k ≡ k + 1 = omega arith in e))
-  | inr h ↦ rw (le-ltb (1 + k) (suc n) (omega (arith, h)), le-ltb k n h) refl
-]
-
-pub place_step : {X : Type 0} (p : X → Bool) (x : X) (xs : List X) → position p (x ∷ xs) ≡ (if p x then Some 0 else option_map (λ m. m + 1) (position p xs))
-place_step p x xs = by (p x)
-  where
-    by : (b : Bool) → cond (nat_lt (cond (not b) (1 + position_or_len p xs) 0) (suc (length xs))) (Some (cond (not b) (1 + position_or_len p xs) 0)) None ≡ (if b then Some 0 else option_map (λ m. m + 1) (position p xs))
-    by true = rw (lt-ltb 0 (suc (length xs)) (omega arith)) refl
-    by false = later (position_or_len p xs) (length xs)
 
 pub none_split : (b : Bool) (o : Option ℕ) → (if b then Some 0 else option_map (λ m. m + 1) o) ≡ None → (b ≡ false) × (o ≡ None)
 none_split true o h = absurd cc

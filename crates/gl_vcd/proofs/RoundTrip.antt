@@ -8,6 +8,7 @@ use Rattle.gl_bits.specs.Words.{IsWord, Word}
 use Rattle.gl_bits.proofs.AllLists.{all_at, get_below, get_mapped, get_there, get_unmapped, length_map}
 use Rattle.gl_bits.proofs.Bools.{bytes_own}
 use Rattle.gl_bits.proofs.Options.{some_same}
+use Rattle.gl_bits.proofs.Places.{place_step}
 use Rattle.gl_schema.specs.Ports.{PortValues, fault_group, fault_queue, out_eos, out_valid}
 use Rattle.gl_schema.specs.Seen as seen
 use Rattle.gl_schema.specs.Seen.{Shown, is_high, lines, row_shown, shown}
@@ -19,7 +20,7 @@ use Rattle.gl_vcd.specs.Tokens.{tokens_from, tokens_of}
 use Rattle.gl_vcd.specs.Written.{cycles, dump_text, header}
 use Rattle.gl_vcd.proofs.Bytes.{Reads, reads_then}
 use Rattle.gl_vcd.proofs.Declarations.{read_header}
-use Rattle.gl_vcd.proofs.Numbered.{code_found, names_differ, place_step, signal_there}
+use Rattle.gl_vcd.proofs.Numbered.{code_found, names_differ, signal_there}
 use Rattle.gl_vcd.proofs.Rows.{AllTaken, RowsTaken, Takes, changing, read_rows}
 use Rattle.gl_vcd.proofs.Values.{AreLong, changes_of, given_rows}
 

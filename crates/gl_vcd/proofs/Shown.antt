@@ -4,8 +4,8 @@ use Rattle.std.specs.Prelude.{◌&&◌, ◌||◌, ◌==◌, filter, nat_le, nat_
 use Rattle.std.specs.List.{AllByRecursion, AllZip, list_any}
 use Rattle.std.proofs.Math.Nat.{one-le-pow}
 use Rattle.std.proofs.lemmas.Bool.{leb-true, ltb-false}
-use Rattle.gl_bits.specs.declared.kind.Kind.{Kind}
-use Rattle.gl_bits.specs.Kinds.{IsKind, width_of}
+use Rattle.gl_values.specs.declared.kind.Kind.{Kind}
+use Rattle.gl_values.specs.Kinds.{IsKind, width_of}
 use Rattle.gl_bits.specs.Words.{IsWidth, Word}
 use Rattle.gl_bits.proofs.AllLists.{all_by_place, length_map, map_map}
 use Rattle.gl_bits.proofs.Bools.{and_parts, neither_parts, not_true}

@@ -1,8 +1,8 @@
 -- What a dump tells: signals, and the values that they are given from some time on.
 use Rattle.std.specs.Prelude.{ℕ, zero, suc, Bool, true, not, ◌&&◌, ◌==◌, List, [], ◌∷◌, map, filter, take, Option, Some, None, is_some, bytes_eq, codes, nat_eq, nat_le, nat_lt, length, if◌then◌else◌}
 use Rattle.std.specs.List.{list_any, position}
-use Rattle.gl_bits.specs.declared.kind.Kind.{Kind}
-use Rattle.gl_bits.specs.declared.kind.Kind.TheVariants.{Unsigned}
+use Rattle.gl_values.specs.declared.kind.Kind.{Kind}
+use Rattle.gl_values.specs.declared.kind.Kind.TheVariants.{Unsigned}
 use Rattle.gl_schema.specs.Ports.{PortValues, out_valid, out_eos, fault_group}
 use Rattle.gl_schema.specs.Seen.{seen, lines, Shown}
 

@@ -75,7 +75,7 @@ fn binary_in(digits: &[u8]) -> Option<u128>
     Some(number)
 }
 
-// The word of so many bits that binary digits spell, if they have room for it.
+// The word of `width` bits that binary digits spell, if they have room for it.
 fn word_in(digits: &[u8], width: u8) -> Option<Word>
     requires bits { IsTrue (spec.are_bits digits.now) }
     requires width { IsWidth width }
@@ -95,7 +95,7 @@ fn are_bits(digits: &[u8]) -> bool
     digits.iter().all(|digit| matches!(digit, b'0' | b'1'))
 }
 
-// No value for so many signals.
+// No value for `many` signals.
 fn no_values(alloc: Global, many: usize) -> Result<Vec<Option<Word>>, Memory>
     ensures { IfOk result (λ v. v.items ≡ replicate many None) }
 {

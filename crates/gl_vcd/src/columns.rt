@@ -2,14 +2,15 @@
 
 ghost use Rattle.std.specs.Prelude.{◌≡◌, ◌<◌, ◌^◌, ◌++◌, ◌∷◌, [], length, map, IfOk, OnOk};
 ghost use Rattle.std.specs.List.{AllZip};
-ghost use Rattle.gl_bits.specs.declared.kind.Kind.TheVariants.{Unsigned};
+ghost use Rattle.gl_values.specs.declared.kind.Kind.TheVariants.{Unsigned};
 ghost use Rattle.gl_bits.specs.Words.{bits_of, widths_of};
 ghost use Rattle.gl_vcd.specs.Showings.{AreColumns, value_in};
 ghost use Rattle.gl_vcd.specs.Standing.{IsIndexed, signals_of};
 
 use crate::signals::{Signals, shows_column};
-use gl_bits::{Kind, Memory, Row, Word};
+use gl_bits::{Memory, Row, Word};
 use gl_tuples::set_value;
+use gl_values::Kind;
 use std::alloc::Global;
 
 /// The numbers of the signals that show columns, and the kinds by which these are printed.

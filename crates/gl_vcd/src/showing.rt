@@ -2,7 +2,7 @@
 
 ghost use Rattle.std.specs.Prelude.{◌≡◌, ◌-◌, ◌≤◌, ◌==◌, ◌&&◌, ◌||◌, not, false, length, map, IfOk, OnOk};
 ghost use Rattle.std.specs.List.{AllByRecursion};
-ghost use Rattle.gl_bits.specs.Kinds.{IsKind, width_of};
+ghost use Rattle.gl_values.specs.Kinds.{IsKind, width_of};
 ghost use Rattle.gl_bits.specs.Words.{bits_of, widths_of};
 ghost use Rattle.gl_outside.specs.States.{Wrote};
 ghost use Rattle.gl_schema.specs.Seen.{lines_after};
@@ -12,9 +12,10 @@ ghost use Rattle.gl_vcd.specs.Standing.{HaveRoom, IsIndexed, signals_of};
 
 use crate::columns::{Columns, columns_of, fill, value_in};
 use crate::signals::Signals;
-use gl_bits::{Kind, Memory, Row, Word};
+use gl_bits::{Memory, Row, Word};
 use gl_outside::{Sink, WriteFault};
 use gl_tuples::{Sample, put_cycle, zero_row};
+use gl_values::Kind;
 use std::alloc::Global;
 
 /// The numbers of the signals that show a result, the row that they show, and whether it was told

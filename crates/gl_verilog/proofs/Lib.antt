@@ -8,3 +8,12 @@ pub mod Settles
 pub mod Runs
 pub mod Acyclic
 pub mod Pieces
+pub mod Among
+pub mod Aware
+pub mod Good
+pub mod Rests
+pub mod Updates
+pub mod Phases
+pub mod Cycle
+pub mod EventRuns
+pub mod TwiceAssigned

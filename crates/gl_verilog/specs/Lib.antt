@@ -12,3 +12,6 @@ pub mod Limits
 pub mod Resolve
 pub mod Valid
 pub mod Text
+pub mod Events
+pub mod Laws
+pub mod Races

@@ -9,7 +9,7 @@ ghost use Rattle.gl_verilog.specs.Evaluate.{nets_of, memories_of, CanEvaluate};
 use crate::bank::Bank;
 use crate::module::{BinaryOp, Expr};
 
-/// The number whose low bits, so many, are set.
+/// The number whose `width` low bits are set.
 pub fn mask(width: u8) -> u128
     requires { width ≤ 128 }
     ensures { result ≡ 2 ^ width - 1 }

@@ -14,7 +14,7 @@ struct Readers {
 }
 
 impl Readers {
-    // No readers of so many nets.
+    // No readers of `nets` nets.
     fn new(alloc: Global, nets: usize) -> Result<Readers, AllocError> {
         let mut of_net = Vec::new(alloc);
         for _net in 0..nets {

@@ -34,7 +34,7 @@ fn note_homes(statement: &Statement, block: usize, homes: &mut Vec<usize>) {
     }
 }
 
-/// The number of the last block that assigns it, for each of so many registers and memories.
+/// The number of the last block that assigns it, for each of `count` registers and memories.
 pub(crate) fn homes_of(
     alloc: Global,
     count: usize,

@@ -181,7 +181,7 @@ pub(crate) fn order_marked(
     Ok(Some(order))
 }
 
-/// The numbers of assignments to so many nets in an order in which each reads only what stands
+/// The numbers of assignments to `nets` nets in an order in which each reads only what stands
 /// before it, or that there is none. An order is proposed by counting, in time that grows with the
 /// text, and tried; where it were none, passes over the text would find one.
 pub fn order_of(

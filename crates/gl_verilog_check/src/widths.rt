@@ -59,7 +59,7 @@ fn has_address(kind: Kind, address: u16) -> bool
     }
 }
 
-// The bits of a memory's words, where its addresses have so many bits.
+// The bits of a memory's words, where its addresses have `address` bits.
 fn word_width(declaration: &Declaration, address: u16) -> Option<u16>
     ensures { result ≡ word_width address (declaration_of declaration.now) }
 {

@@ -1,10 +1,11 @@
 -- Names in a map and in sets are names in lists, and what is put there is what is declared.
-use Rattle.std.proofs.Common.{◌≡◌, ℕ, zero, suc, ◌+◌, inl, inr, Bool, true, false, cond, List, [], ◌∷◌, ◌++◌, length, take, drop, map, Option, Some, None, Result, Ok, Err, Bor, refl, sym, ap, ◌∙◌, arith}
-use Rattle.std.specs.Prelude.{◌||◌, not, nat_lt, nat_le, position, is_some, option_map, option_and_then, slice_get, bytes_eq, if◌then◌else◌}
-use Rattle.std.specs.List.{list_any, position_or_len}
+use Rattle.std.proofs.Common.{◌≡◌, ℕ, zero, suc, ◌+◌, Bool, true, false, cond, List, [], ◌∷◌, ◌++◌, length, take, drop, map, Option, Some, None, Result, Ok, Err, Bor, refl, sym, ap, ◌∙◌, arith}
+use Rattle.std.specs.Prelude.{◌||◌, nat_le, position, is_some, option_map, option_and_then, slice_get, bytes_eq, if◌then◌else◌}
+use Rattle.std.specs.List.{list_any}
 use Rattle.std.specs.Map.{keys_of, lookup}
-use Rattle.std.proofs.lemmas.Bool.{lt-ltb, le-ltb, cases_lt}
 use Rattle.std.proofs.lemmas.List.{map-append}
+use Rattle.gl_bits.proofs.Places.{place_step}
+use Rattle.gl_bits.proofs.Bools.{bytes_both_ways}
 use Rattle.indexmap.specs.IndexMap.{insert_entry}
 use Rattle.gl_verilog.specs.Module.{Declaration, Kind, number_of}
 use Rattle.gl_verilog.specs.Written.{Range}
@@ -20,29 +21,15 @@ use Rattle.gl_verilog_elaborator.specs.declared.scope.Declared.{Declared}
 use Rattle.gl_verilog_elaborator.specs.Judged.{Broken, asks, known, known_as, known_at, with_name}
 use Rattle.gl_verilog_elaborator.specs.Elaborated.{Scope, scope, with_declaration, is_new, declared, new_width, port_token, Elaborated, driven_kind, all_driven}
 use Rattle.gl_verilog_elaborator.specs.View.{declared_as, names_in}
-use Rattle.gl_verilog_elaborator.proofs.OfDeclarations.{turned}
 
 -- ---- the first place
-
-later : (k n : ℕ) → cond (nat_lt (1 + k) (suc n)) (Some (1 + k)) None ≡ option_map (λ m. m + 1) (cond (nat_lt k n) (Some k) None)
-later k n = elim (cases_lt k n) [
-  | inl h ↦ rw (lt-ltb (1 + k) (suc n) (omega (arith, h)), lt-ltb k n h) (ap Some (let e : 1 + k ≡ k + 1 = omega arith in e))
-  | inr h ↦ rw (le-ltb (1 + k) (suc n) (omega (arith, h)), le-ltb k n h) refl
-]
-
-place_step : {X : Type 0} (p : X → Bool) (x : X) (xs : List X) → position p (x ∷ xs) ≡ (if p x then Some 0 else option_map (λ m. m + 1) (position p xs))
-place_step p x xs = by (p x)
-  where
-    by : (b : Bool) → cond (nat_lt (cond (not b) (1 + position_or_len p xs) 0) (suc (length xs))) (Some (cond (not b) (1 + position_or_len p xs) 0)) None ≡ (if b then Some 0 else option_map (λ m. m + 1) (position p xs))
-    by true = rw (lt-ltb 0 (suc (length xs)) (omega arith)) refl
-    by false = later (position_or_len p xs) (length xs)
 
 -- ---- a map of declarations
 
 number_is : (es : List ((Bor (List ℕ)) × Declared)) (name : List ℕ) → number_of (map declared_as es) name ≡ position (λ k. bytes_eq name k.now) (keys_of es)
 number_is [] name = refl
 number_is (e ∷ es) name =
-    ap (λ (b : Bool). if b then Some 0 else option_map (λ m. m + 1) (number_of (map declared_as es) name)) (turned e.0.now name)
+    ap (λ (b : Bool). if b then Some 0 else option_map (λ m. m + 1) (number_of (map declared_as es) name)) (bytes_both_ways e.0.now name)
     ∙ ap (λ (o : Option ℕ). if bytes_eq name e.0.now then Some 0 else option_map (λ m. m + 1) o) (number_is es name)
     ∙ sym (place_step (λ (k : Bor (List ℕ)). bytes_eq name k.now) e.0 (keys_of es))
 

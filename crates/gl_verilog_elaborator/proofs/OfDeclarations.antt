@@ -4,7 +4,7 @@ use Rattle.std.specs.Prelude.{◌||◌, not, nat_le, if◌then◌else◌}
 use Rattle.std.specs.Option.{option_map_or}
 use Rattle.std.specs.Str.{bytes_eq}
 use Rattle.std.proofs.lemmas.List.{append-nil}
-use Rattle.gl_bits.proofs.Bools.{bytes_same, bytes_own, else_false}
+use Rattle.gl_bits.proofs.Bools.{bytes_both_ways}
 use Rattle.gl_verilog.specs.Tokens.{Name}
 use Rattle.gl_verilog.specs.Written.{Range, WrittenPort, spell_direction, spell_range, spell_port, spell_more_ports}
 use Rattle.gl_verilog.specs.Module.{Declaration, Kind, Memory}
@@ -17,23 +17,13 @@ use Rattle.gl_verilog_elaborator.proofs.Demanded.{Is, is_then, is_ask, is_ask_as
 
 -- ---- names
 
-pub turned : (x y : List ℕ) → bytes_eq x y ≡ bytes_eq y x
-turned x y = by (bytes_eq x y) refl
-  where
-    by : (b : Bool) → bytes_eq x y ≡ b → bytes_eq x y ≡ bytes_eq y x
-    by true e = subst (λ (z : List ℕ). bytes_eq z y ≡ bytes_eq y z) (sym (bytes_same x y e)) refl
-    by false e = e ∙ sym (else_false (bytes_eq y x) (λ t. bad (subst (λ (z : List ℕ). bytes_eq x z ≡ false) (bytes_same y x t) e)))
-      where
-        bad : bytes_eq x x ≡ false → ⊥
-        bad f = (let g : true ≡ false = sym (bytes_own x) ∙ f in absurd cc)
-
 declared_by : (b : Bool) (o : Option Declaration) (d : Declaration) (r : Bool) → option_map_or (λ x. true) o false ≡ r → option_map_or (λ x. true) (if b then Some d else o) false ≡ (b || r)
 declared_by true o d r e = refl
 declared_by false o d r e = e
 
 pub declared_among : (ds : List Declaration) (name : List ℕ) → is_declared ds name ≡ is_among name (map (λ d. d.name) ds)
 declared_among [] name = refl
-declared_among (d ∷ ds) name = declared_by (bytes_eq d.name name) (declared_in ds name) d (is_among name (map (λ x. x.name) ds)) (declared_among ds name) ∙ ap (λ (b : Bool). b || is_among name (map (λ x. x.name) ds)) (turned d.name name)
+declared_among (d ∷ ds) name = declared_by (bytes_eq d.name name) (declared_in ds name) d (is_among name (map (λ x. x.name) ds)) (declared_among ds name) ∙ ap (λ (b : Bool). b || is_among name (map (λ x. x.name) ds)) (bytes_both_ways d.name name)
 
 -- ---- sizes
 

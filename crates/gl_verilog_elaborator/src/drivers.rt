@@ -82,7 +82,7 @@ pub(crate) fn pass_by(drivers: &mut Drivers, from: usize) -> Result<(), Stop>
     Ok(())
 }
 
-/// A list is left, before which so many names stood beside.
+/// A list is left, before which `beside` names stood beside.
 pub(crate) fn leave_list(drivers: &mut Drivers, beside: usize)
     ensures { drivers_of drivers.new ≡ judged.left_list
         (take beside (names_in drivers.old.beside.keys)) (drivers_of drivers.old) }

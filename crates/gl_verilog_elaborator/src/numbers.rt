@@ -217,7 +217,7 @@ pub struct Part {
     pub low: u8,
 }
 
-/// The places of a part of a word with so many bits; None where it has no such part.
+/// The places of a part of a word of `width` bits; None where it has no such part.
 pub(crate) fn part_of(width: u8, high: &[u8], low: &[u8]) -> Option<Part>
     ensures { MatchOption result ((nat_le (resolve.decimal_number low.now)
         (resolve.decimal_number high.now) && nat_lt (resolve.decimal_number high.now) width)

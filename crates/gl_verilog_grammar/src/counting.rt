@@ -30,7 +30,7 @@ pub enum Place {
     Asks,
     /// Behind a statement's target.
     Aims,
-    /// In a target's index, with so many brackets open in it.
+    /// In a target's index, with this number of brackets open in it.
     Index(usize),
     /// In a condition, likewise.
     Test(usize),

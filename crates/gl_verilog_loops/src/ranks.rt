@@ -71,7 +71,7 @@ struct Walk {
 }
 
 impl Walk {
-    // Nothing is walked yet, over so many assignments.
+    // Nothing is walked yet, over `count` assignments.
     fn new(alloc: Global, count: usize) -> Result<Walk, AllocError> {
         Ok(Walk {
             reads: Vec::new(alloc),

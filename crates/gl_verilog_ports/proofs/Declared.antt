@@ -1,10 +1,10 @@
 -- Where declarations stand, by their names, and which of them are ports.
 use Rattle.std.proofs.Common.{◌≡◌, ℕ, zero, suc, ◌+◌, true, false, List, [], ◌∷◌, ◌++◌, length, take, map, Option, Some, None, refl, sym, ap, ◌∙◌, subst, append_assoc, take_at}
 use Rattle.std.specs.Prelude.{slice_get, option_and_then}
-use Rattle.std.specs.Option.{option_map}
 use Rattle.std.specs.List.{AllByRecursion}
 use Rattle.std.proofs.lemmas.List.{append-nil}
 use Rattle.gl_bits.proofs.AllLists.{all_append, all_at, length_map}
+use Rattle.gl_bits.proofs.Options.{map_found}
 use Rattle.gl_verilog.specs.Module.{Module, Declaration, Kind, Wire, Register, Memory, number_of}
 use Rattle.gl_verilog.specs.Resolve.{Resolved, resolve_items, resolve_expr, resolve_statement, module_from, declare, declare_port, three, with_assignment, with_block, clocked, address_bits_of, decimal_number}
 use Rattle.gl_verilog.specs.Runnable.{is_input}
@@ -99,20 +99,11 @@ in_front [] more n d h e i = let other : is_input d.kind ≡ false = all_at NoIn
 in_front (x ∷ front) more zero d h e i = e
 in_front (x ∷ front) more (suc n) d h e i = in_front front more n d h e i
 
-record FoundIn {A B : Type 0} (f : A → B) (o : Option A) (r : B) : Type 0 where
-  found : A
-  there : o ≡ Some found
-  is : f found ≡ r
-
-map_some : {A B : Type 0} (f : A → B) (o : Option A) (r : B) → option_map f o ≡ Some r → FoundIn f o r
-map_some f None r e = absurd cc
-map_some f (Some x) r e = record { found = x; there = refl; is = cc }
-
 -- in the module of a text an input is a port
 pub inputs_are_ports : (text : List ℕ) (m : Module) → HasModule text m → HasInputPorts m
 inputs_are_ports text m h = λ n d e i.
     let w = h.written in
-    let r = map_some (module_from w) (resolve_items (map declare_port w.ports) w.items) m h.resolved in
+    let r = map_found (module_from w) (resolve_items (map declare_port w.ports) w.items) m h.resolved in
     let declared = items_declare (map declare_port w.ports) w.items r.found r.there in
     let ports : length w.ports ≡ m.ports = ap (λ (x : Module). x.ports) r.is in
     let all : r.found.declarations ≡ m.declarations = ap (λ (x : Module). x.declarations) r.is in

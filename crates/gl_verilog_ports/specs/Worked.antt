@@ -1,7 +1,7 @@
 -- Worked headers over a stream `s` with a column `v` of eight bits: which ports were found, or which one shows that
 -- they do not fit.
 use Rattle.std.specs.Prelude.{◌≡◌, ℕ, zero, suc, true, List, [], ◌∷◌, ◌++◌, length, Some, None, Result, Ok, Err, codes}
-use Rattle.gl_bits.specs.declared.kind.Kind.TheVariants.{Unsigned}
+use Rattle.gl_values.specs.declared.kind.Kind.TheVariants.{Unsigned}
 use Rattle.gl_schema.specs.declared.schema.Schema.{Schema}
 use Rattle.gl_verilog.specs.Module.{Module, Declaration, Kind, Input, OutputWire, OutputRegister}
 use Rattle.gl_verilog_ports.specs.declared.fitting.Ports.{Ports}

@@ -80,7 +80,7 @@ pub fn shows_column(port: &Declaration) -> bool
         && port.name.as_slice() != b"out__eos".as_slice()
 }
 
-// Whether no module may have this port behind so many columns.
+// Whether no module may have this port behind `columns` columns.
 fn is_bad(schema: &Schema, columns: usize, port: &Declaration) -> bool
     ensures { result ≡ spec.is_bad schema.now columns (declaration_of port.now) }
 {

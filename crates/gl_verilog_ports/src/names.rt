@@ -1,13 +1,13 @@
 //! The inputs of a schema, by their names; no name is made.
 
 ghost use Rattle.std.specs.Prelude.{◌≡◌, bytes_eq, nat_eq, option_map};
-ghost use Rattle.gl_bits.specs.Kinds as kinds;
+ghost use Rattle.gl_values.specs.Kinds as kinds;
 ghost use Rattle.gl_schema.specs.Ports.{in_valid, in_column};
 ghost use Rattle.gl_verilog_ports.specs.Steps as steps;
 ghost use Rattle.gl_verilog_ports.specs.Fit.{inputs, is_among};
 
-use gl_bits::Kind;
 use gl_schema::{Column, Schema, Stream};
+use gl_values::Kind;
 
 // What stands in a name behind this front.
 fn behind<'a>(front: &[u8], name: &'a [u8]) -> Option<&'a [u8]>
@@ -67,14 +67,14 @@ pub fn is_in_column(stream: &[u8], column: &[u8], name: &[u8]) -> bool
     is_column_name(stream, column, name)
 }
 
-// Whether a kind has so many bits.
+// Whether a kind has `width` bits.
 fn has_width(kind: Kind, width: u8) -> bool
     ensures { result ≡ nat_eq (kinds.width_of kind) width }
 {
     kind.bits() == u16::from(width)
 }
 
-// Of the column of this name, whether it has so many bits.
+// Of the column of this name, whether it has `width` bits.
 fn among_columns(stream: &[u8], columns: &[Column], name: &[u8], width: u8) -> Option<bool>
     ensures { result ≡ steps.among_columns stream.now columns.now name.now width }
 {
@@ -139,7 +139,7 @@ fn is_wanted(schema: &Schema, name: &[u8], width: u8) -> bool
     }
 }
 
-/// Whether the clock or an input of the schema has this name and so many bits.
+/// Whether the clock or an input of the schema has this name and `width` bits.
 #[tactic(auto, using(crate::proofs::Asked::asked))]
 pub(crate) fn is_asked(schema: &Schema, name: &[u8], width: u8) -> bool
     ensures { result ≡ is_among (inputs schema.now) name.now width }

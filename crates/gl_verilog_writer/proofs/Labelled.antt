@@ -1,11 +1,12 @@
 -- Labels with the numbers of their nodes are names, whatever they say.
-use Rattle.std.proofs.Common.{◌≡◌, ℕ, ◌-◌, ◌<◌, ◌≤◌, ◌^◌, Bool, true, false, not, ◌||◌, ◌&&◌, List, [], ◌∷◌, ◌++◌, length, length-append, drop, Some, refl, sym, ap, subst, ◌∙◌, arith, append_assoc, leb-true, ltb-true}
+use Rattle.std.proofs.Common.{◌≡◌, ℕ, ◌-◌, ◌<◌, ◌≤◌, ◌^◌, Bool, true, false, not, ◌&&◌, List, [], ◌∷◌, ◌++◌, length, length-append, drop, Some, refl, sym, ap, subst, ◌∙◌, arith, append_assoc, leb-true, ltb-true}
 use Rattle.std.specs.Prelude.{codes, decimal, slice_get, nat_eq, nat_lt, nat_le, bytes_eq, if◌then◌else◌}
 use Rattle.std.specs.List.{list_any, list_all}
 use Rattle.std.specs.Str.Parse.{AllDigits}
 use Rattle.std.proofs.lemmas.Str.Parse.{tells_digits}
 use Rattle.std.proofs.lemmas.Fmt.{decimal_injective, length-decimal-le}
 use Rattle.gl_bits.proofs.Bools.{and_left, and_both, and_parts, or_right, not_both, not_true, bytes_other}
+use Rattle.gl_bits.proofs.AllLists.{any_front}
 use Rattle.gl_net.specs.declared.node.Port.{Port}
 use Rattle.gl_net.specs.Net.{Net}
 use Rattle.gl_net.specs.Finished.{IsName}
@@ -61,14 +62,6 @@ labels-apart v w m n lm ln e =
 
 -- ---- each is a name
 
-any-by : (t a b : Bool) → (a ≡ true → b ≡ true) → (t || a) ≡ true → (t || b) ≡ true
-any-by true a b h k = refl
-any-by false a b h k = h k
-
-any-front : (p : ℕ → Bool) (a b : List ℕ) → list_any p a ≡ true → list_any p (a ++ b) ≡ true
-any-front p [] b h = absurd (cc)
-any-front p (c ∷ a) b h = any-by (p c) (list_any p a) (list_any p (a ++ b)) (any-front p a b) h
-
 any-back : (p : ℕ → Bool) (a b : List ℕ) → list_any p b ≡ true → list_any p (a ++ b) ≡ true
 any-back p [] b h = h
 any-back p (c ∷ a) b h = or_right (p c) (list_any p (a ++ b)) (any-back p a b h)
@@ -77,7 +70,7 @@ any-back p (c ∷ a) b h = or_right (p c) (list_any p (a ++ b)) (any-back p a b 
 not-posedge : (w : List ℕ) (n : ℕ) → bytes_eq (clean 64 w ++ codes "_n" ++ decimal n) (codes "osedge") ≡ false
 not-posedge w n =
     let f : List ℕ → Bool = list_any (λ b. nat_eq b 95) in
-    let has : f (clean 64 w ++ codes "_n" ++ decimal n) ≡ true = any-front (λ b. nat_eq b 95) (clean 64 w ++ codes "_n") (decimal n) (any-back (λ b. nat_eq b 95) (clean 64 w) (codes "_n") refl) in
+    let has : f (clean 64 w ++ codes "_n" ++ decimal n) ≡ true = any_front (λ b. nat_eq b 95) (clean 64 w ++ codes "_n") (decimal n) (any-back (λ b. nat_eq b 95) (clean 64 w) (codes "_n") refl) in
     bytes_other (clean 64 w ++ codes "_n" ++ decimal n) (codes "osedge") (λ q. not_both (f (codes "osedge")) (sym (ap f q) ∙ has) refl)
 
 label-short : (w : List ℕ) (n : ℕ) → n < 2 ^ 32 → length (label_name w n) ≤ 77

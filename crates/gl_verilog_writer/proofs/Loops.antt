@@ -1,5 +1,5 @@
 -- What is left of a text in a loop.
-use Rattle.std.proofs.Common.{◌≡◌, ℕ, suc, ◌+◌, ◌-◌, ◌<◌, ◌≤◌, true, false, List, [], ◌∷◌, ◌++◌, length, drop, get_or, Option, Some, None, refl, sym, ap, ◌∙◌, append_assoc, add-one, drop-cons, arith, map, le-leb, Vec, Global, Ok, Err, Result, OnOk}
+use Rattle.std.proofs.Common.{◌≡◌, ℕ, suc, ◌+◌, ◌-◌, ◌<◌, ◌≤◌, true, false, List, [], ◌∷◌, ◌++◌, length, drop, get_or, Option, Some, None, refl, sym, ap, ◌∙◌, append_assoc, add-one, drop-cons, arith, map, le-leb, Vec, Global}
 use Rattle.std.specs.Prelude.{codes, unwrap_or, nat_le, ◌&&◌, if◌then◌else◌}
 use Rattle.std.proofs.lemmas.Bool.{lt-leb}
 use Rattle.std.specs.Option.{option_map_or}
@@ -86,7 +86,3 @@ text-put net scheme name nodes ports a b d e n x p h f g =
     ∙ ap (λ (m : List ℕ). whole m nodes ports) (sym (ap (λ (o : Option (List ℕ)). unwrap_or o []) n))
     ∙ ap (λ (xs : List Node). whole (unwrap_or net.name []) xs ports) x
     ∙ ap (λ (qs : List Port). whole (unwrap_or net.name []) net.nodes qs) p
-
-pub on_ok : {T E : Type 0} {P Q : Type 0} (r : Result T E) → (P → Q) → OnOk r P → OnOk r Q
-on_ok (Ok x) f p = f p
-on_ok (Err e) f p = tt

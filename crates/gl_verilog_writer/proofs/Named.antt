@@ -1,7 +1,7 @@
 -- The declarations of a netlist's module: where each stands, and that no two have one name.
 use Rattle.std.proofs.Common.{◌≡◌, ℕ, zero, suc, ◌+◌, false, List, [], ◌∷◌, ◌++◌, length, map, Some, refl, sym, ap, ◌∙◌, arith, inl, inr, ◌⊎◌}
 use Rattle.std.specs.Prelude.{slice_get, codes, bytes_eq}
-use Rattle.gl_bits.proofs.Bools.{bytes_other, bytes_own, not_both}
+use Rattle.gl_bits.proofs.Bools.{bytes_other, bytes_differ}
 use Rattle.std.proofs.lemmas.List.{length-map}
 use Rattle.std.proofs.lemmas.Option.{slice_get_within}
 use Rattle.gl_bits.proofs.AllLists.{get_front, get_mapped, get_unmapped}
@@ -38,9 +38,6 @@ pub found : (ds : List Declaration) (i : ℕ) (d : Declaration) → Apart ds →
 found ds i d h e = number_at ds i d (distinct ds h) e
 
 -- ---- where each declaration stands
-
-bytes_differ : (a b : List ℕ) → bytes_eq a b ≡ false → a ≡ b → ⊥
-bytes_differ a b h e = not_both (bytes_eq a b) (ap (λ (w : List ℕ). bytes_eq w b) e ∙ bytes_own b) h
 
 module _ (net : Net) (names : ℕ → List ℕ) (c : Named net names) where
   pub node_there : (n : ℕ) (x : Node) → slice_get net.nodes n ≡ Some x → slice_get (declarations_in net names) (at_node (length net.ports) n) ≡ Some (declaration_for names n x)

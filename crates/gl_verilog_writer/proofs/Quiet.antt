@@ -2,6 +2,7 @@
 use Rattle.std.proofs.Common.{◌≡◌, ℕ, zero, suc, ◌+◌, ◌-◌, ◌*◌, ◌≤◌, Bool, true, false, ◌&&◌, List, [], ◌∷◌, ◌++◌, length, length-append, length-take, take, refl, sym, ap, ◌∙◌, append_assoc, arith, ne_eqb, leb-true}
 use Rattle.std.specs.Prelude.{codes, nat_eq, nat_le, if◌then◌else◌}
 use Rattle.gl_bits.proofs.Bools.{and_left, and_parts}
+use Rattle.gl_bits.proofs.Numbers.{not_zero}
 use Rattle.gl_verilog.specs.Tokens.{Between, InLine, Move, after, to, scan, Reads}
 use Rattle.gl_verilog.proofs.Pieces.{reads_on}
 use Rattle.gl_verilog_writer.specs.Comments.{shown_byte, wrapped, comment_text, heading_text, cut_note, last_text, header_from, header_text}
@@ -21,13 +22,10 @@ shown-on b w h = let f = shown-stays b in rw f (ap (λ (x : Move). after [] x) h
 begun : (w : List ℕ) → scan InLine w ≡ to Between [] → Reads (codes "//|     " ++ w) []
 begun w h = record { is = ap (λ (x : Move). after [] (after [] (after [] (after [] (after [] (after [] (after [] (after [] x)))))))) h }
 
-not-full : (room : ℕ) → nat_eq (suc room) 0 ≡ false
-not-full room = ne_eqb (suc room) 0 (λ q. omega (arith, q))
-
 wrapped-ends : (front : List ℕ) → Reads front [] → (room : ℕ) (w : List ℕ) → scan InLine (wrapped front room w) ≡ to Between []
 wrapped-ends front f room [] = refl
 wrapped-ends front f (suc room) (b ∷ w) =
-    let e = not-full room in
+    let e = not_zero room in
     let s : suc room - 1 ≡ room = omega arith in
     rw (e, s) (shown-on b (wrapped front room w) (wrapped-ends front f room w))
 wrapped-ends front f zero (b ∷ w) =
@@ -62,7 +60,7 @@ header-reads ls = header-from 65536 ls
 wrapped-long : (front : List ℕ) → length front ≤ 4 → (room : ℕ) (w : List ℕ) → room ≤ 115 → 111 * length (wrapped front room w) ≤ 124 * length w + 13 * (115 - room) + 111
 wrapped-long front f room [] h = omega (arith, h)
 wrapped-long front f (suc room) (b ∷ w) h =
-    let e = not-full room in
+    let e = not_zero room in
     let s : suc room - 1 ≡ room = omega arith in
     let r = wrapped-long front f room w (omega (arith, h)) in
     rw (e, s) (let q : 111 * length (shown_byte b ∷ wrapped front room w) ≤ 124 * suc (length w) + 13 * (115 - suc room) + 111 = omega (arith, h, r) in q)

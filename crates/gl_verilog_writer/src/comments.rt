@@ -51,7 +51,7 @@ fn put_comment(out: &mut Vec<u8>, front: &[u8], text: &[u8]) -> Result<(), Memor
     put_wrapped(out, front, text)
 }
 
-// So many bytes of a text, where it has so many.
+// The first `most` bytes of a text, or all where it has fewer.
 fn front_of(text: &[u8], most: usize) -> &[u8]
     ensures { result.now ≡ take most text.now }
 {

@@ -5,7 +5,7 @@ use Rattle.std.proofs.lemmas.Bool.{cases_lt, eq-eqb, ne_eqb, and_from, and_left,
 use Rattle.std.proofs.lemmas.List.{drop_all, drop-append-le, append-nil}
 use Rattle.std.proofs.Math.Nat.{add-mod_right}
 use Rattle.std.proofs.lemmas.Nat.{mod_below}
-use Rattle.gl_bits.specs.Results.{Row}
+use Rattle.gl_values.specs.Results.{Row}
 use Rattle.gl_wire.specs.Wire.{pending, stream}
 use Rattle.gl_wire.specs.Lift.{Visits, visits}
 use Rattle.gl_windows.specs.Front.{Front, opening, one_opened, closing, taken, closed_by, states, mid, who_ends}

@@ -3,8 +3,8 @@ use Rattle.std.proofs.Common.{◌≡◌, ℕ, zero, suc, ◌+◌, ◌-◌, ◌*�
 use Rattle.std.specs.Prelude.{option_to_list, if◌then◌else◌, nat_eq}
 use Rattle.std.proofs.lemmas.List.{append-nil}
 use Rattle.std.proofs.Math.Nat.{le-mul_of_pos_right}
-use Rattle.gl_bits.specs.Lists.{slices}
-use Rattle.gl_bits.specs.Results.{Row}
+use Rattle.gl_values.specs.Lists.{slices}
+use Rattle.gl_values.specs.Results.{Row}
 use Rattle.gl_wire.specs.Apart.{Carries, a_tuple, an_end}
 use Rattle.gl_wire.specs.Wire.{pending, stream, rows}
 use Rattle.gl_wire.proofs.RowsLemmas.{rows-split, pending-rows}

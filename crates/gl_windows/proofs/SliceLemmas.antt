@@ -4,10 +4,10 @@ use Rattle.std.specs.Prelude.{slice_get}
 use Rattle.std.proofs.lemmas.Bool.{cases_lt}
 use Rattle.std.proofs.lemmas.List.{drop-append-le, take-append-le}
 use Rattle.std.proofs.lemmas.Nat.{div-add-mod', mod-mul-add, mod_below}
-use Rattle.gl_bits.specs.Lists.{part, slices}
+use Rattle.gl_values.specs.Lists.{part, slices}
 use Rattle.gl_algebra.proofs.ListLemmas.{get-append}
 use Rattle.gl_bits.proofs.AllLists.{get_last, get_past}
-use Rattle.gl_bits.proofs.Slicing.{get-slices, slice_at-some, slice_at-none, same_by_gets}
+use Rattle.gl_values.proofs.Slicing.{get-slices, slice_at-some, slice_at-none, same_by_gets}
 use Rattle.gl_windows.specs.Firsts.{firsts}
 
 -- numbers less than count apart have different remainders

@@ -5,7 +5,7 @@ use Rattle.std.proofs.Math.Nat.{add-mod_right}
 use Rattle.std.proofs.lemmas.Bool.{cases_lt, eq-eqb, ne_eqb, and_from, and_left, and_right}
 use Rattle.std.proofs.lemmas.List.{append-nil}
 use Rattle.std.proofs.lemmas.Nat.{mod_below}
-use Rattle.gl_bits.specs.Results.{Row}
+use Rattle.gl_values.specs.Results.{Row}
 use Rattle.gl_bits.proofs.Bools.{same_test}
 use Rattle.gl_wire.specs.Wire.{Carried, pending, stream}
 use Rattle.gl_wire.proofs.VisitLemmas.{did, did_none, did_one}

@@ -3,10 +3,10 @@ use Rattle.std.proofs.Common.{◌≡◌, ℕ, zero, suc, ◌+◌, ◌*◌, ◌<�
 use Rattle.std.specs.Prelude.{if◌then◌else◌, nat_le, nat_lt, nat_eq, option_to_list}
 use Rattle.std.proofs.lemmas.Bool.{and_right, le-ltb}
 use Rattle.std.proofs.lemmas.List.{append-nil, append_assoc}
-use Rattle.gl_bits.specs.Results.{Row}
-use Rattle.gl_bits.specs.Times.{tpart, tfirsts}
+use Rattle.gl_values.specs.Results.{Row}
+use Rattle.gl_values.specs.Times.{tpart, tfirsts}
 use Rattle.gl_bits.proofs.Bools.{or_none}
-use Rattle.gl_bits.proofs.Timing.{tpart-more}
+use Rattle.gl_values.proofs.Timing.{tpart-more}
 use Rattle.gl_wire.specs.Wire.{pending}
 use Rattle.gl_windows.specs.Taking.{content, visited, parts_before}
 use Rattle.gl_wire.specs.Ticks.{times_of}

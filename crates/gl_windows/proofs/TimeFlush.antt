@@ -4,8 +4,8 @@ use Rattle.std.proofs.Common.{◌≡◌, ℕ, suc, ◌+◌, ◌-◌, ◌*◌, �
 use Rattle.std.specs.Prelude.{if◌then◌else◌, nat_le, nat_lt, nat_eq, option_to_list}
 use Rattle.std.proofs.lemmas.Bool.{cases_lt, eq-eqb, ne_eqb, lt-ltb, le-ltb, le-leb, and_from, and_right}
 use Rattle.std.proofs.lemmas.List.{append-nil, append_assoc}
-use Rattle.gl_bits.specs.Results.{Row}
-use Rattle.gl_bits.specs.Times.{tpart, tfirsts}
+use Rattle.gl_values.specs.Results.{Row}
+use Rattle.gl_values.specs.Times.{tpart, tfirsts}
 use Rattle.gl_bits.proofs.Bools.{or_none}
 use Rattle.gl_wire.specs.Wire.{pending, stream}
 use Rattle.gl_windows.specs.Taking.{content, visited, parts_before}

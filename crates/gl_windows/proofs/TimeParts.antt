@@ -3,8 +3,8 @@ use Rattle.std.proofs.Common.{◌≡◌, ℕ, zero, suc, ◌+◌, ◌-◌, ◌*�
 use Rattle.std.specs.Prelude.{if◌then◌else◌}
 use Rattle.std.proofs.lemmas.Bool.{false_from_ne_true}
 use Rattle.std.proofs.lemmas.List.{append-nil, append_cancel_left, map-append}
-use Rattle.gl_bits.specs.Results.{Row}
-use Rattle.gl_bits.specs.Times.{tslices}
+use Rattle.gl_values.specs.Results.{Row}
+use Rattle.gl_values.specs.Times.{tslices}
 use Rattle.gl_wire.specs.Apart.{an_end}
 use Rattle.gl_wire.specs.Wire.{Carried, stream}
 use Rattle.gl_wire.specs.Lift.{Visits, visits, with_visit}

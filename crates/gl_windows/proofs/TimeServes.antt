@@ -4,8 +4,8 @@ use Rattle.std.proofs.Common.{◌≡◌, ℕ, ◌+◌, ◌-◌, ◌<◌, ◌≤�
 use Rattle.gl_algebra.specs.FigureTable.{IsSound, input_figures, stride_of, window_gap}
 use Rattle.gl_algebra.proofs.FigureLemmas.{one_in_time}
 use Rattle.gl_algebra.proofs.SoundLemmas.{windows_sound}
-use Rattle.gl_bits.specs.Results.{Row, AreJoined}
-use Rattle.gl_bits.specs.Times.{tslices}
+use Rattle.gl_values.specs.Results.{Row, AreJoined}
+use Rattle.gl_values.specs.Times.{tslices}
 use Rattle.gl_wire.specs.Apart.{an_end}
 use Rattle.gl_wire.specs.Beats.{Beats, Spaced, gap, last}
 use Rattle.gl_wire.specs.Serves.{Caused, Fits}

@@ -2,8 +2,8 @@
 use Rattle.std.proofs.Common.{◌≡◌, ℕ, zero, suc, ◌+◌, ◌*◌, ◌<◌, List, [], ◌∷◌, ◌++◌, length, Bool, false, ◌&&◌, refl, ap, ◌∙◌, arith}
 use Rattle.std.specs.Prelude.{if◌then◌else◌, nat_le, nat_lt}
 use Rattle.std.proofs.lemmas.List.{append-nil}
-use Rattle.gl_bits.specs.Times.{tpart, tfirsts}
-use Rattle.gl_bits.proofs.Timing.{tpart-more}
+use Rattle.gl_values.specs.Times.{tpart, tfirsts}
+use Rattle.gl_values.proofs.Timing.{tpart-more}
 
 -- a tuple that is in none of the first windows leaves them as they are
 pub tfirsts-more : {A : Type 0} (size advance d t : ℕ) (ts : List ℕ) (x : A) (xs : List A) → length ts ≡ length xs

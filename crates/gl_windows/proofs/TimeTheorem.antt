@@ -4,7 +4,7 @@ use Rattle.std.proofs.Common.{◌≡◌, ℕ, ◌+◌, ◌-◌, ◌*◌, ◌<◌
 use Rattle.std.proofs.Math.Nat.{lt-div-mul-add}
 use Rattle.gl_algebra.specs.FigureTable.{stride_of, window_gap}
 use Rattle.gl_algebra.proofs.FigureLemmas.{one_in_time}
-use Rattle.gl_bits.specs.Times.{tslices}
+use Rattle.gl_values.specs.Times.{tslices}
 use Rattle.gl_wire.specs.Ticks.{ticks_at, times_at}
 use Rattle.gl_wire.specs.Wire.{Carried, stream}
 use Rattle.gl_wire.specs.Rotates.{Rotates}

@@ -5,7 +5,7 @@ use Rattle.std.specs.Prelude.{if◌then◌else◌, nat_eq, option_to_list}
 use Rattle.std.proofs.Math.Nat.{div-mul-le_self, lt-div-mul-add}
 use Rattle.std.proofs.lemmas.Bool.{cases_lt, eqb-true, ne_eqb, lt-ltb, le-ltb, and_from, and_left, and_right, false_from_ne_true}
 use Rattle.std.proofs.lemmas.List.{append-nil, append_assoc}
-use Rattle.gl_bits.specs.Results.{Row}
+use Rattle.gl_values.specs.Results.{Row}
 use Rattle.gl_wire.specs.Apart.{a_tuple, an_end}
 use Rattle.gl_wire.specs.Wire.{pending}
 use Rattle.gl_wire.proofs.NumberLemmas.{all_turns, mul_below}

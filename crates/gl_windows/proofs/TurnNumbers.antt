@@ -5,7 +5,7 @@ use Rattle.std.proofs.Math.Bool.{and-true, and-false}
 use Rattle.std.proofs.Math.Nat.{add-mod_right}
 use Rattle.std.proofs.lemmas.Bool.{cases_lt, cases_order, eq-eqb, ne_eqb, lt-ltb, le-ltb, ltb-true, and_parts}
 use Rattle.std.proofs.lemmas.Nat.{mod_below}
-use Rattle.gl_bits.specs.Results.{Row}
+use Rattle.gl_values.specs.Results.{Row}
 use Rattle.gl_bits.proofs.Bools.{by_cases, or_none, same_test, eq_turned}
 use Rattle.gl_wire_registers.specs.Held.{turned}
 use Rattle.gl_windows.specs.TimeFront.{TimeFront, due, lasts, last_row, open_row, reopens}

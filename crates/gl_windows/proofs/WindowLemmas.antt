@@ -1,8 +1,8 @@
 -- The law of windows: a rotation of a stream's tuples over copies of a body serves what the body makes of each window, with the figures
 -- of windows.
 use Rattle.std.proofs.Common.{◌≡◌, ℕ, zero, suc, ◌+◌, ◌-◌, ◌*◌, ◌<◌, ◌≤◌, max, List, Option, Some, Bool, false, ◌||◌, refl, sym, ap, ◌∙◌, arith, mul-le-mul_right}
-use Rattle.gl_bits.specs.Lists.{slices}
-use Rattle.gl_bits.specs.Results.{Row, Results, AreJoined, IsOfParts}
+use Rattle.gl_values.specs.Lists.{slices}
+use Rattle.gl_values.specs.Results.{Row, Results, AreJoined, IsOfParts}
 use Rattle.gl_bits.proofs.Bools.{or_none}
 use Rattle.gl_algebra.specs.declared.figures.Figures.{Figures}
 use Rattle.std.proofs.lemmas.Grind.{div_ceil_times}

@@ -1,7 +1,7 @@
 -- What the windows of a front of time take, and what they are to take.
 use Rattle.std.specs.Prelude.{ℕ, zero, suc, List, [], ◌∷◌, ◌++◌, if◌then◌else◌, option_to_list}
-use Rattle.gl_bits.specs.Results.{Row}
-use Rattle.gl_bits.specs.Times.{tslices}
+use Rattle.gl_values.specs.Results.{Row}
+use Rattle.gl_values.specs.Times.{tslices}
 use Rattle.gl_wire.specs.Wire.{stream}
 use Rattle.gl_wire.specs.Ticks.{ticks_at, times_at}
 use Rattle.gl_windows.specs.TimeFront.{TimeMachine, closes_at, states, taken}

@@ -1,7 +1,7 @@
 -- The front of windows of time as a machine: which window opens, takes a tuple and ends, cycle by cycle. Windows are
 -- numbered through all streams, and the copies take them in turn.
 use Rattle.std.specs.Prelude.{◌≡◌, ℕ, zero, suc, ◌+◌, ◌-◌, ◌*◌, ◌%◌, ◌<◌, ◌≤◌, Option, Some, None, Bool, true, false, not, ◌&&◌, ◌||◌, if◌then◌else◌, is_some, nat_eq, nat_le, nat_lt}
-use Rattle.gl_bits.specs.Results.{Row}
+use Rattle.gl_values.specs.Results.{Row}
 use Rattle.gl_wire.specs.Wire.{Carried}
 use Rattle.gl_wire.specs.Lift.{Visits}
 use Rattle.gl_wire_registers.specs.Held.{counted_down}

@@ -7,8 +7,8 @@ use Rattle.gl_algebra.specs.declared.node.PlanNode.{PlanNode}
 use Rattle.gl_algebra.specs.FigureTable.{AreSmall, IsSound, input_figures, stride_of, windows_over}
 use Rattle.gl_algebra.specs.Views.{copies_of_time}
 use Rattle.gl_bits.specs.Limits.{most_rows}
-use Rattle.gl_bits.specs.Results.{AreJoined}
-use Rattle.gl_bits.specs.Times.{tslices}
+use Rattle.gl_values.specs.Results.{AreJoined}
+use Rattle.gl_values.specs.Times.{tslices}
 use Rattle.gl_net.specs.declared.node.Bit.{Bit}
 use Rattle.gl_net.specs.Net.{Net, Run, IsRun, Keeps}
 use Rattle.gl_wire.specs.declared.wire.Wire.{Wire}

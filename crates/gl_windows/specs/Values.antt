@@ -1,6 +1,6 @@
 -- The front's registers as numbers, and what each cycle makes of them.
 use Rattle.std.specs.Prelude.{◌≡◌, ℕ, ◌+◌, ◌-◌, ◌<◌, ◌%◌, Some, None, Bool, true, if◌then◌else◌, nat_eq, not, ◌&&◌, ◌||◌}
-use Rattle.gl_bits.specs.Results.{Row}
+use Rattle.gl_values.specs.Results.{Row}
 use Rattle.gl_windows.specs.Front.{Front}
 use Rattle.gl_wire_registers.specs.Held.{counted_down, turned}
 use Rattle.gl_wire_registers.specs.Lines.{any_to}

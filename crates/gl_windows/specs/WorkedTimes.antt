@@ -1,7 +1,7 @@
 -- Worked streams before a front of time windows, with the visits of its windows as they were worked out by hand.
 use Rattle.std.specs.Prelude.{◌≡◌, ℕ, List, [], ◌∷◌, Option, Some, None}
 use Rattle.gl_windows.specs.Worked.{wire_with, ends_in}
-use Rattle.gl_bits.specs.Times.{tslices}
+use Rattle.gl_values.specs.Times.{tslices}
 use Rattle.gl_windows.specs.Taking.{visited, parts_before}
 use Rattle.gl_windows.specs.TimeFront.{TimeMachine}
 

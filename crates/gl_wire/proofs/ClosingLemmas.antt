@@ -5,7 +5,7 @@ use Rattle.std.proofs.lemmas.Bool.{cases_lt}
 use Rattle.std.proofs.lemmas.List.{append-nil}
 use Rattle.gl_algebra.specs.declared.figures.Figures.{Figures}
 use Rattle.gl_algebra.specs.FigureTable.{IsSound, input_figures}
-use Rattle.gl_bits.specs.Results.{Row}
+use Rattle.gl_values.specs.Results.{Row}
 use Rattle.gl_wire.specs.Beats.{Beats, beats_of, last, most, Spaced}
 use Rattle.gl_wire.specs.Wire.{Carried, pending, stream, rows}
 use Rattle.gl_wire.specs.Serves.{HasEnd, Caused, EndCaused, Fits}

@@ -5,8 +5,8 @@ use Rattle.std.proofs.lemmas.List.Elements.{All-map}
 use Rattle.std.proofs.lemmas.List.Sums.{sum_by-le}
 use Rattle.std.specs.Prelude.{All, map, nat_le, slice_index, if◌then◌else◌}
 use Rattle.gl_algebra.specs.Cost.{least_exponent}
-use Rattle.gl_bits.specs.declared.kind.Kind.{Kind}
-use Rattle.gl_bits.specs.Kinds.{IsKind, width_of}
+use Rattle.gl_values.specs.declared.kind.Kind.{Kind}
+use Rattle.gl_values.specs.Kinds.{IsKind, width_of}
 use Rattle.gl_wire.specs.Counted.{AreNarrow}
 
 pub narrow_sum : (columns : List ℕ) → AreNarrow columns → sum columns ≤ length columns * 64

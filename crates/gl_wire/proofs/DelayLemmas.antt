@@ -4,7 +4,7 @@ use Rattle.std.proofs.lemmas.Bool.{cases_lt}
 use Rattle.std.proofs.lemmas.List.{append-nil}
 use Rattle.gl_algebra.specs.declared.figures.Figures.{Figures}
 use Rattle.gl_algebra.specs.FigureTable.{NoCloser, delayed}
-use Rattle.gl_bits.specs.Results.{Row}
+use Rattle.gl_values.specs.Results.{Row}
 use Rattle.gl_wire.specs.Beats.{Beats, last, most, gap, Spaced}
 use Rattle.gl_wire.specs.Wire.{Carried, pending, stream, rows}
 use Rattle.gl_wire.specs.Serves.{HasEnd, OneEnd, Fits, Serves, Meaning}

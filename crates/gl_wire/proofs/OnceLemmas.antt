@@ -3,7 +3,7 @@ use Rattle.std.proofs.Common.{◌≡◌, ℕ, ◌+◌, ◌<◌, ◌≤◌, List,
 use Rattle.std.proofs.lemmas.Bool.{cases_lt}
 use Rattle.gl_algebra.specs.declared.figures.Figures.{Figures}
 use Rattle.gl_algebra.specs.FigureTable.{IsSound}
-use Rattle.gl_bits.specs.Results.{Row, Results}
+use Rattle.gl_values.specs.Results.{Row, Results}
 use Rattle.gl_wire.specs.Beats.{Beats, Ends, Spaced, gap}
 use Rattle.gl_wire.specs.Once.{OneStream, ServingOnce}
 use Rattle.gl_wire.specs.Serves.{OneEnd, Caused}

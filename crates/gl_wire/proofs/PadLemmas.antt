@@ -1,6 +1,6 @@
 -- A block of two inputs, each of them some cycles behind another wire.
 use Rattle.std.proofs.Common.{ℕ, ◌+◌, List, arith, subst, ◌∙◌}
-use Rattle.gl_bits.specs.Results.{Row}
+use Rattle.gl_values.specs.Results.{Row}
 use Rattle.gl_algebra.specs.declared.figures.Figures.{Figures}
 use Rattle.gl_algebra.specs.FigureTable.{delayed}
 use Rattle.gl_wire.specs.Beats.{Beats}

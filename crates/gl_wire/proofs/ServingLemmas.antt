@@ -3,7 +3,7 @@ use Rattle.std.proofs.Common.{◌≡◌, ℕ, ◌+◌, ◌≤◌, List, Some, Bo
 use Rattle.std.proofs.lemmas.Bool.{or_cases, or_left, or_right, or_from}
 use Rattle.gl_algebra.specs.declared.figures.Figures.{Figures}
 use Rattle.gl_algebra.specs.FigureTable.{delayed, input_figures}
-use Rattle.gl_bits.specs.Results.{Row, Results, IsInput}
+use Rattle.gl_values.specs.Results.{Row, Results, IsInput}
 use Rattle.gl_wire.specs.Beats.{Beats}
 use Rattle.gl_wire.specs.Wire.{Carried, stream}
 use Rattle.gl_wire.specs.Serves.{Fits, Meaning, Served}

@@ -3,7 +3,7 @@ use Rattle.std.proofs.Common.{◌≡◌, ℕ, suc, ◌+◌, ◌-◌, ◌<◌, �
 use Rattle.std.proofs.lemmas.Bool.{cases_lt, cases_order, false_from_ne_true}
 use Rattle.gl_bits.proofs.Options.{some_same}
 use Rattle.gl_algebra.specs.declared.figures.Figures.{Figures}
-use Rattle.gl_bits.specs.Results.{Row}
+use Rattle.gl_values.specs.Results.{Row}
 use Rattle.gl_algebra.specs.FigureTable.{IsSound, NoCloser}
 use Rattle.gl_wire.specs.Beats.{Beats, last, most, Spaced}
 use Rattle.gl_wire.specs.Wire.{Carried, rows}

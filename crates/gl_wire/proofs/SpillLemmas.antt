@@ -1,7 +1,7 @@
 -- Whether one of some visits spills, and when all that a copy takes is ended.
 use Rattle.std.proofs.Common.{◌≡◌, ℕ, zero, suc, ◌+◌, ◌-◌, ◌<◌, ◌≤◌, List, [], ◌∷◌, length, map, Option, Some, None, Bool, true, false, ◌||◌, refl, sym, ap, ◌∙◌, arith, inl, inr, ◌⊎◌, length-append}
 use Rattle.std.proofs.lemmas.Bool.{cases_lt, or_cases, or_left, or_right}
-use Rattle.gl_bits.specs.Results.{Row, Results, AreJoined}
+use Rattle.gl_values.specs.Results.{Row, Results, AreJoined}
 use Rattle.gl_wire.specs.Beats.{beats_of, Ends}
 use Rattle.gl_wire.specs.Wire.{Carried, pending, stream, rows}
 use Rattle.gl_wire.proofs.RowsLemmas.{rows-part, rows-one, pending-rows}

@@ -5,7 +5,7 @@ use Rattle.std.specs.List.{cons_option}
 use Rattle.std.proofs.lemmas.List.Elements.{filter_map-append}
 use Rattle.gl_algebra.specs.declared.figures.Figures.{Figures}
 use Rattle.gl_algebra.specs.FigureTable.{delayed}
-use Rattle.gl_bits.specs.Results.{Row}
+use Rattle.gl_values.specs.Results.{Row}
 use Rattle.gl_wire.specs.Beats.{Beats, last}
 use Rattle.gl_wire.specs.Wire.{Carried, pending, stream, rows}
 use Rattle.gl_wire.specs.Serves.{HasEnd, Fits, Serves}

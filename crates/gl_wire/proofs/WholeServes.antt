@@ -5,7 +5,7 @@ use Rattle.std.proofs.lemmas.Bool.{cases_lt}
 use Rattle.std.proofs.lemmas.List.{append-nil}
 use Rattle.gl_algebra.specs.declared.figures.Figures.{Figures}
 use Rattle.gl_algebra.specs.FigureTable.{IsSound, stride_of}
-use Rattle.gl_bits.specs.Results.{Row, Results, AreJoined}
+use Rattle.gl_values.specs.Results.{Row, Results, AreJoined}
 use Rattle.gl_wire.specs.Apart.{an_end}
 use Rattle.gl_wire.specs.Beats.{Beats, beats_of, Spaced, Ends}
 use Rattle.gl_wire.specs.Wire.{Carried, pending, stream, rows}

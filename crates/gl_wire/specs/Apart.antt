@@ -1,6 +1,6 @@
 -- How far apart what a wire carries is.
 use Rattle.std.specs.Prelude.{◌≡◌, ℕ, ◌+◌, ◌<◌, ◌≤◌, Some, Bool, true, ◌||◌, is_some}
-use Rattle.gl_bits.specs.Results.{Row}
+use Rattle.gl_values.specs.Results.{Row}
 use Rattle.gl_wire.specs.Wire.{Carried}
 
 -- a wire carries something in a cycle: a tuple, an end, or both

@@ -2,7 +2,7 @@
 use Rattle.std.specs.Prelude.{ℕ, List, []}
 use Rattle.gl_algebra.specs.declared.node.PlanNode.{PlanNode}
 use Rattle.gl_algebra.specs.Results.{Inputs, IsPlanResult}
-use Rattle.gl_bits.specs.Results.{Row, Results}
+use Rattle.gl_values.specs.Results.{Row, Results}
 
 -- inputs that bring a body its rows and nothing else
 abbrev pub alone : List Row → Inputs

@@ -1,7 +1,7 @@
 -- Laws of serving that speak of no meaning in general; the others are lemmas, since a clause cannot range over
 -- meanings.
 use Rattle.std.specs.Prelude.{◌≡◌, ℕ, ◌+◌, ◌-◌, ◌≤◌, List, Option, false}
-use Rattle.gl_bits.specs.Results.{Row}
+use Rattle.gl_values.specs.Results.{Row}
 use Rattle.gl_algebra.specs.declared.figures.Figures.{Figures}
 use Rattle.gl_algebra.specs.FigureTable.{IsSound, NoCloser, aggregate_figures, delayed, input_figures, needs_spacer}
 use Rattle.gl_algebra.specs.Shapes.{Pace}

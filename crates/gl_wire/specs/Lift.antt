@@ -2,7 +2,7 @@
 -- A visit is one stream that a copy takes.
 use Rattle.std.specs.Prelude.{◌≡◌, ℕ, zero, suc, ◌+◌, ◌-◌, ◌<◌, ◌≤◌, List, [], ◌∷◌, ◌++◌, length, Option, Some, None, Bool, true, false}
 use Rattle.gl_algebra.specs.declared.figures.Figures.{Figures}
-use Rattle.gl_bits.specs.Results.{Row}
+use Rattle.gl_values.specs.Results.{Row}
 use Rattle.gl_wire.specs.Beats.{Spaced, Ends, beats_of}
 use Rattle.gl_wire.specs.Wire.{Carried, stream, rows}
 use Rattle.gl_wire.specs.Spills.{Relation, Lines}

@@ -2,7 +2,7 @@
 -- that serves.
 use Rattle.std.specs.Prelude.{◌≡◌, ℕ, ◌≤◌, List, Some, Bool, true, false, ◌||◌}
 use Rattle.gl_algebra.specs.declared.figures.Figures.{Figures}
-use Rattle.gl_bits.specs.Results.{Row, Results}
+use Rattle.gl_values.specs.Results.{Row, Results}
 use Rattle.gl_algebra.specs.Results.{Inputs}
 use Rattle.gl_wire.specs.Beats.{Beats, Ends}
 use Rattle.gl_wire.specs.Wire.{Carried, stream}

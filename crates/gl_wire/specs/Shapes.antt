@@ -1,6 +1,6 @@
 -- Two shapes of blocks that serve: a row for a row, and one row at each end.
 use Rattle.std.specs.Prelude.{◌≡◌, ℕ, ◌+◌, ◌<◌, List, [], ◌∷◌, Option, Some, None, false, if◌then◌else◌, option_and_then, filter_map, nat_eq, slice_index}
-use Rattle.gl_bits.specs.Results.{Row}
+use Rattle.gl_values.specs.Results.{Row}
 use Rattle.gl_wire.specs.Wire.{Carried, stream}
 use Rattle.gl_wire.specs.Serves.{Meaning}
 

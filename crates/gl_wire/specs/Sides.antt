@@ -1,7 +1,7 @@
 -- One input of a block, by the beat whose interval is open: what queues, spacers and joiners need of it. No soundness,
 -- no overlap.
 use Rattle.std.specs.Prelude.{◌≡◌, ℕ, ◌+◌, ◌<◌, ◌≤◌, length, Some, None, Bool, true, false}
-use Rattle.gl_bits.specs.Results.{Row}
+use Rattle.gl_values.specs.Results.{Row}
 use Rattle.gl_wire.specs.Beats.{Beats}
 use Rattle.gl_wire.specs.Wire.{Carried, rows}
 

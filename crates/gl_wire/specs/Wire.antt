@@ -1,7 +1,7 @@
 -- What a wire carries in each cycle of a run: tuples, and the ends of streams.
 -- A wire of this kind, a valid bit beside the columns, is that of Mueller, Teubner and Alonso, PVLDB 2(1), 2009.
 use Rattle.std.specs.Prelude.{◌≡◌, ℕ, zero, suc, List, [], ◌++◌, map, Option, Some, None, Bool, false, if◌then◌else◌, nat_eq, option_to_list, slice_get}
-use Rattle.gl_bits.specs.Results.{Row}
+use Rattle.gl_values.specs.Results.{Row}
 use Rattle.gl_net.specs.declared.node.Bus.{Bus}
 use Rattle.gl_net.specs.declared.node.Bit.{Bit}
 use Rattle.gl_net.specs.Net.{Net, Run, IsBus, IsBit}

@@ -3,7 +3,7 @@
 ghost use Rattle.std.specs.Prelude.{◌≡◌, ℕ, List, IfOk};
 ghost use Rattle.gl_algebra.specs.declared.figures.Figures.{Figures};
 ghost use Rattle.gl_algebra.specs.FigureTable.{AreSmall, IsSound};
-ghost use Rattle.gl_bits.specs.Results.{Row};
+ghost use Rattle.gl_values.specs.Results.{Row};
 ghost use Rattle.gl_wire.specs.Blocks.{IsBehind};
 ghost use Rattle.gl_wire.specs.Costs.{Cost};
 ghost use Rattle.gl_wire.specs.Operators.{ServesIn};

@@ -1,6 +1,6 @@
 -- One wire for many slots: what it carries for one of them.
 use Rattle.std.specs.Prelude.{ℕ, None, ◌&&◌, if◌then◌else◌, nat_eq}
-use Rattle.gl_bits.specs.Results.{Row}
+use Rattle.gl_values.specs.Results.{Row}
 use Rattle.gl_net.specs.declared.node.Bus.{Bus}
 use Rattle.gl_net.specs.declared.node.Bit.{Bit}
 use Rattle.gl_net.specs.Net.{Run}

@@ -1,7 +1,7 @@
 -- The totals of a direct body behind a lane.
 use Rattle.std.proofs.Common.{◌≡◌, ℕ, List, [], ◌∷◌, Some, false, map, refl, sym, ap, ◌∙◌, subst, arith}
 use Rattle.std.specs.Prelude.{filter_map, slice_get}
-use Rattle.gl_bits.specs.declared.kind.Kind.{Kind}
+use Rattle.gl_values.specs.declared.kind.Kind.{Kind}
 use Rattle.gl_algebra.specs.declared.node.PlanAgg.{PlanAgg}
 use Rattle.gl_algebra.specs.declared.node.PlanNode.{PlanNode}
 use Rattle.gl_algebra.specs.declared.node.PlanNode.TheVariants.{Aggregate}

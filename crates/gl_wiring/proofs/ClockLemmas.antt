@@ -4,7 +4,7 @@ use Rattle.std.specs.Prelude.{option_map, if◌then◌else◌}
 use Rattle.std.specs.List.{cons_option}
 use Rattle.std.proofs.lemmas.List.{append-nil}
 use Rattle.std.proofs.lemmas.Bool.{ne_eqb, cases_eq}
-use Rattle.gl_bits.specs.Results.{Row}
+use Rattle.gl_values.specs.Results.{Row}
 use Rattle.gl_bits.specs.Words.{bit}
 use Rattle.gl_schema.specs.Beats as beat
 use Rattle.gl_schema.specs.Beats.{Beat, AreInOrder, ends_at, input_of, last_cycle, row_in, ticks_of, times_from}

@@ -4,7 +4,7 @@ use Rattle.gl_algebra.specs.declared.figures.Figures.{Figures}
 use Rattle.gl_algebra.specs.FigureTable.{NoCloser}
 use Rattle.gl_algebra.specs.Results.{Inputs, Meaning}
 use Rattle.gl_algebra.specs.Shapes.{Shape}
-use Rattle.gl_bits.specs.Results.{Row}
+use Rattle.gl_values.specs.Results.{Row}
 use Rattle.gl_net.specs.declared.node.Bit.{Bit}
 use Rattle.gl_net.specs.Net.{Net, Keeps}
 use Rattle.gl_wire.specs.declared.emitted.Emitted.{Emitted}

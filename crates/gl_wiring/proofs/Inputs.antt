@@ -1,7 +1,7 @@
 -- Input ports column by column and stream by stream.
 use Rattle.std.proofs.Common.{◌≡◌, ℕ, zero, suc, ◌<◌, List, [], ◌∷◌, ◌++◌, ◌∙◌, length, get_or, sym, subst, arith}
 use Rattle.std.specs.List.{AllByRecursion}
-use Rattle.gl_bits.specs.Kinds.{IsKind}
+use Rattle.gl_values.specs.Kinds.{IsKind}
 use Rattle.gl_schema.specs.declared.schema.Column.{Column}
 use Rattle.gl_schema.specs.Ports.{in_column}
 use Rattle.gl_schema.specs.Schemas.{IsColumn}

@@ -7,8 +7,9 @@ use Rattle.std.proofs.lemmas.List.{length-map}
 use Rattle.std.proofs.lemmas.List.Elements.{All-head, All-tail}
 use Rattle.std.proofs.lemmas.List.Sums.{sum_by-cons}
 use Rattle.std.proofs.Math.Nat.{mul-le-mul_left}
-use Rattle.gl_bits.specs.Kinds.{IsKind, width_of}
-use Rattle.gl_bits.specs.declared.kind.Kind.{Kind}
+use Rattle.gl_bits.proofs.Numbers.{le_times}
+use Rattle.gl_values.specs.Kinds.{IsKind, width_of}
+use Rattle.gl_values.specs.declared.kind.Kind.{Kind}
 use Rattle.gl_algebra.specs.declared.node.PlanAgg.{PlanAgg}
 use Rattle.gl_algebra.specs.declared.node.PlanNode.{PlanNode}
 use Rattle.gl_algebra.specs.declared.node.PlanNode.TheVariants.{Aggregate, Group}
@@ -59,17 +60,12 @@ parts_are (suc m) part aggs some =
     subst (λ (n : ℕ). sum_by (λ agg. 2 * n + part agg) aggs ≡ sum_by (λ agg. n - 1 + part agg) aggs + length aggs * (n + 1)) e
     (parts_apart m part aggs ∙ ap (λ n. sum_by (λ agg. m + 1 - 1 + part agg) aggs + length aggs * n) (let z : m + 2 ≡ m + 1 + 1 = omega arith in z))
 
--- one at least is no more than many
-once : (n x : ℕ) → 1 ≤ n → x ≤ n * x
-once zero x some = absurd (omega (arith, some))
-once (suc n) x some = let e : suc n * x ≡ x + n * x = omega arith in omega (arith, e)
-
 nodes_within : (body child spacer parts n a k m : ℕ) → 1 ≤ n → 1 ≤ k → m ≤ 98 → body ≡ child + (4 * (k + 2) + (parts + k * (m + 1)))
     → spacer + (n * 15 + a * 2 + 106) + (child + (2 * (m + 1) + 6 * k + parts)) + (n * 4 + k + 4) + 2 ≤ weight_of_copies n body (a + 2) (k + 1 + 2) + spacer
 nodes_within body child spacer parts n a k m some aggs few is =
     let each : n * (body + 8 * (a + 2 + (k + 1 + 2) + 4)) ≡ n * body + 8 * (n * a) + 8 * (n * k) + 72 * n = omega arith in
     let product : k * (m + 1) ≡ k * m + k = omega arith in
-    omega (arith, each, product, once n body some, once k m aggs, some, few, is)
+    omega (arith, each, product, le_times n body some, le_times k m aggs, some, few, is)
 
 bits_of : (body child spacer n a k m w bits front out : ℕ) → child ≤ body → front ≤ 64 * a → bits ≤ 8 → out ≤ 64 * (k + 1)
     → 64 * spacer + (n * (w + 2) + front + bits * 3 + 75) + (64 * child + 256 * (k * m)) + (out + 2)

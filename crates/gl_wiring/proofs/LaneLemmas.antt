@@ -7,9 +7,9 @@ use Rattle.std.proofs.lemmas.List.{length-map}
 use Rattle.std.proofs.lemmas.List.Sums.{sum_by-cons}
 use Rattle.std.proofs.lemmas.Option.{slice_get_within}
 use Rattle.gl_bits.proofs.Bools.{and_left, and_right, or_right}
-use Rattle.gl_bits.specs.Kinds.{IsKind, width_of}
-use Rattle.gl_bits.specs.Results.{Row}
-use Rattle.gl_bits.specs.declared.kind.Kind.{Kind}
+use Rattle.gl_values.specs.Kinds.{IsKind, width_of}
+use Rattle.gl_values.specs.Results.{Row}
+use Rattle.gl_values.specs.declared.kind.Kind.{Kind}
 use Rattle.gl_algebra.specs.declared.figures.Figures.{Figures}
 use Rattle.gl_algebra.specs.declared.node.PlanNode.{PlanNode}
 use Rattle.gl_algebra.specs.declared.node.PlanNode.TheVariants.{Aggregate}

@@ -14,7 +14,7 @@ use Rattle.gl_algebra.specs.declared.node.PlanNode.{PlanNode}
 use Rattle.gl_algebra.specs.Roots.{output_part}
 use Rattle.gl_bits.proofs.AllLists.{all_of_mapped, length_map}
 use Rattle.gl_bits.proofs.Options.{some_same}
-use Rattle.gl_bits.specs.Kinds.{width_of}
+use Rattle.gl_values.specs.Kinds.{width_of}
 use Rattle.gl_net.specs.Finished.{HasReset}
 use Rattle.gl_net.specs.Net.{Net, memory_bits_of, register_bits_of, size_of}
 use Rattle.gl_net.specs.PortValues.{PortShape, port_shapes}

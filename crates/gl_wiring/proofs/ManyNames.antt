@@ -1,15 +1,14 @@
 -- No two outputs of several results whose names differ have one name, and all are names of the subset.
-use Rattle.std.proofs.Common.{◌≡◌, ℕ, Bool, false, not, ◌&&◌, List, [], ◌∷◌, ◌++◌, map, codes, length, refl, sym, ap, ◌∙◌, subst, drop, ◌⊎◌, inl, inr, append_assoc, length-append, arith}
-use Rattle.std.specs.Prelude.{bytes_eq, nat_le, if◌then◌else◌, ◌==◌}
+use Rattle.std.proofs.Common.{◌≡◌, ℕ, Bool, List, [], ◌∷◌, ◌++◌, map, codes, length, refl, sym, ap, ◌∙◌, subst, drop, ◌⊎◌, inl, inr, append_assoc, length-append, arith}
+use Rattle.std.specs.Prelude.{bytes_eq}
 use Rattle.std.specs.List.{AllByRecursion, IsDistinct}
 use Rattle.std.proofs.lemmas.List.{append_cancel_left}
 use Rattle.gl_bits.proofs.AllLists.{all_append}
-use Rattle.gl_bits.proofs.Bools.{and_left, and_right, neither_left, neither_right, not_true}
 use Rattle.gl_schema.specs.declared.schema.Schema.{Schema}
-use Rattle.gl_schema.specs.Names.{IsName, begins_with_letter, has_loose_underscore, has_name_bytes, is_name, is_taken}
+use Rattle.gl_schema.specs.Names.{IsName}
 use Rattle.gl_schema.specs.Ports.{out_valid, out_column, out_eos, fault_group, fault_queue}
 use Rattle.gl_schema.specs.Schemas.{IsSchema}
-use Rattle.gl_schema.proofs.InputNames.{Apart, AreApart, apart_distinct, both_apart, first_byte}
+use Rattle.gl_schema.proofs.InputNames.{Apart, AreApart, apart_distinct, both_apart, first_byte, before_double, before_name, single}
 use Rattle.gl_wiring.specs.declared.names.ResultNames.{ResultNames}
 use Rattle.gl_wiring.specs.Many.{intos}
 use Rattle.gl_wiring.specs.Naming.{beside_others}
@@ -21,25 +20,6 @@ use Rattle.gl_wiring.proofs.VerilogNames.{All-append, IsPortName, Plain, around,
 -- ---- what a result is called, read off its ports
 
 -- the bytes in front of the first double underscore
-before_double : List ℕ → List ℕ
-before_double [] = []
-before_double (a ∷ []) = a ∷ []
-before_double (a ∷ b ∷ bs) = if (a == 95) && (b == 95) then [] else a ∷ before_double (b ∷ bs)
-
-before_name : (s rest : List ℕ) → has_loose_underscore s ≡ false → before_double (s ++ 95 ∷ 95 ∷ rest) ≡ s
-unfolding before_double has_loose_underscore
-before_name [] rest h = refl
-before_name (a ∷ []) rest h = rw h refl
-before_name (a ∷ b ∷ bs) rest h =
-    rw (neither_left ((a == 95) && (b == 95)) (has_loose_underscore (b ∷ bs)) h)
-    (ap (λ t. a ∷ t) (before_name (b ∷ bs) rest (neither_right ((a == 95) && (b == 95)) (has_loose_underscore (b ∷ bs)) h)))
-
-single : (n : List ℕ) → IsName n → has_loose_underscore n ≡ false
-unfolding is_name
-single n h =
-    let front = nat_le (length n) 32 && begins_with_letter n && has_name_bytes n in
-    not_true (has_loose_underscore n) (and_right front (not (has_loose_underscore n)) (and_left (front && not (has_loose_underscore n)) (not (is_taken n)) h))
-
 named_before : (r x : List ℕ) → IsName r → before_double (r ++ codes "__" ++ x) ≡ r
 named_before r x h = ap before_double (append_assoc r (codes "__") x) ∙ before_name r x (single r h)
 

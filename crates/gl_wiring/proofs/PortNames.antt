@@ -4,7 +4,7 @@ use Rattle.std.specs.Prelude.{bytes_eq}
 use Rattle.std.specs.List.{AllByRecursion, IsDistinct, list_any}
 use Rattle.std.proofs.lemmas.List.{append_cancel_left, map-append}
 use Rattle.gl_bits.proofs.AllLists.{all_append, all_weaker}
-use Rattle.gl_bits.proofs.Bools.{bytes_other}
+use Rattle.gl_bits.proofs.Bools.{bytes_other, bytes_differ}
 use Rattle.gl_schema.specs.declared.schema.Column.{Column}
 use Rattle.gl_schema.specs.declared.schema.Stream.{Stream}
 use Rattle.gl_schema.specs.declared.schema.Schema.{Schema}
@@ -12,7 +12,7 @@ use Rattle.gl_schema.specs.Names.{IsName, reserved}
 use Rattle.gl_schema.specs.Schemas.{IsStream, IsSchema, stream_names}
 use Rattle.gl_schema.specs.Ports.{rst, eos, tick, in_valid, in_column, out_valid, out_column, out_eos, fault_group, fault_queue}
 use Rattle.gl_schema.specs.Profile.{ProfilePort, column_inputs, stream_inputs, streams_inputs, port_names as profile_names}
-use Rattle.gl_schema.proofs.InputNames.{Apart, AreApart, apart_distinct, both_apart, first_byte, is_reserved, no_valid, texts_differ}
+use Rattle.gl_schema.proofs.InputNames.{Apart, AreApart, apart_distinct, both_apart, first_byte, is_reserved, no_valid}
 use Rattle.gl_schema.proofs.InputNames as inputs
 use Rattle.gl_wiring.specs.PortNames.{column_ports, stream_ports, streams_ports, result_ports, tick_port, module_names, port_names}
 
@@ -97,11 +97,11 @@ columns_tail (c ∷ cs) h = (tail_apart c h.0, columns_tail cs h.1)
 
 tail_are_apart : AreApart (out_eos ∷ fault_group ∷ fault_queue ∷ [])
 unfolding out_eos fault_group fault_queue
-tail_are_apart = ((texts_differ out_eos fault_group refl, (texts_differ out_eos fault_queue refl, tt)), ((texts_differ fault_group fault_queue refl, tt), (tt, tt)))
+tail_are_apart = ((bytes_differ out_eos fault_group refl, (bytes_differ out_eos fault_queue refl, tt)), ((bytes_differ fault_group fault_queue refl, tt), (tt, tt)))
 
 valid_tail : Apart out_valid (out_eos ∷ fault_group ∷ fault_queue ∷ [])
 unfolding out_valid out_eos fault_group fault_queue
-valid_tail = (texts_differ out_valid out_eos refl, (texts_differ out_valid fault_group refl, (texts_differ out_valid fault_queue refl, tt)))
+valid_tail = (bytes_differ out_valid out_eos refl, (bytes_differ out_valid fault_group refl, (bytes_differ out_valid fault_queue refl, tt)))
 
 valid_columns : (cs : List (List ℕ)) → AllByRecursion IsName cs → Apart out_valid (map out_column cs)
 valid_columns [] h = tt
@@ -171,7 +171,7 @@ differ-116 (inr e) = absurd (omega arith)
 
 rst_eos : rst ≡ eos → ⊥
 unfolding rst eos
-rst_eos e = texts_differ rst eos refl e
+rst_eos e = bytes_differ rst eos refl e
 
 -- the ports behind the end of the input: the tick, where it is asked for, and the outputs of results
 module _ (ticks : Bool) (outs : List (List ℕ)) (first : AllByRecursion (λ n. IsResultByte (first_byte n)) outs) where

@@ -5,7 +5,7 @@ use Rattle.std.proofs.lemmas.List.{append-nil}
 use Rattle.std.proofs.lemmas.Bool.{false_from_ne_true, or_cases}
 use Rattle.std.proofs.Math.Bool.{or-true}
 use Rattle.gl_algebra.specs.declared.figures.Figures.{Figures}
-use Rattle.gl_bits.specs.Results.{Row, Results}
+use Rattle.gl_values.specs.Results.{Row, Results}
 use Rattle.gl_bits.proofs.Bools.{same_when}
 use Rattle.gl_wire.specs.Once.{ServingOnce}
 use Rattle.gl_wire.specs.Shapes.{IsDelayed}

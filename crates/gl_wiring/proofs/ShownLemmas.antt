@@ -6,7 +6,7 @@ use Rattle.std.proofs.lemmas.List.Elements.{filter_map-append}
 use Rattle.gl_algebra.specs.Results.{IsPlanResult}
 use Rattle.gl_algebra.specs.declared.figures.Figures.{Figures}
 use Rattle.gl_algebra.specs.declared.node.PlanNode.{PlanNode}
-use Rattle.gl_bits.specs.Results.{Row}
+use Rattle.gl_values.specs.Results.{Row}
 use Rattle.gl_net.specs.Net.{Net, Run}
 use Rattle.gl_net.specs.PortValues.{port_values}
 use Rattle.gl_net.specs.declared.node.Bit.{Bit}

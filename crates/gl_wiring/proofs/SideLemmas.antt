@@ -3,7 +3,7 @@ use Rattle.std.proofs.Common.{◌≡◌, ℕ, ◌+◌, ◌<◌, [], Option, Some
 use Rattle.std.specs.Prelude.{◌≢◌, is_some, nat_eq}
 use Rattle.std.proofs.lemmas.Bool.{eqb-true}
 use Rattle.gl_bits.proofs.Bools.{and_left, and_right}
-use Rattle.gl_bits.specs.Results.{Row}
+use Rattle.gl_values.specs.Results.{Row}
 use Rattle.gl_algebra.specs.declared.figures.Figures.{Figures}
 use Rattle.gl_algebra.specs.FigureTable.{beside_figures, delayed, is_fixed, wait_of}
 use Rattle.gl_algebra.specs.Laws.{IsFixed, PaceFixes}

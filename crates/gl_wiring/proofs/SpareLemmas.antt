@@ -1,7 +1,7 @@
 -- The circuit of windows with spare copies at the root of a plan.
 use Rattle.std.proofs.Common.{◌≡◌, ℕ, ◌<◌, List, [], ◌∷◌, length, Bool, false, refl, sym, ap, ◌∙◌, subst, Option}
-use Rattle.gl_bits.specs.Lists.{slices}
-use Rattle.gl_bits.specs.Results.{IsOfParts, Row}
+use Rattle.gl_values.specs.Lists.{slices}
+use Rattle.gl_values.specs.Results.{IsOfParts, Row}
 use Rattle.gl_algebra.specs.declared.figures.Figures.{Figures}
 use Rattle.gl_algebra.specs.declared.node.PlanNode.{PlanNode}
 use Rattle.gl_algebra.specs.declared.node.PlanNode.TheVariants.{Window}

@@ -3,7 +3,7 @@ use Rattle.std.proofs.Common.{◌≡◌, ℕ, zero, suc, Bool, true, false, List
 use Rattle.std.specs.Prelude.{map, is_some, slice_get, IsTrue}
 use Rattle.gl_bits.proofs.AllLists.{zip_append}
 use Rattle.gl_bits.proofs.Options.{some_same}
-use Rattle.gl_bits.specs.Kinds.{width_of}
+use Rattle.gl_values.specs.Kinds.{width_of}
 use Rattle.gl_algebra.specs.declared.node.PlanNode.{PlanNode}
 use Rattle.gl_algebra.specs.declared.node.PlanNode.TheVariants as node
 use Rattle.gl_net.specs.Finished.{HasReset}

@@ -12,6 +12,7 @@ use Rattle.gl_algebra.specs.declared.node.PlanNode.{PlanNode}
 use Rattle.gl_algebra.specs.Cost.{keys_of, lean_of, store_of}
 use Rattle.gl_algebra.specs.FigureTable.{figures_of}
 use Rattle.gl_algebra.specs.Fits.{IsPlan}
+use Rattle.gl_algebra.specs.Laws.{NodesFollowTables}
 use Rattle.gl_algebra.specs.Results.{IsPlanResult}
 use Rattle.gl_algebra.specs.Shapes.{shape_of}
 use Rattle.gl_algebra.specs.Views.{children_of}
@@ -148,12 +149,12 @@ children_there nodes plan figures marks net tick leaves can k marked old mid tab
 -- ---- at the end
 
 -- what is reached from one root costs no more than the root's circuit where each node is put for each use
-one_root : (nodes : List PlanNode) → IsPlan nodes → (root limit : ℕ) → root < length nodes → (marks : List Bool) → AreMarks nodes (root ∷ []) marks
+one_root : NodesFollowTables → (nodes : List PlanNode) → IsPlan nodes → (root limit : ℕ) → root < length nodes → (marks : List Bool) → AreMarks nodes (root ∷ []) marks
     → (old new : Net) (tick : Option Bit) (leaves : List Wire) (table : List (Option Emitted)) → ArePutTo nodes marks limit old new tick leaves table
     → CostsAtMost old new (plan_cost nodes root)
-one_root nodes plan root limit within marks are old new tick leaves table h =
+one_root follow nodes plan root limit within marks are old new tick leaves table h =
     let rooted : All (λ r. r < length nodes) (root ∷ []) = All-cons (λ r. r < length nodes) root [] within (All-nil (λ r. r < length nodes)) in
-    let once = once_below nodes (root ∷ []) limit plan rooted in
+    let once = once_below follow nodes (root ∷ []) limit plan rooted in
     let w = sum-same (weight_part nodes) (is_marked marks) (reached nodes (root ∷ [])) are.each limit in
     let l = sum-same (lean_part nodes) (is_marked marks) (reached nodes (root ∷ [])) are.each limit in
     let k = sum-same (keys_part nodes) (is_marked marks) (reached nodes (root ∷ [])) are.each limit in
@@ -175,9 +176,9 @@ module _ (nodes : List PlanNode) (plan : IsPlan nodes) (root limit : ℕ) (is_li
   root_is_there = is_there root_has
 
   -- so the circuit of a root, with all that it reaches, is put
-  pub one_is_put : (e : Emitted) → slice_get table root ≡ Some (Some e) → IsPut nodes root old new tick leaves e
-  one_is_put e at = record {
+  pub one_is_put : NodesFollowTables → (e : Emitted) → slice_get table root ≡ Some (Some e) → IsPut nodes root old new tick leaves e
+  one_is_put follow e at = record {
     keeps = h.keeps;
-    cost = one_root nodes plan root limit within marks are old new tick leaves table h;
+    cost = one_root follow nodes plan root limit within marks are old new tick leaves table h;
     gives = taken_gives root_has at;
   }

@@ -3,7 +3,7 @@ use Rattle.std.proofs.Common.{◌≡◌, ℕ, zero, suc, List, ◌++◌, Option,
 use Rattle.std.specs.Prelude.{is_some}
 use Rattle.std.proofs.lemmas.Bool.{or_cases, or_from, or_right}
 use Rattle.gl_bits.proofs.Bools.{same_when}
-use Rattle.gl_bits.specs.Results.{Row, Results}
+use Rattle.gl_values.specs.Results.{Row, Results}
 use Rattle.gl_algebra.specs.declared.figures.Figures.{Figures}
 use Rattle.gl_algebra.specs.FigureTable.{input_figures}
 use Rattle.gl_wire.specs.Beats.{Beats}

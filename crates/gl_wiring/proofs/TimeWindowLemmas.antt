@@ -2,9 +2,9 @@
 use Rattle.std.proofs.Common.{◌≡◌, ℕ, ◌+◌, ◌<◌, List, [], ◌∷◌, length, Option, Some, None, Bool, true, false, ◌&&◌, ◌||◌, refl, sym, ap, ◌∙◌, subst, arith}
 use Rattle.std.specs.Prelude.{is_some, nat_lt, if◌then◌else◌}
 use Rattle.std.proofs.lemmas.Option.{slice_get_within}
-use Rattle.gl_bits.specs.Results.{Row, AreJoined}
-use Rattle.gl_bits.specs.Times.{tslices}
-use Rattle.gl_bits.specs.declared.kind.Kind.{Kind}
+use Rattle.gl_values.specs.Results.{Row, AreJoined}
+use Rattle.gl_values.specs.Times.{tslices}
+use Rattle.gl_values.specs.declared.kind.Kind.{Kind}
 use Rattle.gl_bits.proofs.Bools.{or_none}
 use Rattle.gl_bits.proofs.AllLists.{get_there}
 use Rattle.gl_algebra.specs.declared.figures.Figures.{Figures}

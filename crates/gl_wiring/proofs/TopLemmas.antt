@@ -6,7 +6,7 @@ use Rattle.gl_algebra.specs.Results.{Inputs, IsPlanResult}
 use Rattle.gl_algebra.specs.Views.{reads_time}
 use Rattle.gl_algebra.specs.declared.figures.Figures.{Figures}
 use Rattle.gl_algebra.specs.declared.node.PlanNode.{PlanNode}
-use Rattle.gl_bits.specs.Results.{Row, Results}
+use Rattle.gl_values.specs.Results.{Row, Results}
 use Rattle.gl_net.specs.declared.node.Bit.{Bit}
 use Rattle.gl_net.specs.Net.{Run}
 use Rattle.gl_wiring.specs.Below.{LawsBelow}

@@ -1,7 +1,7 @@
 -- What a window's parts cost is within what a plan counts for it.
 use Rattle.std.proofs.Common.{◌≡◌, ℕ, ◌+◌, ◌*◌, ◌≤◌, List, length, arith}
 use Rattle.std.proofs.lemmas.List.{length-map}
-use Rattle.gl_bits.specs.Kinds.{IsKind, width_of}
+use Rattle.gl_values.specs.Kinds.{IsKind, width_of}
 use Rattle.std.specs.List.{All}
 use Rattle.gl_algebra.specs.declared.node.PlanNode.{PlanNode}
 use Rattle.gl_algebra.specs.declared.node.PlanNode.TheVariants.{Window}

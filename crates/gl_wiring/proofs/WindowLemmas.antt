@@ -1,7 +1,7 @@
 -- The circuits of windows.
 use Rattle.std.proofs.Common.{◌≡◌, ℕ, ◌<◌, ◌≤◌, List, [], ◌∷◌, length, Bool, false, ◌||◌, refl, sym, ◌∙◌, subst, arith, Option}
-use Rattle.gl_bits.specs.Lists.{slices}
-use Rattle.gl_bits.specs.Results.{Row, Results, AreJoined}
+use Rattle.gl_values.specs.Lists.{slices}
+use Rattle.gl_values.specs.Results.{Row, Results, AreJoined}
 use Rattle.gl_bits.proofs.Bools.{or_none}
 use Rattle.gl_algebra.specs.declared.figures.Figures.{Figures}
 use Rattle.gl_algebra.specs.declared.node.PlanNode.{PlanNode}

@@ -2,8 +2,8 @@
 -- them a line may tell of ticks.
 use Rattle.std.specs.Prelude.{◌≡◌, ℕ, List, [], ◌∷◌, map, Bool, Option, Some, None, false, is_some, slice_get, IsTrue}
 use Rattle.std.specs.List.{AllByRecursion}
-use Rattle.gl_bits.specs.Kinds.{width_of}
-use Rattle.gl_bits.specs.declared.kind.Kind.{Kind}
+use Rattle.gl_values.specs.Kinds.{width_of}
+use Rattle.gl_values.specs.declared.kind.Kind.{Kind}
 use Rattle.gl_algebra.specs.declared.node.PlanNode.{PlanNode}
 use Rattle.gl_algebra.specs.declared.node.PlanNode.TheVariants.{Stream, Body}
 use Rattle.gl_algebra.specs.FigureTable.{input_figures}

@@ -2,7 +2,7 @@
 -- show them.
 use Rattle.std.specs.Prelude.{ℕ, ◌+◌, Bool, true, false, List, [], ◌∷◌, ◌++◌, length}
 use Rattle.std.specs.List.{AllZip, sum}
-use Rattle.gl_bits.specs.declared.kind.Kind.{Kind}
+use Rattle.gl_values.specs.declared.kind.Kind.{Kind}
 use Rattle.gl_net.specs.Net.{Net, Run, IsBit, IsPort, IsRun, Keeps}
 use Rattle.gl_net.specs.PortValues.{PortShape}
 use Rattle.gl_net.specs.declared.node.Bit.{Bit}

@@ -1,7 +1,7 @@
 -- What the output of a plan shows over one stream: the root's wire one cycle later, and two lines that never fall.
 use Rattle.std.specs.Prelude.{◌≡◌, ℕ, zero, suc, ◌+◌, ◌<◌, ◌≤◌, None, Bool, true, false, ◌||◌}
 use Rattle.gl_algebra.specs.declared.figures.Figures.{Figures}
-use Rattle.gl_bits.specs.Results.{Results}
+use Rattle.gl_values.specs.Results.{Results}
 use Rattle.gl_wire.specs.Wire.{Carried, rows}
 
 -- a line that is 1 from the cycle after the first one on in which the other is 1

@@ -1,5 +1,5 @@
 use Rattle.std.proofs.Common.{refl}
-use Rattle.gl_bits.specs.Tables.{with_key}
+use Rattle.gl_values.specs.Tables.{with_key}
 use Rattle.gl_groups.proofs.laws.worked_groups.Goals as goal
 
 pub returns : goal.returns

@@ -1,5 +1,5 @@
 use Rattle.std.proofs.Common.{◌≡◌, None, refl}
-use Rattle.gl_bits.specs.Operators.{sort_of}
+use Rattle.gl_values.specs.Operators.{sort_of}
 use Rattle.gl_query.specs.Alike.{expr_alike}
 use Rattle.gl_query.specs.Trees.{expr_tree}
 use Rattle.gl_query.specs.Trees as tree

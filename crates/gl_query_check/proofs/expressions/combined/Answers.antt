@@ -1,7 +1,7 @@
 use Rattle.std.proofs.Common.{◌≡◌, Option, Some, sym, subst, ◌∙◌}
 use Rattle.std.specs.Prelude.{is_none, is_some, not}
-use Rattle.gl_bits.specs.declared.kind.Kind.{Kind}
-use Rattle.gl_bits.specs.Operators.{sort_of}
+use Rattle.gl_values.specs.declared.kind.Kind.{Kind}
+use Rattle.gl_values.specs.Operators.{sort_of}
 use Rattle.gl_query.specs.Alike.{expr_alike}
 use Rattle.gl_query.specs.Trees.{expr_tree}
 use Rattle.gl_query.specs.Values.{operator_kind}

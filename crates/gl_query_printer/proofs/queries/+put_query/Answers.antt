@@ -1,6 +1,7 @@
 use Rattle.std.proofs.Common.{ap}
+use Rattle.gl_bits.proofs.Options.{on_ok}
 use Rattle.gl_query.specs.Shapes.{query_shape}
-use Rattle.gl_query_printer.proofs.KeyedWindows.{on_ok, keyed_windows_put}
+use Rattle.gl_query_printer.proofs.KeyedWindows.{keyed_windows_put}
 use Rattle.gl_query_printer.proofs.queries.+put_query.Goals as goal
 
 pub returns-in_ok-put_query-in-Partition-2 : goal.returns-in_ok-put_query-in-Partition-2

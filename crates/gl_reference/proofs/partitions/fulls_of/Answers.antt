@@ -1,6 +1,6 @@
 use Rattle.std.proofs.Common.{◌≡◌, ◌+◌, ◌++◌, ◌∙◌, List, take, ap, refl, slice_index}
-use Rattle.gl_bits.specs.Results.{Row}
-use Rattle.gl_bits.specs.declared.lists.Group.{Group}
+use Rattle.gl_values.specs.Results.{Row}
+use Rattle.gl_values.specs.declared.lists.Group.{Group}
 use Rattle.gl_reference.specs.Partitions.{table_windows}
 use Rattle.gl_reference.proofs.Partitioning.{fulls_more}
 use Rattle.gl_reference.proofs.partitions.fulls_of.Goals as goal

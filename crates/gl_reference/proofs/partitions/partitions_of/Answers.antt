@@ -1,6 +1,6 @@
 use Rattle.std.proofs.Common.{◌++◌, ap, ◌∙◌, List}
 use Rattle.std.specs.Prelude.{flat_map}
-use Rattle.gl_bits.specs.declared.lists.Group.{Group}
+use Rattle.gl_values.specs.declared.lists.Group.{Group}
 use Rattle.gl_reference.specs.Partitions.{table_fulls, table_shorts_of}
 use Rattle.gl_reference.proofs.Partitioning.{parts_are, shorts_are}
 use Rattle.gl_reference.proofs.partitions.partitions_of.Goals as goal

@@ -3,10 +3,10 @@ use Rattle.std.specs.Prelude.{◌||◌, option_map}
 use Rattle.std.proofs.lemmas.List.{take_all}
 use Rattle.std.proofs.lemmas.Result.{IfOk-weaker}
 use Rattle.std.specs.List.{AllByRecursion}
-use Rattle.gl_bits.specs.Lists.{has_further, slices}
-use Rattle.gl_bits.specs.Tables.{keyed_groups}
-use Rattle.gl_bits.specs.Times.{tslices}
-use Rattle.gl_bits.specs.declared.lists.Group.{Group}
+use Rattle.gl_values.specs.Lists.{has_further, slices}
+use Rattle.gl_values.specs.Tables.{keyed_groups}
+use Rattle.gl_values.specs.Times.{tslices}
+use Rattle.gl_values.specs.declared.lists.Group.{Group}
 use Rattle.gl_schema.specs.declared.schema.Column.{Column}
 use Rattle.gl_query.specs.declared.tree.Measure.TheVariants.{Tuples, Time}
 use Rattle.gl_query.specs.declared.tree.Query.{Query}
@@ -14,7 +14,7 @@ use Rattle.gl_query.specs.declared.tree.AggItem.{AggItem}
 use Rattle.gl_query.specs.Shapes.{agg_item_shape, expr_shape, pick_shape, query_shape}
 use Rattle.gl_query.specs.Shapes as shape
 use Rattle.gl_query.specs.Values.{column_number}
-use Rattle.gl_bits.specs.Results.{Row, AreBeside, AreJoined}
+use Rattle.gl_values.specs.Results.{Row, AreBeside, AreJoined}
 use Rattle.gl_bits.proofs.AllLists.{all_of_mapped, taken_next}
 use Rattle.gl_schema.specs.Schemas.{IsRowOf}
 use Rattle.gl_query.specs.Accepted.{IsAcceptedOver, IsRows}

@@ -1,5 +1,5 @@
 use Rattle.std.proofs.Common.{◌≡◌, take}
-use Rattle.gl_bits.specs.Results.{beside}
+use Rattle.gl_values.specs.Results.{beside}
 use Rattle.gl_reference.proofs.rows.beside.Given as goal
 
 abbrev pub invariant-loop-i : goal.invariant-loop-i

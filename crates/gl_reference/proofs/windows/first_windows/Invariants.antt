@@ -1,5 +1,5 @@
 use Rattle.std.proofs.Common.{◌≡◌, ◌-◌, ◌≤◌}
-use Rattle.gl_bits.specs.Times.{tfirsts}
+use Rattle.gl_values.specs.Times.{tfirsts}
 use Rattle.gl_reference.proofs.windows.first_windows.Given as goal
 
 abbrev pub invariant-loop-number : goal.invariant-loop-number

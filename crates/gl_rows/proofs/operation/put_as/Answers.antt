@@ -2,9 +2,9 @@ use Rattle.std.proofs.Common.{ap, sym, subst, ◌∙◌}
 use Rattle.std.specs.Prelude.{IsTrue}
 use Rattle.gl_algebra.specs.Columns.{kind_of_operand}
 use Rattle.gl_algebra.specs.Values.{value_of_operand}
-use Rattle.gl_bits.specs.Kinds.{can_cast, width_of}
-use Rattle.gl_bits.specs.Operators.{cast_of}
-use Rattle.gl_bits.specs.declared.kind.Kind.{Kind}
+use Rattle.gl_values.specs.Kinds.{can_cast, width_of}
+use Rattle.gl_values.specs.Operators.{cast_of}
+use Rattle.gl_values.specs.declared.kind.Kind.{Kind}
 use Rattle.gl_wire.specs.Wire.{row_at}
 use Rattle.gl_rows.specs.Made.{IsCast}
 use Rattle.gl_rows.proofs.MadeLemmas.{carries_then}

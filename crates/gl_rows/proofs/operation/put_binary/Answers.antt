@@ -1,9 +1,9 @@
 use Rattle.std.proofs.Common.{ap, sym, subst, ◌∙◌}
 use Rattle.gl_algebra.specs.Columns.{SortFits, kind_of_operand}
 use Rattle.gl_algebra.specs.Values.{value_of_operand}
-use Rattle.gl_bits.specs.Kinds.{width_of}
-use Rattle.gl_bits.specs.Operators.{operate, result_kind, sort_of}
-use Rattle.gl_bits.specs.declared.kind.Kind.{Kind}
+use Rattle.gl_values.specs.Kinds.{width_of}
+use Rattle.gl_values.specs.Operators.{operate, result_kind, sort_of}
+use Rattle.gl_values.specs.declared.kind.Kind.{Kind}
 use Rattle.gl_wire.specs.Wire.{row_at}
 use Rattle.gl_wire.proofs.ColumnLemmas.{bus_kept}
 use Rattle.gl_rows.specs.Made.{IsOperated}

@@ -1,5 +1,5 @@
 use Rattle.std.proofs.Common.{ℕ, arith, ap, ◌∙◌}
-use Rattle.gl_bits.specs.Kinds.{width_of}
+use Rattle.gl_values.specs.Kinds.{width_of}
 use Rattle.gl_bits.specs.Words.{not_of}
 use Rattle.gl_algebra.specs.Values.{value_of_operand}
 use Rattle.gl_wire.specs.Wire.{row_at}

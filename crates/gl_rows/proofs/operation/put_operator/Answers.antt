@@ -2,9 +2,9 @@ use Rattle.std.proofs.Common.{ap, sym, subst, ◌∙◌}
 use Rattle.std.specs.Prelude.{IfOk}
 use Rattle.std.proofs.lemmas.Result.{IfOk-weaker}
 use Rattle.gl_algebra.specs.Columns.{SortFits}
-use Rattle.gl_bits.specs.Operators.{sort_of}
-use Rattle.gl_bits.specs.declared.kind.Kind.{Kind}
-use Rattle.gl_bits.specs.declared.kind.Kind.TheVariants.{Signed}
+use Rattle.gl_values.specs.Operators.{sort_of}
+use Rattle.gl_values.specs.declared.kind.Kind.{Kind}
+use Rattle.gl_values.specs.declared.kind.Kind.TheVariants.{Signed}
 use Rattle.gl_rows.specs.Made.{IsGated, IsOperated}
 use Rattle.gl_rows.proofs.OperatorNet.{plain_operates, signed_kind}
 use Rattle.gl_rows.proofs.operation.put_operator.Goals as goal

@@ -1,6 +1,6 @@
 use Rattle.std.proofs.Common.{refl, sym, ◌∙◌}
 use Rattle.std.proofs.lemmas.Result.{IfOk-weaker}
-use Rattle.gl_bits.specs.declared.kind.Kind.TheVariants.{Signed}
+use Rattle.gl_values.specs.declared.kind.Kind.TheVariants.{Signed}
 use Rattle.gl_rows.specs.Made.{IsGated, IsGatedTurned, IsOperated}
 use Rattle.gl_rows.proofs.OperatorNet.{turned_operates, unordered_operates}
 use Rattle.gl_rows.proofs.operation.put_signed.Goals as goal

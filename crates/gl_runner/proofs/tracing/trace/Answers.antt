@@ -1,7 +1,7 @@
 use Rattle.std.proofs.Common.{◌≡◌, ◌∙◌, ◌≤◌, List, length, sym, subst}
 use Rattle.std.specs.List.{AllByRecursion}
-use Rattle.gl_bits.specs.declared.kind.Kind.{Kind}
-use Rattle.gl_bits.specs.Kinds.{IsKind}
+use Rattle.gl_values.specs.declared.kind.Kind.{Kind}
+use Rattle.gl_values.specs.Kinds.{IsKind}
 use Rattle.gl_tuples.specs.Gaps.{plain_beats}
 use Rattle.gl_verilog.specs.View.{module_of}
 use Rattle.gl_verilog_ports.proofs.Fits.{fits, numbered}

@@ -2,7 +2,7 @@ use Rattle.std.proofs.Common.{subst, sym}
 use Rattle.gl_verilog.specs.View.{module_of}
 use Rattle.gl_verilog.specs.Evaluate.{nets_of, memories_of}
 use Rattle.gl_verilog.specs.Runnable.{SameState}
-use Rattle.gl_verilog_orders.specs.declared.start.Start.{Start}
+use Rattle.gl_verilog.specs.declared.start.Start.{Start}
 use Rattle.gl_sim.specs.Starts.{register_at, word_at}
 use Rattle.gl_sim.proofs.Fresh.{store_zero}
 use Rattle.gl_sim.proofs.Draws.{started_zero}

@@ -1,8 +1,8 @@
 use Rattle.std.proofs.Common.{◌≡◌, ℕ, suc, ◌+◌, ◌%◌, ◌^◌, ap, arith, subst, ◌∙◌}
-use Rattle.gl_bits.specs.Kinds.{number_in, width_of, word_of}
-use Rattle.gl_bits.specs.Totals.{quotient_of}
-use Rattle.gl_bits.proofs.Signs.{word_cut}
-use Rattle.gl_bits.proofs.Totalling.{average_is}
+use Rattle.gl_values.specs.Kinds.{number_in, width_of, word_of}
+use Rattle.gl_values.specs.Totals.{quotient_of}
+use Rattle.gl_values.proofs.Signs.{word_cut}
+use Rattle.gl_values.proofs.Totalling.{average_is}
 use Rattle.gl_net.proofs.Determined.{keeps_then}
 use Rattle.gl_wire.proofs.ColumnLemmas.{bit_kept}
 use Rattle.gl_wire.specs.Costs.{CostsAtMost}

@@ -1,6 +1,6 @@
 use Rattle.std.proofs.Common.{◌≡◌, ℕ, suc, ◌+◌, ◌*◌, ap, arith, ◌∙◌}
-use Rattle.gl_bits.specs.Kinds.{word_of}
-use Rattle.gl_bits.specs.Totals.{sum_of_numbers, sum_total}
+use Rattle.gl_values.specs.Kinds.{word_of}
+use Rattle.gl_values.specs.Totals.{sum_of_numbers, sum_total}
 use Rattle.gl_net.proofs.Determined.{keeps_then}
 use Rattle.gl_wire.proofs.ColumnLemmas.{bus_kept}
 use Rattle.gl_totals.specs.Costs.{slot_words}

@@ -1,7 +1,7 @@
 use Rattle.std.proofs.Common.{ap, sym, ◌∙◌}
 use Rattle.std.specs.Prelude.{Bool, if◌then◌else◌, pos}
 use Rattle.std.proofs.lemmas.Result.{IfOk-weaker}
-use Rattle.gl_bits.specs.Kinds.{number_in, signed_number}
+use Rattle.gl_values.specs.Kinds.{number_in, signed_number}
 use Rattle.gl_totals.specs.Averages.{IsQuotient}
 use Rattle.gl_totals.specs.Costs.{cost_of_divided, cost_of_quotient}
 use Rattle.gl_totals.proofs.QuotientNet.{number_as, quotient_within}

@@ -1,7 +1,7 @@
 use Rattle.std.proofs.Common.{◌≡◌, ℕ, suc, ◌+◌, ap, arith, subst, sym, ◌∙◌}
 use Rattle.std.specs.Prelude.{Bool, if◌then◌else◌, pos}
-use Rattle.gl_bits.specs.Kinds.{word_of}
-use Rattle.gl_bits.specs.Totals.{quotient_of}
+use Rattle.gl_values.specs.Kinds.{word_of}
+use Rattle.gl_values.specs.Totals.{quotient_of}
 use Rattle.gl_bits.specs.Words.{difference_of}
 use Rattle.gl_divide.specs.Division.{highest}
 use Rattle.gl_net.proofs.Determined.{keeps_then}

@@ -1,5 +1,5 @@
 use Rattle.std.proofs.Common.{◌≡◌, ℕ, suc, ◌*◌, arith, ap, ◌∙◌}
-use Rattle.gl_bits.specs.Totals.{sum_total}
+use Rattle.gl_values.specs.Totals.{sum_total}
 use Rattle.gl_net.proofs.Determined.{keeps_then}
 use Rattle.gl_totals.specs.Costs.{slot_words}
 use Rattle.gl_totals.specs.Open.{values_at}

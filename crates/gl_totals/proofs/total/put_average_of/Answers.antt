@@ -2,10 +2,10 @@ use Rattle.std.proofs.Common.{◌≡◌, ℕ, ◌+◌, ◌-◌, ◌*◌, ◌≤�
 use Rattle.std.proofs.Math.Nat.{mul-le-mul_right}
 use Rattle.gl_algebra.specs.Columns.{kind_of_operand}
 use Rattle.gl_algebra.specs.declared.node.PlanAgg.TheVariants.{Avg}
-use Rattle.gl_bits.specs.Kinds.{IsKind, width_of}
-use Rattle.gl_bits.specs.Totals.{average_of}
-use Rattle.gl_bits.proofs.KindLemmas.{kind_some}
-use Rattle.gl_bits.specs.declared.kind.Kind.{Kind}
+use Rattle.gl_values.specs.Kinds.{IsKind, width_of}
+use Rattle.gl_values.specs.Totals.{average_of}
+use Rattle.gl_values.proofs.KindLemmas.{kind_some}
+use Rattle.gl_values.specs.declared.kind.Kind.{Kind}
 use Rattle.gl_totals.specs.Costs.{cost_of_average}
 use Rattle.gl_totals.specs.Totals.{IsTotalOf}
 use Rattle.gl_totals.proofs.AggNet.{agg_is}

@@ -4,7 +4,7 @@ use Rattle.gl_algebra.specs.FigureTable.{delay_of_agg}
 use Rattle.gl_algebra.specs.declared.node.PlanAgg.{PlanAgg}
 use Rattle.gl_algebra.specs.declared.node.PlanAgg.TheVariants.{Count}
 use Rattle.std.specs.Prelude.{IfOk}
-use Rattle.gl_bits.specs.Totals.{count_of}
+use Rattle.gl_values.specs.Totals.{count_of}
 use Rattle.gl_net.specs.declared.node.Bus.{Bus}
 use Rattle.gl_totals.specs.Costs.{cost_of_count}
 use Rattle.gl_totals.specs.Totals.{IsAggOf, IsTotalOf}

@@ -1,5 +1,5 @@
 use Rattle.std.proofs.Common.{subst}
-use Rattle.gl_bits.specs.declared.kind.Kind.{Kind}
+use Rattle.gl_values.specs.declared.kind.Kind.{Kind}
 use Rattle.gl_totals.specs.Totals.{extreme_of, IsTotalOf}
 use Rattle.gl_totals.specs.Costs.{cost_of_extreme}
 use Rattle.gl_totals.proofs.AggNet.{extreme_is}

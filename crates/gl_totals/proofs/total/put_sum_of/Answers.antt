@@ -1,7 +1,7 @@
 use Rattle.std.proofs.Common.{ℕ, ◌*◌, map, ap, refl, arith}
 use Rattle.gl_algebra.specs.declared.node.PlanAgg.TheVariants.{Sum}
 use Rattle.gl_algebra.specs.Values.{value_of_operand}
-use Rattle.gl_bits.specs.Totals.{sum_total}
+use Rattle.gl_values.specs.Totals.{sum_total}
 use Rattle.gl_totals.specs.Costs.{cost_of_fold, slot_words}
 use Rattle.gl_totals.proofs.AggNet.{agg_is}
 use Rattle.gl_totals.proofs.KeepLemmas.{keep_kept, lag_small}

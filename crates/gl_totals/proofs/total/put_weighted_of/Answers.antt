@@ -1,7 +1,7 @@
 use Rattle.std.proofs.Common.{ℕ, ◌+◌, ◌*◌, List, length, map, ap, arith, refl, subst}
 use Rattle.gl_algebra.specs.Values.{value_of_operand}
 use Rattle.gl_algebra.specs.declared.node.PlanAgg.TheVariants.{Wsum}
-use Rattle.gl_bits.specs.Totals.{weighted_sum}
+use Rattle.gl_values.specs.Totals.{weighted_sum}
 use Rattle.gl_bits.specs.Words.{Word, bits_of}
 use Rattle.gl_totals.specs.Costs.{cost_of_weighted, slot_words}
 use Rattle.gl_totals.specs.Totals.{IsTotalOf}

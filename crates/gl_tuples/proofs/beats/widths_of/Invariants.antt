@@ -1,5 +1,5 @@
 use Rattle.std.proofs.Common.{◌≡◌, map, take}
-use Rattle.gl_bits.specs.Kinds.{width_of}
+use Rattle.gl_values.specs.Kinds.{width_of}
 use Rattle.gl_tuples.proofs.beats.widths_of.Given as goal
 
 abbrev pub invariant-loop-column : goal.invariant-loop-column

@@ -1,5 +1,5 @@
 use Rattle.std.proofs.Common.{sym, ◌∙◌, arith}
-use Rattle.gl_bits.specs.declared.kind.Kind.TheVariants.{Unsigned}
+use Rattle.gl_values.specs.declared.kind.Kind.TheVariants.{Unsigned}
 use Rattle.gl_tuples.proofs.LineLemmas.{width_at, row_long, none_at, line_grows}
 use Rattle.gl_tuples.proofs.line.values_into.Goals as goal
 use Rattle.gl_tuples.proofs.line.values_into.Goals.{in-Some, in_default}

@@ -1,6 +1,6 @@
 use Rattle.std.proofs.Common.{◌≡◌, map, take}
 use Rattle.std.specs.Prelude.{replicate}
-use Rattle.gl_bits.specs.Kinds.{width_of}
+use Rattle.gl_values.specs.Kinds.{width_of}
 use Rattle.gl_bits.specs.Words.{widths_of, bits_of}
 use Rattle.gl_tuples.proofs.row.zero_row.Given as goal
 

@@ -1,9 +1,9 @@
 use Rattle.std.proofs.Common.{rules}
 use Rattle.std.specs.Prelude.{neg_ℤ, pos}
 use Rattle.gl_tuples.specs.Values.{number_of}
-use Rattle.gl_bits.specs.Kinds.{width_of}
-use Rattle.gl_bits.proofs.KindLemmas.{kind_some}
-use Rattle.gl_bits.proofs.Signs.{word_fits}
+use Rattle.gl_values.specs.Kinds.{width_of}
+use Rattle.gl_values.proofs.KindLemmas.{kind_some}
+use Rattle.gl_values.proofs.Signs.{word_fits}
 use Rattle.gl_tuples.proofs.Numbers.{negative_fits, none_negative, past_negative, word_made}
 use Rattle.gl_tuples.proofs.value.negative_word.Goals as goal
 

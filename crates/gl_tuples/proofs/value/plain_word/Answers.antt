@@ -1,6 +1,6 @@
 use Rattle.std.proofs.Common.{rules, sym}
 use Rattle.gl_tuples.specs.Values.{number_of}
-use Rattle.gl_bits.proofs.KindLemmas.{kind_some, range_below}
+use Rattle.gl_values.proofs.KindLemmas.{kind_some, range_below}
 use Rattle.gl_tuples.proofs.Numbers.{in_range_fits, none_fits, past_range_fits, word_made}
 use Rattle.gl_tuples.proofs.value.plain_word.Goals as goal
 

@@ -1,4 +1,5 @@
-use Rattle.gl_verilog_writer.proofs.Loops.{joined, on_ok}
+use Rattle.gl_bits.proofs.Options.{on_ok}
+use Rattle.gl_verilog_writer.proofs.Loops.{joined}
 use Rattle.gl_verilog_writer.proofs.text.put_items.Goals as goal
 
 pub returns : goal.returns

@@ -1,5 +1,6 @@
+use Rattle.gl_bits.proofs.Options.{on_ok}
 use Rattle.gl_verilog_writer.specs.Texts.{scheme_in}
-use Rattle.gl_verilog_writer.proofs.Loops.{text-put, on_ok}
+use Rattle.gl_verilog_writer.proofs.Loops.{text-put}
 use Rattle.gl_verilog_writer.proofs.text.put_text.Goals as goal
 
 pub returns : goal.returns

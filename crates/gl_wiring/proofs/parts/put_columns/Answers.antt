@@ -1,10 +1,10 @@
 use Rattle.std.proofs.Common.{rules, ◌≡◌, ◌∷◌, [], ◌∙◌, subst, take, List, ℕ, ◌<◌, length, get_or, arith}
 use Rattle.gl_bits.proofs.AllLists.{taken_next}
-use Rattle.gl_bits.proofs.KindLemmas.{kind_some}
+use Rattle.gl_values.proofs.KindLemmas.{kind_some}
 use Rattle.gl_schema.specs.declared.schema.Column.{Column}
 use Rattle.gl_net.specs.declared.node.Direction.TheVariants.{In}
 use Rattle.gl_net.specs.Net.{IsPort}
-use Rattle.gl_bits.specs.Kinds.{IsKind, width_of}
+use Rattle.gl_values.specs.Kinds.{IsKind, width_of}
 use Rattle.gl_wiring.specs.EmittedPorts.{input}
 use Rattle.gl_schema.specs.Ports.{in_column}
 use Rattle.gl_wiring.specs.Emitted.{Puts}

@@ -37,7 +37,7 @@ put_root_of-returns t c =
     let limit = ap (λ n. n + 1) c.number-limit.ensures in
     one_is_put c.args.site.plan.now c.args.site.planned c.args.id (c.number-limit.result + 1) limit c.requires.can.within
     c.args.marks.now c.requires.marks c.args.net.now c.put_marked.new.net c.args.site.tick c.args.site.leaves.now c.in_ok-table.table.items c.in_ok-table.ensures
-    c.in_ok-e.e (rw c.as_slice.ensures.value at c.in_ok-e.ensures)
+    c.laws_below.ensures.nodes_follow_tables c.in_ok-e.e (rw c.as_slice.ensures.value at c.in_ok-e.ensures)
 
 pub put_marked-put_slot-requires : goal.put_marked-put_slot-requires
 put_marked-put_slot-requires t c =

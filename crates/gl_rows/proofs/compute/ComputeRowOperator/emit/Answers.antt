@@ -2,7 +2,7 @@ use Rattle.std.proofs.Common.{Some}
 use Rattle.gl_algebra.proofs.SoundLemmas.{delayed_sound}
 use Rattle.gl_algebra.specs.FigureTable.{delayed}
 use Rattle.gl_algebra.specs.Results.{computed}
-use Rattle.gl_bits.specs.Results.{Row}
+use Rattle.gl_values.specs.Results.{Row}
 use Rattle.gl_wire.specs.Wire.{carried}
 use Rattle.gl_wire.specs.Shapes.{Mapped}
 use Rattle.gl_wire.proofs.SettledLemmas.{settled_serves}

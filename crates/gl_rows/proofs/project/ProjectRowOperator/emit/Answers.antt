@@ -2,7 +2,7 @@ use Rattle.std.proofs.Common.{Some, subst}
 use Rattle.gl_algebra.specs.declared.figures.Figures.{Figures}
 use Rattle.gl_algebra.specs.Results.{projected}
 use Rattle.gl_algebra.proofs.FigureLemmas.{delayed_by_none}
-use Rattle.gl_bits.specs.Results.{Row}
+use Rattle.gl_values.specs.Results.{Row}
 use Rattle.gl_wire.specs.Wire.{carried}
 use Rattle.gl_wire.specs.Serves.{Serves}
 use Rattle.gl_wire.specs.Shapes.{Mapped}

@@ -1,6 +1,6 @@
 use Rattle.std.proofs.Common.{◌∙◌, ap, subst, sym}
 use Rattle.std.specs.List.{AllByRecursion}
-use Rattle.gl_bits.specs.Kinds.{IsKind}
+use Rattle.gl_values.specs.Kinds.{IsKind}
 use Rattle.gl_schema.specs.Schemas.{kinds_of}
 use Rattle.gl_runner.proofs.Named.{kinds_are}
 use Rattle.gl_runner.proofs.naming.NamedResult.new.Goals as goal

@@ -4,8 +4,8 @@ use Rattle.gl_verilog.specs.View.{module_of}
 use Rattle.gl_verilog.specs.Evaluate.{IsStore, nets_of, memories_of}
 use Rattle.gl_verilog.specs.Run.{IsRun}
 use Rattle.gl_verilog.specs.Runnable.{SameState, SameNets, HasInputs}
-use Rattle.gl_verilog_orders.specs.Events.{IsCycle, StandsBefore}
-use Rattle.gl_verilog_orders.specs.Laws.{IsTwoPhase}
+use Rattle.gl_verilog.specs.Events.{IsCycle, StandsBefore}
+use Rattle.gl_verilog.specs.Laws.{IsTwoPhase}
 use Rattle.gl_sim.specs.Simulation.{Simulation, IsAt, Holds}
 use Rattle.gl_sim.proofs.Follows.{IsStepped, IsOneCycle, nets_follow, state_follows}
 use Rattle.gl_sim.proofs.simulator.Sim.step.Goals as goal

@@ -1,7 +1,7 @@
 use Rattle.std.proofs.Common.{ℕ, sym, subst}
 use Rattle.gl_schema.specs.Beats.{KeepsGap}
 use Rattle.gl_tuples.specs.Gaps.{plain_beats}
-use Rattle.gl_verilog_orders.specs.declared.start.Start.{Start}
+use Rattle.gl_verilog.specs.declared.start.Start.{Start}
 use Rattle.gl_compiler.specs.Built.{gap_of, latency_of}
 use Rattle.gl_top_forms.specs.Forms.{start_of}
 use Rattle.gl_top.specs.Verdicts.{DumpedRun, OfPorts}

@@ -1,7 +1,7 @@
 use Rattle.std.proofs.Common.{ℕ, sym, subst}
 use Rattle.gl_schema.specs.Beats.{KeepsGap}
 use Rattle.gl_tuples.specs.Gaps.{plain_beats}
-use Rattle.gl_verilog_orders.specs.declared.start.Start.{Start}
+use Rattle.gl_verilog.specs.declared.start.Start.{Start}
 use Rattle.gl_top.specs.Verdicts.{OfResult, RanLines}
 use Rattle.gl_top.proofs.Runs.{runnable_of}
 use Rattle.gl_top.proofs.writing.LinesRuns.write.Goals as goal

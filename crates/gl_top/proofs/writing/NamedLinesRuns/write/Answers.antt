@@ -2,7 +2,7 @@ use Rattle.std.proofs.Common.{ℕ, sym, subst}
 use Rattle.gl_schema.specs.Beats.{KeepsGap}
 use Rattle.gl_tuples.specs.Gaps.{plain_beats}
 use Rattle.gl_many.specs.Compiles.{statements_in}
-use Rattle.gl_verilog_orders.specs.declared.start.Start.{Start}
+use Rattle.gl_verilog.specs.declared.start.Start.{Start}
 use Rattle.gl_top.specs.Verdicts.{OfNamedLines, RanLinesOfAll}
 use Rattle.gl_top.proofs.Runs.{runnable_together}
 use Rattle.gl_top.proofs.writing.NamedLinesRuns.write.Goals as goal

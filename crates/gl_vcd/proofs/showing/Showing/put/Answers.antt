@@ -1,7 +1,7 @@
 use Rattle.std.proofs.Common.{◌≡◌, ◌<◌, ◌-◌, ℕ, Bool, List, Option, map, ap, sym, subst, ◌∙◌}
 use Rattle.std.specs.Prelude.{◌^◌, OnOk}
 use Rattle.std.specs.List.{AllZip}
-use Rattle.gl_bits.specs.declared.kind.Kind.{Kind}
+use Rattle.gl_values.specs.declared.kind.Kind.{Kind}
 use Rattle.gl_bits.specs.Words.{bits_of, widths_of}
 use Rattle.gl_tuples.specs.declared.lines.Sample.{Sample}
 use Rattle.gl_outside.proofs.Takes.{wrote_same}

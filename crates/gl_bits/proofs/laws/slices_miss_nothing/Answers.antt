@@ -1,5 +1,0 @@
-use Rattle.gl_bits.proofs.Slicing.{in_slice}
-use Rattle.gl_bits.proofs.laws.slices_miss_nothing.Goals as goal
-
-pub returns : goal.returns
-returns g c = λ size advance xs i some near within. in_slice size advance xs i some near within

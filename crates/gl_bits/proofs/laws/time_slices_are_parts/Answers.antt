@@ -1,5 +1,0 @@
-use Rattle.gl_bits.proofs.Timing.{get-tslices}
-use Rattle.gl_bits.proofs.laws.time_slices_are_parts.Goals as goal
-
-pub returns : goal.returns
-returns g c = λ size advance ticks times xs j some. get-tslices size advance ticks times xs j some

@@ -1,5 +1,0 @@
-use Rattle.gl_bits.proofs.Timing.{tpart-more}
-use Rattle.gl_bits.proofs.laws.time_slices_grow.Goals as goal
-
-pub returns : goal.returns
-returns g c = λ from size t ts x xs same. tpart-more from size t ts x xs same

@@ -1,0 +1,10 @@
+pub mod KindLemmas
+pub mod Unique
+pub mod Slicing
+pub mod Timing
+pub mod Grouping
+pub mod Filling
+pub mod Parting
+pub mod Interleaving
+pub mod Signs
+pub mod Totalling

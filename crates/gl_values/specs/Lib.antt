@@ -1,0 +1,10 @@
+pub mod Kinds
+pub mod Lists
+pub mod Times
+pub mod Partitions
+pub mod Operators
+pub mod Totals
+pub mod Results
+pub mod Laws
+pub mod Tables
+pub mod WorkedPartitions

@@ -1,5 +1,0 @@
-use Rattle.gl_verilog_orders.proofs.Cycle.{cycles_are_two_phase}
-use Rattle.gl_verilog_orders.proofs.laws.cycles_are_two_phase.Goals as goal
-
-pub returns : goal.returns
-returns c = λ m h. cycles_are_two_phase m h

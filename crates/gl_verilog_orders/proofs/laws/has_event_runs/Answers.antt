@@ -1,5 +1,0 @@
-use Rattle.gl_verilog_orders.proofs.EventRuns.{has_event_runs, has_event_runs_of}
-use Rattle.gl_verilog_orders.proofs.laws.has_event_runs.Goals as goal
-
-pub returns : goal.returns
-returns c = record { any = λ m h. has_event_runs_of m h; same = λ m h. has_event_runs m h }
