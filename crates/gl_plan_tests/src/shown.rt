@@ -2,8 +2,8 @@
 
 use gl_algebra::{ColOp, Figures, Operand, Plan, PlanAgg, PlanNode};
 use gl_bits::Word;
-use gl_values::Kind;
 use gl_schema::Schema;
+use gl_values::Kind;
 use std::alloc::{AllocError, Global};
 
 // Adds the bytes of a name.

@@ -14,10 +14,10 @@ ghost use Rattle.gl_query_check.specs.Judging as judging;
 ghost use Rattle.gl_query_check.specs.Judging.{IsPlaced, Judges};
 
 use crate::rules::{has_column, is_bit, letters_fit, or_else, unless};
-use gl_values::{Kind, Op, Sort};
 use gl_query::kinds::operator_kind;
 use gl_query::{Expr, Name, Num, QueryFault, kinds};
 use gl_schema::Column;
+use gl_values::{Kind, Op, Sort};
 
 /// What an expression is whatever its place.
 #[derive(Drop)]

@@ -10,10 +10,10 @@ ghost use Rattle.gl_query.specs.Trees.{AggItemTree, ItemTree, agg_item_tree, agg
 
 use crate::expressions::{Placed, judge_whole, number_fault};
 use crate::rules::{or_else, unless};
-use gl_values::Kind;
 use gl_bits::limits::{MOST_COLUMNS, MOST_WEIGHTS};
 use gl_query::{Agg, AggItem, Item, Name, Num, Pick, QueryFault};
 use gl_schema::Column;
+use gl_values::Kind;
 
 // Whether an item has a name.
 fn is_item(items: &[Item], name: &[u8]) -> bool

@@ -8,9 +8,9 @@ ghost use Rattle.gl_query.specs.Sources.{scope_of};
 ghost use Rattle.gl_query.specs.Values as values;
 ghost use Rattle.gl_query_check.specs.Answers.{Refuses};
 
-use gl_values::Kind;
 use gl_query::{QueryFault, Sources};
 use gl_schema::{Column, Stream};
+use gl_values::Kind;
 
 /// The first of two faults, where there is one.
 pub fn or_else(first: Option<QueryFault>, second: Option<QueryFault>) -> Option<QueryFault>

@@ -12,12 +12,12 @@ use crate::operators::{left_looseness, looseness, reduced, room};
 use crate::parts::{cloned, cloned_text, keep_named, operand_in, refuse};
 use crate::state::{Control, ExprControl};
 use crate::written::WrittenExpr;
-use gl_values::Kind;
 use gl_bits::boxes::{OneBox, one_box};
 use gl_query::{Name, Op, TextBytes};
 use gl_query_tokens::sorts::{is_plain, number_in, open_in};
 use gl_query_tokens::{Plain, Token};
 use gl_schema::kind_named;
+use gl_values::Kind;
 use std::alloc::{AllocError, Global};
 
 // An operator behind an expression.

@@ -8,10 +8,10 @@ ghost use Rattle.gl_query_reader.specs.Trees.{expr_of, agg_of, item_of, items_of
 use crate::keeping::{Beside, Both, keep_beside, put, take_both};
 use crate::parts::cloned;
 use crate::written::{WrittenAgg, WrittenExpr, WrittenItem, WrittenItems};
-use gl_values::Kind;
 use gl_bits::boxes::{OneBox, TwoBoxes, one_box, two_boxes};
 use gl_query::{Agg, AggItem, AggItems, Expr, Item, ItemList, Num, Op};
 use gl_query_tokens::Fold;
+use gl_values::Kind;
 use std::alloc::{AllocError, Global};
 
 /// What an expression means. Brackets only group.

@@ -4,9 +4,9 @@ use crate::frames::{
     BodyHead, CastHead, GroupsHead, Head, SelectFrom, Unnamed, WindowHead, WsumHead,
 };
 use crate::written::{Window, WrittenAgg, WrittenExpr, WrittenItems, WrittenQuery};
-use gl_values::Kind;
 use gl_query::{Name, Num, Nums};
 use gl_query_tokens::Fold;
+use gl_values::Kind;
 
 /// A place in an expression, and what may follow there.
 #[derive(Drop)]

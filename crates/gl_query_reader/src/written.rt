@@ -2,9 +2,9 @@
 //! that every tree of their form has, and the places that a statement keeps.
 
 use gl_bits::Listed;
-use gl_values::Kind;
 use gl_query::{Measure, Name, Num, Nums, Op, TextBytes};
 use gl_query_tokens::{Fold, Join};
+use gl_values::Kind;
 
 /// The items of a select, as written.
 pub type WrittenItems = Listed<WrittenItem>;

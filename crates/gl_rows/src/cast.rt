@@ -7,8 +7,8 @@ ghost use Rattle.gl_net.specs.Net.{IsBus};
 ghost use Rattle.gl_rows.specs.Made.{AreHigh, AreLow, Carries, IsCast, IsExtended, IsNumber};
 
 use gl_bits::{Memory, Word};
-use gl_values::{Family, Kind};
 use gl_net::{Bus, NetBuilder};
+use gl_values::{Family, Kind};
 
 // The word 0.
 fn zero_word(width: u8) -> Word

@@ -6,8 +6,8 @@ ghost use Rattle.gl_rows.specs.Made.{AreOperands, IsOperand, IsSource};
 
 use gl_algebra::Operand;
 use gl_bits::Memory;
-use gl_values::Kind;
 use gl_net::{Bus, Buses, NetBuilder};
+use gl_values::Kind;
 use std::alloc::Global;
 
 /// Columns, and their kinds.

@@ -16,8 +16,8 @@ use crate::operand::{Source, put_operand};
 use gl_algebra::columns::kind_of_operand;
 use gl_algebra::{ColOp, Operand};
 use gl_bits::{Memory, Word};
-use gl_values::{Kind, Op};
 use gl_net::{BinaryOp, Bus, Buses, NetBuilder, Note};
+use gl_values::{Kind, Op};
 use std::alloc::Global;
 
 // The gate of an operator.

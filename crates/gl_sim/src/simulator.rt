@@ -16,8 +16,8 @@ use crate::order::order_in;
 use crate::room::{banks_of, ports_of, updates_of, zeros};
 use crate::update::Update;
 use gl_bits::Memory;
-use gl_verilog::{Bank, Module, Start};
 use gl_verilog::orders::{comes_to_rest, cycles_are_two_phase};
+use gl_verilog::{Bank, Module, Start};
 use std::alloc::Global;
 use std::marker::Model;
 

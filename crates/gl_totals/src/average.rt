@@ -15,10 +15,10 @@ use crate::rows::Rows;
 use crate::sign::{put_magnitude, put_negated};
 use crate::sum::{put_count, put_sum};
 use gl_bits::Memory;
-use gl_values::Kind;
 use gl_divide::divide;
 use gl_net::{Bit, Bus, NetBuilder};
 use gl_rows::cast::{low_bits, put_number};
+use gl_values::Kind;
 use gl_wire::same;
 
 /// A top and a bottom.

@@ -12,8 +12,8 @@ ghost use Rattle.gl_totals.specs.Totals.{IsTotalOf, extreme_of};
 use crate::fold::{Best, Extreme, Step, put_better, put_state, small_word};
 use crate::rows::{Keep, Rows};
 use gl_bits::Memory;
-use gl_values::Kind;
 use gl_net::{BinaryOp, Bit, Bus, NetBuilder};
+use gl_values::Kind;
 use gl_wire::{both, but_not, note_bus};
 
 /// What an extreme in a register takes; 0 where neither.

@@ -10,10 +10,10 @@ ghost use Rattle.gl_totals.specs.declared.fold.Step.TheVariants.{Add, Keep, Set,
 
 use crate::rows::{self, Rows};
 use gl_bits::{Memory, Word};
-use gl_values::{Kind, Op};
 use gl_divide::digit::shift;
 use gl_net::{BinaryOp, Bit, Bus, NetBuilder};
 use gl_rows::operation::put_operator;
+use gl_values::{Kind, Op};
 use gl_wire::{both, but_not, either, note_bus, same};
 use gl_wire_lanes::put_memory;
 

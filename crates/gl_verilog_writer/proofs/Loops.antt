@@ -34,7 +34,7 @@ outputs_next names xs at d lt = next (shown_line names) xs at d lt
 pub clean_next : (room : ℕ) (xs : List ℕ) (at d : ℕ) → at < length xs → clean room (drop at xs) ≡ kept_byte room (get_or xs at d) ++ clean (room_left room (get_or xs at d)) (drop (at + 1) xs)
 clean_next room xs at d lt = rw (drop-cons xs at d lt, add-one) refl
 
-pub wrapped_next : (front : List ℕ) (room : ℕ) (xs : List ℕ) (at d : ℕ) → at < length xs → wrapped front room (drop at xs) ≡ byte_text front room (get_or xs at d) ++ wrapped front (room_behind room) (drop (at + 1) xs)
+pub wrapped_next : (front : List ℕ) (room : ℕ) (xs : List ℕ) (at d : ℕ) → at < length xs → wrapped front room (drop at xs) ≡ byte_text front room (get_or xs at d) ++ wrapped front (room_behind room (get_or xs at d)) (drop (at + 1) xs)
 wrapped_next front room xs at d lt = rw (drop-cons xs at d lt, add-one) refl
 
 -- the lines of a header from a place on, where the first has room and where it has none

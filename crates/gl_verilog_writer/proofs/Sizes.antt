@@ -335,7 +335,7 @@ unfolding heading_text
 heading-none = omega arith
 
 text-within : (net : Net) (scheme : Scheme) (lines : List (List ℕ)) (k h most : ℕ) → Named net (name_in scheme) → AreShort net scheme k h → 5 * k + 110 + 2 * h ≤ most
-    → length (header_text lines ++ (head_text (written_as (name_in scheme) net) ++ parts_text scheme net.nodes net.ports ++ end_text)) ≤ most * length net.nodes + sum_by port_bytes net.ports + length (unwrap_or net.name []) + 73300 + 120
+    → length (header_text lines ++ (head_text (written_as (name_in scheme) net) ++ parts_text scheme net.nodes net.ports ++ end_text)) ≤ most * length net.nodes + sum_by port_bytes net.ports + length (unwrap_or net.name []) + 77600 + 120
 text-within net scheme lines k h most c s low =
     let n = nodes-within scheme net.ports most 0 net.nodes (λ j x e. (let t = get-from_zero net.nodes j x e in let i = node-within net scheme c k h s (0 + j) x t (c.netlist.formed.nodes (0 + j) x t) in omega (arith, i, low))) in
     let p = ports-within net.nodes scheme 0 net.ports (λ j q e. port-short net scheme c k h s j q e) in
@@ -378,14 +378,14 @@ text-short labels net h nodes ports = by (are_shown net) refl
     enough false = omega arith
 
     Fits : Scheme → Type 0
-    Fits scheme = length (header_text lines ++ (head_text (written_as (name_in scheme) net) ++ parts_text scheme net.nodes net.ports ++ end_text)) ≤ most * length net.nodes + sum_by port_bytes net.ports + length (unwrap_or net.name []) + 73300 + 120
+    Fits scheme = length (header_text lines ++ (head_text (written_as (name_in scheme) net) ++ parts_text scheme net.nodes net.ports ++ end_text)) ≤ most * length net.nodes + sum_by port_bytes net.ports + length (unwrap_or net.name []) + 77600 + 120
 
     by : (t : Bool) → are_shown net ≡ t → Fits (if t then ByLabels labels else ByFamily (family_of net.ports))
     by true e =
         let i = shown-parts net e in
         let naming = labels-naming labels net i.few i.free in
         let full : 1000 ≤ most = (let f = le-leb (length net.nodes) 65536 i.few in rw f (let q : 1000 ≤ 1000 = omega arith in q)) in
-        text-within net (ByLabels labels) lines 77 233 most (record { netlist = h; naming = naming })
+        text-within net (ByLabels labels) lines 77 246 most (record { netlist = h; naming = naming })
         (record { some' = omega arith; most = omega arith; names = λ n l. record { is = naming.short n l }; headings = λ n. heading-long (above_at labels n) }) (omega (arith, full))
     by false e =
         text-within net (ByFamily (family_of net.ports)) lines 22 0 most (record { netlist = h; naming = family-naming net many wide })

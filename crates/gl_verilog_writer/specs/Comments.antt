@@ -1,28 +1,33 @@
 -- Comments of one line, which carry any bytes: what is not printable ASCII is shown as a question mark.
-use Rattle.std.specs.Prelude.{ℕ, ◌-◌, nat_eq, nat_le, ◌&&◌, if◌then◌else◌, List, [], ◌∷◌, ◌++◌, length, take, codes}
+use Rattle.std.specs.Prelude.{ℕ, Bool, ◌-◌, nat_eq, nat_le, ◌&&◌, if◌then◌else◌, List, [], ◌∷◌, ◌++◌, length, take, codes}
 
 -- a byte as it is shown
 abbrev pub shown_byte : ℕ → ℕ
 shown_byte b = if nat_le 32 b && nat_le b 126 then b else 63
 
--- where a line is full, it ends, and the next one begins four blanks further in
-abbrev pub break_text : List ℕ → ℕ → List ℕ
-break_text front room = if nat_eq room 0 then codes "\n" ++ front ++ codes "//|     " else []
+-- the end of a line, and the next one, which begins four blanks further in
+abbrev pub break_text : List ℕ → List ℕ
+break_text front = codes "\n" ++ front ++ codes "//|     "
+
+-- whether a line ends in place of a byte: of a blank with at most 40 bytes of room
+abbrev pub ends_at : ℕ → ℕ → Bool
+ends_at room b = nat_eq b 32 && nat_le room 40
+
+-- one more byte; where a line is full, it goes on the next one
+abbrev pub byte_text : List ℕ → ℕ → ℕ → List ℕ
+byte_text front room b =
+    if ends_at room b then break_text front else if nat_eq room 0 then break_text front ++ shown_byte b ∷ [] else shown_byte b ∷ []
 
 -- the room that is left behind one more byte
-abbrev pub room_behind : ℕ → ℕ
-room_behind room = if nat_eq room 0 then 110 else room - 1
-
--- one more byte
-abbrev pub byte_text : List ℕ → ℕ → ℕ → List ℕ
-byte_text front room b = break_text front room ++ shown_byte b ∷ []
+abbrev pub room_behind : ℕ → ℕ → ℕ
+room_behind room b = if ends_at room b then 111 else if nat_eq room 0 then 110 else room - 1
 
 -- the bytes of a comment where so much room is left in its line; each of its lines stands behind the same blanks
 abbrev pub wrapped : List ℕ → ℕ → List ℕ → List ℕ
 wrapped front room [] = codes "\n"
-wrapped front room (b ∷ w) = byte_text front room b ++ wrapped front (room_behind room) w
+wrapped front room (b ∷ w) = byte_text front room b ++ wrapped front (room_behind room b) w
 
--- a comment; a line has at most 115 bytes of it
+-- a comment; a line has at most 115 bytes of it, and ends at a blank where one stands among its last 40
 abbrev pub comment_text : List ℕ → List ℕ → List ℕ
 comment_text front w = codes "//| " ++ wrapped front 115 w
 

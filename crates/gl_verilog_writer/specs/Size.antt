@@ -15,7 +15,7 @@ frame_bytes = 120
 
 -- the lines in front of the module
 abbrev pub header_bytes : ℕ
-header_bytes = 73300
+header_bytes = 77600
 
 -- a node has its declaration, and what drives it; where labels are shown, names are longer and headings stand above
 abbrev pub node_bytes : ℕ → ℕ

@@ -1,7 +1,7 @@
 //! Comments, whatever bytes they are of.
 
 ghost use Rattle.std.specs.Prelude.{◌≡◌, ◌++◌, OnOk, IfOk, take};
-ghost use Rattle.gl_verilog_writer.specs.Comments.{shown_byte, byte_text, room_behind, wrapped, comment_text, heading_text, title_text, last_text, header_text};
+ghost use Rattle.gl_verilog_writer.specs.Comments.{shown_byte, break_text, ends_at, byte_text, room_behind, wrapped, comment_text, heading_text, title_text, last_text, header_text};
 ghost use Rattle.gl_verilog_writer.specs.Labelled.{head_lines};
 
 use crate::label::Labels;
@@ -15,15 +15,33 @@ fn shown_byte(byte: u8) -> u8
     if 32 <= byte && byte <= 126 { byte } else { 63 }
 }
 
+// Whether a line ends in place of a byte: of a blank with at most 40 bytes of room.
+fn ends_at(room: usize, byte: u8) -> bool
+    ensures { result ≡ ends_at room byte }
+{
+    byte == b' ' && room <= 40
+}
+
+// The end of a line, and the begin of the next one.
+fn put_break(out: &mut Vec<u8>, front: &[u8]) -> Result<(), Memory>
+    ensures { OnOk result (out.new.items ≡ out.old.items ++ break_text front.now) }
+{
+    put(out, b"\n")?;
+    put(out, front)?;
+    put(out, b"//|     ")
+}
+
 // One byte of a comment, on the next line where this one has no room; gives the room behind it.
 fn put_shown(out: &mut Vec<u8>, front: &[u8], room: usize, byte: u8) -> Result<usize, Memory>
     ensures text { OnOk result (out.new.items ≡ out.old.items ++ byte_text front.now room byte) }
-    ensures room { IfOk result (λ left. left ≡ room_behind room) }
+    ensures room { IfOk result (λ left. left ≡ room_behind room byte) }
 {
+    if ends_at(room, byte) {
+        put_break(out, front)?;
+        return Ok(111);
+    }
     if room == 0 {
-        put(out, b"\n")?;
-        put(out, front)?;
-        put(out, b"//|     ")?;
+        put_break(out, front)?;
         put(out, &[shown_byte(byte)])?;
         return Ok(110);
     }
