@@ -47,7 +47,8 @@ def stand_in(text, module, schema, gap, figures):
     """A module with the ports of the real one, which gives any rows that the figures allow, and says that its inputs
     keep the rules."""
     results, ticks = results_of(text), has_tick(text)
-    head = text[text.index('module ') : text.index(');') + 2]
+    begins = re.search(r'^module ', text, re.M).start()
+    head = text[begins : text.index(');', begins) + 2]
     valids = [f'in__{name}__valid' for name, _ in schema]
     lines = [head, 'reg there = 0; reg ended; integer since;', 'always @(posedge clk) there <= 1;']
     lines += [f'wire beat = {" || ".join([*valids, "eos", *["tick"] * ticks])};']

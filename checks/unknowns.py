@@ -219,7 +219,7 @@ def told_of(drawn, want, came, unknown):
 
 def simulated(room, all_, wants, modes):
     """The lines of all testbenches by the testbench, and None; or what Icarus says where it refuses them."""
-    units = [re.sub(r'^module \w+\(', f'module unit{it.number}(', it.design) for it in all_]
+    units = [re.sub(r'^module \w+\(', f'module unit{it.number}(', it.design, flags=re.M) for it in all_]
     benches = [bench(it, want, unknown) for it, want in zip(all_, wants) for unknown in modes]
     tops = [word for text in benches for word in ('-s', re.match(r'module (\w+)', text).group(1))]
     written(f'{room}/benches.v', '\n'.join(units + benches))

@@ -142,7 +142,7 @@ def command_of(path, one='compile', several='many'):
 def ports_of(text):
     """The name of a module, and the columns of its result with their widths."""
     outs = re.findall(r'output wire (?:\[(\d+):0\] )?(out__\w+)', text)
-    return re.search(r'module (\w+)', text).group(1), [
+    return re.search(r'^module (\w+)', text, re.M).group(1), [
         (n, int(w or 0) + 1) for w, n in outs if n not in ('out__valid', 'out__eos')
     ]
 

@@ -17,7 +17,7 @@ from meaning import has
 
 TOP = os.path.dirname(os.path.dirname(os.path.dirname(os.path.abspath(__file__))))
 NAME = 'gl_reference_run'
-USES = 'gl_bits gl_schema gl_query gl_query_reader gl_reference gl_tuples gl_tuple_reader'
+USES = 'gl_bits gl_values gl_schema gl_query gl_query_reader gl_reference gl_tuples gl_tuple_reader'
 PART = 400  # cases in one run of the program
 SECONDS = 600  # for one run of it
 
