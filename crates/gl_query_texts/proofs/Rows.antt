@@ -1,5 +1,5 @@
 -- Worked rows: texts, their pieces, and what they come to.
-use Rattle.std.proofs.Common.{◌≡◌, ℕ, List, [], ◌∷◌, length, map, Result, Ok, Err, refl, subst}
+use Rattle.std.proofs.Common.{◌≡◌, ℕ, List, [], ◌∷◌, ◌++◌, length, map, Result, Ok, Err, refl, subst}
 use Rattle.std.specs.Prelude.{codes}
 use Rattle.gl_values.specs.declared.kind.Kind.TheVariants.{Text}
 use Rattle.gl_schema.specs.declared.schema.Schema.{Schema}
