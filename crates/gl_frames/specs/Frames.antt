@@ -1,5 +1,5 @@
--- Frames, the window functions of SQL: a value for each row, made of the rows up to it. Lists are in order, the oldest row
--- first. The last row of the rows so far is the one that gets the value.
+-- Frames, the window functions of SQL: a value for each row, made of the rows up to it. Lists are in order, the oldest
+-- row first. The last row of the rows so far is the one that gets the value.
 use Rattle.std.specs.Prelude.{◌≡◌, ℕ, suc, ◌-◌, Bool, List, [], ◌∷◌, ◌++◌, Option, Some, None, length, take, drop, map, filter, reverse, fold, slice_get, if◌then◌else◌}
 use Rattle.std.specs.List.{cons_option}
 use Rattle.gl_values.specs.Lists.{rows_with}
@@ -70,7 +70,8 @@ by_key n key_of f xs = if_has_key n key_of f xs (row_before 0 xs)
 abbrev pub framed : {A B : Type 0} → (List A → B) → List A → List B
 framed f xs = each_of (λ seen. Some (f seen)) [] xs
 
--- the rows of a select of frames with PARTITION: for each row of the first n keys what f makes of its key's rows up to it
+-- the rows of a select of frames with PARTITION: for each row of the first n keys what f makes of its key's rows up
+-- to it
 abbrev pub framed_by_key : {A B : Type 0} → ℕ → (A → ℕ) → (List A → B) → List A → List B
 framed_by_key n key_of f xs = each_of (by_key n key_of f) [] xs
 

@@ -1,5 +1,5 @@
--- Frames with PARTITION, said by places: for each place of a list, in order, what is made of the rows of its row's key up
--- to it, where that key is one of the first of the whole list.
+-- Frames with PARTITION, said by places: for each place of a list, in order, what is made of the rows of its row's key
+-- up to it, where that key is one of the first of the whole list.
 use Rattle.std.specs.Prelude.{◌≡◌, ℕ, suc, List, [], Option, Some, None, length, take, slice_get, if◌then◌else◌}
 use Rattle.std.specs.List.{filter_map, range_with_len}
 use Rattle.gl_values.specs.Lists.{rows_with}

@@ -38,6 +38,7 @@ pub record WorkedFrames : Type 0 where
   -- the last odd one of two rows, and 0 where neither is odd
   pub near : framed (last_value_of itself (Some 1) is_odd) (2 ∷ 3 ∷ 4 ∷ 6 ∷ 7 ∷ 8 ∷ []) ≡ 0 ∷ 3 ∷ 3 ∷ 0 ∷ 7 ∷ 7 ∷ []
   -- the row before with the same tens, for two keys: rows of the third key are left out
-  pub by_key : framed_by_key 2 tens (lag_of itself 1) (11 ∷ 21 ∷ 12 ∷ 31 ∷ 22 ∷ 13 ∷ 32 ∷ []) ≡ 0 ∷ 0 ∷ 11 ∷ 21 ∷ 12 ∷ []
+  pub by_key : framed_by_key 2 tens (lag_of itself 1) (11 ∷ 21 ∷ 12 ∷ 31 ∷ 22 ∷ 13 ∷ 32 ∷ [])
+      ≡ 0 ∷ 0 ∷ 11 ∷ 21 ∷ 12 ∷ []
   pub sums_by_key : framed_by_key 2 tens (total_over sum itself (Some 1) all) (11 ∷ 21 ∷ 12 ∷ 31 ∷ 22 ∷ 13 ∷ [])
       ≡ 11 ∷ 21 ∷ 23 ∷ 43 ∷ 25 ∷ []

@@ -26,7 +26,8 @@ pub fn frames_are_plain<T, U>()
 {}
 
 /// With PARTITION there is one row for each row of the first keys of the whole list, in its order.
-/// It is made of the rows of its key up to it; whether the key is among the first ones is known then.
+/// It is made of the rows of its key up to it. Whether the key is among the first ones is known
+/// then.
 pub fn partitions_are_plain<T, U>()
     ensures each { EachIsPlain T U }
     ensures known { KeysAreKnown T }
@@ -34,7 +35,8 @@ pub fn partitions_are_plain<T, U>()
 {}
 
 /// A sum over the last words goes on by the one that comes and the one that leaves. Words that a
-/// FILTER leaves out are 0, and a count is a sum; without a FILTER it is the number of rows or k + 1.
+/// FILTER leaves out are 0, and a count is a sum. Without a FILTER it is the number of rows or
+/// k + 1.
 pub fn sums_slide<T>()
     ensures slide { SumsSlide }
     ensures filters { FiltersAreMasks T }

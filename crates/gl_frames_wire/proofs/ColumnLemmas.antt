@@ -12,8 +12,8 @@ use Rattle.gl_wire_lanes.specs.Keeping.{IsKept}
 use Rattle.gl_wire_lanes.specs.Lanes.{Lane, row_in}
 use Rattle.gl_frames.specs.Frames.{best_of, better_of, but_last, framed, lag_of, last_ones, number_or, row_before}
 use Rattle.gl_frames.proofs.BestLemmas.{bests_overlap}
-use Rattle.gl_frames.proofs.ListLemmas.{each_more, rings_earlier}
-use Rattle.gl_frames.proofs.SumLemmas.{sums_slide}
+use Rattle.gl_frames.proofs.ListLemmas.{each_more}
+use Rattle.gl_frames.specs.Laws.{RingsGiveEarlier, SumsSlide}
 use Rattle.gl_frames_wire.specs.Laws.{BestsAreFramed, ColumnsAreFramed, GivesLag, LagsAreGiven, SumsAreFramed}
 use Rattle.gl_frames_wire.specs.Since.{rows_here, rows_past, rows_since}
 use Rattle.gl_frames_wire.proofs.RingLemmas.{none_in, one_in, rings_give, rings_tell}
@@ -82,12 +82,12 @@ lags_given {B = B} size k over l row out many g c v = by (nat_le k (length (rows
 
 -- ---- sums
 
-sum_none : (w k : ℕ) → sum_total w (last_ones k []) ≡ 0
+pub sum_none : (w k : ℕ) → sum_total w (last_ones k []) ≡ 0
 unfolding sum_total
 sum_none w k = ap (λ (xs : List ℕ). sum xs % 2 ^ w) (drop_all (0 - k) [] (omega arith)) ∙ zero-mod (2 ^ w)
 
-pub sums_framed : SumsAreFramed
-sums_framed w size k over l word out many before now opens g kept fits steps c v =
+pub sums_framed : SumsSlide → SumsAreFramed
+sums_framed sums_slide w size k over l word out many before now opens g kept fits steps c v =
     (slots_are (λ xs. sum_total w (last_ones k xs)) over l word before now opens (subst (λ n. IsKept n l before now) (sym (sum_none w k)) kept) (record {
       with_row = λ d p e. steps d ∙ ap (λ (b : Bool). if b then difference_of w (sum_of w (before (suc d)) (word (suc d))) (if many (suc d) then out (suc d) else 0) else before (suc d)) p ∙ slid d p e;
       without = λ d p. steps d ∙ ap (λ (b : Bool). if b then difference_of w (sum_of w (before (suc d)) (word (suc d))) (if many (suc d) then out (suc d) else 0) else before (suc d)) p;
@@ -121,7 +121,7 @@ sums_framed w size k over l word out many before now opens g kept fits steps c v
 -- ---- extremes
 
 -- what a ring gives of a column is what the column had so many rows before, and nothing where there were fewer
-module _ {B : Type 0} (of : List B → Option B) (none : of [] ≡ None) (size k : ℕ) (over : ℕ → ℕ → Bool) (l : Lane) (row : ℕ → B) (best out : ℕ → Option B) (many : ℕ → Bool)
+module _ {B : Type 0} (rings_earlier : RingsGiveEarlier B (Option B)) (of : List B → Option B) (none : of [] ≡ None) (size k : ℕ) (over : ℕ → ℕ → Bool) (l : Lane) (row : ℕ → B) (best out : ℕ → Option B) (many : ℕ → Bool)
     (g : GivesLag size k over l best out many) (is : (c : ℕ) → l.valid (suc c) ≡ true → best (suc c) ≡ of (rows_here over l row (suc c))) where
   short : (xs : List B) → length xs ≤ k → but_last k xs ≡ []
   short xs le = let e : length xs - k ≡ 0 = omega (arith, le) in ap (λ n. take n xs) e
@@ -139,9 +139,9 @@ module _ {B : Type 0} (of : List B → Option B) (none : of [] ≡ None) (size k
       told xs (many (suc c)) (out (suc c)) (nat_lt k (length xs)) refl
       (sym (lags_given size k over l best out many g c v) ∙ ap (row_before k) (framed_here of over l row best g.no_row is c v) ∙ rings_earlier of k xs)
 
-pub bests_framed : {B : Type 0} → BestsAreFramed B
-bests_framed {B = B} op choice size n p over l row best out many le far g is c v =
+pub bests_framed : {B : Type 0} → RingsGiveEarlier B (Option B) → BestsAreFramed B
+bests_framed {B = B} rings_earlier op choice size n p over l row best out many le far g is c v =
     let xs : List B = rows_here over l row (suc c) in
     let none : best_of op (last_ones p []) ≡ None = ap (best_of op) (drop_all (0 - p) [] (omega arith)) in
-    ap (λ o. better_of op o (best (suc c))) (earlier (λ ys. best_of op (last_ones p ys)) none size (n - p) over l row best out many g is c v)
+    ap (λ o. better_of op o (best (suc c))) (earlier rings_earlier (λ ys. best_of op (last_ones p ys)) none size (n - p) over l row best out many g is c v)
     ∙ ap (better_of op (best_of op (last_ones p (but_last (n - p) xs)))) (is c v) ∙ sym (bests_overlap op choice n p xs le far)

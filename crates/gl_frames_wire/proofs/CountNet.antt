@@ -11,7 +11,8 @@ use Rattle.gl_wire.specs.Wire.{line_at}
 use Rattle.gl_wire.proofs.StageLemmas.{line_first}
 use Rattle.gl_wire_lanes.specs.Keeping.{IsKept}
 use Rattle.gl_wire_lanes.specs.Lanes.{Lane, Begins, is_open}
-use Rattle.gl_wire_lanes.proofs.SingleLemmas.{one_is_single, register_is_kept}
+use Rattle.gl_wire_lanes.specs.Laws.{OneIsSingle}
+use Rattle.gl_wire_lanes.proofs.SingleLemmas.{register_is_kept}
 use Rattle.gl_frames_wire.specs.CountNets.{streams_by}
 use Rattle.gl_frames_wire.specs.Rings.{wind, wound}
 use Rattle.gl_frames_wire.specs.Since.{Opens, has_begun, own_ends, rows_past}
@@ -62,7 +63,7 @@ opens_own l b = record {
   only = λ c f. begun_open l (l.slot c) c ∙ b.only c f;
 }
 
-module _ (run : Run) (valid eos : Bit) (size : ℕ) (some : 1 ≤ size) (before now : Bus) (start : run.at 1 before.node ≡ 0)
+module _ (one_is_single : OneIsSingle) (run : Run) (valid eos : Bit) (size : ℕ) (some : 1 ≤ size) (before now : Bus) (start : run.at 1 before.node ≡ 0)
     (next : (t : ℕ) → run.at (suc (suc t)) before.node ≡ (if line_at run eos (suc t) then 0 else run.at (suc t) now.node))
     (with_row : (t : ℕ) → run.at (suc t) now.node ≡ (if line_at run valid (suc t) then wind size (run.at (suc t) before.node) else run.at (suc t) before.node)) where
   kept : IsKept 0 (streams_by run valid eos) (λ t. run.at t before.node) (λ t. run.at t now.node)

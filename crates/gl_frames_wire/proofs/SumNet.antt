@@ -1,8 +1,6 @@
 -- A register to which comes what comes, and from which goes what leaves, holds the sum of a frame.
-use Rattle.std.proofs.Common.{◌≡◌, ℕ, suc, ◌-◌, ◌%◌, ◌^◌, ◌<◌, List, [], ◌∷◌, ◌++◌, Bool, true, sym, ap, ◌∙◌, subst, arith}
-use Rattle.std.specs.Prelude.{if◌then◌else◌, sum}
-use Rattle.std.proofs.Math.Nat.{zero-mod}
-use Rattle.std.proofs.lemmas.List.{drop_all}
+use Rattle.std.proofs.Common.{◌≡◌, ℕ, suc, ◌^◌, ◌<◌, List, [], ◌∷◌, ◌++◌, Bool, true, sym, ap, ◌∙◌, subst}
+use Rattle.std.specs.Prelude.{if◌then◌else◌}
 use Rattle.gl_values.specs.Totals.{sum_total}
 use Rattle.gl_bits.specs.Words.{difference_of, sum_of}
 use Rattle.gl_net.specs.declared.node.Bus.{Bus}
@@ -11,20 +9,18 @@ use Rattle.gl_net.specs.Net.{Run}
 use Rattle.gl_wire.specs.Wire.{line_at}
 use Rattle.gl_wire.proofs.StageLemmas.{line_first}
 use Rattle.gl_wire_lanes.specs.Keeping.{IsKept}
-use Rattle.gl_wire_lanes.proofs.SingleLemmas.{one_is_single, register_is_kept}
+use Rattle.gl_wire_lanes.specs.Laws.{OneIsSingle}
+use Rattle.gl_wire_lanes.proofs.SingleLemmas.{register_is_kept}
 use Rattle.gl_frames.specs.Frames.{lag_of, last_ones}
-use Rattle.gl_frames.proofs.SumLemmas.{sums_slide}
+use Rattle.gl_frames.specs.Laws.{SumsSlide}
 use Rattle.gl_frames_wire.specs.CountNets.{streams_by}
+use Rattle.gl_frames_wire.proofs.ColumnLemmas.{sum_none}
 use Rattle.gl_frames_wire.proofs.CountNet.{opens_own}
 use Rattle.gl_frames_wire.specs.Since.{Opens, own_ends, rows_here, rows_past}
 use Rattle.gl_frames_wire.proofs.RingLemmas.{one_in}
 use Rattle.gl_frames_wire.proofs.SinceLemmas.{slots_are}
 
-sum_none : (w k : ℕ) → sum_total w (last_ones k []) ≡ 0
-unfolding sum_total
-sum_none w k = ap (λ (xs : List ℕ). sum xs % 2 ^ w) (drop_all (0 - k) [] (omega arith)) ∙ zero-mod (2 ^ w)
-
-module _ (run : Run) (valid eos : Bit) (value lag before now : Bus) (w k : ℕ) (start : run.at 1 before.node ≡ 0)
+module _ (one_is_single : OneIsSingle) (sums_slide : SumsSlide) (run : Run) (valid eos : Bit) (value lag before now : Bus) (w k : ℕ) (start : run.at 1 before.node ≡ 0)
     (next : (t : ℕ) → run.at (suc (suc t)) before.node ≡ (if line_at run eos (suc t) then 0 else run.at (suc t) now.node))
     (slid : (t : ℕ) → run.at (suc t) now.node
     ≡ (if line_at run valid (suc t) then difference_of w (sum_of w (run.at (suc t) before.node) (run.at (suc t) value.node)) (run.at (suc t) lag.node) else run.at (suc t) before.node))

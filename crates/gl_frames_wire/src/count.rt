@@ -9,6 +9,7 @@ use crate::reach::{last_word, size_word, word};
 use gl_bits::Memory;
 use gl_net::{BinaryOp, Bit, Bus, NetBuilder};
 use gl_wire::{note_bus, same};
+use gl_wire_lanes::laws::one_is_single;
 
 // One more where a row comes; behind the last number the size again.
 fn put_wound(net: &mut NetBuilder, valid: Bit, count: Bus, bits: u8) -> Result<Bus, Memory>
@@ -36,6 +37,7 @@ pub fn put_count(net: &mut NetBuilder, valid: Bit, eos: Bit, bits: u8) -> Result
     requires bits { IsPlaceWidth bits }
     ensures { IfOk result (IsCountIn net.old net.new valid eos bits) }
 {
+    one_is_single();
     let zero = word(0, bits + 1);
     let before = net.register(zero.width(), Some(zero))?;
     let now = put_wound(net, valid, before, bits)?;

@@ -1,6 +1,6 @@
 //! Rings of values in a memory: one for streams one after another, or one for each slot of a lane.
 
-ghost use Rattle.std.specs.Prelude.{◌≡◌, ◌+◌, ◌*◌, ◌≤◌, ◌^◌, IfOk};
+ghost use Rattle.std.specs.Prelude.{◌≡◌, ◌+◌, ◌≤◌, IfOk};
 ghost use Rattle.gl_net.specs.Net.{IsBit, IsBus};
 ghost use Rattle.gl_wire_lanes.specs.Shares.{slot_of};
 ghost use Rattle.gl_frames_wire.specs.Reaches.{IsReach};

@@ -8,8 +8,10 @@ ghost use Rattle.gl_frames_wire.specs.SumNets.{IsFrameSumIn, IsSlidIn};
 use crate::lag::put_lag;
 use crate::reach::{Reach, word};
 use gl_bits::Memory;
+use gl_frames::laws::sums_slide;
 use gl_net::{BinaryOp, Bit, Bus, NetBuilder};
 use gl_wire::note_bus;
+use gl_wire_lanes::laws::one_is_single;
 
 // A sum with what comes and without what leaves, where a row comes.
 fn put_slid(
@@ -48,6 +50,8 @@ pub fn put_frame_sum(
     requires value { IsBus net.old value }
     ensures { IfOk result (IsFrameSumIn net.old net.new valid eos reach value) }
 {
+    one_is_single();
+    sums_slide::<u64>();
     let zero = word(0, value.width);
     let lag = put_lag(net, valid, eos, reach, value)?;
     let before = net.register(zero.width(), Some(zero))?;

@@ -39,7 +39,7 @@ returns c = rw c.note_bus.ensures (
           let at_again = next.keeps.runs run at_next in
           let at_fold = behind_now.runs run at_next in
           let at_before = fold.keeps.runs run at_fold in
-          counted run c.args.valid c.args.eos (2 ^ c.args.bits) (pow_pos c.args.bits) b f (before.start run at_before ∙ c.word-zero.ensures.bits)
+          counted c.one_is_single.ensures run c.args.valid c.args.eos (2 ^ c.args.bits) (pow_pos c.args.bits) b f (before.start run at_before ∙ c.word-zero.ensures.bits)
           (λ t.
           drive.value run r t ∙ next.value run at_next (suc t)
           ∙ choose_line run c.args.eos (run.at (suc t) c.in_ok-again.again.node) (run.at (suc t) f.node) t

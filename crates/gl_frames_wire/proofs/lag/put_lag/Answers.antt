@@ -1,4 +1,4 @@
-use Rattle.std.proofs.Common.{◌≡◌, ◌^◌, ap, arith, ◌∙◌, sym}
+use Rattle.std.proofs.Common.{◌^◌, arith, ◌∙◌}
 use Rattle.std.proofs.lemmas.Nat.{pow_pos}
 use Rattle.gl_bits.proofs.Wrapping.{cut_low}
 use Rattle.gl_net.proofs.Determined.{keeps_then}

@@ -1,4 +1,4 @@
-use Rattle.std.proofs.Common.{ap, arith, ◌∙◌, ◌^◌, ◌≤◌, sym, subst}
+use Rattle.std.proofs.Common.{ap, arith, ◌∙◌, sym}
 use Rattle.gl_bits.specs.Words.{difference_of}
 use Rattle.gl_net.proofs.Determined.{keeps_then}
 use Rattle.gl_frames_wire.proofs.RingNet.{before_is}

@@ -55,7 +55,7 @@ returns c = rw c.note_bus.ensures (
           let at_fold = behind_now.runs run at_next in
           let at_before = fold.keeps.runs run at_fold in
           let at_lag = driven.runs run r in
-          summed run c.args.valid c.args.eos value c.in_ok-lag.lag b f value.width reach.back (before.start run at_before ∙ c.word-zero.ensures.bits)
+          summed c.one_is_single.ensures c.sums_slide.ensures.slide run c.args.valid c.args.eos value c.in_ok-lag.lag b f value.width reach.back (before.start run at_before ∙ c.word-zero.ensures.bits)
           (λ t.
           drive.value run r t ∙ next.value run at_next (suc t)
           ∙ choose_line run c.args.eos (run.at (suc t) c.in_ok-again.again.node) (run.at (suc t) f.node) t
