@@ -1,14 +1,16 @@
 -- What is left of a text in a loop.
-use Rattle.std.proofs.Common.{◌≡◌, ℕ, suc, ◌+◌, ◌-◌, ◌<◌, ◌≤◌, true, false, List, [], ◌∷◌, ◌++◌, length, drop, get_or, Option, Some, None, refl, sym, ap, ◌∙◌, append_assoc, add-one, drop-cons, arith, map, le-leb, Vec, Global}
+use Rattle.std.proofs.Common.{◌≡◌, ℕ, zero, suc, ◌+◌, ◌-◌, ◌<◌, ◌≤◌, true, false, List, [], ◌∷◌, ◌++◌, length, drop, get_or, Option, Some, None, refl, sym, ap, ◌∙◌, append_assoc, add-one, drop-cons, arith, map, le-leb, Vec, Global}
 use Rattle.std.specs.Prelude.{codes, unwrap_or, nat_le, ◌&&◌, if◌then◌else◌}
-use Rattle.std.proofs.lemmas.Bool.{lt-leb}
+use Rattle.std.proofs.lemmas.Bool.{lt-leb, lt-ltb}
 use Rattle.std.specs.Option.{option_map_or}
+use Rattle.std.specs.List.{list_all}
+use Rattle.gl_bits.proofs.Bools.{and_parts}
 use Rattle.gl_net.specs.declared.node.Node.{Node}
 use Rattle.gl_net.specs.declared.node.Port.{Port}
 use Rattle.gl_net.specs.Net.{Net}
 use Rattle.gl_verilog_writer.specs.Pieces.{family_text}
 use Rattle.gl_verilog_writer.specs.Comments.{wrapped, byte_text, room_behind, comment_text, last_text, header_from}
-use Rattle.gl_verilog_writer.specs.Labelled.{Scheme, name_in, begins_port, family_from, bytes_of, clean, kept_byte, room_left}
+use Rattle.gl_verilog_writer.specs.Labelled.{Scheme, name_in, begins_port, family_from, bytes_of, clean, is_name_byte, kept_byte, room_left}
 use Rattle.gl_verilog_writer.specs.Printed.{Line, line_text, lines_text, port_text, more_ports_text, head_text, end_text}
 use Rattle.gl_verilog_writer.specs.Design.{with_option, numbered, clock_port, items_of, parts_text, text_by, declared_line, driven_line, shown_line, written_port}
 use Rattle.gl_verilog_writer.specs.Texts.{PutsHead}
@@ -33,6 +35,16 @@ outputs_next names xs at d lt = next (shown_line names) xs at d lt
 -- the bytes of a label from a place on, and those of a comment
 pub clean_next : (room : ℕ) (xs : List ℕ) (at d : ℕ) → at < length xs → clean room (drop at xs) ≡ kept_byte room (get_or xs at d) ++ clean (room_left room (get_or xs at d)) (drop (at + 1) xs)
 clean_next room xs at d lt = rw (drop-cons xs at d lt, add-one) refl
+
+-- a short label of name bytes alone is itself
+pub clean_same : (room : ℕ) (w : List ℕ) → length w ≤ room → list_all is_name_byte w ≡ true → clean room w ≡ w
+clean_same room [] h all = refl
+clean_same zero (b ∷ w) h all = absurd (omega (arith, h))
+clean_same (suc room) (b ∷ w) h all =
+    let p = and_parts (is_name_byte b) (list_all is_name_byte w) all in
+    let some = lt-ltb 0 (suc room) (omega arith) in
+    let s : suc room - 1 ≡ room = omega arith in
+    rw (p.0, some, s) (ap (λ (bs : List ℕ). b ∷ bs) (clean_same room w (omega (arith, h)) p.1))
 
 pub wrapped_next : (front : List ℕ) (room : ℕ) (xs : List ℕ) (at d : ℕ) → at < length xs → wrapped front room (drop at xs) ≡ byte_text front room (get_or xs at d) ++ wrapped front (room_behind room (get_or xs at d)) (drop (at + 1) xs)
 wrapped_next front room xs at d lt = rw (drop-cons xs at d lt, add-one) refl

@@ -1,6 +1,7 @@
 //! What the nets of nodes are called.
 
 ghost use Rattle.std.specs.Prelude.{◌≡◌, ◌++◌, OnOk, IfOk};
+ghost use Rattle.std.specs.List.{list_all};
 ghost use Rattle.gl_verilog_writer.specs.Labelled.{begins_port, family_of, is_name_byte, kept_byte, room_left, clean, label_name, name_at, above_at, scheme_of};
 ghost use Rattle.gl_verilog_writer.specs.Texts.{name_text, above_text, scheme_in};
 
@@ -41,11 +42,25 @@ fn put_name_byte(out: &mut Vec<u8>, room: usize, byte: u8) -> Result<usize, Memo
     Ok(room)
 }
 
-// The letters, digits and _ of a label, at most 64 of them.
+// Whether all bytes are letters, digits and _.
+fn are_name_bytes(bytes: &[u8]) -> bool
+    ensures { result ≡ list_all is_name_byte bytes.now }
+{
+    match bytes.split_first() {
+        Some((byte, rest)) => is_name_byte(*byte) && are_name_bytes(rest),
+        None => true,
+    }
+}
+
+// The letters, digits and _ of a label, at most 64 of them. Most labels are no longer and have no
+// other byte, so they are put whole.
 #[tactic(auto, using(crate::proofs::Loops::loop_steps))]
 fn put_clean(out: &mut Vec<u8>, label: &[u8]) -> Result<(), Memory>
     ensures { OnOk result (out.new.items ≡ out.old.items ++ clean 64 label.now) }
 {
+    if label.len() <= 64 && are_name_bytes(label) {
+        return put(out, label);
+    }
     let mut room = 64;
     for &byte in label {
         room = put_name_byte(out, room, byte)?;
