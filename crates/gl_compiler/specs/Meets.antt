@@ -1,6 +1,6 @@
--- What a compiled text is: a module of the statement's name with the ports of the schema and of the result, every run
--- of which, in any order of events, over any beats that keep the gap and from any start, is right for the statement,
--- and whose overflow line says what has come by each cycle.
+-- What a compiled text is: a module of the statement's name with the ports of the schema and of the result. Every run of
+-- it is right for the statement: in any order of events, over any beats that keep the gap, from any start. Its overflow
+-- line says what has come by each cycle.
 use Rattle.std.specs.Prelude.{◌≡◌, ◌≤◌, ℕ, ◌++◌, Bool, List, codes, length}
 use Rattle.gl_outside.specs.declared.shelf.TheConstants.{TEXT_LIMIT}
 use Rattle.gl_schema.specs.declared.schema.Column.{Column}

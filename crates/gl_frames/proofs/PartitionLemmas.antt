@@ -1,67 +1,19 @@
 -- Frames with PARTITION have each row of the first keys of the whole list, with what is made of its key's rows.
-use Rattle.std.proofs.Common.{◌≡◌, ℕ, zero, suc, ◌+◌, ◌-◌, ◌<◌, ◌≤◌, List, [], ◌∷◌, ◌++◌, Option, Some, None, Bool, true, false, length, length-take, take, drop, take_all, append-nil, append_assoc, refl, sym, ap, ◌∙◌, arith, inl, inr, eq-eqb}
-use Rattle.std.specs.Prelude.{if◌then◌else◌, ◌⊎◌, map, nat_eq, slice_get}
-use Rattle.std.specs.List.{cons_option, filter_map, list_any, range_with_len}
+use Rattle.std.proofs.Common.{◌≡◌, ℕ, zero, suc, ◌+◌, ◌-◌, ◌<◌, ◌≤◌, List, [], ◌∷◌, ◌++◌, Option, Some, None, Bool, true, false, length, take, drop, append-nil, append_assoc, refl, sym, ap, ◌∙◌, arith, eq-eqb}
+use Rattle.std.specs.Prelude.{if◌then◌else◌, nat_eq, slice_get}
+use Rattle.std.specs.List.{cons_option, filter_map, range_with_len}
 use Rattle.std.proofs.lemmas.Bool.{le-leb}
-use Rattle.std.proofs.lemmas.Bool.Decides.{leb_tells}
-use Rattle.std.proofs.lemmas.List.{map-append, take-append-drop, take_more}
+use Rattle.std.proofs.lemmas.List.{take-append-drop, take_more}
 use Rattle.std.proofs.lemmas.List.Elements.{filter-append}
-use Rattle.std.proofs.lemmas.List.Folds.{list_any-append}
 use Rattle.std.proofs.lemmas.Option.{get_or_from_slice_get, slice_get_within}
-use Rattle.gl_values.specs.Lists.{distinct, keys_of, rows_with}
+use Rattle.gl_values.specs.Lists.{rows_with}
 use Rattle.gl_values.specs.Partitions.{has_key}
-use Rattle.gl_bits.proofs.Bools.{eq_turned, neither_left, neither_right, or_left}
-use Rattle.gl_values.proofs.Grouping.{added, first_keys_full, first_keys_room}
-use Rattle.gl_values.proofs.Parting.{any_distinct, first_keys}
+use Rattle.gl_values.proofs.Parting.{has_key-stays, rows_before}
 use Rattle.gl_frames.specs.Frames.{by_key, each_of, if_has_key}
 use Rattle.gl_frames.specs.Partitions.{EachIsPlain, KeysAreKnown, PartitionsArePlain, kept_row}
 use Rattle.gl_frames.proofs.ListLemmas.{lags_plain}
 
--- ---- the first keys, with one row more
-
-keys-push : {A : Type 0} (n : ℕ) (key_of : A → ℕ) (xs : List A) (x : A)
-    → ((first_keys n key_of (xs ++ x ∷ []) ≡ first_keys n key_of xs ++ added (key_of x) (first_keys n key_of xs)) × (length (first_keys n key_of xs) < n))
-    ⊎ (first_keys n key_of (xs ++ x ∷ []) ≡ first_keys n key_of xs)
-keys-push n key_of xs x =
-    let more : first_keys n key_of (xs ++ x ∷ []) ≡ take n (distinct (map key_of xs ++ key_of x ∷ [])) =
-    ap (λ l. take n (distinct l)) (map-append key_of xs (x ∷ [])) in
-    elim (leb_tells (suc (length (first_keys n key_of xs))) n) [
-      | inl t ↦ inl (more ∙ first_keys_room n (map key_of xs) (key_of x) t.1, t.1)
-      | inr t ↦ (let full = t.1 in inr (more ∙ first_keys_full n (map key_of xs) (key_of x) (omega arith)))
-    ]
-
--- a key that is among the first stays there
-has_key-stays : {A : Type 0} (n key : ℕ) (key_of : A → ℕ) (xs : List A) (x : A) → has_key n key_of xs key ≡ true
-    → has_key n key_of (xs ++ x ∷ []) key ≡ true
-has_key-stays n key key_of xs x has = elim (keys-push n key_of xs x) [
-  | inl t ↦ (
-      ap (list_any (nat_eq key)) t.0
-      ∙ list_any-append (nat_eq key) (first_keys n key_of xs) (added (key_of x) (first_keys n key_of xs))
-      ∙ or_left (has_key n key_of xs key) (list_any (nat_eq key) (added (key_of x) (first_keys n key_of xs))) has
-      )
-  | inr e ↦ ap (list_any (nat_eq key)) e ∙ has
-]
-
--- a key of no row has no rows
-rows_of_none : {A : Type 0} (key : ℕ) (key_of : A → ℕ) (xs : List A) → list_any (nat_eq key) (map key_of xs) ≡ false → rows_with key_of xs key ≡ []
-rows_of_none key key_of [] none = refl
-rows_of_none key key_of (x ∷ xs) none =
-    let other : nat_eq (key_of x) key ≡ false =
-    eq_turned (key_of x) key ∙ neither_left (nat_eq key (key_of x)) (list_any (nat_eq key) (map key_of xs)) none in
-    rw other (rows_of_none key key_of xs (neither_right (nat_eq key (key_of x)) (list_any (nat_eq key) (map key_of xs)) none))
-
--- a key that comes among the first with a row had no row before
-rows_before : {A : Type 0} (n key : ℕ) (key_of : A → ℕ) (xs : List A) (x : A) → has_key n key_of xs key ≡ false
-    → has_key n key_of (xs ++ x ∷ []) key ≡ true → rows_with key_of xs key ≡ []
-rows_before n key key_of xs x none has = elim (keys-push n key_of xs x) [
-  | inl t ↦ (
-      let room = t.1 in
-      let few : length (keys_of key_of xs) ≤ n = omega (arith, length-take n (keys_of key_of xs)) in
-      rows_of_none key key_of xs
-      (sym (any_distinct key (map key_of xs)) ∙ ap (list_any (nat_eq key)) (sym (take_all n (keys_of key_of xs) few)) ∙ none)
-      )
-  | inr e ↦ absurd (let same = ap (list_any (nat_eq key)) e in cc)
-]
+-- ---- whether a key is among the first ones
 
 module _ {A : Type 0} (n : ℕ) (key_of : A → ℕ) where
   -- a key that some row has is among the first ones or not, whatever comes behind

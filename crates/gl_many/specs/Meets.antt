@@ -1,6 +1,6 @@
--- What the text of several statements is: one module with the ports of the schema and of each result, every run of
--- which, in any order of events, over any beats that keep the gap and from any start, is right for each statement as if
--- it stood alone, within its own latency and with its own overflow line.
+-- What the text of several statements is: one module with the ports of the schema and of each result. Every run of it is
+-- right for each statement as if it stood alone: in any order of events, over any beats that keep the gap, from any
+-- start. Each result has its own latency and its own overflow line.
 use Rattle.std.specs.Prelude.{◌≡◌, ℕ, ◌+◌, ◌*◌, ◌≤◌, ◌∷◌, ◌++◌, max, List, [], length, map, Bool, codes}
 use Rattle.std.specs.List.{AllByRecursion, flat_map, list_any, sum_by}
 use Rattle.gl_outside.specs.declared.shelf.TheConstants.{TEXT_LIMIT}

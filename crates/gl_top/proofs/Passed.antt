@@ -1,5 +1,5 @@
 -- What passes does not stop a command, where the texts are told.
-use Rattle.std.proofs.Common.{◌≡◌, ◌≢◌, ℕ, List, Result, Ok, refl, sym, subst, ◌∙◌}
+use Rattle.std.proofs.Common.{◌≡◌, ◌≢◌, ℕ, List, Result, Ok, inl, inr, refl, sym, subst, ◌∙◌}
 use Rattle.gl_outside.specs.Told.{Told, Untold}
 use Rattle.gl_vcd.specs.Dumped.{OfLines}
 use Rattle.gl_vcd.specs.Reading.{dump_of}
@@ -24,8 +24,8 @@ use Rattle.gl_verilog.specs.Module.{Module}
 use Rattle.gl_verilog.specs.Text.{HasModule}
 use Rattle.gl_top_forms.specs.declared.command.Command.TheVariants as command
 use Rattle.gl_top_forms.specs.declared.command.Part.TheVariants as part
-use Rattle.gl_top_forms.specs.Forms.{IsCommand, IsLoadOf, IsNamed, IsOfHelp, IsOfRun, name_of}
-use Rattle.gl_top_forms.proofs.Named.{form_of, help_form, help_names_none, load_names_none, many_run_names_queries, named_form, one_query_part, queries_and_no_module, sim_names_no_query, version_names_none}
+use Rattle.gl_top_forms.specs.Forms.{IsCommand, IsForm, IsLoadOf, IsNamed, IsOfHelp, IsOfRun, name_of}
+use Rattle.gl_top_forms.proofs.Named.{form_of, one_command, help_form, help_names_none, load_names_none, many_run_names_queries, named_form, one_query_part, queries_and_no_module, sim_names_no_query, version_names_none}
 use Rattle.gl_top_status.specs.declared.refusal.Refusal.{Refusal}
 use Rattle.gl_top_status.specs.Texts.{HasText, SchemaPasses}
 use Rattle.gl_top_inputs.specs.Below.{LawsBelow}
@@ -33,7 +33,7 @@ use Rattle.gl_top_inputs.specs.Passing.{AsksGap, FilePasses, ModulePasses, OfAll
 use Rattle.gl_top_inputs.specs.Readings.{One, Several}
 use Rattle.gl_top_inputs.proofs.Modules.{module_goes}
 use Rattle.gl_top_inputs.proofs.Texts.{asks_named, asks_schema, run_names_query, sim_names_module, sim_names_tuples}
-use Rattle.gl_top.specs.Verdicts.{AllPass, Helps, IsTelling, IsUndumped, Loads, OfFile, Three, ThreeOfAll, Two, TwoOfAll, Undumps, Versions}
+use Rattle.gl_top.specs.Verdicts.{AllPass, AreFine, Helps, OfItsRun, OfQuery, IsTelling, IsUndumped, Loads, OfFile, Three, ThreeOfAll, Two, TwoOfAll, Undumps, Versions}
 use Rattle.gl_top.proofs.Dumps.{DumpFails, no_dump, undump_names}
 use Rattle.gl_top.proofs.Failing.{Failing, FailsAt, Fine, no_error, not_both, weaker, with_both}
 use Rattle.gl_top.proofs.Stopping.{AtDump, AtFile, AtModule, AtQuery, AtSchema, AtSecond, AtThird, AtTuples, AtWords, ModuleFails, QueryFails, SchemaFails, SecondStops, Stops, ThirdStops, TuplesFail, filed, queries_out, query_out}
@@ -251,3 +251,17 @@ passes_goes laws told words a tells (Loads count is) h = load_goes told words co
 passes_goes laws told words a tells (Undumps bytes d) h = dump_goes told words bytes a tells d h
 passes_goes laws told words a tells (Helps is) h = help_goes told words a is h
 passes_goes laws told words a tells (Versions is) h = version_goes told words a is h
+
+-- what `why` finds nothing against
+no_run_of_query : (words : List (List ℕ)) → IsCommand words command.Why → IsOfRun words → ⊥
+no_run_of_query words is (inl runs) = absurd (let e : command.Why ≡ command.Run = one_command words command.Why command.Run is runs in cc)
+no_run_of_query words is (inr (inl dumps)) = absurd (let e : command.Why ≡ command.Vcd = one_command words command.Why command.Vcd is dumps in cc)
+no_run_of_query words is (inr (inr asks)) = absurd (let e : command.Why ≡ command.WhyRun = one_command words command.Why command.WhyRun is asks in cc)
+
+pub fine_passes : (told : List ℕ → Told) (words : List (List ℕ)) → AreFine told words → AllPass told words
+fine_passes told words (OfQuery is s st p) = Two s st p (no_run_of_query words is)
+fine_passes told words (OfItsRun is s st beats p) = Three s st beats p
+
+pub fine_form : (told : List ℕ → Told) (words : List (List ℕ)) → AreFine told words → IsForm words
+fine_form told words (OfQuery is s st p) = form_of words command.Why is
+fine_form told words (OfItsRun is s st beats p) = form_of words command.WhyRun is

@@ -18,6 +18,10 @@ use Rattle.gl_top_inputs.specs.Passing.{QueriesPass, QueryPasses}
 unfoldable pub version_line : List ℕ
 version_line = codes "glacier 0.2\n"
 
+-- what is written of texts that nothing refuses
+unfoldable pub fine_line : List ℕ
+fine_line = codes "nothing is refused\n"
+
 -- what such a command writes of a statement, and the text that it leaves: the Verilog text, which meets the statement;
 -- the figures that are printed for it and what it costs; or the statement and its plan
 abbrev pub Shows : Command → Schema → Statement → List ℕ → List ℕ → Type 0

@@ -1,5 +1,5 @@
 -- How the program ends: what was written, what was noted, and why.
-use Rattle.std.specs.Prelude.{◌≡◌, ◌≢◌, ℕ, ◌⊎◌, List, []}
+use Rattle.std.specs.Prelude.{◌≡◌, ◌≢◌, ℕ, ◌⊎◌, List, [], ◌++◌}
 use Rattle.gl_figures.specs.declared.Limit.{Limit}
 use Rattle.gl_outside.specs.Counts.{Rose}
 use Rattle.gl_outside.specs.Told.{Told, Untold}
@@ -42,14 +42,15 @@ use Rattle.gl_top_status.specs.declared.refusal.Refusal.TheVariants as refusal
 use Rattle.gl_schema.specs.declared.fault.SchemaFault.{SchemaFault}
 use Rattle.gl_query.specs.declared.fault.QueryFault.{QueryFault}
 use Rattle.gl_tuples.specs.declared.fault.TupleFault.{TupleFault}
-use Rattle.gl_top_forms.specs.declared.command.Command.TheVariants.{ManyRun, Run, Undump, Vcd, Version}
-use Rattle.gl_top_forms.specs.Forms.{IsCommand, IsForm, IsLoadOf, IsNamed, IsOfHelp, IsOfRun, extra_of, name_of, start_of, topic_of}
+use Rattle.gl_top_forms.specs.declared.command.Command.TheVariants.{ManyRun, Run, Undump, Vcd, Version, Why, WhyRun}
+use Rattle.gl_top_forms.specs.Forms.{IsCommand, IsForm, IsLoadOf, IsNamed, IsOfHelp, IsOfRun, IsOfWhy, extra_of, name_of, start_of, topic_of}
 use Rattle.gl_top_forms.specs.Help.{help_text}
 use Rattle.gl_load.specs.Loads.{IsLoad}
 use Rattle.gl_top.specs.Calls.{Call}
-use Rattle.gl_top.specs.Shown.{AreShownOf, IsShownOf, version_line}
+use Rattle.gl_top.specs.Shown.{AreShownOf, IsShownOf, fine_line, version_line}
 use Rattle.gl_top_inputs.specs.Passing.{QueriesPass, QueryPasses, TuplesPass, TuplesPassAll, FilePasses}
 use Rattle.gl_top_inputs.specs.Causes.{HasCause, IsTooLong, IsBadSchema, IsBadQuery, IsOver, IsBadVerilog, IsRefused, AreBadTuples, IsBadDump}
+use Rattle.gl_top_status.specs.Written.{IsTold}
 use Rattle.gl_top_status.specs.Refusals.{Puts, Notes, status_of, note_of, no_end_line, write_line}
 
 -- ---- what was written
@@ -118,13 +119,21 @@ pub record IsUndumped (told : List ℕ → Told) (words : List (List ℕ)) (byte
   pub is : IsCommand words Undump
   pub text : HasText told words part.Dump (λ text. OfLines text (λ lines. bytes ≡ lines))
 
+-- nothing refuses the texts that `why` names: those of a query, or those of its run
+pub data AreFine (told : List ℕ → Told) (words : List (List ℕ)) : Type 0 where
+  OfQuery : (is : IsCommand words Why) (schema : Schema) (statement : Statement)
+      (passes : QueryPasses told words schema statement) → AreFine told words
+  OfItsRun : (is : IsCommand words WhyRun) (schema : Schema) (statement : Statement) (beats : List Beat)
+      (passes : TuplesPass told words schema statement beats) → AreFine told words
+
 -- what is written, and the text that is left: what a command shows of the texts that it names, what is told of a load,
--- how commands are called, or the version
+-- that nothing is refused, how commands are called, or the version
 pub data IsGiven (told : List ℕ → Told) (words : List (List ℕ)) (bytes text : List ℕ) : Type 0 where
   OfTexts : (shown : IsShownOf told words bytes text) → IsGiven told words bytes text
   OfQueries : (shown : AreShownOf told words bytes text) → IsGiven told words bytes text
   OfLoad : (loaded : IsLoaded words bytes text) → IsGiven told words bytes text
   OfDump : (shown : IsUndumped told words bytes) (left : text ≡ []) → IsGiven told words bytes text
+  OfFine : (fine : AreFine told words) (shown : bytes ≡ fine_line) (left : text ≡ []) → IsGiven told words bytes text
   OfHelp : (is : IsOfHelp words) (shown : bytes ≡ help_text (topic_of words)) (left : text ≡ [])
       → IsGiven told words bytes text
   OfVersion : (is : IsCommand words Version) (shown : bytes ≡ version_line) (left : text ≡ [])
@@ -200,6 +209,15 @@ pub record HasRefused (call : Call) : Type 0 where
   pub noted : Notes (status_of refusal) (note_of call.words refusal) call.notes call.status
   pub left : IsNoneOrEmitted call.shelf.old.told call.words call.text
 
+-- `why` was asked, and there was a refusal with its cause; its line was written, with something behind it, or the output
+-- failed behind a front of both, and that was noted
+pub record HasExplained (call : Call) : Type 0 where
+  pub asks : IsOfWhy call.words
+  pub refusal : Refusal
+  pub cause : HasCause call.words call.shelf refusal
+  pub told : IsTold (status_of refusal) (note_of call.words refusal) call.out call.notes call.status
+  pub left : call.text ≡ []
+
 -- one of these is so
 pub data IsAnswer (call : Call) : Type 0 where
   RanWhole : (run : HasRunWhole call) → IsAnswer call
@@ -208,6 +226,7 @@ pub data IsAnswer (call : Call) : Type 0 where
   Wrote : (written : HasWrittenWhole call) → IsAnswer call
   WroteCut : (written : HasWrittenInPart call) → IsAnswer call
   Refused : (refused : HasRefused call) → IsAnswer call
+  Explained : (explained : HasExplained call) → IsAnswer call
 
 -- ---- what each status says
 
@@ -275,11 +294,14 @@ pub data AllPass (told : List ℕ → Told) (words : List (List ℕ)) : Type 0 w
 abbrev pub IsTelling : (List ℕ → Told) → List (List ℕ) → Type 0
 IsTelling told words = (part : Part) → IsNamed words part → told (name_of words part) ≢ Untold
 
--- this is the status, or one that it yields to: the shelf failed, the sink of the notes failed, or memory ran out
+-- this is the status, or one that it yields to: the shelf failed, the sink of the notes failed, that of the output of
+-- `why` failed, or memory ran out
 pub data Yields (own : Status) (call : Call) : Type 0 where
   Same : (same : call.status ≡ own) → Yields own call
   ToRead : (is : call.status ≡ ReadFault) (rose : Rose call.shelf.old.faults call.shelf.new.faults) → Yields own call
   ToWrite : (is : call.status ≡ WriteFault) (rose : Rose call.notes.old.faults call.notes.new.faults) → Yields own call
+  ToOutput : (asks : IsOfWhy call.words) (is : call.status ≡ WriteFault) (rose : Rose call.out.old.faults call.out.new.faults)
+      → Yields own call
   ToMemory : (is : call.status ≡ Memory) → Yields own call
 
 -- words of no form are told as such, or the status is one that this yields to
@@ -292,11 +314,18 @@ TellsFaults call =
     (r : Refusal) → IsTelling call.shelf.old.told call.words → IsRefused call.shelf.old.told call.words r
     → Yields (status_of r) call
 
--- where the words and the texts are refused so, and the status is that of this refusal, its line is what was noted
+-- the line was noted, or `why` wrote it, with something behind it, and nothing was noted
+abbrev pub TellsLine : Call → List ℕ → Type 0
+TellsLine call line =
+    Took call.notes.old call.notes.new line
+    ⊎ (IsOfWhy call.words × ((rest : List ℕ) × Took call.out.old call.out.new (line ++ rest))
+    × Took call.notes.old call.notes.new [])
+
+-- where the words and the texts are refused so, and the status is that of this refusal, its line is told
 abbrev pub TellsRefusal : Call → Type 0
 TellsRefusal call =
     (r : Refusal) → IsTelling call.shelf.old.told call.words → IsRefused call.shelf.old.told call.words r
-    → call.status ≡ status_of r → Took call.notes.old call.notes.new (note_of call.words r)
+    → call.status ≡ status_of r → TellsLine call (note_of call.words r)
 
 -- no count of faults rose
 pub record IsFaultless (call : Call) : Type 0 where

@@ -2,10 +2,11 @@
 
 ghost use Rattle.std.specs.Prelude.{◌≡◌, ◌≢◌, []};
 ghost use Rattle.gl_outside.specs.States.{Took};
-ghost use Rattle.gl_top_forms.specs.Forms.{IsCommand};
+ghost use Rattle.gl_top_forms.specs.Forms.{IsCommand, IsOfWhy};
 ghost use Rattle.gl_top.specs.Calls.{call_of};
 ghost use Rattle.gl_top.specs.Verdicts.{IsAnswer, IsComplete, Says, TellsFaults, TellsForm, TellsRefusal};
 
+use crate::asking::{answer_why, answer_why_run};
 use crate::chain::answer_run;
 use crate::desk::Desk;
 use crate::helping::answer_help;
@@ -55,6 +56,8 @@ fn answer_command<S: Shelf, K: Sink, N: Sink>(
         Command::Many => answer_text::<Many, S, K, N>(alloc, words, desk),
         Command::ManyFigures => answer_figures::<Many, S, K, N>(alloc, words, desk),
         Command::ManyRun => answer_run::<NamedLines, S, K, N>(alloc, words, desk),
+        Command::WhyRun => answer_why_run(alloc, words, desk),
+        Command::Why => answer_why(alloc, words, desk),
         Command::HelpOf => answer_help(alloc, words, desk),
         Command::Help => answer_help(alloc, words, desk),
         Command::DashedHelp => answer_help(alloc, words, desk),
@@ -96,11 +99,14 @@ fn answer<S: Shelf, K: Sink, N: Sink>(
 /// writes the query in its canonical form and its plan. `sim S V T --extra N` writes what the Verilog
 /// text V does over T, from registers and words of 0, with all values in decimal, up to the end, for
 /// which it waits N cycles behind the last beat's; these leave no text.
+/// `why S Q` and `why S Q T` write why `figures` and `run` refuse these texts: the line that they would
+/// note, and what explains it, with their status; and a line where nothing is refused.
 /// Where it ends before its work is done, and where no end came, it writes one line to the notes, and
 /// of words of no form a second line, which names the wrong word.
 ///
 /// The texts are fetched in the order in which they are named, and each is judged before the next is
-/// fetched. With every status but `Done`, `WriteFault` and `NoEnd` nothing is written to the output.
+/// fetched. With every status but `Done`, `WriteFault` and `NoEnd` nothing is written to the output, but by
+/// `why`.
 pub fn run<S: Shelf, K: Sink, N: Sink>(
     alloc: Global,
     words: &Words,
@@ -113,12 +119,14 @@ pub fn run<S: Shelf, K: Sink, N: Sink>(
         (call_of S.state K.state N.state words.now desk.old desk.new result) }
     // What each status says.
     ensures says { Says (call_of S.state K.state N.state words.now desk.old desk.new result) }
-    // With the status of a refusal that holds, what is noted is its line.
+    // With the status of a refusal that holds, what is noted is its line, or, by `why`, what is written
+    // begins with it.
     ensures told { TellsRefusal
         (call_of S.state K.state N.state words.now desk.old desk.new result) }
-    // Nothing is written but by what was asked for.
+    // Nothing is written but by what was asked for; `why` writes of a refusal.
     ensures untouched { result ≢ Status.Done → result ≢ Status.WriteFault
-        → result ≢ Status.NoEnd → Took (K.state desk.old.out) (K.state desk.new.out) [] }
+        → result ≢ Status.NoEnd → (IsOfWhy words.now → ⊥)
+        → Took (K.state desk.old.out) (K.state desk.new.out) [] }
     // Words of no form, and texts that are refused, are told as such, unless something fails first.
     ensures formless { TellsForm
         (call_of S.state K.state N.state words.now desk.old desk.new result) }

@@ -17,7 +17,7 @@ use gl_compiler::Compiled;
 use gl_many::Many;
 use gl_outside::{Shelf, Sink};
 use gl_top_forms::Taken;
-use gl_top_inputs::{figures_text, judge_compile, judge_many, many_figures_text};
+use gl_top_inputs::{KeptTexts, figures_text, judge_compile, judge_many, many_figures_text};
 use gl_top_status::{Refusal, Status, show, tell};
 use std::alloc::Global;
 
@@ -73,7 +73,8 @@ impl Shows for Compiled {
         shelf: &mut S,
         words: &Taken<'_>,
     ) -> Result<Compiled, Refusal> {
-        judge_compile(alloc, shelf, words)
+        let mut kept = KeptTexts::new(alloc);
+        judge_compile(alloc, shelf, words, &mut kept)
     }
 
     fn text(&self) -> &[u8] {

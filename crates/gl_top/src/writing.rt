@@ -10,7 +10,7 @@ use gl_compiler::{Outcome, dump_compiled, run_compiled};
 use gl_many::run_many;
 use gl_outside::{Shelf, Sink};
 use gl_top_forms::Taken;
-use gl_top_inputs::{Job, ManyJob, judge_many_run, judge_run};
+use gl_top_inputs::{Job, KeptTexts, ManyJob, judge_many_run, judge_run};
 use gl_top_status::Refusal;
 use std::alloc::Global;
 
@@ -40,7 +40,8 @@ impl Runs for Lines {
     ghost verilog = { λ lines. lines.job.compiled.text.items };
 
     fn judge<S: Shelf>(alloc: Global, shelf: &mut S, words: &Taken<'_>) -> Result<Lines, Refusal> {
-        let job = judge_run(alloc, shelf, words)?;
+        let mut kept = KeptTexts::new(alloc);
+        let job = judge_run(alloc, shelf, words, &mut kept)?;
         Ok(Lines { job })
     }
 
@@ -62,7 +63,8 @@ impl Runs for Dump {
     ghost verilog = { λ dump. dump.job.compiled.text.items };
 
     fn judge<S: Shelf>(alloc: Global, shelf: &mut S, words: &Taken<'_>) -> Result<Dump, Refusal> {
-        let job = judge_run(alloc, shelf, words)?;
+        let mut kept = KeptTexts::new(alloc);
+        let job = judge_run(alloc, shelf, words, &mut kept)?;
         Ok(Dump { job })
     }
 

@@ -11,8 +11,8 @@ use Rattle.gl_verilog.specs.declared.start.Start.TheVariants.{Zero}
 use Rattle.gl_top_forms.specs.declared.command.Part.{Part}
 use Rattle.gl_top_forms.specs.declared.command.Part.TheVariants.{Schema, Query, Module, Tuples, Dump, Queries}
 use Rattle.gl_top_forms.specs.declared.command.Command.{Command}
-use Rattle.gl_top_forms.specs.declared.command.Command.TheVariants.{Compile, Figures, Explain, Run, Sim, Load, Vcd, Undump, Many, ManyFigures, ManyRun, HelpOf, Help, DashedHelp, Version}
-use Rattle.gl_top_forms.specs.Forms.{IsCommand, IsForm, IsLoadOf, IsNamed, IsOfHelp, IsOfRun, command_of, commands, extra_in, extra_of, is_command, is_dashed, load_in, load_of, many_names, name_of, names_in, names_of, option_word, parts_of, place_of, start_in, start_of, values_of}
+use Rattle.gl_top_forms.specs.declared.command.Command.TheVariants.{Compile, Figures, Explain, Run, Sim, Load, Vcd, Undump, Many, ManyFigures, ManyRun, WhyRun, Why, HelpOf, Help, DashedHelp, Version}
+use Rattle.gl_top_forms.specs.Forms.{IsCommand, IsForm, IsLoadOf, IsNamed, IsOfHelp, IsOfRun, IsOfWhy, command_of, commands, extra_in, extra_of, is_command, is_dashed, load_in, load_of, many_names, name_of, names_in, names_of, option_word, parts_of, place_of, start_in, start_of, takes_values, values_of}
 
 -- ---- a name is one of the words
 
@@ -138,6 +138,8 @@ place_within Undump p h = subst (λ (x : Part). place_of x < 1) (dump_alone p h)
 place_within Many p h = place_two p Queries (omega arith) h
 place_within ManyFigures p h = place_two p Queries (omega arith) h
 place_within ManyRun p h = place_three p
+place_within WhyRun p h = place_three p
+place_within Why p h = place_two p Query (omega arith) h
 place_within HelpOf p h = absurd (omega (arith, h.1))
 place_within Help p h = absurd (omega (arith, h.1))
 place_within DashedHelp p h = absurd (omega (arith, h.1))
@@ -164,6 +166,8 @@ first_part Undump p b h = let no : is_beside Dump ≡ true = subst (λ (x : Part
 first_part Many p b h = (0, omega arith, refl)
 first_part ManyFigures p b h = (0, omega arith, refl)
 first_part ManyRun p b h = (0, omega arith, refl)
+first_part WhyRun p b h = (0, omega arith, refl)
+first_part Why p b h = (0, omega arith, refl)
 first_part HelpOf p b h = absurd (omega (arith, h.1))
 first_part Help p b h = absurd (omega (arith, h.1))
 first_part DashedHelp p b h = absurd (omega (arith, h.1))
@@ -192,7 +196,17 @@ help_names_none words p (inl is) h = let c = parts_are words HelpOf p is h in om
 help_names_none words p (inr (inl is)) h = let c = parts_are words Help p is h in omega (arith, c.1)
 help_names_none words p (inr (inr is)) h = let c = parts_are words DashedHelp p is h in omega (arith, c.1)
 
--- which are of a form
+-- words that ask why name a query
+pub why_names_query : (words : List (List ℕ)) → IsOfWhy words → IsNamed words Query
+why_names_query words (inl is) = record { command = Why; is = is; names = (1, omega arith, refl) }
+why_names_query words (inr is) = record { command = WhyRun; is = is; names = (1, omega arith, refl) }
+
+-- they are of no other command
+pub no_why : (words : List (List ℕ)) (c : Command) → IsCommand words c → (c ≡ Why → ⊥) → (c ≡ WhyRun → ⊥) → IsOfWhy words → ⊥
+no_why words c is one run (inl asks) = one (one_command words c Why is asks)
+no_why words c is one run (inr asks) = run (one_command words c WhyRun is asks)
+
+-- the words of help are of a form
 pub help_form : (words : List (List ℕ)) → IsOfHelp words → IsForm words
 help_form words (inl is) = form_of words HelpOf is
 help_form words (inr (inl is)) = form_of words Help is
@@ -223,6 +237,8 @@ undumps Undump h = refl
 undumps Many h = let e = part_in is_beside (parts_of Many) Dump refl h in absurd cc
 undumps ManyFigures h = let e = part_in is_beside (parts_of ManyFigures) Dump refl h in absurd cc
 undumps ManyRun h = let e = part_in is_beside (parts_of ManyRun) Dump refl h in absurd cc
+undumps WhyRun h = let e = part_in is_beside (parts_of WhyRun) Dump refl h in absurd cc
+undumps Why h = let e = part_in is_beside (parts_of Why) Dump refl h in absurd cc
 undumps HelpOf h = absurd (omega (arith, h.1))
 undumps Help h = absurd (omega (arith, h.1))
 undumps DashedHelp h = absurd (omega (arith, h.1))
@@ -262,6 +278,8 @@ beside_queries Undump h = let e = part_in is_other (parts_of Undump) Queries ref
 beside_queries Many h = refl
 beside_queries ManyFigures h = refl
 beside_queries ManyRun h = refl
+beside_queries WhyRun h = let e = part_in is_other (parts_of WhyRun) Queries refl h in absurd cc
+beside_queries Why h = let e = part_in is_other (parts_of Why) Queries refl h in absurd cc
 beside_queries HelpOf h = absurd (omega (arith, h.1))
 beside_queries Help h = absurd (omega (arith, h.1))
 beside_queries DashedHelp h = absurd (omega (arith, h.1))
@@ -293,7 +311,8 @@ many_run_names_tuples words is = record { command = ManyRun; is = is; names = (2
 -- its words are none of one query, and none of `sim`
 pub many_run_is_no_run : (words : List (List ℕ)) → IsCommand words ManyRun → IsOfRun words → ⊥
 many_run_is_no_run words is (inl runs) = absurd (let e : ManyRun ≡ Run = one_command words ManyRun Run is runs in cc)
-many_run_is_no_run words is (inr dumps) = absurd (let e : ManyRun ≡ Vcd = one_command words ManyRun Vcd is dumps in cc)
+many_run_is_no_run words is (inr (inr asks)) = absurd (let e : ManyRun ≡ WhyRun = one_command words ManyRun WhyRun is asks in cc)
+many_run_is_no_run words is (inr (inl dumps)) = absurd (let e : ManyRun ≡ Vcd = one_command words ManyRun Vcd is dumps in cc)
 
 pub many_run_is_no_sim : (words : List (List ℕ)) → IsCommand words ManyRun → IsCommand words Sim → ⊥
 many_run_is_no_sim words is sims = absurd (let e : ManyRun ≡ Sim = one_command words ManyRun Sim is sims in cc)
@@ -321,6 +340,14 @@ vcd_takes : (words : List (List ℕ)) → is_command words Vcd ≡ true → is_s
 unfolding is_command
 vcd_takes words is = and_right _ _ is
 
+no_start : (vs : List (Option (List ℕ))) → takes_values WhyRun vs ≡ true → is_some (start_in vs) ≡ true
+no_start [] h = refl
+no_start (v ∷ vs) h = absurd cc
+
+why_takes : (words : List (List ℕ)) → is_command words WhyRun ≡ true → is_some (start_in (values_of words)) ≡ true
+unfolding is_command
+why_takes words is = no_start (values_of words) (and_right _ _ is)
+
 many_run_takes : (words : List (List ℕ)) → is_command words ManyRun ≡ true → is_some (start_in (values_of words)) ≡ true
 unfolding is_command
 many_run_takes words is = and_right _ _ is
@@ -333,7 +360,8 @@ start_is words takes =
 
 pub start_given : (words : List (List ℕ)) → IsOfRun words → start_in (values_of words) ≡ Some (start_of words)
 start_given words (inl is) = start_is words (run_takes words (is_one words Run is))
-start_given words (inr is) = start_is words (vcd_takes words (is_one words Vcd is))
+start_given words (inr (inl is)) = start_is words (vcd_takes words (is_one words Vcd is))
+start_given words (inr (inr is)) = start_is words (why_takes words (is_one words WhyRun is))
 
 pub many_start_given : (words : List (List ℕ)) → IsCommand words ManyRun → start_in (values_of words) ≡ Some (start_of words)
 many_start_given words is = start_is words (many_run_takes words (is_one words ManyRun is))

@@ -6,7 +6,7 @@ use Rattle.gl_verilog.specs.declared.start.Start.{Start}
 use Rattle.gl_verilog.specs.declared.start.Start.TheVariants.{Zero, Drawn}
 use Rattle.gl_tuples.specs.Values.{number_of}
 use Rattle.gl_top_forms.specs.declared.command.Command.{Command}
-use Rattle.gl_top_forms.specs.declared.command.Command.TheVariants.{Compile, Figures, Explain, Run, Sim, Load, Vcd, Undump, Many, ManyFigures, ManyRun, HelpOf, Help, DashedHelp, Version}
+use Rattle.gl_top_forms.specs.declared.command.Command.TheVariants.{Compile, Figures, Explain, Run, Sim, Load, Vcd, Undump, Many, ManyFigures, ManyRun, WhyRun, Why, HelpOf, Help, DashedHelp, Version}
 use Rattle.gl_top_forms.specs.declared.command.Part.{Part}
 use Rattle.gl_top_forms.specs.declared.command.Part.TheVariants.{Schema, Query, Module, Tuples, Dump, Queries}
 
@@ -132,6 +132,8 @@ word_of Undump = codes "undump"
 word_of Many = codes "many"
 word_of ManyFigures = codes "manyfigures"
 word_of ManyRun = codes "manyrun"
+word_of WhyRun = codes "why"
+word_of Why = codes "why"
 word_of HelpOf = codes "help"
 word_of Help = codes "help"
 word_of DashedHelp = codes "--help"
@@ -140,8 +142,8 @@ word_of Version = codes "--version"
 -- all commands, in the order in which a form is looked for
 abbrev pub commands : List Command
 commands =
-    Compile ∷ Figures ∷ Explain ∷ Run ∷ Sim ∷ Load ∷ Vcd ∷ Undump ∷ Many ∷ ManyFigures ∷ ManyRun ∷ HelpOf ∷ Help ∷ DashedHelp
-    ∷ Version ∷ []
+    Compile ∷ Figures ∷ Explain ∷ Run ∷ Sim ∷ Load ∷ Vcd ∷ Undump ∷ Many ∷ ManyFigures ∷ ManyRun ∷ WhyRun ∷ Why
+    ∷ HelpOf ∷ Help ∷ DashedHelp ∷ Version ∷ []
 
 -- the first of them whose word this is
 unfoldable pub command_named : List ℕ → Option Command
@@ -169,6 +171,8 @@ many_names Undump = 1
 many_names Many = 2
 many_names ManyFigures = 2
 many_names ManyRun = 3
+many_names WhyRun = 3
+many_names Why = 2
 many_names HelpOf = 1
 many_names Help = 0
 many_names DashedHelp = 0
@@ -203,9 +207,13 @@ command_of words = find (is_command words) commands
 abbrev pub IsCommand : List (List ℕ) → Command → Type 0
 IsCommand words c = command_of words ≡ Some c
 
--- the words run the text of a query over a tuple file: to its lines, or to a dump
+-- the words run the text of a query over a tuple file, to its lines or to a dump, or ask why that is refused
 abbrev pub IsOfRun : List (List ℕ) → Type 0
-IsOfRun words = IsCommand words Run ⊎ IsCommand words Vcd
+IsOfRun words = IsCommand words Run ⊎ (IsCommand words Vcd ⊎ IsCommand words WhyRun)
+
+-- the words ask why texts are refused: those of a query, or those of its run
+abbrev pub IsOfWhy : List (List ℕ) → Type 0
+IsOfWhy words = IsCommand words Why ⊎ IsCommand words WhyRun
 
 -- the words ask for help: on one command, or on all
 abbrev pub IsOfHelp : List (List ℕ) → Type 0
@@ -235,6 +243,8 @@ parts_of Undump = Dump ∷ []
 parts_of Many = Schema ∷ Queries ∷ []
 parts_of ManyFigures = Schema ∷ Queries ∷ []
 parts_of ManyRun = Schema ∷ Queries ∷ Tuples ∷ []
+parts_of WhyRun = Schema ∷ Query ∷ Tuples ∷ []
+parts_of Why = Schema ∷ Query ∷ []
 parts_of HelpOf = []
 parts_of Help = []
 parts_of DashedHelp = []

@@ -2,7 +2,7 @@
 use Rattle.std.specs.Prelude.{ℕ, List, [], ◌∷◌, ◌++◌, codes, Option, Some, None}
 use Rattle.std.specs.List.{flat_map}
 use Rattle.gl_top_forms.specs.declared.command.Command.{Command}
-use Rattle.gl_top_forms.specs.declared.command.Command.TheVariants.{Compile, Figures, Explain, Run, Sim, Load, Vcd, Undump, Many, ManyFigures, ManyRun, HelpOf, Help, DashedHelp, Version}
+use Rattle.gl_top_forms.specs.declared.command.Command.TheVariants.{Compile, Figures, Explain, Run, Sim, Load, Vcd, Undump, Many, ManyFigures, ManyRun, WhyRun, Why, HelpOf, Help, DashedHelp, Version}
 
 -- the two lines of a command
 unfoldable pub help_lines : Command → List ℕ
@@ -17,6 +17,8 @@ help_lines Undump = codes "undump D\n    the lines of the result that the dump D
 help_lines Many = codes "many S Q\n    one Verilog text for up to eight queries, parted by ;\n"
 help_lines ManyFigures = codes "manyfigures S Q\n    the latency of each of these queries, and the gap of all\n"
 help_lines ManyRun = codes "manyrun S Q T [--start N]\n    what that text does over T, each line with its query's name\n"
+help_lines WhyRun = codes "why S Q [T]\n    why these texts are refused, where, and what to write in its place\n"
+help_lines Why = codes "why S Q [T]\n    why these texts are refused, where, and what to write in its place\n"
 help_lines HelpOf = codes "help [COMMAND]\n    these lines, or those of one command\n"
 help_lines Help = codes "help\n    these lines\n"
 help_lines DashedHelp = codes "--help\n    these lines\n"
@@ -30,7 +32,8 @@ letter_line = codes "S is a schema, Q a query, T a tuple file, V a Verilog text,
 abbrev pub told_commands : Option Command → List Command
 told_commands (Some c) = c ∷ []
 told_commands None =
-    Compile ∷ Figures ∷ Explain ∷ Run ∷ Sim ∷ Load ∷ Vcd ∷ Undump ∷ Many ∷ ManyFigures ∷ ManyRun ∷ HelpOf ∷ Version ∷ []
+    Compile ∷ Figures ∷ Explain ∷ Run ∷ Sim ∷ Load ∷ Vcd ∷ Undump ∷ Many ∷ ManyFigures ∷ ManyRun ∷ WhyRun
+    ∷ HelpOf ∷ Version ∷ []
 
 -- the lines of the command that help is asked on, or of all
 unfoldable pub help_text : Option Command → List ℕ

@@ -3,7 +3,7 @@ use Rattle.std.specs.Prelude.{◌≡◌, ℕ, List, [], ◌∷◌, codes, Some, 
 use Rattle.gl_verilog.specs.declared.start.Start.{Start}
 use Rattle.gl_verilog.specs.declared.start.Start.TheVariants as from
 use Rattle.gl_top_forms.specs.declared.command.Command.{Command}
-use Rattle.gl_top_forms.specs.declared.command.Command.TheVariants.{Compile, Figures, Explain, Run, Sim, Load, Vcd, Undump, Many, ManyFigures, ManyRun, HelpOf, Help, DashedHelp, Version}
+use Rattle.gl_top_forms.specs.declared.command.Command.TheVariants.{Compile, Figures, Explain, Run, Sim, Load, Vcd, Undump, Many, ManyFigures, ManyRun, WhyRun, Why, HelpOf, Help, DashedHelp, Version}
 use Rattle.gl_top_forms.specs.Forms.{command_of, extra_of, load_of, names_of, start_of, topic_of}
 
 -- the name of a schema's text
@@ -131,6 +131,11 @@ pub record WorkedForms : Type 0 where
   pub many_runs_from : RunsManyFrom (many_run (s ∷ codes "--start" ∷ codes "5" ∷ q ∷ t ∷ [])) (from.Drawn 5)
   pub many_runs_too_few : IsFormless (many_run (s ∷ q ∷ []))
   pub many_runs_no_extra : IsFormless (many_run (s ∷ q ∷ t ∷ codes "--extra=5" ∷ []))
+  pub why : Names (codes "why" ∷ s ∷ q ∷ []) Why (s ∷ q ∷ [])
+  pub why_run : Names (codes "why" ∷ s ∷ q ∷ t ∷ []) WhyRun (s ∷ q ∷ t ∷ [])
+  pub why_too_few : IsFormless (codes "why" ∷ s ∷ [])
+  pub why_too_many : IsFormless (codes "why" ∷ s ∷ q ∷ t ∷ v ∷ [])
+  pub why_no_start : IsFormless (codes "why" ∷ s ∷ q ∷ t ∷ codes "--start=5" ∷ [])
   pub load_some : Loads (load (codes "1000" ∷ [])) 1000
   pub load_one : Loads (load (codes "1" ∷ [])) 1
   pub load_most : Loads (load (codes "1000000" ∷ [])) 1000000

@@ -1,5 +1,5 @@
 -- Which word of a command line of no form is wrong, and the line that tells it.
-use Rattle.std.specs.Prelude.{ℕ, Bool, true, false, not, ◌==◌, List, [], ◌∷◌, ◌++◌, length, drop, codes, bytes_eq, slice_get, unwrap_or, Option, Some, None, is_some, if◌then◌else◌}
+use Rattle.std.specs.Prelude.{ℕ, Bool, true, false, not, ◌&&◌, ◌==◌, List, [], ◌∷◌, ◌++◌, length, drop, codes, bytes_eq, slice_get, unwrap_or, Option, Some, None, is_some, if◌then◌else◌}
 use Rattle.std.specs.List.{starts_with}
 use Rattle.gl_top_forms.specs.declared.command.Command.{Command}
 use Rattle.gl_top_forms.specs.declared.command.Command.TheVariants.{Run, Sim, Load, Vcd, ManyRun}
@@ -41,14 +41,15 @@ wrong_value (None ∷ vs) = NoValue
 wrong_value (Some v ∷ []) = BadValue
 wrong_value (Some v ∷ v' ∷ vs) = GivenTwice
 
--- what is wrong behind a command: its options' words come first, then how many names there are, the names, and the values
+-- what is wrong behind a command: words that are no options come first, then how many names there are, the names, and
+-- the values
 abbrev pub wrong_behind : List (List ℕ) → Command → Wrong
 wrong_behind words c =
     if is_some (strange_of words) then StrangeOption
+    else if not (has_option c) && is_some (slice_get (values_of words) 0) then NoOption
     else if is_some (slice_get (names_of words) (many_names c)) then NameTooMany
     else if not (length (names_of words) == many_names c) then NamesTooFew
     else if not (takes_names c (names_of words)) then wrong_name c
-    else if not (has_option c) then NoOption
     else wrong_value (values_of words)
 
 -- what is wrong with the words, by the command that their first word names

@@ -28,6 +28,10 @@ pub enum Command {
     ManyFigures,
     /// `manyrun S Q T [--start N]`: what the Verilog text of several queries does over a tuple file.
     ManyRun,
+    /// `why S Q T`: why `run` refuses these texts, in sentences.
+    WhyRun,
+    /// `why S Q`: why `figures` refuses these texts, in sentences.
+    Why,
     /// `help COMMAND`: how this command is called, and what it writes.
     HelpOf,
     /// `help`: how every command is called.
@@ -39,7 +43,7 @@ pub enum Command {
 }
 
 /// All commands, in the order in which a form is looked for.
-pub(crate) const COMMANDS: [Command; 15] = [
+pub(crate) const COMMANDS: [Command; 17] = [
     Command::Compile,
     Command::Figures,
     Command::Explain,
@@ -51,6 +55,8 @@ pub(crate) const COMMANDS: [Command; 15] = [
     Command::Many,
     Command::ManyFigures,
     Command::ManyRun,
+    Command::WhyRun,
+    Command::Why,
     Command::HelpOf,
     Command::Help,
     Command::DashedHelp,
@@ -74,6 +80,7 @@ impl Command {
             Command::Many => "many",
             Command::ManyFigures => "manyfigures",
             Command::ManyRun => "manyrun",
+            Command::WhyRun | Command::Why => "why",
             Command::HelpOf | Command::Help => "help",
             Command::DashedHelp => "--help",
             Command::Version => "--version",
@@ -89,8 +96,9 @@ impl Command {
             | Command::Figures
             | Command::Explain
             | Command::Many
-            | Command::ManyFigures => 2,
-            Command::Run | Command::Sim | Command::Vcd | Command::ManyRun => 3,
+            | Command::ManyFigures
+            | Command::Why => 2,
+            Command::Run | Command::Sim | Command::Vcd | Command::ManyRun | Command::WhyRun => 3,
             Command::Load | Command::Undump | Command::HelpOf => 1,
             Command::Help | Command::DashedHelp | Command::Version => 0,
         }

@@ -9,7 +9,7 @@ use gl_bits::Memory;
 use std::alloc::Global;
 
 // The commands that help tells of where it is asked on none.
-const TOLD: [Command; 13] = [
+const TOLD: [Command; 14] = [
     Command::Compile,
     Command::Figures,
     Command::Explain,
@@ -21,6 +21,7 @@ const TOLD: [Command; 13] = [
     Command::Many,
     Command::ManyFigures,
     Command::ManyRun,
+    Command::WhyRun,
     Command::HelpOf,
     Command::Version,
 ];
@@ -59,6 +60,9 @@ fn help_lines(command: Command) -> &'static [u8]
         }
         Command::ManyRun => {
             b"manyrun S Q T [--start N]\n    what that text does over T, each line with its query's name\n"
+        }
+        Command::WhyRun | Command::Why => {
+            b"why S Q [T]\n    why these texts are refused, where, and what to write in its place\n"
         }
         Command::HelpOf => b"help [COMMAND]\n    these lines, or those of one command\n",
         Command::Help => b"help\n    these lines\n",

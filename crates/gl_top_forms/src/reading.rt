@@ -323,6 +323,8 @@ fn takes_values(words: &Words, command: Command) -> bool
         | Command::Undump
         | Command::Many
         | Command::ManyFigures
+        | Command::WhyRun
+        | Command::Why
         | Command::HelpOf
         | Command::Help
         | Command::DashedHelp
@@ -347,6 +349,8 @@ pub(crate) fn takes_names(words: &Words, command: Command) -> bool
         | Command::Many
         | Command::ManyFigures
         | Command::ManyRun
+        | Command::WhyRun
+        | Command::Why
         | Command::Help
         | Command::DashedHelp
         | Command::Version => true,

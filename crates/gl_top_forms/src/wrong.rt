@@ -130,6 +130,9 @@ fn wrong_behind(words: &Words, command: Command) -> Wrong
     if strange_of(words).is_some() {
         return Wrong::StrangeOption;
     }
+    if !has_option(command) && value_at(words, 0).is_some() {
+        return Wrong::NoOption;
+    }
     if has_name(words, command.names()) {
         return Wrong::NameTooMany;
     }
@@ -138,9 +141,6 @@ fn wrong_behind(words: &Words, command: Command) -> Wrong
     }
     if !takes_names(words, command) {
         return wrong_name(command);
-    }
-    if !has_option(command) {
-        return Wrong::NoOption;
     }
     wrong_value(words)
 }

@@ -30,7 +30,7 @@ use Rattle.gl_many.specs.Queries.{AreQueries, AreRefused}
 use Rattle.gl_top_forms.specs.declared.command.Part.{Part}
 use Rattle.gl_top_forms.specs.declared.command.Part.TheVariants as part
 use Rattle.gl_top_forms.specs.declared.command.Command.{Command}
-use Rattle.gl_top_forms.specs.declared.command.Command.TheVariants.{ManyRun, Run, Sim, Vcd}
+use Rattle.gl_top_forms.specs.declared.command.Command.TheVariants.{ManyRun, Run, Sim, Vcd, WhyRun}
 use Rattle.gl_top_forms.specs.Forms.{IsCommand, IsForm, IsNamed, IsOfRun, command_of}
 use Rattle.gl_top_forms.proofs.Named.{many_run_names_tuples}
 use Rattle.gl_top_status.specs.declared.refusal.Refusal.{Refusal}
@@ -45,11 +45,13 @@ use Rattle.gl_top_inputs.specs.Causes.{OfRun, OfRunAll, OfSim, PassBeforeTuples,
 -- the texts of a command that its words name
 pub run_names_query : (words : List (List ℕ)) → IsOfRun words → IsNamed words part.Query
 run_names_query words (inl is) = record { command = Run; is = is; names = (1, omega arith, refl) }
-run_names_query words (inr is) = record { command = Vcd; is = is; names = (1, omega arith, refl) }
+run_names_query words (inr (inr is)) = record { command = WhyRun; is = is; names = (1, omega arith, refl) }
+run_names_query words (inr (inl is)) = record { command = Vcd; is = is; names = (1, omega arith, refl) }
 
 pub run_names_tuples : (words : List (List ℕ)) → IsOfRun words → IsNamed words part.Tuples
 run_names_tuples words (inl is) = record { command = Run; is = is; names = (2, omega arith, refl) }
-run_names_tuples words (inr is) = record { command = Vcd; is = is; names = (2, omega arith, refl) }
+run_names_tuples words (inr (inr is)) = record { command = WhyRun; is = is; names = (2, omega arith, refl) }
+run_names_tuples words (inr (inl is)) = record { command = Vcd; is = is; names = (2, omega arith, refl) }
 
 pub sim_names_module : (words : List (List ℕ)) → IsCommand words Sim → IsNamed words part.Module
 sim_names_module words is = record { command = Sim; is = is; names = (1, omega arith, refl) }

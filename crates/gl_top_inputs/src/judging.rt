@@ -16,7 +16,7 @@ use gl_compiler::{CompileFault, Compiled, compile_query};
 use gl_outside::Shelf;
 use gl_schema::Schema;
 use gl_top_forms::{Part, Taken};
-use gl_top_status::{Refusal, fetch, fetch_schema};
+use gl_top_status::{Refusal, fetch, keep_schema};
 use gl_tuple_reader::read_tuples;
 use gl_tuples::{Beats, TupleFault};
 use std::alloc::Global;
@@ -28,6 +28,31 @@ pub struct Job {
     pub compiled: Compiled,
     /// The beats.
     pub beats: Beats,
+}
+
+/// The texts that were fetched, and the gap that their beats are to keep: none before they were.
+#[derive(Drop)]
+pub struct KeptTexts {
+    /// The text of the schema.
+    pub schema: Vec<u8>,
+    /// The text of the query.
+    pub query: Vec<u8>,
+    /// The tuple file.
+    pub tuples: Vec<u8>,
+    /// The gap of the query.
+    pub gap: u32,
+}
+
+impl KeptTexts {
+    /// No text.
+    pub fn new(alloc: Global) -> KeptTexts {
+        KeptTexts {
+            schema: Vec::new(alloc),
+            query: Vec::new(alloc),
+            tuples: Vec::new(alloc),
+            gap: 0,
+        }
+    }
 }
 
 // Why a query is not compiled, as a refusal. (A `From` would stand in gl_top_status, which is to stand
@@ -43,12 +68,13 @@ pub(crate) fn compile_refusal(fault: CompileFault) -> Refusal
     }
 }
 
-// Reads and judges the query.
+// Reads and judges the query, and keeps its text.
 fn judge_query<S: Shelf>(
     alloc: Global,
     shelf: &mut S,
     words: &Taken<'_>,
     schema: Schema,
+    kept: &mut Vec<u8>,
 ) -> Result<Compiled, Refusal>
     requires named { IsNamed words.now Part.Query }
     requires passes { SchemaPasses (S.state shelf.old).told words.now schema }
@@ -61,8 +87,14 @@ fn judge_query<S: Shelf>(
 {
     let text = fetch(alloc, shelf, words, Part::Query)?;
     match compile_query(alloc, schema, &text) {
-        Ok(compiled) => Ok(compiled),
-        Err(fault) => Err(compile_refusal(fault)),
+        Ok(compiled) => {
+            *kept = text;
+            Ok(compiled)
+        }
+        Err(fault) => {
+            *kept = text;
+            Err(compile_refusal(fault))
+        }
     }
 }
 
@@ -78,13 +110,14 @@ fn beats_of(alloc: Global, schema: &Schema, gap: u32, text: &[u8]) -> Result<Bea
     Ok(beats)
 }
 
-// Reads and judges the tuple file, whose beats are to keep this gap.
+// Reads and judges the tuple file, whose beats are to keep this gap, and keeps its text.
 pub(crate) fn judge_tuples<S: Shelf>(
     alloc: Global,
     shelf: &mut S,
     words: &Taken<'_>,
     schema: &Schema,
     gap: u32,
+    kept: &mut Vec<u8>,
 ) -> Result<Beats, Refusal>
     requires asks { AsksGap (S.state shelf.old).told words.now schema.now gap }
     requires names { (S.state shelf.old).names ≡ words.now }
@@ -95,7 +128,16 @@ pub(crate) fn judge_tuples<S: Shelf>(
     ensures leaves { Leaves words.now (S.state shelf.old) (S.state shelf.new) result }
 {
     let text = fetch(alloc, shelf, words, Part::Tuples)?;
-    Ok(beats_of(alloc, schema, gap, &text)?)
+    match beats_of(alloc, schema, gap, &text) {
+        Ok(beats) => {
+            *kept = text;
+            Ok(beats)
+        }
+        Err(fault) => {
+            *kept = text;
+            Err(Refusal::from(fault))
+        }
+    }
 }
 
 // Judges the tuple file, behind the schema and the query.
@@ -104,6 +146,7 @@ fn judge_file<S: Shelf>(
     shelf: &mut S,
     words: &Taken<'_>,
     compiled: Compiled,
+    kept: &mut KeptTexts,
 ) -> Result<Job, Refusal>
     requires runs { IsOfRun words.now }
     requires passes { let told = (S.state shelf.old).told in
@@ -113,12 +156,15 @@ fn judge_file<S: Shelf>(
     ensures ready { IfOk result (λ job. IsReady (S.state shelf.old).told words.now job) }
     ensures leaves { Leaves words.now (S.state shelf.old) (S.state shelf.new) result }
 {
+    let gap = compiled.printed().gap;
+    kept.gap = gap;
     let beats = judge_tuples(
         alloc,
         shelf,
         words,
         compiled.schema(),
-        compiled.printed().gap,
+        gap,
+        &mut kept.tuples,
     )?;
     Ok(Job { compiled, beats })
 }
@@ -129,6 +175,7 @@ fn judge_rest<S: Shelf>(
     shelf: &mut S,
     words: &Taken<'_>,
     schema: Schema,
+    kept: &mut KeptTexts,
 ) -> Result<Job, Refusal>
     requires runs { IsOfRun words.now }
     requires passes { SchemaPasses (S.state shelf.old).told words.now schema }
@@ -136,26 +183,33 @@ fn judge_rest<S: Shelf>(
     ensures ready { IfOk result (λ job. IsReady (S.state shelf.old).told words.now job) }
     ensures leaves { Leaves words.now (S.state shelf.old) (S.state shelf.new) result }
 {
-    let compiled = judge_query(alloc, shelf, words, schema)?;
-    judge_file(alloc, shelf, words, compiled)
+    let compiled = judge_query(alloc, shelf, words, schema, &mut kept.query)?;
+    judge_file(alloc, shelf, words, compiled, kept)
 }
 
-/// Judges the three texts of `run S Q T` and of `vcd S Q T`.
-pub fn judge_run<S: Shelf>(alloc: Global, shelf: &mut S, words: &Taken<'_>) -> Result<Job, Refusal>
+/// Judges the three texts of `run S Q T`, of `vcd S Q T` and of `why S Q T`, and keeps those that were
+/// fetched.
+pub fn judge_run<S: Shelf>(
+    alloc: Global,
+    shelf: &mut S,
+    words: &Taken<'_>,
+    kept: &mut KeptTexts,
+) -> Result<Job, Refusal>
     requires runs { IsOfRun words.now }
     requires names { (S.state shelf.old).names ≡ words.now }
     ensures ready { IfOk result (λ job. IsReady (S.state shelf.old).told words.now job) }
     ensures leaves { Leaves words.now (S.state shelf.old) (S.state shelf.new) result }
 {
-    let schema = fetch_schema(alloc, shelf, words)?;
-    judge_rest(alloc, shelf, words, schema)
+    let schema = keep_schema(alloc, shelf, words, &mut kept.schema)?;
+    judge_rest(alloc, shelf, words, schema, kept)
 }
 
-/// Judges the two texts of a command that compiles.
+/// Judges the two texts of a command that compiles or of `why S Q`, and keeps those that were fetched.
 pub fn judge_compile<S: Shelf>(
     alloc: Global,
     shelf: &mut S,
     words: &Taken<'_>,
+    kept: &mut KeptTexts,
 ) -> Result<Compiled, Refusal>
     requires named { IsNamed words.now Part.Query }
     requires names { (S.state shelf.old).names ≡ words.now }
@@ -164,6 +218,6 @@ pub fn judge_compile<S: Shelf>(
     ensures compiled { IfOk result IsCompiled }
     ensures leaves { Leaves words.now (S.state shelf.old) (S.state shelf.new) result }
 {
-    let schema = fetch_schema(alloc, shelf, words)?;
-    judge_query(alloc, shelf, words, schema)
+    let schema = keep_schema(alloc, shelf, words, &mut kept.schema)?;
+    judge_query(alloc, shelf, words, schema, &mut kept.query)
 }

@@ -15,7 +15,7 @@ pub mod several;
 pub mod simulating;
 
 pub use figuring::{figures_text, many_figures_text};
-pub use judging::{Job, judge_compile, judge_run};
+pub use judging::{Job, KeptTexts, judge_compile, judge_run};
 pub use port_fault::fit;
 pub use several::{ManyJob, judge_many, judge_many_run};
 pub use simulating::{Fitted, Simulation, judge_sim};

@@ -65,7 +65,9 @@ fn judge_behind_queries<S: Shelf>(
     ensures ready { IfOk result (λ job. AreReady (S.state shelf.old).told words.now job) }
     ensures leaves { Leaves words.now (S.state shelf.old) (S.state shelf.new) result }
 {
-    let beats = judge_tuples(alloc, shelf, words, many.schema(), many.planned().gap)?;
+    let gap = many.planned().gap;
+    let mut kept = Vec::new(alloc);
+    let beats = judge_tuples(alloc, shelf, words, many.schema(), gap, &mut kept)?;
     Ok(ManyJob { many, beats })
 }
 

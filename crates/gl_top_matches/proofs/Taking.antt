@@ -11,14 +11,14 @@ use Rattle.clap.specs.Words.{App, HasMatchesOf, Text, first_of, found_of, is_sim
 use Rattle.clap.specs.declared.parser.matches.ArgMatches.{ArgMatches}
 use Rattle.clap.proofs.WalkLemmas.{first_value-rows}
 use Rattle.gl_top_forms.specs.declared.command.Command.{Command}
-use Rattle.gl_top_forms.specs.declared.command.Command.TheVariants.{Compile, Figures, Explain, Run, Sim, Load, Vcd, Undump, Many, ManyFigures, ManyRun, HelpOf, Help, DashedHelp, Version}
+use Rattle.gl_top_forms.specs.declared.command.Command.TheVariants.{Compile, Figures, Explain, Run, Sim, Load, Vcd, Undump, Many, ManyFigures, ManyRun, WhyRun, Why, HelpOf, Help, DashedHelp, Version}
 use Rattle.gl_top_forms.specs.Forms.{IsCommand, command_named, extra_at, extra_in, extra_of, first_word, is_command, is_dashed, load_at, load_in, load_of, many_names, name_of, names_in, names_of, option_word, start_at, start_in, start_of, takes_values, topic_in, topic_of, values_in, values_of, word_of}
 use Rattle.gl_top_forms.proofs.Named.{is_one}
 use Rattle.gl_top_matches.specs.Apps.{Tells, app_for, no_name, one_name, two_names}
 use Rattle.gl_top_forms.specs.Said.{IsSaid, extra_by, start_by}
 use Rattle.gl_top_matches.proofs.Ends.{Given}
 use Rattle.gl_top_matches.proofs.Laid.{AreNames, bare, placed, three}
-use Rattle.gl_top_matches.proofs.Names.{load_names, query_names, version_names}
+use Rattle.gl_top_matches.proofs.Names.{load_names, query_names, run_names, version_names}
 use Rattle.gl_top_matches.proofs.Layouts.{laid}
 use Rattle.gl_top_matches.proofs.Runs.{run_app, run_bare, run_layouts}
 use Rattle.gl_top_matches.proofs.Sims.{sim_app, sim_layouts}
@@ -108,6 +108,8 @@ some_word Undump e = omega (arith, e)
 some_word Many e = omega (arith, e)
 some_word ManyFigures e = omega (arith, e)
 some_word ManyRun e = omega (arith, e)
+some_word WhyRun e = omega (arith, e)
+some_word Why e = omega (arith, e)
 some_word HelpOf e = omega (arith, e)
 some_word Help e = omega (arith, e)
 some_word DashedHelp e = omega (arith, e)
@@ -302,6 +304,12 @@ read_by words ManyFigures is = two_read words ManyFigures is refl refl (none_tak
 read_by words ManyRun is =
     start_read words ManyRun is refl refl (option_is words (codes "manyrun") (word_is words ManyRun is))
     (run_values (values_of words) (values_are words ManyRun is))
+read_by words WhyRun is =
+    let b = bare_words words WhyRun is (none_taken (values_of words) (values_are words WhyRun is)) in
+    three (λ ws. words ≡ word_of WhyRun ∷ ws → names_of words ≡ ws → IsRead words WhyRun)
+    (λ s q t ps pq pt same named. read_of words (s ∷ q ∷ t ∷ []) (s ∷ q ∷ t ∷ []) WhyRun None (word_of WhyRun) same (run_names s q t ps pq pt) named b.valued (refl, refl))
+    (drop 1 words) b.plain b.many b.same b.named
+read_by words Why is = two_read words Why is refl refl (none_taken (values_of words) (values_are words Why is))
 read_by words HelpOf is = one_read words HelpOf is refl refl (none_taken (values_of words) (values_are words HelpOf is))
 read_by words Help is = none_read words Help is refl refl (none_taken (values_of words) (values_are words Help is))
 read_by words DashedHelp is = none_read words DashedHelp is refl refl (none_taken (values_of words) (values_are words DashedHelp is))
@@ -324,6 +332,8 @@ simple Undump = refl
 simple Many = refl
 simple ManyFigures = refl
 simple ManyRun = refl
+simple WhyRun = refl
+simple Why = refl
 simple HelpOf = refl
 simple Help = refl
 simple DashedHelp = refl

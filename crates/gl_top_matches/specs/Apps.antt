@@ -3,7 +3,7 @@ use Rattle.std.specs.Prelude.{ℕ, Bool, true, false, List, [], Some, codes, unw
 use Rattle.clap.specs.Words.{App, Rule, Text, first_value, found_of, new_app, new_rule, with_rule}
 use Rattle.clap.specs.declared.parser.matches.ArgMatches.{ArgMatches}
 use Rattle.gl_top_forms.specs.declared.command.Command.{Command}
-use Rattle.gl_top_forms.specs.declared.command.Command.TheVariants.{Compile, Figures, Explain, Run, Sim, Load, Vcd, Undump, Many, ManyFigures, ManyRun, HelpOf, Help, DashedHelp, Version}
+use Rattle.gl_top_forms.specs.declared.command.Command.TheVariants.{Compile, Figures, Explain, Run, Sim, Load, Vcd, Undump, Many, ManyFigures, ManyRun, WhyRun, Why, HelpOf, Help, DashedHelp, Version}
 use Rattle.gl_top_forms.specs.Said.{IsSaid}
 
 -- a name that must stand in the words
@@ -43,6 +43,8 @@ app_for Undump = one_name
 app_for Many = two_names
 app_for ManyFigures = two_names
 app_for ManyRun = with_rule three_names (option_rule (codes "start") false)
+app_for WhyRun = three_names
+app_for Why = two_names
 app_for HelpOf = one_name
 app_for Help = no_name
 app_for DashedHelp = no_name

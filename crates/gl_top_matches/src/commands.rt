@@ -71,13 +71,15 @@ fn command_for<'a>(alloc: Global, command: Command) -> Result<clap::Command<'a>,
         | Command::Figures
         | Command::Explain
         | Command::Many
-        | Command::ManyFigures => two_names(alloc),
+        | Command::ManyFigures
+        | Command::Why => two_names(alloc),
         Command::Run | Command::Vcd | Command::ManyRun => with_option(
             alloc,
             three_names(alloc)?,
             "start",
             false,
         ),
+        Command::WhyRun => three_names(alloc),
         Command::Sim => with_option(alloc, three_names(alloc)?, "extra", true),
         Command::Load | Command::Undump | Command::HelpOf => one_name(alloc),
         Command::Help | Command::DashedHelp | Command::Version => no_name(alloc),

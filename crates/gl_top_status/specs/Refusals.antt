@@ -212,7 +212,7 @@ unfoldable pub usage_line : List ℕ
 usage_line =
     codes "usage: glacier compile S Q, figures S Q, explain S Q, run S Q T [--start N], sim S V T --extra N, load N, "
     ++ codes "vcd S Q T [--start N], undump D, many S Q, manyfigures S Q, manyrun S Q T [--start N], "
-    ++ codes "help [COMMAND], --version\n"
+    ++ codes "why S Q [T], help [COMMAND], --version\n"
 
 -- what is told of words of no form: behind the line of all forms, which word is wrong
 abbrev pub usage_lines : List (List ℕ) → List ℕ

@@ -65,3 +65,30 @@ pub fn fetch_schema<S: Shelf>(
     let text = fetch(alloc, shelf, words, Part::Schema)?;
     Ok(read_schema(alloc, &text)?)
 }
+
+/// Fetches the schema's text and reads it, as `fetch_schema` does, and keeps the text.
+pub fn keep_schema<S: Shelf>(
+    alloc: Global,
+    shelf: &mut S,
+    words: &Taken<'_>,
+    kept: &mut Vec<u8>,
+) -> Result<Schema, Refusal>
+    requires named { IsNamed words.now Part.Schema }
+    requires names { (S.state shelf.old).names ≡ words.now }
+    ensures stays { Stays (S.state shelf.old) (S.state shelf.new) }
+    ensures passes { let told = (S.state shelf.old).told in
+        IfOk result (λ schema. SchemaPasses told words.now schema) }
+    ensures leaves { LeavesSchema words.now (S.state shelf.old) (S.state shelf.new) result }
+{
+    let text = fetch(alloc, shelf, words, Part::Schema)?;
+    match read_schema(alloc, &text) {
+        Ok(schema) => {
+            *kept = text;
+            Ok(schema)
+        }
+        Err(fault) => {
+            *kept = text;
+            Err(Refusal::from(fault))
+        }
+    }
+}

@@ -12,7 +12,8 @@ pub mod notes;
 pub mod refusal;
 pub mod status;
 
-pub use fetching::{fetch, fetch_schema};
-pub use notes::{show, tell, tell_no_end, tell_words, tell_write_fault};
+pub use faults::{query_place, schema_place, tuples_record};
+pub use fetching::{fetch, fetch_schema, keep_schema};
+pub use notes::{explain, show, tell, tell_no_end, tell_words, tell_write_fault};
 pub use refusal::Refusal;
 pub use status::{Status, exit_code};

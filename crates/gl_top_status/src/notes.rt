@@ -1,12 +1,12 @@
 //! The line that tells why the program ends as it does. Words of no form have two.
 
-ghost use Rattle.std.specs.Prelude.{◌≡◌, decimal};
+ghost use Rattle.std.specs.Prelude.{◌≡◌, ◌++◌, decimal};
 ghost use Rattle.gl_outside.specs.States.{Wrote};
 ghost use Rattle.gl_top_forms.specs.Forms as forms;
 ghost use Rattle.gl_top_forms.specs.Wrong.{wrong_line};
 ghost use Rattle.gl_top_status.specs.Refusals as told;
 ghost use Rattle.gl_top_status.specs.Refusals.{line, dump_line, kind_line, limit_line, no_end_line, note_of, verilog_line, usage_line, usage_lines, memory_line, write_line, puts, Notes};
-ghost use Rattle.gl_top_status.specs.Written.{IsWritten};
+ghost use Rattle.gl_top_status.specs.Written.{IsTold, IsWritten};
 
 use crate::faults::{
     dump_kind, dump_place, query_kind, query_place, schema_kind, schema_place, tuples_kind,
@@ -25,7 +25,7 @@ use itoa::Buffer;
 const USAGE: &[u8] =
     b"usage: glacier compile S Q, figures S Q, explain S Q, run S Q T [--start N], \
 sim S V T --extra N, load N, vcd S Q T [--start N], undump D, \
-many S Q, manyfigures S Q, manyrun S Q T [--start N], help [COMMAND], --version\n";
+many S Q, manyfigures S Q, manyrun S Q T [--start N], why S Q [T], help [COMMAND], --version\n";
 
 // Writes a line of a head and what it tells of.
 #[tactic(auto, using(gl_outside::proofs::Takes::pieces))]
@@ -219,6 +219,40 @@ pub fn tell<N: Sink>(notes: &mut N, words: &Taken<'_>, refusal: &Refusal) -> Sta
         Notes (told.status_of refusal.now) (note_of words.now refusal.now) made result }
 {
     tell_words(notes, words.words(), refusal)
+}
+
+// Writes the line of a refusal, and what explains it.
+#[tactic(auto, using(gl_outside::proofs::Takes::pieces))]
+fn put_explained<K: Sink>(
+    out: &mut K,
+    words: &Words,
+    refusal: &Refusal,
+    rest: &[u8],
+) -> Result<(), WriteFault>
+    ensures { let bytes = note_of words.now refusal.now ++ rest.now in
+        Wrote (K.state out.old) (K.state out.new) bytes result }
+{
+    put_note(out, words, refusal)?;
+    write_all_of(out, rest)
+}
+
+/// Writes the line of a refusal to the output, and what explains it, and answers its status; where the
+/// output fails, that is noted.
+pub fn explain<K: Sink, N: Sink>(
+    words: &Taken<'_>,
+    refusal: &Refusal,
+    rest: &[u8],
+    out: &mut K,
+    notes: &mut N,
+) -> Status
+    ensures { IsTold (told.status_of refusal.now) (note_of words.now refusal.now)
+        (puts (K.state out.old) (K.state out.new)) (puts (N.state notes.old) (N.state notes.new))
+        result }
+{
+    match put_explained(out, words.words(), refusal, rest) {
+        Ok(()) => status_of(refusal),
+        Err(_) => tell_write_fault(notes),
+    }
 }
 
 /// Writes the line of an output that could not be written.

@@ -70,7 +70,7 @@ has_key-other n key key_of xs x other = elim (keys-push n key_of xs x) [
 ]
 
 -- a key that is among the first stays there
-has_key-stays : {A : Type 0} (n key : ℕ) (key_of : A → ℕ) (xs : List A) (x : A) → has_key n key_of xs key ≡ true
+pub has_key-stays : {A : Type 0} (n key : ℕ) (key_of : A → ℕ) (xs : List A) (x : A) → has_key n key_of xs key ≡ true
     → has_key n key_of (xs ++ x ∷ []) key ≡ true
 has_key-stays n key key_of xs x has = elim (keys-push n key_of xs x) [
   | inl t ↦ (
@@ -99,7 +99,7 @@ rows_of_none key key_of (x ∷ xs) none =
     rw other (rows_of_none key key_of xs (neither_right (nat_eq key (key_of x)) (list_any (nat_eq key) (map key_of xs)) none))
 
 -- a key that comes among the first with a row had no row before
-rows_before : {A : Type 0} (n key : ℕ) (key_of : A → ℕ) (xs : List A) (x : A) → has_key n key_of xs key ≡ false
+pub rows_before : {A : Type 0} (n key : ℕ) (key_of : A → ℕ) (xs : List A) (x : A) → has_key n key_of xs key ≡ false
     → has_key n key_of (xs ++ x ∷ []) key ≡ true → rows_with key_of xs key ≡ []
 rows_before n key key_of xs x none has = elim (keys-push n key_of xs x) [
   | inl t ↦ (

@@ -16,10 +16,8 @@ returns-in_err-text-clause-leaves g c =
     handed_on c.args.words.now _ _ c.from_residual.result _ c.from_residual.ensures.1
     (unfetched_cause c.args.words.now ch Tuples _ (asks_before ch.old.told c.args.words.now c.args.schema.now c.args.gap c.requires.asks) c.in_err-text.ensures.leaves)
 
-pub returns-in_err-beats_of-clause-leaves : goal.returns-in_err-beats_of-clause-leaves
-returns-in_err-beats_of-clause-leaves g c =
+pub returns-in-Err-clause-leaves : goal.returns-in-Err-clause-leaves
+returns-in-Err-clause-leaves g c =
     let ch = change (g.S.Shelf.state c.args.shelf.now) (g.S.Shelf.state c.fetch.new.shelf) in
-    let fault = c.in_err-beats_of.field-0.0 in
-    let fails = subst (λ (v : List ℕ). Fails fault (kept_beats c.args.schema.now c.args.gap v)) c.deref.ensures.value c.in_err-beats_of.ensures.exact in
-    handed_on c.args.words.now _ _ c.from_residual-in_err-beats_of.result _ c.from_residual-in_err-beats_of.ensures.1
-    (tuples_cause c.args.words.now ch c.in_ok-text.text.items c.args.schema.now c.args.gap fault c.requires.asks c.in_ok-text.ensures.leaves c.in_ok-text.ensures.text fails)
+    let fails = subst (λ (v : List ℕ). Fails c.in-Err.fault (kept_beats c.args.schema.now c.args.gap v)) c.deref.ensures.value c.in-Err.ensures.exact in
+    rw c.from.ensures (tuples_cause c.args.words.now ch c.in_ok-text.text.items c.args.schema.now c.args.gap c.in-Err.fault c.requires.asks c.in_ok-text.ensures.leaves c.in_ok-text.ensures.text fails)

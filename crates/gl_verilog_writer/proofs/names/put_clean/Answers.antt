@@ -1,4 +1,4 @@
-use Rattle.std.proofs.Common.{◌≡◌, ◌++◌, ℕ, List, length, ◌≤◌, arith, ap, sym, ◌∙◌}
+use Rattle.std.proofs.Common.{◌++◌, ℕ, List, length, ◌≤◌, arith, ap, sym, ◌∙◌}
 use Rattle.gl_bits.proofs.Options.{on_ok}
 use Rattle.gl_verilog_writer.proofs.Loops.{clean_same}
 use Rattle.gl_verilog_writer.proofs.names.put_clean.Goals as goal

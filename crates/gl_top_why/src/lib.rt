@@ -1,0 +1,22 @@
+//! Why a text is refused, in sentences: where it stands, what is wrong, and what one writes in its
+//! place.
+//!
+//! Here belong the sentences, as tables of text, and which of them is told of a place. What is refused
+//! and where belongs to the readers below, and the line that tells it to gl_top_status. No clause says
+//! what a sentence says.
+#![tactic(auto)]
+
+mod elsewhere;
+pub mod explaining;
+mod functions;
+mod kinds;
+mod lines;
+mod names;
+mod pieces;
+mod querying;
+mod records;
+mod schemas;
+mod syntax;
+mod words;
+
+pub use explaining::{Refused, explanation};
