@@ -57,6 +57,20 @@ fn line_of(text: &[u8]) -> &[u8] {
     }
 }
 
+/// A place in a text; in place of the text's end that behind its last byte that is no white space.
+pub(crate) fn shown_place(text: &[u8], at: u64) -> u64 {
+    if at < text.len() as u64 {
+        return at;
+    }
+    let mut ends = 0usize;
+    for (place, byte) in text.iter().enumerate() {
+        if !matches!(*byte, b' ' | b'\t' | b'\r' | b'\n') {
+            ends = place.saturating_add(1);
+        }
+    }
+    ends as u64
+}
+
 /// Appends the name of a text, the line and the column of a place, that line, and a mark under the place.
 pub(crate) fn put_place(
     out: &mut String,

@@ -10,30 +10,9 @@ use std::alloc::AllocError;
 const FORM: &str =
     "A schema is stream NAME (NAME KIND, ..); once or more, as stream trades (symbol text4, price u32);";
 
-/// What a text is that stands where a schema should, by its first word.
-pub(crate) fn other_text(first: &[u8]) -> Option<&'static str> {
-    if is_one_of(first, &[b"select", b"each", b"("]) {
-        return Some(
-            "This text is a query: the schema comes first and the query second, why S Q T.",
-        );
-    }
-    if matches!(first, [b'0'..=b'9', ..]) {
-        return Some(
-            "This text looks like a tuple file: the schema comes first, then the query, and the tuple file last.",
-        );
-    }
-    if is_spelled(first, b"module") {
-        return Some("This text is Verilog: sim S V T takes it, behind the schema.");
-    }
-    None
-}
-
 // What cannot stand there.
 fn syntax_cure(pieces: &Pieces<'_>, at: usize) -> &'static str {
     let (word, before) = (pieces.get(at), pieces.before(at, 1));
-    if let Some(cure) = other_text(pieces.get(0)) {
-        return cure;
-    }
     if is_spelled(word, b"stream") && at == 0 {
         return "The word stream is in small letters.";
     }
