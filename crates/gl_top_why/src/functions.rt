@@ -46,7 +46,7 @@ const TIMES: [Row; 3] = [
             b"timestamp",
             b"unix_timestamp",
         ],
-        cure: "A time is a number of the feed's own: a column ts of kind u64, and for windows the feed's ticks, [SIZE 1 ADVANCE 1 TIME].",
+        cure: "A time is a number of the feed's own, a column ts of kind u64. Windows of time go by the feed's ticks, [SIZE 1 ADVANCE 1 TIME].",
     },
 ];
 
@@ -133,7 +133,7 @@ const NUMBERS: [Row; 2] = [
             b"ceiling",
             b"trunc",
         ],
-        cure: "There is no such function: a comparison is a number, 0 or 1, so write (b > a) * (b - a) with CAST, and there are no fractions to round.",
+        cure: "There is no such function: a comparison is a number, 0 or 1, so write (b > a) * (b - a) with CAST. There are no fractions to round.",
     },
 ];
 

@@ -10,7 +10,7 @@ use crate::states::{State, state_at};
 use crate::words::{is_name, is_number, is_operator, is_taken, name_cure};
 
 const KEYS: &str =
-    "A group has one key. Of two numbers of 32 bits make one in a select below: SELECT CAST(a AS u64) * 4294967296 + CAST(b AS u64) AS ab, x FROM t.";
+    "A group has one key. Make one of two in a select below: CAST(a AS u64) * 4294967296 + CAST(b AS u64) AS ab, for numbers of 32 bits.";
 
 const WHOLE: &str =
     "No statement goes on like this. It is SELECT items FROM source, perhaps a window, WHERE and GROUP BY, and INTO a name.";
