@@ -117,7 +117,7 @@ pub(crate) fn each_around(pieces: &Pieces<'_>, at: usize) -> Option<usize> {
 }
 
 // What a query's columns are, by its first piece.
-enum Step<'a> {
+enum Shape<'a> {
     // The column at a place, and those of the query at another one.
     Key(usize, usize),
     // Those of the query at this place.
@@ -131,22 +131,22 @@ enum Step<'a> {
 }
 
 // The columns of a name that stands as a source.
-fn name_step<'a>(pieces: &Pieces<'_>, place: usize, schema: &'a Schema) -> Step<'a> {
+fn name_shape<'a>(pieces: &Pieces<'_>, place: usize, schema: &'a Schema) -> Shape<'a> {
     let name = pieces.get(place);
     match each_around(pieces, place) {
         Some(each) if pieces.get(each.saturating_add(1)) == name => {
-            Step::Same(each.saturating_add(3))
+            Shape::Same(each.saturating_add(3))
         }
-        Some(_) => Step::Unknown,
+        Some(_) => Shape::Unknown,
         None => match stream_named(schema, name) {
-            Some(stream) => Step::Whole(stream),
-            None => Step::Unknown,
+            Some(stream) => Shape::Whole(stream),
+            None => Shape::Unknown,
         },
     }
 }
 
 // The columns of an EACH: its key and those of its body, or those of its body.
-fn each_step<'a>(pieces: &Pieces<'_>, each: usize) -> Step<'a> {
+fn each_shape<'a>(pieces: &Pieces<'_>, each: usize) -> Shape<'a> {
     let source = each.saturating_add(3);
     let mut open = 0u64;
     let mut key = None;
@@ -154,8 +154,8 @@ fn each_step<'a>(pieces: &Pieces<'_>, each: usize) -> Step<'a> {
         match pieces.get(place) {
             b"(" if open == 0 && place != source => {
                 return match key {
-                    Some(key) => Step::Key(key, place),
-                    None => Step::Same(place),
+                    Some(key) => Shape::Key(key, place),
+                    None => Shape::Same(place),
                 };
             }
             b"(" => open = open.saturating_add(1),
@@ -164,7 +164,7 @@ fn each_step<'a>(pieces: &Pieces<'_>, each: usize) -> Step<'a> {
             _ => {}
         }
     }
-    Step::Unknown
+    Shape::Unknown
 }
 
 // Whether CONCAT joins the columns of a query in brackets, whose first piece this is.
@@ -183,25 +183,25 @@ fn is_joined(pieces: &Pieces<'_>, first: usize) -> bool {
 }
 
 // The columns of the query whose first piece this is.
-fn step<'a>(pieces: &Pieces<'_>, place: usize, schema: &'a Schema) -> Step<'a> {
+fn shape_of<'a>(pieces: &Pieces<'_>, place: usize, schema: &'a Schema) -> Shape<'a> {
     let (word, next) = (pieces.get(place), place.saturating_add(1));
     if is_sign(word, b'(') {
         return if is_joined(pieces, next) {
-            Step::Unknown
+            Shape::Unknown
         } else {
-            Step::Same(next)
+            Shape::Same(next)
         };
     }
     if is_spelled(word, b"each") {
-        return each_step(pieces, place);
+        return each_shape(pieces, place);
     }
     if !is_spelled(word, b"select") {
-        return name_step(pieces, place, schema);
+        return name_shape(pieces, place, schema);
     }
     if is_sign(pieces.get(next), b'*') {
-        Step::Same(place.saturating_add(3))
+        Shape::Same(place.saturating_add(3))
     } else {
-        Step::Items(next)
+        Shape::Items(next)
     }
 }
 
@@ -213,9 +213,9 @@ pub(crate) fn stream_around<'a>(
 ) -> Option<&'a Stream> {
     let mut place = source_around(pieces, at)?;
     for _ in 0..pieces.len() {
-        match step(pieces, place, schema) {
-            Step::Same(next) => place = next,
-            Step::Whole(stream) => return Some(stream),
+        match shape_of(pieces, place, schema) {
+            Shape::Same(next) => place = next,
+            Shape::Whole(stream) => return Some(stream),
             _ => return None,
         }
     }
@@ -226,10 +226,10 @@ pub(crate) fn stream_around<'a>(
 fn is_told(pieces: &Pieces<'_>, first: usize, schema: &Schema) -> bool {
     let mut place = first;
     for _ in 0..pieces.len() {
-        match step(pieces, place, schema) {
-            Step::Same(next) | Step::Key(_, next) => place = next,
-            Step::Items(_) | Step::Whole(_) => return true,
-            Step::Unknown => return false,
+        match shape_of(pieces, place, schema) {
+            Shape::Same(next) | Shape::Key(_, next) => place = next,
+            Shape::Items(_) | Shape::Whole(_) => return true,
+            Shape::Unknown => return false,
         }
     }
     false
@@ -281,17 +281,17 @@ pub(crate) fn put_columns_around(
     let mut place = first;
     let mut front = "; there are ";
     for _ in 0..pieces.len() {
-        match step(pieces, place, schema) {
-            Step::Key(key, next) => {
+        match shape_of(pieces, place, schema) {
+            Shape::Key(key, next) => {
                 out.push_str(front)?;
                 put_bytes(out, pieces.get(key))?;
                 front = ", ";
                 place = next;
             }
-            Step::Same(next) => place = next,
-            Step::Items(items) => return put_items(out, front, pieces, items),
-            Step::Whole(stream) => return put_columns(out, front, stream),
-            Step::Unknown => return Ok(()),
+            Shape::Same(next) => place = next,
+            Shape::Items(items) => return put_items(out, front, pieces, items),
+            Shape::Whole(stream) => return put_columns(out, front, stream),
+            Shape::Unknown => return Ok(()),
         }
     }
     Ok(())
