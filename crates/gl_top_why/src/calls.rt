@@ -104,6 +104,12 @@ fn total_cure(pieces: &Pieces<'_>, at: usize, state: State) -> Option<&'static s
     None
 }
 
+// Whether a word may be a column within an argument, by what stands behind it.
+fn is_argument(pieces: &Pieces<'_>, at: usize) -> bool {
+    let next = pieces.get(at.saturating_add(1));
+    is_operator(next) || is_one_of(next, &[b",", b")"])
+}
+
 // A call of a function that is not there, whose name stands at a piece.
 fn named_cure(pieces: &Pieces<'_>, at: usize) -> Option<&'static str> {
     let (word, before) = (pieces.get(at), pieces.before(at, 1));
@@ -113,7 +119,9 @@ fn named_cure(pieces: &Pieces<'_>, at: usize) -> Option<&'static str> {
     if is_spelled(before, b"in") {
         return Some(EACH_WINDOW);
     }
-    if let Some(cure) = cure_of(pieces.get(at.saturating_add(2))) {
+    if let Some(cure) = cure_of(pieces.get(at.saturating_add(2)))
+        && !is_argument(pieces, at.saturating_add(2))
+    {
         return Some(cure);
     }
     if let Some(cure) = cure_of(word) {

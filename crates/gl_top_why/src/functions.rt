@@ -30,6 +30,7 @@ const TIMES: [Row; 3] = [
             b"sliding",
             b"tumble_start",
             b"window_start",
+            b"window_end",
             b"time_bucket",
         ],
         cure: "A window of time stands behind the stream: FROM trades [SIZE 1 ADVANCE 1 TIME] GROUP BY symbol GROUPS 8. The feed gives the ticks, and min(ts) is the time of a window.",

@@ -121,6 +121,18 @@ fn foreign_cure(pieces: &Pieces<'_>, at: usize, state: State) -> Option<&'static
     cure_of(pieces.get(at))
 }
 
+// A second key that is a function or a window's time elsewhere.
+fn key_cure(pieces: &Pieces<'_>, at: usize) -> Option<&'static str> {
+    let word = pieces.get(at);
+    if is_sign(pieces.get(at.saturating_add(1)), b'(')
+        || is_one_of(word, &[b"window_start", b"window_end"])
+    {
+        cure_of(word)
+    } else {
+        None
+    }
+}
+
 // Keys without GROUPS, and several keys.
 fn group_cure(pieces: &Pieces<'_>, at: usize, state: State) -> Option<&'static str> {
     let word = pieces.get(at);
@@ -131,7 +143,7 @@ fn group_cure(pieces: &Pieces<'_>, at: usize, state: State) -> Option<&'static s
         return None;
     }
     if is_sign(word, b',') {
-        return Some(cure_of(pieces.get(at.saturating_add(1))).unwrap_or(KEYS));
+        return Some(key_cure(pieces, at.saturating_add(1)).unwrap_or(KEYS));
     }
     if is_operator(word) {
         return Some(KEY);
@@ -249,7 +261,12 @@ fn first_cure(pieces: &Pieces<'_>, at: usize, state: State) -> Option<&'static s
     if let Some(cure) = foreign_cure(pieces, at, state) {
         return Some(cure);
     }
-    name_cure(pieces.get(at))
+    let word = pieces.get(at);
+    if wants_name(state) || matches!(word, [b'0'..=b'9', ..]) {
+        name_cure(word)
+    } else {
+        None
+    }
 }
 
 // The rules that are asked then: those of each clause.
@@ -267,6 +284,22 @@ fn second_cure(pieces: &Pieces<'_>, at: usize, state: State) -> Option<&'static 
         return Some(cure);
     }
     item_cure(pieces, at, state)
+}
+
+// Whether a name may stand there.
+fn wants_name(state: State) -> bool {
+    matches!(
+        state,
+        State::Variable
+            | State::ItemName
+            | State::ResultName
+            | State::Key
+            | State::Source
+            | State::FirstItem
+            | State::Item
+            | State::Operand
+            | State::TightOperand
+    )
 }
 
 // Words of the language that are rather misplaced than meant as names.
@@ -296,19 +329,7 @@ fn is_followed(next: &[u8], state: State) -> bool {
 pub(crate) fn is_word_for_name(pieces: &Pieces<'_>, at: usize) -> bool {
     let (word, next) = (pieces.get(at), pieces.get(at.saturating_add(1)));
     let state = state_at(pieces, at);
-    let is_wanted = matches!(
-        state,
-        State::Variable
-            | State::ItemName
-            | State::ResultName
-            | State::Key
-            | State::Source
-            | State::FirstItem
-            | State::Item
-            | State::Operand
-            | State::TightOperand
-    );
-    if !is_taken(word) || !is_wanted || is_one_of(word, &[b"and", b"or", b"not"]) {
+    if !is_taken(word) || !wants_name(state) || is_one_of(word, &[b"and", b"or", b"not"]) {
         return false;
     }
     is_followed(next, state) || !is_one_of(word, &STRUCTURE) && !is_sign(next, b'(')
