@@ -39,10 +39,16 @@ fn call_cure(pieces: &Pieces<'_>, at: usize, state: State) -> Option<&'static st
             "Kinds are u1 to u64, s2 to s64 and text1 to text8: CAST(price AS u64).",
         ));
     }
-    if is_spelled(call_at(pieces, at), b"cast") && is_sign(word, b',') {
-        return Some("Write AS in place of the comma: CAST(price AS u64).");
+    if state != State::BehindOperand || !is_spelled(call_at(pieces, at), b"cast") {
+        return None;
     }
-    None
+    if is_sign(word, b',') {
+        Some("Write AS in place of the comma: CAST(price AS u64).")
+    } else if is_name(word) {
+        Some("AS is lacking in front of the kind: CAST(price AS u64).")
+    } else {
+        None
+    }
 }
 
 // The weights of a wsum.

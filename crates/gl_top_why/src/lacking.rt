@@ -160,7 +160,17 @@ pub(crate) fn is_lacking(pieces: &Pieces<'_>, at: usize, state: State) -> bool {
             is_sign(word, b';') || !is_condition && is_one_of(word, &ENDS)
         }
         State::Operand | State::TightOperand => is_one_of(word, &ENDS) || is_operator(word),
-        State::Source | State::By | State::Number | State::Body | State::GroupBody => true,
+        State::Variable
+        | State::In
+        | State::Source
+        | State::By
+        | State::Number
+        | State::Body
+        | State::GroupBody
+        | State::CallOpen
+        | State::Weight
+        | State::BehindWeight
+        | State::WeightsEnd => true,
         _ => is_one_of(word, &ENDS),
     }
 }

@@ -92,22 +92,31 @@ fn put_kinds(
     }
     put_bytes(out, word)?;
     out.push_str(kinds_cure(pieces, at))?;
-    put_own_kinds(out, pieces, at, schema)
+    let is_signed = state_at(pieces, at.saturating_add(1)) == State::SignedNumber;
+    if is_number(word) || word.starts_with(b"'") || is_signed {
+        put_other_kind(out, pieces, at, schema)
+    } else {
+        put_own_kinds(out, pieces, at, schema)
+    }
 }
 
 // What differs at a literal or an operator.
 fn kinds_cure(pieces: &Pieces<'_>, at: usize) -> &'static str {
     let (word, next) = (pieces.get(at), at.saturating_add(1));
     let is_beside = is_operator(pieces.before(at, 1)) || is_operator(pieces.get(next));
+    let signs: [&[u8]; 3] = [b"+", b"-", b"*"];
+    let is_summed = is_one_of(pieces.before(at, 1), &signs) || is_one_of(pieces.get(next), &signs);
     if word.starts_with(b"'") && is_beside {
         " is a text, and the other side is a number: write a number."
     } else if word.starts_with(b"'") {
         " is a text, and a number must stand here."
+    } else if is_number(word) && is_summed {
+        " is a number, and the other side is a text, with which nothing is reckoned."
     } else if is_number(word) {
         " is a number, and the other side is a text: write '..'."
     } else if state_at(pieces, next) == State::SignedNumber {
         " begins a number, and the other side is a text: write '..'."
-    } else if is_one_of(word, &[b"+", b"-", b"*"]) {
+    } else if is_one_of(word, &signs) {
         " takes two numbers of one kind, and a text is none: CAST(v AS u32) makes another kind of a number."
     } else {
         " has sides of two kinds: make them one by CAST, CAST(v AS u32), or take a text for a number out."
@@ -128,7 +137,7 @@ fn put_own_kind(out: &mut String, stream: &Stream, name: &[u8]) -> Result<(), Al
     Ok(())
 }
 
-// The kinds of the columns on both sides of a piece.
+// The kinds of the columns on both sides of an operator.
 fn put_own_kinds(
     out: &mut String,
     pieces: &Pieces<'_>,
@@ -138,9 +147,12 @@ fn put_own_kinds(
     let Some(stream) = stream_around(pieces, at, schema) else {
         return Ok(());
     };
-    put_own_kind(out, stream, pieces.before(at, 1))?;
-    put_own_kind(out, stream, pieces.get(at))?;
-    put_own_kind(out, stream, pieces.get(at.saturating_add(1)))
+    let (left, right) = (pieces.before(at, 1), pieces.get(at.saturating_add(1)));
+    put_own_kind(out, stream, left)?;
+    if left == right {
+        return Ok(());
+    }
+    put_own_kind(out, stream, right)
 }
 
 // The kind of the column on the other side of the operator beside a literal.
@@ -162,6 +174,14 @@ fn put_other_kind(
     }
 }
 
+// Whether a literal is a condition of its own, with no other side.
+fn stands_alone(pieces: &Pieces<'_>, at: usize) -> bool {
+    let length = if is_sign(pieces.get(at), b'-') { 2 } else { 1 };
+    let next = pieces.get(at.saturating_add(length));
+    is_one_of(pieces.before(at, 1), &[b"where", b"and", b"or", b"not"])
+        && (!is_operator(next) || is_one_of(next, &[b"and", b"or"]))
+}
+
 // A literal that its kind has no room for.
 fn put_literal(
     out: &mut String,
@@ -175,6 +195,9 @@ fn put_literal(
         Some(open) => is_sign(pieces.get(open), b'['),
         None => false,
     };
+    if stands_alone(pieces, at) {
+        return out.push_str(" is no condition, which has one bit: write a comparison, price <> 0.");
+    }
     out.push_str(if is_sign(word, b'-') {
         " and its number do not fit the kind on the other side: CAST it to one with a sign, CAST(price AS s64) < -1."
     } else if is_weight {

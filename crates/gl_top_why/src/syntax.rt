@@ -2,6 +2,7 @@
 
 use crate::calls::calls_cure;
 use crate::elsewhere::cure_of;
+use crate::expected::expression_call;
 use crate::lacking::{
     EACH_WINDOW, GROUPS, ITEM_NAMES, KEY, ONE_STATEMENT, SIGN, WINDOW, is_lacking, lacking,
 };
@@ -16,8 +17,12 @@ const WHOLE: &str =
     "No statement goes on like this. It is SELECT items FROM source, perhaps a window, WHERE and GROUP BY, and INTO a name.";
 
 // Texts, and names in quotes.
-fn quoted_cure(word: &[u8]) -> Option<&'static str> {
+fn quoted_cure(pieces: &Pieces<'_>, at: usize) -> Option<&'static str> {
+    let word = pieces.get(at);
     match word {
+        [b'\'', ..] if pieces.before(at, 1).starts_with(b"'") => Some(
+            "A text has no quote in it, and nothing joins two texts.",
+        ),
         [b'\'', .., b'\''] if word.len() > 10 => {
             Some("A text literal has at most 8 bytes: a column of texts has no longer ones.")
         }
@@ -115,7 +120,7 @@ fn foreign_cure(pieces: &Pieces<'_>, at: usize, state: State) -> Option<&'static
     if state == State::Key && is_spelled(pieces.get(at), b"all") {
         return Some(KEY);
     }
-    if is_other_name(pieces, at, state) {
+    if state == State::Variable || is_other_name(pieces, at, state) {
         return None;
     }
     cure_of(pieces.get(at))
@@ -186,7 +191,10 @@ fn item_cure(pieces: &Pieces<'_>, at: usize, state: State) -> Option<&'static st
     if state == State::From && is_sign(word, b',') || state == State::Item && is_sign(word, b'*') {
         return Some("* stands alone, for all columns: name each column where more is asked for.");
     }
-    if !is_behind || !is_spelled(pieces.clause(at), b"select") {
+    if !is_behind
+        || !is_spelled(pieces.clause(at), b"select")
+        || expression_call(pieces, at).is_some()
+    {
         return None;
     }
     if is_name(word) {
@@ -223,6 +231,12 @@ fn order_cure(pieces: &Pieces<'_>, at: usize, state: State) -> Option<&'static s
     if is_sign(word, b')') && pieces.open_before(at).is_none() {
         return Some("No bracket is open in front.");
     }
+    if is_spelled(word, b"into") && matches!(state, State::BehindSource | State::BehindQuery) {
+        return Some("INTO stands once, behind the last bracket of a statement.");
+    }
+    if is_one_of(word, &[b"and", b"or"]) && state == State::BehindSource {
+        return Some("A condition stands behind WHERE: WHERE price > 1 AND volume > 5.");
+    }
     if state == State::End {
         return Some(ONE_STATEMENT);
     }
@@ -235,7 +249,7 @@ fn sign_cure(pieces: &Pieces<'_>, at: usize, state: State) -> Option<&'static st
     if state == State::SignedNumber {
         return Some(SIGN);
     }
-    if is_sign(word, b'+') && is_number(pieces.get(at.saturating_add(1))) {
+    if is_sign(word, b'+') && state == State::TightOperand {
         return Some("A number above 0 has no sign: leave the + out.");
     }
     if state == State::BehindOperand && is_one_of(word, &[b"=", b"<>", b"<", b"<=", b">", b">="]) {
@@ -246,7 +260,7 @@ fn sign_cure(pieces: &Pieces<'_>, at: usize, state: State) -> Option<&'static st
 
 // The rules that are asked first: what is written otherwise elsewhere.
 fn first_cure(pieces: &Pieces<'_>, at: usize, state: State) -> Option<&'static str> {
-    if let Some(cure) = quoted_cure(pieces.get(at)) {
+    if let Some(cure) = quoted_cure(pieces, at) {
         return Some(cure);
     }
     if let Some(cure) = point_cure(pieces, at) {
