@@ -49,10 +49,13 @@ fn place_of(text: &[u8], at: u64) -> Place {
     found
 }
 
-// The bytes up to the first line feed.
+// The bytes up to the first line feed, without a carriage return in front of it.
 fn line_of(text: &[u8]) -> &[u8] {
     match text.iter().position(|byte| *byte == b'\n') {
-        Some(end) => text.get(..end).unwrap_or(text),
+        Some(end) => {
+            let line = text.get(..end).unwrap_or(text);
+            line.strip_suffix(b"\r").unwrap_or(line)
+        }
         None => text,
     }
 }

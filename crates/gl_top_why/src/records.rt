@@ -73,7 +73,7 @@ fn put_value_cure(out: &mut String, kind: Kind, value: &[u8]) -> Result<(), Allo
             "The kind says how many bytes a text has at most, and each prints. Write a shorter one, or a wider kind in the schema.",
         ),
         _ if value.is_empty() => out.push_str(
-            "A value is lacking: there is no NULL, so write 0, or give the feed a column of kind u1 that tells.",
+            "There is no NULL: write 0, or give the feed a column of kind u1 that tells.",
         ),
         _ if value.contains(&b'.') => out.push_str(
             "There are no fractions: write the number in its smallest unit, 11247 for 112.47.",
@@ -121,9 +121,13 @@ fn put_bad_value(out: &mut String, record: &[u8], schema: &Schema) -> Result<(),
     put_bytes(out, column.name.as_slice())?;
     out.push_str(" of kind ")?;
     put_kind(out, column.kind)?;
-    out.push_str(", has no value ")?;
-    put_bytes(out, value)?;
-    out.push_str(". ")?;
+    if value.is_empty() {
+        out.push_str(", is empty. ")?;
+    } else {
+        out.push_str(", has no value ")?;
+        put_bytes(out, value)?;
+        out.push_str(". ")?;
+    }
     put_value_cure(out, column.kind, value)
 }
 

@@ -10,6 +10,48 @@ use std::alloc::AllocError;
 const FORM: &str =
     "A schema is stream NAME (NAME KIND, ..); once or more, as stream trades (symbol text4, price u32);";
 
+// What a schema waits for.
+#[derive(Clone, Copy, PartialEq, Eq)]
+enum Wanted {
+    Stream,
+    Name,
+    Open,
+    Column,
+    Kind,
+    Behind,
+    End,
+}
+
+// What it waits for behind a piece.
+fn behind(wanted: Wanted, piece: &[u8]) -> Wanted {
+    match wanted {
+        Wanted::Stream => Wanted::Name,
+        Wanted::Name => Wanted::Open,
+        Wanted::Open => Wanted::Column,
+        Wanted::Column => Wanted::Kind,
+        Wanted::Kind => Wanted::Behind,
+        Wanted::Behind if is_sign(piece, b',') => Wanted::Column,
+        Wanted::Behind => Wanted::End,
+        Wanted::End => Wanted::Stream,
+    }
+}
+
+// What can stand at a piece, where the pieces in front begin a schema.
+fn wanted_at(pieces: &Pieces<'_>, at: usize) -> &'static str {
+    let mut wanted = Wanted::Stream;
+    for place in 0..at {
+        wanted = behind(wanted, pieces.get(place));
+    }
+    match wanted {
+        Wanted::Stream => "stream",
+        Wanted::Name | Wanted::Column => "a name",
+        Wanted::Open => "(",
+        Wanted::Kind => "a kind",
+        Wanted::Behind => "a comma or )",
+        Wanted::End => ";",
+    }
+}
+
 // What cannot stand there.
 fn syntax_cure(pieces: &Pieces<'_>, at: usize) -> &'static str {
     let (word, before) = (pieces.get(at), pieces.before(at, 1));
@@ -82,7 +124,10 @@ pub(crate) fn put_schema(
                 put_bytes(out, word)?;
                 out.push_str(" cannot stand here. ")?;
             }
-            out.push_str(syntax_cure(pieces, at))
+            out.push_str(syntax_cure(pieces, at))?;
+            out.push_str("\nHere ")?;
+            out.push_str(wanted_at(pieces, at))?;
+            out.push_str(" can stand.")
         }
     }
 }
