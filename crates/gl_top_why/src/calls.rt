@@ -119,7 +119,8 @@ fn is_argument(pieces: &Pieces<'_>, at: usize) -> bool {
 // A call of a function that is not there, whose name stands at a piece.
 fn named_cure(pieces: &Pieces<'_>, at: usize) -> Option<&'static str> {
     let (word, before) = (pieces.get(at), pieces.before(at, 1));
-    if !is_name(word) || !is_sign(pieces.get(at.saturating_add(1)), b'(') {
+    let is_declared = is_one_of(before, &[b"as", b"into", b"each"]);
+    if is_declared || !is_name(word) || !is_sign(pieces.get(at.saturating_add(1)), b'(') {
         return None;
     }
     if is_spelled(before, b"in") {
@@ -140,9 +141,6 @@ fn named_cure(pieces: &Pieces<'_>, at: usize) -> Option<&'static str> {
         return Some(
             "Behind FROM stands the name of a stream or a query in brackets, and no function.",
         );
-    }
-    if is_one_of(before, &[b"as", b"into", b"each"]) {
-        return None;
     }
     Some("There is no such function. There are count, sum, min, max, avg and wsum, and CAST.")
 }

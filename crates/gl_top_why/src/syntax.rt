@@ -17,18 +17,22 @@ const WHOLE: &str =
     "No statement goes on like this. It is SELECT items FROM source, perhaps a window, WHERE and GROUP BY, and INTO a name.";
 
 // Texts, and names in quotes.
-fn quoted_cure(pieces: &Pieces<'_>, at: usize) -> Option<&'static str> {
+fn quoted_cure(pieces: &Pieces<'_>, at: usize, state: State) -> Option<&'static str> {
     let word = pieces.get(at);
+    let is_named = matches!(
+        state,
+        State::ItemName | State::ResultName | State::Source | State::Key | State::Variable
+    );
     match word {
+        [b'\'' | b'"', ..] if is_named => Some("A name has no quotes."),
         [b'\'', ..] if pieces.before(at, 1).starts_with(b"'") => Some(
             "A text has no quote in it, and nothing joins two texts.",
         ),
         [b'\'', .., b'\''] if word.len() > 10 => {
             Some("A text literal has at most 8 bytes: a column of texts has no longer ones.")
         }
-        [b'\'', .., b'\''] if word.len() > 1 => Some(
-            "A text has bytes that print, and stands beside a text.",
-        ),
+        [b'\'', .., b'\''] if word.iter().all(|byte| matches!(*byte, b' '..=b'~')) => None,
+        [b'\'', .., b'\''] => Some("A text has bytes that print alone."),
         [b'\'', ..] => Some("The text literal is not closed: write ' at its end."),
         [b'"', ..] => Some(
             "A text stands in single quotes, 'UBSN', at most eight bytes. A name has no quotes.",
@@ -260,7 +264,7 @@ fn sign_cure(pieces: &Pieces<'_>, at: usize, state: State) -> Option<&'static st
 
 // The rules that are asked first: what is written otherwise elsewhere.
 fn first_cure(pieces: &Pieces<'_>, at: usize, state: State) -> Option<&'static str> {
-    if let Some(cure) = quoted_cure(pieces, at) {
+    if let Some(cure) = quoted_cure(pieces, at, state) {
         return Some(cure);
     }
     if let Some(cure) = point_cure(pieces, at) {
