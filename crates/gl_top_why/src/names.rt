@@ -117,6 +117,7 @@ pub(crate) fn each_around(pieces: &Pieces<'_>, at: usize) -> Option<usize> {
 }
 
 // What a query's columns are, by its first piece.
+#[derive(Clone, Copy)]
 enum Shape<'a> {
     // The column at a place, and those of the query at another one.
     Key(usize, usize),
@@ -243,7 +244,7 @@ fn put_items(
     first: usize,
 ) -> Result<(), AllocError> {
     let mut open = 0u64;
-    let mut front = words;
+    let mut is_first = true;
     for place in first..pieces.len() {
         let word = pieces.get(place);
         let behind = pieces.get(place.saturating_add(1));
@@ -255,9 +256,9 @@ fn put_items(
                 if open == 0
                     && is_name(word)
                     && (is_sign(behind, b',') || is_spelled(behind, b"from")) => {
-                out.push_str(front)?;
+                out.push_str(if is_first { words } else { ", " })?;
                 put_bytes(out, word)?;
-                front = ", ";
+                is_first = false;
             }
             _ => {}
         }
