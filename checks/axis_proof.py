@@ -145,7 +145,7 @@ def proved(case, schema_file, module_text, text, steps, room):
     if said.returncode:
         sys.exit(said.stdout)
     said = ended(['yosys-smtbmc', '-s', 'z3', '-t', str(steps), f'{room}/proof.smt2'])
-    well = said.returncode == 0 and 'Status: passed' in said.stdout
+    well = said.returncode == 0 and 'status: passed' in said.stdout.lower()
     depths = ', '.join(re.findall(r'^// m_axis\w*: (\d+) places', text, re.M))
     print(f'{"ok" if well else "FAILED"} {case}: {depths} places, {steps} steps', flush=True)
     if not well:
