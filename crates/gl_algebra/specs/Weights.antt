@@ -44,6 +44,13 @@ weight_of_frame kinds (Over agg filter back) =
 abbrev pub words_of_frames : List PlanFrame → ℕ
 words_of_frames items = 1 + sum_by (λ item. 2 * frames_in item + words_of_frame item) items
 
+-- the part of items over columns of these kinds, where their node has so many lines: these wait four cycles at most in
+-- registers and for the rest in rings, and 16 words of memory count as one
+abbrev pub weight_of_frames : List Kind → ℕ → List PlanFrame → ℕ
+weight_of_frames kinds lines items =
+    4 * lines * (min (delay_of_frames kinds items) 4 + 4) + 32
+    + sum_by (weight_of_frame kinds) items + words_of_frames items / 16
+
 -- the delay that is added to the shorter of two sides
 abbrev pub pad_of : Figures → Figures → ℕ
 pad_of p q = max (wait_of p q) (wait_of q p)
@@ -79,9 +86,7 @@ own_part spacer shapes figures weights lines (Compute child ops) = 4 * (lines + 
 own_part spacer shapes figures weights lines (Select child column) = 4 * lines
 own_part spacer shapes figures weights lines (Project child items) = 4 * lines
 own_part spacer shapes figures weights lines (Frames child items) =
-    let kinds = (shapes child).kinds in
-    4 * lines * (min (delay_of_frames kinds items) 4 + 4) + 32
-    + sum_by (weight_of_frame kinds) items + words_of_frames items / 16
+    weight_of_frames (shapes child).kinds lines items
 own_part spacer shapes figures weights lines (Aggregate child aggs) =
     let kinds = (shapes child).kinds in
     4 * lines + sum_by (λ agg. 2 * delay_of_aggs kinds aggs + weight_of_agg kinds agg) aggs
