@@ -46,9 +46,9 @@ delay_of_sum None = 1
 delay_of_sum (Some back) = 3
 
 -- the cycles of a count: that of all rows of a frame is a number, that of those that a condition picks is a sum
-abbrev pub delay_of_count : Option ℕ → Option ℕ → ℕ
+abbrev pub delay_of_count : {A : Type 0} → Option A → Option ℕ → ℕ
 delay_of_count None back = 1
-delay_of_count (Some column) back = delay_of_sum back
+delay_of_count (Some condition) back = delay_of_sum back
 
 -- the cycles of an extreme: over some rows two for each of its rings, and one
 abbrev pub delay_of_extreme : Option ℕ → ℕ
