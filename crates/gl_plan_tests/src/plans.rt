@@ -157,12 +157,32 @@ fn put_beside(plan: &mut Plan, source: PlanId) -> Result<(), Memory>
     Ok(())
 }
 
+// The items of a node of frames.
+fn last_two(alloc: Global) -> Result<PlanFrames, Memory>
+    ensures { IfOk result (λ items. items ≡ every.frames) }
+{
+    let own = PlanFrame::Own(Operand::Column(0));
+    let before = PlanFrame::Lag(Operand::Column(0), 1);
+    Ok(Listed::from_vec(vec![in alloc; own, before]?))
+}
+
+// Adds each number of a stream with the one before it.
+fn put_frames(alloc: Global, plan: &mut Plan, child: PlanId) -> Result<(), Memory>
+    requires { HasShape plan.old child every.of_stream }
+    ensures { OnOk result (KeepsShapes plan.old plan.new) }
+{
+    let items = last_two(alloc)?;
+    put(plan, PlanNode::Frames { child, items })?;
+    Ok(())
+}
+
 // Adds a node of every other kind.
 fn put_others(alloc: Global, plan: &mut Plan, body: PlanId) -> Result<(), Memory>
     requires { HasShape plan.old body every.of_sums }
 {
     let source = put_stream(alloc, plan)?;
     put_beside(plan, source)?;
+    put_frames(alloc, plan, source)?;
     put_windows(plan, source, body)?;
     put_groups(plan, source, body)
 }
