@@ -23,6 +23,7 @@ pub fn least_exponent(more: u64, exponent: u8, depth: u64) -> u8
 }
 
 /// The words of a ring that holds so many entries.
+#[tactic(auto, unfolding(crate::specs::Rings::ring))]
 pub fn ring(depth: u64) -> u64
     requires { depth ≤ 2 ^ 40 }
     ensures value { result ≡ ring depth }

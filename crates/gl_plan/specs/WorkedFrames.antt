@@ -177,8 +177,8 @@ pub record WorkedFrames : Type 0 where
       ∷ Frames 1
       (Own (Column 1) ∷ Over (over.LastValue (Column 1)) (Some 3) None ∷ Over over.Count (Some 4) (Some 2) ∷ [])
       ∷ []
-  pub prices_before : Prints (prices_before None) 2 1
-  pub dear_prices : Prints (prices_before (Some dear)) 4 1
+  pub of_all : Prints (prices_before None) 2 1
+  pub of_dear : Prints (prices_before (Some dear)) 4 1
   pub last_prices : Prints last_prices 39 1
   pub so_many : Prints so_many 2 1
   pub far_prices : Prints far_prices 4 1

@@ -158,20 +158,19 @@ fn put_beside(plan: &mut Plan, source: PlanId) -> Result<(), Memory>
 }
 
 // The items of a node of frames.
-fn last_two(alloc: Global) -> Result<PlanFrames, Memory>
+fn lags(alloc: Global) -> Result<PlanFrames, Memory>
     ensures { IfOk result (λ items. items ≡ every.frames) }
 {
-    let own = PlanFrame::Own(Operand::Column(0));
     let before = PlanFrame::Lag(Operand::Column(0), 1);
-    Ok(Listed::from_vec(vec![in alloc; own, before]?))
+    Ok(Listed::from_vec(vec![in alloc; before]?))
 }
 
-// Adds each number of a stream with the one before it.
+// Adds the number before each of a stream.
 fn put_frames(alloc: Global, plan: &mut Plan, child: PlanId) -> Result<(), Memory>
     requires { HasShape plan.old child every.of_stream }
     ensures { OnOk result (KeepsShapes plan.old plan.new) }
 {
-    let items = last_two(alloc)?;
+    let items = lags(alloc)?;
     put(plan, PlanNode::Frames { child, items })?;
     Ok(())
 }

@@ -15,8 +15,8 @@ returns c = record {
   before = refl;
   dear_before = refl;
   filtered = refl;
-  prices_before = record { is_late = refl; is_apart = refl };
-  dear_prices = record { is_late = refl; is_apart = refl };
+  of_all = record { is_late = refl; is_apart = refl };
+  of_dear = record { is_late = refl; is_apart = refl };
   last_prices = record { is_late = refl; is_apart = refl };
   so_many = record { is_late = refl; is_apart = refl };
   far_prices = record { is_late = refl; is_apart = refl };
