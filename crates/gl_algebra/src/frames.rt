@@ -67,7 +67,7 @@ fn digits_of_rows(back: Option<u32>) -> u32
 // The digits of the divider of a function.
 fn digits_over(kinds: &[Kind], agg: &PlanFrameAgg, back: Option<u32>) -> u32
     ensures value { result ≡ digits_over kinds.now agg.now back }
-    ensures most { result ≤ 295 }
+    ensures most { result < 2 ^ 13 }
 {
     match agg {
         PlanFrameAgg::Count => 0,
@@ -84,7 +84,7 @@ fn digits_over(kinds: &[Kind], agg: &PlanFrameAgg, back: Option<u32>) -> u32
 /// The digits of the divider of an item, 0 where it has none.
 pub fn digits_of_frame(kinds: &[Kind], item: &PlanFrame) -> u32
     ensures value { result ≡ digits_of_frame kinds.now item.now }
-    ensures most { result ≤ 295 }
+    ensures most { result < 2 ^ 13 }
 {
     match item {
         PlanFrame::Own(_) => 0,
