@@ -64,9 +64,6 @@ moved w s a b =
     ap (λ n. n % 2 ^ w) turned ∙ mod-add-mod (a + (2 ^ w - b)) (2 ^ w) s ∙ ap (λ n. n % 2 ^ w) parts ∙ sym (mod-add-mod (s + a) (2 ^ w) (2 ^ w - b))
 
 module _ (w n : ℕ) (of : ℕ → ℕ) (none : of 0 ≡ 0) (below : (x : ℕ) → of x < 2 ^ w) where
-  Holds : List ℕ → Type 0
-  Holds xs = sum_total w (framed (change_of of w n) xs) ≡ sum_total w (last_ones n (map of xs))
-
   -- the change with a row
   changed : (xs : List ℕ) (x : ℕ) → change_of of w n (xs ++ x ∷ []) ≡ difference_of w (of x) (lag_of itself n (map of xs ++ of x ∷ []))
   changed xs x =
