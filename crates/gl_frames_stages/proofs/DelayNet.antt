@@ -1,9 +1,11 @@
 -- A ring of a stream that never ends, whose rows are all cycles, is a delay.
-use Rattle.std.proofs.Common.{◌≡◌, ℕ, zero, suc, ◌+◌, ◌*◌, List, [], ◌∷◌, ◌++◌, Option, Some, None, Bool, true, false, refl, sym, ap, ◌∙◌, arith, eq-eqb}
+use Rattle.std.proofs.Common.{◌≡◌, ℕ, zero, suc, ◌+◌, ◌<◌, ◌≤◌, List, [], ◌∷◌, ◌++◌, Option, Some, None, Bool, true, false, refl, sym, ap, ◌∙◌, arith, eq-eqb}
 use Rattle.std.specs.Prelude.{◌&&◌, if◌then◌else◌, nat_eq, slice_get}
+use Rattle.std.proofs.lemmas.Bool.{le-leb, lt-leb}
 use Rattle.gl_bits.proofs.Options.{some_same}
 use Rattle.gl_net.specs.declared.node.Bus.{Bus}
 use Rattle.gl_net.specs.Net.{Net, Run, IsBus}
+use Rattle.gl_wire.specs.Costs.{Cost}
 use Rattle.gl_wire.specs.Wire.{line_at}
 use Rattle.gl_wire_lanes.specs.Lanes.{row_in}
 use Rattle.gl_frames.specs.Frames.{row_before}
@@ -14,7 +16,7 @@ use Rattle.gl_frames_wire.specs.Since.{own_ends, rows_since}
 use Rattle.gl_frames_wire.proofs.RingLemmas.{one_in}
 use Rattle.gl_totals.specs.Delays.{IsBusBehind}
 use Rattle.gl_frames_stages.specs.Columns.{Tells, column_of}
-use Rattle.gl_frames_stages.specs.DelayNets.{IsBehindBus}
+use Rattle.gl_frames_stages.specs.DelayNets.{IsFarIn, IsLateIn, cost_of_far, near_cost}
 use Rattle.gl_frames_stages.specs.LaggedNets.{maybe_at}
 use Rattle.gl_frames_stages.specs.declared.lagged.Maybe.{Maybe}
 use Rattle.gl_frames_stages.specs.declared.lines.Lines.{Lines}
@@ -61,13 +63,34 @@ far_behind run lines high low row out back cycles long h t =
     ∙ there (line_at run out.some (suc (t + back) + 1)) (run.at (suc (t + back) + 1) out.word.node) (row (suc t))
     (h (t + back) (high (t + back)) ∙ all_rows run lines high low row back t)
 
--- in registers
-pub bus_late : (old new : Net) (cycles : ℕ) (source out : Bus) → IsBusBehind old new cycles source out
-    → IsBehindBus old new (record { nodes = cycles; registers = source.width * cycles; memories = 0 }) cycles source out
-bus_late old new cycles source out h = record {
-  keeps = h.keeps;
-  cost = record { nodes = omega (arith, h.cost.nodes); registers = omega (arith, h.cost.registers); memories = omega (arith, h.cost.memories) };
-  bus = h.bus;
-  same_width = h.same_width;
-  value = h.value;
-}
+-- in registers, where they are few
+pub near_late : (old new : Net) (cycles : ℕ) (source out : Bus) → cycles ≤ 4 → IsBusBehind old new cycles source out → IsLateIn old new cycles source out
+near_late old new cycles source out few h =
+    let is = ap (λ (b : Bool). if b then near_cost cycles source.width else cost_of_far cycles source.width) (le-leb cycles 4 few) in
+    record {
+      keeps = h.keeps;
+      cost = record {
+        nodes = omega (arith, h.cost.nodes, ap (λ (k : Cost). k.nodes) is);
+        registers = omega (arith, h.cost.registers, ap (λ (k : Cost). k.registers) is);
+        memories = omega (arith, h.cost.memories, ap (λ (k : Cost). k.memories) is);
+      };
+      bus = h.bus;
+      same_width = h.same_width;
+      value = h.value;
+    }
+
+-- in a ring, where they are many
+pub far_late : (old new : Net) (cycles : ℕ) (source out : Bus) → 4 < cycles → IsFarIn old new cycles source out → IsLateIn old new cycles source out
+far_late old new cycles source out many h =
+    let is = ap (λ (b : Bool). if b then near_cost cycles source.width else cost_of_far cycles source.width) (lt-leb cycles 4 many) in
+    record {
+      keeps = h.keeps;
+      cost = record {
+        nodes = omega (arith, h.cost.nodes, ap (λ (k : Cost). k.nodes) is);
+        registers = omega (arith, h.cost.registers, ap (λ (k : Cost). k.registers) is);
+        memories = omega (arith, h.cost.memories, ap (λ (k : Cost). k.memories) is);
+      };
+      bus = h.bus;
+      same_width = h.same_width;
+      value = h.value;
+    }

@@ -18,6 +18,7 @@ use Rattle.gl_frames_wire.specs.Reaches.{place_bits}
 use Rattle.gl_frames_wire.specs.Since.{own_ends, rows_since}
 use Rattle.gl_frames_wire.specs.declared.reach.Reach.{Reach}
 use Rattle.gl_frames_wire.proofs.RingLemmas.{one_in}
+use Rattle.gl_totals.specs.Folds.{better}
 use Rattle.gl_totals.specs.Totals.{extreme_of}
 use Rattle.gl_totals.specs.declared.fold.Extreme.{Extreme}
 use Rattle.gl_totals.specs.declared.fold.Extreme.TheVariants.{Least, Greatest}
@@ -139,11 +140,6 @@ best_alone op run lines value c v =
     ∙ ap (λ l. number_or itself (best_of op l)) (last_more 0 past (value (suc c)))
     ∙ ap (λ l. number_or itself (best_of op (l ++ value (suc c) ∷ []))) (drop_all (length past - 0) past (omega arith)))
 
-pub extreme_best : (extreme : Extreme) (kind : Kind) (order : Order) → order ≡ record { extreme = extreme; kind = kind } → (n : ℕ) (xs : List ℕ)
-    → best_in (better_in order) n xs ≡ extreme_of order.extreme order.kind (last_ones n xs)
-extreme_best Least kind order is n xs =
-    ap (λ (o : Order). best_in (better_in o) n xs) is ∙ sym (extremes.least kind (last_ones n xs))
-    ∙ sym (ap (λ (o : Order). extreme_of o.extreme o.kind (last_ones n xs)) is)
-extreme_best Greatest kind order is n xs =
-    ap (λ (o : Order). best_in (better_in o) n xs) is ∙ sym (extremes.greatest kind (last_ones n xs))
-    ∙ sym (ap (λ (o : Order). extreme_of o.extreme o.kind (last_ones n xs)) is)
+pub extreme_best : (extreme : Extreme) (kind : Kind) (ys : List ℕ) → number_or itself (best_of (better extreme kind) ys) ≡ extreme_of extreme kind ys
+extreme_best Least kind ys = sym (extremes.least kind ys)
+extreme_best Greatest kind ys = sym (extremes.greatest kind ys)

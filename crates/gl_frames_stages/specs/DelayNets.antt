@@ -13,11 +13,13 @@ cost_of_far cycles width = record {
   memories = 2 ^ place_bits (cycles - 1) * width;
 }
 
--- a register for each cycle where they are few, and else such a ring
+-- what a register for each cycle costs
+abbrev pub near_cost : ℕ → ℕ → Cost
+near_cost cycles width = record { nodes = cycles; registers = width * cycles; memories = 0 }
+
+-- registers where the cycles are few, and else such a ring
 abbrev pub cost_of_late : ℕ → ℕ → Cost
-cost_of_late cycles width =
-    if nat_le cycles 4 then record { nodes = cycles; registers = width * cycles; memories = 0 }
-    else cost_of_far cycles width
+cost_of_late cycles width = if nat_le cycles 4 then near_cost cycles width else cost_of_far cycles width
 
 -- a bus so many cycles behind another, whatever the words are at the start
 pub record IsBehindBus (old new : Net) (most : Cost) (cycles : ℕ) (source out : Bus) : Type 0 where

@@ -38,8 +38,10 @@ pub fn put_late(net: &mut NetBuilder, bus: Bus, cycles: u32) -> Result<Bus, Memo
     ensures { IfOk result (IsLateIn net.old net.new cycles bus) }
 {
     if cycles <= 4 {
-        delay_bus(net, bus, cycles)
-    } else {
-        put_far(net, bus, cycles)
+        let near = delay_bus(net, bus, cycles)?;
+        return Ok(near);
     }
+    // Named, since a goal speaks of the value.
+    let far = put_far(net, bus, cycles)?;
+    Ok(far)
 }

@@ -1,10 +1,8 @@
-use Rattle.std.proofs.Common.{◌≡◌, ℕ, ◌*◌, Bool, ap, sym, subst}
-use Rattle.std.specs.Prelude.{IfOk, if◌then◌else◌}
-use Rattle.std.proofs.lemmas.Result.{IfOk-weaker}
-use Rattle.gl_net.specs.declared.node.Bus.{Bus}
-use Rattle.gl_totals.specs.Delays.{IsBusBehind}
-use Rattle.gl_wire.specs.Costs.{Cost}
-use Rattle.gl_frames_stages.specs.DelayNets.{IsBehindBus, cost_of_far}
-use Rattle.gl_frames_stages.proofs.DelayNet.{bus_late}
+use Rattle.gl_frames_stages.proofs.DelayNet.{far_late, near_late}
 use Rattle.gl_frames_stages.proofs.delay.put_late.Goals as goal
 
+pub returns-then-cycles-le4 : goal.returns-then-cycles-le4
+returns-then-cycles-le4 c = near_late c.args.net.now c.delay_bus.new.net c.args.cycles c.args.bus c.in_ok-near.near c.if-cycles-le4.true c.in_ok-near.ensures
+
+pub returns : goal.returns
+returns c = far_late c.args.net.now c.put_far.new.net c.args.cycles c.args.bus c.in_ok-far.far c.if-cycles-le4.false c.in_ok-far.ensures

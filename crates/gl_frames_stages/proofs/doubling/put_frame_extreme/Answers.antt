@@ -1,4 +1,4 @@
-use Rattle.std.proofs.Common.{◌≡◌, ℕ, suc, ◌+◌, ◌*◌, arith, ap, refl, ◌∙◌}
+use Rattle.std.proofs.Common.{◌≡◌, ℕ, suc, ◌+◌, ◌*◌, arith, ap, ◌∙◌}
 use Rattle.gl_net.proofs.Determined.{keeps_then}
 use Rattle.gl_totals.specs.Totals.{extreme_of}
 use Rattle.gl_frames.specs.Frames.{last_ones}
@@ -40,5 +40,5 @@ returns c =
           let one : back + 1 ≡ suc back = omega arith in
           best.tells run (out.keeps.runs run r) (carried_by run value) (best_alone (better_in order) run lines (carried_by run value)) d v
           ∙ ap (λ k. best_in (better_in order) k (column_of run lines (carried_by run value) (suc d))) one
-          ∙ extreme_best order.extreme order.kind order refl (suc back) (column_of run lines (carried_by run value) (suc d)));
+          ∙ extreme_best order.extreme order.kind (last_ones (suc back) (column_of run lines (carried_by run value) (suc d))));
     }
