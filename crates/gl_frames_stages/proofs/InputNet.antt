@@ -1,22 +1,15 @@
 -- Columns that are made of the rows, and the rows that pass.
-use Rattle.std.proofs.Common.{◌≡◌, ℕ, zero, suc, ◌+◌, ◌<◌, List, [], ◌∷◌, ◌++◌, map, length, Option, Some, None, Bool, true, false, refl, sym, ap, ◌∙◌, arith}
-use Rattle.std.specs.Prelude.{◌&&◌, filter, if◌then◌else◌, nat_eq, slice_get, slice_index, slice_index_or}
+use Rattle.std.proofs.Common.{◌≡◌, ℕ, zero, suc, List, [], ◌∷◌, ◌++◌, map, Bool, true, false, refl, sym, ap, ◌∙◌}
+use Rattle.std.specs.Prelude.{◌&&◌, filter, if◌then◌else◌, nat_eq}
 use Rattle.std.proofs.lemmas.List.{map-append}
 use Rattle.std.proofs.lemmas.List.Elements.{filter-append}
-use Rattle.std.proofs.lemmas.Option.{slice_get-get_or}
-use Rattle.gl_algebra.specs.Columns.{kind_of_column}
-use Rattle.gl_values.specs.Kinds.{width_of}
-use Rattle.gl_values.specs.Results.{Row}
-use Rattle.gl_values.specs.declared.kind.Kind.{Kind}
 use Rattle.gl_net.specs.declared.node.Bit.{Bit}
-use Rattle.gl_net.specs.declared.node.Bus.{Bus}
-use Rattle.gl_net.specs.Net.{Net, Run, IsBus, Keeps}
-use Rattle.gl_rows.specs.Made.{IsSource}
-use Rattle.gl_rows.proofs.MadeLemmas.{column_carries, source_kept}
-use Rattle.gl_wire.specs.Wire.{line_at, row_at}
+use Rattle.gl_net.specs.Net.{Net, Run, Keeps}
+use Rattle.gl_rows.proofs.MadeLemmas.{source_kept}
+use Rattle.gl_wire.specs.Wire.{line_at}
 use Rattle.gl_wire.proofs.ColumnLemmas.{bit_kept}
 use Rattle.gl_wire.proofs.StageLemmas.{line_first}
-use Rattle.gl_wire_lanes.specs.Lanes.{Lane, row_in, rows_before}
+use Rattle.gl_wire_lanes.specs.Lanes.{row_in, rows_before}
 use Rattle.gl_wire_lanes.proofs.RowLemmas.{rows_through}
 use Rattle.gl_frames_wire.specs.CountNets.{streams_by}
 use Rattle.gl_frames_stages.specs.Columns.{Tells, column_of}
@@ -103,3 +96,8 @@ input_kept old new input keeps is = record {
 pub all_pass : (b : Bool) → b ≡ (b && true)
 all_pass true = refl
 all_pass false = refl
+
+-- a bit, as a line
+pub bit_at : (run : Run) (line : Bit) (t n : ℕ) → run.at (suc t) line.node ≡ n → line_at run line (suc t) ≡ nat_eq n 1
+unfolding line_at
+bit_at run line t n e = ap (λ (k : ℕ). nat_eq k 1) e

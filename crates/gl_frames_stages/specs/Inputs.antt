@@ -35,7 +35,7 @@ rows_by run input t = row_at run t input.source.columns.now
 -- lines with the rows alone that pass
 pub record IsPassingIn (old new : Net) (input : Input) (filter : Option ℕ) (out : Lines) : Type 0 where
   pub keeps : Keeps old new
-  pub cost : CostsAtMost old new (nodes_alone 1)
+  pub cost : CostsAtMost old new (nodes_alone 2)
   pub row_line : IsBit new out.valid
   pub end_line : IsBit new out.eos
   pub same_ends : out.eos ≡ input.lines.eos
@@ -45,7 +45,7 @@ pub record IsPassingIn (old new : Net) (input : Input) (filter : Option ℕ) (ou
 -- a value where the row passes, and else 0
 pub record IsMaskedIn (old new : Net) (input : Input) (filter : Option ℕ) (value out : Bus) : Type 0 where
   pub keeps : Keeps old new
-  pub cost : CostsAtMost old new (nodes_alone 2)
+  pub cost : CostsAtMost old new (nodes_alone 3)
   pub bus : IsBus new out
   pub same_width : out.width ≡ value.width
   pub masks : (run : Run) → IsRun new run → (t : ℕ) → run.at (suc t) out.node
