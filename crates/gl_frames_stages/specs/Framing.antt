@@ -46,3 +46,7 @@ cost_of_frame_extreme width back = record {
   registers = (cost_of_doublings back 1 (back + 1) width).registers + width;
   memories = (cost_of_doublings back 1 (back + 1) width).memories;
 }
+
+-- a count, at most so many
+abbrev pub cost_of_number : ℕ → Cost
+cost_of_number back = record { nodes = 19; registers = place_bits (back + 1) + 33; memories = 0 }

@@ -22,8 +22,8 @@ pub struct Maybe {
     pub word: Bus,
 }
 
-// A word of a number that fits it.
-fn number_word(number: u128, width: u8) -> Word
+/// A word of a number that fits it.
+pub(crate) fn number_word(number: u128, width: u8) -> Word
     requires width { IsWidth width }
     requires fits { number < 2 ^ width }
     ensures bits { result.bits ≡ number }
