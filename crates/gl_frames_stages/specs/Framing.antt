@@ -50,3 +50,11 @@ cost_of_frame_extreme width back = record {
 -- a count, at most so many
 abbrev pub cost_of_number : ℕ → Cost
 cost_of_number back = record { nodes = 19; registers = place_bits (back + 1) + 33; memories = 0 }
+
+-- an operand in a register
+abbrev pub cost_of_own : ℕ → Cost
+cost_of_own width = record { nodes = 2; registers = width; memories = 0 }
+
+-- two operands, a gate, the last value and a register
+abbrev pub cost_of_last : ℕ → Cost
+cost_of_last width = record { nodes = 8; registers = 2 * width; memories = 0 }
