@@ -58,3 +58,7 @@ cost_of_own width = record { nodes = 2; registers = width; memories = 0 }
 -- two operands, a gate, the last value and a register
 abbrev pub cost_of_last : ℕ → Cost
 cost_of_last width = record { nodes = 8; registers = 2 * width; memories = 0 }
+
+-- two operands, a last value, its age, and a register
+abbrev pub cost_of_recent : ℕ → ℕ → Cost
+cost_of_recent width back = record { nodes = 24; registers = place_bits (back + 1) + 1 + 2 * width; memories = 0 }
