@@ -54,12 +54,7 @@ fn put_many(net: &mut NetBuilder, count: Bus, reach: Reach) -> Result<Bit, Memor
 }
 
 // What a column had so many rows before, in the cycle of the row.
-fn put_found(
-    net: &mut NetBuilder,
-    lines: Lines,
-    reach: Reach,
-    value: Bus,
-) -> Result<Maybe, Memory>
+fn put_found(net: &mut NetBuilder, lines: Lines, reach: Reach, value: Bus) -> Result<Maybe, Memory>
     requires valid { IsBit net.old lines.valid }
     requires eos { IsBit net.old lines.eos }
     requires reach { IsReach reach }

@@ -35,7 +35,12 @@ pub fn put_own_item(net: &mut NetBuilder, input: Input, operand: Operand) -> Res
 
 /// The value of the last row so far that passes, and 0 where none does, before this cycle's row and
 /// with it.
-pub(crate) fn put_last(net: &mut NetBuilder, lines: Lines, takes: Bit, value: Bus) -> Result<Fold, Memory>
+pub(crate) fn put_last(
+    net: &mut NetBuilder,
+    lines: Lines,
+    takes: Bit,
+    value: Bus,
+) -> Result<Fold, Memory>
     requires eos { IsBit net.old lines.eos }
     requires takes { IsBit net.old takes }
     requires value { IsBus net.old value }

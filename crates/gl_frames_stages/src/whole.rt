@@ -24,11 +24,7 @@ use gl_totals::sum::{put_count, put_sum};
 use gl_wire::later;
 
 /// How many rows have passed.
-pub fn put_all_count(
-    net: &mut NetBuilder,
-    input: Input,
-    filter: Option<u16>,
-) -> Result<Bus, Memory>
+pub fn put_all_count(net: &mut NetBuilder, input: Input, filter: Option<u16>) -> Result<Bus, Memory>
     requires input { HasInput net.old input }
     requires filter { FilterFits input.source.kinds.now filter }
     ensures { IfOk result (IsItemIn net.old net.new cost_of_all_count 1 32

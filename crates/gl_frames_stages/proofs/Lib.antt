@@ -1,0 +1,17 @@
+pub mod MeetLemmas
+pub mod ChangeLemmas
+pub mod DoubleLemmas
+pub mod LaggedNet
+pub mod DelayNet
+pub mod SlideNet
+pub mod TotalNet
+pub mod SumStage
+pub mod LevelNet
+pub mod DoublingNet
+pub mod InputNet
+pub mod WholeNet
+pub mod FramingLemmas
+pub mod NumberNet
+pub mod LastNet
+pub mod RecentLemmas
+pub mod RecentNet

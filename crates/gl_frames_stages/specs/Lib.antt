@@ -1,0 +1,16 @@
+pub mod Columns
+pub mod Laws
+pub mod LaggedNets
+pub mod DelayNets
+pub mod SlideNets
+pub mod SumNets
+pub mod LevelNets
+pub mod DoublingNets
+pub mod Inputs
+pub mod Wholes
+pub mod Framing
+pub mod NumberNets
+pub mod LastNets
+pub mod RecentNets
+pub mod Average
+pub mod Items
