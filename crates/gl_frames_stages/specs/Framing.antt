@@ -42,9 +42,9 @@ cost_of_passing_count back = record {
 -- an operand, all levels of doubling, and a register
 abbrev pub cost_of_frame_extreme : ℕ → ℕ → Cost
 cost_of_frame_extreme width back = record {
-  nodes = (cost_of_doublings back 1 (back + 1) width).nodes + 2;
-  registers = (cost_of_doublings back 1 (back + 1) width).registers + width;
-  memories = (cost_of_doublings back 1 (back + 1) width).memories;
+  nodes = (cost_of_doublings 5 back 1 (back + 1) width).nodes + 2;
+  registers = (cost_of_doublings 5 back 1 (back + 1) width).registers + width;
+  memories = (cost_of_doublings 5 back 1 (back + 1) width).memories;
 }
 
 -- a count, at most so many

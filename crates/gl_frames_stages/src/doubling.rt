@@ -3,7 +3,8 @@
 ghost use Rattle.std.specs.Prelude.{◌≡◌, ◌+◌, ◌<◌, ◌≤◌, ◌^◌, IfOk};
 ghost use Rattle.gl_net.specs.Net.{IsBit, IsBus};
 ghost use Rattle.gl_values.specs.Kinds.{width_of};
-ghost use Rattle.gl_frames_stages.specs.DoublingNets.{AreWindows, IsDoubledIn, IsFrameExtremeIn};
+ghost use Rattle.gl_frames_stages.specs.DoublingNets.{AreWindows, IsDoubledIn, IsFrameBestIn};
+ghost use Rattle.gl_frames_stages.specs.LevelNets.{word_width};
 
 use crate::level::{Order, put_level};
 use crate::lines::{Lines, delay_lines};
@@ -35,7 +36,8 @@ pub fn put_doubled(
     requires eos { IsBit net.old lines.eos }
     requires windows { AreWindows more windows }
     requires value { IsBus net.old value }
-    requires width { value.width ≡ width_of order.kind }
+    requires width { value.width ≡ word_width order }
+    requires some { 1 ≤ width_of order.kind }
     ensures { IfOk result (IsDoubledIn net.old net.new lines more windows order value) }
 {
     let rows = windows.rows;
@@ -57,7 +59,7 @@ pub fn put_doubled(
 
 /// The best of the last rows of a stream, each row and so many before it: two cycles for each
 /// doubling, and one, behind the row.
-pub fn put_frame_extreme(
+pub fn put_frame_best(
     net: &mut NetBuilder,
     lines: Lines,
     back: u32,
@@ -68,8 +70,9 @@ pub fn put_frame_extreme(
     requires eos { IsBit net.old lines.eos }
     requires back { back < 2 ^ 16 }
     requires value { IsBus net.old value }
-    requires width { value.width ≡ width_of order.kind }
-    ensures { IfOk result (IsFrameExtremeIn net.old net.new lines back order value) }
+    requires width { value.width ≡ word_width order }
+    requires some { 1 ≤ width_of order.kind }
+    ensures { IfOk result (IsFrameBestIn net.old net.new lines back order value) }
 {
     let windows = Windows {
         rows: 1,

@@ -1,8 +1,8 @@
 //! Frames of the last rows up to each: lags, sums, counts and extremes.
 
-ghost use Rattle.std.specs.Prelude.{◌≡◌, ◌+◌, ◌<◌, ◌≤◌, ◌^◌, IfOk, Some};
+ghost use Rattle.std.specs.Prelude.{◌<◌, ◌≤◌, ◌^◌, All, IfOk, Some};
 ghost use Rattle.gl_algebra.specs.Columns.{OperandFits, kind_of_operand};
-ghost use Rattle.gl_values.specs.Kinds.{width_of};
+ghost use Rattle.gl_values.specs.Kinds.{IsKind, width_of};
 ghost use Rattle.gl_values.specs.Totals.{count_of, sum_total};
 ghost use Rattle.gl_frames.specs.Frames.{frame_of, lag_of, total_over};
 ghost use Rattle.gl_totals.specs.Totals.{extreme_of};
@@ -10,7 +10,7 @@ ghost use Rattle.gl_frames_stages.specs.DoublingNets.{delay_of_extreme};
 ghost use Rattle.gl_frames_stages.specs.Framing.{cost_of_frame_extreme, cost_of_frame_sum, cost_of_lag, cost_of_passing_count, every, value_in};
 ghost use Rattle.gl_frames_stages.specs.Inputs.{FilterFits, HasInput, IsItemIn, passes_by};
 
-use crate::doubling::put_frame_extreme;
+use crate::doubling::put_frame_best;
 use crate::input::{Input, put_masked};
 use crate::lagged::put_lagged;
 use crate::level::Order;
@@ -108,6 +108,7 @@ pub fn put_extreme_item(
     back: u32,
 ) -> Result<Bus, Memory>
     requires input { HasInput net.old input }
+    requires kinds { All IsKind input.source.kinds.now }
     requires fits { OperandFits input.source.kinds.now operand }
     requires back { back < 2 ^ 16 }
     ensures { IfOk result (
@@ -117,8 +118,12 @@ pub fn put_extreme_item(
 {
     let kind = kind_of_operand(input.source.kinds, &operand);
     let value = put_operand(net, input.source, operand)?;
-    let order = Order { extreme, kind };
+    let order = Order {
+        extreme,
+        kind,
+        packed: false,
+    };
     // Named, since a goal speaks of the value.
-    let best = put_frame_extreme(net, input.lines, back, order, value)?;
+    let best = put_frame_best(net, input.lines, back, order, value)?;
     Ok(best)
 }

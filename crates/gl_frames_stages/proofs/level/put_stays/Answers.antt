@@ -1,43 +1,14 @@
-use Rattle.std.proofs.Common.{Bool, suc, ap, arith, ◌∙◌, sym}
-use Rattle.std.specs.Prelude.{not, ◌&&◌}
-use Rattle.gl_net.proofs.Determined.{keeps_then}
-use Rattle.gl_wire.specs.Wire.{line_at}
-use Rattle.gl_wire.proofs.ColumnLemmas.{bit_kept}
-use Rattle.gl_wire.proofs.GateLemmas.{bit_of}
-use Rattle.gl_totals.specs.Folds.{is_better}
-use Rattle.gl_totals.proofs.FoldNet.{bit_line}
+use Rattle.std.proofs.Common.{ℕ, Bool, ap, sym, subst}
+use Rattle.std.specs.Prelude.{if◌then◌else◌}
+use Rattle.gl_frames_stages.specs.LevelNets.{IsStaysIn}
 use Rattle.gl_frames_stages.proofs.level.put_stays.Goals as goal
 
-pub put_better-requires-clause-best : goal.put_better-requires-clause-best
-put_better-requires-clause-best c = record {
-  counts = c.requires.some;
-  value = c.requires.own;
-  same_width = c.requires.own_width ∙ sym c.requires.word_width;
-  kind = c.requires.word_width;
-}
-
-pub but_not-requires-clause-right : goal.but_not-requires-clause-right
-but_not-requires-clause-right c =
-    let test = c.in_ok-better.ensures in
-    bit_of c.put_better.new.net c.in_ok-better.better c.bit.result test.bus test.same_width c.bit.ensures
+pub returns-then-order-packed : goal.returns-then-order-packed
+returns-then-order-packed c =
+    subst (λ (n : ℕ). IsStaysIn c.args.net.now c.put_packed_stays.new.net n c.args.found c.args.own c.args.order c.in_ok-stays.stays)
+    (sym (ap (λ (b : Bool). if b then 12 else 5) c.if-order-packed.true)) c.in_ok-stays.ensures
 
 pub returns : goal.returns
 returns c =
-    let test = c.in_ok-better.ensures in
-    let stays = c.in_ok-stays.ensures in
-    let order = c.args.order in
-    let found = c.args.found in
-    record {
-      keeps = keeps_then _ c.put_better.new.net _ test.keeps stays.keeps;
-      cost = record {
-        nodes = omega (arith, test.cost.nodes, stays.cost.nodes);
-        registers = omega (arith, test.cost.registers, stays.cost.registers);
-        memories = omega (arith, test.cost.memories, stays.cost.memories);
-      };
-      bit = stays.bit;
-      line = λ run r t.
-          stays.line run r (suc t)
-          ∙ ap (λ (b : Bool). line_at run found.some (suc t) && not b)
-          (bit_line run c.bit.result t (is_better order.extreme order.kind (run.at (suc t) found.word.node) (run.at (suc t) c.args.own.node))
-          (ap (run.at (suc t)) c.bit.ensures ∙ test.carries run (stays.keeps.runs run r) (suc t)));
-    }
+    subst (λ (n : ℕ). IsStaysIn c.args.net.now c.put_plain_stays.new.net n c.args.found c.args.own c.args.order c.in_ok-stays-2.stays)
+    (sym (ap (λ (b : Bool). if b then 12 else 5) c.if-order-packed.false)) c.in_ok-stays-2.ensures

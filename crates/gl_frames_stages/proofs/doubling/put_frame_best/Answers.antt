@@ -1,14 +1,12 @@
 use Rattle.std.proofs.Common.{◌≡◌, ℕ, suc, ◌+◌, ◌*◌, arith, ap, ◌∙◌}
 use Rattle.gl_net.proofs.Determined.{keeps_then}
-use Rattle.gl_totals.specs.Totals.{extreme_of}
-use Rattle.gl_frames.specs.Frames.{last_ones}
 use Rattle.gl_frames_stages.specs.Columns.{carried_by, column_of}
 use Rattle.gl_frames_stages.specs.DoublingNets.{doublings}
 use Rattle.gl_frames_stages.specs.Laws.{best_in}
 use Rattle.gl_frames_stages.specs.LevelNets.{better_in}
-use Rattle.gl_frames_stages.proofs.DoublingNet.{best_alone, extreme_best}
+use Rattle.gl_frames_stages.proofs.DoublingNet.{best_alone}
 use Rattle.gl_frames_stages.proofs.MeetLemmas.{tells_next}
-use Rattle.gl_frames_stages.proofs.doubling.put_frame_extreme.Goals as goal
+use Rattle.gl_frames_stages.proofs.doubling.put_frame_best.Goals as goal
 
 pub put_doubled-requires-clause-windows : goal.put_doubled-requires-clause-windows
 put_doubled-requires-clause-windows c =
@@ -34,11 +32,10 @@ returns c =
       bus = out.bus;
       same_width = out.same_width ∙ best.same_width;
       tells = λ run r.
-          tells_next run lines n (λ xs. extreme_of order.extreme order.kind (last_ones (suc back) xs)) (carried_by run value) (carried_by run c.in_ok-best.best) (carried_by run c.in_ok-out.out)
+          tells_next run lines n (best_in (better_in order) (suc back)) (carried_by run value) (carried_by run c.in_ok-best.best) (carried_by run c.in_ok-out.out)
           (out.value run r)
           (λ d v.
           let one : back + 1 ≡ suc back = omega arith in
           best.tells run (out.keeps.runs run r) (carried_by run value) (best_alone (better_in order) run lines (carried_by run value)) d v
-          ∙ ap (λ k. best_in (better_in order) k (column_of run lines (carried_by run value) (suc d))) one
-          ∙ extreme_best order.extreme order.kind (last_ones (suc back) (column_of run lines (carried_by run value) (suc d))));
+          ∙ ap (λ k. best_in (better_in order) k (column_of run lines (carried_by run value) (suc d))) one);
     }
