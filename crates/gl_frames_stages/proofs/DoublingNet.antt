@@ -150,7 +150,7 @@ best_same : (f g : ℕ → ℕ → ℕ) → ((x y : ℕ) → f x y ≡ g x y) �
 best_same f g same [] = refl
 best_same f g same (y ∷ ys) = ap Some (fold_same f g same y ys)
 
-extreme_best : (extreme : Extreme) (kind : Kind) (ys : List ℕ) → number_or itself (best_of (better extreme kind) ys) ≡ extreme_of extreme kind ys
+pub extreme_best : (extreme : Extreme) (kind : Kind) (ys : List ℕ) → number_or itself (best_of (better extreme kind) ys) ≡ extreme_of extreme kind ys
 extreme_best Least kind ys = sym (extremes.least kind ys)
 extreme_best Greatest kind ys = sym (extremes.greatest kind ys)
 
