@@ -15,3 +15,5 @@ pub mod NumberNet
 pub mod LastNet
 pub mod RecentLemmas
 pub mod RecentNet
+pub mod PackLemmas
+pub mod FilteredNet

@@ -14,3 +14,6 @@ pub mod LastNets
 pub mod RecentNets
 pub mod Average
 pub mod Items
+pub mod FilteredNets
+pub mod ItemCosts
+pub mod FramesNets

@@ -28,7 +28,12 @@ pub struct Order {
 }
 
 // Whether a word is no better than an earlier one.
-fn put_plain_stays(net: &mut NetBuilder, found: Maybe, own: Bus, order: Order) -> Result<Bit, Memory>
+fn put_plain_stays(
+    net: &mut NetBuilder,
+    found: Maybe,
+    own: Bus,
+    order: Order,
+) -> Result<Bit, Memory>
     requires some { IsBit net.old found.some }
     requires word { IsBus net.old found.word }
     requires own { IsBus net.old own }
@@ -74,7 +79,12 @@ fn put_wins(net: &mut NetBuilder, word: Bus, own: Bus, order: Order) -> Result<B
 }
 
 // Whether an earlier word has a value, and a word has none that is better.
-fn put_packed_stays(net: &mut NetBuilder, found: Maybe, own: Bus, order: Order) -> Result<Bit, Memory>
+fn put_packed_stays(
+    net: &mut NetBuilder,
+    found: Maybe,
+    own: Bus,
+    order: Order,
+) -> Result<Bit, Memory>
     requires some { IsBit net.old found.some }
     requires word { IsBus net.old found.word }
     requires own { IsBus net.old own }

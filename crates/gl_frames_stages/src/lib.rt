@@ -6,9 +6,12 @@
 //! not.
 #![tactic(auto)]
 
+pub mod average;
 pub mod delay;
 pub mod doubling;
+pub mod filtered;
 pub mod framed;
+pub mod frames;
 pub mod input;
 pub mod item;
 pub mod lagged;
@@ -17,11 +20,13 @@ pub mod laws;
 pub mod level;
 pub mod lines;
 pub mod number;
+pub mod over;
 pub mod recent;
 pub mod slide;
 pub mod sum;
 pub mod whole;
 
+pub use frames::{FrameRows, put_frames};
 pub use input::Input;
 pub use item::{Frame, FrameAgg, FrameItem};
 pub use lines::Lines;

@@ -168,7 +168,14 @@ fn put_over_last(
         FrameAgg::Count => put_count_of(net, input, filter, back),
         FrameAgg::Sum(operand) => put_sum_item(net, input, filter, operand, back),
         FrameAgg::Min(operand) => put_extreme_of(net, input, Extreme::Least, filter, operand, back),
-        FrameAgg::Max(operand) => put_extreme_of(net, input, Extreme::Greatest, filter, operand, back),
+        FrameAgg::Max(operand) => put_extreme_of(
+            net,
+            input,
+            Extreme::Greatest,
+            filter,
+            operand,
+            back,
+        ),
         FrameAgg::Avg(operand) => put_average_item(net, input, filter, operand, back),
         FrameAgg::LastValue(operand) => put_last_of(net, input, filter, operand, back),
     }
