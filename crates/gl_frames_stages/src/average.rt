@@ -97,6 +97,6 @@ pub fn put_average_item(
     let fraction = put_frame_fraction(net, input, filter, operand, back)?;
     let quotient = put_quotient(net, kind, fraction, input.lines.valid)?;
     // Named, since a goal speaks of the value.
-    let out = low_bits(net, quotient, kind.bits())?;
+    let out = low_bits(net, quotient, fraction.top.width - quotient_bits(back))?;
     Ok(out)
 }

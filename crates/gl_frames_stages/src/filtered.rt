@@ -72,6 +72,6 @@ pub fn put_filtered_item(
     };
     let best = put_frame_best(net, input.lines, back, order, packed)?;
     // Named, since a goal speaks of the value.
-    let out = low_bits(net, best, kind.bits())?;
+    let out = low_bits(net, best, packed.width - 1)?;
     Ok(out)
 }

@@ -1,4 +1,4 @@
-use Rattle.std.proofs.Common.{◌≡◌, ℕ, suc, ◌+◌, ◌*◌, ◌%◌, ◌^◌, ◌≤◌, List, Some, Bool, true, map, ap, arith, refl, sym, subst, ◌∙◌}
+use Rattle.std.proofs.Common.{◌≡◌, ℕ, suc, ◌+◌, ◌-◌, ◌*◌, ◌%◌, ◌^◌, ◌≤◌, List, Some, Bool, true, map, ap, arith, refl, sym, subst, ◌∙◌}
 use Rattle.std.specs.Prelude.{filter, if◌then◌else◌}
 use Rattle.gl_algebra.specs.Columns.{kind_of_operand}
 use Rattle.gl_values.proofs.KindLemmas.{kind_some}
@@ -42,7 +42,7 @@ low_bits-requires-clause-width c =
     let kind = operand_kind c.args.input.source.kinds.now c.args.operand c.requires.kinds c.requires.fits in
     let some = kind_some _ kind in
     let most = kind.1 in
-    let is : c.bits.result ≡ width_of (kind_of_operand c.args.input.source.kinds.now c.args.operand) = c.bits.ensures ∙ ap width_of c.kind_of_operand-kind.ensures in
+    let is = c.in_ok-packed.ensures.width in
     record { some' = omega (arith, some, is); most = omega (arith, most, is) }
 
 pub returns : goal.returns
@@ -62,7 +62,7 @@ returns c =
     let out = c.in_ok-out.ensures in
     let x = c.in_ok-packed.packed in
     let b = c.in_ok-best.best in
-    let bits : c.bits.result ≡ w = c.bits.ensures ∙ ap width_of is in
+    let bits : x.width - 1 ≡ w = (let whole = packed.width in omega (arith, whole)) in
     let levels = ap (cost_of_doublings 12 back 1 (back + 1)) packed.width in
     record {
       keeps = keeps_then _ c.put_packed.new.net _ packed.keeps (keeps_then _ c.put_frame_best.new.net _ best.keeps out.keeps);
