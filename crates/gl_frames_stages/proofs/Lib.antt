@@ -17,3 +17,6 @@ pub mod RecentLemmas
 pub mod RecentNet
 pub mod PackLemmas
 pub mod FilteredNet
+pub mod CycleLemmas
+pub mod FramesNet
+pub mod FigureNet
