@@ -114,3 +114,14 @@ items_few kinds (item ∷ items) all fit =
     let first = item_few kinds item all (fit 0 item (omega arith)) in
     let rest = items_few kinds items all (λ k d lt. fit (suc k) d (omega (arith, lt))) in
     omega (arith, first, rest)
+
+some_exponents : (more exponent depth : ℕ) → 1 ≤ exponent → 1 ≤ least_exponent more exponent depth
+some_exponents zero e depth l = l
+some_exponents (suc more) e depth l = by (nat_le depth (2 ^ e)) (some_exponents more (suc e) depth)
+  where
+    by : (b : Bool) → (1 ≤ suc e → 1 ≤ least_exponent more (suc e) depth) → 1 ≤ (if b then e else least_exponent more (suc e) depth)
+    by true rest = l
+    by false rest = rest (omega arith)
+
+pub some_quotient_bits : (back : ℕ) → 1 ≤ quotient_bits back
+some_quotient_bits back = some_exponents (back + 2) 1 (back + 2) (omega arith)

@@ -20,3 +20,5 @@ pub mod FilteredNet
 pub mod CycleLemmas
 pub mod FramesNet
 pub mod FigureNet
+pub mod RangeLemmas
+pub mod MeanLemmas

@@ -21,8 +21,8 @@ use Rattle.gl_frames_stages.proofs.ChangeLemmas.{changes_sum, sum_rests}
 use Rattle.gl_frames_stages.proofs.MeetLemmas.{stages_as}
 use Rattle.gl_frames_stages.proofs.SlideNet.{both_told, own_told}
 
--- no row stands for the number 0
-number_none : (kind : Kind) → number_of kind 0 ≡ pos 0
+-- the word 0 stands for the number 0
+pub number_none : (kind : Kind) → number_of kind 0 ≡ pos 0
 number_none (Unsigned w) = refl
 number_none (Signed w) = ap (λ (b : Bool). if b then pos 0 else pos 0 -ℤ pos (2 ^ w)) (lt-ltb 0 (2 ^ (w - 1)) (pow_pos (w - 1)))
 number_none (Text n) = refl

@@ -1,5 +1,5 @@
 -- The average of the last rows: how wide its sum is, what its fraction carries, and what it costs at most.
-use Rattle.std.specs.Prelude.{◌≡◌, ℕ, ◌+◌, ◌*◌, ◌^◌, List, Option, Some, map}
+use Rattle.std.specs.Prelude.{◌≡◌, ℕ, suc, ◌+◌, ◌*◌, ◌%◌, ◌^◌, List, Option, Some, map}
 use Rattle.gl_algebra.specs.Columns.{kind_of_operand}
 use Rattle.gl_algebra.specs.Cost.{least_exponent}
 use Rattle.gl_algebra.specs.declared.node.Operand.{Operand}
@@ -13,7 +13,7 @@ use Rattle.gl_totals.specs.Costs.{cost_of_quotient}
 use Rattle.gl_totals.specs.declared.average.Fraction.{Fraction}
 use Rattle.gl_wire.specs.Costs.{Cost, CostsAtMost}
 use Rattle.gl_frames_stages.specs.Columns.{Tells, carried_by}
-use Rattle.gl_frames_stages.specs.Framing.{cost_of_passing_count, value_in}
+use Rattle.gl_frames_stages.specs.Framing.{value_in}
 use Rattle.gl_frames_stages.specs.Inputs.{passes_by, rows_by}
 use Rattle.gl_frames_stages.specs.declared.input.Input.{Input}
 
@@ -60,6 +60,9 @@ pub record IsFrameFraction (old new : Net) (input : Input) (by : Option ℕ) (op
   pub top_width : f.top.width ≡ width_of (kind_of_operand input.source.kinds.now operand) + quotient_bits back
   pub bottom : IsBus new f.bottom
   pub bottom_width : f.bottom.width ≡ 32
+  pub values : (run : Run) → IsRun new run → (t : ℕ)
+      → value_in operand (rows_by run input (suc t)) % 2 ^ width_of (kind_of_operand input.source.kinds.now operand)
+      ≡ value_in operand (rows_by run input (suc t))
   pub sums : (run : Run) → IsRun new run → Tells run input.lines 3
       (λ rows. word_of (width_of (kind_of_operand input.source.kinds.now operand) + quotient_bits back)
       (sum_of_numbers (kind_of_operand input.source.kinds.now operand) (framed_values operand by back rows)))
