@@ -9,7 +9,7 @@ use Rattle.gl_totals.proofs.KindLemmas.{operand_width}
 use Rattle.gl_values.specs.Kinds.{IsKind}
 use Rattle.gl_values.specs.declared.kind.Kind.{Kind}
 use Rattle.gl_frames_stages.specs.Average.{quotient_bits}
-use Rattle.gl_frames_stages.specs.DoublingNets.{delay_of_extreme, doublings, gap_of}
+use Rattle.gl_frames_stages.specs.DoublingNets.{DoublingsAreBits, delay_of_extreme, doublings, gap_of}
 use Rattle.gl_frames_stages.specs.Items.{AggFits, ItemFits, RowsFit, delay_of_all, delay_of_count, delay_of_frame, delay_of_item, delay_of_items, delay_of_last}
 use Rattle.gl_frames_stages.specs.declared.item.FrameAgg.{FrameAgg}
 use Rattle.gl_frames_stages.specs.declared.item.FrameAgg.TheVariants.{Avg, Count, LastValue, Max, Min, Sum}
@@ -125,3 +125,44 @@ some_exponents (suc more) e depth l = by (nat_le depth (2 ^ e)) (some_exponents 
 
 pub some_quotient_bits : (back : ℕ) → 1 ≤ quotient_bits back
 some_quotient_bits back = some_exponents (back + 2) 1 (back + 2) (omega arith)
+
+-- ---- as often as a number has bits
+
+exponent_done : (more exponent depth : ℕ) → depth ≤ 2 ^ exponent → least_exponent more exponent depth ≡ exponent
+exponent_done zero e depth le = refl
+exponent_done (suc more) e depth le = ap (λ (b : Bool). if b then e else least_exponent more (suc e) depth) (le-leb depth (2 ^ e) le)
+
+none_doubled : (more rows all : ℕ) → all ≤ rows → doublings more rows all ≡ 0
+none_doubled zero rows all le = refl
+none_doubled (suc more) rows all le = ap (λ (b : Bool). if b then 0 else suc (doublings more (rows + gap_of rows all) all)) (le-leb all rows le)
+
+levels_are : (more e all : ℕ) → doublings more (2 ^ e) all + e ≡ least_exponent more e all
+levels_are zero e all = omega arith
+levels_are (suc more) e all = by (nat_le all (2 ^ e)) refl (levels_are more (suc e) all)
+  where
+    double : 2 ^ suc e ≡ 2 ^ e + 2 ^ e
+    double = let p = pow-suc 2 e in omega (arith, p)
+
+    further : 2 ^ e < all → doublings more (2 ^ suc e) all + suc e ≡ least_exponent more (suc e) all
+        → suc (doublings more (2 ^ e + gap_of (2 ^ e) all) all) + e ≡ least_exponent more (suc e) all
+    further some rest = elim (cases_lt all (2 ^ suc e)) [
+      | inl lt ↦ (
+          let whole : all ≤ 2 ^ e + gap_of (2 ^ e) all = omega (arith, lt, double, some) in
+          let none = none_doubled more (2 ^ e + gap_of (2 ^ e) all) all whole in
+          let last = exponent_done more (suc e) all (omega (arith, lt)) in
+          omega (arith, none, last)
+          )
+      | inr ge ↦ (
+          let next : 2 ^ e + gap_of (2 ^ e) all ≡ 2 ^ suc e = omega (arith, ge, double) in
+          let same = ap (λ n. doublings more n all) next in
+          omega (arith, same, rest)
+          )
+    ]
+
+    by : (b : Bool) → nat_le all (2 ^ e) ≡ b → doublings more (2 ^ suc e) all + suc e ≡ least_exponent more (suc e) all
+        → (if b then 0 else suc (doublings more (2 ^ e + gap_of (2 ^ e) all) all)) + e ≡ (if b then e else least_exponent more (suc e) all)
+    by true p rest = omega arith
+    by false p rest = further (leb-false all (2 ^ e) p) rest
+
+pub doublings_bits : DoublingsAreBits
+doublings_bits back = let e : doublings back (2 ^ 0) (back + 1) + 0 ≡ least_exponent back 0 (back + 1) = levels_are back 0 (back + 1) in omega (arith, e)

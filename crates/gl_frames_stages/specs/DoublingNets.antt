@@ -1,5 +1,6 @@
 -- Doubling in a netlist: from the best of one row that of all rows of a frame.
 use Rattle.std.specs.Prelude.{◌≡◌, ℕ, zero, suc, ◌+◌, ◌-◌, ◌*◌, ◌^◌, ◌≤◌, min, nat_le, if◌then◌else◌}
+use Rattle.gl_algebra.specs.Cost.{least_exponent}
 use Rattle.gl_net.specs.declared.node.Bus.{Bus}
 use Rattle.gl_net.specs.Net.{Net, Run, IsRun, IsBus, Keeps}
 use Rattle.gl_frames_wire.specs.Reaches.{place_bits}
@@ -27,6 +28,10 @@ gap_of rows all = min rows (all - rows)
 abbrev pub doublings : ℕ → ℕ → ℕ → ℕ
 doublings zero rows all = 0
 doublings (suc more) rows all = if nat_le all rows then 0 else suc (doublings more (rows + gap_of rows all) all)
+
+-- one row is doubled as often as the number of rows before the last one has bits
+abbrev pub DoublingsAreBits : Type 0
+DoublingsAreBits = (back : ℕ) → doublings back 1 (back + 1) ≡ least_exponent back 0 (back + 1)
 
 -- what a level costs, with the gates that tell which word is kept, and the lines behind it
 abbrev pub with_level : ℕ → ℕ → ℕ → Cost → Cost

@@ -1,6 +1,7 @@
 //! Laws of frames in stages, each of which stands in a function's contract.
 
 ghost use Rattle.std.specs.Prelude.{ℕ};
+ghost use Rattle.gl_frames_stages.specs.DoublingNets.{DoublingsAreBits};
 ghost use Rattle.gl_frames_stages.specs.Laws.{BestsDouble, ChangesSum, StagesMeet};
 
 /// A column tells what is made of the rows so far, and one on lines as late what is made of that: it
@@ -17,4 +18,9 @@ pub fn changes_sum()
 /// The better one of two windows of bests is the best of more rows.
 pub fn bests_double()
     ensures { BestsDouble }
+{}
+
+/// One row is doubled as often as the number of rows before the last one has bits.
+pub fn doublings_are_bits()
+    ensures { DoublingsAreBits }
 {}
