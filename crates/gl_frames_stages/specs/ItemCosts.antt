@@ -5,7 +5,7 @@ use Rattle.gl_values.specs.Kinds.{width_of}
 use Rattle.gl_values.specs.declared.kind.Kind.{Kind}
 use Rattle.gl_wire.specs.Costs.{Cost}
 use Rattle.gl_frames_stages.specs.Average.{cost_of_frame_average, cost_of_frame_number}
-use Rattle.gl_frames_stages.specs.DelayNets.{cost_of_late}
+use Rattle.gl_frames_stages.specs.DelayNets.{cost_of_late, cost_of_late_lines}
 use Rattle.gl_frames_stages.specs.FilteredNets.{cost_of_filtered_extreme}
 use Rattle.gl_frames_stages.specs.Framing.{cost_of_frame_extreme, cost_of_frame_sum, cost_of_lag, cost_of_last, cost_of_recent}
 use Rattle.gl_frames_stages.specs.Items.{delay_of_item, kind_of_item}
@@ -70,7 +70,7 @@ cost_of_items kinds cycles items = record {
 -- all items and the lines beside them
 abbrev pub cost_of_frames : List Kind → ℕ → List FrameItem → Cost
 cost_of_frames kinds cycles items = record {
-  nodes = (cost_of_items kinds cycles items).nodes + 2 * cycles;
-  registers = (cost_of_items kinds cycles items).registers + 2 * cycles;
-  memories = (cost_of_items kinds cycles items).memories;
+  nodes = (cost_of_items kinds cycles items).nodes + (cost_of_late_lines cycles).nodes;
+  registers = (cost_of_items kinds cycles items).registers + (cost_of_late_lines cycles).registers;
+  memories = (cost_of_items kinds cycles items).memories + (cost_of_late_lines cycles).memories;
 }

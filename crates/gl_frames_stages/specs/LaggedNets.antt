@@ -1,5 +1,5 @@
 -- What a column had so many rows before, in a netlist.
-use Rattle.std.specs.Prelude.{◌≡◌, ℕ, suc, ◌+◌, ◌*◌, ◌^◌, true, Option, Some, None, if◌then◌else◌}
+use Rattle.std.specs.Prelude.{◌≡◌, ℕ, suc, ◌+◌, ◌*◌, ◌^◌, false, true, Option, Some, None, if◌then◌else◌}
 use Rattle.gl_net.specs.declared.node.Bus.{Bus}
 use Rattle.gl_net.specs.Net.{Net, Run, IsRun, IsBit, IsBus, Keeps}
 use Rattle.gl_frames.specs.Frames.{row_before}
@@ -39,5 +39,6 @@ pub record IsLaggedIn (old new : Net) (lines : Lines) (reach : Reach) (value : B
   pub bit : IsBit new out.some
   pub bus : IsBus new out.word
   pub same_width : out.word.width ≡ value.width
+  pub fresh : (run : Run) → IsRun new run → line_at run out.some 1 ≡ false
   pub tells : (run : Run) → IsRun new run
       → Tells run lines 1 (row_before reach.back) (carried_by run value) (maybe_at run out)

@@ -11,10 +11,10 @@ ghost use Rattle.gl_frames_stages.specs.Inputs.{HasInput, IsItemIn};
 ghost use Rattle.gl_frames_stages.specs.ItemCosts.{cost_of_frames, cost_of_item_late};
 ghost use Rattle.gl_frames_stages.specs.Items.{ItemFits, delay_of_item, delay_of_items, frames_row, kind_of_item, value_of_item};
 
-use crate::delay::put_late;
+use crate::delay::{put_late, put_late_lines};
 use crate::input::Input;
 use crate::item::{FrameItem, delay_of_item, delay_of_items};
-use crate::lines::{Lines, delay_lines};
+use crate::lines::Lines;
 use crate::over::put_item;
 use gl_algebra::Figures;
 use gl_bits::Memory;
@@ -136,7 +136,7 @@ pub fn put_frames(
         },
     };
     let columns = put_items(alloc, net, input, items, cycles)?;
-    let late = delay_lines(net, lines, cycles)?;
+    let late = put_late_lines(net, lines, cycles)?;
     Ok(Emitted {
         wire: Wire {
             valid: late.valid,

@@ -2,6 +2,7 @@ use Rattle.std.proofs.Common.{arith, ◌∙◌}
 use Rattle.gl_frames.specs.Frames.{row_before}
 use Rattle.gl_net.proofs.Determined.{keeps_then}
 use Rattle.gl_wire.proofs.ColumnLemmas.{bit_kept, bus_kept}
+use Rattle.gl_wire.proofs.StageLemmas.{line_first}
 use Rattle.gl_frames_stages.specs.Columns.{carried_by}
 use Rattle.gl_frames_stages.proofs.LaggedNet.{maybe_later}
 use Rattle.gl_frames_stages.proofs.lagged.put_lagged.Goals as goal
@@ -24,6 +25,7 @@ returns c = rw c.note_bus.ensures (
       bit = bit_kept _ _ c.in_ok-some.some word.keeps some.bit;
       bus = word.bus;
       same_width = word.same_width ∙ found.same_width;
+      fresh = λ run r. some.line run (word.keeps.runs run r) 0 ∙ line_first run c.in_ok-found.found.some;
       tells = λ run r.
           let at_some = word.keeps.runs run r in
           maybe_later run c.args.lines (row_before c.args.reach.back) (carried_by run c.args.value) c.in_ok-found.found (record { some = c.in_ok-some.some; word = c.in_ok-word.word })
