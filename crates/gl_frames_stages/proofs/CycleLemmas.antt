@@ -15,6 +15,7 @@ use Rattle.gl_frames_stages.specs.declared.item.FrameAgg.{FrameAgg}
 use Rattle.gl_frames_stages.specs.declared.item.FrameAgg.TheVariants.{Avg, Count, LastValue, Max, Min, Sum}
 use Rattle.gl_frames_stages.specs.declared.item.FrameItem.{FrameItem}
 use Rattle.gl_frames_stages.specs.declared.item.FrameItem.TheVariants.{Lag, Over, Own}
+use Rattle.gl_frames_stages.proofs.DoublingNet.{doublings_done}
 
 -- none takes longer than the slowest
 pub item_within : (kinds : List Kind) (items : List FrameItem) (i : ℕ) (d : FrameItem) → i < length items → delay_of_item kinds (get_or items i d) ≤ delay_of_items kinds items
@@ -132,10 +133,6 @@ exponent_done : (more exponent depth : ℕ) → depth ≤ 2 ^ exponent → least
 exponent_done zero e depth le = refl
 exponent_done (suc more) e depth le = ap (λ (b : Bool). if b then e else least_exponent more (suc e) depth) (le-leb depth (2 ^ e) le)
 
-none_doubled : (more rows all : ℕ) → all ≤ rows → doublings more rows all ≡ 0
-none_doubled zero rows all le = refl
-none_doubled (suc more) rows all le = ap (λ (b : Bool). if b then 0 else suc (doublings more (rows + gap_of rows all) all)) (le-leb all rows le)
-
 levels_are : (more e all : ℕ) → doublings more (2 ^ e) all + e ≡ least_exponent more e all
 levels_are zero e all = omega arith
 levels_are (suc more) e all = by (nat_le all (2 ^ e)) refl (levels_are more (suc e) all)
@@ -148,7 +145,7 @@ levels_are (suc more) e all = by (nat_le all (2 ^ e)) refl (levels_are more (suc
     further some rest = elim (cases_lt all (2 ^ suc e)) [
       | inl lt ↦ (
           let whole : all ≤ 2 ^ e + gap_of (2 ^ e) all = omega (arith, lt, double, some) in
-          let none = none_doubled more (2 ^ e + gap_of (2 ^ e) all) all whole in
+          let none = doublings_done more (2 ^ e + gap_of (2 ^ e) all) all whole in
           let last = exponent_done more (suc e) all (omega (arith, lt)) in
           omega (arith, none, last)
           )

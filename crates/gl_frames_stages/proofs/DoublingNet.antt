@@ -36,7 +36,7 @@ use Rattle.gl_frames_stages.proofs.MeetLemmas.{behind_itself, stages_as, tells_b
 
 -- ---- how often, and what it costs
 
-doublings_done : (more rows all : ℕ) → all ≤ rows → doublings more rows all ≡ 0
+pub doublings_done : (more rows all : ℕ) → all ≤ rows → doublings more rows all ≡ 0
 doublings_done zero rows all le = refl
 doublings_done (suc more) rows all le = ap (λ (b : Bool). if b then 0 else suc (doublings more (rows + gap_of rows all) all)) (le-leb all rows le)
 

@@ -25,7 +25,7 @@ pub sum_through : {B : Type 0} (w k : ℕ) (v : B → ℕ) (p : B → Bool) (row
 sum_through w k v p rows = sym (filters_mask w (Some k) v p rows)
 
 -- all pass
-every_one : {B : Type 0} (rows : List B) → filter (λ (r : B). true) rows ≡ rows
+pub every_one : {B : Type 0} (rows : List B) → filter (λ (r : B). true) rows ≡ rows
 every_one [] = refl
 every_one (r ∷ rows) = ap (λ l. r ∷ l) (every_one rows)
 

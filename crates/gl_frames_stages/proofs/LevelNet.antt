@@ -2,6 +2,7 @@
 use Rattle.std.proofs.Common.{◌≡◌, ℕ, suc, ◌+◌, ◌%◌, ◌^◌, Option, Some, None, Bool, true, false, refl, sym, ap, ◌∙◌, arith}
 use Rattle.std.specs.Prelude.{ℤ, int_lt, not, ◌&&◌, if◌then◌else◌}
 use Rattle.std.proofs.lemmas.Int.{ints}
+use Rattle.gl_bits.proofs.Bools.{not_true}
 use Rattle.gl_divide.specs.Division.{highest}
 use Rattle.gl_net.specs.declared.node.Bit.{Bit}
 use Rattle.gl_net.specs.Net.{Run}
@@ -70,18 +71,14 @@ better_both : (extreme : Extreme) (kind : Kind) (x y z : ℕ) → is_better extr
 better_both Least kind x y z p q = lt_both (number_of kind) x y z _ p q refl
 better_both Greatest kind x y z p q = lt_both (number_of kind) z y x _ q p refl
 
-not_false : (b : Bool) → not b ≡ true → b ≡ false
-not_false true e = absurd (cc)
-not_false false e = refl
-
-not_true : (b : Bool) → not b ≡ false → b ≡ true
-not_true true e = refl
-not_true false e = absurd (cc)
+none_not : (b : Bool) → not b ≡ false → b ≡ true
+none_not true e = refl
+none_not false e = absurd (cc)
 
 plain_goes : (extreme : Extreme) (kind : Kind) → Goes (λ x y. not (is_better extreme kind x y))
 plain_goes extreme kind = record {
-  kept = λ x y z p q. ap not (better_none extreme kind x y z (not_false (is_better extreme kind x y) p) (not_false (is_better extreme kind y z) q));
-  left = λ x y z p q. ap not (better_both extreme kind x y z (not_true (is_better extreme kind x y) p) (not_true (is_better extreme kind y z) q));
+  kept = λ x y z p q. ap not (better_none extreme kind x y z (not_true (is_better extreme kind x y) p) (not_true (is_better extreme kind y z) q));
+  left = λ x y z p q. ap not (better_both extreme kind x y z (none_not (is_better extreme kind x y) p) (none_not (is_better extreme kind y z) q));
 }
 
 -- over truth values: which words have a value, and which values are better
@@ -89,13 +86,13 @@ packed_kept : (a b c d e f : Bool) → (d ≡ false → e ≡ false → f ≡ fa
 packed_kept false b c d e f h p q = absurd (cc)
 packed_kept true false c d e f h p q = absurd (cc)
 packed_kept true true false d e f h p q = refl
-packed_kept true true true d e f h p q = ap not (h (not_false d p) (not_false e q))
+packed_kept true true true d e f h p q = ap not (h (not_true d p) (not_true e q))
 
 packed_left : (a b c d e f : Bool) → (d ≡ true → e ≡ true → f ≡ true) → (a && not (b && d)) ≡ false → (b && not (c && e)) ≡ false → (a && not (c && f)) ≡ false
 packed_left false b c d e f h p q = refl
 packed_left true false c d e f h p q = absurd (cc)
 packed_left true true false d e f h p q = absurd (cc)
-packed_left true true true d e f h p q = ap not (h (not_true d p) (not_true e q))
+packed_left true true true d e f h p q = ap not (h (none_not d p) (none_not e q))
 
 packed_goes : (extreme : Extreme) (kind : Kind) → Goes (packed_stays extreme kind)
 packed_goes extreme kind = record {

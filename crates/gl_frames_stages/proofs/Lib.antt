@@ -19,6 +19,5 @@ pub mod PackLemmas
 pub mod FilteredNet
 pub mod CycleLemmas
 pub mod FramesNet
-pub mod FigureNet
 pub mod RangeLemmas
 pub mod MeanLemmas

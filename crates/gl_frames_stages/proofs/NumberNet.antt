@@ -17,11 +17,7 @@ use Rattle.gl_frames_wire.proofs.RingLemmas.{one_in}
 use Rattle.gl_frames_wire.proofs.WindLemmas.{counts_from, counts_wind}
 use Rattle.gl_frames_stages.specs.Columns.{Tells, column_of}
 use Rattle.gl_frames_stages.specs.declared.lines.Lines.{Lines}
-
--- zeros above a word
-pub join_none : (w n : ℕ) → join_of w 0 n ≡ n
-unfolding join_of
-join_none w n = let e : 0 * 2 ^ w + n ≡ n = omega arith in e
+use Rattle.gl_frames_stages.proofs.FramingLemmas.{every_one}
 
 module _ {B : Type 0} (size k : ℕ) (some : 1 ≤ size) (few : k ≤ size) (small : k < 2 ^ 16) (xs : List B) (x : B) where
   many : nat_le k (wound size (length xs)) ≡ nat_le k (length xs)
@@ -62,12 +58,7 @@ number_told run lines size k column count rows some few small counts is c v =
     ap rows e ∙ is c ∙ ap (λ (n : ℕ). if nat_le k n then k + 1 else sum_of 32 n 1) (counts c v) ∙ frame_rows size k some few small xs (column (suc c))
     ∙ ap (λ own. count_of (rows_preceding (Some k) (xs ++ own))) (sym (one_in (line_at run lines.valid (suc c)) (column (suc c)) v))
 
--- whatever the rows are
-every_row : {B : Type 0} (rows : List B) → filter (λ (r : B). true) rows ≡ rows
-every_row [] = refl
-every_row (r ∷ rows) = ap (λ l. r ∷ l) (every_row rows)
-
 pub number_through : {B : Type 0} (k : ℕ) (v : B → ℕ) (rows : List B) → count_of (rows_preceding (Some k) (map v rows)) ≡ count_of (frame_of (Some k) (λ r. true) rows)
 unfolding count_of
 number_through k v rows =
-    ap (λ (n : ℕ). n % 2 ^ 32) (ap length (last_map (suc k) v rows) ∙ length-map (last_ones (suc k) rows) v ∙ ap length (sym (every_row (last_ones (suc k) rows))))
+    ap (λ (n : ℕ). n % 2 ^ 32) (ap length (last_map (suc k) v rows) ∙ length-map (last_ones (suc k) rows) v ∙ ap length (sym (every_one (last_ones (suc k) rows))))

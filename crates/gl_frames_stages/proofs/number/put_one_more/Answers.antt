@@ -2,7 +2,7 @@ use Rattle.std.proofs.Common.{◌≡◌, ℕ, ap, arith, sym, ◌∙◌}
 use Rattle.gl_bits.specs.Words.{join_of, sum_of}
 use Rattle.gl_net.proofs.Determined.{keeps_then}
 use Rattle.gl_wire.proofs.ColumnLemmas.{bus_kept}
-use Rattle.gl_frames_stages.proofs.NumberNet.{join_none}
+use Rattle.gl_divide.proofs.BitLemmas.{none_above}
 use Rattle.gl_frames_stages.proofs.number.put_one_more.Goals as goal
 
 pub join-requires-clause-low : goal.join-requires-clause-low
@@ -47,6 +47,6 @@ returns c =
           ∙ ap (λ (n : ℕ). sum_of n (run.at t w.node) (run.at t c.in_ok-one.one.node)) whole
           ∙ ap (λ (n : ℕ). sum_of 32 n (run.at t c.in_ok-one.one.node))
           (wide.value run at_wide t ∙ ap (λ (n : ℕ). join_of count.width n (run.at t count.node)) (high.value run at_high t ∙ c.number_word.ensures.bits)
-          ∙ join_none count.width (run.at t count.node))
+          ∙ none_above count.width (run.at t count.node))
           ∙ ap (sum_of 32 (run.at t count.node)) (one.value run at_one t ∙ c.number_word-2.ensures.bits);
     }

@@ -2,7 +2,7 @@ use Rattle.std.proofs.Common.{List, Some}
 use Rattle.gl_values.specs.Results.{Row}
 use Rattle.gl_wire.specs.Wire.{carried}
 use Rattle.gl_frames_stages.specs.Items.{delay_of_items, frames_row}
-use Rattle.gl_frames_stages.proofs.FigureNet.{delayed_sound}
+use Rattle.gl_algebra.proofs.SoundLemmas.{delayed_sound}
 use Rattle.gl_frames_stages.proofs.frames.FrameRowsOperator.emit.Goals as goal
 
 pub returns-clause-serves : goal.returns-clause-serves
