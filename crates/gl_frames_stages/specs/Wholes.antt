@@ -8,6 +8,10 @@ use Rattle.gl_totals.specs.declared.rows.Keep.TheVariants.{Register}
 use Rattle.gl_wire.specs.Costs.{Cost}
 use Rattle.gl_frames_stages.specs.Inputs.{passes_by}
 
+-- the rows that pass
+abbrev pub rows_passed : Option ℕ → List Row → List Row
+rows_passed by rows = filter (passes_by by) rows
+
 -- the values of an operand of the rows that pass
 abbrev pub passed : Option ℕ → Operand → List Row → List ℕ
 passed by operand rows = map (λ row. value_of_operand row operand) (filter (passes_by by) rows)

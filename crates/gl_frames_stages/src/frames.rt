@@ -1,6 +1,6 @@
 //! A select of frames: all items of each row, so many cycles behind it.
 
-ghost use Rattle.std.specs.Prelude.{◌≡◌, ◌≤◌, All, IfOk, Some, map};
+ghost use Rattle.std.specs.Prelude.{◌≡◌, ◌≤◌, ◌^◌, All, IfOk, Some, map};
 ghost use Rattle.gl_algebra.specs.FigureTable.{delayed, settled};
 ghost use Rattle.gl_values.specs.Kinds.{IsKind, width_of};
 ghost use Rattle.gl_frames_wire.specs.Running.{Each, Runs};

@@ -1,8 +1,9 @@
-use Rattle.std.proofs.Common.{◌≡◌, ℕ, suc, ◌-◌, ap, arith, true, ◌∙◌}
+use Rattle.std.proofs.Common.{◌≡◌, ℕ, suc, ◌-◌, ◌*◌, ◌^◌, ap, arith, true, ◌∙◌}
 use Rattle.gl_net.proofs.Determined.{keeps_then}
 use Rattle.gl_wire.proofs.ColumnLemmas.{bit_kept, bus_kept}
 use Rattle.gl_wire.proofs.GateLemmas.{bit_of, never_line}
 use Rattle.gl_totals.proofs.FoldNet.{bit_line}
+use Rattle.gl_frames_wire.specs.Reaches.{place_bits}
 use Rattle.gl_frames_stages.specs.Columns.{carried_by}
 use Rattle.gl_frames_stages.proofs.DelayNet.{far_behind}
 use Rattle.gl_frames_stages.proofs.delay.put_far.Goals as goal
@@ -27,6 +28,8 @@ returns c =
     let late = c.in_ok-late.ensures in
     let back = c.new.result.back in
     let bits = c.new.ensures.bits in
+    let wide : ℕ = c.args.bus.width in
+    let room : 2 ^ c.new.result.bits * wide ≡ 2 ^ place_bits (c.args.cycles - 1) * wide = ap (λ n. 2 ^ n * wide) bits in
     let is : back ≡ c.args.cycles - 1 = c.new.ensures.back in
     let long : c.args.cycles ≡ suc back = omega (arith, is, c.requires.some) in
     record {
@@ -34,7 +37,7 @@ returns c =
       cost = record {
         nodes = omega (arith, one.size, zero.size, late.cost.nodes);
         registers = omega (arith, one.register_bits, zero.register_bits, late.cost.registers, bits);
-        memories = omega (arith, one.memory_bits, zero.memory_bits, late.cost.memories, bits);
+        memories = omega (arith, one.memory_bits, zero.memory_bits, late.cost.memories, room);
       };
       bus = late.bus;
       same_width = late.same_width;

@@ -1,9 +1,10 @@
-use Rattle.std.proofs.Common.{◌≡◌, ℕ, suc, ◌*◌, ◌^◌, ◌≤◌, ap, arith, sym, true, ◌∙◌}
+use Rattle.std.proofs.Common.{◌≡◌, ℕ, suc, ◌-◌, ◌*◌, ◌^◌, ◌≤◌, ap, arith, sym, true, ◌∙◌}
 use Rattle.gl_net.specs.Net.{IsBus}
 use Rattle.gl_net.proofs.Determined.{keeps_then}
 use Rattle.gl_wire.proofs.ColumnLemmas.{bit_kept, bus_kept}
 use Rattle.gl_wire.proofs.GateLemmas.{bit_of, never_line}
 use Rattle.gl_totals.proofs.FoldNet.{bit_line}
+use Rattle.gl_frames_wire.specs.Reaches.{place_bits}
 use Rattle.gl_frames_stages.specs.Columns.{carried_by}
 use Rattle.gl_frames_stages.proofs.DelayNet.{line_far}
 use Rattle.gl_frames_stages.proofs.delay.put_far_line.Goals as goal
@@ -30,12 +31,13 @@ returns c =
     let long : c.args.cycles ≡ suc back = (let some = c.requires.some in omega (arith, is, some)) in
     let wide = c.bus.ensures.width in
     let words : 2 ^ c.new.result.bits * c.bus.result.width ≡ 2 ^ c.new.result.bits * 1 = ap (λ n. 2 ^ c.new.result.bits * n) wide in
+    let room : 2 ^ c.new.result.bits ≡ 2 ^ place_bits (c.args.cycles - 1) = ap (λ n. 2 ^ n) place in
     record {
       keeps = keeps_then _ c.constant.new.self _ one.keeps (keeps_then _ c.constant-2.new.self _ zero.keeps (keeps_then _ c.put_lagged.new.net _ late.keeps out.keeps));
       cost = record {
         nodes = omega (arith, one.size, zero.size, late.cost.nodes, out.cost.nodes);
         registers = omega (arith, one.register_bits, zero.register_bits, late.cost.registers, out.cost.registers, place, wide);
-        memories = omega (arith, one.memory_bits, zero.memory_bits, late.cost.memories, out.cost.memories, words, place);
+        memories = omega (arith, one.memory_bits, zero.memory_bits, late.cost.memories, out.cost.memories, words, room);
       };
       bit = bit_of c.put_or_none.new.net c.in_ok-out.out c.bit-3.result out.bus (out.same_width ∙ late.same_width ∙ wide) c.bit-3.ensures;
       line = λ run r.
