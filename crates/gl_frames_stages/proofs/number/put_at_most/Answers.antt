@@ -55,7 +55,7 @@ returns c =
           ∙ ap (λ (b : Bool). if b then run.at (suc t) k.node else run.at (suc t) m.node)
           (many_line run c.bit.result back (run.at (suc t) count.node) t
           (ap (run.at (suc t)) c.bit.ensures ∙ full.value run at_full (suc t)
-          ∙ ap (λ n. le_of n (run.at (suc t) count.node)) (least.value run at_least (suc t) ∙ c.number_word.ensures.bits)))
-          ∙ ap (λ (n : ℕ). if nat_le back (run.at (suc t) count.node) then n else run.at (suc t) m.node) (most.value run at_most (suc t) ∙ c.number_word-2.ensures.bits)
+          ∙ ap (λ n. le_of n (run.at (suc t) count.node)) (least.value run at_least (suc t) ∙ c.number_word.ensures.bits ∙ c.from.ensures)))
+          ∙ ap (λ (n : ℕ). if nat_le back (run.at (suc t) count.node) then n else run.at (suc t) m.node) (most.value run at_most (suc t) ∙ c.number_word-2.ensures.bits ∙ ap (λ n. n + 1) c.from-2.ensures)
           ∙ ap (λ (n : ℕ). if nat_le back (run.at (suc t) count.node) then back + 1 else n) (more.more run at_more (suc t));
     }
