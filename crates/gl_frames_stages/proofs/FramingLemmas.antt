@@ -44,8 +44,8 @@ bit_word n lt = by n lt
 
 module _ {B : Type 0} (p : B → Bool) where
   one_of : (b : Bool) → widened (Unsigned 1) 32 (bit b) ≡ (if b then 1 else 0)
-  one_of true = mod-eq_of_lt {m = 1} (omega arith)
-  one_of false = zero-mod (2 ^ 32)
+  one_of true = refl
+  one_of false = refl
 
   ones : (rows : List B) → map (widened (Unsigned 1) 32) (map (λ r. bit (p r)) rows) ≡ map (masked (λ r. 1) p) rows
   ones [] = refl

@@ -38,7 +38,7 @@ module _ {B : Type 0} (v : B → ℕ) (p : B → Bool) where
   none_left : (k : ℕ) → last (last_ones k []) ≡ (if nat_le k (age p []) then 0 else last [])
   none_left k = ap last (drop_all (0 - k) [] (omega arith)) ∙ by (nat_le k 0)
     where
-      by : (b : Bool) → 0 ≡ (if b then 0 else 0)
+      by : (b : Bool) → zero ≡ (if b then zero else zero)
       by true = refl
       by false = refl
 

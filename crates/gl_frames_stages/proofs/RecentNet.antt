@@ -31,7 +31,7 @@ module _ {B : Type 0} (run : Run) (lines : Lines) (takes fresh : Bit) (p : B →
   stepped true false false q ns xs x h g i = ap length (append-nil ns) ∙ i ∙ ap (age p) (sym (append-nil xs))
   stepped true false true true ns xs x h g i = sym (age_more (λ (y : B). 0) p xs x ∙ ap (λ (b : Bool). if b then 0 else suc (age p xs)) g)
   stepped true false true false ns xs x h g i =
-      let long : length (ns ++ 0 ∷ []) ≡ suc (length ns) = (let n = length-append ns (0 ∷ []) in omega (arith, n)) in
+      let long : length {A = ℕ} (ns ++ 0 ∷ []) ≡ suc (length ns) = (let n = length-append ns (0 ∷ []) in omega (arith, n)) in
       long ∙ ap suc i ∙ sym (age_more (λ (y : B). 0) p xs x ∙ ap (λ (b : Bool). if b then 0 else suc (age p xs)) g)
 
   takes_at : (c : ℕ) → line_at run takes c ≡ (line_at run lines.valid c && p (row c))
@@ -42,12 +42,12 @@ module _ {B : Type 0} (run : Run) (lines : Lines) (takes fresh : Bit) (p : B →
       low a true e f = absurd (cc)
   takes_at (suc c) = is c
 
-  pub ages_since : (c : ℕ) → length (rows_since (own_ends (streams_by run lines.valid fresh)) (streams_by run lines.valid fresh) (λ (t : ℕ). 0) 0 c)
+  pub ages_since : (c : ℕ) → length {A = ℕ} (rows_since (own_ends (streams_by run lines.valid fresh)) (streams_by run lines.valid fresh) (λ (t : ℕ). 0) 0 c)
       ≡ age p (rows_since (own_ends (streams_by run lines.valid lines.eos)) (streams_by run lines.valid lines.eos) row 0 c)
   ages_since zero = refl
   ages_since (suc c) =
       let ns : List ℕ = rows_since (own_ends (streams_by run lines.valid fresh)) (streams_by run lines.valid fresh) (λ (t : ℕ). 0) 0 c in
-      ap (λ (b : Bool). length (if nat_eq 0 0 && b then [] else (if nat_eq 0 0 then ns ++ (if line_at run lines.valid c then 0 ∷ [] else []) else ns)))
+      ap (λ (b : Bool). length {A = ℕ} (if nat_eq 0 0 && b then [] else (if nat_eq 0 0 then ns ++ (if line_at run lines.valid c then 0 ∷ [] else []) else ns)))
       (anew c ∙ ap (λ (b : Bool). line_at run lines.eos c || b) (takes_at c))
       ∙ stepped (nat_eq 0 0) (line_at run lines.eos c) (line_at run lines.valid c) (p (row c)) ns
       (rows_since (own_ends (streams_by run lines.valid lines.eos)) (streams_by run lines.valid lines.eos) row 0 c) (row c) (eq-eqb 0 0 refl) refl (ages_since c)

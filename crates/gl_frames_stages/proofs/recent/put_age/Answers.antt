@@ -48,7 +48,7 @@ returns c =
           let at_fresh = count.keeps.runs run at_count in
           many_line run c.bit.result back (run.at (suc d) b.node) d
           (ap (run.at (suc d)) c.bit.ensures ∙ gate.value run r (suc d)
-          ∙ ap (λ n. le_of n (run.at (suc d) b.node)) (least.value run at_least (suc d) ∙ c.number_word.ensures.bits))
+          ∙ ap (λ n. le_of n (run.at (suc d) b.node)) (least.value run at_least (suc d) ∙ c.number_word.ensures.bits ∙ c.from.ensures))
           ∙ old_told (2 ^ bits) back (run.at (suc d) b.node) (column_past run lines.valid c.in_ok-fresh.fresh (λ (t : ℕ). 0) (suc d)) (pow_pos bits) few (count.counts run at_count (λ (t : ℕ). 0) d v)
           ∙ ap (nat_le back) (ages_since run lines c.args.takes c.in_ok-fresh.fresh p row is (fresh.line run at_fresh) (suc d));
     }

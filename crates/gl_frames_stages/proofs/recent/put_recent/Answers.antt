@@ -47,7 +47,7 @@ returns c =
           let at_aged = now.keeps.runs run at_now in
           let at_last = aged.keeps.runs run at_aged in
           let at_takes = last.keeps.runs run at_last in
-          let line = (λ t. takes.line run at_takes (suc t) ∙ ap (λ (b : Bool). line_at run lines.valid (suc t) && b) (passes t)) in
+          let line : (t : ℕ) → line_at run c.in_ok-takes.takes (suc t) ≡ (line_at run lines.valid (suc t) && p (row (suc t))) = (λ t. takes.line run at_takes (suc t) ∙ ap (λ (b : Bool). line_at run lines.valid (suc t) && b) (passes t)) in
           tells_next run lines 0 (last_value_of v (Some c.args.back) p) row (carried_by run c.in_ok-now.now) (carried_by run c.in_ok-out.out) (out.value run r)
           (recent_told run lines c.in_ok-takes.takes c.args.passes c.in_ok-old.old v p row (carried_by run value) (carried_by run f.before) (carried_by run f.now) (carried_by run c.in_ok-now.now) c.args.back
           (last.anew run at_last) (last.taken run at_last) line is passes (aged.ages run at_aged p row line) (now.chosen run at_now));
