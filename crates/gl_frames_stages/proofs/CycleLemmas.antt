@@ -1,6 +1,6 @@
 -- How many cycles items take: none takes longer than the slowest, and that is few.
 use Rattle.std.proofs.Common.{◌≡◌, ℕ, zero, suc, ◌+◌, ◌-◌, ◌*◌, ◌^◌, ◌<◌, ◌≤◌, List, [], ◌∷◌, length, get_or, Option, Some, None, Bool, true, false, refl, ap, arith, inl, inr, mul-le-mul_right}
-use Rattle.std.specs.Prelude.{All, if◌then◌else◌, max, min, nat_le}
+use Rattle.std.specs.Prelude.{All, if◌then◌else◌, nat_le}
 use Rattle.std.proofs.Math.Nat.{le-max_left, le-max_right, pow-suc}
 use Rattle.std.proofs.lemmas.Bool.{cases_lt, le-leb, leb-false}
 use Rattle.std.proofs.lemmas.Nat.{pow_pos}

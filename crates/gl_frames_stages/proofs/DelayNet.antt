@@ -1,11 +1,11 @@
 -- A ring of a stream that never ends, whose rows are all cycles, is a delay.
-use Rattle.std.proofs.Common.{◌≡◌, ℕ, zero, suc, ◌+◌, ◌<◌, ◌≤◌, List, [], ◌∷◌, ◌++◌, Option, Some, None, Bool, true, false, length, refl, sym, ap, ◌∙◌, arith, eq-eqb, length-append}
+use Rattle.std.proofs.Common.{◌≡◌, ℕ, zero, suc, ◌+◌, ◌<◌, ◌≤◌, List, [], ◌∷◌, ◌++◌, Some, None, Bool, true, false, length, refl, sym, ap, ◌∙◌, arith, eq-eqb, length-append}
 use Rattle.std.specs.Prelude.{◌&&◌, if◌then◌else◌, nat_eq, slice_get}
 use Rattle.std.proofs.lemmas.Bool.{le-leb, lt-leb}
 use Rattle.gl_bits.proofs.Options.{some_same}
 use Rattle.gl_net.specs.declared.node.Bit.{Bit}
 use Rattle.gl_net.specs.declared.node.Bus.{Bus}
-use Rattle.gl_net.specs.Net.{Net, Run, IsBus}
+use Rattle.gl_net.specs.Net.{Net, Run}
 use Rattle.gl_wire.specs.Costs.{Cost}
 use Rattle.gl_wire.specs.Wire.{line_at}
 use Rattle.gl_wire.proofs.StageLemmas.{line_first}

@@ -1,6 +1,6 @@
 -- Level upon level: the best of all rows of a frame.
-use Rattle.std.proofs.Common.{◌≡◌, ℕ, zero, suc, ◌+◌, ◌-◌, ◌*◌, ◌^◌, ◌<◌, ◌≤◌, List, [], ◌∷◌, ◌++◌, Some, Bool, false, length, drop, refl, sym, ap, ◌∙◌, subst, arith}
-use Rattle.std.specs.Prelude.{fold, if◌then◌else◌, min, nat_le}
+use Rattle.std.proofs.Common.{◌≡◌, ℕ, zero, suc, ◌+◌, ◌-◌, ◌*◌, ◌^◌, ◌<◌, ◌≤◌, List, [], ◌∷◌, ◌++◌, Some, Bool, false, length, refl, sym, ap, ◌∙◌, subst, arith}
+use Rattle.std.specs.Prelude.{fold, if◌then◌else◌}
 use Rattle.std.proofs.lemmas.Bool.{le-leb, lt-leb}
 use Rattle.std.proofs.lemmas.List.{drop_all}
 use Rattle.gl_net.specs.declared.node.Bus.{Bus}
@@ -9,7 +9,6 @@ use Rattle.gl_net.proofs.Determined.{keeps_then}
 use Rattle.gl_net.proofs.Growth.{same_keeps}
 use Rattle.gl_wire.specs.Costs.{Cost}
 use Rattle.gl_wire.specs.Wire.{line_at}
-use Rattle.gl_wire_lanes.specs.Lanes.{row_in}
 use Rattle.gl_frames.specs.Frames.{best_of, lag_of, last_ones, number_or, row_before}
 use Rattle.gl_frames.proofs.BestLemmas.{extremes}
 use Rattle.gl_frames.proofs.LastLemmas.{last_more}
@@ -23,7 +22,7 @@ use Rattle.gl_totals.specs.Totals.{extreme_of}
 use Rattle.gl_totals.specs.declared.fold.Extreme.{Extreme}
 use Rattle.gl_totals.specs.declared.fold.Extreme.TheVariants.{Least, Greatest}
 use Rattle.gl_values.specs.declared.kind.Kind.{Kind}
-use Rattle.gl_frames_stages.specs.Columns.{AreLinesBehind, LinesBehind, Tells, carried_by, column_of}
+use Rattle.gl_frames_stages.specs.Columns.{AreLinesBehind, Tells, carried_by, column_of}
 use Rattle.gl_frames_stages.specs.DoublingNets.{AreWindows, IsDoubledIn, cost_of_doublings, doublings, gap_of, with_level}
 use Rattle.gl_frames_stages.specs.Laws.{best_in, itself, picked}
 use Rattle.gl_frames_stages.specs.LevelNets.{IsLevelIn, better_in, nodes_of_stays}

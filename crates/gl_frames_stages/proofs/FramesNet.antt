@@ -1,5 +1,5 @@
 -- Items side by side, as late as the slowest, and the wire behind them.
-use Rattle.std.proofs.Common.{◌≡◌, ℕ, zero, suc, ◌+◌, ◌-◌, ◌*◌, ◌≤◌, List, [], ◌∷◌, ◌++◌, map, Option, Some, None, Bool, true, false, refl, sym, ap, ◌∙◌, subst, arith}
+use Rattle.std.proofs.Common.{◌≡◌, ℕ, suc, ◌+◌, ◌-◌, ◌≤◌, List, [], ◌∷◌, ◌++◌, map, Some, None, Bool, true, false, refl, sym, ap, ◌∙◌, subst, arith}
 use Rattle.std.specs.Prelude.{if◌then◌else◌, sum_by}
 use Rattle.std.proofs.lemmas.List.{map-append}
 use Rattle.std.proofs.lemmas.List.Sums.{sum_by-append, sum_by-cons}
@@ -13,7 +13,7 @@ use Rattle.gl_net.proofs.Growth.{same_keeps}
 use Rattle.gl_wire.specs.Blocks.{IsBehind}
 use Rattle.gl_wire.specs.Costs.{Cost}
 use Rattle.gl_wire.specs.Shapes.{IsDelayed}
-use Rattle.gl_wire.specs.Wire.{AreBuses, carried, line_at, row_at, tuple_at, widths, wire_of}
+use Rattle.gl_wire.specs.Wire.{AreBuses, carried, line_at, row_at, widths, wire_of}
 use Rattle.gl_wire.specs.declared.emitted.Emitted.{Emitted}
 use Rattle.gl_wire.specs.declared.wire.Wire.{Wire}
 use Rattle.gl_wire.proofs.ColumnLemmas.{AreBuses-none, AreBuses-push, buses_kept, row_at-none, row_at-push, widths-push}
@@ -25,7 +25,7 @@ use Rattle.gl_frames_stages.specs.Columns.{LinesBehind, Tells, carried_by, colum
 use Rattle.gl_frames_stages.specs.DelayNets.{AreLinesLate, IsLateIn, cost_of_late}
 use Rattle.gl_frames_stages.specs.FramesNets.{AreItemsIn, frames_widths}
 use Rattle.gl_frames_stages.specs.Inputs.{IsItemIn, rows_by}
-use Rattle.gl_frames_stages.specs.ItemCosts.{cost_of_frames, cost_of_item, cost_of_item_late, cost_of_items}
+use Rattle.gl_frames_stages.specs.ItemCosts.{cost_of_frames, cost_of_item, cost_of_item_late}
 use Rattle.gl_frames_stages.specs.Items.{delay_of_item, delay_of_items, frames_row, kind_of_item, value_of_item}
 use Rattle.gl_frames_stages.specs.declared.input.Input.{Input}
 use Rattle.gl_frames_stages.specs.declared.item.FrameItem.{FrameItem}

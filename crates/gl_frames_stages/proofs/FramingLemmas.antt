@@ -1,12 +1,11 @@
 -- Frames of the last rows, from what columns of their values tell.
-use Rattle.std.proofs.Common.{◌≡◌, ℕ, zero, suc, ◌+◌, ◌%◌, ◌^◌, ◌<◌, List, [], ◌∷◌, map, Option, Some, None, Bool, true, false, refl, sym, ap, ◌∙◌, arith}
+use Rattle.std.proofs.Common.{◌≡◌, ℕ, zero, suc, ◌<◌, List, [], ◌∷◌, map, Option, Some, None, Bool, true, false, refl, sym, ap, ◌∙◌, arith}
 use Rattle.std.specs.Prelude.{filter, if◌then◌else◌, nat_eq}
 use Rattle.std.specs.Option.{option_map}
-use Rattle.std.proofs.Math.Nat.{mod-eq_of_lt, zero-mod}
 use Rattle.gl_bits.specs.Words.{bit}
 use Rattle.gl_values.specs.Totals.{count_of, sum_total}
 use Rattle.gl_values.specs.declared.kind.Kind.TheVariants.{Unsigned}
-use Rattle.gl_frames.specs.Frames.{frame_of, lag_of, last_ones, number_or, row_before, rows_preceding, total_over}
+use Rattle.gl_frames.specs.Frames.{frame_of, lag_of, last_ones, number_or, row_before, total_over}
 use Rattle.gl_frames.specs.Laws.{masked}
 use Rattle.gl_frames.proofs.SumLemmas.{counts_sum, filters_mask, last_map}
 use Rattle.gl_frames_stages.specs.Laws.{itself}

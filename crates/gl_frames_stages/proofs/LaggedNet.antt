@@ -1,5 +1,5 @@
 -- A value that may be absent, in registers, and as a word that is 0 where it is absent.
-use Rattle.std.proofs.Common.{◌≡◌, ℕ, suc, ◌+◌, List, Option, Some, None, Bool, true, false, refl, sym, ap, ◌∙◌, arith}
+use Rattle.std.proofs.Common.{◌≡◌, ℕ, suc, ◌+◌, List, Option, Some, None, Bool, true, false, refl, ap, ◌∙◌, arith}
 use Rattle.std.specs.Prelude.{if◌then◌else◌}
 use Rattle.gl_net.specs.Net.{Run}
 use Rattle.gl_wire.specs.Wire.{line_at}

@@ -1,5 +1,5 @@
 -- The better of two windows, from a comparison in a cycle of its own.
-use Rattle.std.proofs.Common.{◌≡◌, ℕ, suc, ◌+◌, ◌%◌, ◌^◌, Option, Some, None, Bool, true, false, refl, sym, ap, ◌∙◌, arith}
+use Rattle.std.proofs.Common.{◌≡◌, ℕ, suc, ◌+◌, ◌%◌, ◌^◌, Some, None, Bool, true, false, refl, sym, ap, ◌∙◌, arith}
 use Rattle.std.specs.Prelude.{ℤ, int_lt, not, ◌&&◌, if◌then◌else◌}
 use Rattle.std.proofs.lemmas.Int.{ints}
 use Rattle.gl_bits.proofs.Bools.{not_true}
@@ -16,7 +16,7 @@ use Rattle.gl_values.specs.Kinds.{number_of, width_of}
 use Rattle.gl_values.specs.declared.kind.Kind.{Kind}
 use Rattle.gl_frames_stages.specs.Columns.{Tells, column_of}
 use Rattle.gl_frames_stages.specs.LaggedNets.{maybe_at}
-use Rattle.gl_frames_stages.specs.LevelNets.{better_in, packed_stays, stays_in, wins}
+use Rattle.gl_frames_stages.specs.LevelNets.{better_in, packed_stays, stays_in}
 use Rattle.gl_frames_stages.specs.Laws.{itself, picked}
 use Rattle.gl_frames_stages.specs.declared.lagged.Maybe.{Maybe}
 use Rattle.gl_frames_stages.specs.declared.level.Order.{Order}

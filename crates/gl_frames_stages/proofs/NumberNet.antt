@@ -1,11 +1,11 @@
 -- The count of the rows before a row tells how many its frame has.
-use Rattle.std.proofs.Common.{◌≡◌, ℕ, suc, ◌+◌, ◌*◌, ◌%◌, ◌^◌, ◌<◌, ◌≤◌, List, [], ◌∷◌, ◌++◌, Some, Bool, true, length, map, refl, sym, ap, ◌∙◌, arith, inl, inr}
-use Rattle.std.specs.Prelude.{filter, if◌then◌else◌, nat_le}
+use Rattle.std.proofs.Common.{◌≡◌, ℕ, suc, ◌+◌, ◌%◌, ◌^◌, ◌<◌, ◌≤◌, List, [], ◌∷◌, ◌++◌, Some, Bool, true, length, map, sym, ap, ◌∙◌, arith, inl, inr}
+use Rattle.std.specs.Prelude.{if◌then◌else◌, nat_le}
 use Rattle.std.proofs.Math.Nat.{mod-eq_of_lt}
 use Rattle.std.proofs.lemmas.Bool.{cases_lt, le-leb, lt-leb, lt-ltb}
 use Rattle.std.proofs.lemmas.List.{length-append, length-map}
 use Rattle.gl_values.specs.Totals.{count_of}
-use Rattle.gl_bits.specs.Words.{join_of, sum_of}
+use Rattle.gl_bits.specs.Words.{sum_of}
 use Rattle.gl_net.specs.Net.{Run}
 use Rattle.gl_wire.specs.Wire.{line_at}
 use Rattle.gl_frames.specs.Frames.{frame_of, last_ones, rows_preceding}
@@ -15,7 +15,7 @@ use Rattle.gl_frames_wire.specs.CountNets.{column_past}
 use Rattle.gl_frames_wire.specs.Rings.{wound}
 use Rattle.gl_frames_wire.proofs.RingLemmas.{one_in}
 use Rattle.gl_frames_wire.proofs.WindLemmas.{counts_from, counts_wind}
-use Rattle.gl_frames_stages.specs.Columns.{Tells, column_of}
+use Rattle.gl_frames_stages.specs.Columns.{Tells}
 use Rattle.gl_frames_stages.specs.declared.lines.Lines.{Lines}
 use Rattle.gl_frames_stages.proofs.FramingLemmas.{every_one}
 

@@ -1,5 +1,5 @@
 -- The best of words with a bit above the value is the best of the values that are there.
-use Rattle.std.proofs.Common.{◌≡◌, ℕ, zero, suc, ◌+◌, ◌%◌, ◌^◌, ◌<◌, List, [], ◌∷◌, ◌++◌, Option, Some, None, Bool, true, false, map, refl, sym, ap, ◌∙◌, subst, arith}
+use Rattle.std.proofs.Common.{◌≡◌, ℕ, zero, suc, ◌+◌, ◌%◌, ◌^◌, ◌<◌, List, [], ◌∷◌, Option, Some, None, Bool, true, false, map, refl, sym, ap, ◌∙◌, subst, arith}
 use Rattle.std.specs.Prelude.{⊤, filter, fold, not, ◌&&◌, if◌then◌else◌}
 use Rattle.std.proofs.Math.Nat.{add-mod_left, mod-eq_of_lt, mod-lt, zero-mod}
 use Rattle.std.proofs.lemmas.Nat.{pow_pos}
@@ -7,7 +7,7 @@ use Rattle.gl_divide.specs.Division.{highest}
 use Rattle.gl_divide.proofs.BitLemmas.{highest_none, highest_some}
 use Rattle.gl_values.specs.Kinds.{width_of}
 use Rattle.gl_values.specs.declared.kind.Kind.{Kind}
-use Rattle.gl_frames.specs.Frames.{IsChoice, best_of, better_of, frame_of, last_ones, number_or}
+use Rattle.gl_frames.specs.Frames.{IsChoice, best_of, better_of, last_ones, number_or}
 use Rattle.gl_frames.proofs.BestLemmas.{best_append, extremes}
 use Rattle.gl_frames.proofs.SumLemmas.{last_map}
 use Rattle.gl_totals.specs.Folds.{better, is_better}
@@ -16,9 +16,8 @@ use Rattle.gl_totals.specs.declared.fold.Extreme.{Extreme}
 use Rattle.gl_totals.specs.declared.fold.Extreme.TheVariants.{Least, Greatest}
 use Rattle.gl_totals.proofs.FoldNet.{better_is}
 use Rattle.gl_frames_stages.specs.FilteredNets.{if_passes, pack}
-use Rattle.gl_frames_stages.specs.LevelNets.{better_in, packed_stays, wins}
+use Rattle.gl_frames_stages.specs.LevelNets.{better_in, wins}
 use Rattle.gl_frames_stages.specs.Laws.{best_in, itself}
-use Rattle.gl_frames_stages.specs.declared.level.Order.{Order}
 use Rattle.gl_frames_stages.proofs.DoublingNet.{extreme_best}
 
 -- a value that is there fits

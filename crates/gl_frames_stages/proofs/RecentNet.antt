@@ -1,5 +1,5 @@
 -- A count that begins anew behind each row that passes is the age of the last value.
-use Rattle.std.proofs.Common.{◌≡◌, ℕ, zero, suc, ◌+◌, ◌≤◌, ◌<◌, List, [], ◌∷◌, ◌++◌, Some, None, Bool, true, false, length, refl, sym, ap, ◌∙◌, arith, append-nil, eq-eqb}
+use Rattle.std.proofs.Common.{◌≡◌, ℕ, zero, suc, ◌+◌, ◌≤◌, List, [], ◌∷◌, ◌++◌, Some, Bool, true, false, length, refl, sym, ap, ◌∙◌, arith, append-nil, eq-eqb}
 use Rattle.std.specs.Prelude.{◌&&◌, ◌||◌, if◌then◌else◌, nat_eq, nat_le}
 use Rattle.std.proofs.lemmas.List.{length-append}
 use Rattle.gl_net.specs.declared.node.Bit.{Bit}
@@ -7,7 +7,6 @@ use Rattle.gl_net.specs.Net.{Run}
 use Rattle.gl_wire.specs.Wire.{line_at}
 use Rattle.gl_wire.proofs.StageLemmas.{line_first}
 use Rattle.gl_wire_lanes.specs.Keeping.{IsRegister}
-use Rattle.gl_wire_lanes.specs.Lanes.{row_in}
 use Rattle.gl_frames.specs.Frames.{last_value_of}
 use Rattle.gl_frames_wire.specs.CountNets.{column_past, streams_by}
 use Rattle.gl_frames_wire.specs.Rings.{wound}

@@ -1,12 +1,11 @@
 -- What comes and what leaves, as what a column tells, and the change by both.
-use Rattle.std.proofs.Common.{◌≡◌, ℕ, zero, suc, ◌+◌, ◌%◌, ◌^◌, ◌<◌, List, ◌++◌, ◌∷◌, [], Option, Some, None, Bool, true, refl, sym, ap, ◌∙◌, arith}
+use Rattle.std.proofs.Common.{◌≡◌, ℕ, suc, ◌+◌, ◌%◌, ◌^◌, ◌<◌, List, ◌++◌, Option, Some, true, sym, ap, ◌∙◌, arith}
 use Rattle.std.specs.Prelude.{if◌then◌else◌}
 use Rattle.std.proofs.Math.Nat.{mod-eq_of_lt}
 use Rattle.gl_bits.specs.Words.{difference_of}
 use Rattle.gl_net.specs.declared.node.Bus.{Bus}
 use Rattle.gl_net.specs.Net.{Run}
 use Rattle.gl_wire.specs.Wire.{line_at}
-use Rattle.gl_wire_lanes.specs.Lanes.{row_in}
 use Rattle.gl_frames.specs.Frames.{lag_of, number_or, row_before}
 use Rattle.gl_frames.proofs.LastLemmas.{ends_with}
 use Rattle.gl_frames_wire.specs.CountNets.{streams_by}
@@ -14,8 +13,7 @@ use Rattle.gl_frames_wire.specs.Since.{own_ends, rows_since}
 use Rattle.gl_frames_wire.proofs.RingLemmas.{one_in}
 use Rattle.gl_frames_stages.specs.Columns.{Tells, carried_by, column_of}
 use Rattle.gl_frames_stages.specs.LaggedNets.{maybe_at}
-use Rattle.gl_frames_stages.specs.Laws.{change_of, itself}
-use Rattle.gl_frames_stages.specs.SlideNets.{widened}
+use Rattle.gl_frames_stages.specs.Laws.{itself}
 use Rattle.gl_frames_stages.specs.declared.lagged.Maybe.{Maybe}
 use Rattle.gl_frames_stages.specs.declared.lines.Lines.{Lines}
 use Rattle.gl_frames_stages.proofs.LaggedNet.{none_is}

@@ -1,5 +1,5 @@
 -- What a total of streams one after another carries, as what a column tells.
-use Rattle.std.proofs.Common.{◌≡◌, ℕ, suc, ◌+◌, List, ◌++◌, sym, ap, ◌∙◌, arith}
+use Rattle.std.proofs.Common.{◌≡◌, ℕ, suc, ◌+◌, List, ◌++◌, sym, ap, ◌∙◌}
 use Rattle.gl_net.specs.declared.node.Bus.{Bus}
 use Rattle.gl_net.specs.Net.{Run}
 use Rattle.gl_wire.specs.Wire.{line_at}
@@ -9,7 +9,7 @@ use Rattle.gl_wire_lanes.proofs.SingleLemmas.{one_is_single}
 use Rattle.gl_frames_wire.specs.CountNets.{streams_by}
 use Rattle.gl_frames_wire.proofs.SinceLemmas.{own_ends_lanes}
 use Rattle.gl_totals.specs.Open.{AreTold, in_register, lane_by, values_at}
-use Rattle.gl_frames_stages.specs.Columns.{Tells, carried_by, column_of}
+use Rattle.gl_frames_stages.specs.Columns.{carried_by, column_of}
 use Rattle.gl_frames_stages.specs.declared.lines.Lines.{Lines}
 
 -- the rows of the open stream, as those of a lane of one slot

@@ -1,5 +1,5 @@
 -- Totals of the rows that pass, as items.
-use Rattle.std.proofs.Common.{◌≡◌, ℕ, suc, ◌+◌, ◌%◌, ◌^◌, ◌≤◌, List, map, length, Option, Bool, refl, sym, ap, ◌∙◌, subst, arith}
+use Rattle.std.proofs.Common.{◌≡◌, ℕ, suc, ◌+◌, ◌%◌, ◌^◌, ◌≤◌, List, length, Option, Bool, refl, sym, ap, ◌∙◌, arith}
 use Rattle.std.specs.Prelude.{◌&&◌, filter}
 use Rattle.std.proofs.lemmas.List.{length-map}
 use Rattle.gl_algebra.specs.declared.node.Operand.{Operand}
@@ -19,7 +19,7 @@ use Rattle.gl_totals.specs.Costs.{cost_of_count}
 use Rattle.gl_totals.specs.Open.{in_register}
 use Rattle.gl_totals.specs.Totals.{IsTotalOf}
 use Rattle.gl_totals.specs.declared.rows.Keep.TheVariants.{Register}
-use Rattle.gl_frames_stages.specs.Columns.{Tells, carried_by, column_of}
+use Rattle.gl_frames_stages.specs.Columns.{carried_by, column_of}
 use Rattle.gl_frames_stages.specs.Inputs.{IsItemIn, IsPassingIn, passes_by, rows_by}
 use Rattle.gl_frames_stages.specs.Wholes.{cost_of_all_count, passed, with_register}
 use Rattle.gl_frames_stages.specs.declared.input.Input.{Input}

@@ -1,5 +1,5 @@
 -- Columns of streams one after another, and what one tells of another, some cycles later.
-use Rattle.std.specs.Prelude.{◌≡◌, ℕ, suc, ◌+◌, ◌*◌, true, List, Option, Some, None, if◌then◌else◌}
+use Rattle.std.specs.Prelude.{◌≡◌, ℕ, suc, ◌+◌, ◌*◌, true, List}
 use Rattle.gl_net.specs.Net.{Net, Run, IsRun, IsBit, Keeps}
 use Rattle.gl_net.specs.declared.node.Bus.{Bus}
 use Rattle.gl_divide.specs.Divider.{IsLineBehind}

@@ -1,7 +1,6 @@
 -- A select of frames in a netlist.
 use Rattle.std.specs.Prelude.{◌≡◌, ℕ, List, map}
 use Rattle.gl_values.specs.Kinds.{width_of}
-use Rattle.gl_values.specs.Results.{Row}
 use Rattle.gl_values.specs.declared.kind.Kind.{Kind}
 use Rattle.gl_net.specs.declared.node.Bus.{Bus}
 use Rattle.gl_net.specs.Net.{Net, Run, IsRun, Keeps}

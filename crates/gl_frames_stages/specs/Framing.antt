@@ -1,5 +1,5 @@
 -- Frames of the last rows: what they take of a row, and what they cost at most.
-use Rattle.std.specs.Prelude.{ℕ, suc, ◌+◌, ◌*◌, ◌^◌, Bool, true}
+use Rattle.std.specs.Prelude.{ℕ, ◌+◌, ◌*◌, ◌^◌, Bool, true}
 use Rattle.gl_algebra.specs.declared.node.Operand.{Operand}
 use Rattle.gl_algebra.specs.Values.{value_of_operand}
 use Rattle.gl_values.specs.Results.{Row}

@@ -8,7 +8,7 @@ use Rattle.gl_net.specs.Net.{Net, Run, IsRun, IsBit, IsBus, Keeps}
 use Rattle.gl_rows.specs.Made.{IsSource}
 use Rattle.gl_wire.specs.Costs.{Cost, CostsAtMost, nodes_alone}
 use Rattle.gl_wire.specs.Wire.{line_at, row_at}
-use Rattle.gl_frames_stages.specs.Columns.{Tells, carried_by, column_of}
+use Rattle.gl_frames_stages.specs.Columns.{Tells, carried_by}
 use Rattle.gl_frames_stages.specs.declared.input.Input.{Input}
 use Rattle.gl_frames_stages.specs.declared.lines.Lines.{Lines}
 

@@ -1,5 +1,5 @@
 -- What items cost at most.
-use Rattle.std.specs.Prelude.{ℕ, ◌+◌, ◌*◌, ◌-◌, Option, Some, None, List, sum_by}
+use Rattle.std.specs.Prelude.{ℕ, ◌+◌, ◌-◌, Option, Some, None, List, sum_by}
 use Rattle.gl_algebra.specs.Columns.{kind_of_operand}
 use Rattle.gl_values.specs.Kinds.{width_of}
 use Rattle.gl_values.specs.declared.kind.Kind.{Kind}

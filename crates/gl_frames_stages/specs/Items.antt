@@ -1,6 +1,6 @@
 -- The items of a select of frames: what each makes of the rows of a stream up to a row, of which kind it is, and how
 -- many cycles it takes.
-use Rattle.std.specs.Prelude.{◌≡◌, ℕ, ◌+◌, ◌<◌, ◌≤◌, ◌^◌, max, Option, Some, None, Bool, List, [], ◌∷◌, map, All, IsTrue, ⊤}
+use Rattle.std.specs.Prelude.{ℕ, ◌+◌, ◌<◌, ◌≤◌, ◌^◌, max, Option, Some, None, Bool, List, [], ◌∷◌, map, IsTrue, ⊤}
 use Rattle.gl_algebra.specs.Columns.{OperandFits, kind_of_operand}
 use Rattle.gl_values.specs.Kinds.{is_number, width_of}
 use Rattle.gl_values.specs.Results.{Row}

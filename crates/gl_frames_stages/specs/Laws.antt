@@ -1,5 +1,5 @@
 -- The laws of frames in stages. A clause cannot range over all types, so it names one; the lemmas are public.
-use Rattle.std.specs.Prelude.{◌≡◌, ℕ, ◌+◌, ◌-◌, ◌<◌, ◌≤◌, ◌^◌, ◌%◌, List, map, Option, Some, None}
+use Rattle.std.specs.Prelude.{◌≡◌, ℕ, ◌+◌, ◌<◌, ◌≤◌, ◌^◌, List, map, Option, Some, None}
 use Rattle.gl_values.specs.Totals.{sum_total}
 use Rattle.gl_bits.specs.Words.{difference_of}
 use Rattle.gl_net.specs.Net.{Run}

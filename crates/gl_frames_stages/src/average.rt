@@ -1,6 +1,6 @@
 //! The average of the last rows, as late as its division.
 
-ghost use Rattle.std.specs.Prelude.{◌≡◌, ◌+◌, ◌<◌, ◌^◌, All, IfOk, Some};
+ghost use Rattle.std.specs.Prelude.{◌+◌, ◌<◌, ◌^◌, All, IfOk, Some};
 ghost use Rattle.gl_algebra.specs.Columns.{OperandFits, kind_of_operand};
 ghost use Rattle.gl_values.specs.Kinds.{IsKind, width_of};
 ghost use Rattle.gl_values.specs.Totals.{average_of, count_of};
@@ -23,7 +23,6 @@ use gl_rows::cast::low_bits;
 use gl_rows::operand::put_operand;
 use gl_totals::average::{Fraction, put_quotient};
 use gl_totals::delay::delay_bus;
-use gl_values::Kind;
 
 // How many rows of a frame pass, three cycles behind each row.
 fn put_frame_number(

@@ -1,7 +1,6 @@
 //! What an item of a select of frames is, and how many cycles it takes.
 
 ghost use Rattle.std.specs.Prelude.{◌≡◌, ◌≤◌, ◌^◌, All};
-ghost use Rattle.gl_values.specs.Kinds.{IsKind};
 ghost use Rattle.gl_frames_stages.specs.Average.{quotient_bits};
 ghost use Rattle.gl_frames_stages.specs.DoublingNets.{doublings};
 ghost use Rattle.gl_frames_stages.specs.Items.{BackFits, ItemFits, delay_of_all, delay_of_item, delay_of_items, delay_of_last};

@@ -1,13 +1,12 @@
 //! Frames of all rows up to each: aggregates of the rows that pass, one cycle behind the row, and an
 //! average as late as its division.
 
-ghost use Rattle.std.specs.Prelude.{◌≡◌, ◌+◌, All, IfOk, map};
+ghost use Rattle.std.specs.Prelude.{◌+◌, All, IfOk};
 ghost use Rattle.gl_algebra.specs.Columns.{OperandFits, kind_of_operand};
-ghost use Rattle.gl_algebra.specs.Values.{value_of_operand};
 ghost use Rattle.gl_values.specs.Kinds.{IsKind, width_of};
 ghost use Rattle.gl_values.specs.Totals.{average_of, count_of, sum_total};
 ghost use Rattle.gl_totals.specs.Totals.{extreme_of};
-ghost use Rattle.gl_frames_stages.specs.Inputs.{FilterFits, HasInput, IsItemIn, passes_by};
+ghost use Rattle.gl_frames_stages.specs.Inputs.{FilterFits, HasInput, IsItemIn};
 ghost use Rattle.gl_frames_stages.specs.Wholes.{cost_of_all_average, cost_of_all_count, cost_of_all_extreme, cost_of_all_sum, passed, rows_passed};
 
 use crate::input::{Input, put_passing};

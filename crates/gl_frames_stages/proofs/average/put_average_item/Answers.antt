@@ -5,7 +5,7 @@ use Rattle.gl_values.proofs.KindLemmas.{kind_some}
 use Rattle.gl_values.proofs.Signs.{word_cut, wrapped_is}
 use Rattle.gl_values.specs.Kinds.{number_in, width_of, word_of, wrapped}
 use Rattle.gl_values.specs.Results.{Row}
-use Rattle.gl_values.specs.Totals.{average_of, count_of, quotient_of, sum_of_numbers}
+use Rattle.gl_values.specs.Totals.{count_of, quotient_of, sum_of_numbers}
 use Rattle.gl_values.specs.declared.kind.Kind.{Kind}
 use Rattle.gl_totals.proofs.KindLemmas.{operand_kind}
 use Rattle.gl_totals.specs.Costs.{cost_of_quotient}
@@ -17,7 +17,7 @@ use Rattle.gl_frames_stages.specs.Average.{framed_values, quotient_bits}
 use Rattle.gl_frames_stages.specs.Columns.{carried_by, column_of}
 use Rattle.gl_frames_stages.specs.Framing.{value_in}
 use Rattle.gl_frames_stages.specs.Inputs.{passes_by, rows_by}
-use Rattle.gl_frames_stages.proofs.CycleLemmas.{few_quotient_bits, some_quotient_bits}
+use Rattle.gl_frames_stages.proofs.CycleLemmas.{some_quotient_bits}
 use Rattle.gl_frames_stages.proofs.InputNet.{made_rows}
 use Rattle.gl_frames_stages.proofs.MeanLemmas.{average_from}
 use Rattle.gl_frames_stages.proofs.average.put_average_item.Goals as goal

@@ -1,4 +1,4 @@
-use Rattle.std.proofs.Common.{◌≡◌, ℕ, Option, None, Some, arith, refl, sym, subst, ◌∙◌}
+use Rattle.std.proofs.Common.{ℕ, Option, Some, arith, refl, sym, subst, ◌∙◌}
 use Rattle.std.specs.Prelude.{IfOk}
 use Rattle.std.proofs.lemmas.Result.{IfOk-weaker}
 use Rattle.gl_values.specs.Totals.{count_of}

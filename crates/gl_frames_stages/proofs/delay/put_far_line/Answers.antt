@@ -1,7 +1,6 @@
-use Rattle.std.proofs.Common.{◌≡◌, ℕ, suc, ◌-◌, ◌*◌, ◌^◌, ◌≤◌, ap, arith, sym, true, ◌∙◌}
-use Rattle.gl_net.specs.Net.{IsBus}
+use Rattle.std.proofs.Common.{◌≡◌, ℕ, suc, ◌-◌, ◌*◌, ◌^◌, ap, arith, true, ◌∙◌}
 use Rattle.gl_net.proofs.Determined.{keeps_then}
-use Rattle.gl_wire.proofs.ColumnLemmas.{bit_kept, bus_kept}
+use Rattle.gl_wire.proofs.ColumnLemmas.{bit_kept}
 use Rattle.gl_wire.proofs.GateLemmas.{bit_of, never_line}
 use Rattle.gl_totals.proofs.FoldNet.{bit_line}
 use Rattle.gl_frames_wire.specs.Reaches.{place_bits}

@@ -1,8 +1,6 @@
-use Rattle.std.proofs.Common.{◌≡◌, ℕ, ◌+◌, ◌-◌, arith, ap, subst, sym, rules, ◌∙◌}
-use Rattle.gl_wire.proofs.ColumnLemmas.{bit_kept, bus_kept}
+use Rattle.std.proofs.Common.{◌≡◌, ℕ, ◌+◌, ◌-◌, ap, subst, sym, ◌∙◌}
 use Rattle.gl_frames_wire.specs.Reaches.{place_bits}
 use Rattle.gl_frames_stages.specs.DoublingNets.{IsDoubledIn, gap_of}
-use Rattle.gl_frames_stages.specs.declared.doubling.Windows.{Windows}
 use Rattle.gl_frames_stages.proofs.DoublingNet.{doubled_more, doubled_none}
 use Rattle.gl_frames_stages.proofs.doubling.+put_doubled.Goals as goal
 

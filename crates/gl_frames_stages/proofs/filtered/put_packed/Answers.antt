@@ -1,14 +1,12 @@
-use Rattle.std.proofs.Common.{◌≡◌, ℕ, suc, ◌+◌, ◌*◌, ◌%◌, ◌^◌, ◌<◌, Bool, true, false, Some, ap, arith, refl, sym, subst, ◌∙◌}
-use Rattle.std.specs.Prelude.{if◌then◌else◌, nat_eq, slice_index}
+use Rattle.std.proofs.Common.{◌≡◌, ℕ, suc, ◌^◌, ◌<◌, Some, ap, arith, sym, subst, ◌∙◌}
+use Rattle.std.specs.Prelude.{if◌then◌else◌, slice_index}
 use Rattle.std.proofs.Math.Nat.{mod-eq_of_lt}
 use Rattle.gl_bits.specs.Words.{join_of}
 use Rattle.gl_algebra.specs.Columns.{kind_of_operand}
-use Rattle.gl_algebra.specs.Values.{value_of_operand}
-use Rattle.gl_values.specs.Kinds.{IsKind, width_of}
+use Rattle.gl_values.specs.Kinds.{width_of}
 use Rattle.gl_totals.proofs.KindLemmas.{operand_kind}
 use Rattle.gl_net.proofs.Determined.{keeps_then}
 use Rattle.gl_net.proofs.Values.{bus_fits}
-use Rattle.gl_wire.specs.Wire.{row_at}
 use Rattle.gl_wire.proofs.ColumnLemmas.{bus_kept}
 use Rattle.gl_frames_stages.specs.Framing.{value_in}
 use Rattle.gl_frames_stages.specs.Inputs.{passes_by, rows_by}

@@ -1,4 +1,4 @@
-use Rattle.std.proofs.Common.{◌≡◌, ℕ, suc, ◌+◌, ◌*◌, ◌^◌, Some, false, map, ap, arith, refl, sym, subst, ◌≤◌, ◌∙◌}
+use Rattle.std.proofs.Common.{suc, ◌+◌, Some, false, map, ap, arith, refl, sym, subst, ◌≤◌, ◌∙◌}
 use Rattle.gl_algebra.specs.Columns.{kind_of_operand}
 use Rattle.gl_values.proofs.KindLemmas.{kind_some}
 use Rattle.gl_values.specs.Kinds.{width_of}

@@ -1,4 +1,4 @@
-use Rattle.std.proofs.Common.{◌≡◌, ℕ, suc, ◌*◌, ◌^◌, map, ap, arith, ◌∙◌}
+use Rattle.std.proofs.Common.{◌≡◌, suc, ◌*◌, ◌^◌, map, ap, arith, ◌∙◌}
 use Rattle.gl_frames.specs.Frames.{lag_of, row_before}
 use Rattle.gl_frames_wire.specs.Reaches.{place_bits}
 use Rattle.gl_net.proofs.Determined.{keeps_then}

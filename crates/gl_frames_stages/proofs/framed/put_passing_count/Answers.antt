@@ -1,8 +1,7 @@
-use Rattle.std.proofs.Common.{◌≡◌, ℕ, suc, ◌+◌, ◌*◌, ◌^◌, ◌<◌, Bool, Some, map, ap, arith, refl, subst, ◌∙◌}
-use Rattle.std.specs.Prelude.{nat_eq, slice_index}
+use Rattle.std.proofs.Common.{◌≡◌, ℕ, suc, ◌+◌, ◌*◌, ◌^◌, ◌<◌, Some, map, ap, arith, subst, ◌∙◌}
+use Rattle.std.specs.Prelude.{nat_eq}
 use Rattle.gl_bits.specs.Words.{bit}
 use Rattle.gl_values.specs.Kinds.{width_of}
-use Rattle.gl_values.specs.Results.{Row}
 use Rattle.gl_values.specs.Totals.{count_of, sum_total}
 use Rattle.gl_values.specs.declared.kind.Kind.TheVariants.{Unsigned}
 use Rattle.gl_frames.specs.Frames.{frame_of, last_ones}

@@ -2,7 +2,6 @@ use Rattle.std.proofs.Common.{ℕ, List, arith, sym, subst}
 use Rattle.gl_net.specs.declared.node.Bus.{Bus}
 use Rattle.gl_rows.specs.Made.{IsSource}
 use Rattle.gl_rows.specs.declared.operand.Source.{Source}
-use Rattle.gl_wire.proofs.ColumnLemmas.{bit_kept}
 use Rattle.gl_frames_stages.specs.DelayNets.{AreLinesLate}
 use Rattle.gl_frames_stages.specs.FramesNets.{AreItemsIn}
 use Rattle.gl_frames_stages.specs.declared.input.Input.{Input}

@@ -1,8 +1,8 @@
-use Rattle.std.proofs.Common.{◌≡◌, ℕ, Bool, suc, ap, arith, sym, ◌∙◌}
+use Rattle.std.proofs.Common.{ℕ, Bool, suc, ap, arith, sym, ◌∙◌}
 use Rattle.std.specs.Prelude.{if◌then◌else◌, nat_eq, slice_index}
 use Rattle.gl_values.specs.Kinds.{width_of}
 use Rattle.gl_net.proofs.Determined.{keeps_then}
-use Rattle.gl_wire.specs.Wire.{line_at, row_at}
+use Rattle.gl_wire.specs.Wire.{row_at}
 use Rattle.gl_wire.proofs.ColumnLemmas.{bit_kept, bus_kept}
 use Rattle.gl_wire.proofs.GateLemmas.{bit_of, choose_line}
 use Rattle.gl_frames_stages.proofs.InputNet.{bit_at}

@@ -1,5 +1,5 @@
-use Rattle.std.proofs.Common.{◌≡◌, Bool, suc, ap, arith, refl, ◌∙◌}
-use Rattle.std.specs.Prelude.{◌&&◌, nat_eq, slice_index}
+use Rattle.std.proofs.Common.{Bool, suc, ap, arith, refl, ◌∙◌}
+use Rattle.std.specs.Prelude.{◌&&◌, slice_index}
 use Rattle.gl_values.specs.Kinds.{width_of}
 use Rattle.gl_net.proofs.Determined.{keeps_then}
 use Rattle.gl_wire.specs.Wire.{line_at, row_at}

@@ -1,4 +1,4 @@
-use Rattle.std.proofs.Common.{◌≡◌, ℕ, Bool, Some, None, suc, ◌^◌, ap, arith, ◌∙◌, sym}
+use Rattle.std.proofs.Common.{Bool, Some, None, suc, ◌^◌, ap, arith, ◌∙◌, sym}
 use Rattle.std.specs.Prelude.{if◌then◌else◌, nat_le}
 use Rattle.std.proofs.lemmas.Nat.{pow_pos}
 use Rattle.gl_bits.proofs.Wrapping.{cut_low}

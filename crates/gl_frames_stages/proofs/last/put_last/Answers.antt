@@ -1,10 +1,10 @@
-use Rattle.std.proofs.Common.{◌≡◌, ℕ, Bool, suc, sym, ap, arith, ◌∙◌}
+use Rattle.std.proofs.Common.{ℕ, suc, sym, ap, arith, ◌∙◌}
 use Rattle.std.specs.Prelude.{if◌then◌else◌}
 use Rattle.gl_net.specs.Net.{Keeps}
 use Rattle.gl_net.proofs.Determined.{keeps_then}
 use Rattle.gl_net.proofs.Drive.{driven_keeps}
 use Rattle.gl_wire.specs.Wire.{line_at}
-use Rattle.gl_wire.proofs.ColumnLemmas.{bit_kept, bus_kept}
+use Rattle.gl_wire.proofs.ColumnLemmas.{bus_kept}
 use Rattle.gl_wire.proofs.GateLemmas.{choose_line}
 use Rattle.gl_frames_stages.proofs.last.put_last.Goals as goal
 

@@ -1,5 +1,5 @@
-use Rattle.std.proofs.Common.{◌≡◌, ℕ, suc, Bool, None, Some, ap, arith, ◌∙◌}
-use Rattle.std.specs.Prelude.{◌&&◌, nat_eq, slice_index}
+use Rattle.std.proofs.Common.{suc, Bool, None, Some, ap, arith, ◌∙◌}
+use Rattle.std.specs.Prelude.{◌&&◌, slice_index}
 use Rattle.gl_values.specs.Kinds.{width_of}
 use Rattle.gl_frames.specs.Frames.{last_value_of}
 use Rattle.gl_net.proofs.Determined.{keeps_then}

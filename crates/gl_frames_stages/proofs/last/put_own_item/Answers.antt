@@ -1,4 +1,4 @@
-use Rattle.std.proofs.Common.{ℕ, suc, arith, ◌∙◌}
+use Rattle.std.proofs.Common.{suc, arith, ◌∙◌}
 use Rattle.gl_frames.specs.Frames.{last_value_of}
 use Rattle.gl_net.proofs.Determined.{keeps_then}
 use Rattle.gl_frames_stages.specs.Columns.{carried_by}

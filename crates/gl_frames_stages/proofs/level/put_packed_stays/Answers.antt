@@ -1,4 +1,4 @@
-use Rattle.std.proofs.Common.{◌≡◌, ℕ, ◌+◌, Bool, suc, ap, arith, ◌∙◌, sym}
+use Rattle.std.proofs.Common.{◌+◌, Bool, suc, ap, arith, ◌∙◌}
 use Rattle.std.specs.Prelude.{not, ◌&&◌, if◌then◌else◌}
 use Rattle.gl_values.specs.Kinds.{width_of}
 use Rattle.gl_divide.specs.Division.{highest}

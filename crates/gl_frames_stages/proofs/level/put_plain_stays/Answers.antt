@@ -1,4 +1,4 @@
-use Rattle.std.proofs.Common.{◌≡◌, ℕ, Bool, suc, ◌+◌, ap, arith, ◌∙◌, sym}
+use Rattle.std.proofs.Common.{Bool, suc, ◌+◌, ap, arith, ◌∙◌, sym}
 use Rattle.std.specs.Prelude.{not, ◌&&◌, if◌then◌else◌}
 use Rattle.gl_values.specs.Kinds.{width_of}
 use Rattle.gl_net.proofs.Determined.{keeps_then}
@@ -6,7 +6,6 @@ use Rattle.gl_wire.specs.Wire.{line_at}
 use Rattle.gl_wire.proofs.GateLemmas.{bit_of}
 use Rattle.gl_totals.specs.Folds.{is_better}
 use Rattle.gl_totals.proofs.FoldNet.{bit_line}
-use Rattle.gl_frames_stages.specs.LevelNets.{stays_in}
 use Rattle.gl_frames_stages.proofs.LevelNet.{plain_stays}
 use Rattle.gl_frames_stages.proofs.level.put_plain_stays.Goals as goal
 

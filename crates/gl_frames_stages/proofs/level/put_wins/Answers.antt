@@ -1,4 +1,4 @@
-use Rattle.std.proofs.Common.{◌≡◌, ℕ, ◌+◌, ◌-◌, ◌%◌, ◌^◌, Bool, suc, ap, arith, ◌∙◌, sym}
+use Rattle.std.proofs.Common.{◌≡◌, ℕ, ◌+◌, ◌-◌, ◌%◌, ◌^◌, Bool, suc, ap, arith, ◌∙◌}
 use Rattle.std.specs.Prelude.{◌&&◌}
 use Rattle.gl_bits.specs.Words.{cut_of}
 use Rattle.gl_bits.proofs.Wrapping.{cut_low}

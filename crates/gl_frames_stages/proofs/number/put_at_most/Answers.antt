@@ -1,8 +1,7 @@
-use Rattle.std.proofs.Common.{◌≡◌, ℕ, suc, ◌+◌, Bool, ap, arith, sym, ◌∙◌}
+use Rattle.std.proofs.Common.{ℕ, suc, ◌+◌, Bool, ap, arith, sym, ◌∙◌}
 use Rattle.std.specs.Prelude.{if◌then◌else◌, nat_le}
-use Rattle.gl_bits.specs.Words.{le_of, sum_of}
+use Rattle.gl_bits.specs.Words.{le_of}
 use Rattle.gl_net.proofs.Determined.{keeps_then}
-use Rattle.gl_wire.specs.Wire.{line_at}
 use Rattle.gl_wire.proofs.ColumnLemmas.{bit_kept, bus_kept}
 use Rattle.gl_wire.proofs.GateLemmas.{bit_of, choose_line}
 use Rattle.gl_frames_wire.proofs.LagNet.{many_line}

@@ -1,4 +1,4 @@
-use Rattle.std.proofs.Common.{ℕ, Option, None, Some, sym, subst}
+use Rattle.std.proofs.Common.{Some, sym, subst}
 use Rattle.std.specs.Prelude.{IfOk}
 use Rattle.gl_values.specs.Kinds.{width_of}
 use Rattle.gl_frames_stages.specs.Inputs.{IsItemIn, passes_by}

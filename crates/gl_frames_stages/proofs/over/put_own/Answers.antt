@@ -1,4 +1,4 @@
-use Rattle.std.proofs.Common.{◌≡◌, ℕ, suc, ◌+◌, ap, arith, sym, ◌∙◌}
+use Rattle.std.proofs.Common.{◌≡◌, suc, ◌+◌, ap, arith, sym, ◌∙◌}
 use Rattle.gl_frames.specs.Frames.{number_or}
 use Rattle.gl_frames_stages.specs.Columns.{carried_by}
 use Rattle.gl_frames_stages.specs.Framing.{value_in}

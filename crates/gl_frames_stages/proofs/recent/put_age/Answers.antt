@@ -1,4 +1,4 @@
-use Rattle.std.proofs.Common.{◌≡◌, ℕ, suc, ◌+◌, ◌^◌, ◌≤◌, ap, arith, sym, ◌∙◌}
+use Rattle.std.proofs.Common.{ℕ, suc, ◌^◌, ◌≤◌, ap, arith, sym, ◌∙◌}
 use Rattle.std.specs.Prelude.{nat_le}
 use Rattle.std.proofs.lemmas.Nat.{pow_pos}
 use Rattle.gl_bits.specs.Words.{le_of}
@@ -6,7 +6,6 @@ use Rattle.gl_frames_wire.specs.CountNets.{column_past}
 use Rattle.gl_frames_wire.proofs.CountNet.{twice}
 use Rattle.gl_frames_wire.proofs.LagNet.{many_line}
 use Rattle.gl_net.proofs.Determined.{keeps_then}
-use Rattle.gl_wire.proofs.ColumnLemmas.{bit_kept, bus_kept}
 use Rattle.gl_wire.proofs.GateLemmas.{bit_of}
 use Rattle.gl_frames_stages.proofs.RecentNet.{ages_since, old_told}
 use Rattle.gl_frames_stages.proofs.recent.put_age.Goals as goal

@@ -1,9 +1,9 @@
-use Rattle.std.proofs.Common.{◌≡◌, ℕ, suc, Some, ap, arith, ◌∙◌}
+use Rattle.std.proofs.Common.{suc, Some, ap, arith, ◌∙◌}
 use Rattle.std.specs.Prelude.{slice_index}
 use Rattle.gl_values.specs.Kinds.{width_of}
 use Rattle.gl_net.proofs.Determined.{keeps_then}
 use Rattle.gl_wire.specs.Wire.{row_at}
-use Rattle.gl_wire.proofs.ColumnLemmas.{bit_kept, bus_kept}
+use Rattle.gl_wire.proofs.ColumnLemmas.{bit_kept}
 use Rattle.gl_wire.proofs.GateLemmas.{bit_of}
 use Rattle.gl_frames_stages.specs.Framing.{value_in}
 use Rattle.gl_frames_stages.specs.Inputs.{passes_by, rows_by}

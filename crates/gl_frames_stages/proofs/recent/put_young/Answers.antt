@@ -1,4 +1,4 @@
-use Rattle.std.proofs.Common.{ℕ, Bool, suc, ap, arith, ◌∙◌, sym}
+use Rattle.std.proofs.Common.{ℕ, suc, ap, arith, ◌∙◌, sym}
 use Rattle.std.specs.Prelude.{if◌then◌else◌}
 use Rattle.gl_net.proofs.Determined.{keeps_then}
 use Rattle.gl_wire.specs.Wire.{line_at}

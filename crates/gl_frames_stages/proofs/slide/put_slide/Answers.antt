@@ -1,5 +1,4 @@
-use Rattle.std.proofs.Common.{◌≡◌, ℕ, arith, ◌∙◌}
-use Rattle.gl_net.specs.Net.{Keeps}
+use Rattle.std.proofs.Common.{arith, ◌∙◌}
 use Rattle.gl_net.proofs.Determined.{keeps_then}
 use Rattle.gl_frames.specs.Frames.{row_before}
 use Rattle.gl_wire.proofs.ColumnLemmas.{bus_kept}

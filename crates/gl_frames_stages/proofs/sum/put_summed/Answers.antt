@@ -1,4 +1,4 @@
-use Rattle.std.proofs.Common.{◌≡◌, ℕ, suc, ◌+◌, ap, arith, ◌∙◌}
+use Rattle.std.proofs.Common.{arith, ◌∙◌}
 use Rattle.gl_values.specs.Totals.{sum_total}
 use Rattle.gl_net.proofs.Determined.{keeps_then}
 use Rattle.gl_frames_stages.specs.Columns.{carried_by}

@@ -1,4 +1,4 @@
-use Rattle.std.proofs.Common.{◌≡◌, ℕ, ◌+◌, ap, arith, refl, sym, subst, ◌∙◌}
+use Rattle.std.proofs.Common.{◌≡◌, ◌+◌, ap, arith, sym, subst, ◌∙◌}
 use Rattle.gl_algebra.specs.Columns.{kind_of_operand}
 use Rattle.gl_values.specs.Kinds.{IsKind, width_of}
 use Rattle.gl_values.specs.Totals.{average_of}
