@@ -32,6 +32,8 @@ pub struct FrameRows<'a> {
     pub kinds: &'a [Kind],
     /// The items, one for each column of the row.
     pub items: &'a [FrameItem],
+    /// The cycles that the slowest item takes: `delay_of_items` of both.
+    pub cycles: u32,
 }
 
 // An item `cycles` cycles behind each row.
@@ -148,7 +150,8 @@ pub fn put_frames(
 }
 
 impl Operator for FrameRows<'_> {
-    ghost takes = { λ s columns. (columns ≡ map width_of s.kinds.now) × All IsKind s.kinds.now × All (ItemFits s.kinds.now) s.items.now };
+    ghost takes = { λ s columns. (columns ≡ map width_of s.kinds.now) × All IsKind s.kinds.now
+        × All (ItemFits s.kinds.now) s.items.now × (s.cycles ≡ delay_of_items s.kinds.now s.items.now) };
 
     ghost gives = { λ s _. frames_widths s.kinds.now s.items.now };
 
@@ -158,11 +161,10 @@ impl Operator for FrameRows<'_> {
 
     ghost means = { λ s. Each (λ rows. Some (frames_row s.kinds.now s.items.now rows)) };
 
-    ghost figures_of = { λ s f. settled (delayed (delay_of_items s.kinds.now s.items.now) f) };
+    ghost figures_of = { λ s f. settled (delayed s.cycles f) };
 
     fn figures(&self, source: Figures) -> Figures {
-        let cycles = delay_of_items(self.kinds, self.items);
-        settled_figures(delayed_figures(source, cycles))
+        settled_figures(delayed_figures(source, self.cycles))
     }
 
     fn emit(&self, alloc: Global, net: &mut NetBuilder, below: Emitted) -> Result<Emitted, Memory> {
