@@ -12,7 +12,6 @@ use Rattle.gl_algebra.specs.declared.node.Operand.{Operand}
 use Rattle.gl_algebra.specs.declared.node.Operand.TheVariants.{Column, Literal}
 use Rattle.gl_algebra.specs.declared.node.PlanFrame.TheVariants.{Own, Lag, Over}
 use Rattle.gl_algebra.specs.declared.node.PlanFrameAgg.TheVariants as over
-use Rattle.gl_algebra.specs.declared.node.PlanNode.{PlanNode}
 use Rattle.gl_algebra.specs.declared.node.PlanNode.TheVariants.{Compute, Frames, Select, Stream}
 use Rattle.gl_algebra.specs.Added.{Placed}
 use Rattle.gl_algebra.specs.Roots.{gap_of, latency_of}

@@ -1,4 +1,4 @@
-use Rattle.std.proofs.Common.{◌≡◌, ◌∷◌, [], Some, None, refl}
+use Rattle.std.proofs.Common.{refl}
 use Rattle.gl_schema.specs.Schemas.{text_word}
 use Rattle.gl_algebra.specs.Added.{added}
 use Rattle.gl_algebra.specs.FigureTable.{figures_of}
