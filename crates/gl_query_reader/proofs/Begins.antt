@@ -18,7 +18,7 @@ use Rattle.gl_query_tokens.specs.Sorts.{plain_eq, is_plain}
 use Rattle.gl_query_reader.specs.declared.written.Window.{Window}
 use Rattle.gl_query_reader.specs.declared.written.Grouping.{Grouping}
 use Rattle.gl_query_reader.specs.Written.{Expr, Column, Brackets, Cast, Not, Binary, Agg, Fold', Wsum, Item, Pick, All, Items, Query, Stream, InBrackets, Select, Groups, Join', Statement}
-use Rattle.gl_query_reader.specs.States.{after_window, measured, row_window, State, Frame, Head, WindowHead, BodyHead, GroupsHead, Unnamed, SelectHead, EachHead, SelectWindow, EachWindow, GroupsWindow, WindowsHead, GroupsHead', SelectGroups, EachGroups, UnnamedExpr, UnnamedAgg, LeftOf, NotOf, BracketOf, InCast, InItem, InFold, InWsum, InFilter, JoinOf, InQuery, InSource, InBody, WantKind, WantWeightsOpen, WantWeight, HaveWeight, WantWsumClose, WantAs, WantItemName, HaveItem, WantSource, HaveSource, HaveEachSource, WantSize, WantSizeNumber, WantAdvance, WantAdvanceNumber, WantMeasure, WantWindowClose, WantKey, WantGroups, WantGroupsNumber, WantBody, HaveTerm, WantName, HaveName, WantEnd}
+use Rattle.gl_query_reader.specs.States.{after_window, measured, row_window, State, Frame, Head, WindowHead, BodyHead, GroupsHead, Unnamed, SelectHead, EachHead, SelectWindow, EachWindow, GroupsWindow, WindowsHead, GroupsHead', SelectGroups, EachGroups, UnnamedExpr, UnnamedAgg, LeftOf, NotOf, BracketOf, InCast, InItem, InFold, InWsum, InFilter, JoinOf, InQuery, InSource, InBody, WantKind, WantWeightsOpen, WantWeight, HaveWeight, WantWsumClose, HaveAgg, WantItemName, HaveItem, WantSource, HaveSource, HaveEachSource, WantSize, WantSizeNumber, WantAdvance, WantAdvanceNumber, WantMeasure, WantWindowClose, WantKey, WantGroups, WantGroupsNumber, WantBody, HaveTerm, WantName, HaveName, WantEnd}
 use Rattle.gl_query_reader.specs.Machine.{Reduced, reduced, have_term, after_expr, after_source, after_groups, body_of, under_name, is_operator, step, finish}
 use Rattle.gl_query_reader.proofs.Steps.{steps, state, is-machine}
 use Rattle.gl_query_reader.proofs.ReadExpressions.{wanting, having, reduced-not, reduced-binary, looseness-le}
@@ -178,19 +178,19 @@ item_name_step fs items u = refl
 pub item_name_ends : (fs : List Frame) (items : List Item) (u : Unnamed) → Fits fs → InTerm fs → Ends (state (WantItemName items u) fs)
 item_name_ends fs items u f i = by_token _ (state (HaveItem (items ++ under_name u some_name ∷ [])) fs) (token.Name some_name) (item_name_step fs items u) (have_item_ends fs (items ++ under_name u some_name ∷ []) f i)
 
-as_step : (fs : List Frame) (items : List Item) (agg : Agg) → step (state (WantAs items agg) fs) (token.Plain plain.As) ≡ Some (state (WantItemName items (UnnamedAgg agg)) fs)
+as_step : (fs : List Frame) (items : List Item) (agg : Agg) → step (state (HaveAgg items agg) fs) (token.Plain plain.As) ≡ Some (state (WantItemName items (UnnamedAgg agg)) fs)
 unfolding step plain_eq
 as_step fs items agg = refl
 
-pub as_ends : (fs : List Frame) (items : List Item) (agg : Agg) → Fits fs → InTerm fs → Ends (state (WantAs items agg) fs)
+pub as_ends : (fs : List Frame) (items : List Item) (agg : Agg) → Fits fs → InTerm fs → Ends (state (HaveAgg items agg) fs)
 as_ends fs items agg f i = by_token _ (state (WantItemName items (UnnamedAgg agg)) fs) (token.Plain plain.As) (as_step fs items agg) (item_name_ends fs items (UnnamedAgg agg) f i)
 
-wsum_close_step : (fs : List Frame) (items : List Item) (at open' : ℕ) (e : Expr) (ns : List Num) → step (state (WantWsumClose items at open' e ns) fs) (token.Plain plain.Close) ≡ Some (state (WantAs items (Wsum at open' e ns)) fs)
+wsum_close_step : (fs : List Frame) (items : List Item) (at open' : ℕ) (e : Expr) (ns : List Num) → step (state (WantWsumClose items at open' e ns) fs) (token.Plain plain.Close) ≡ Some (state (HaveAgg items (Wsum at open' e ns)) fs)
 unfolding step plain_eq
 wsum_close_step fs items at open' e ns = refl
 
 pub wsum_close_ends : (fs : List Frame) (items : List Item) (at open' : ℕ) (e : Expr) (ns : List Num) → Fits fs → InTerm fs → Ends (state (WantWsumClose items at open' e ns) fs)
-wsum_close_ends fs items at open' e ns f i = by_token _ (state (WantAs items (Wsum at open' e ns)) fs) (token.Plain plain.Close) (wsum_close_step fs items at open' e ns) (as_ends fs items (Wsum at open' e ns) f i)
+wsum_close_ends fs items at open' e ns f i = by_token _ (state (HaveAgg items (Wsum at open' e ns)) fs) (token.Plain plain.Close) (wsum_close_step fs items at open' e ns) (as_ends fs items (Wsum at open' e ns) f i)
 
 have_weight_step : (fs : List Frame) (items : List Item) (at open' : ℕ) (e : Expr) (ns : List Num) → step (state (HaveWeight items at open' e ns) fs) (token.Plain plain.RightSquare) ≡ Some (state (WantWsumClose items at open' e ns) fs)
 unfolding step plain_eq
@@ -249,7 +249,7 @@ item_goes : (items : List Item) (fs : List Frame) (e : Expr) → (let r = reduce
 unfolding reduced plain_eq
 item_goes items fs e = refl
 
-fold_goes : (items : List Item) (fold : Fold) (at open' : ℕ) (fs : List Frame) (e : Expr) → (let r = reduced 6 (InFold items fold at open' ∷ fs) e in after_expr r.0 r.1 (token.Plain plain.Close)) ≡ Some (state (WantAs items (Fold' fold at open' e)) fs)
+fold_goes : (items : List Item) (fold : Fold) (at open' : ℕ) (fs : List Frame) (e : Expr) → (let r = reduced 6 (InFold items fold at open' ∷ fs) e in after_expr r.0 r.1 (token.Plain plain.Close)) ≡ Some (state (HaveAgg items (Fold' fold at open' e)) fs)
 unfolding reduced plain_eq
 fold_goes items fold at open' fs e = refl
 
@@ -272,7 +272,7 @@ expr_ends (NotOf at ∷ fs) e f i =
 expr_ends (BracketOf at ∷ fs) e f i = record { next = token.Plain plain.Close; operator = refl; there = having (Brackets at e) fs; goes = brackets_go at fs e; ends = expr_then fs (Brackets at e) (expr_ends fs (Brackets at e) f.1 f.0) }
 expr_ends (InCast at open' ∷ fs) e f i = record { next = token.Plain plain.As; operator = refl; there = state (WantKind at open' e) fs; goes = cast_goes at open' fs e; ends = kind_then fs at open' e (expr_ends fs (Cast at open' e some_word (Unsigned 1)) f.1 f.0) }
 expr_ends (InItem items ∷ fs) e f i = record { next = token.Plain plain.As; operator = refl; there = state (WantItemName items (UnnamedExpr e)) fs; goes = item_goes items fs e; ends = item_name_ends fs items (UnnamedExpr e) f.1 f.0.0 }
-expr_ends (InFold items fold at open' ∷ fs) e f i = record { next = token.Plain plain.Close; operator = refl; there = state (WantAs items (Fold' fold at open' e)) fs; goes = fold_goes items fold at open' fs e; ends = as_ends fs items (Fold' fold at open' e) f.1 f.0.0 }
+expr_ends (InFold items fold at open' ∷ fs) e f i = record { next = token.Plain plain.Close; operator = refl; there = state (HaveAgg items (Fold' fold at open' e)) fs; goes = fold_goes items fold at open' fs e; ends = as_ends fs items (Fold' fold at open' e) f.1 f.0.0 }
 expr_ends (InWsum items at open' ∷ fs) e f i = record { next = token.Plain plain.Comma; operator = refl; there = state (WantWeightsOpen items at open' e) fs; goes = wsum_goes items at open' fs e; ends = weights_open_ends fs items at open' e f.1 f.0.0 }
 expr_ends (InFilter pick source window ∷ fs) e f i =
     let x = term_ends fs (Select pick source window (Some e) None) f.1 f.0.0 in

@@ -10,7 +10,7 @@ use Rattle.gl_query_tokens.specs.declared.token.Token.TheVariants as token
 use Rattle.gl_query_tokens.specs.Sorts.{plain_eq}
 use Rattle.gl_query_reader.specs.declared.written.Window.{Window}
 use Rattle.gl_query_reader.specs.Written.{Expr, Column, Minus, Cast, Count, Item, Pick, All, Query, Stream}
-use Rattle.gl_query_reader.specs.States.{State, Control, Frame, SelectHead, EachHead, SelectGroups, InCast, InItem, InFold, InWsum, WantTerm, WantItem, WantOperand, WantMinus, HaveExpr, WantCastOpen, WantKind, WantCastClose, WantCountOpen, WantCountClose, WantFoldOpen, WantWsumOpen, WantWeightsOpen, WantWeight, HaveWeight, WantWsumClose, WantAs, WantItemName, HaveItem, WantFrom, WantSource, HaveSource, HaveEachSource, WantSize, WantSizeNumber, WantAdvance, WantAdvanceNumber, WantMeasure, WantWindowClose, WantBy, WantKey, WantGroups, WantGroupsNumber, WantVar, WantIn, WantBody, HaveTerm, WantName, HaveName, WantEnd}
+use Rattle.gl_query_reader.specs.States.{State, Control, Frame, SelectHead, EachHead, SelectGroups, InCast, InItem, InFold, InWsum, WantTerm, WantItem, WantOperand, WantMinus, HaveExpr, WantCastOpen, WantKind, WantCastClose, WantCountOpen, WantCountClose, WantFoldOpen, WantWsumOpen, WantWeightsOpen, WantWeight, HaveWeight, WantWsumClose, HaveAgg, WantItemName, HaveItem, WantFrom, WantSource, HaveSource, HaveEachSource, WantSize, WantSizeNumber, WantAdvance, WantAdvanceNumber, WantMeasure, WantWindowClose, WantBy, WantKey, WantGroups, WantGroupsNumber, WantVar, WantIn, WantBody, HaveTerm, WantName, HaveName, WantEnd}
 use Rattle.gl_query_reader.specs.Machine.{step}
 use Rattle.gl_query_reader.proofs.Steps.{steps, state}
 use Rattle.gl_query_reader.proofs.ReadExpressions.{wanting, having}
@@ -45,12 +45,12 @@ count_open_step : (fs : List Frame) (items : List Item) (at : ℕ) → step (sta
 unfolding step
 count_open_step fs items at = refl
 
-count_close_step : (fs : List Frame) (items : List Item) (at open' : ℕ) → step (state (WantCountClose items at open') fs) (token.Plain plain.Close) ≡ Some (state (WantAs items (Count at open')) fs)
+count_close_step : (fs : List Frame) (items : List Item) (at open' : ℕ) → step (state (WantCountClose items at open') fs) (token.Plain plain.Close) ≡ Some (state (HaveAgg items (Count at open')) fs)
 unfolding step plain_eq
 count_close_step fs items at open' = refl
 
 count_close_ends : (fs : List Frame) (items : List Item) (at open' : ℕ) → Fits fs → InTerm fs → Ends (state (WantCountClose items at open') fs)
-count_close_ends fs items at open' f i = by_token _ (state (WantAs items (Count at open')) fs) (token.Plain plain.Close) (count_close_step fs items at open') (as_ends fs items (Count at open') f i)
+count_close_ends fs items at open' f i = by_token _ (state (HaveAgg items (Count at open')) fs) (token.Plain plain.Close) (count_close_step fs items at open') (as_ends fs items (Count at open') f i)
 
 fold_open_step : (fs : List Frame) (items : List Item) (fold : Fold) (at : ℕ) → step (state (WantFoldOpen items fold at) fs) (token.Open 0) ≡ Some (wanting (InFold items fold at 0 ∷ fs))
 unfolding step
@@ -97,7 +97,7 @@ state_ends (WantWeightsOpen items at open' e) fs f h = weights_open_ends fs item
 state_ends (WantWeight items at open' e ns) fs f h = weight_ends fs items at open' e ns f h.0
 state_ends (HaveWeight items at open' e ns) fs f h = have_weight_ends fs items at open' e ns f h.0
 state_ends (WantWsumClose items at open' e ns) fs f h = wsum_close_ends fs items at open' e ns f h.0
-state_ends (WantAs items agg) fs f h = as_ends fs items agg f h.0
+state_ends (HaveAgg items agg) fs f h = as_ends fs items agg f h.0
 state_ends (WantItemName items u) fs f h = item_name_ends fs items u f h.0
 state_ends (HaveItem items) fs f h = have_item_ends fs items f h.0
 state_ends (WantFrom at) fs f h = by_token _ (state (WantSource (SelectHead (All at))) fs) (token.Plain plain.From) (from_step fs at) (want_source_ends fs (SelectHead (All at)) f h)

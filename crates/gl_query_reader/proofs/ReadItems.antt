@@ -8,7 +8,7 @@ use Rattle.gl_query_tokens.specs.declared.token.Token.{Token}
 use Rattle.gl_query_tokens.specs.declared.token.Token.TheVariants as token
 use Rattle.gl_query_tokens.specs.Sorts.{plain_eq, is_plain}
 use Rattle.gl_query_reader.specs.Written.{Expr, Column, Number, Minus, Letters, Brackets, Cast, Not, Binary, Agg, Count, Fold', Wsum, Item, Bare, Named, Total, Pick, All, Items, IsAgg, IsItem, AreItems, IsPick, spell, spell_numbers, spell_agg, spell_item, spell_items, spell_pick}
-use Rattle.gl_query_reader.specs.States.{State, Frame, InItem, InFold, InWsum, WantItem, WantWeight, WantAs, HaveItem, WantSource, SelectHead}
+use Rattle.gl_query_reader.specs.States.{State, Frame, InItem, InFold, InWsum, WantItem, WantWeight, HaveAgg, HaveItem, WantSource, SelectHead}
 use Rattle.gl_query_reader.specs.Machine.{reduced, step, is_operator}
 use Rattle.gl_query_reader.proofs.Steps.{steps, state}
 use Rattle.gl_query_reader.proofs.ReadExpressions.{waits, last_of, pair, wanting, having, reads_expr, reduced-whole, level-lt}
@@ -39,12 +39,12 @@ unfolding steps step plain_eq
 as-name items fs0 fs e0 e name rest h = rw h refl
 
 agg-name : (items : List Item) (fs : List Frame) (agg : Agg) (name : Name) (rest : List Token)
-    → steps (state (WantAs items agg) fs) (token.Plain plain.As ∷ token.Name name ∷ rest) ≡ steps (state (HaveItem (items ++ Total agg name ∷ [])) fs) rest
+    → steps (state (HaveAgg items agg) fs) (token.Plain plain.As ∷ token.Name name ∷ rest) ≡ steps (state (HaveItem (items ++ Total agg name ∷ [])) fs) rest
 unfolding steps step plain_eq
 agg-name items fs agg name rest = refl
 
 want-count : (items : List Item) (fs : List Frame) (at open' : ℕ) (rest : List Token)
-    → steps (wanting_item items fs) (token.Count at ∷ token.Open open' ∷ token.Plain plain.Close ∷ rest) ≡ steps (state (WantAs items (Count at open')) fs) rest
+    → steps (wanting_item items fs) (token.Count at ∷ token.Open open' ∷ token.Plain plain.Close ∷ rest) ≡ steps (state (HaveAgg items (Count at open')) fs) rest
 unfolding steps step plain_eq
 want-count items fs at open' rest = refl
 
@@ -54,7 +54,7 @@ unfolding steps step
 want-fold items fs fold at open' rest = refl
 
 fold-close : (items : List Item) (fs0 fs : List Frame) (fold : Fold) (at open' : ℕ) (e0 e : Expr) (rest : List Token) → reduced 6 fs0 e0 ≡ pair (InFold items fold at open' ∷ fs) e
-    → steps (having e0 fs0) (token.Plain plain.Close ∷ rest) ≡ steps (state (WantAs items (Fold' fold at open' e)) fs) rest
+    → steps (having e0 fs0) (token.Plain plain.Close ∷ rest) ≡ steps (state (HaveAgg items (Fold' fold at open' e)) fs) rest
 unfolding steps step plain_eq
 fold-close items fs0 fs fold at open' e0 e rest h = rw h refl
 
@@ -69,7 +69,7 @@ unfolding steps step plain_eq
 wsum-weights items fs0 fs at open' e0 e rest h = rw h refl
 
 last-weight : (items : List Item) (fs : List Frame) (at open' : ℕ) (e : Expr) (done : List Num) (n : Num) (rest : List Token)
-    → steps (state (WantWeight items at open' e done) fs) (token.Number n ∷ token.Plain plain.RightSquare ∷ token.Plain plain.Close ∷ rest) ≡ steps (state (WantAs items (Wsum at open' e (done ++ n ∷ []))) fs) rest
+    → steps (state (WantWeight items at open' e done) fs) (token.Number n ∷ token.Plain plain.RightSquare ∷ token.Plain plain.Close ∷ rest) ≡ steps (state (HaveAgg items (Wsum at open' e (done ++ n ∷ []))) fs) rest
 unfolding steps step plain_eq
 last-weight items fs at open' e done n rest = refl
 
@@ -80,15 +80,15 @@ next-weight items fs at open' e done n rest = refl
 
 -- the weights of WSUM are read, with its brackets
 reads_weights : (n : Num) (ns : List Num) (items : List Item) (fs : List Frame) (at open' : ℕ) (e : Expr) (done : List Num) (rest : List Token)
-    → steps (state (WantWeight items at open' e done) fs) (spell_numbers (n ∷ ns) ++ token.Plain plain.RightSquare ∷ token.Plain plain.Close ∷ rest) ≡ steps (state (WantAs items (Wsum at open' e (done ++ n ∷ ns))) fs) rest
+    → steps (state (WantWeight items at open' e done) fs) (spell_numbers (n ∷ ns) ++ token.Plain plain.RightSquare ∷ token.Plain plain.Close ∷ rest) ≡ steps (state (HaveAgg items (Wsum at open' e (done ++ n ∷ ns))) fs) rest
 reads_weights n [] items fs at open' e done rest = last-weight items fs at open' e done n rest
 reads_weights n (m ∷ ms) items fs at open' e done rest =
     next-weight items fs at open' e done n (spell_numbers (m ∷ ms) ++ token.Plain plain.RightSquare ∷ token.Plain plain.Close ∷ rest)
     ∙ reads_weights m ms items fs at open' e (done ++ n ∷ []) rest
-    ∙ ap (λ (x : List Num). steps (state (WantAs items (Wsum at open' e x)) fs) rest) (append_assoc done (n ∷ []) (m ∷ ms))
+    ∙ ap (λ (x : List Num). steps (state (HaveAgg items (Wsum at open' e x)) fs) rest) (append_assoc done (n ∷ []) (m ∷ ms))
 
 -- an aggregate is read
-reads_agg : (a : Agg) (items : List Item) (fs : List Frame) (rest : List Token) → IsAgg a → steps (wanting_item items fs) (spell_agg a ++ rest) ≡ steps (state (WantAs items a) fs) rest
+reads_agg : (a : Agg) (items : List Item) (fs : List Frame) (rest : List Token) → IsAgg a → steps (wanting_item items fs) (spell_agg a ++ rest) ≡ steps (state (HaveAgg items a) fs) rest
 reads_agg (Count at open') items fs rest g = want-count items fs at open' rest
 reads_agg (Fold' fold at open' e) items fs rest g =
     want-fold items fs fold at open' ((spell e ++ token.Plain plain.Close ∷ []) ++ rest)

@@ -15,7 +15,7 @@ use Rattle.gl_query_tokens.specs.declared.token.Token.{Token}
 use Rattle.gl_query_tokens.specs.declared.token.Token.TheVariants as token
 use Rattle.gl_query_tokens.specs.Sorts.{plain_eq, is_plain, name_in, number_in, open_in, size_in, by_in}
 use Rattle.gl_query_reader.specs.Written.{Wsum, Item, Items, Query, left_looseness, looseness, level, IsExpr, IsAgg, AreItems, IsPick, IsFilter, IsQuery, IsSource, IsTerm, spell, spell_numbers, spell_agg, spell_items, measure_word, spell_pick, spell_window, spell_if_window, spell_row_window, spell_filter, spell_grouping, spell_query}
-use Rattle.gl_query_reader.specs.States.{measure_in, measure_for, State, Control, Frame, Head, WindowHead, BodyHead, GroupsHead, Unnamed, SelectHead, EachHead, SelectWindow, EachWindow, GroupsWindow, WindowsHead, GroupsHead', SelectGroups, EachGroups, UnnamedExpr, UnnamedAgg, LeftOf, NotOf, BracketOf, InCast, InItem, InFold, InWsum, InFilter, JoinOf, InQuery, InSource, InBody, WantTerm, WantItem, WantOperand, WantMinus, HaveExpr, WantCastOpen, WantKind, WantCastClose, WantCountOpen, WantCountClose, WantFoldOpen, WantWsumOpen, WantWeightsOpen, WantWeight, HaveWeight, WantWsumClose, WantAs, WantItemName, HaveItem, WantFrom, WantSource, HaveSource, HaveEachSource, WantSize, WantSizeNumber, WantAdvance, WantAdvanceNumber, WantMeasure, WantWindowClose, WantBy, WantKey, WantGroups, WantGroupsNumber, WantVar, WantIn, WantBody, HaveTerm, WantName, HaveName, WantEnd}
+use Rattle.gl_query_reader.specs.States.{measure_in, measure_for, State, Control, Frame, Head, WindowHead, BodyHead, GroupsHead, Unnamed, SelectHead, EachHead, SelectWindow, EachWindow, GroupsWindow, WindowsHead, GroupsHead', SelectGroups, EachGroups, UnnamedExpr, UnnamedAgg, LeftOf, NotOf, BracketOf, InCast, InItem, InFold, InWsum, InFilter, JoinOf, InQuery, InSource, InBody, WantTerm, WantItem, WantOperand, WantMinus, HaveExpr, WantCastOpen, WantKind, WantCastClose, WantCountOpen, WantCountClose, WantFoldOpen, WantWsumOpen, WantWeightsOpen, WantWeight, HaveWeight, WantWsumClose, HaveAgg, WantItemName, HaveItem, WantFrom, WantSource, HaveSource, HaveEachSource, WantSize, WantSizeNumber, WantAdvance, WantAdvanceNumber, WantMeasure, WantWindowClose, WantBy, WantKey, WantGroups, WantGroupsNumber, WantVar, WantIn, WantBody, HaveTerm, WantName, HaveName, WantEnd}
 use Rattle.gl_query_reader.specs.Machine.{room}
 use Rattle.gl_query_reader.proofs.Steps.{state}
 use Rattle.gl_query_reader.proofs.ReadQueries.{NoJoin}
@@ -95,7 +95,7 @@ control_text (WantWeightsOpen items at open' e) = in_items items (token.Wsum at 
 control_text (WantWeight items at open' e ns) = in_items items (token.Wsum at ∷ token.Open open' ∷ (spell e ++ token.Plain plain.Comma ∷ token.Plain plain.LeftSquare ∷ numbers_before ns))
 control_text (HaveWeight items at open' e ns) = in_items items (token.Wsum at ∷ token.Open open' ∷ (spell e ++ token.Plain plain.Comma ∷ token.Plain plain.LeftSquare ∷ spell_numbers ns))
 control_text (WantWsumClose items at open' e ns) = in_items items (token.Wsum at ∷ token.Open open' ∷ (spell e ++ token.Plain plain.Comma ∷ token.Plain plain.LeftSquare ∷ (spell_numbers ns ++ token.Plain plain.RightSquare ∷ [])))
-control_text (WantAs items agg) = in_items items (spell_agg agg)
+control_text (HaveAgg items agg) = in_items items (spell_agg agg)
 control_text (WantItemName items u) = in_items items (unnamed_text u ++ token.Plain plain.As ∷ [])
 control_text (HaveItem items) = token.Plain plain.Select ∷ spell_items items
 control_text (WantFrom at) = token.Plain plain.Select ∷ token.Operator op.Mul at ∷ []
@@ -205,7 +205,7 @@ Holds (WantWeightsOpen items at open' e) fs = InTerm fs × AreItems items × IsE
 Holds (WantWeight items at open' e ns) fs = InTerm fs × AreItems items × IsExpr e
 Holds (HaveWeight items at open' e ns) fs = InTerm fs × AreItems items × IsExpr e × IsAgg (Wsum at open' e ns)
 Holds (WantWsumClose items at open' e ns) fs = InTerm fs × AreItems items × IsExpr e × IsAgg (Wsum at open' e ns)
-Holds (WantAs items agg) fs = InTerm fs × AreItems items × IsAgg agg
+Holds (HaveAgg items agg) fs = InTerm fs × AreItems items × IsAgg agg
 Holds (WantItemName items u) fs = InTerm fs × AreItems items × IsUnnamed u
 Holds (HaveItem items) fs = InTerm fs × IsPick (Items items)
 Holds (WantFrom at) fs = InTerm fs

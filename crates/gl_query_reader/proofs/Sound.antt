@@ -3,7 +3,7 @@ use Rattle.std.proofs.Common.{◌≡◌, List, [], ◌∷◌, ◌++◌, Some, re
 use Rattle.std.proofs.lemmas.List.{append-nil}
 use Rattle.gl_query_tokens.specs.declared.token.Token.{Token}
 use Rattle.gl_query_reader.specs.Written.{Statement}
-use Rattle.gl_query_reader.specs.States.{State, Control, Frame, WantTerm, WantItem, WantOperand, WantMinus, HaveExpr, WantCastOpen, WantKind, WantCastClose, WantCountOpen, WantCountClose, WantFoldOpen, WantWsumOpen, WantWeightsOpen, WantWeight, HaveWeight, WantWsumClose, WantAs, WantItemName, HaveItem, WantFrom, WantSource, HaveSource, HaveEachSource, WantSize, WantSizeNumber, WantAdvance, WantAdvanceNumber, WantMeasure, WantWindowClose, WantBy, WantKey, WantGroups, WantGroupsNumber, WantVar, WantIn, WantBody, HaveTerm, WantName, HaveName, WantEnd, start}
+use Rattle.gl_query_reader.specs.States.{State, Control, Frame, WantTerm, WantItem, WantOperand, WantMinus, HaveExpr, WantCastOpen, WantKind, WantCastClose, WantCountOpen, WantCountClose, WantFoldOpen, WantWsumOpen, WantWeightsOpen, WantWeight, HaveWeight, WantWsumClose, HaveAgg, WantItemName, HaveItem, WantFrom, WantSource, HaveSource, HaveEachSource, WantSize, WantSizeNumber, WantAdvance, WantAdvanceNumber, WantMeasure, WantWindowClose, WantBy, WantKey, WantGroups, WantGroupsNumber, WantVar, WantIn, WantBody, HaveTerm, WantName, HaveName, WantEnd, start}
 use Rattle.gl_query_reader.specs.Machine.{step, finish, finish_at}
 use Rattle.gl_query_reader.specs.Grammar.{Derives}
 use Rattle.gl_query_reader.proofs.Steps.{steps}
@@ -29,7 +29,7 @@ keeps (WantWeightsOpen items at open' e) = keeps_weights_open items at open' e
 keeps (WantWeight items at open' e ns) = keeps_weight items at open' e ns
 keeps (HaveWeight items at open' e ns) = keeps_have_weight items at open' e ns
 keeps (WantWsumClose items at open' e ns) = keeps_wsum_close items at open' e ns
-keeps (WantAs items agg) = keeps_as items agg
+keeps (HaveAgg items agg) = keeps_as items agg
 keeps (WantItemName items u) = keeps_item_name items u
 keeps (HaveItem items) = keeps_have_item items
 keeps (WantFrom at) = keeps_from at

@@ -13,7 +13,7 @@ use Rattle.gl_query_tokens.specs.declared.token.Plain.TheVariants as plain
 use Rattle.gl_query_tokens.specs.declared.token.Token.{Token}
 use Rattle.gl_query_tokens.specs.declared.token.Token.TheVariants as token
 use Rattle.gl_query_reader.specs.Written.{Expr, Column, Minus, Cast, Not, Binary, Agg, Count, Wsum, Item, Bare, All, Items, Select, looseness, left_looseness, level, IsExpr, IsAgg, IsItem, AreItems, IsPick, spell, spell_numbers, spell_agg, spell_item, spell_items, spell_pick, spell_query, spell_if_window}
-use Rattle.gl_query_reader.specs.States.{State, Frame, SelectHead, Unnamed, UnnamedExpr, UnnamedAgg, LeftOf, NotOf, BracketOf, InCast, InItem, InFold, InWsum, InFilter, WantItem, WantOperand, WantMinus, HaveExpr, WantCastOpen, WantKind, WantCastClose, WantCountOpen, WantCountClose, WantFoldOpen, WantWsumOpen, WantWeightsOpen, WantWeight, HaveWeight, WantWsumClose, WantAs, WantItemName, HaveItem, WantFrom, WantSource, goes}
+use Rattle.gl_query_reader.specs.States.{State, Frame, SelectHead, Unnamed, UnnamedExpr, UnnamedAgg, LeftOf, NotOf, BracketOf, InCast, InItem, InFold, InWsum, InFilter, WantItem, WantOperand, WantMinus, HaveExpr, WantCastOpen, WantKind, WantCastClose, WantCountOpen, WantCountClose, WantFoldOpen, WantWsumOpen, WantWeightsOpen, WantWeight, HaveWeight, WantWsumClose, HaveAgg, WantItemName, HaveItem, WantFrom, WantSource, goes}
 use Rattle.gl_query_reader.specs.Machine.{Reduced, room, reduced, want_operand, have_item, after_expr, after_item, bare, under_name}
 use Rattle.gl_query_reader.proofs.ReadExpressions.{pair}
 use Rattle.gl_query_reader.proofs.Said.{items_before, numbers_before, in_items, unnamed_text, before, control_text, IsUnnamed, InExpr, Fits, Read, by_some, by_if, by_plain, by_name, by_number, by_open, go_on, go_in}
@@ -135,7 +135,7 @@ pub keeps_count_open : (items : List Item) (at : ℕ) → Keeps (WantCountOpen i
 keeps_count_open items at fs t s' f h e = by_open t _ s' _ e (λ n d. by_some _ s' _ d (go_on (control_text (WantCountOpen items at)) (WantCountClose items at n) fs (token.Open n) f h (behind_items items (token.Count at ∷ []) (token.Open n))))
 
 pub keeps_count_close : (items : List Item) (at open' : ℕ) → Keeps (WantCountClose items at open')
-keeps_count_close items at open' fs t s' f h e = by_plain plain.Close t _ s' _ e (go_on (control_text (WantCountClose items at open')) (WantAs items (Count at open')) fs (token.Plain plain.Close) f (h.0, h.1, tt) (behind_items items (token.Count at ∷ token.Open open' ∷ []) (token.Plain plain.Close)))
+keeps_count_close items at open' fs t s' f h e = by_plain plain.Close t _ s' _ e (go_on (control_text (WantCountClose items at open')) (HaveAgg items (Count at open')) fs (token.Plain plain.Close) f (h.0, h.1, tt) (behind_items items (token.Count at ∷ token.Open open' ∷ []) (token.Plain plain.Close)))
 
 pub keeps_fold_open : (items : List Item) (fold : Fold) (at : ℕ) → Keeps (WantFoldOpen items fold at)
 keeps_fold_open items fold at fs t s' f h e = by_open t _ s' _ e (λ n d. by_some _ s' _ d (go_in (control_text (WantFoldOpen items fold at)) WantOperand (InFold items fold at n) fs (token.Open n) f h tt refl (behind_items items (token.Fold fold at ∷ []) (token.Open n))))
@@ -174,11 +174,11 @@ keeps_have_weight items at open' arg weights fs t s' f h e =
     (behind_weights items at open' arg (spell_numbers weights) (token.Plain plain.RightSquare))))
 
 pub keeps_wsum_close : (items : List Item) (at open' : ℕ) (arg : Expr) (weights : List Num) → Keeps (WantWsumClose items at open' arg weights)
-keeps_wsum_close items at open' arg weights fs t s' f h e = by_plain plain.Close t _ s' _ e (go_on (control_text (WantWsumClose items at open' arg weights)) (WantAs items (Wsum at open' arg weights)) fs (token.Plain plain.Close) f (h.0, h.1, h.3)
+keeps_wsum_close items at open' arg weights fs t s' f h e = by_plain plain.Close t _ s' _ e (go_on (control_text (WantWsumClose items at open' arg weights)) (HaveAgg items (Wsum at open' arg weights)) fs (token.Plain plain.Close) f (h.0, h.1, h.3)
     (behind_weights items at open' arg (spell_numbers weights ++ token.Plain plain.RightSquare ∷ []) (token.Plain plain.Close) ∙ weighted items at open' arg _ _ (append_assoc (spell_numbers weights) (token.Plain plain.RightSquare ∷ []) (token.Plain plain.Close ∷ []))))
 
-pub keeps_as : (items : List Item) (agg : Agg) → Keeps (WantAs items agg)
-keeps_as items agg fs t s' f h e = by_plain plain.As t _ s' _ e (go_on (control_text (WantAs items agg)) (WantItemName items (UnnamedAgg agg)) fs (token.Plain plain.As) f h (behind_items items (spell_agg agg) (token.Plain plain.As)))
+pub keeps_as : (items : List Item) (agg : Agg) → Keeps (HaveAgg items agg)
+keeps_as items agg fs t s' f h e = by_plain plain.As t _ s' _ e (go_on (control_text (HaveAgg items agg)) (WantItemName items (UnnamedAgg agg)) fs (token.Plain plain.As) f h (behind_items items (spell_agg agg) (token.Plain plain.As)))
 
 named : (u : Unnamed) (n : Name) → (unnamed_text u ++ token.Plain plain.As ∷ []) ++ token.Name n ∷ [] ≡ spell_item (under_name u n)
 named (UnnamedExpr e) n = append_assoc (spell e) (token.Plain plain.As ∷ []) (token.Name n ∷ [])

@@ -77,9 +77,13 @@ word_eq word.Lag word.Lag = true
 word_eq word.LastValue word.LastValue = true
 word_eq a b = false
 
+-- a name is a word of frames in small letters
+abbrev pub is_small : Word → Name → Bool
+is_small w name = bytes_eq name.text (word_text w)
+
 -- how a word of frames is spelled, where this name is it
 abbrev pub small_in : Word → Name → Option Spelling
-small_in w name = if bytes_eq name.text (word_text w) then Some (Small name.at) else None
+small_in w name = if is_small w name then Some (Small name.at) else None
 
 -- how a word of frames is spelled, where this one with a capital is it
 abbrev pub capital_in : Word → Word → ℕ → Option Spelling

@@ -63,11 +63,17 @@ fn is_same(a: Word, b: Word) -> bool
     a == b
 }
 
-/// How the word is spelled, where the name is it.
-pub fn small_in(name: &Name, word: Word) -> Option<Spelling>
+/// Whether the name is the word in small letters.
+pub fn is_small(name: &Name, word: Word) -> bool
+    ensures { result ≡ sorts.is_small word name.now }
+{
+    name.text.as_slice() == word_text(word)
+}
+
+fn small_in(name: &Name, word: Word) -> Option<Spelling>
     ensures { result ≡ sorts.small_in word name.now }
 {
-    if name.text.as_slice() == word_text(word) {
+    if is_small(name, word) {
         Some(Spelling::Small { at: name.at })
     } else {
         None
