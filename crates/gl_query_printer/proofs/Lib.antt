@@ -10,6 +10,7 @@ pub mod ReadableWords
 pub mod Readable
 pub mod ReadBack
 pub mod ReadBackFrames
+pub mod ReadBackSelects
 pub mod ReadBackWindows
 pub mod ReadBackQueries
 pub mod ReadBackStatement

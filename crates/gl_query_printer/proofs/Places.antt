@@ -91,7 +91,7 @@ pub record Parts (us xs ys : List Token) : Type 0 where
   pub front_is : map placeless front ≡ xs
   pub back_is : map placeless back ≡ ys
 
-none_some : {A : Type 0} (x : A) (xs : List A) → [] ≡ x ∷ xs → ⊥
+pub none_some : {A : Type 0} (x : A) (xs : List A) → [] ≡ x ∷ xs → ⊥
 none_some x xs h = absurd (cc)
 
 pub parts : (us xs ys : List Token) → map placeless us ≡ xs ++ ys → Parts us xs ys

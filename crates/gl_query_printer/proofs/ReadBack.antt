@@ -20,7 +20,7 @@ use Rattle.gl_query_reader.specs.Written.{level, looseness, left_looseness, IsEx
 use Rattle.gl_query_reader.specs.Meaning.{expr_meaning, agg_meaning, plain_items, agg_items, is_total, is_framed, has_over}
 use Rattle.gl_query_reader.specs.Mixed.{first_other, same}
 use Rattle.gl_query.specs.Alike.{expr_alike, agg_alike, item_alike, agg_item_alike}
-use Rattle.gl_query_printer.specs.Canonical.{name_of, num_of, fitted, expr_of, agg_of, is_bare, item_by, item_of, agg_item_of}
+use Rattle.gl_query_printer.specs.Canonical.{name_of, num_of, fitted, expr_of, agg_of, is_bare, item_of, agg_item_of}
 use Rattle.gl_query_printer.proofs.Places.{placeless, parts, first, alone}
 use Rattle.gl_query_printer.proofs.Writable.{CanBeExpr, CanBeAgg, CanBeItem, CanBeAggItem, any_of}
 
@@ -181,7 +181,7 @@ pub record ReadFold (us : List Token) (f : Fold) (e : ExprShape) : Type 0 where
   pub grammar : IsExpr arg
   pub alike : expr_alike (expr_meaning arg) ≡ e
 
-read_fold : (f : Fold) (e : ExprShape) → CanBeExpr e → (us : List Token) → map placeless us ≡ spell_agg (written.Fold' f 0 0 (expr_of e)) → ReadFold us f e
+pub read_fold : (f : Fold) (e : ExprShape) → CanBeExpr e → (us : List Token) → map placeless us ≡ spell_agg (written.Fold' f 0 0 (expr_of e)) → ReadFold us f e
 read_fold f e c us h =
     let a = first us (token.Fold f 0) (token.Open 0 ∷ (spell (expr_of e) ++ token.Plain plain.Close ∷ [])) h in
     let b = first a.rest (token.Open 0) (spell (expr_of e) ++ token.Plain plain.Close ∷ []) a.rest_is in
@@ -312,7 +312,7 @@ totals_parted (written.Framed o name) xs = refl
 abbrev pub no_over : {A : Type 0} → A → Bool
 no_over x = false
 
-pub bare_is : (e : ExprShape) (name : List ℕ) → is_bare e name ≡ true → e ≡ shape.Column name
+bare_is : (e : ExprShape) (name : List ℕ) → is_bare e name ≡ true → e ≡ shape.Column name
 bare_is (shape.Column column) name h = ap shape.Column ((bytes_eq-Decides column name).0 h)
 bare_is (shape.Number n) name h = absurd (true≢false (sym h))
 bare_is (shape.Minus n) name h = absurd (true≢false (sym h))

@@ -1,11 +1,11 @@
 -- A canonical text is read back: frames.
-use Rattle.std.proofs.Common.{◌≡◌, ℕ, Bool, true, false, List, [], ◌∷◌, ◌++◌, map, Option, Some, None, option_map, refl, sym, ap, subst, ◌∙◌}
-use Rattle.std.specs.Prelude.{if◌then◌else◌}
+use Rattle.std.proofs.Common.{◌≡◌, ℕ, Bool, true, false, List, [], ◌∷◌, ◌++◌, map, Option, Some, None, option_map, refl, sym, ap}
+use Rattle.std.proofs.lemmas.Bool.{true≢false}
+use Rattle.gl_bits.proofs.AllLists.{heads}
 use Rattle.gl_query.specs.declared.tree.Num.{Num}
-use Rattle.gl_query.specs.Shapes.{ExprShape, FrameAggShape, FrameShape, FrameItemShape}
+use Rattle.gl_query.specs.Shapes.{ExprShape, ItemShape, FrameAggShape, FrameShape, FrameItemShape}
 use Rattle.gl_query.specs.Shapes as shape
 use Rattle.gl_query.specs.Alike.{expr_alike, frame_agg_alike, frame_alike, frame_item_alike}
-use Rattle.gl_query_tokens.specs.declared.token.Fold.{Fold}
 use Rattle.gl_query_tokens.specs.declared.token.Fold.TheVariants.{Sum, Min, Max, Avg}
 use Rattle.gl_query_tokens.specs.declared.token.Plain.TheVariants as plain
 use Rattle.gl_query_tokens.specs.declared.token.Spelling.TheVariants.{Small, Capital}
@@ -18,12 +18,13 @@ use Rattle.gl_query_reader.specs.declared.written.Bound.TheVariants as bound
 use Rattle.gl_query_reader.specs.declared.written.FrameRows.{FrameRows}
 use Rattle.gl_query_reader.specs.declared.written.FrameRows.TheVariants as rows
 use Rattle.gl_query_reader.specs.Written as written
-use Rattle.gl_query_reader.specs.Written.{IsOverAgg, IsFiltering, IsOver, FitsRows, spell, spell_over_agg, spell_filtering, spell_bound, spell_head, spell_rows, spell_over, spell_item}
-use Rattle.gl_query_reader.specs.Meaning.{expr_meaning, over_agg_meaning, filtering_meaning, bound_meaning, rows_meaning, over_meaning, frame_items}
-use Rattle.gl_query_printer.specs.Canonical.{name_of, num_of, expr_of, is_bare, item_by, over_agg_of, filtering_of, bound_of, rows_of, frame_by, frame_item_of}
-use Rattle.gl_query_printer.proofs.Places.{placeless, parts, first, alone, nothing}
+use Rattle.gl_query_reader.specs.Written.{IsOverAgg, IsFiltering, IsOver, spell, spell_over_agg, spell_filtering, spell_bound, spell_head, spell_rows, spell_over, spell_item}
+use Rattle.gl_query_reader.specs.Meaning.{over_agg_meaning, filtering_meaning, bound_meaning, rows_meaning, over_meaning, frame_items, is_framed}
+use Rattle.gl_query_tokens.proofs.Sound.{IsNameWord}
+use Rattle.gl_query_printer.specs.Canonical.{name_of, num_of, expr_of, item_by, over_agg_of, filtering_of, bound_of, rows_of, frame_by, frame_item_of}
+use Rattle.gl_query_printer.proofs.Places.{placeless, none_some, parts, first, alone, nothing}
 use Rattle.gl_query_printer.proofs.Writable.{CanBeExpr, CanBeFrameAgg, CanBeFilter, CanBeFrame, CanBeFrameItem, is_back}
-use Rattle.gl_query_printer.proofs.ReadBack.{ReadOne, bare_is, cons, two, read_expr, read_fold}
+use Rattle.gl_query_printer.proofs.ReadBack.{ReadOne, cons, two, plains, read_expr, read_fold, read_item}
 
 abbrev pub frames : List written.Item → List FrameItemShape
 frames is = map frame_item_alike (frame_items is)
@@ -213,31 +214,18 @@ read_ranged agg filter back c d us h =
 
 -- ---- items
 
-read_own : (b : Bool) (e : ExprShape) (name : List ℕ) → is_bare e name ≡ b → CanBeExpr e → (us : List Token)
-    → map placeless us ≡ spell_item (if b then written.Bare (name_of name) else written.Named (expr_of e) (name_of name)) → ReadOne frames is_back false us (framed (shape.Own e) name)
-read_own true e name q c us h =
-    let a = alone us (token.Name (name_of name)) h in
-    record {
-      tree = written.Bare (record { text = name; at = a.at });
-      spelled = sym a.whole;
-      grammar = tt;
-      total = refl;
-      framed = refl;
-      alike = ap (λ (z : ExprShape). framed (shape.Own z) name ∷ []) (sym (bare_is e name q));
-    }
-read_own false e name q c us h =
-    let p = parts us (spell (expr_of e)) (token.Plain plain.As ∷ token.Name (name_of name) ∷ []) h in
-    let x = read_expr e c p.front p.front_is in
-    let a = first p.back (token.Plain plain.As) (token.Name (name_of name) ∷ []) p.back_is in
-    let n = alone a.rest (token.Name (name_of name)) a.rest_is in
-    record {
-      tree = written.Named x.tree (record { text = name; at = n.at });
-      spelled = two us p.front p.back (spell x.tree) _ p.whole x.spelled (cons (token.Plain plain.As) p.back a.rest _ a.whole (sym n.whole));
-      grammar = x.grammar;
-      total = refl;
-      framed = refl;
-      alike = ap (λ (z : ExprShape). framed (shape.Own z) name ∷ []) x.alike;
-    }
+-- an item that is an expression is a frame over the row itself
+own_of : (t : written.Item) (i : ItemShape) → is_framed t ≡ false → plains (t ∷ []) ≡ i ∷ [] → frames (t ∷ []) ≡ framed (shape.Own i.expr) i.name ∷ []
+own_of (written.Bare name) i f h = ap (λ (x : ItemShape). framed (shape.Own x.expr) x.name ∷ []) (heads _ i [] [] h)
+own_of (written.Named e name) i f h = ap (λ (x : ItemShape). framed (shape.Own x.expr) x.name ∷ []) (heads _ i [] [] h)
+own_of (written.Total a name) i f h = absurd (none_some i [] h)
+own_of (written.Framed o name) i f h = absurd (true≢false f)
+
+read_own : (e : ExprShape) (name : List ℕ) → CanBeExpr e → IsNameWord name → (us : List Token) → map placeless us ≡ spell_item (item_by e name) → ReadOne frames is_back false us (framed (shape.Own e) name)
+read_own e name c n us h =
+    let i : ItemShape = record { expr = e; name = name } in
+    let x = read_item i (c, n) us h in
+    record { tree = x.tree; spelled = x.spelled; grammar = x.grammar; total = x.total; framed = x.framed; alike = own_of x.tree i x.framed x.alike }
 
 -- a function with OVER under its name
 read_under : (over : written.Over) (f : FrameShape) (name : List ℕ) → true ≡ is_back (framed f name) → ((vs : List Token) → map placeless vs ≡ spell_over over → ReadFrame vs f) → (us : List Token) → map placeless us ≡ spell_item (written.Framed over (name_of name)) → ReadOne frames is_back false us (framed f name)
@@ -255,10 +243,10 @@ read_under over f name t r us h =
       alike = ap (λ (z : FrameShape). framed z name ∷ []) x.alike;
     }
 
-read_frame : (f : FrameShape) (name : List ℕ) → CanBeFrame f → (us : List Token) → map placeless us ≡ spell_item (frame_by f name) → ReadOne frames is_back false us (framed f name)
-read_frame (shape.Own e) name c us h = read_own (is_bare e name) e name refl c us h
-read_frame (shape.Lag e back) name c us h = read_under (written.OverOf (written.LagOf (Small 0) 0 (expr_of e) (Some (num_of back))) (Capital 0) 0 None) (shape.Lag e back) name refl (λ vs k. read_lag e back c.0 vs k) us h
-read_frame (shape.Over agg filter back) name c us h = read_under (written.OverOf (written.Ranged (over_agg_of agg) (filtering_of filter)) (Capital 0) 0 (Some (rows_of back))) (shape.Over agg filter back) name refl (λ vs k. read_ranged agg filter back c.0 c.1 vs k) us h
+read_frame : (f : FrameShape) (name : List ℕ) → CanBeFrame f → IsNameWord name → (us : List Token) → map placeless us ≡ spell_item (frame_by f name) → ReadOne frames is_back false us (framed f name)
+read_frame (shape.Own e) name c n us h = read_own e name c n us h
+read_frame (shape.Lag e back) name c n us h = read_under (written.OverOf (written.LagOf (Small 0) 0 (expr_of e) (Some (num_of back))) (Capital 0) 0 None) (shape.Lag e back) name refl (λ vs k. read_lag e back c.0 vs k) us h
+read_frame (shape.Over agg filter back) name c n us h = read_under (written.OverOf (written.Ranged (over_agg_of agg) (filtering_of filter)) (Capital 0) 0 (Some (rows_of back))) (shape.Over agg filter back) name refl (λ vs k. read_ranged agg filter back c.0 c.1 vs k) us h
 
 pub read_frame_item : (i : FrameItemShape) → CanBeFrameItem i → (us : List Token) → map placeless us ≡ spell_item (frame_item_of i) → ReadOne frames is_back false us i
-read_frame_item i c us h = read_frame i.frame i.name c.0 us h
+read_frame_item i c us h = read_frame i.frame i.name c.0 c.1 us h

@@ -22,7 +22,7 @@ use Rattle.gl_query_tokens.specs.Tokens.{class_of, follow_of, sign_token}
 use Rattle.gl_query_tokens.specs.Words.{is_keyword, word_text, word_token}
 use Rattle.gl_query_reader.specs.Written as written
 use Rattle.gl_query_reader.specs.Written.{measure_word, spell, spell_numbers, spell_agg, spell_over_agg, spell_filtering, spell_bound, spell_head, spell_rows, spell_over, spell_item, spell_items, spell_pick, spell_window, spell_filter, spell_grouping, spell_query}
-use Rattle.gl_query_printer.specs.Canonical.{name_of, num_of, fitted, expr_of, agg_of, is_bare, item_by, item_of, agg_item_of, over_agg_of, filtering_of, bound_of, rows_of, frame_by, frame_item_of, pick_of, bracketed_unless, source_of, term_of, window_of, grouping_of, query_of, canonical_tokens}
+use Rattle.gl_query_printer.specs.Canonical.{name_of, num_of, fitted, expr_of, agg_of, is_bare, item_of, agg_item_of, over_agg_of, filtering_of, bound_of, rows_of, frame_by, frame_item_of, pick_of, bracketed_unless, source_of, term_of, window_of, grouping_of, query_of, canonical_tokens}
 use Rattle.gl_query_printer.specs.declared.text.Behind.{Behind}
 use Rattle.gl_query_printer.specs.declared.text.Behind.TheVariants.{Opening, Named, Operand, Sign, Other}
 use Rattle.gl_query_printer.specs.Spaced.{token_text, plain_text, operator_text, fold_text, join_text, place_behind}

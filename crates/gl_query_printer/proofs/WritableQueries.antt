@@ -1,5 +1,5 @@
 -- What has a canonical text: selects, queries and statements that some text has.
-use Rattle.std.proofs.Common.{◌≡◌, ℕ, Bool, true, false, List, [], ◌∷◌, ◌++◌, map, Option, Some, None, option_map, refl, sym, ap, subst, ◌∙◌}
+use Rattle.std.proofs.Common.{◌≡◌, ℕ, Bool, true, false, List, [], ◌∷◌, ◌++◌, map, Option, Some, None, option_map, refl, sym, subst, ◌∙◌}
 use Rattle.std.specs.Prelude.{codes, nat_le, if◌then◌else◌}
 use Rattle.std.specs.List.{AllByRecursion}
 use Rattle.std.proofs.lemmas.Bool.{or_parts, true≢false}
@@ -16,7 +16,7 @@ use Rattle.gl_query_reader.specs.declared.written.Window.{Window}
 use Rattle.gl_query_reader.specs.declared.written.Grouping.{Grouping}
 use Rattle.gl_query_reader.specs.Written as written
 use Rattle.gl_query.specs.Trees as tree
-use Rattle.gl_query_reader.specs.Meaning.{expr_meaning, plain_items, agg_items, frame_items, is_total, is_framed, has_over, it, filtered, by_over, by_items, by_pick, grouped, select_meaning, join_meaning, query_meaning, statement_meaning}
+use Rattle.gl_query_reader.specs.Meaning.{expr_meaning, agg_items, is_total, is_framed, has_over, it, filtered, by_over, by_items, by_pick, grouped, select_meaning, join_meaning, query_meaning, statement_meaning}
 use Rattle.gl_query_reader.specs.Mixed.{first_other, is_key, behind_key, mixed_pick, least, mixed_in, item_at}
 use Rattle.gl_query.specs.Alike.{expr_alike, agg_item_alike, query_alike, statement_alike}
 use Rattle.gl_query_tokens.proofs.Sound.{IsNameWord, IsSmall, is_word}

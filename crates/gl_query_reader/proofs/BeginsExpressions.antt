@@ -1,5 +1,5 @@
 -- What was read of an expression begins a statement.
-use Rattle.std.proofs.Common.{◌≡◌, ℕ, true, false, List, [], ◌∷◌, ◌++◌, Option, Some, None, refl, sym, ap, ◌∙◌, arith}
+use Rattle.std.proofs.Common.{◌≡◌, ℕ, false, List, [], ◌∷◌, Option, Some, None, refl, ap, ◌∙◌, arith}
 use Rattle.gl_values.specs.declared.kind.Kind.TheVariants.{Unsigned}
 use Rattle.gl_schema.specs.SchemaText.{kind_text}
 use Rattle.gl_schema.specs.SchemaFaults.{kind_named}
@@ -14,7 +14,7 @@ use Rattle.gl_query_tokens.specs.declared.token.Token.TheVariants as token
 use Rattle.gl_query_tokens.specs.Sorts.{plain_eq, is_plain}
 use Rattle.gl_query_reader.specs.declared.over_state.Call.TheVariants as call
 use Rattle.gl_query_reader.specs.declared.written.Window.{Window}
-use Rattle.gl_query_reader.specs.Written.{Expr, Column, Brackets, Cast, Not, Binary, Agg, Fold', OverAgg, LastOf, FilterOf, LagOf, Ranged, Item, Pick, Query, Select}
+use Rattle.gl_query_reader.specs.Written.{Expr, Column, Brackets, Cast, Not, Binary, Fold', OverAgg, LastOf, FilterOf, LagOf, Ranged, Item, Pick, Query, Select}
 use Rattle.gl_query_reader.specs.States.{State, Frame, UnnamedExpr, LeftOf, NotOf, BracketOf, InCast, InItem, InFold, InWsum, InCall, InCondition, InFilter, WantKind, WantWeightsOpen, HaveAgg, WantOver, WantItemName}
 use Rattle.gl_query_reader.specs.Machine.{Reduced, reduced, have_term, after_expr, is_operator, step}
 use Rattle.gl_query_reader.proofs.Steps.{steps, state}

@@ -1,5 +1,5 @@
 -- What was read of a function with OVER begins a statement.
-use Rattle.std.proofs.Common.{◌≡◌, ℕ, List, [], ◌∷◌, ◌++◌, Option, Some, None, refl}
+use Rattle.std.proofs.Common.{◌≡◌, ℕ, List, [], ◌∷◌, Option, Some, None, refl}
 use Rattle.gl_values.specs.declared.op.Op.TheVariants as op
 use Rattle.gl_query.specs.declared.tree.Num.{Num}
 use Rattle.gl_query_tokens.specs.declared.token.Plain.TheVariants as plain
@@ -16,7 +16,7 @@ use Rattle.gl_query_reader.specs.declared.written.FrameRows.{FrameRows}
 use Rattle.gl_query_reader.specs.declared.written.FrameRows.TheVariants as rows
 use Rattle.gl_query_reader.specs.Written.{Expr, OverHead, LagOf, Ranged, Over, OverOf, Item}
 use Rattle.gl_query_reader.specs.Framing.{front_of, rows_first}
-use Rattle.gl_query_reader.specs.States.{State, Frame, UnnamedOver, WantBack, WantLagClose, WantOver, WantOverOpen, InOver, WantOverAs, WantItemName}
+use Rattle.gl_query_reader.specs.States.{Frame, UnnamedOver, WantBack, WantLagClose, WantOver, WantOverOpen, InOver, WantOverAs, WantItemName}
 use Rattle.gl_query_reader.specs.Machine.{step}
 use Rattle.gl_query_reader.proofs.Steps.{steps, state}
 use Rattle.gl_query_reader.proofs.Said.{InTerm, Fits}

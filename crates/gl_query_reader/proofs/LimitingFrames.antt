@@ -1,7 +1,5 @@
 -- A function with OVER keeps the limits exactly where the counts of its tokens do.
-use Rattle.std.proofs.Common.{◌≡◌, ℕ, ◌+◌, ◌-◌, ◌≤◌, Bool, true, false, List, [], ◌∷◌, ◌++◌, max, Option, Some, None, refl, arith}
-use Rattle.gl_values.specs.declared.op.Op.TheVariants as op
-use Rattle.gl_query.specs.declared.tree.Num.{Num}
+use Rattle.std.proofs.Common.{ℕ, ◌+◌, ◌-◌, ◌≤◌, Bool, true, false, List, [], ◌∷◌, ◌++◌, max, Option, Some, None, refl, arith}
 use Rattle.gl_query_tokens.specs.declared.token.Plain.TheVariants as plain
 use Rattle.gl_query_tokens.specs.declared.token.Spelling.{Spelling}
 use Rattle.gl_query_tokens.specs.declared.token.Spelling.TheVariants.{Small, Capital}
@@ -15,7 +13,7 @@ use Rattle.gl_query_reader.specs.declared.written.FrameRows.{FrameRows}
 use Rattle.gl_query_reader.specs.declared.written.FrameRows.TheVariants as rows
 use Rattle.gl_query_reader.specs.Limits.{IsSmall}
 use Rattle.gl_query_reader.specs.Sizes.{expr_depth, over_agg_depth, filtering_depth, head_depth, over_depth, operators_of, OverAggIsShort, FilteringIsShort, HeadIsShort, OverIsShort}
-use Rattle.gl_query_reader.specs.Written.{Expr, OverAgg, CountOf, FoldOf, LastOf, Filtering, FilterOf, OverHead, LagOf, Ranged, Over, OverOf, spell, spell_word, spell_over_agg, spell_filtering, spell_back, spell_head, spell_bound, spell_rows, spell_over}
+use Rattle.gl_query_reader.specs.Written.{Expr, OverAgg, CountOf, FoldOf, LastOf, Filtering, FilterOf, OverHead, LagOf, Ranged, Over, OverOf, spell, spell_word, spell_over_agg, spell_filtering, spell_head, spell_bound, spell_rows, spell_over}
 use Rattle.gl_query_reader.proofs.Limiting.{counts, Keeps, over, under, parted, paired, keeps_at, small_at, limited, limits, close, Behind, Any}
 
 -- ---- words and bounds

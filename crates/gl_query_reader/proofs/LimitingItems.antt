@@ -111,7 +111,6 @@ limited_item (Total a name) b j rest f h =
     let tail : List Token = token.Plain plain.As ∷ token.Name name ∷ [] in
     let x = limited_agg a b j true (tail ++ rest) (parted (spell_agg a) tail rest h) in
     record { depth' = x.depth'; short' = x.short'; operators = x.operators; operand = false; small = x.small; rest' = (over (over x.rest').1).1 }
-
 limited_item (Framed o name) b j rest f h =
     let tail : List Token = token.Plain plain.As ∷ token.Name name ∷ [] in
     let x = limited_over o b j true (tail ++ rest) (parted (spell_over o) tail rest h) in
@@ -130,7 +129,6 @@ limits_item (Total a name) b j rest g m s h =
     let tail : List Token = token.Plain plain.As ∷ token.Name name ∷ [] in
     paired (spell_agg a) tail rest (limits_agg a b j true (tail ++ rest) g m s
     (λ o d' v. (let f = small_at b o j false (omega arith) v g in under f (under f (h o false v)))))
-
 limits_item (Framed o name) b j rest g m s h =
     let tail : List Token = token.Plain plain.As ∷ token.Name name ∷ [] in
     paired (spell_over o) tail rest (limits_over o b j true (tail ++ rest) g m s

@@ -80,7 +80,6 @@ item_names (written.Named e name) h =
 item_names (written.Total a name) h =
     let p = sound_parts (written.spell_agg a) (token.Plain plain.As ∷ token.Name name ∷ []) h in
     (agg_names a p.0, p.1.1.0.name)
-
 item_names (written.Framed o name) h =
     let p = sound_parts (written.spell_over o) (token.Plain plain.As ∷ token.Name name ∷ []) h in
     (over_names o p.0, p.1.1.0.name)

@@ -1,8 +1,8 @@
 -- The words of frames as tokens, and the rows of a frame as they are read.
 use Rattle.std.proofs.Common.{◌≡◌, ℕ, Bool, true, false, cond, List, [], ◌∷◌, ◌++◌, Option, Some, None, refl, sym, ap, subst, ◌∙◌}
-use Rattle.std.specs.Prelude.{bytes_eq, option_map, option_and_then}
+use Rattle.std.specs.Prelude.{option_map, option_and_then}
 use Rattle.std.proofs.lemmas.Bool.{false≢true}
-use Rattle.std.proofs.lemmas.Slice.Eq.{bytes_eq-Decides}
+use Rattle.gl_bits.proofs.Bools.{bytes_own, bytes_same}
 use Rattle.gl_values.specs.declared.op.Op.TheVariants as op
 use Rattle.gl_query.specs.declared.tree.Name.{Name}
 use Rattle.gl_query_tokens.specs.declared.token.Spelling.{Spelling}
@@ -56,7 +56,7 @@ word_refl word.LastValue = refl
 
 -- the token of a name that is a word in small letters
 small_token : (w : Word) (n : Name) → is_small w n ≡ true → spell_word w (Small n.at) ≡ token.Name n
-small_token w n h = ap (λ (x : List ℕ). token.Name (record { text = x; at = n.at })) (sym ((bytes_eq-Decides n.text (word_text w)).0 h))
+small_token w n h = ap (λ (x : List ℕ). token.Name (record { text = x; at = n.at })) (sym (bytes_same n.text (word_text w) h))
 
 small_is : (b : Bool) (w : Word) (n : Name) (s : Spelling) → is_small w n ≡ b → cond b (Some (Small n.at)) None ≡ Some s → spell_word w s ≡ token.Name n
 small_is true w n s h e = subst (λ (x : Spelling). spell_word w x ≡ token.Name n) (some_same (Small n.at) s e) (small_token w n h)
@@ -72,11 +72,8 @@ word_is w (token.Name n) s e = small_is (is_small w n) w n s refl e
 word_is w (token.Word v at) s e = capital_is (word_eq v w) v w at s refl e
 word_is w t s e = absurd cc
 
-bytes_same : (x : List ℕ) → bytes_eq x x ≡ true
-bytes_same x = (bytes_eq-Decides x x).1 refl
-
 pub word-in : (w : Word) (s : Spelling) → word_in w (spell_word w s) ≡ Some s
-word-in w (Small at) = rw (bytes_same (word_text w)) refl
+word-in w (Small at) = rw (bytes_own (word_text w)) refl
 word-in w (Capital at) = rw (word_refl w) refl
 
 pub over-no-filter : (s : Spelling) → word_in word.Filter (spell_word word.Over s) ≡ None

@@ -172,7 +172,6 @@ item_small (written.Named e name) more n begins none w =
 item_small (written.Total a name) more n begins none w =
     let tail : List Token = token.Plain plain.As ∷ token.Name name ∷ [] in
     (agg_small a (tail ++ more) n (subst (IsWithin n) (append_assoc (written.spell_agg a) tail more) w), tt)
-
 item_small (written.Framed o name) more n begins none w =
     let tail : List Token = token.Plain plain.As ∷ token.Name name ∷ [] in
     (over_small o (tail ++ more) n (subst (IsWithin n) (append_assoc (written.spell_over o) tail more) w), tt)

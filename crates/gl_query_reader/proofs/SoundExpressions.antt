@@ -10,13 +10,12 @@ use Rattle.gl_values.specs.declared.op.Op.{Op}
 use Rattle.gl_values.specs.declared.op.Op.TheVariants as op
 use Rattle.gl_query_tokens.specs.declared.token.Fold.{Fold}
 use Rattle.gl_query_tokens.specs.declared.token.Plain.TheVariants as plain
-use Rattle.gl_query_tokens.specs.declared.token.Spelling.{Spelling}
-use Rattle.gl_query_tokens.specs.declared.token.Spelling.TheVariants.{Small, Capital}
+use Rattle.gl_query_tokens.specs.declared.token.Spelling.TheVariants.{Small}
 use Rattle.gl_query_tokens.specs.declared.token.Word.TheVariants as word
 use Rattle.gl_query_tokens.specs.declared.token.Token.{Token}
 use Rattle.gl_query_tokens.specs.declared.token.Token.TheVariants as token
-use Rattle.gl_query_reader.specs.Written.{Expr, Column, Minus, Cast, Not, Binary, Agg, Count, Wsum, LastOf, FilterOf, LagOf, Ranged, Item, Bare, All, Items, Select, looseness, left_looseness, level, IsExpr, IsAgg, IsItem, AreItems, IsPick, spell, spell_numbers, spell_agg, spell_word, spell_over_agg, spell_over, spell_item, spell_items, spell_pick, spell_query, spell_if_window}
-use Rattle.gl_query_reader.specs.States.{State, Frame, SelectHead, Unnamed, UnnamedExpr, UnnamedAgg, UnnamedOver, LeftOf, NotOf, BracketOf, InCast, InItem, InFold, InWsum, InCall, InCondition, InFilter, WantItem, WantOperand, WantMinus, HaveExpr, WantCastOpen, WantKind, WantCastClose, WantCountOpen, WantCountClose, WantFoldOpen, WantWsumOpen, WantWeightsOpen, WantWeight, HaveWeight, WantWsumClose, HaveAgg, WantCallOpen, WantBack, WantOver, WantItemName, HaveItem, WantFrom, WantSource, goes}
+use Rattle.gl_query_reader.specs.Written.{Expr, Column, Minus, Cast, Not, Binary, Count, Wsum, Item, Bare, All, Items, Select, looseness, left_looseness, level, IsExpr, IsAgg, IsItem, AreItems, IsPick, spell, spell_numbers, spell_agg, spell_word, spell_over_agg, spell_over, spell_item, spell_items, spell_pick, spell_query, spell_if_window}
+use Rattle.gl_query_reader.specs.States.{State, Frame, SelectHead, Unnamed, UnnamedExpr, UnnamedAgg, UnnamedOver, LeftOf, NotOf, BracketOf, InCast, InItem, InFold, InWsum, InCall, InCondition, InFilter, WantItem, WantOperand, WantMinus, HaveExpr, WantCastOpen, WantKind, WantCastClose, WantCountOpen, WantCountClose, WantFoldOpen, WantWsumOpen, WantWeightsOpen, WantWeight, HaveWeight, WantWsumClose, HaveAgg, WantCallOpen, WantItemName, HaveItem, WantFrom, WantSource, goes}
 use Rattle.gl_query_reader.specs.Machine.{Reduced, room, reduced, want_operand, have_item, after_expr, after_item, bare, bare_or_call, under_name}
 use Rattle.gl_query_reader.specs.Framing.{begin_call, named_call}
 use Rattle.gl_query_reader.specs.declared.over_state.Call.TheVariants as call
@@ -297,7 +296,7 @@ after_in_item items fs e t s' f g d =
     by_if plain.As t _ _ s' _ d
     (λ d1. by_some _ s' _ d1 (record { text = text (before fs) (items_before items) (spell e) (token.Plain plain.Select) (token.Plain plain.As); fits = f.1; holds = (f.0.0, f.0.1, g) }))
     (λ d1. let h = then_some _ (bare e) s' d1 in
-        by_open_or t (λ o. bare_or_call o fs items h.0 t) s' _ h.2 (λ n d2. keeps_call items fs e n s' h.0 f h.1 d2) (λ d2. keeps_bare items fs e t s' h.0 f g h.1 d2))
+    by_open_or t (λ o. bare_or_call o fs items h.0 t) s' _ h.2 (λ n d2. keeps_call items fs e n s' h.0 f h.1 d2) (λ d2. keeps_bare items fs e t s' h.0 f g h.1 d2))
   where
     text : (b i x : List Token) (s a : Token) → b ++ (s ∷ (i ++ (x ++ a ∷ []))) ≡ ((b ++ (s ∷ i)) ++ x) ++ a ∷ []
     text b i x s a = simp append_assoc

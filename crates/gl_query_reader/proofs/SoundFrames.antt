@@ -1,18 +1,18 @@
 -- Functions with OVER are read as the grammar has them.
-use Rattle.std.proofs.Common.{◌≡◌, ℕ, List, [], ◌∷◌, ◌++◌, Option, Some, None, refl, sym, ap, subst, ◌∙◌, append_assoc}
+use Rattle.std.proofs.Common.{◌≡◌, ℕ, List, [], ◌∷◌, ◌++◌, Option, Some, None, refl, ap, subst, ◌∙◌, append_assoc}
 use Rattle.std.specs.Prelude.{option_and_then}
 use Rattle.std.proofs.lemmas.List.{append-nil}
 use Rattle.gl_query.specs.declared.tree.Num.{Num}
 use Rattle.gl_query_tokens.specs.declared.token.Plain.TheVariants as plain
 use Rattle.gl_query_tokens.specs.declared.token.Spelling.{Spelling}
-use Rattle.gl_query_tokens.specs.declared.token.Spelling.TheVariants.{Small, Capital}
+use Rattle.gl_query_tokens.specs.declared.token.Spelling.TheVariants.{Capital}
 use Rattle.gl_query_tokens.specs.declared.token.Word.TheVariants as word
 use Rattle.gl_query_tokens.specs.declared.token.Token.{Token}
 use Rattle.gl_query_tokens.specs.declared.token.Token.TheVariants as token
 use Rattle.gl_query_reader.specs.declared.over_state.Call.{Call}
 use Rattle.gl_query_reader.specs.declared.over_state.RowsSoFar.{RowsSoFar}
 use Rattle.gl_query_reader.specs.declared.over_state.RowsSoFar.TheVariants as so_far
-use Rattle.gl_query_reader.specs.Written.{Expr, Agg, Count, Fold', Wsum, OverAgg, CountOf, FoldOf, LastOf, Filtering, OverHead, LagOf, Ranged, Over, OverOf, Item, IsAgg, IsOverHead, spell, spell_agg, spell_word, spell_over_agg, spell_head, spell_rows, spell_over}
+use Rattle.gl_query_reader.specs.Written.{Expr, Agg, Count, Fold', Wsum, OverAgg, CountOf, FoldOf, OverHead, LagOf, Ranged, Over, OverOf, Item, IsAgg, IsOverHead, spell, spell_agg, spell_word, spell_over_agg, spell_head, spell_rows, spell_over}
 use Rattle.gl_query_reader.specs.Framing.{begin_over, close_over, filter_or_over, over_goes, ranged, rows_step}
 use Rattle.gl_query_reader.specs.States.{State, Frame, UnnamedAgg, UnnamedOver, InCall, InCondition, WantOperand, HaveAgg, WantCallOpen, WantBack, WantLagClose, WantOver, WantFilterOpen, WantFilterWhere, WantOverOpen, InOver, WantOverAs, WantItemName, goes}
 use Rattle.gl_query_reader.proofs.RowsSaid.{call_word, rows_text, rows_said, rows_fit}
@@ -66,7 +66,7 @@ pub keeps_as : (items : List Item) (agg : Agg) → Keeps (HaveAgg items agg)
 keeps_as items agg fs t s' f h e =
     by_if plain.As t _ _ s' _ e (λ d. by_some _ s' _ d (go_on (control_text (HaveAgg items agg)) (WantItemName items (UnnamedAgg agg)) fs (token.Plain plain.As) f h (behind_items items (spell_agg agg) (token.Plain plain.As))))
     (λ d. let g = then_some _ (ranged agg) s' d in
-        subst (λ (x : List Token). Read s' ((before fs ++ in_items items x) ++ t ∷ [])) (ranged_text agg g.0 g.1) (keeps_over items (Ranged g.0 None) fs t s' f (h.0, h.1, ranged_is agg g.0 g.1 h.2) g.2))
+    subst (λ (x : List Token). Read s' ((before fs ++ in_items items x) ++ t ∷ [])) (ranged_text agg g.0 g.1) (keeps_over items (Ranged g.0 None) fs t s' f (h.0, h.1, ranged_is agg g.0 g.1 h.2) g.2))
 
 pub keeps_filter_open : (items : List Item) (a : OverAgg) (w : Spelling) → Keeps (WantFilterOpen items a w)
 keeps_filter_open items a w fs t s' f h e = by_open t _ s' _ e (λ n d. by_some _ s' _ d (go_on (control_text (WantFilterOpen items a w)) (WantFilterWhere items a w n) fs (token.Open n) f h

@@ -133,12 +133,7 @@ fn want_current(front: BetweenFront, and_at: u64, token: &Token) -> Option<RowsS
 }
 
 // ROW behind CURRENT.
-fn want_row(
-    front: BetweenFront,
-    and_at: u64,
-    current: Spelling,
-    token: &Token,
-) -> Option<RowsSoFar>
+fn want_row(front: BetweenFront, and_at: u64, current: Spelling, token: &Token) -> Option<RowsSoFar>
     ensures { result ≡ framing.rows_step (so_far.WantRow front and_at current) token.now }
 {
     match word_in(token, Word::Row) {

@@ -1,6 +1,7 @@
 //! Words: keywords, names and numbers.
 
 ghost use Rattle.std.specs.Prelude.{◌≡◌, IfOk, Some};
+ghost use Rattle.gl_query_tokens.specs.declared.token.Token.TheVariants as token;
 ghost use Rattle.gl_query_tokens.specs.Words.{is_keyword, clause_of, window_of, operator_of, keyword_of, frame_word_of, with_digit, number_of, word_token, word_text};
 
 use crate::token::{Fold, Join, Plain, Token, Word};
@@ -144,69 +145,45 @@ fn keyword_of(word: &[u8], at: u64) -> Option<Token>
     operator_of(word, at)
 }
 
+fn framed(word: Word, at: u64) -> Option<Token>
+    ensures { result ≡ Some (token.Word word at) }
+{
+    Some(Token::Word { word, at })
+}
+
 // The words of the frames of a select.
 fn frame_word_of(word: &[u8], at: u64) -> Option<Token>
     ensures { result ≡ frame_word_of word.now at }
 {
     if is_keyword(word, b"over") {
-        return Some(Token::Word {
-            word: Word::Over,
-            at,
-        });
+        return framed(Word::Over, at);
     }
     if is_keyword(word, b"filter") {
-        return Some(Token::Word {
-            word: Word::Filter,
-            at,
-        });
+        return framed(Word::Filter, at);
     }
     if is_keyword(word, b"rows") {
-        return Some(Token::Word {
-            word: Word::Rows,
-            at,
-        });
+        return framed(Word::Rows, at);
     }
     if is_keyword(word, b"preceding") {
-        return Some(Token::Word {
-            word: Word::Preceding,
-            at,
-        });
+        return framed(Word::Preceding, at);
     }
     if is_keyword(word, b"unbounded") {
-        return Some(Token::Word {
-            word: Word::Unbounded,
-            at,
-        });
+        return framed(Word::Unbounded, at);
     }
     if is_keyword(word, b"between") {
-        return Some(Token::Word {
-            word: Word::Between,
-            at,
-        });
+        return framed(Word::Between, at);
     }
     if is_keyword(word, b"current") {
-        return Some(Token::Word {
-            word: Word::Current,
-            at,
-        });
+        return framed(Word::Current, at);
     }
     if is_keyword(word, b"row") {
-        return Some(Token::Word {
-            word: Word::Row,
-            at,
-        });
+        return framed(Word::Row, at);
     }
     if is_keyword(word, b"lag") {
-        return Some(Token::Word {
-            word: Word::Lag,
-            at,
-        });
+        return framed(Word::Lag, at);
     }
     if is_keyword(word, b"last_value") {
-        return Some(Token::Word {
-            word: Word::LastValue,
-            at,
-        });
+        return framed(Word::LastValue, at);
     }
     None
 }
