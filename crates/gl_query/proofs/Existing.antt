@@ -3,7 +3,7 @@ use Rattle.std.proofs.Common.{◌≡◌, suc, List, [], ◌∷◌, ◌++◌, Boo
 use Rattle.std.specs.Prelude.{◌||◌, Option, Some, None, IsSome, filter}
 use Rattle.std.proofs.lemmas.List.{length-map}
 use Rattle.gl_values.specs.Lists.{IsInterleaving, nothing, from_first, from_second}
-use Rattle.gl_frames.specs.Frames.{each_of}
+use Rattle.gl_frames.proofs.ListLemmas.{each_length}
 use Rattle.gl_query.specs.Shapes.{QueryShape}
 use Rattle.gl_query.specs.Shapes as shape
 use Rattle.gl_query.specs.Columns.{Pace, Once, Step, pace_of}
@@ -37,10 +37,6 @@ length_beside [] rs e = refl
 length_beside (l ∷ ls) [] e = sym e
 length_beside (l ∷ ls) (r ∷ rs) e = let less : length ls ≡ length rs = cc in ap suc (length_beside ls rs less)
 
-length_each : {A B : Type 0} (f : List A → B) (seen xs : List A) → length (each_of (λ ys. Some (f ys)) seen xs) ≡ length xs
-length_each f seen [] = refl
-length_each f seen (x ∷ xs) = ap suc (length_each f (seen ++ x ∷ []) xs)
-
 -- a result has as many rows as its pace says
 pub paced : (q : QueryShape) (env : Env) (out : List Row) (spill : Bool) → IsResultIn q env out spill → IsPaced env (pace_of q) out
 paced (shape.Read name) env out spill r = ap length r.rows
@@ -51,7 +47,7 @@ paced (shape.Rows pick None source) env out spill r =
 paced (shape.Total aggs source) env out spill r = ap length r.changed
 paced (shape.Frames items (Some e) source) env out spill r = tt
 paced (shape.Frames items None source) env out spill r =
-    let same = ap length r.changed ∙ length_each _ [] _ ∙ ap length (all_kept r.rows) in
+    let same = ap length r.changed ∙ each_length _ [] _ ∙ ap length (all_kept r.rows) in
     paced_alike env (pace_of source) r.rows out same (paced source env r.rows spill r.of_source)
 paced (shape.Each measure var source size advance body) env out spill r = tt
 paced (shape.PerGroup var source key n body) env out spill r = tt
