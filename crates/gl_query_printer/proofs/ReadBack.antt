@@ -1,7 +1,7 @@
 -- What is read from tokens that are the canonical ones but for their places.
 use Rattle.std.proofs.Common.{◌≡◌, ℕ, ◌<◌, ◌≤◌, Bool, true, false, List, [], ◌∷◌, ◌++◌, map, None, refl, sym, ap, subst, ◌∙◌, arith, leb-true, lit<}
 use Rattle.std.specs.Prelude.{◌||◌, nat_le, nat_lt, if◌then◌else◌}
-use Rattle.std.specs.List.{AllByRecursion}
+use Rattle.std.specs.List.{AllByRecursion, list_any}
 use Rattle.std.proofs.lemmas.Bool.{ltb-true, true≢false}
 use Rattle.std.proofs.lemmas.Slice.Eq.{bytes_eq-Decides}
 use Rattle.gl_schema.specs.SchemaText.{kind_text}
@@ -22,7 +22,7 @@ use Rattle.gl_query_reader.specs.Mixed.{first_other, same}
 use Rattle.gl_query.specs.Alike.{expr_alike, agg_alike, item_alike, agg_item_alike}
 use Rattle.gl_query_printer.specs.Canonical.{name_of, num_of, fitted, expr_of, agg_of, is_bare, item_of, agg_item_of}
 use Rattle.gl_query_printer.proofs.Places.{placeless, parts, first, alone}
-use Rattle.gl_query_printer.proofs.Writable.{CanBeExpr, CanBeAgg, CanBeItem, CanBeAggItem, any_of}
+use Rattle.gl_query_printer.proofs.Writable.{CanBeExpr, CanBeAgg, CanBeItem, CanBeAggItem}
 
 -- ---- lists of tokens, part by part
 
@@ -254,7 +254,7 @@ pub record ReadList {A : Type 0} (g : List written.Item → List A) (f : A → B
   pub grammar : AreItems (first' ∷ rest)
   pub total : is_total first' ≡ b
   pub others : first_other b rest ≡ None
-  pub over : has_over (first' ∷ rest) ≡ any_of f (i ∷ is)
+  pub over : has_over (first' ∷ rest) ≡ list_any f (i ∷ is)
   pub alike : g (first' ∷ rest) ≡ i ∷ is
 
 same_refl : (b : Bool) → same b b ≡ true
@@ -264,7 +264,7 @@ same_refl false = refl
 others_more : (b : Bool) (i : written.Item) (is : List written.Item) → is_total i ≡ b → first_other b is ≡ None → first_other b (i ∷ is) ≡ None
 others_more b i is e h = rw (e, same_refl b) h
 
-over_with : {A : Type 0} (o : A → Bool) (t : written.Item) (ts : List written.Item) (i : A) (is : List A) → is_framed t ≡ o i → has_over ts ≡ any_of o is → has_over (t ∷ ts) ≡ any_of o (i ∷ is)
+over_with : {A : Type 0} (o : A → Bool) (t : written.Item) (ts : List written.Item) (i : A) (is : List A) → is_framed t ≡ o i → has_over ts ≡ list_any o is → has_over (t ∷ ts) ≡ list_any o (i ∷ is)
 over_with o t ts i is e h = ap (λ (x : Bool). x || has_over ts) e ∙ ap (λ (x : Bool). o i || x) h
 
 pub read_list : {A : Type 0} (f : A → written.Item) (C : A → Type 0) (g : List written.Item → List A) (o : A → Bool) (b : Bool) → ((x : written.Item) (xs : List written.Item) → g (x ∷ xs) ≡ g (x ∷ []) ++ g xs)

@@ -1,6 +1,6 @@
 -- A canonical text is read back: what a select picks, and its filter.
 use Rattle.std.proofs.Common.{◌≡◌, Bool, true, false, List, [], ◌∷◌, map, Option, Some, None, option_map, refl, sym, ap, ◌∙◌}
-use Rattle.std.specs.List.{AllByRecursion}
+use Rattle.std.specs.List.{AllByRecursion, list_any}
 use Rattle.std.proofs.lemmas.Bool.{true≢false}
 use Rattle.gl_values.specs.declared.op.Op.TheVariants as op
 use Rattle.gl_query.specs.Shapes.{ExprShape, ItemShape, AggItemShape, FrameItemShape, PickShape}
@@ -16,7 +16,7 @@ use Rattle.gl_query_reader.specs.Mixed.{first_other, mixed_plain, mixed_pick}
 use Rattle.gl_query.specs.Alike.{expr_alike, query_alike}
 use Rattle.gl_query_printer.specs.Canonical.{expr_of, item_of, agg_item_of, frame_item_of, pick_of}
 use Rattle.gl_query_printer.proofs.Places.{placeless, first, alone, nothing}
-use Rattle.gl_query_printer.proofs.Writable.{CanBeItem, CanBeAggItem, CanBeFrameItem, any_of, is_back, Some', CanBePick, CanBeFilter}
+use Rattle.gl_query_printer.proofs.Writable.{CanBeItem, CanBeAggItem, CanBeFrameItem, is_back, Some', CanBePick, CanBeFilter}
 use Rattle.gl_query_printer.proofs.ReadBackFrames.{frames, frames_parted, read_frame_item}
 use Rattle.gl_query_printer.proofs.ReadBack.{cons, read_expr, read_list, no_over, plains, totals, plains_parted, totals_parted, read_item, read_agg_item}
 
@@ -34,7 +34,7 @@ mixed_by : (b : Bool) (i : written.Item) (is : List written.Item) → is_total i
 mixed_by b i is e h = rw e h
 
 -- none of a list is such
-none_of : {A : Type 0} (xs : List A) → any_of no_over xs ≡ false
+none_of : {A : Type 0} (xs : List A) → list_any no_over xs ≡ false
 none_of [] = refl
 none_of (x ∷ xs) = none_of xs
 
@@ -92,7 +92,7 @@ frame_pick : (i : written.Item) (is : List written.Item) (f : Option meant.ExprT
     → query_alike (by_items (is_total i) (i ∷ is) f s) ≡ shape.Frames xs (option_map expr_alike f) (query_alike s)
 frame_pick i is f s xs e o h = ap (λ (b : Bool). query_alike (by_items b (i ∷ is) f s)) e ∙ ap (λ (b : Bool). query_alike (by_over b (i ∷ is) f s)) o ∙ ap (λ (ys : List FrameItemShape). shape.Frames ys (option_map expr_alike f) (query_alike s)) h
 
-pub read_frames : (items : List FrameItemShape) → any_of is_back items ≡ true → AllByRecursion CanBeFrameItem items → (us : List Token) → map placeless us ≡ spell_items (map frame_item_of items) → ReadFrames us items
+pub read_frames : (items : List FrameItemShape) → list_any is_back items ≡ true → AllByRecursion CanBeFrameItem items → (us : List Token) → map placeless us ≡ spell_items (map frame_item_of items) → ReadFrames us items
 read_frames [] s c us h = absurd (true≢false (sym s))
 read_frames (i ∷ is) s c us h =
     let r = read_list frame_item_of CanBeFrameItem frames is_back false frames_parted read_frame_item i is c us h in

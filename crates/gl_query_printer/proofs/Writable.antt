@@ -1,7 +1,6 @@
 -- What has a canonical text: what some text has.
 use Rattle.std.proofs.Common.{◌≡◌, ℕ, Bool, true, false, List, [], ◌∷◌, ◌++◌, map, Option, Some, None, option_map, refl, sym, ap, subst, ◌∙◌}
-use Rattle.std.specs.Prelude.{◌||◌}
-use Rattle.std.specs.List.{AllByRecursion}
+use Rattle.std.specs.List.{AllByRecursion, list_any}
 use Rattle.std.proofs.lemmas.Bool.{true≢false}
 use Rattle.gl_values.specs.declared.kind.Kind.{Kind}
 use Rattle.gl_schema.specs.SchemaText.{kind_text}
@@ -79,11 +78,6 @@ CanBeFrame (shape.Over agg filter back) = CanBeFrameAgg agg × CanBeFilter filte
 abbrev pub CanBeFrameItem : FrameItemShape → Type 0
 CanBeFrameItem i = CanBeFrame i.frame × IsNameWord i.name
 
--- some item of a list is such
-abbrev pub any_of : {A : Type 0} → (A → Bool) → List A → Bool
-any_of f [] = false
-any_of f (x ∷ xs) = f x || any_of f xs
-
 abbrev pub is_back : FrameItemShape → Bool
 is_back i = looks_back i.frame
 
@@ -112,7 +106,7 @@ abbrev pub CanBeSource : QueryShape → Type 0
 CanBeSource (shape.Read name) = IsNameWord name
 CanBeSource (shape.Rows pick filter source) = CanBePick pick × CanBeFilter filter × CanBeSource source
 CanBeSource (shape.Total aggs source) = Some' aggs × AllByRecursion CanBeAggItem aggs × CanBeSource source
-CanBeSource (shape.Frames items filter source) = (any_of is_back items ≡ true) × AllByRecursion CanBeFrameItem items × CanBeFilter filter × CanBeSource source
+CanBeSource (shape.Frames items filter source) = (list_any is_back items ≡ true) × AllByRecursion CanBeFrameItem items × CanBeFilter filter × CanBeSource source
 CanBeSource (shape.Each measure var source size advance body) = IsNameWord var × CanBeSource source × IsSmall size × IsSmall advance × CanBeSource body × IsNoStream body
 CanBeSource (shape.PerGroup var source key groups body) = IsNameWord var × CanBeSource source × IsNameWord key × IsSmall groups × CanBeSource body × IsNoStream body
 CanBeSource (shape.Partition var source key groups size advance body) = IsNameWord var × CanBeSource source × IsNameWord key × IsSmall groups × IsSmall size × IsSmall advance × CanBeSource body × IsNoStream body
@@ -263,7 +257,7 @@ frames_can (written.Framed o name ∷ is) h =
     ((over_can o h.0.0 p.0, p.1.1.0), frames_can is h.1)
 
 -- the frames that look back are those with OVER
-pub back_is_over : (is : List written.Item) → any_of is_back (map frame_item_alike (frame_items is)) ≡ has_over is
+pub back_is_over : (is : List written.Item) → list_any is_back (map frame_item_alike (frame_items is)) ≡ has_over is
 back_is_over [] = refl
 back_is_over (written.Bare name ∷ is) = back_is_over is
 back_is_over (written.Named e name ∷ is) = back_is_over is

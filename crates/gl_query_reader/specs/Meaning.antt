@@ -1,5 +1,6 @@
 -- What a statement that is written means: a tree of queries, with places.
-use Rattle.std.specs.Prelude.{ℕ, Bool, true, false, ◌||◌, List, [], ◌∷◌, codes, Option, Some, None, option_map}
+use Rattle.std.specs.Prelude.{ℕ, Bool, true, false, List, [], ◌∷◌, codes, Option, Some, None, option_map}
+use Rattle.std.specs.List.{list_any}
 use Rattle.gl_query.specs.declared.tree.Name.{Name}
 use Rattle.gl_query.specs.declared.tree.Num.{Num}
 use Rattle.gl_query.specs.Trees.{ExprTree, AggTree, ItemTree, AggItemTree, FrameAggTree, FrameTree, FrameItemTree, QueryTree, StatementTree, Column, Number, Minus, Letters, Not, Cast, Binary, Count, Sum, Min, Max, Avg, Wsum, CountOver, SumOver, MinOver, MaxOver, AvgOver, LastOver, Own, Lag, Over, All, Items, Read, Rows, Total, Frames, Each, PerGroup, Partition, Union, Concat}
@@ -137,8 +138,7 @@ is_framed (written.Framed o name) = true
 
 -- some item has OVER
 abbrev pub has_over : List written.Item → Bool
-has_over [] = false
-has_over (i ∷ is) = is_framed i || has_over is
+has_over items = list_any is_framed items
 
 -- the variable of the bodies that a select makes
 abbrev pub it : ℕ → Name
