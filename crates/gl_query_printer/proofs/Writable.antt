@@ -22,7 +22,7 @@ use Rattle.gl_query_reader.specs.declared.written.FrameRows.{FrameRows}
 use Rattle.gl_query_reader.specs.declared.written.FrameRows.TheVariants as rows
 use Rattle.gl_query_reader.specs.Written as written
 use Rattle.gl_query.specs.Trees as tree
-use Rattle.gl_query_reader.specs.Meaning.{expr_meaning, agg_meaning, fold_meaning, fold_over, over_agg_meaning, filtering_meaning, bound_meaning, rows_meaning, over_meaning, plain_items, agg_items, frame_items, is_total, is_framed, has_over}
+use Rattle.gl_query_reader.specs.Meaning.{expr_meaning, agg_meaning, fold_meaning, fold_over, over_agg_meaning, filtering_meaning, bound_meaning, rows_meaning, over_meaning, plain_items, agg_items, frame_items, is_total, is_framed}
 use Rattle.gl_query.specs.Alike.{expr_alike, agg_alike, item_alike, agg_item_alike, frame_agg_alike, frame_alike, frame_item_alike}
 use Rattle.gl_query_tokens.proofs.Sound.{IsLetters, IsNameWord, IsSmall, IsSound}
 use Rattle.gl_query_reader.proofs.Regular.{sound_parts, AreSound}
@@ -255,12 +255,3 @@ frames_can (written.Total a name ∷ is) h = frames_can is h.1
 frames_can (written.Framed o name ∷ is) h =
     let p = sound_parts (written.spell_over o) (token.Plain plain.As ∷ token.Name name ∷ []) h.0.1 in
     ((over_can o h.0.0 p.0, p.1.1.0), frames_can is h.1)
-
--- the frames that look back are those with OVER
-pub back_is_over : (is : List written.Item) → list_any is_back (map frame_item_alike (frame_items is)) ≡ has_over is
-back_is_over [] = refl
-back_is_over (written.Bare name ∷ is) = back_is_over is
-back_is_over (written.Named e name ∷ is) = back_is_over is
-back_is_over (written.Total a name ∷ is) = back_is_over is
-back_is_over (written.Framed (written.OverOf (written.LagOf v begin e b) w open' r) name ∷ is) = refl
-back_is_over (written.Framed (written.OverOf (written.Ranged a f) w open' r) name ∷ is) = refl

@@ -21,8 +21,9 @@ use Rattle.gl_query_reader.specs.Mixed.{first_other, is_key, behind_key, mixed_p
 use Rattle.gl_query.specs.Alike.{expr_alike, agg_item_alike, query_alike, statement_alike}
 use Rattle.gl_query_tokens.proofs.Sound.{IsNameWord, IsSmall, is_word}
 use Rattle.gl_bits.proofs.Options.{not_some, some_same}
+use Rattle.gl_query_reader.proofs.Meanings.{back_is_over}
 use Rattle.gl_query_reader.proofs.Regular.{sound_parts, AreSound}
-use Rattle.gl_query_printer.proofs.Writable.{CanBeFilter, CanBeSource, CanBeQuery, Some', IsSoundItem, expr_can, each_sound, plain_can, aggs_can, some_plain, some_aggs, frames_can, back_is_over}
+use Rattle.gl_query_printer.proofs.Writable.{CanBeFilter, CanBeSource, CanBeQuery, Some', IsSoundItem, expr_can, each_sound, plain_can, aggs_can, some_plain, some_aggs, frames_can}
 
 -- ---- selects
 

@@ -1,12 +1,13 @@
 -- What holds of each expression and each name that is written holds in what is meant.
-use Rattle.std.proofs.Common.{ℕ, Bool, true, false, List, [], ◌∷◌, map, Option, Some, None}
+use Rattle.std.proofs.Common.{◌≡◌, refl, ℕ, Bool, true, false, List, [], ◌∷◌, map, Option, Some, None}
 use Rattle.std.specs.Prelude.{codes, option_map}
-use Rattle.std.specs.List.{AllByRecursion}
+use Rattle.std.specs.List.{AllByRecursion, list_any}
 use Rattle.gl_query_tokens.specs.declared.token.Fold.{Fold}
 use Rattle.gl_query_tokens.specs.declared.token.Fold.TheVariants as fold
 use Rattle.gl_query_tokens.specs.declared.token.Join.{Join}
 use Rattle.gl_query_tokens.specs.declared.token.Join.TheVariants as join
-use Rattle.gl_query.specs.Shapes.{ExprShape}
+use Rattle.gl_query.specs.Shapes.{ExprShape, FrameItemShape}
+use Rattle.gl_query.specs.Sizes.{looks_back}
 use Rattle.gl_query.specs.Trees.{ExprTree, QueryTree, Read}
 use Rattle.gl_query.specs.Alike.{expr_alike, agg_alike, item_alike, agg_item_alike, frame_agg_alike, frame_alike, frame_item_alike, query_alike}
 use Rattle.gl_query.specs.Parts.{InAgg, InItem, InAggItem, InFrameAgg, InFrame, InFrameItem, InFilter, InQuery}
@@ -66,6 +67,15 @@ QueryHolds E N (written.Select pick source window filter grouping) = QueryHolds 
 QueryHolds E N (written.Windows at var source window open' body) = QueryHolds E N source × QueryHolds E N body × N var.text
 QueryHolds E N (written.Groups at var source grouping window open' body) = QueryHolds E N source × QueryHolds E N body × N var.text × N grouping.key.text
 QueryHolds E N (written.Join' j at l r) = QueryHolds E N l × QueryHolds E N r
+
+-- the frames that look back are those with OVER
+pub back_is_over : (is : List written.Item) → list_any (λ (i : FrameItemShape). looks_back i.frame) (map frame_item_alike (frame_items is)) ≡ has_over is
+back_is_over [] = refl
+back_is_over (written.Bare name ∷ is) = back_is_over is
+back_is_over (written.Named e name ∷ is) = back_is_over is
+back_is_over (written.Total a name ∷ is) = back_is_over is
+back_is_over (written.Framed (written.OverOf (written.LagOf v begin e b) w open' r) name ∷ is) = refl
+back_is_over (written.Framed (written.OverOf (written.Ranged a f) w open' r) name ∷ is) = refl
 
 -- E holds of each expression that is meant, and N of each name
 module _ (E : ExprShape → Type 0) (N : List ℕ → Type 0) (own : N (codes "it")) where

@@ -1,13 +1,12 @@
 -- Each select of a statement that a text has has an item; so its result has a column.
 use Rattle.std.proofs.Common.{◌≡◌, ◌⊎◌, ℕ, ◌≤◌, Bool, true, false, List, [], ◌∷◌, length, map, Option, Some, None, refl, sym, subst, ◌∙◌, inl, inr, arith}
-use Rattle.std.specs.List.{list_any}
 use Rattle.std.proofs.lemmas.Bool.{or_parts}
 use Rattle.std.specs.Prelude.{nat_le, option_map, if◌then◌else◌}
 use Rattle.gl_query.specs.declared.tree.Name.{Name}
 use Rattle.gl_query.specs.declared.tree.Statement.{Statement}
-use Rattle.gl_query.specs.Alike.{item_alike, agg_item_alike, frame_item_alike, query_alike}
-use Rattle.gl_query.specs.Shapes.{FrameItemShape, QueryShape, query_shape}
-use Rattle.gl_query.specs.Sizes.{HasItems, looks_back}
+use Rattle.gl_query.specs.Alike.{item_alike, agg_item_alike, query_alike}
+use Rattle.gl_query.specs.Shapes.{QueryShape, query_shape}
+use Rattle.gl_query.specs.Sizes.{HasItems}
 use Rattle.gl_query.specs.Trees.{ExprTree, QueryTree, StatementTree, Read, statement_tree}
 use Rattle.gl_query.proofs.Alike.{query_same}
 use Rattle.gl_query.specs.Laws.{AcceptedHaveRealColumns}
@@ -17,8 +16,9 @@ use Rattle.gl_query_reader.specs.declared.written.Grouping.{Grouping}
 use Rattle.gl_query_reader.specs.declared.written.RowWindow.{RowWindow}
 use Rattle.gl_query_reader.specs.declared.written.Window.{Window}
 use Rattle.gl_query_reader.specs.Grammar.{HasStatement}
-use Rattle.gl_query_reader.specs.Meaning.{agg_items, by_items, by_over, frame_items, has_over, is_framed, each_group, expr_meaning, filtered, grouped, is_total, it, join_meaning, plain_items, query_meaning, select_meaning}
+use Rattle.gl_query_reader.specs.Meaning.{agg_items, by_items, by_over, has_over, is_framed, each_group, expr_meaning, filtered, grouped, is_total, it, join_meaning, plain_items, query_meaning, select_meaning}
 use Rattle.gl_query_reader.specs.Mixed.{behind_key, first_other, is_key, item_at, least, mixed_in, mixed_pick}
+use Rattle.gl_query_reader.proofs.Meanings.{back_is_over}
 use Rattle.gl_query_reader.specs.Written.{IsPick, IsQuery, IsSource, IsTerm}
 use Rattle.gl_query_reader.specs.Written as written
 use Rattle.gl_query_texts.specs.Judged.{AcceptedTextsHaveColumns}
@@ -30,15 +30,6 @@ plain_some (written.Bare name) is e f = omega arith
 plain_some (written.Named x name) is e f = omega arith
 plain_some (written.Total a name) is e f = absurd cc
 plain_some (written.Framed o name) is e f = absurd cc
-
--- the frames that look back are those with OVER
-frames_some : (is : List written.Item) → list_any (λ (i : FrameItemShape). looks_back i.frame) (map frame_item_alike (frame_items is)) ≡ has_over is
-frames_some [] = refl
-frames_some (written.Bare name ∷ is) = frames_some is
-frames_some (written.Named x name ∷ is) = frames_some is
-frames_some (written.Total a name ∷ is) = frames_some is
-frames_some (written.Framed (written.OverOf (written.LagOf v begin e b) w open' r) name ∷ is) = refl
-frames_some (written.Framed (written.OverOf (written.Ranged a f) w open' r) name ∷ is) = refl
 
 aggs_some : (i : written.Item) (is : List written.Item) → is_total i ≡ true → 1 ≤ length (map agg_item_alike (agg_items (i ∷ is)))
 aggs_some (written.Bare name) is e = absurd cc
@@ -75,7 +66,7 @@ filtered_have (Some e) source s = (s, tt)
 
 by_over_have : (b : Bool) (i : written.Item) (is : List written.Item) (f : Option ExprTree) (source : QueryTree) → is_total i ≡ false → has_over (i ∷ is) ≡ b → HasItems (query_alike source)
     → HasItems (query_alike (by_over b (i ∷ is) f source))
-by_over_have true i is f source e o s = (s, frames_some (i ∷ is) ∙ o)
+by_over_have true i is f source e o s = (s, back_is_over (i ∷ is) ∙ o)
 by_over_have false i is f source e o s = (s, plain_some i is e (or_parts (is_framed i) (has_over is) o).0)
 
 by_items_have : (b : Bool) (i : written.Item) (is : List written.Item) (f : Option ExprTree) (source : QueryTree) → is_total i ≡ b → HasItems (query_alike source)
