@@ -229,19 +229,19 @@ rows_run r [] = Some r
 rows_run r (t ∷ ts) = option_and_then (λ x. rows_run x ts) (rows_step r t)
 
 goes : (r next : RowsSoFar) (t : Token) (ts : List Token) → rows_step r t ≡ Some next → rows_run r (t ∷ ts) ≡ rows_run next ts
-goes r next t ts e = rw e refl
+goes r next t ts e = ap (λ (o : Option RowsSoFar). option_and_then (λ x. rows_run x ts) o) e
 
 at-word : (w : Word) (s : Spelling) (f : Spelling → RowsSoFar) → option_map f (word_in w (spell_word w s)) ≡ Some (f s)
-at-word w s f = rw (word-in w s) refl
+at-word w s f = ap (λ (o : Option Spelling). option_map f o) (word-in w s)
 
 at-bound : (b : Bound) (f : Bound → RowsSoFar) → option_map f (bound_in (spell_bound b)) ≡ Some (f b)
-at-bound b f = rw (bound-in b) refl
+at-bound b f = ap (λ (o : Option Bound). option_map f o) (bound-in b)
 
 behind-rows : (r : Spelling) (b : Bound) → rows_step (so_far.WantBound r) (spell_bound b) ≡ Some (so_far.WantPreceding r b)
-behind-rows r b = rw (bound-no-between b) (at-bound b (λ x. so_far.WantPreceding r x))
+behind-rows r b = ap (λ (o : Option Spelling). between_or_bound o r (spell_bound b)) (bound-no-between b) ∙ at-bound b (λ x. so_far.WantPreceding r x)
 
 behind-between : (r w : Spelling) → rows_step (so_far.WantBound r) (spell_word word.Between w) ≡ Some (so_far.WantFirst r w)
-behind-between r w = rw (word-in word.Between w) refl
+behind-between r w = ap (λ (o : Option Spelling). between_or_bound o r (spell_word word.Between w)) (word-in word.Between w)
 
 pub rows-read : (x : FrameRows) → rows_run so_far.WantRows (spell_rows (Some x)) ≡ Some (so_far.WantClose (Some x))
 rows-read (rows.Short r b p) =
