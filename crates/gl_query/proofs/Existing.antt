@@ -8,7 +8,7 @@ use Rattle.gl_query.specs.Shapes.{QueryShape}
 use Rattle.gl_query.specs.Shapes as shape
 use Rattle.gl_query.specs.Columns.{Pace, Once, Step, pace_of}
 use Rattle.gl_values.specs.Results.{Row, Results, IsChanged, AreJoined, IsOfParts, IsOfBoth, AreBeside, beside}
-use Rattle.gl_query.specs.Results.{Env, IsResultIn, rows_of}
+use Rattle.gl_query.specs.Results.{Env, IsResultIn, columns_in, frame_row, rows_of}
 use Rattle.gl_query.specs.Accepted.{IsAcceptedOver}
 use Rattle.gl_query.specs.Laws.{AcceptedHaveResults, scope_of}
 
@@ -47,7 +47,7 @@ paced (shape.Rows pick None source) env out spill r =
 paced (shape.Total aggs source) env out spill r = ap length r.changed
 paced (shape.Frames items (Some e) source) env out spill r = tt
 paced (shape.Frames items None source) env out spill r =
-    let same = ap length r.changed ∙ each_length _ [] _ ∙ ap length (all_kept r.rows) in
+    let same = ap length r.changed ∙ each_length (frame_row (columns_in env source) items) [] _ ∙ ap length (all_kept r.rows) in
     paced_alike env (pace_of source) r.rows out same (paced source env r.rows spill r.of_source)
 paced (shape.Each measure var source size advance body) env out spill r = tt
 paced (shape.PerGroup var source key n body) env out spill r = tt
