@@ -148,7 +148,11 @@ unfolding word_token
 name_token w at k n = rw (k, n) refl
 
 abbrev named : List ℕ → ℕ → Bool → Token
-named w at b = if b then token.Name (record { text = w; at = at }) else number_token (number_of w) at
+named w at b = if b then token.Name (record { text = w; at = at }) else unwrap_or (frame_word_of w at) (number_token (number_of w) at)
+
+framed_by : (o : Option Token) (t : Token) → Agree o o → IsSound t → IsSound (unwrap_or o t)
+framed_by None t h s = s
+framed_by (Some u) t h s = h
 
 named_sound : (w : List ℕ) (at : ℕ) (b : Bool) → is_word w ≡ true → ((c : ℕ) → keyword_of w c ≡ None) → is_name w ≡ b → IsSound (named w at b)
 named_sound w at true h k n = record { word = h; name = n; token = λ c. name_token w c (k c) n }
