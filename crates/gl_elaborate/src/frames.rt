@@ -228,7 +228,7 @@ fn push_items(
         (frames.new ≡ frames.old
         ++ frames_of (map frame_item_shape items.now) (map term trees.now)) }
 {
-    let _holds = Operand::Column(0);
+    let _holds = PlanFrameAgg::Sum(Operand::Column(0));
     let Some((first, rest)) = items.split_first() else {
         return Ok(());
     };
