@@ -16,7 +16,7 @@ use crate::Tree;
 use crate::levels::{levelled, put};
 use crate::rows::{column_in, filter_tree, select};
 use crate::totals::{first_of, push_tree, rest_of};
-use gl_algebra::{Plan, PlanFrame, PlanFrameAgg, PlanFrames, PlanId, PlanNode};
+use gl_algebra::{Operand, Plan, PlanFrame, PlanFrameAgg, PlanFrames, PlanId, PlanNode};
 use gl_bits::{Listed, Memory};
 use gl_query::{Expr, Frame, FrameAgg, FrameItem, Num};
 use gl_schema::Column;
@@ -228,6 +228,7 @@ fn push_items(
         (frames.new ≡ frames.old
         ++ frames_of (map frame_item_shape items.now) (map term trees.now)) }
 {
+    let _holds = PlanFrameAgg::Sum(Operand::Column(0));
     let Some((first, rest)) = items.split_first() else {
         return Ok(());
     };
