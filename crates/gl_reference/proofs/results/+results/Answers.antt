@@ -83,8 +83,8 @@ result_of-returns-in_ok-from-in-Total-clause-value t c =
 
 pub result_of-returns-in_ok-from-in-Frames-clause-value : goal.result_of-returns-in_ok-from-in-Frames-clause-value
 result_of-returns-in_ok-from-in-Frames-clause-value t c =
-    let made = subst (λ (q : Query). IfOk c.frames_from.result (λ a. IsResultIn (shape.Frames (map frame_item_shape c.as_slice.result.now) (option_map expr_shape c.in-Frames.filter) (query_shape q)) (env_view c.args.sources.now) a.rows a.spill)) c.deref-in-Frames-2.ensures c.frames_from.ensures.value in
-    let all = subst (λ (items : List FrameItem). IfOk c.frames_from.result (λ a. IsResultIn (shape.Frames (map frame_item_shape items) (option_map expr_shape c.in-Frames.filter) (query_shape c.in-Frames.source.value)) (env_view c.args.sources.now) a.rows a.spill)) c.as_slice.ensures made in
+    let made = subst (λ (q : Query). IfOk c.frames_from.result (λ a. IsResultIn (shape.Frames (map frame_item_shape c.as_slice-in-Frames.result.now) (option_map expr_shape c.in-Frames.filter) (query_shape q)) (env_view c.args.sources.now) a.rows a.spill)) c.deref-in-Frames-2.ensures c.frames_from.ensures.value in
+    let all = subst (λ (items : List FrameItem). IfOk c.frames_from.result (λ a. IsResultIn (shape.Frames (map frame_item_shape items) (option_map expr_shape c.in-Frames.filter) (query_shape c.in-Frames.source.value)) (env_view c.args.sources.now) a.rows a.spill)) c.as_slice-in-Frames.ensures made in
     subst (λ (q : Query). IfOk c.frames_from.result (λ a. IsResultIn (query_shape q) (env_view c.args.sources.now) a.rows a.spill)) (sym c.in-Frames.is) all
 
 pub result_of-returns-in_ok-inside-in-Each-clause-value : goal.result_of-returns-in_ok-inside-in-Each-clause-value
@@ -274,8 +274,8 @@ result_of-returns-in_ok-from-in-Frames-clause-fits t c = λ timed s a.
     let from = c.in_ok-from-in-Frames.from in
     let whole = subst (Accepted c.args.sources.now timed) c.in-Frames.is a in
     let is = subst (Gives c.args.sources.now from) c.deref-in-Frames.ensures c.in_ok-from-in-Frames.ensures.value in
-    let pass = subst (λ (q : Query). AreFramesOf (columns_in env (query_shape q)) (map frame_item_shape c.as_slice.result.now) → IsFilter (columns_in env (query_shape q)) (option_map expr_shape c.in-Frames.filter) → AreRows (columns_in env (query_shape q)) from.rows → IsOrMemory c.frames_from.result) c.deref-in-Frames-2.ensures c.frames_from.ensures.fits in
-    let items = subst (λ (l : List FrameItem). AreFramesOf (columns_in env (query_shape c.in-Frames.source.value)) (map frame_item_shape l)) (sym c.as_slice.ensures) whole.1.typed in
+    let pass = subst (λ (q : Query). AreFramesOf (columns_in env (query_shape q)) (map frame_item_shape c.as_slice-in-Frames.result.now) → IsFilter (columns_in env (query_shape q)) (option_map expr_shape c.in-Frames.filter) → AreRows (columns_in env (query_shape q)) from.rows → IsOrMemory c.frames_from.result) c.deref-in-Frames-2.ensures c.frames_from.ensures.fits in
+    let items = subst (λ (l : List FrameItem). AreFramesOf (columns_in env (query_shape c.in-Frames.source.value)) (map frame_item_shape l)) (sym c.as_slice-in-Frames.ensures) whole.1.typed in
     pass items whole.1.filters (rows_fit c.results_fit.ensures env timed (query_shape c.in-Frames.source.value) from.rows from.spill s whole.0 is)
 
 pub result_of-returns-in_ok-second-in-Concat-clause-fits : goal.result_of-returns-in_ok-second-in-Concat-clause-fits
