@@ -1,6 +1,7 @@
 use Rattle.std.proofs.Common.{◌≡◌, ℕ, suc, ◌^◌, ◌<◌, Some, ap, arith, sym, subst, ◌∙◌}
 use Rattle.std.specs.Prelude.{if◌then◌else◌, slice_index}
 use Rattle.std.proofs.Math.Nat.{mod-eq_of_lt}
+use Rattle.gl_algebra.specs.Results.{counts_in}
 use Rattle.gl_bits.specs.Words.{join_of}
 use Rattle.gl_algebra.specs.Columns.{kind_of_operand}
 use Rattle.gl_values.specs.Kinds.{width_of}
@@ -9,7 +10,7 @@ use Rattle.gl_net.proofs.Determined.{keeps_then}
 use Rattle.gl_net.proofs.Values.{bus_fits}
 use Rattle.gl_wire.proofs.ColumnLemmas.{bus_kept}
 use Rattle.gl_frames_stages.specs.Framing.{value_in}
-use Rattle.gl_frames_stages.specs.Inputs.{passes_by, rows_by}
+use Rattle.gl_frames_stages.specs.Inputs.{rows_by}
 use Rattle.gl_frames_stages.proofs.FilteredNet.{packed_word}
 use Rattle.gl_frames_stages.proofs.InputNet.{input_kept}
 use Rattle.gl_frames_stages.proofs.filtered.put_packed.Goals as goal
@@ -76,7 +77,7 @@ returns c =
           packed.value run r (suc t)
           ∙ ap (λ k. join_of k (run.at (suc t) b.node) (run.at (suc t) m.node)) wide
           ∙ ap (λ n. join_of w n (run.at (suc t) m.node)) (passes.carries run at_passes (suc t))
-          ∙ ap (join_of w (slice_index row column)) (masked.masks run at_masked t ∙ ap (λ n. if passes_by (Some column) row then n else 0) (value.carries run at_value (suc t)))
+          ∙ ap (join_of w (slice_index row column)) (masked.masks run at_masked t ∙ ap (λ n. if counts_in (Some column) row then n else 0) (value.carries run at_value (suc t)))
           ∙ packed_word w (slice_index row column) (value_in c.args.operand row) (subst (λ n. n < 2) (passes.carries run at_passes (suc t)) (small (suc t)))
           (subst (λ n. n < 2 ^ w) (value.carries run at_value (suc t)) (fits (suc t)));
     }

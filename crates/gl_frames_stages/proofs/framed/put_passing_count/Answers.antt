@@ -1,5 +1,6 @@
 use Rattle.std.proofs.Common.{◌≡◌, ℕ, suc, ◌+◌, ◌*◌, ◌^◌, ◌<◌, Some, map, ap, arith, subst, ◌∙◌}
 use Rattle.std.specs.Prelude.{nat_eq}
+use Rattle.gl_algebra.specs.Results.{counts_in}
 use Rattle.gl_bits.specs.Words.{bit}
 use Rattle.gl_values.specs.Kinds.{width_of}
 use Rattle.gl_values.specs.Totals.{count_of, sum_total}
@@ -9,7 +10,7 @@ use Rattle.gl_frames_wire.specs.Reaches.{place_bits}
 use Rattle.gl_net.proofs.Determined.{keeps_then}
 use Rattle.gl_net.proofs.Values.{bus_fits}
 use Rattle.gl_frames_stages.specs.Columns.{carried_by}
-use Rattle.gl_frames_stages.specs.Inputs.{passes_by, rows_by}
+use Rattle.gl_frames_stages.specs.Inputs.{rows_by}
 use Rattle.gl_frames_stages.specs.SlideNets.{widened}
 use Rattle.gl_frames_stages.proofs.FramingLemmas.{bit_word, count_through}
 use Rattle.gl_frames_stages.proofs.InputNet.{input_kept, tells_as, tells_made}
@@ -35,7 +36,7 @@ returns c =
     let input = c.args.input in
     let x = c.in_ok-bit.bit in
     let column = c.args.column in
-    let p = passes_by (Some column) in
+    let p = counts_in (Some column) in
     let value = c.in_ok-bit.ensures in
     let sum = c.in_ok-sum.ensures in
     let one : x.width ≡ 1 = value.same_width ∙ ap width_of c.requires.filter.1 in

@@ -1,5 +1,6 @@
 use Rattle.std.proofs.Common.{suc, Bool, None, Some, ap, arith, ◌∙◌}
 use Rattle.std.specs.Prelude.{◌&&◌, slice_index}
+use Rattle.gl_algebra.specs.Results.{counts_in}
 use Rattle.gl_values.specs.Kinds.{width_of}
 use Rattle.gl_frames.specs.Frames.{last_value_of}
 use Rattle.gl_net.proofs.Determined.{keeps_then}
@@ -8,7 +9,7 @@ use Rattle.gl_wire.proofs.ColumnLemmas.{bit_kept, bus_kept}
 use Rattle.gl_wire.proofs.GateLemmas.{bit_of}
 use Rattle.gl_frames_stages.specs.Columns.{carried_by}
 use Rattle.gl_frames_stages.specs.Framing.{value_in}
-use Rattle.gl_frames_stages.specs.Inputs.{passes_by, rows_by}
+use Rattle.gl_frames_stages.specs.Inputs.{rows_by}
 use Rattle.gl_frames_stages.proofs.InputNet.{bit_at, input_kept}
 use Rattle.gl_frames_stages.proofs.LastNet.{last_told}
 use Rattle.gl_frames_stages.proofs.MeetLemmas.{tells_next}
@@ -47,7 +48,7 @@ pub returns : goal.returns
 returns c =
     let input = c.args.input in
     let v = value_in c.args.operand in
-    let p = passes_by (Some c.args.column) in
+    let p = counts_in (Some c.args.column) in
     let x = c.in_ok-value.value in
     let passes = c.in_ok-passes.ensures in
     let value = c.in_ok-value.ensures in
