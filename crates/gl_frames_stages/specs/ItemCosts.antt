@@ -9,10 +9,10 @@ use Rattle.gl_algebra.specs.declared.node.PlanFrameAgg.TheVariants.{Avg, Count, 
 use Rattle.gl_values.specs.Kinds.{width_of}
 use Rattle.gl_values.specs.declared.kind.Kind.{Kind}
 use Rattle.gl_wire.specs.Costs.{Cost}
-use Rattle.gl_frames_stages.specs.Average.{cost_of_frame_average, cost_of_frame_number}
+use Rattle.gl_frames_stages.specs.Average.{cost_of_frame_average}
 use Rattle.gl_frames_stages.specs.DelayNets.{cost_of_late, cost_of_late_lines}
 use Rattle.gl_frames_stages.specs.FilteredNets.{cost_of_filtered_extreme}
-use Rattle.gl_frames_stages.specs.Framing.{cost_of_frame_extreme, cost_of_frame_sum, cost_of_lag, cost_of_last, cost_of_own, cost_of_recent}
+use Rattle.gl_frames_stages.specs.Framing.{cost_of_frame_extreme, cost_of_frame_sum, cost_of_lag, cost_of_last, cost_of_number, cost_of_own, cost_of_passing_count, cost_of_recent}
 use Rattle.gl_frames_stages.specs.Wholes.{cost_of_all_average, cost_of_all_count, cost_of_all_extreme, cost_of_all_sum}
 
 -- a function over all rows up to each
@@ -24,6 +24,11 @@ cost_of_all kinds (Max operand) = cost_of_all_extreme (width_of (kind_of_operand
 cost_of_all kinds (Avg operand) = cost_of_all_average (width_of (kind_of_operand kinds operand))
 cost_of_all kinds (LastValue operand) = cost_of_last (width_of (kind_of_operand kinds operand))
 
+-- a count of the last rows, of all of them or of those that pass
+abbrev pub cost_of_count_by : Option ℕ → ℕ → Cost
+cost_of_count_by None back = cost_of_number back
+cost_of_count_by (Some column) back = cost_of_passing_count back
+
 -- an extreme of the last rows, of all of them or of those that pass
 abbrev pub cost_of_extreme_by : Option ℕ → ℕ → ℕ → Cost
 cost_of_extreme_by None width back = cost_of_frame_extreme width back
@@ -31,7 +36,7 @@ cost_of_extreme_by (Some column) width back = cost_of_filtered_extreme width bac
 
 -- a function over the last rows up to each
 abbrev pub cost_of_last_rows : List Kind → PlanFrameAgg → Option ℕ → ℕ → Cost
-cost_of_last_rows kinds Count by back = cost_of_frame_number back
+cost_of_last_rows kinds Count by back = cost_of_count_by by back
 cost_of_last_rows kinds (Sum operand) by back = cost_of_frame_sum (width_of (kind_of_operand kinds operand)) back
 cost_of_last_rows kinds (Min operand) by back = cost_of_extreme_by by (width_of (kind_of_operand kinds operand)) back
 cost_of_last_rows kinds (Max operand) by back = cost_of_extreme_by by (width_of (kind_of_operand kinds operand)) back
