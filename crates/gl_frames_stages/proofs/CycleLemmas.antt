@@ -29,7 +29,7 @@ item_within kinds (item ∷ items) (suc i) d lt =
 
 -- ---- few
 
-few_exponents : (n more exponent depth : ℕ) → exponent ≤ n → depth ≤ 2 ^ n → least_exponent more exponent depth ≤ n
+pub few_exponents : (n more exponent depth : ℕ) → exponent ≤ n → depth ≤ 2 ^ n → least_exponent more exponent depth ≤ n
 few_exponents n zero e depth l h = l
 few_exponents n (suc more) e depth l h = by (nat_le depth (2 ^ e)) refl (few_exponents n more (suc e) depth)
   where
@@ -52,7 +52,7 @@ some_digits back = by (digits (back + 1)) (exponent_covers (back + 1 + 1) 0 (bac
 
 rows_few : (back : Option ℕ) → BackFits back → digits_of_rows back ≤ 32
 rows_few None fits = omega arith
-rows_few (Some back) fits = let few = few_digits back fits in omega (arith, few)
+rows_few (Some back) fits = let few = few_digits back (omega (arith, fits)) in omega (arith, few)
 
 sum_few : (back : Option ℕ) → delay_of_sum back ≤ 3
 sum_few None = omega arith

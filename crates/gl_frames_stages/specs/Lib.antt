@@ -15,4 +15,5 @@ pub mod RecentNets
 pub mod Average
 pub mod FilteredNets
 pub mod ItemCosts
+pub mod Counted
 pub mod FramesNets

@@ -1,4 +1,4 @@
-use Rattle.std.proofs.Common.{ℕ, Option, sym, subst}
+use Rattle.std.proofs.Common.{ℕ, Option, arith, sym, subst}
 use Rattle.std.specs.Prelude.{IfOk}
 use Rattle.gl_algebra.specs.Columns.{BackFits, kind_of_frame_agg}
 use Rattle.gl_algebra.specs.Frames.{delay_over}
@@ -13,7 +13,7 @@ pub put_over_last-requires-clause-filter : goal.put_over_last-requires-clause-fi
 put_over_last-requires-clause-filter c = condition_fits c.args.input.source.kinds.now c.args.filter c.requires.filter
 
 pub put_over_last-requires-clause-back : goal.put_over_last-requires-clause-back
-put_over_last-requires-clause-back c = subst BackFits c.in-Some.is c.requires.back
+put_over_last-requires-clause-back c = let lt = subst BackFits c.in-Some.is c.requires.back in omega (arith, lt)
 
 pub put_over_all-requires-clause-filter : goal.put_over_all-requires-clause-filter
 put_over_all-requires-clause-filter c = condition_fits c.args.input.source.kinds.now c.args.filter c.requires.filter

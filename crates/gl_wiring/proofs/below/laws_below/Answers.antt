@@ -19,6 +19,7 @@ returns c = record {
   begins_behind = c.begins_behind.ensures;
   running_settles = c.running_serves.ensures.settles;
   running_keeps_pace = c.running_serves.ensures.pace;
+  frames_are_counted = c.frames_are_counted.ensures;
   windows_rotate = c.windows_rotate.ensures;
   rotations_are_counted = c.costs_are_counted.ensures;
   times_rotate = c.times_rotate.ensures;

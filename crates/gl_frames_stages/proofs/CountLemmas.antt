@@ -1,0 +1,477 @@
+-- What items cost at most is within what a plan counts for their node.
+use Rattle.std.proofs.Common.{◌≡◌, ℕ, zero, suc, ◌+◌, ◌-◌, ◌*◌, ◌/◌, ◌^◌, ◌<◌, ◌≤◌, min, List, [], ◌∷◌, length, Option, Some, None, Bool, true, false, refl, ap, subst, ◌∙◌, arith, inl, inr}
+use Rattle.std.specs.Prelude.{All, if◌then◌else◌, nat_le, sum_by}
+use Rattle.std.proofs.Math.Nat.{mul-le-mul_left, mul-le-mul_right, pow-suc}
+use Rattle.std.proofs.Math.Pow.{pow-lt}
+use Rattle.std.proofs.lemmas.Bool.{cases_lt, le-leb, leb-false, leb-true}
+use Rattle.std.proofs.lemmas.List.Elements.{All-head, All-tail}
+use Rattle.std.proofs.lemmas.List.Sums.{sum_by-cons}
+use Rattle.gl_algebra.proofs.ExponentLemmas.{exponent_covers}
+use Rattle.gl_algebra.specs.Columns.{BackFits, FrameAggFits, FrameFits, OperandFits, kind_of_frame, kind_of_operand}
+use Rattle.gl_algebra.specs.Cost.{store_of_frames}
+use Rattle.gl_algebra.specs.Frames.{delay_of_count, delay_of_frame, delay_of_frames, delay_of_sum, delay_over, digits_of_rows, frames_in, words_of_doublings, words_of_frame, words_over}
+use Rattle.gl_algebra.specs.Rings.{digits, least_exponent, ring}
+use Rattle.gl_algebra.specs.Weights.{weight_of_frame, weight_of_frames, weight_of_rings}
+use Rattle.gl_algebra.specs.declared.node.Operand.{Operand}
+use Rattle.gl_algebra.specs.declared.node.PlanFrame.{PlanFrame}
+use Rattle.gl_algebra.specs.declared.node.PlanFrame.TheVariants.{Lag, Over, Own}
+use Rattle.gl_algebra.specs.declared.node.PlanFrameAgg.{PlanFrameAgg}
+use Rattle.gl_algebra.specs.declared.node.PlanFrameAgg.TheVariants.{Avg, Count, LastValue, Max, Min, Sum}
+use Rattle.gl_frames_wire.specs.Reaches.{place_bits}
+use Rattle.gl_totals.proofs.KindLemmas.{operand_width}
+use Rattle.gl_values.specs.Kinds.{IsKind, width_of}
+use Rattle.gl_values.specs.declared.kind.Kind.{Kind}
+use Rattle.gl_wire.specs.Counted.{IsCounted}
+use Rattle.gl_wire.specs.Costs.{Cost}
+use Rattle.gl_frames_stages.specs.Counted.{FramesAreCounted}
+use Rattle.gl_frames_stages.specs.DelayNets.{cost_of_far, cost_of_far_line, cost_of_late, cost_of_late_line, near_cost}
+use Rattle.gl_frames_stages.specs.DoublingNets.{cost_of_doublings, doublings, gap_of, with_level}
+use Rattle.gl_frames_stages.specs.ItemCosts.{cost_of_extreme_by, cost_of_frames, cost_of_item, cost_of_item_late}
+use Rattle.gl_frames_stages.proofs.CycleLemmas.{doublings_bits, few_digits, few_exponents, items_few}
+use Rattle.gl_frames_stages.proofs.DoublingNet.{doublings_done}
+
+-- ---- exponents and rings
+
+from_exponent : (more e depth : ℕ) → e ≤ least_exponent more e depth
+from_exponent zero e depth = omega arith
+from_exponent (suc more) e depth = by (nat_le depth (2 ^ e)) (from_exponent more (suc e) depth)
+  where
+    by : (b : Bool) → suc e ≤ least_exponent more (suc e) depth → e ≤ (if b then e else least_exponent more (suc e) depth)
+    by true rest = omega arith
+    by false rest = omega (arith, rest)
+
+pow_grows : (m n : ℕ) → m ≤ n → 2 ^ m ≤ 2 ^ n
+pow_grows m n le = elim (cases_lt m n) [
+  | inl lt ↦ (let p = pow-lt {i = m} {j = n} lt in omega (arith, p))
+  | inr ge ↦ (let e : m ≡ n = omega (arith, le, ge) in let p : 2 ^ m ≡ 2 ^ n = ap (λ (k : ℕ). 2 ^ k) e in omega (arith, p))
+]
+
+few_places : (back : ℕ) → back ≤ 2 ^ 16 → place_bits back ≤ 16
+few_places back le = few_exponents 16 back 1 back (omega arith) le
+
+place_words : (back : ℕ) → 2 ^ place_bits back ≡ ring back
+unfolding ring
+place_words back = refl
+
+ring_covers : (depth : ℕ) → depth ≤ ring depth
+ring_covers depth = subst (λ n. depth ≤ n) (place_words depth) (exponent_covers depth 1 depth (omega arith))
+
+-- a ring has no more words than one that holds more
+words_grow : (x m : ℕ) → x ≤ m → 2 ^ place_bits x ≤ ring m
+words_grow x m le =
+    let covers = exponent_covers m 1 m (omega arith) in
+    let few : place_bits x ≤ place_bits m = few_exponents (place_bits m) x 1 x (from_exponent m 1 m) (omega (arith, le, covers)) in
+    subst (λ n. 2 ^ place_bits x ≤ n) (place_words m) (pow_grows (place_bits x) (place_bits m) few)
+
+-- the bits of a ring of words that are not wide
+ring_bits : (back w : ℕ) → w ≤ 65 → 2 ^ place_bits back * w ≤ 65 * ring back
+ring_bits back w le =
+    let e = ap (λ n. n * w) (place_words back) in
+    let m = mul-le-mul_left (ring back) le in
+    omega (arith, e, m)
+
+-- the power of two below the least exponent is below the depth
+exponent_least : (more e depth : ℕ) → e < least_exponent more e depth → 2 ^ (least_exponent more e depth - 1) < depth
+exponent_least zero e depth lt = absurd (omega (arith, lt))
+exponent_least (suc more) e depth lt = by (nat_le depth (2 ^ e)) refl lt
+  where
+    n : ℕ
+    n = least_exponent more (suc e) depth
+
+    deep : 2 ^ e < depth → 2 ^ (n - 1) < depth
+    deep over = elim (cases_lt (suc e) n) [
+      | inl lt' ↦ exponent_least more (suc e) depth lt'
+      | inr ge ↦ (let low = from_exponent more (suc e) depth in let at : n - 1 ≡ e = omega (arith, ge, low) in subst (λ k. 2 ^ k < depth) (let z : e ≡ n - 1 = omega (arith, at) in z) over)
+    ]
+
+    by : (b : Bool) → nat_le depth (2 ^ e) ≡ b → e < (if b then e else n) → 2 ^ ((if b then e else n) - 1) < depth
+    by true p l = absurd (omega (arith, l))
+    by false p l = deep (leb-false depth (2 ^ e) p)
+
+-- ---- as late as the slowest
+
+late_nodes : (c w m : ℕ) → suc c ≤ m → (cost_of_late c w).nodes + 11 ≤ 4 * (min m 4 + 4)
+late_nodes c w m lt = by (nat_le c 4) refl
+  where
+    by : (b : Bool) → nat_le c 4 ≡ b → (if b then near_cost c w else cost_of_far c w).nodes + 11 ≤ 4 * (min m 4 + 4)
+    by true p = let le = leb-true c 4 p in omega (arith, lt, le)
+    by false p = let gt = leb-false c 4 p in omega (arith, lt, gt)
+
+late_registers : (c w : ℕ) → w ≤ 64 → c ≤ 100 → (cost_of_late c w).registers ≤ 256
+late_registers c w narrow few = by (nat_le c 4) refl
+  where
+    by : (b : Bool) → nat_le c 4 ≡ b → (if b then near_cost c w else cost_of_far c w).registers ≤ 256
+    by true p = let le = leb-true c 4 p in let m = mul-le-mul_right c narrow in omega (arith, le, m)
+    by false p = let bits = few_places (c - 1) (omega (arith, few)) in omega (arith, bits, narrow)
+
+late_memories : (c w m : ℕ) → w ≤ 64 → suc c ≤ m → (cost_of_late c w).memories ≤ 64 * ring m
+late_memories c w m narrow lt = by (nat_le c 4)
+  where
+    by : (b : Bool) → (if b then near_cost c w else cost_of_far c w).memories ≤ 64 * ring m
+    by true = omega arith
+    by false =
+        let more = mul-le-mul_right w (words_grow (c - 1) m (omega (arith, lt))) in
+        let wide = mul-le-mul_left (ring m) narrow in
+        omega (arith, more, wide)
+
+line_nodes : (m : ℕ) → (cost_of_late_line m).nodes ≤ 23
+line_nodes m = by (nat_le m 23) refl
+  where
+    by : (b : Bool) → nat_le m 23 ≡ b → (if b then record { nodes = m; registers = m; memories = 0 } else cost_of_far_line m).nodes ≤ 23
+    by true p = leb-true m 23 p
+    by false p = omega arith
+
+line_registers : (m : ℕ) → m ≤ 100 → (cost_of_late_line m).registers ≤ 23
+line_registers m few = by (nat_le m 23) refl
+  where
+    by : (b : Bool) → nat_le m 23 ≡ b → (if b then record { nodes = m; registers = m; memories = 0 } else cost_of_far_line m).registers ≤ 23
+    by true p = leb-true m 23 p
+    by false p = let bits = few_places (m - 1) (omega (arith, few)) in omega (arith, bits)
+
+line_memories : (m : ℕ) → (cost_of_late_line m).memories ≤ ring m
+line_memories m = by (nat_le m 23)
+  where
+    by : (b : Bool) → (if b then record { nodes = m; registers = m; memories = 0 } else cost_of_far_line m).memories ≤ ring m
+    by true = omega arith
+    by false = words_grow (m - 1) m (omega arith)
+
+-- ---- levels of doubling
+
+level_nodes : (gates more rows all w : ℕ) → (cost_of_doublings gates more rows all w).nodes ≡ (28 + gates) * doublings more rows all
+level_nodes gates zero rows all w = omega arith
+level_nodes gates (suc more) rows all w = by (nat_le all rows) (level_nodes gates more (rows + gap_of rows all) all w)
+  where
+    rest : Cost
+    rest = cost_of_doublings gates more (rows + gap_of rows all) all w
+
+    n : ℕ
+    n = doublings more (rows + gap_of rows all) all
+
+    by : (b : Bool) → rest.nodes ≡ (28 + gates) * n
+        → (if b then record { nodes = 0; registers = 0; memories = 0 } else with_level gates (gap_of rows all) w rest).nodes ≡ (28 + gates) * (if b then 0 else suc n)
+    by true h = omega arith
+    by false h = omega (arith, h)
+
+level_registers : (gates more rows all w : ℕ) → all ≤ 2 ^ 16 → (cost_of_doublings gates more rows all w).registers ≤ (23 + 4 * w) * doublings more rows all
+level_registers gates zero rows all w few = omega arith
+level_registers gates (suc more) rows all w few = by (nat_le all rows) (level_registers gates more (rows + gap_of rows all) all w few)
+  where
+    rest : Cost
+    rest = cost_of_doublings gates more (rows + gap_of rows all) all w
+
+    n : ℕ
+    n = doublings more (rows + gap_of rows all) all
+
+    by : (b : Bool) → rest.registers ≤ (23 + 4 * w) * n
+        → (if b then record { nodes = 0; registers = 0; memories = 0 } else with_level gates (gap_of rows all) w rest).registers ≤ (23 + 4 * w) * (if b then 0 else suc n)
+    by true h = omega arith
+    by false h = let bits = few_places (gap_of rows all) (omega (arith, few)) in omega (arith, h, bits)
+
+levels_done : (gates more rows all w : ℕ) → all ≤ rows → (cost_of_doublings gates more rows all w).memories ≡ 0
+levels_done gates zero rows all w le = refl
+levels_done gates (suc more) rows all w le = by (nat_le all rows) (le-leb all rows le)
+  where
+    by : (b : Bool) → b ≡ true
+        → (if b then record { nodes = 0; registers = 0; memories = 0 } else with_level gates (gap_of rows all) w (cost_of_doublings gates more (rows + gap_of rows all) all w)).memories ≡ 0
+    by true e = refl
+    by false e = absurd cc
+
+level_memories : (gates more e back w : ℕ)
+    → (cost_of_doublings gates more (2 ^ e) (back + 1) w).memories ≡ w * words_of_doublings (doublings more (2 ^ e) (back + 1)) e back
+level_memories gates zero e back w = omega arith
+level_memories gates (suc more) e back w = by (nat_le (back + 1) (2 ^ e)) refl
+  where
+    gap : ℕ
+    gap = gap_of (2 ^ e) (back + 1)
+
+    rest : Cost
+    rest = cost_of_doublings gates more (2 ^ e + gap) (back + 1) w
+
+    n : ℕ
+    n = doublings more (2 ^ e + gap) (back + 1)
+
+    double : 2 ^ suc e ≡ 2 ^ e + 2 ^ e
+    double = let p = pow-suc 2 e in omega (arith, p)
+
+    next : suc e ≡ e + 1
+    next = omega arith
+
+    further : 2 ^ e < back + 1 → rest.memories ≡ w * words_of_doublings n (e + 1) back
+    further over = elim (cases_lt (back + 1) (2 ^ suc e)) [
+      | inl lt ↦ (
+          let whole : back + 1 ≤ 2 ^ e + gap = omega (arith, lt, double, over) in
+          let none : n ≡ 0 = doublings_done more (2 ^ e + gap) (back + 1) whole in
+          let words = ap (λ k. w * words_of_doublings k (e + 1) back) none in
+          let cost = levels_done gates more (2 ^ e + gap) (back + 1) w whole in
+          let zeros : w * 0 ≡ 0 = omega arith in
+          omega (arith, words, cost, zeros)
+          )
+      | inr ge ↦ (
+          let rows : 2 ^ suc e ≡ 2 ^ e + gap = omega (arith, ge, double) in
+          subst (λ r. (cost_of_doublings gates more r (back + 1) w).memories ≡ w * words_of_doublings (doublings more r (back + 1)) (e + 1) back) rows
+          (subst (λ k. (cost_of_doublings gates more (2 ^ suc e) (back + 1) w).memories ≡ w * words_of_doublings (doublings more (2 ^ suc e) (back + 1)) k back) next
+          (level_memories gates more (suc e) back w))
+          )
+    ]
+
+    by : (b : Bool) → nat_le (back + 1) (2 ^ e) ≡ b
+        → (if b then record { nodes = 0; registers = 0; memories = 0 } else with_level gates gap w rest).memories ≡ w * words_of_doublings (if b then 0 else suc n) e back
+    by true p = omega arith
+    by false p =
+        let h = further (leb-false (back + 1) (2 ^ e) p) in
+        let words = ap (λ k. k * w) (place_words gap) in
+        omega (arith, h, words)
+
+-- the rings of an extreme have no fewer words than there are rows before
+words_least : (more e back : ℕ) → back + 1 ≤ 2 ^ (more + e) → back + 1 - 2 ^ e ≤ words_of_doublings more e back
+words_least zero e back le = omega (arith, le)
+words_least (suc more) e back le =
+    let place : suc more + e ≡ more + (e + 1) = omega arith in
+    let rest = words_least more (e + 1) back (subst (λ n. back + 1 ≤ 2 ^ n) place le) in
+    let least = ring_covers (min (2 ^ e) (back + 1 - 2 ^ e)) in
+    let double : 2 ^ (e + 1) ≡ 2 ^ e + 2 ^ e = (let p = pow-suc 2 e in let q : 2 ^ (e + 1) ≡ 2 ^ suc e = ap (λ (k : ℕ). 2 ^ k) (let z : e + 1 ≡ suc e = omega arith in z) in omega (arith, p, q)) in
+    omega (arith, rest, least, double)
+
+-- many bits are many words
+words_many : (back : ℕ) → 11 ≤ digits back → 1024 ≤ words_of_doublings (digits back) 0 back
+words_many back many =
+    let covers = exponent_covers (back + 1) 0 (back + 1) (omega arith) in
+    let place : digits back ≡ digits back + 0 = omega arith in
+    let words = words_least (digits back) 0 back (subst (λ n. back + 1 ≤ 2 ^ n) place covers) in
+    let below = exponent_least (back + 1) 0 (back + 1) (omega (arith, many)) in
+    let grown = pow_grows 10 (digits back - 1) (omega (arith, many)) in
+    let one : back + 1 - 1 ≤ words_of_doublings (digits back) 0 back = words in
+    let ten : 1024 ≤ 2 ^ (digits back - 1) = grown in
+    omega (arith, one, below, ten)
+
+-- ---- items
+
+pub record IsItemWithin (cost : Cost) (weight words : ℕ) : Type 0 where
+  pub nodes : cost.nodes ≤ weight + words / 16 + 11
+  pub registers : cost.registers ≤ 64 * (weight + 16)
+  pub memories : cost.memories ≤ 65 * words
+
+digits_few : (back : ℕ) → back < 2 ^ 16 → digits back ≤ 16
+digits_few back lt = few_exponents 16 (back + 1) 0 (back + 1) (omega arith) (omega (arith, lt))
+
+-- an extreme, with these gates in each level over words so wide, and so many nodes and registers beside
+extreme_within : (gates w back nodes registers : ℕ) → gates ≤ 12 → w ≤ 65 → back < 2 ^ 16 → nodes ≤ 9 → registers ≤ 65
+    → IsItemWithin (record {
+      nodes = (cost_of_doublings gates back 1 (back + 1) w).nodes + nodes;
+      registers = (cost_of_doublings gates back 1 (back + 1) w).registers + registers;
+      memories = (cost_of_doublings gates back 1 (back + 1) w).memories;
+    }) (weight_of_rings (digits back) 0) (words_of_doublings (digits back) 0 back)
+extreme_within gates w back nodes registers small narrow lt few_nodes few_registers =
+    let r : ℕ = digits back in
+    let n : ℕ = doublings back 1 (back + 1) in
+    let words : ℕ = words_of_doublings r 0 back in
+    let are : n ≡ r = doublings_bits back in
+    let few = digits_few back lt in
+    let cost = level_nodes gates back 1 (back + 1) w in
+    let gates_of = mul-le-mul_right n (let z : 28 + gates ≤ 40 = omega (arith, small) in z) in
+    let bits = level_registers gates back 1 (back + 1) w (omega (arith, lt)) in
+    let bits_of = mul-le-mul_right n (let z : 23 + 4 * w ≤ 283 = omega (arith, narrow) in z) in
+    let stored : (cost_of_doublings gates back 1 (back + 1) w).memories ≡ w * words_of_doublings n 0 back = level_memories gates back 0 back w in
+    let same = ap (λ k. w * words_of_doublings k 0 back) are in
+    let wide = mul-le-mul_right words narrow in
+    let enough : 8 * r ≤ 82 + words / 16 = elim (cases_lt r 11) [
+      | inl low ↦ omega (arith, low)
+      | inr many ↦ (let w' = words_many back many in omega (arith, w', few))
+    ] in
+    record {
+      nodes = omega (arith, cost, gates_of, are, few_nodes, enough);
+      registers = omega (arith, bits, bits_of, are, few_registers);
+      memories = omega (arith, stored, same, wide);
+    }
+
+module _ (kinds : List Kind) (all : All IsKind kinds) where
+  width : Operand → ℕ
+  width x = width_of (kind_of_operand kinds x)
+
+  extreme_by : (x : Operand) (by : Option ℕ) (back : ℕ) → OperandFits kinds x → back < 2 ^ 16
+      → IsItemWithin (cost_of_extreme_by by (width x) back) (weight_of_rings (digits back) 0) (words_of_doublings (digits back) 0 back)
+  extreme_by x None back fits lt = let w = operand_width kinds x all fits in
+      extreme_within 5 (width x) back 2 (width x) (omega arith) (omega (arith, w)) lt (omega arith) (omega (arith, w))
+  extreme_by x (Some column) back fits lt =
+      let w = operand_width kinds x all fits in
+      let most = extreme_within 12 (width x + 1) back 9 (width x + 1) (omega arith) (omega (arith, w)) lt (omega arith) (omega (arith, w)) in
+      record { nodes = most.nodes; registers = (let m = most.registers in omega (arith, m)); memories = most.memories }
+
+  -- a divider of so many digits
+  divider_within : (n : ℕ) → n ≤ 96 → n * (n + 2 * 32 + 1) ≤ 161 * n
+  divider_within n few = let m = mul-le-mul_left n (let z : n + 2 * 32 + 1 ≤ 161 = omega (arith, few) in z) in omega (arith, m)
+
+  over_within : (agg : PlanFrameAgg) (by back : Option ℕ) → FrameAggFits kinds agg → BackFits back
+      → IsItemWithin (cost_of_item kinds (Over agg by back)) (weight_of_frame kinds (Over agg by back)) (words_over agg by back)
+  over_within Count by None fits rows = record { nodes = omega arith; registers = omega arith; memories = omega arith }
+  over_within (Sum x) by None fits rows = let w = operand_width kinds x all fits.0 in record { nodes = omega arith; registers = omega (arith, w); memories = omega arith }
+  over_within (Min x) by None fits rows = let w = operand_width kinds x all fits in record { nodes = omega arith; registers = omega (arith, w); memories = omega arith }
+  over_within (Max x) by None fits rows = let w = operand_width kinds x all fits in record { nodes = omega arith; registers = omega (arith, w); memories = omega arith }
+  over_within (Avg x) by None fits rows =
+      let w = operand_width kinds x all fits.0 in
+      let m = divider_within (width x + 32) (omega (arith, w)) in
+      record { nodes = omega arith; registers = omega (arith, w, m); memories = omega arith }
+  over_within (LastValue x) by None fits rows = let w = operand_width kinds x all fits in record { nodes = omega arith; registers = omega (arith, w); memories = omega arith }
+  over_within Count None (Some back) fits rows =
+      let bits = few_places (back + 1) (omega (arith, rows)) in
+      record { nodes = omega arith; registers = omega (arith, bits); memories = omega arith }
+  over_within Count (Some column) (Some back) fits rows =
+      let bits = few_places (back + 1) (omega (arith, rows)) in
+      let words = place_words (back + 1) in
+      record { nodes = omega arith; registers = omega (arith, bits); memories = omega (arith, words) }
+  over_within (Sum x) by (Some back) fits rows =
+      let w = operand_width kinds x all fits.0 in
+      let bits = few_places (back + 1) (omega (arith, rows)) in
+      record { nodes = omega arith; registers = omega (arith, bits, w); memories = ring_bits (back + 1) (width x) (omega (arith, w)) }
+  over_within (Min x) by (Some back) fits rows = extreme_by x by back fits (omega (arith, rows))
+  over_within (Max x) by (Some back) fits rows = extreme_by x by back fits (omega (arith, rows))
+  over_within (Avg x) by (Some back) fits rows =
+      let w = operand_width kinds x all fits.0 in
+      let bits = few_places (back + 1) (omega (arith, rows)) in
+      let few = few_digits back (omega (arith, rows)) in
+      let m = divider_within (width x + digits (back + 1)) (omega (arith, w, few)) in
+      let words = ring_bits (back + 1) (width x + 1) (omega (arith, w)) in
+      let spread : 2 ^ place_bits (back + 1) * (width x + 1) ≡ 2 ^ place_bits (back + 1) * width x + 2 ^ place_bits (back + 1) = omega arith in
+      record { nodes = omega arith; registers = omega (arith, bits, w, m, few); memories = omega (arith, words, spread) }
+  over_within (LastValue x) by (Some back) fits rows =
+      let w = operand_width kinds x all fits in
+      let bits = few_places (back + 1) (omega (arith, rows)) in
+      record { nodes = omega arith; registers = omega (arith, bits, w); memories = omega arith }
+
+  one_within : (item : PlanFrame) → FrameFits kinds item → IsItemWithin (cost_of_item kinds item) (weight_of_frame kinds item) (words_of_frame item)
+  one_within (Own x) fits = let w = operand_width kinds x all fits in record { nodes = omega arith; registers = omega (arith, w); memories = omega arith }
+  one_within (Lag x back) fits =
+      let w = operand_width kinds x all fits.0 in
+      let lt = fits.2 in
+      let bits = few_places back (omega (arith, lt)) in
+      record { nodes = omega arith; registers = omega (arith, bits, w); memories = ring_bits back (width x) (omega (arith, w)) }
+  one_within (Over agg by back) fits = over_within agg by back fits.0 fits.2
+
+  -- no column is wide, and no item is at once
+  over_narrow : (agg : PlanFrameAgg) (by back : Option ℕ) → FrameAggFits kinds agg → width_of (kind_of_frame kinds (Over agg by back)) ≤ 64
+  over_narrow Count by back fits = omega arith
+  over_narrow (Sum x) by back fits = operand_width kinds x all fits.0
+  over_narrow (Min x) by back fits = operand_width kinds x all fits
+  over_narrow (Max x) by back fits = operand_width kinds x all fits
+  over_narrow (Avg x) by back fits = operand_width kinds x all fits.0
+  over_narrow (LastValue x) by back fits = operand_width kinds x all fits
+
+  narrow_of : (item : PlanFrame) → FrameFits kinds item → width_of (kind_of_frame kinds item) ≤ 64
+  narrow_of (Own x) fits = operand_width kinds x all fits
+  narrow_of (Lag x back) fits = operand_width kinds x all fits.0
+  narrow_of (Over agg by back) fits = over_narrow agg by back fits.0
+
+  sum_some : (back : Option ℕ) → 1 ≤ delay_of_sum back
+  sum_some None = omega arith
+  sum_some (Some back) = omega arith
+
+  over_some : (agg : PlanFrameAgg) (by back : Option ℕ) → 1 ≤ delay_over kinds agg by back
+  over_some Count None back = omega arith
+  over_some Count (Some column) back = sum_some back
+  over_some (Sum x) by back = sum_some back
+  over_some (Min x) by None = omega arith
+  over_some (Min x) by (Some back) = omega arith
+  over_some (Max x) by None = omega arith
+  over_some (Max x) by (Some back) = omega arith
+  over_some (Avg x) by back = omega arith
+  over_some (LastValue x) by back = omega arith
+
+  some_of : (item : PlanFrame) → 1 ≤ delay_of_frame kinds item
+  some_of (Own x) = omega arith
+  some_of (Lag x back) = omega arith
+  some_of (Over agg by back) = over_some agg by back
+
+  -- an item so many cycles later
+  record IsLateWithin (m : ℕ) (item : PlanFrame) : Type 0 where
+    nodes : (cost_of_item_late kinds m item).nodes ≤ 4 * (min m 4 + 4) + weight_of_frame kinds item + words_of_frame item / 16
+    registers : (cost_of_item_late kinds m item).registers ≤ 64 * (weight_of_frame kinds item + 20)
+    memories : (cost_of_item_late kinds m item).memories ≤ 65 * words_of_frame item + 64 * ring m
+
+  late_within : (m : ℕ) (item : PlanFrame) → m ≤ 100 → delay_of_frame kinds item ≤ m → FrameFits kinds item → IsLateWithin m item
+  late_within m item few le fits =
+      let one = one_within item fits in
+      let w : ℕ = width_of (kind_of_frame kinds item) in
+      let narrow = narrow_of item fits in
+      let some = some_of item in
+      let c : ℕ = m - delay_of_frame kinds item in
+      let lt : suc c ≤ m = omega (arith, some, le) in
+      let nodes' = late_nodes c w m lt in
+      let registers' = late_registers c w narrow (omega (arith, lt, few)) in
+      let memories' = late_memories c w m narrow lt in
+      record {
+        nodes = (let a = one.nodes in omega (arith, a, nodes'));
+        registers = (let a = one.registers in omega (arith, a, registers'));
+        memories = (let a = one.memories in omega (arith, a, memories'));
+      }
+
+  -- ---- all items
+
+  record AreWithin (m q : ℕ) (items : List PlanFrame) : Type 0 where
+    nodes : sum_by (λ i. (cost_of_item_late kinds m i).nodes) items
+        ≤ 4 * q * length items + sum_by (weight_of_frame kinds) items + sum_by (λ i. 2 * frames_in i + words_of_frame i) items / 16
+    registers : sum_by (λ i. (cost_of_item_late kinds m i).registers) items ≤ 64 * (sum_by (weight_of_frame kinds) items + 20 * length items)
+    memories : sum_by (λ i. (cost_of_item_late kinds m i).memories) items
+        ≤ sum_by (λ i. 128 * frames_in i + 65 * words_of_frame i) items + 64 * (ring m * length items)
+
+  all_within : (m q : ℕ) (items : List PlanFrame) → m ≤ 100 → min m 4 + 4 ≡ q → delay_of_frames kinds items ≤ m → All (FrameFits kinds) items → AreWithin m q items
+  all_within m q [] few is le fit = record { nodes = omega arith; registers = omega arith; memories = omega arith }
+  all_within m q (item ∷ items) few is le fit =
+      let one = late_within m item few (omega (arith, le)) (All-head (FrameFits kinds) item items fit) in
+      let rest = all_within m q items few is (omega (arith, le)) (All-tail (FrameFits kinds) item items fit) in
+      let a = one.nodes in
+      let b = rest.nodes in
+      let a' = one.registers in
+      let b' = rest.registers in
+      let a'' = one.memories in
+      let b'' = rest.memories in
+      let q_more : 4 * q * length (item ∷ items) ≡ 4 * q + 4 * q * length items = omega arith in
+      let m_more : ring m * length (item ∷ items) ≡ ring m + ring m * length items = omega arith in
+      let weights = sum_by-cons (weight_of_frame kinds) item items in
+      let words = sum_by-cons (λ i. 2 * frames_in i + words_of_frame i) item items in
+      let stored = sum_by-cons (λ i. 128 * frames_in i + 65 * words_of_frame i) item items in
+      let nodes' = sum_by-cons (λ i. (cost_of_item_late kinds m i).nodes) item items in
+      let registers' = sum_by-cons (λ i. (cost_of_item_late kinds m i).registers) item items in
+      let memories' = sum_by-cons (λ i. (cost_of_item_late kinds m i).memories) item items in
+      record {
+        nodes = omega (arith, a, b, is, q_more, weights, words, nodes');
+        registers = omega (arith, a', b', weights, registers');
+        memories = omega (arith, a'', b'', m_more, stored, memories');
+      }
+
+  -- lines beside them
+  nodes_in_all : (q n cost lines weights words : ℕ) → 5 ≤ q → cost ≤ 4 * q * n + weights + words / 16 → lines ≤ 23
+      → cost + 2 * lines ≤ 4 * (n + 2) * q + 32 + weights + (1 + words) / 16
+  nodes_in_all q n cost lines weights words some h l = omega (arith, some, h, l)
+
+  registers_in_all : (q n cost lines weights words : ℕ) → 5 ≤ q → cost ≤ 64 * (weights + 20 * n) → lines ≤ 23
+      → cost + 2 * lines ≤ 64 * (4 * (n + 2) * q + 32 + weights + (1 + words) / 16)
+  registers_in_all q n cost lines weights words some h l = let m = mul-le-mul_left (n + 2) some in omega (arith, m, h, l)
+
+  memories_in_all : (r n frames cost lines stored : ℕ) → cost ≤ stored + 64 * (r * n) → lines ≤ r
+      → cost + 2 * lines ≤ 64 * (n + 2 + 2 * frames) * r + 32 + stored
+  memories_in_all r n frames cost lines stored h l = omega (arith, h, l)
+
+  slowest : (items : List PlanFrame) → 1 ≤ delay_of_frames kinds items
+  slowest [] = omega arith
+  slowest (item ∷ items) = let rest = slowest items in omega (arith, rest)
+
+  all_counted : (items : List PlanFrame) → All (FrameFits kinds) items
+      → IsCounted (cost_of_frames kinds (delay_of_frames kinds items) items) (weight_of_frames kinds (length items + 2) items)
+      (weight_of_frames kinds (length items + 2) items) (store_of_frames kinds (length items + 2) items)
+  all_counted items fit =
+      let m : ℕ = delay_of_frames kinds items in
+      let q : ℕ = min m 4 + 4 in
+      let few = items_few kinds items all fit in
+      let within = all_within m q items few refl (omega arith) fit in
+      let weights : ℕ = sum_by (weight_of_frame kinds) items in
+      let words : ℕ = sum_by (λ i. 2 * frames_in i + words_of_frame i) items in
+      let some : 1 ≤ m = slowest items in
+      let enough : 5 ≤ q = omega (arith, some) in
+      record {
+        nodes = nodes_in_all q (length items) _ _ weights words enough within.nodes (line_nodes m);
+        registers = registers_in_all q (length items) _ _ weights words enough within.registers (line_registers m few);
+        memories = memories_in_all (ring m) (length items) (sum_by frames_in items) _ _ (sum_by (λ i. 128 * frames_in i + 65 * words_of_frame i) items) within.memories (line_memories m);
+      }
+
+pub frames_counted : FramesAreCounted
+frames_counted kinds items all fit = all_counted kinds all items fit
