@@ -1,5 +1,5 @@
 -- What items cost at most is within what a plan counts for their node.
-use Rattle.std.proofs.Common.{◌≡◌, ℕ, zero, suc, ◌+◌, ◌-◌, ◌*◌, ◌/◌, ◌^◌, ◌<◌, ◌≤◌, min, List, [], ◌∷◌, length, Option, Some, None, Bool, true, false, refl, ap, subst, ◌∙◌, arith, inl, inr}
+use Rattle.std.proofs.Common.{◌≡◌, ℕ, zero, suc, ◌+◌, ◌-◌, ◌*◌, ◌/◌, ◌^◌, ◌<◌, ◌≤◌, min, List, [], ◌∷◌, length, Option, Some, None, Bool, true, false, refl, ap, subst, arith, ◌⊎◌, inl, inr}
 use Rattle.std.specs.Prelude.{All, if◌then◌else◌, nat_le, sum_by}
 use Rattle.std.proofs.Math.Nat.{mul-le-mul_left, mul-le-mul_right, pow-suc}
 use Rattle.std.proofs.Math.Pow.{pow-lt}
@@ -73,20 +73,17 @@ ring_bits back w le =
 -- the power of two below the least exponent is below the depth
 exponent_least : (more e depth : ℕ) → e < least_exponent more e depth → 2 ^ (least_exponent more e depth - 1) < depth
 exponent_least zero e depth lt = absurd (omega (arith, lt))
-exponent_least (suc more) e depth lt = by (nat_le depth (2 ^ e)) refl lt
+exponent_least (suc more) e depth lt = by (nat_le depth (2 ^ e)) (least_exponent more (suc e) depth) refl (from_exponent more (suc e) depth) (exponent_least more (suc e) depth) lt
   where
-    n : ℕ
-    n = least_exponent more (suc e) depth
-
-    deep : 2 ^ e < depth → 2 ^ (n - 1) < depth
-    deep over = elim (cases_lt (suc e) n) [
-      | inl lt' ↦ exponent_least more (suc e) depth lt'
-      | inr ge ↦ (let low = from_exponent more (suc e) depth in let at : n - 1 ≡ e = omega (arith, ge, low) in subst (λ k. 2 ^ k < depth) (let z : e ≡ n - 1 = omega (arith, at) in z) over)
+    deep : (n : ℕ) → 2 ^ e < depth → suc e ≤ n → (suc e < n → 2 ^ (n - 1) < depth) → 2 ^ (n - 1) < depth
+    deep n over low rest = elim (cases_lt (suc e) n) [
+      | inl more' ↦ rest more'
+      | inr ge ↦ (let at : e ≡ n - 1 = omega (arith, ge, low) in subst (λ (k : ℕ). 2 ^ k < depth) at over)
     ]
 
-    by : (b : Bool) → nat_le depth (2 ^ e) ≡ b → e < (if b then e else n) → 2 ^ ((if b then e else n) - 1) < depth
-    by true p l = absurd (omega (arith, l))
-    by false p l = deep (leb-false depth (2 ^ e) p)
+    by : (b : Bool) (n : ℕ) → nat_le depth (2 ^ e) ≡ b → suc e ≤ n → (suc e < n → 2 ^ (n - 1) < depth) → e < (if b then e else n) → 2 ^ ((if b then e else n) - 1) < depth
+    by true n p low rest l = absurd (omega (arith, l))
+    by false n p low rest l = deep n (leb-false depth (2 ^ e) p) low rest
 
 -- ---- as late as the slowest
 
@@ -139,33 +136,25 @@ line_memories m = by (nat_le m 23)
 
 level_nodes : (gates more rows all w : ℕ) → (cost_of_doublings gates more rows all w).nodes ≡ (28 + gates) * doublings more rows all
 level_nodes gates zero rows all w = omega arith
-level_nodes gates (suc more) rows all w = by (nat_le all rows) (level_nodes gates more (rows + gap_of rows all) all w)
+level_nodes gates (suc more) rows all w =
+    by (nat_le all rows) (cost_of_doublings gates more (rows + gap_of rows all) all w) (doublings more (rows + gap_of rows all) all)
+    (level_nodes gates more (rows + gap_of rows all) all w)
   where
-    rest : Cost
-    rest = cost_of_doublings gates more (rows + gap_of rows all) all w
-
-    n : ℕ
-    n = doublings more (rows + gap_of rows all) all
-
-    by : (b : Bool) → rest.nodes ≡ (28 + gates) * n
+    by : (b : Bool) (rest : Cost) (n : ℕ) → rest.nodes ≡ (28 + gates) * n
         → (if b then record { nodes = 0; registers = 0; memories = 0 } else with_level gates (gap_of rows all) w rest).nodes ≡ (28 + gates) * (if b then 0 else suc n)
-    by true h = omega arith
-    by false h = omega (arith, h)
+    by true rest n h = omega arith
+    by false rest n h = omega (arith, h)
 
 level_registers : (gates more rows all w : ℕ) → all ≤ 2 ^ 16 → (cost_of_doublings gates more rows all w).registers ≤ (23 + 4 * w) * doublings more rows all
 level_registers gates zero rows all w few = omega arith
-level_registers gates (suc more) rows all w few = by (nat_le all rows) (level_registers gates more (rows + gap_of rows all) all w few)
+level_registers gates (suc more) rows all w few =
+    by (nat_le all rows) (cost_of_doublings gates more (rows + gap_of rows all) all w) (doublings more (rows + gap_of rows all) all)
+    (level_registers gates more (rows + gap_of rows all) all w few)
   where
-    rest : Cost
-    rest = cost_of_doublings gates more (rows + gap_of rows all) all w
-
-    n : ℕ
-    n = doublings more (rows + gap_of rows all) all
-
-    by : (b : Bool) → rest.registers ≤ (23 + 4 * w) * n
+    by : (b : Bool) (rest : Cost) (n : ℕ) → rest.registers ≤ (23 + 4 * w) * n
         → (if b then record { nodes = 0; registers = 0; memories = 0 } else with_level gates (gap_of rows all) w rest).registers ≤ (23 + 4 * w) * (if b then 0 else suc n)
-    by true h = omega arith
-    by false h = let bits = few_places (gap_of rows all) (omega (arith, few)) in omega (arith, h, bits)
+    by true rest n h = omega arith
+    by false rest n h = let bits = few_places (gap_of rows all) (omega (arith, few)) in omega (arith, h, bits)
 
 levels_done : (gates more rows all w : ℕ) → all ≤ rows → (cost_of_doublings gates more rows all w).memories ≡ 0
 levels_done gates zero rows all w le = refl
@@ -179,52 +168,49 @@ levels_done gates (suc more) rows all w le = by (nat_le all rows) (le-leb all ro
 level_memories : (gates more e back w : ℕ)
     → (cost_of_doublings gates more (2 ^ e) (back + 1) w).memories ≡ w * words_of_doublings (doublings more (2 ^ e) (back + 1)) e back
 level_memories gates zero e back w = omega arith
-level_memories gates (suc more) e back w = by (nat_le (back + 1) (2 ^ e)) refl
+level_memories gates (suc more) e back w =
+    by (nat_le (back + 1) (2 ^ e)) (cost_of_doublings gates more (2 ^ e + gap_of (2 ^ e) (back + 1)) (back + 1) w) (doublings more (2 ^ e + gap_of (2 ^ e) (back + 1)) (back + 1)) refl
+    (λ over. further over (level_memories gates more (suc e) back w) (cases_lt (back + 1) (2 ^ suc e)))
   where
-    gap : ℕ
-    gap = gap_of (2 ^ e) (back + 1)
-
-    rest : Cost
-    rest = cost_of_doublings gates more (2 ^ e + gap) (back + 1) w
-
-    n : ℕ
-    n = doublings more (2 ^ e + gap) (back + 1)
-
     double : 2 ^ suc e ≡ 2 ^ e + 2 ^ e
     double = let p = pow-suc 2 e in omega (arith, p)
 
     next : suc e ≡ e + 1
     next = omega arith
 
-    further : 2 ^ e < back + 1 → rest.memories ≡ w * words_of_doublings n (e + 1) back
-    further over = elim (cases_lt (back + 1) (2 ^ suc e)) [
-      | inl lt ↦ (
-          let whole : back + 1 ≤ 2 ^ e + gap = omega (arith, lt, double, over) in
-          let none : n ≡ 0 = doublings_done more (2 ^ e + gap) (back + 1) whole in
-          let words = ap (λ k. w * words_of_doublings k (e + 1) back) none in
-          let cost = levels_done gates more (2 ^ e + gap) (back + 1) w whole in
-          let zeros : w * 0 ≡ 0 = omega arith in
-          omega (arith, words, cost, zeros)
-          )
-      | inr ge ↦ (
-          let rows : 2 ^ suc e ≡ 2 ^ e + gap = omega (arith, ge, double) in
-          subst (λ r. (cost_of_doublings gates more r (back + 1) w).memories ≡ w * words_of_doublings (doublings more r (back + 1)) (e + 1) back) rows
-          (subst (λ k. (cost_of_doublings gates more (2 ^ suc e) (back + 1) w).memories ≡ w * words_of_doublings (doublings more (2 ^ suc e) (back + 1)) k back) next
-          (level_memories gates more (suc e) back w))
-          )
-    ]
+    further : 2 ^ e < back + 1
+        → (cost_of_doublings gates more (2 ^ suc e) (back + 1) w).memories ≡ w * words_of_doublings (doublings more (2 ^ suc e) (back + 1)) (suc e) back
+        → (back + 1 < 2 ^ suc e) ⊎ (2 ^ suc e ≤ back + 1)
+        → (cost_of_doublings gates more (2 ^ e + gap_of (2 ^ e) (back + 1)) (back + 1) w).memories
+        ≡ w * words_of_doublings (doublings more (2 ^ e + gap_of (2 ^ e) (back + 1)) (back + 1)) (e + 1) back
+    further over rest (inl lt) =
+        let gap : ℕ = gap_of (2 ^ e) (back + 1) in
+        let whole : back + 1 ≤ 2 ^ e + gap = omega (arith, lt, double, over) in
+        let words = ap (λ (k : ℕ). w * words_of_doublings k (e + 1) back) (doublings_done more (2 ^ e + gap) (back + 1) whole) in
+        let cost = levels_done gates more (2 ^ e + gap) (back + 1) w whole in
+        let zeros : w * 0 ≡ 0 = omega arith in
+        omega (arith, words, cost, zeros)
+    further over rest (inr ge) =
+        let rows : 2 ^ suc e ≡ 2 ^ e + gap_of (2 ^ e) (back + 1) = omega (arith, ge, double) in
+        subst (λ (r : ℕ). (cost_of_doublings gates more r (back + 1) w).memories ≡ w * words_of_doublings (doublings more r (back + 1)) (e + 1) back) rows
+        (subst (λ (k : ℕ). (cost_of_doublings gates more (2 ^ suc e) (back + 1) w).memories ≡ w * words_of_doublings (doublings more (2 ^ suc e) (back + 1)) k back) next
+        rest)
 
-    by : (b : Bool) → nat_le (back + 1) (2 ^ e) ≡ b
-        → (if b then record { nodes = 0; registers = 0; memories = 0 } else with_level gates gap w rest).memories ≡ w * words_of_doublings (if b then 0 else suc n) e back
-    by true p = omega arith
-    by false p =
-        let h = further (leb-false (back + 1) (2 ^ e) p) in
-        let words = ap (λ k. k * w) (place_words gap) in
-        omega (arith, h, words)
+    by : (b : Bool) (rest : Cost) (n : ℕ) → nat_le (back + 1) (2 ^ e) ≡ b → (2 ^ e < back + 1 → rest.memories ≡ w * words_of_doublings n (e + 1) back)
+        → (if b then record { nodes = 0; registers = 0; memories = 0 } else with_level gates (gap_of (2 ^ e) (back + 1)) w rest).memories
+        ≡ w * words_of_doublings (if b then 0 else suc n) e back
+    by true rest n p h = omega arith
+    by false rest n p h =
+        let stored = h (leb-false (back + 1) (2 ^ e) p) in
+        let words = ap (λ (k : ℕ). k * w) (place_words (gap_of (2 ^ e) (back + 1))) in
+        omega (arith, stored, words)
 
 -- the rings of an extreme have no fewer words than there are rows before
 words_least : (more e back : ℕ) → back + 1 ≤ 2 ^ (more + e) → back + 1 - 2 ^ e ≤ words_of_doublings more e back
-words_least zero e back le = omega (arith, le)
+words_least zero e back le =
+    let place : 0 + e ≡ e = omega arith in
+    let le' = subst (λ (n : ℕ). back + 1 ≤ 2 ^ n) place le in
+    omega (arith, le')
 words_least (suc more) e back le =
     let place : suc more + e ≡ more + (e + 1) = omega arith in
     let rest = words_least more (e + 1) back (subst (λ n. back + 1 ≤ 2 ^ n) place le) in
@@ -285,7 +271,7 @@ extreme_within gates w back nodes registers small narrow lt few_nodes few_regist
     }
 
 module _ (kinds : List Kind) (all : All IsKind kinds) where
-  width : Operand → ℕ
+  abbrev width : Operand → ℕ
   width x = width_of (kind_of_operand kinds x)
 
   extreme_by : (x : Operand) (by : Option ℕ) (back : ℕ) → OperandFits kinds x → back < 2 ^ 16

@@ -1,6 +1,6 @@
 //! Items one by one, each as late as it is.
 
-ghost use Rattle.std.specs.Prelude.{All, IfOk, None, Some};
+ghost use Rattle.std.specs.Prelude.{◌<◌, ◌^◌, All, IfOk, None, Some};
 ghost use Rattle.gl_algebra.specs.Frames.{delay_of_count, delay_of_extreme, delay_of_frame, delay_over};
 ghost use Rattle.gl_algebra.specs.Results.{counts_in, value_of_frame, value_over};
 ghost use Rattle.gl_algebra.specs.declared.node.PlanFrame.TheVariants.{Over, Own};
