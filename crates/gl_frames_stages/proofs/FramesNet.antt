@@ -17,7 +17,7 @@ use Rattle.gl_net.proofs.Growth.{same_keeps}
 use Rattle.gl_wire.specs.Blocks.{IsBehind}
 use Rattle.gl_wire.specs.Costs.{Cost}
 use Rattle.gl_wire.specs.Shapes.{IsDelayed}
-use Rattle.gl_wire.specs.Wire.{AreBuses, carried, line_at, row_at, widths, wire_of}
+use Rattle.gl_wire.specs.Wire.{carried, line_at, row_at, wire_of}
 use Rattle.gl_wire.specs.declared.emitted.Emitted.{Emitted}
 use Rattle.gl_wire.specs.declared.wire.Wire.{Wire}
 use Rattle.gl_wire.proofs.ColumnLemmas.{AreBuses-none, AreBuses-push, buses_kept, row_at-none, row_at-push, widths-push}
