@@ -1,10 +1,10 @@
 -- Columns that are made of the rows, and the rows that pass.
-use Rattle.std.proofs.Common.{◌≡◌, ℕ, zero, suc, Option, Some, None, List, [], ◌∷◌, ◌++◌, map, Bool, true, false, refl, sym, ap, ◌∙◌}
+use Rattle.std.proofs.Common.{◌≡◌, ℕ, zero, suc, ◌<◌, Some, List, length, [], ◌∷◌, ◌++◌, map, Bool, true, false, refl, sym, ap, ◌∙◌}
 use Rattle.std.specs.Prelude.{◌&&◌, filter, if◌then◌else◌, nat_eq}
 use Rattle.std.proofs.lemmas.List.{map-append}
 use Rattle.std.proofs.lemmas.List.Elements.{filter-append}
 use Rattle.std.proofs.lemmas.Option.{get_or_from_slice_get}
-use Rattle.gl_algebra.specs.Columns.{ConditionFits, bit_kind}
+use Rattle.gl_algebra.specs.Columns.{ConditionFits, bit_kind, kind_of_column}
 use Rattle.gl_bits.proofs.AllLists.{get_below}
 use Rattle.gl_net.specs.declared.node.Bit.{Bit}
 use Rattle.gl_net.specs.Net.{Net, Run, Keeps}
@@ -17,16 +17,18 @@ use Rattle.gl_wire_lanes.specs.Lanes.{row_in, rows_before}
 use Rattle.gl_wire_lanes.proofs.RowLemmas.{rows_through}
 use Rattle.gl_frames_wire.specs.CountNets.{streams_by}
 use Rattle.gl_frames_stages.specs.Columns.{Tells, column_of}
-use Rattle.gl_frames_stages.specs.Inputs.{FilterFits, HasInput}
+use Rattle.gl_frames_stages.specs.Inputs.{HasInput}
 use Rattle.gl_frames_stages.specs.declared.input.Input.{Input}
 use Rattle.gl_frames_stages.specs.declared.lines.Lines.{Lines}
 use Rattle.gl_frames_stages.proofs.TotalNet.{lane_rows}
 
 -- ---- the column that is asked for
 
-pub condition_fits : (kinds : List Kind) (by : Option ℕ) → ConditionFits kinds by → FilterFits kinds by
-condition_fits kinds None fits = fits
-condition_fits kinds (Some column) fits = (get_below kinds column bit_kind fits, get_or_from_slice_get kinds column bit_kind bit_kind fits)
+pub column_there : (kinds : List Kind) (column : ℕ) → ConditionFits kinds (Some column) → column < length kinds
+column_there kinds column fits = get_below kinds column bit_kind fits
+
+pub column_kind : (kinds : List Kind) (column : ℕ) → ConditionFits kinds (Some column) → kind_of_column kinds column ≡ bit_kind
+column_kind kinds column fits = get_or_from_slice_get kinds column bit_kind bit_kind fits
 
 -- ---- what is made of each row
 

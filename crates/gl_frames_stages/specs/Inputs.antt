@@ -1,9 +1,7 @@
 -- Rows that come to frames, in a netlist, and what an item makes of them.
-use Rattle.std.specs.Prelude.{◌≡◌, ℕ, suc, ◌<◌, Option, Some, None, List, length, ◌&&◌, ⊤, if◌then◌else◌}
-use Rattle.gl_algebra.specs.Columns.{bit_kind, kind_of_column}
+use Rattle.std.specs.Prelude.{◌≡◌, ℕ, suc, Option, List, ◌&&◌, if◌then◌else◌}
 use Rattle.gl_algebra.specs.Results.{counts_in}
 use Rattle.gl_values.specs.Results.{Row}
-use Rattle.gl_values.specs.declared.kind.Kind.{Kind}
 use Rattle.gl_net.specs.declared.node.Bus.{Bus}
 use Rattle.gl_net.specs.Net.{Net, Run, IsRun, IsBit, IsBus, Keeps}
 use Rattle.gl_rows.specs.Made.{IsSource}
@@ -12,11 +10,6 @@ use Rattle.gl_wire.specs.Wire.{line_at, row_at}
 use Rattle.gl_frames_stages.specs.Columns.{Tells, carried_by}
 use Rattle.gl_frames_stages.specs.declared.input.Input.{Input}
 use Rattle.gl_frames_stages.specs.declared.lines.Lines.{Lines}
-
--- the column that is asked for is there, and has one bit
-abbrev pub FilterFits : List Kind → Option ℕ → Type 0
-FilterFits kinds None = ⊤
-FilterFits kinds (Some column) = (column < length kinds) × (kind_of_column kinds column ≡ bit_kind)
 
 -- the lines and the columns are in the netlist
 pub record HasInput (net : Net) (input : Input) : Type 0 where

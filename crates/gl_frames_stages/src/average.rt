@@ -3,13 +3,13 @@
 ghost use Rattle.std.specs.Prelude.{◌≡◌, ◌+◌, ◌<◌, ◌≤◌, ◌^◌, All, IfOk, Some};
 ghost use Rattle.gl_algebra.specs.Rings.{digits};
 ghost use Rattle.gl_algebra.specs.Results.{counts_in};
-ghost use Rattle.gl_algebra.specs.Columns.{OperandFits, kind_of_operand};
+ghost use Rattle.gl_algebra.specs.Columns.{ConditionFits, OperandFits, kind_of_operand};
 ghost use Rattle.gl_values.specs.Kinds.{IsKind, width_of};
 ghost use Rattle.gl_values.specs.Totals.{average_of, count_of};
 ghost use Rattle.gl_frames.specs.Frames.{frame_of, total_over};
 ghost use Rattle.gl_frames_stages.specs.Average.{IsFrameFraction, cost_of_frame_average, cost_of_frame_number};
 ghost use Rattle.gl_frames_stages.specs.Framing.{value_in};
-ghost use Rattle.gl_frames_stages.specs.Inputs.{FilterFits, HasInput, IsItemIn};
+ghost use Rattle.gl_frames_stages.specs.Inputs.{HasInput, IsItemIn};
 
 use crate::framed::put_passing_count;
 use crate::input::{Input, put_masked};
@@ -43,7 +43,7 @@ fn put_frame_number(
     back: u32,
 ) -> Result<Bus, Memory>
     requires input { HasInput net.old input }
-    requires filter { FilterFits input.source.kinds.now filter }
+    requires filter { ConditionFits input.source.kinds.now filter }
     requires back { back < 2 ^ 16 }
     ensures { IfOk result (IsItemIn net.old net.new (cost_of_frame_number back) 3 32
         (λ rows. count_of (frame_of (Some back) (counts_in filter) rows)) input.entry) }
@@ -70,7 +70,7 @@ fn put_frame_fraction(
 ) -> Result<Fraction, Memory>
     requires input { HasInput net.old input }
     requires kinds { All IsKind input.source.kinds.now }
-    requires filter { FilterFits input.source.kinds.now filter }
+    requires filter { ConditionFits input.source.kinds.now filter }
     requires fits { OperandFits input.source.kinds.now operand }
     requires back { back < 2 ^ 16 }
     ensures { IfOk result (IsFrameFraction net.old net.new input.entry filter operand back) }
@@ -94,7 +94,7 @@ pub fn put_average_item(
 ) -> Result<Bus, Memory>
     requires input { HasInput net.old input }
     requires kinds { All IsKind input.source.kinds.now }
-    requires filter { FilterFits input.source.kinds.now filter }
+    requires filter { ConditionFits input.source.kinds.now filter }
     requires fits { OperandFits input.source.kinds.now operand }
     requires back { back < 2 ^ 16 }
     ensures { IfOk result (

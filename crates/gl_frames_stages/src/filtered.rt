@@ -4,13 +4,13 @@
 ghost use Rattle.std.specs.Prelude.{◌<◌, ◌^◌, All, IfOk, Some};
 ghost use Rattle.gl_algebra.specs.Frames.{delay_of_extreme};
 ghost use Rattle.gl_algebra.specs.Results.{counts_in};
-ghost use Rattle.gl_algebra.specs.Columns.{OperandFits, kind_of_operand};
+ghost use Rattle.gl_algebra.specs.Columns.{ConditionFits, OperandFits, kind_of_operand};
 ghost use Rattle.gl_values.specs.Kinds.{IsKind, width_of};
 ghost use Rattle.gl_frames.specs.Frames.{total_over};
 ghost use Rattle.gl_totals.specs.Totals.{extreme_of};
 ghost use Rattle.gl_frames_stages.specs.FilteredNets.{IsPackedIn, cost_of_filtered_extreme};
 ghost use Rattle.gl_frames_stages.specs.Framing.{value_in};
-ghost use Rattle.gl_frames_stages.specs.Inputs.{FilterFits, HasInput, IsItemIn};
+ghost use Rattle.gl_frames_stages.specs.Inputs.{HasInput, IsItemIn};
 
 use crate::doubling::put_frame_best;
 use crate::input::{Input, put_masked};
@@ -32,7 +32,7 @@ fn put_packed(
 ) -> Result<Bus, Memory>
     requires input { HasInput net.old input }
     requires kinds { All IsKind input.source.kinds.now }
-    requires filter { FilterFits input.source.kinds.now (Some column) }
+    requires filter { ConditionFits input.source.kinds.now (Some column) }
     requires fits { OperandFits input.source.kinds.now operand }
     ensures { IfOk result (IsPackedIn net.old net.new input.entry column operand) }
 {
@@ -54,7 +54,7 @@ pub fn put_filtered_item(
 ) -> Result<Bus, Memory>
     requires input { HasInput net.old input }
     requires kinds { All IsKind input.source.kinds.now }
-    requires filter { FilterFits input.source.kinds.now (Some column) }
+    requires filter { ConditionFits input.source.kinds.now (Some column) }
     requires fits { OperandFits input.source.kinds.now operand }
     requires back { back < 2 ^ 16 }
     ensures { IfOk result (

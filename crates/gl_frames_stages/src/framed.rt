@@ -3,13 +3,13 @@
 ghost use Rattle.std.specs.Prelude.{◌<◌, ◌≤◌, ◌^◌, All, IfOk, Some};
 ghost use Rattle.gl_algebra.specs.Frames.{delay_of_extreme};
 ghost use Rattle.gl_algebra.specs.Results.{counts_in};
-ghost use Rattle.gl_algebra.specs.Columns.{OperandFits, kind_of_operand};
+ghost use Rattle.gl_algebra.specs.Columns.{ConditionFits, OperandFits, kind_of_operand};
 ghost use Rattle.gl_values.specs.Kinds.{IsKind, width_of};
 ghost use Rattle.gl_values.specs.Totals.{count_of, sum_total};
 ghost use Rattle.gl_frames.specs.Frames.{frame_of, lag_of, total_over};
 ghost use Rattle.gl_totals.specs.Totals.{extreme_of};
 ghost use Rattle.gl_frames_stages.specs.Framing.{cost_of_frame_extreme, cost_of_frame_sum, cost_of_lag, cost_of_passing_count, every, value_in};
-ghost use Rattle.gl_frames_stages.specs.Inputs.{FilterFits, HasInput, IsItemIn};
+ghost use Rattle.gl_frames_stages.specs.Inputs.{HasInput, IsItemIn};
 
 use crate::doubling::put_frame_best;
 use crate::input::{Input, put_masked};
@@ -59,7 +59,7 @@ pub fn put_sum_item(
     back: u32,
 ) -> Result<Bus, Memory>
     requires input { HasInput net.old input }
-    requires filter { FilterFits input.source.kinds.now filter }
+    requires filter { ConditionFits input.source.kinds.now filter }
     requires fits { OperandFits input.source.kinds.now operand }
     requires back { back < 2 ^ 16 }
     ensures { IfOk result (
@@ -82,7 +82,7 @@ pub fn put_passing_count(
     back: u32,
 ) -> Result<Bus, Memory>
     requires input { HasInput net.old input }
-    requires filter { FilterFits input.source.kinds.now (Some column) }
+    requires filter { ConditionFits input.source.kinds.now (Some column) }
     requires back { back < 2 ^ 16 }
     ensures { IfOk result (IsItemIn net.old net.new (cost_of_passing_count back) 3 32
         (λ rows. count_of (frame_of (Some back) (counts_in (Some column)) rows)) input.entry) }

@@ -10,7 +10,7 @@ ghost use Rattle.gl_values.specs.Kinds.{IsKind, width_of};
 ghost use Rattle.gl_frames.specs.Frames.{last_value_of, total_over};
 ghost use Rattle.gl_totals.specs.Totals.{extreme_of};
 ghost use Rattle.gl_frames_stages.specs.Framing.{cost_of_last, cost_of_recent, value_in};
-ghost use Rattle.gl_frames_stages.specs.Inputs.{FilterFits, HasInput, IsItemIn};
+ghost use Rattle.gl_frames_stages.specs.Inputs.{HasInput, IsItemIn};
 ghost use Rattle.gl_frames_stages.specs.ItemCosts.{cost_of_all, cost_of_extreme_by, cost_of_item, cost_of_last_rows};
 
 use crate::average::put_average_item;
@@ -36,7 +36,7 @@ fn put_all_last(
     operand: Operand,
 ) -> Result<Bus, Memory>
     requires input { HasInput net.old input }
-    requires filter { FilterFits input.source.kinds.now filter }
+    requires filter { ConditionFits input.source.kinds.now filter }
     requires fits { OperandFits input.source.kinds.now operand }
     ensures { IfOk result (
         let width = width_of (kind_of_operand input.entry.source.kinds.now operand) in
@@ -58,7 +58,7 @@ fn put_last_of(
     back: u32,
 ) -> Result<Bus, Memory>
     requires input { HasInput net.old input }
-    requires filter { FilterFits input.source.kinds.now filter }
+    requires filter { ConditionFits input.source.kinds.now filter }
     requires fits { OperandFits input.source.kinds.now operand }
     requires back { back < 2 ^ 16 }
     ensures { IfOk result (
@@ -80,7 +80,7 @@ fn put_count_of(
     back: u32,
 ) -> Result<Bus, Memory>
     requires input { HasInput net.old input }
-    requires filter { FilterFits input.source.kinds.now filter }
+    requires filter { ConditionFits input.source.kinds.now filter }
     requires back { back < 2 ^ 16 }
     ensures { IfOk result (
         let kinds = input.entry.source.kinds.now in
@@ -105,7 +105,7 @@ fn put_extreme_of(
 ) -> Result<Bus, Memory>
     requires input { HasInput net.old input }
     requires kinds { All IsKind input.source.kinds.now }
-    requires filter { FilterFits input.source.kinds.now filter }
+    requires filter { ConditionFits input.source.kinds.now filter }
     requires fits { OperandFits input.source.kinds.now operand }
     requires back { back < 2 ^ 16 }
     ensures { IfOk result (
@@ -129,7 +129,7 @@ fn put_over_all(
 ) -> Result<Bus, Memory>
     requires input { HasInput net.old input }
     requires kinds { All IsKind input.source.kinds.now }
-    requires filter { FilterFits input.source.kinds.now filter }
+    requires filter { ConditionFits input.source.kinds.now filter }
     requires agg { FrameAggFits input.source.kinds.now agg }
     ensures { IfOk result (
         let kinds = input.entry.source.kinds.now in
@@ -162,7 +162,7 @@ fn put_over_last(
 ) -> Result<Bus, Memory>
     requires input { HasInput net.old input }
     requires kinds { All IsKind input.source.kinds.now }
-    requires filter { FilterFits input.source.kinds.now filter }
+    requires filter { ConditionFits input.source.kinds.now filter }
     requires agg { FrameAggFits input.source.kinds.now agg }
     requires back { back < 2 ^ 16 }
     ensures { IfOk result (let kinds = input.entry.source.kinds.now in

@@ -2,12 +2,12 @@
 
 ghost use Rattle.std.specs.Prelude.{◌≡◌, ◌<◌, ◌^◌, IfOk, Some};
 ghost use Rattle.gl_algebra.specs.Results.{counts_in};
-ghost use Rattle.gl_algebra.specs.Columns.{OperandFits, kind_of_operand};
+ghost use Rattle.gl_algebra.specs.Columns.{ConditionFits, OperandFits, kind_of_operand};
 ghost use Rattle.gl_net.specs.Net.{IsBit, IsBus};
 ghost use Rattle.gl_values.specs.Kinds.{width_of};
 ghost use Rattle.gl_frames.specs.Frames.{last_value_of};
 ghost use Rattle.gl_frames_stages.specs.Framing.{cost_of_recent, value_in};
-ghost use Rattle.gl_frames_stages.specs.Inputs.{FilterFits, HasInput, IsItemIn};
+ghost use Rattle.gl_frames_stages.specs.Inputs.{HasInput, IsItemIn};
 ghost use Rattle.gl_frames_stages.specs.RecentNets.{IsAgeIn, IsRecentIn, IsYoungIn};
 
 use crate::input::Input;
@@ -92,7 +92,7 @@ pub fn put_recent_item(
     back: u32,
 ) -> Result<Bus, Memory>
     requires input { HasInput net.old input }
-    requires filter { FilterFits input.source.kinds.now (Some column) }
+    requires filter { ConditionFits input.source.kinds.now (Some column) }
     requires fits { OperandFits input.source.kinds.now operand }
     requires back { back < 2 ^ 16 }
     ensures { IfOk result (

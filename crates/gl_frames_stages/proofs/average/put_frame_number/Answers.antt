@@ -1,6 +1,7 @@
 use Rattle.std.proofs.Common.{ℕ, Option, Some, arith, refl, sym, subst, ◌∙◌}
 use Rattle.std.specs.Prelude.{IfOk}
 use Rattle.std.proofs.lemmas.Result.{IfOk-weaker}
+use Rattle.gl_algebra.specs.Columns.{ConditionFits}
 use Rattle.gl_algebra.specs.Results.{counts_in}
 use Rattle.gl_values.specs.Totals.{count_of}
 use Rattle.gl_frames.specs.Frames.{frame_of}
@@ -8,13 +9,13 @@ use Rattle.gl_net.proofs.Determined.{keeps_then}
 use Rattle.gl_frames_stages.specs.Average.{cost_of_frame_number}
 use Rattle.gl_frames_stages.specs.Columns.{carried_by}
 use Rattle.gl_frames_stages.specs.Framing.{cost_of_passing_count, every}
-use Rattle.gl_frames_stages.specs.Inputs.{FilterFits, IsItemIn, rows_by}
+use Rattle.gl_frames_stages.specs.Inputs.{IsItemIn, rows_by}
 use Rattle.gl_frames_stages.proofs.MeetLemmas.{tells_behind}
 use Rattle.gl_frames_stages.proofs.WholeNet.{item_as}
 use Rattle.gl_frames_stages.proofs.average.put_frame_number.Goals as goal
 
 pub put_passing_count-requires-clause-filter : goal.put_passing_count-requires-clause-filter
-put_passing_count-requires-clause-filter c = subst (FilterFits c.args.input.source.kinds.now) c.in-Some.is c.requires.filter
+put_passing_count-requires-clause-filter c = subst (ConditionFits c.args.input.source.kinds.now) c.in-Some.is c.requires.filter
 
 pub returns-in-Some : goal.returns-in-Some
 returns-in-Some c =

@@ -12,7 +12,7 @@ use Rattle.gl_wire.proofs.ColumnLemmas.{bus_kept}
 use Rattle.gl_frames_stages.specs.Framing.{value_in}
 use Rattle.gl_frames_stages.specs.Inputs.{rows_by}
 use Rattle.gl_frames_stages.proofs.FilteredNet.{packed_word}
-use Rattle.gl_frames_stages.proofs.InputNet.{input_kept}
+use Rattle.gl_frames_stages.proofs.InputNet.{column_kind, column_there, input_kept}
 use Rattle.gl_frames_stages.proofs.filtered.put_packed.Goals as goal
 
 pub put_operand-requires-clause-source : goal.put_operand-requires-clause-source
@@ -26,14 +26,14 @@ put_operand-requires-2-clause-source c =
     (input_kept _ _ c.args.input (keeps_then _ c.put_operand.new.net _ c.in_ok-value.ensures.keeps c.in_ok-masked.ensures.keeps) c.requires.input).source
 
 pub put_operand-requires-2-clause-fits : goal.put_operand-requires-2-clause-fits
-put_operand-requires-2-clause-fits c = c.requires.filter.0
+put_operand-requires-2-clause-fits c = column_there c.args.input.source.kinds.now c.args.column c.requires.filter
 
 pub join-requires-clause-low : goal.join-requires-clause-low
 join-requires-clause-low c = bus_kept _ _ c.in_ok-masked.masked c.in_ok-passes.ensures.keeps c.in_ok-masked.ensures.bus
 
 pub join-requires-clause-widths : goal.join-requires-clause-widths
 join-requires-clause-widths c =
-    let a = c.in_ok-passes.ensures.same_width ∙ ap width_of c.requires.filter.1 in
+    let a = c.in_ok-passes.ensures.same_width ∙ ap width_of (column_kind c.args.input.source.kinds.now c.args.column c.requires.filter) in
     let b = c.in_ok-masked.ensures.same_width ∙ c.in_ok-value.ensures.same_width in
     let most = (operand_kind c.args.input.source.kinds.now c.args.operand c.requires.kinds c.requires.fits).1 in
     omega (arith, a, b, most)
@@ -50,7 +50,7 @@ returns c =
     let x = c.in_ok-value.value in
     let m = c.in_ok-masked.masked in
     let b = c.in_ok-passes.passes in
-    let one : b.width ≡ 1 = passes.same_width ∙ ap width_of c.requires.filter.1 in
+    let one : b.width ≡ 1 = passes.same_width ∙ ap width_of (column_kind c.args.input.source.kinds.now c.args.column c.requires.filter) in
     let wide : m.width ≡ w = masked.same_width ∙ value.same_width in
     record {
       keeps = keeps_then _ c.put_operand.new.net _ value.keeps (keeps_then _ c.put_masked.new.net _ masked.keeps (keeps_then _ c.put_operand-2.new.net _ passes.keeps packed.keeps));

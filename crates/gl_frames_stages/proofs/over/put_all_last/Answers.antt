@@ -2,16 +2,16 @@ use Rattle.std.proofs.Common.{ℕ, Option, None, arith, refl, sym, subst}
 use Rattle.std.specs.Prelude.{IfOk}
 use Rattle.std.proofs.lemmas.Result.{IfOk-weaker}
 use Rattle.gl_algebra.specs.Results.{counts_in}
-use Rattle.gl_algebra.specs.Columns.{kind_of_operand}
+use Rattle.gl_algebra.specs.Columns.{ConditionFits, kind_of_operand}
 use Rattle.gl_values.specs.Kinds.{width_of}
 use Rattle.gl_frames.specs.Frames.{last_value_of}
 use Rattle.gl_frames_stages.specs.Framing.{cost_of_last, cost_of_own, every, value_in}
-use Rattle.gl_frames_stages.specs.Inputs.{FilterFits, IsItemIn}
+use Rattle.gl_frames_stages.specs.Inputs.{IsItemIn}
 use Rattle.gl_frames_stages.proofs.WholeNet.{item_as}
 use Rattle.gl_frames_stages.proofs.over.put_all_last.Goals as goal
 
 pub put_last_item-requires-clause-filter : goal.put_last_item-requires-clause-filter
-put_last_item-requires-clause-filter c = subst (FilterFits c.args.input.source.kinds.now) c.in-Some.is c.requires.filter
+put_last_item-requires-clause-filter c = subst (ConditionFits c.args.input.source.kinds.now) c.in-Some.is c.requires.filter
 
 pub returns-in-Some : goal.returns-in-Some
 returns-in-Some c =

@@ -1,15 +1,16 @@
 use Rattle.std.proofs.Common.{ℕ, Option, Some, sym, subst}
 use Rattle.std.specs.Prelude.{IfOk}
+use Rattle.gl_algebra.specs.Columns.{ConditionFits}
 use Rattle.gl_algebra.specs.Frames.{delay_of_count}
 use Rattle.gl_algebra.specs.Results.{counts_in}
 use Rattle.gl_values.specs.Totals.{count_of}
 use Rattle.gl_frames.specs.Frames.{frame_of}
-use Rattle.gl_frames_stages.specs.Inputs.{FilterFits, IsItemIn}
+use Rattle.gl_frames_stages.specs.Inputs.{IsItemIn}
 use Rattle.gl_frames_stages.specs.ItemCosts.{cost_of_count_by}
 use Rattle.gl_frames_stages.proofs.over.put_count_of.Goals as goal
 
 pub put_passing_count-requires-clause-filter : goal.put_passing_count-requires-clause-filter
-put_passing_count-requires-clause-filter c = subst (FilterFits c.args.input.source.kinds.now) c.in-Some.is c.requires.filter
+put_passing_count-requires-clause-filter c = subst (ConditionFits c.args.input.source.kinds.now) c.in-Some.is c.requires.filter
 
 pub returns-in-Some : goal.returns-in-Some
 returns-in-Some c =

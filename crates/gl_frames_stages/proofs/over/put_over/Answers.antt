@@ -6,17 +6,10 @@ use Rattle.gl_algebra.specs.Results.{value_over}
 use Rattle.gl_values.specs.Kinds.{width_of}
 use Rattle.gl_frames_stages.specs.Inputs.{IsItemIn}
 use Rattle.gl_frames_stages.specs.ItemCosts.{cost_of_frame}
-use Rattle.gl_frames_stages.proofs.InputNet.{condition_fits}
 use Rattle.gl_frames_stages.proofs.over.put_over.Goals as goal
-
-pub put_over_last-requires-clause-filter : goal.put_over_last-requires-clause-filter
-put_over_last-requires-clause-filter c = condition_fits c.args.input.source.kinds.now c.args.filter c.requires.filter
 
 pub put_over_last-requires-clause-back : goal.put_over_last-requires-clause-back
 put_over_last-requires-clause-back c = let lt = subst BackFits c.in-Some.is c.requires.back in omega (arith, lt)
-
-pub put_over_all-requires-clause-filter : goal.put_over_all-requires-clause-filter
-put_over_all-requires-clause-filter c = condition_fits c.args.input.source.kinds.now c.args.filter c.requires.filter
 
 pub returns-in-Some : goal.returns-in-Some
 returns-in-Some c =
