@@ -1,11 +1,15 @@
 -- Columns that are made of the rows, and the rows that pass.
-use Rattle.std.proofs.Common.{◌≡◌, ℕ, zero, suc, List, [], ◌∷◌, ◌++◌, map, Bool, true, false, refl, sym, ap, ◌∙◌}
+use Rattle.std.proofs.Common.{◌≡◌, ℕ, zero, suc, ◌<◌, Some, List, length, [], ◌∷◌, ◌++◌, map, Bool, true, false, refl, sym, ap, ◌∙◌}
 use Rattle.std.specs.Prelude.{◌&&◌, filter, if◌then◌else◌, nat_eq}
 use Rattle.std.proofs.lemmas.List.{map-append}
 use Rattle.std.proofs.lemmas.List.Elements.{filter-append}
+use Rattle.std.proofs.lemmas.Option.{get_or_from_slice_get}
+use Rattle.gl_algebra.specs.Columns.{ConditionFits, bit_kind, kind_of_column}
+use Rattle.gl_bits.proofs.AllLists.{get_below}
 use Rattle.gl_net.specs.declared.node.Bit.{Bit}
 use Rattle.gl_net.specs.Net.{Net, Run, Keeps}
 use Rattle.gl_rows.proofs.MadeLemmas.{source_kept}
+use Rattle.gl_values.specs.declared.kind.Kind.{Kind}
 use Rattle.gl_wire.specs.Wire.{line_at}
 use Rattle.gl_wire.proofs.ColumnLemmas.{bit_kept}
 use Rattle.gl_wire.proofs.StageLemmas.{line_first}
@@ -17,6 +21,14 @@ use Rattle.gl_frames_stages.specs.Inputs.{HasInput}
 use Rattle.gl_frames_stages.specs.declared.input.Input.{Input}
 use Rattle.gl_frames_stages.specs.declared.lines.Lines.{Lines}
 use Rattle.gl_frames_stages.proofs.TotalNet.{lane_rows}
+
+-- ---- the column that is asked for
+
+pub column_there : (kinds : List Kind) (column : ℕ) → ConditionFits kinds (Some column) → column < length kinds
+column_there kinds column fits = get_below kinds column bit_kind fits
+
+pub column_kind : (kinds : List Kind) (column : ℕ) → ConditionFits kinds (Some column) → kind_of_column kinds column ≡ bit_kind
+column_kind kinds column fits = get_or_from_slice_get kinds column bit_kind bit_kind fits
 
 -- ---- what is made of each row
 

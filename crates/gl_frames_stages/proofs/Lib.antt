@@ -18,6 +18,8 @@ pub mod RecentNet
 pub mod PackLemmas
 pub mod FilteredNet
 pub mod CycleLemmas
+pub mod LevelCosts
+pub mod CountLemmas
 pub mod FramesNet
 pub mod RangeLemmas
 pub mod MeanLemmas

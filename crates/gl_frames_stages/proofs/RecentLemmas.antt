@@ -1,6 +1,6 @@
 -- The last value that passes of the last rows, by its age.
-use Rattle.std.proofs.Common.{◌≡◌, ℕ, zero, suc, ◌+◌, ◌-◌, List, [], ◌∷◌, ◌++◌, Some, None, Bool, true, false, length, refl, sym, ap, ◌∙◌, arith, append-nil, inl, inr}
-use Rattle.std.specs.Prelude.{filter, fold, if◌then◌else◌, nat_le}
+use Rattle.std.proofs.Common.{◌≡◌, ℕ, zero, suc, ◌-◌, List, [], ◌∷◌, ◌++◌, Some, None, Bool, true, false, length, refl, sym, ap, ◌∙◌, arith, append-nil, inl, inr}
+use Rattle.std.specs.Prelude.{filter, if◌then◌else◌, nat_le}
 use Rattle.std.proofs.lemmas.Bool.{cases_lt, le-leb, lt-leb}
 use Rattle.std.proofs.lemmas.List.{drop_all}
 use Rattle.std.proofs.lemmas.List.Elements.{filter-append}

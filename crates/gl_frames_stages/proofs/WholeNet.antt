@@ -2,6 +2,7 @@
 use Rattle.std.proofs.Common.{◌≡◌, ℕ, suc, ◌+◌, ◌%◌, ◌^◌, ◌≤◌, List, length, Option, Bool, refl, sym, ap, ◌∙◌, arith}
 use Rattle.std.specs.Prelude.{◌&&◌, filter}
 use Rattle.std.proofs.lemmas.List.{length-map}
+use Rattle.gl_algebra.specs.Results.{counts_in}
 use Rattle.gl_algebra.specs.declared.node.Operand.{Operand}
 use Rattle.gl_algebra.specs.Values.{value_of_operand}
 use Rattle.gl_values.specs.Results.{Row}
@@ -20,7 +21,7 @@ use Rattle.gl_totals.specs.Open.{in_register}
 use Rattle.gl_totals.specs.Totals.{IsTotalOf}
 use Rattle.gl_totals.specs.declared.rows.Keep.TheVariants.{Register}
 use Rattle.gl_frames_stages.specs.Columns.{carried_by, column_of}
-use Rattle.gl_frames_stages.specs.Inputs.{IsItemIn, IsPassingIn, passes_by, rows_by}
+use Rattle.gl_frames_stages.specs.Inputs.{IsItemIn, IsPassingIn, rows_by}
 use Rattle.gl_frames_stages.specs.Wholes.{cost_of_all_count, passed, with_register}
 use Rattle.gl_frames_stages.specs.declared.input.Input.{Input}
 use Rattle.gl_frames_stages.specs.declared.lines.Lines.{Lines}
@@ -67,7 +68,7 @@ whole_item old one two three new input by operand lines x y out most width d tot
       tells_next run input.lines d (λ rows. total (passed by operand rows)) (rows_by run input) (carried_by run y) (carried_by run out) (late.value run r)
       (λ c v.
       total_here run lines x y d total (sum.carries run at_sum) c
-      ∙ ap total (passed_rows run input.lines lines (passes_by by) (λ row. value_of_operand row operand) (rows_by run input) (carried_by run x) passing.same_ends
+      ∙ ap total (passed_rows run input.lines lines (counts_in by) (λ row. value_of_operand row operand) (rows_by run input) (carried_by run x) passing.same_ends
       (passing.passing run at_passing) (λ t. value.carries run at_value (suc t)) (suc c)));
 }
 
@@ -88,7 +89,7 @@ module _ (run : Run) (lines passing : Lines) (p : Row → Bool) (row : ℕ → R
 
 pub count_item : (old one two new : Net) (input : Input) (by : Option ℕ) (lines : Lines) (y out : Bus) → IsPassingIn old one input by lines
     → ((x : Bus) → IsTotalOf one two (cost_of_count Register) 32 0 (in_register lines.valid lines.eos) x count_of y) → IsLaterBus two new y out
-    → IsItemIn old new cost_of_all_count 1 32 (λ rows. count_of (filter (passes_by by) rows)) input out
+    → IsItemIn old new cost_of_all_count 1 32 (λ rows. count_of (filter (counts_in by) rows)) input out
 count_item old one two new input by lines y out passing every late =
     let x : Bus = record { node = lines.eos.node; width = 1 } in
     let sum = every x in
@@ -104,8 +105,8 @@ count_item old one two new input by lines y out passing every late =
       tells = λ run r.
           let at_sum = late.keeps.runs run r in
           let at_passing = sum.keeps.runs run at_sum in
-          tells_next run input.lines 0 (λ rows. count_of (filter (passes_by by) rows)) (rows_by run input) (carried_by run y) (carried_by run out) (late.value run r)
+          tells_next run input.lines 0 (λ rows. count_of (filter (counts_in by) rows)) (rows_by run input) (carried_by run y) (carried_by run out) (late.value run r)
           (λ c v.
           total_here run lines x y 0 count_of (sum.carries run at_sum) c
-          ∙ passed_count run input.lines lines (passes_by by) (rows_by run input) (carried_by run x) passing.same_ends (passing.passing run at_passing) (suc c));
+          ∙ passed_count run input.lines lines (counts_in by) (rows_by run input) (carried_by run x) passing.same_ends (passing.passing run at_passing) (suc c));
     }

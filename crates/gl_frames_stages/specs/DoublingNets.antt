@@ -1,6 +1,7 @@
 -- Doubling in a netlist: from the best of one row that of all rows of a frame.
-use Rattle.std.specs.Prelude.{◌≡◌, ℕ, zero, suc, ◌+◌, ◌-◌, ◌*◌, ◌^◌, ◌≤◌, min, nat_le, if◌then◌else◌}
-use Rattle.gl_algebra.specs.Cost.{least_exponent}
+use Rattle.std.specs.Prelude.{◌≡◌, ℕ, zero, suc, ◌+◌, ◌-◌, ◌*◌, ◌^◌, ◌≤◌, Some, min, nat_le, if◌then◌else◌}
+use Rattle.gl_algebra.specs.Frames.{delay_of_extreme}
+use Rattle.gl_algebra.specs.Rings.{digits}
 use Rattle.gl_net.specs.declared.node.Bus.{Bus}
 use Rattle.gl_net.specs.Net.{Net, Run, IsRun, IsBus, Keeps}
 use Rattle.gl_frames_wire.specs.Reaches.{place_bits}
@@ -31,7 +32,7 @@ doublings (suc more) rows all = if nat_le all rows then 0 else suc (doublings mo
 
 -- one row is doubled as often as the number of rows before the last one has bits
 abbrev pub DoublingsAreBits : Type 0
-DoublingsAreBits = (back : ℕ) → doublings back 1 (back + 1) ≡ least_exponent back 0 (back + 1)
+DoublingsAreBits = (back : ℕ) → doublings back 1 (back + 1) ≡ digits back
 
 -- what a level costs, with the gates that tell which word is kept, and the lines behind it
 abbrev pub with_level : ℕ → ℕ → ℕ → Cost → Cost
@@ -61,10 +62,6 @@ pub record IsDoubledIn (old new : Net) (lines : Lines) (more : ℕ) (windows : W
       → Tells run lines (2 * doublings more windows.rows windows.all) (best_in (better_in order) windows.all) row
       (carried_by run out)
 
--- the cycles that the extreme of a frame takes
-abbrev pub delay_of_extreme : ℕ → ℕ
-delay_of_extreme back = 2 * doublings back 1 (back + 1) + 1
-
 -- in every run, from any contents, with each row the best word of its frame, so many cycles later
 pub record IsFrameBestIn (old new : Net) (lines : Lines) (back : ℕ) (order : Order) (value out : Bus) : Type 0 where
   pub keeps : Keeps old new
@@ -76,5 +73,5 @@ pub record IsFrameBestIn (old new : Net) (lines : Lines) (back : ℕ) (order : O
   pub bus : IsBus new out
   pub same_width : out.width ≡ value.width
   pub tells : (run : Run) → IsRun new run
-      → Tells run lines (delay_of_extreme back) (best_in (better_in order) (suc back)) (carried_by run value)
+      → Tells run lines (delay_of_extreme (Some back)) (best_in (better_in order) (suc back)) (carried_by run value)
       (carried_by run out)

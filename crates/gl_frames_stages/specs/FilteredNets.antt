@@ -1,5 +1,6 @@
 -- Extremes of the rows that pass, in a netlist.
 use Rattle.std.specs.Prelude.{◌≡◌, ℕ, suc, ◌+◌, ◌%◌, ◌^◌, Option, Some, None, Bool, if◌then◌else◌}
+use Rattle.gl_algebra.specs.Results.{counts_in}
 use Rattle.gl_algebra.specs.Columns.{kind_of_operand}
 use Rattle.gl_algebra.specs.declared.node.Operand.{Operand}
 use Rattle.gl_values.specs.Kinds.{width_of}
@@ -8,7 +9,7 @@ use Rattle.gl_net.specs.Net.{Net, Run, IsRun, IsBus, Keeps}
 use Rattle.gl_wire.specs.Costs.{Cost, CostsAtMost, nodes_alone}
 use Rattle.gl_frames_stages.specs.DoublingNets.{cost_of_doublings}
 use Rattle.gl_frames_stages.specs.Framing.{value_in}
-use Rattle.gl_frames_stages.specs.Inputs.{passes_by, rows_by}
+use Rattle.gl_frames_stages.specs.Inputs.{rows_by}
 use Rattle.gl_frames_stages.specs.declared.input.Input.{Input}
 
 -- a word with a bit above its value, which is 1 where there is a value
@@ -31,7 +32,7 @@ pub record IsPackedIn (old new : Net) (input : Input) (column : ℕ) (operand : 
       ≡ value_in operand (rows_by run input (suc t)) % 2 ^ width_of (kind_of_operand input.source.kinds.now operand)
   pub packs : (run : Run) → IsRun new run → (t : ℕ) → run.at (suc t) out.node
       ≡ pack (width_of (kind_of_operand input.source.kinds.now operand))
-      (if_passes (width_of (kind_of_operand input.source.kinds.now operand)) (passes_by (Some column)) (value_in operand)
+      (if_passes (width_of (kind_of_operand input.source.kinds.now operand)) (counts_in (Some column)) (value_in operand)
       (rows_by run input (suc t)))
 
 -- such words, all levels of doubling of them, and a cut

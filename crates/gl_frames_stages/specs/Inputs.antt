@@ -1,8 +1,7 @@
 -- Rows that come to frames, in a netlist, and what an item makes of them.
-use Rattle.std.specs.Prelude.{◌≡◌, ℕ, suc, ◌<◌, Option, Some, None, Bool, true, List, length, ◌&&◌, ⊤, nat_eq, slice_index, if◌then◌else◌}
-use Rattle.gl_algebra.specs.Columns.{bit_kind, kind_of_column}
+use Rattle.std.specs.Prelude.{◌≡◌, ℕ, suc, Option, List, ◌&&◌, if◌then◌else◌}
+use Rattle.gl_algebra.specs.Results.{counts_in}
 use Rattle.gl_values.specs.Results.{Row}
-use Rattle.gl_values.specs.declared.kind.Kind.{Kind}
 use Rattle.gl_net.specs.declared.node.Bus.{Bus}
 use Rattle.gl_net.specs.Net.{Net, Run, IsRun, IsBit, IsBus, Keeps}
 use Rattle.gl_rows.specs.Made.{IsSource}
@@ -11,16 +10,6 @@ use Rattle.gl_wire.specs.Wire.{line_at, row_at}
 use Rattle.gl_frames_stages.specs.Columns.{Tells, carried_by}
 use Rattle.gl_frames_stages.specs.declared.input.Input.{Input}
 use Rattle.gl_frames_stages.specs.declared.lines.Lines.{Lines}
-
--- whether a row passes: its column is 1, or nothing is asked
-abbrev pub passes_by : Option ℕ → Row → Bool
-passes_by None row = true
-passes_by (Some column) row = nat_eq (slice_index row column) 1
-
--- the column that is asked for is there, and has one bit
-abbrev pub FilterFits : List Kind → Option ℕ → Type 0
-FilterFits kinds None = ⊤
-FilterFits kinds (Some column) = (column < length kinds) × (kind_of_column kinds column ≡ bit_kind)
 
 -- the lines and the columns are in the netlist
 pub record HasInput (net : Net) (input : Input) : Type 0 where
@@ -40,7 +29,7 @@ pub record IsPassingIn (old new : Net) (input : Input) (filter : Option ℕ) (ou
   pub end_line : IsBit new out.eos
   pub same_ends : out.eos ≡ input.lines.eos
   pub passing : (run : Run) → IsRun new run → (t : ℕ) → line_at run out.valid (suc t)
-      ≡ (line_at run input.lines.valid (suc t) && passes_by filter (rows_by run input (suc t)))
+      ≡ (line_at run input.lines.valid (suc t) && counts_in filter (rows_by run input (suc t)))
 
 -- a value where the row passes, and else 0
 pub record IsMaskedIn (old new : Net) (input : Input) (filter : Option ℕ) (value out : Bus) : Type 0 where
@@ -49,7 +38,7 @@ pub record IsMaskedIn (old new : Net) (input : Input) (filter : Option ℕ) (val
   pub bus : IsBus new out
   pub same_width : out.width ≡ value.width
   pub masks : (run : Run) → IsRun new run → (t : ℕ) → run.at (suc t) out.node
-      ≡ (if passes_by filter (rows_by run input (suc t)) then run.at (suc t) value.node else 0)
+      ≡ (if counts_in filter (rows_by run input (suc t)) then run.at (suc t) value.node else 0)
 
 -- a bus that tells, so many cycles behind each row, what an item makes of the rows of the stream up to it
 pub record IsItemIn (old new : Net) (most : Cost) (cycles width : ℕ) (of : List Row → ℕ) (input : Input) (out : Bus)

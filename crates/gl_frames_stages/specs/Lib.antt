@@ -13,7 +13,7 @@ pub mod NumberNets
 pub mod LastNets
 pub mod RecentNets
 pub mod Average
-pub mod Items
 pub mod FilteredNets
 pub mod ItemCosts
+pub mod Counted
 pub mod FramesNets

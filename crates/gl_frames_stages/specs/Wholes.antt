@@ -1,20 +1,20 @@
 -- Frames of all rows up to each: what they take, and what they cost at most.
 use Rattle.std.specs.Prelude.{ℕ, ◌+◌, ◌*◌, Option, List, filter, map}
+use Rattle.gl_algebra.specs.Results.{counts_in}
 use Rattle.gl_algebra.specs.declared.node.Operand.{Operand}
 use Rattle.gl_algebra.specs.Values.{value_of_operand}
 use Rattle.gl_values.specs.Results.{Row}
 use Rattle.gl_totals.specs.Costs.{cost_of_average}
 use Rattle.gl_totals.specs.declared.rows.Keep.TheVariants.{Register}
 use Rattle.gl_wire.specs.Costs.{Cost}
-use Rattle.gl_frames_stages.specs.Inputs.{passes_by}
 
 -- the rows that pass
 abbrev pub rows_passed : Option ℕ → List Row → List Row
-rows_passed by rows = filter (passes_by by) rows
+rows_passed by rows = filter (counts_in by) rows
 
 -- the values of an operand of the rows that pass
 abbrev pub passed : Option ℕ → Operand → List Row → List ℕ
-passed by operand rows = map (λ row. value_of_operand row operand) (filter (passes_by by) rows)
+passed by operand rows = map (λ row. value_of_operand row operand) (filter (counts_in by) rows)
 
 -- two gates before a total, an operand, and a register behind it
 abbrev pub with_register : Cost → ℕ → Cost

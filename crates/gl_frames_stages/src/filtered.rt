@@ -2,14 +2,15 @@
 //! word tells whether there is one.
 
 ghost use Rattle.std.specs.Prelude.{◌<◌, ◌^◌, All, IfOk, Some};
-ghost use Rattle.gl_algebra.specs.Columns.{OperandFits, kind_of_operand};
+ghost use Rattle.gl_algebra.specs.Frames.{delay_of_extreme};
+ghost use Rattle.gl_algebra.specs.Results.{counts_in};
+ghost use Rattle.gl_algebra.specs.Columns.{ConditionFits, OperandFits, kind_of_operand};
 ghost use Rattle.gl_values.specs.Kinds.{IsKind, width_of};
 ghost use Rattle.gl_frames.specs.Frames.{total_over};
 ghost use Rattle.gl_totals.specs.Totals.{extreme_of};
-ghost use Rattle.gl_frames_stages.specs.DoublingNets.{delay_of_extreme};
 ghost use Rattle.gl_frames_stages.specs.FilteredNets.{IsPackedIn, cost_of_filtered_extreme};
 ghost use Rattle.gl_frames_stages.specs.Framing.{value_in};
-ghost use Rattle.gl_frames_stages.specs.Inputs.{FilterFits, HasInput, IsItemIn, passes_by};
+ghost use Rattle.gl_frames_stages.specs.Inputs.{HasInput, IsItemIn};
 
 use crate::doubling::put_frame_best;
 use crate::input::{Input, put_masked};
@@ -31,7 +32,7 @@ fn put_packed(
 ) -> Result<Bus, Memory>
     requires input { HasInput net.old input }
     requires kinds { All IsKind input.source.kinds.now }
-    requires filter { FilterFits input.source.kinds.now (Some column) }
+    requires filter { ConditionFits input.source.kinds.now (Some column) }
     requires fits { OperandFits input.source.kinds.now operand }
     ensures { IfOk result (IsPackedIn net.old net.new input.entry column operand) }
 {
@@ -53,14 +54,14 @@ pub fn put_filtered_item(
 ) -> Result<Bus, Memory>
     requires input { HasInput net.old input }
     requires kinds { All IsKind input.source.kinds.now }
-    requires filter { FilterFits input.source.kinds.now (Some column) }
+    requires filter { ConditionFits input.source.kinds.now (Some column) }
     requires fits { OperandFits input.source.kinds.now operand }
     requires back { back < 2 ^ 16 }
     ensures { IfOk result (
         let kind = kind_of_operand input.entry.source.kinds.now operand in
-        IsItemIn net.old net.new (cost_of_filtered_extreme (width_of kind) back) (delay_of_extreme back)
+        IsItemIn net.old net.new (cost_of_filtered_extreme (width_of kind) back) (delay_of_extreme (Some back))
         (width_of kind)
-        (total_over (extreme_of extreme kind) (value_in operand) (Some back) (passes_by (Some column)))
+        (total_over (extreme_of extreme kind) (value_in operand) (Some back) (counts_in (Some column)))
         input.entry) }
 {
     let kind = kind_of_operand(input.source.kinds, &operand);

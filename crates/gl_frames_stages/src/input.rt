@@ -1,8 +1,9 @@
 //! The rows that come to frames: their lines, their columns, and which of them a FILTER lets pass.
 
 ghost use Rattle.std.specs.Prelude.{IfOk, Some};
+ghost use Rattle.gl_algebra.specs.Columns.{ConditionFits};
 ghost use Rattle.gl_net.specs.Net.{IsBus};
-ghost use Rattle.gl_frames_stages.specs.Inputs.{FilterFits, HasInput, IsMaskedIn, IsPassingIn};
+ghost use Rattle.gl_frames_stages.specs.Inputs.{HasInput, IsMaskedIn, IsPassingIn};
 
 use crate::lines::Lines;
 use gl_algebra::Operand;
@@ -25,7 +26,7 @@ pub struct Input<'a> {
 // The lines of the rows whose column is 1.
 fn put_passing_by(net: &mut NetBuilder, input: Input, column: u16) -> Result<Lines, Memory>
     requires input { HasInput net.old input }
-    requires filter { FilterFits input.source.kinds.now (Some column) }
+    requires filter { ConditionFits input.source.kinds.now (Some column) }
     ensures { IfOk result (IsPassingIn net.old net.new input.entry (Some column)) }
 {
     let passes = put_operand(net, input.source, Operand::Column(column))?;
@@ -39,7 +40,7 @@ fn put_passing_by(net: &mut NetBuilder, input: Input, column: u16) -> Result<Lin
 /// The lines of the rows that pass: those whose column is 1, or all.
 pub fn put_passing(net: &mut NetBuilder, input: Input, filter: Option<u16>) -> Result<Lines, Memory>
     requires input { HasInput net.old input }
-    requires filter { FilterFits input.source.kinds.now filter }
+    requires filter { ConditionFits input.source.kinds.now filter }
     ensures { IfOk result (IsPassingIn net.old net.new input.entry filter) }
 {
     match filter {
@@ -51,7 +52,7 @@ pub fn put_passing(net: &mut NetBuilder, input: Input, filter: Option<u16>) -> R
 // A value where the column of the row is 1, and else 0.
 fn put_masked_by(net: &mut NetBuilder, input: Input, column: u16, value: Bus) -> Result<Bus, Memory>
     requires input { HasInput net.old input }
-    requires filter { FilterFits input.source.kinds.now (Some column) }
+    requires filter { ConditionFits input.source.kinds.now (Some column) }
     requires value { IsBus net.old value }
     ensures { IfOk result (IsMaskedIn net.old net.new input.entry (Some column) value) }
 {
@@ -69,7 +70,7 @@ pub fn put_masked(
     value: Bus,
 ) -> Result<Bus, Memory>
     requires input { HasInput net.old input }
-    requires filter { FilterFits input.source.kinds.now filter }
+    requires filter { ConditionFits input.source.kinds.now filter }
     requires value { IsBus net.old value }
     ensures { IfOk result (IsMaskedIn net.old net.new input.entry filter value) }
 {

@@ -1,12 +1,13 @@
 //! The last value of a frame, one cycle behind each row.
 
 ghost use Rattle.std.specs.Prelude.{IfOk, None, Option, Some, ℕ};
-ghost use Rattle.gl_algebra.specs.Columns.{OperandFits, kind_of_operand};
+ghost use Rattle.gl_algebra.specs.Results.{counts_in};
+ghost use Rattle.gl_algebra.specs.Columns.{ConditionFits, OperandFits, kind_of_operand};
 ghost use Rattle.gl_net.specs.Net.{IsBit, IsBus};
 ghost use Rattle.gl_values.specs.Kinds.{width_of};
 ghost use Rattle.gl_frames.specs.Frames.{last_value_of};
 ghost use Rattle.gl_frames_stages.specs.Framing.{cost_of_last, cost_of_own, every, value_in};
-ghost use Rattle.gl_frames_stages.specs.Inputs.{FilterFits, HasInput, IsItemIn, passes_by};
+ghost use Rattle.gl_frames_stages.specs.Inputs.{HasInput, IsItemIn};
 ghost use Rattle.gl_frames_stages.specs.LastNets.{IsLastIn};
 
 use crate::input::Input;
@@ -64,12 +65,12 @@ pub fn put_last_item(
     operand: Operand,
 ) -> Result<Bus, Memory>
     requires input { HasInput net.old input }
-    requires filter { FilterFits input.source.kinds.now (Some column) }
+    requires filter { ConditionFits input.source.kinds.now (Some column) }
     requires fits { OperandFits input.source.kinds.now operand }
     ensures { IfOk result (
         let width = width_of (kind_of_operand input.entry.source.kinds.now operand) in
         IsItemIn net.old net.new (cost_of_last width) 1 width
-        (last_value_of (value_in operand) None (passes_by (Some column))) input.entry) }
+        (last_value_of (value_in operand) None (counts_in (Some column))) input.entry) }
 {
     let passes = put_operand(net, input.source, Operand::Column(column))?;
     let value = put_operand(net, input.source, operand)?;

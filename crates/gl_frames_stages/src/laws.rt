@@ -1,6 +1,7 @@
 //! Laws of frames in stages, each of which stands in a function's contract.
 
 ghost use Rattle.std.specs.Prelude.{ℕ};
+ghost use Rattle.gl_frames_stages.specs.Counted.{FramesAreCounted};
 ghost use Rattle.gl_frames_stages.specs.DoublingNets.{DoublingsAreBits};
 ghost use Rattle.gl_frames_stages.specs.Laws.{BestsDouble, ChangesSum, StagesMeet};
 
@@ -23,4 +24,9 @@ pub fn bests_double()
 /// One row is doubled as often as the number of rows before the last one has bits.
 pub fn doublings_are_bits()
     ensures { DoublingsAreBits }
+{}
+
+/// What frames cost at most is within what a plan counts for their node.
+pub fn frames_are_counted()
+    ensures { FramesAreCounted }
 {}

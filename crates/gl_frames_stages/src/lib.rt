@@ -13,7 +13,6 @@ pub mod filtered;
 pub mod framed;
 pub mod frames;
 pub mod input;
-pub mod item;
 pub mod lagged;
 pub mod last;
 pub mod laws;
@@ -28,5 +27,4 @@ pub mod whole;
 
 pub use frames::{FrameRows, put_frames};
 pub use input::Input;
-pub use item::{Frame, FrameAgg, FrameItem};
 pub use lines::Lines;

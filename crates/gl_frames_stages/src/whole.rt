@@ -2,11 +2,11 @@
 //! average as late as its division.
 
 ghost use Rattle.std.specs.Prelude.{◌+◌, All, IfOk};
-ghost use Rattle.gl_algebra.specs.Columns.{OperandFits, kind_of_operand};
+ghost use Rattle.gl_algebra.specs.Columns.{ConditionFits, OperandFits, kind_of_operand};
 ghost use Rattle.gl_values.specs.Kinds.{IsKind, width_of};
 ghost use Rattle.gl_values.specs.Totals.{average_of, count_of, sum_total};
 ghost use Rattle.gl_totals.specs.Totals.{extreme_of};
-ghost use Rattle.gl_frames_stages.specs.Inputs.{FilterFits, HasInput, IsItemIn};
+ghost use Rattle.gl_frames_stages.specs.Inputs.{HasInput, IsItemIn};
 ghost use Rattle.gl_frames_stages.specs.Wholes.{cost_of_all_average, cost_of_all_count, cost_of_all_extreme, cost_of_all_sum, passed, rows_passed};
 
 use crate::input::{Input, put_passing};
@@ -25,7 +25,7 @@ use gl_wire::later;
 /// How many rows have passed.
 pub fn put_all_count(net: &mut NetBuilder, input: Input, filter: Option<u16>) -> Result<Bus, Memory>
     requires input { HasInput net.old input }
-    requires filter { FilterFits input.source.kinds.now filter }
+    requires filter { ConditionFits input.source.kinds.now filter }
     ensures { IfOk result (IsItemIn net.old net.new cost_of_all_count 1 32
         (λ rows. count_of (rows_passed filter rows)) input.entry) }
 {
@@ -49,7 +49,7 @@ pub fn put_all_sum(
     operand: Operand,
 ) -> Result<Bus, Memory>
     requires input { HasInput net.old input }
-    requires filter { FilterFits input.source.kinds.now filter }
+    requires filter { ConditionFits input.source.kinds.now filter }
     requires fits { OperandFits input.source.kinds.now operand }
     ensures { IfOk result (
         let width = width_of (kind_of_operand input.entry.source.kinds.now operand) in
@@ -78,7 +78,7 @@ pub fn put_all_extreme(
     operand: Operand,
 ) -> Result<Bus, Memory>
     requires input { HasInput net.old input }
-    requires filter { FilterFits input.source.kinds.now filter }
+    requires filter { ConditionFits input.source.kinds.now filter }
     requires fits { OperandFits input.source.kinds.now operand }
     ensures { IfOk result (
         let kind = kind_of_operand input.entry.source.kinds.now operand in
@@ -108,7 +108,7 @@ pub fn put_all_average(
 ) -> Result<Bus, Memory>
     requires input { HasInput net.old input }
     requires kinds { All IsKind input.source.kinds.now }
-    requires filter { FilterFits input.source.kinds.now filter }
+    requires filter { ConditionFits input.source.kinds.now filter }
     requires fits { OperandFits input.source.kinds.now operand }
     ensures { IfOk result (
         let kind = kind_of_operand input.entry.source.kinds.now operand in

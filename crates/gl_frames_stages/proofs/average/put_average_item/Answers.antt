@@ -1,4 +1,6 @@
 use Rattle.std.proofs.Common.{◌≡◌, ℕ, suc, ◌+◌, ◌-◌, ◌%◌, ◌^◌, ◌<◌, ◌≤◌, List, Some, map, ap, arith, refl, sym, subst, ◌∙◌}
+use Rattle.gl_algebra.specs.Rings.{digits}
+use Rattle.gl_algebra.specs.Results.{counts_in}
 use Rattle.gl_algebra.proofs.ExponentLemmas.{exponent_covers}
 use Rattle.gl_algebra.specs.Columns.{kind_of_operand}
 use Rattle.gl_values.proofs.KindLemmas.{kind_some}
@@ -13,11 +15,11 @@ use Rattle.gl_frames.specs.Frames.{frame_of}
 use Rattle.gl_net.proofs.Determined.{keeps_then}
 use Rattle.gl_wire.proofs.ColumnLemmas.{bit_kept}
 use Rattle.gl_wire.specs.Costs.{CostsAtMost}
-use Rattle.gl_frames_stages.specs.Average.{framed_values, quotient_bits}
+use Rattle.gl_frames_stages.specs.Average.{framed_values}
 use Rattle.gl_frames_stages.specs.Columns.{carried_by, column_of}
 use Rattle.gl_frames_stages.specs.Framing.{value_in}
-use Rattle.gl_frames_stages.specs.Inputs.{passes_by, rows_by}
-use Rattle.gl_frames_stages.proofs.CycleLemmas.{some_quotient_bits}
+use Rattle.gl_frames_stages.specs.Inputs.{rows_by}
+use Rattle.gl_frames_stages.proofs.CycleLemmas.{some_digits}
 use Rattle.gl_frames_stages.proofs.InputNet.{made_rows}
 use Rattle.gl_frames_stages.proofs.MeanLemmas.{average_from}
 use Rattle.gl_frames_stages.proofs.average.put_average_item.Goals as goal
@@ -37,7 +39,7 @@ low_bits-requires-clause-width c =
     let some = kind_some _ is in
     let most = is.1 in
     let wide = c.in_ok-fraction.ensures.top_width in
-    let bits = c.quotient_bits.ensures.value in
+    let bits = c.digits_of_rows.ensures.value in
     record { some' = omega (arith, some, wide, bits); most = omega (arith, most, wide, bits) }
 
 pub returns : goal.returns
@@ -49,10 +51,10 @@ returns c =
     let lines = input.lines in
     let back = c.args.back in
     let v = value_in c.args.operand in
-    let p = passes_by c.args.filter in
+    let p = counts_in c.args.filter in
     let kind = kind_of_operand input.source.kinds.now c.args.operand in
     let w : ℕ = width_of kind in
-    let b : ℕ = quotient_bits back in
+    let b : ℕ = digits (back + 1) in
     let k = c.kind_of_operand-kind.result in
     let is = c.kind_of_operand-kind.ensures in
     let f = c.in_ok-fraction.fraction in
@@ -60,9 +62,9 @@ returns c =
     let fraction = c.in_ok-fraction.ensures in
     let quotient = c.in_ok-quotient.ensures in
     let out = c.in_ok-out.ensures in
-    let bits = c.quotient_bits.ensures.value in
+    let bits = c.digits_of_rows.ensures.value in
     let wide : f.top.width ≡ w + b = fraction.top_width in
-    let low : f.top.width - c.quotient_bits.result ≡ w = omega (arith, wide, bits) in
+    let low : f.top.width - c.digits_of_rows.result ≡ w = omega (arith, wide, bits) in
     let some : 1 ≤ w = kind_some _ (operand_kind input.source.kinds.now c.args.operand c.requires.kinds c.requires.fits) in
     let divider : CostsAtMost mid divided (cost_of_quotient (w + b) 32) =
     subst (λ (m : ℕ). CostsAtMost mid divided (cost_of_quotient (w + b) m)) fraction.bottom_width
@@ -89,7 +91,7 @@ returns c =
           let place : suc (d + 3) ≡ suc d + 3 = omega arith in
           let top : run.at (suc (d + 3)) f.top.node ≡ word_of (w + b) s = ap (carried_by run f.top) place ∙ fraction.sums run at_fraction d u in
           let bottom : run.at (suc (d + 3)) f.bottom.node ≡ n = ap (carried_by run f.bottom) place ∙ fraction.numbers run at_fraction d u in
-          let covered = exponent_covers (back + 2) 1 (back + 2) (omega arith) in
+          let covered = exponent_covers (back + 1 + 1) 0 (back + 1 + 1) (omega arith) in
           let fits : suc back < 2 ^ b = omega (arith, covered) in
           out.carries run r (suc d + (w + b + 4))
           ∙ ap (λ m. run.at (suc d + (w + b + 4)) q.node % 2 ^ m) low
@@ -101,5 +103,5 @@ returns c =
           ∙ ap (λ m. word_of (w + b) (quotient_of (number_in kind (w + b) (word_of (w + b) s)) m) % 2 ^ w) bottom
           ∙ ap (λ z. word_of (w + b) (quotient_of z n) % 2 ^ w) (sym (wrapped_is kind (w + b) s (omega (arith, some))))
           ∙ word_cut (w + b) w (quotient_of (wrapped kind (w + b) s) n) (omega arith)
-          ∙ average_from kind v p b back rows some (some_quotient_bits back) fits (let lt = c.requires.back in omega (arith, lt)) all;
+          ∙ average_from kind v p b back rows some (some_digits back) fits (let lt = c.requires.back in omega (arith, lt)) all;
     }

@@ -1,6 +1,8 @@
 use Rattle.std.proofs.Common.{◌≡◌, ℕ, suc, ◌+◌, ◌*◌, ◌^◌, ◌<◌, map, ap, arith, sym, subst, ◌∙◌}
 use Rattle.std.specs.Prelude.{if◌then◌else◌}
 use Rattle.std.proofs.Math.Nat.{mod-eq_of_lt}
+use Rattle.gl_algebra.specs.Rings.{digits}
+use Rattle.gl_algebra.specs.Results.{counts_in}
 use Rattle.gl_algebra.specs.Columns.{kind_of_operand}
 use Rattle.gl_values.proofs.KindLemmas.{kind_some}
 use Rattle.gl_values.specs.Kinds.{width_of, word_of}
@@ -13,12 +15,12 @@ use Rattle.gl_frames_wire.specs.Reaches.{place_bits}
 use Rattle.gl_net.proofs.Determined.{keeps_then}
 use Rattle.gl_net.proofs.Values.{bus_fits}
 use Rattle.gl_wire.proofs.ColumnLemmas.{bus_kept}
-use Rattle.gl_frames_stages.specs.Average.{framed_values, quotient_bits}
+use Rattle.gl_frames_stages.specs.Average.{framed_values}
 use Rattle.gl_frames_stages.specs.Columns.{carried_by}
 use Rattle.gl_frames_stages.specs.Framing.{value_in}
-use Rattle.gl_frames_stages.specs.Inputs.{passes_by, rows_by}
+use Rattle.gl_frames_stages.specs.Inputs.{rows_by}
 use Rattle.gl_frames_stages.specs.SlideNets.{widened}
-use Rattle.gl_frames_stages.proofs.CycleLemmas.{few_quotient_bits}
+use Rattle.gl_frames_stages.proofs.CycleLemmas.{few_digits}
 use Rattle.gl_frames_stages.proofs.InputNet.{input_kept, tells_as, tells_made}
 use Rattle.gl_frames_stages.proofs.MeanLemmas.{masked_sum}
 use Rattle.gl_frames_stages.proofs.average.put_frame_fraction.Goals as goal
@@ -46,8 +48,8 @@ put_wide_sum-requires-clause-width c =
     let some = kind_some _ is in
     let most = is.1 in
     let wide = c.in_ok-value.ensures.same_width in
-    let few = few_quotient_bits c.args.back c.requires.back in
-    let bits = c.quotient_bits.ensures.value in
+    let few = few_digits c.args.back c.requires.back in
+    let bits = c.digits_of_rows.ensures.value in
     record { some' = omega (arith, some, wide); most = omega (arith, most, wide, few, bits) }
 
 pub put_frame_number-requires-clause-input : goal.put_frame_number-requires-clause-input
@@ -59,7 +61,7 @@ returns c =
     let input = c.args.input in
     let back = c.args.back in
     let v = value_in c.args.operand in
-    let p = passes_by c.args.filter in
+    let p = counts_in c.args.filter in
     let kind = kind_of_operand input.source.kinds.now c.args.operand in
     let w : ℕ = width_of kind in
     let k = c.kind_of_operand-kind.result in
@@ -72,8 +74,8 @@ returns c =
     let m = c.in_ok-masked.masked in
     let t' = c.in_ok-top.top in
     let wide : m.width ≡ w = masks.same_width ∙ value.same_width in
-    let bits = c.quotient_bits.ensures.value in
-    let whole : x.width + c.quotient_bits.result ≡ w + quotient_bits back = (let a = value.same_width in omega (arith, a, bits)) in
+    let bits = c.digits_of_rows.ensures.value in
+    let whole : x.width + c.digits_of_rows.result ≡ w + digits (back + 1) = (let a = value.same_width in omega (arith, a, bits)) in
     let at = c.new.ensures.back in
     let next : c.new.result.back ≡ suc back = omega (arith, at) in
     let place : c.new.result.bits ≡ place_bits (back + 1) = c.new.ensures.bits in
@@ -98,14 +100,14 @@ returns c =
           let at_top = bottom.keeps.runs run r in
           let at_masks = top.keeps.runs run at_top in
           let at_value = masks.keeps.runs run at_masks in
-          let width : ℕ = x.width + c.quotient_bits.result in
+          let width : ℕ = x.width + c.digits_of_rows.result in
           tells_as run input.lines 3 (λ rows. sum_total width (map (widened k width) (last_ones c.new.result.back (map (masked v p) rows))))
-          (λ rows. word_of (w + quotient_bits back) (sum_of_numbers kind (framed_values c.args.operand c.args.filter back rows))) (rows_by run input) (carried_by run t')
+          (λ rows. word_of (w + digits (back + 1)) (sum_of_numbers kind (framed_values c.args.operand c.args.filter back rows))) (rows_by run input) (carried_by run t')
           (λ rows.
           ap (λ n. sum_total width (map (widened k width) (last_ones n (map (masked v p) rows)))) next
           ∙ ap (λ (o : Kind). sum_total width (map (widened o width) (last_ones (suc back) (map (masked v p) rows)))) is
           ∙ ap (λ n. sum_total n (map (widened kind n) (last_ones (suc back) (map (masked v p) rows)))) whole
-          ∙ masked_sum kind v p (w + quotient_bits back) back rows)
+          ∙ masked_sum kind v p (w + digits (back + 1)) back rows)
           (tells_made run input.lines 3 (masked v p) (λ xs. sum_total width (map (widened k width) (last_ones c.new.result.back xs))) (rows_by run input) (carried_by run m) (carried_by run t')
           (λ t. masks.masks run at_masks t ∙ ap (λ n. if p (rows_by run input (suc t)) then n else 0) (value.carries run at_value (suc t)))
           (top.tells run at_top));

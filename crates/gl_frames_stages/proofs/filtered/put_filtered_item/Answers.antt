@@ -1,4 +1,6 @@
 use Rattle.std.proofs.Common.{◌≡◌, ℕ, suc, ◌+◌, ◌-◌, ◌%◌, ◌^◌, ◌≤◌, List, Some, true, map, ap, arith, refl, sym, subst, ◌∙◌}
+use Rattle.gl_algebra.specs.Frames.{delay_of_extreme}
+use Rattle.gl_algebra.specs.Results.{counts_in}
 use Rattle.gl_algebra.specs.Columns.{kind_of_operand}
 use Rattle.gl_values.proofs.KindLemmas.{kind_some}
 use Rattle.gl_values.specs.Kinds.{width_of}
@@ -11,10 +13,10 @@ use Rattle.gl_frames.proofs.SumLemmas.{last_map}
 use Rattle.gl_net.proofs.Determined.{keeps_then}
 use Rattle.gl_wire.specs.Costs.{Cost}
 use Rattle.gl_frames_stages.specs.Columns.{carried_by, column_of}
-use Rattle.gl_frames_stages.specs.DoublingNets.{cost_of_doublings, delay_of_extreme}
+use Rattle.gl_frames_stages.specs.DoublingNets.{cost_of_doublings}
 use Rattle.gl_frames_stages.specs.FilteredNets.{if_passes, pack}
 use Rattle.gl_frames_stages.specs.Framing.{value_in}
-use Rattle.gl_frames_stages.specs.Inputs.{passes_by, rows_by}
+use Rattle.gl_frames_stages.specs.Inputs.{rows_by}
 use Rattle.gl_frames_stages.specs.Laws.{best_in}
 use Rattle.gl_frames_stages.specs.LevelNets.{better_in}
 use Rattle.gl_frames_stages.proofs.InputNet.{input_kept, made_rows}
@@ -49,7 +51,7 @@ returns c =
     let extreme = c.args.extreme in
     let back = c.args.back in
     let v = value_in c.args.operand in
-    let p = passes_by (Some c.args.column) in
+    let p = counts_in (Some c.args.column) in
     let kind = kind_of_operand input.source.kinds.now c.args.operand in
     let w : ℕ = width_of kind in
     let k = c.kind_of_operand-kind.result in
@@ -80,8 +82,8 @@ returns c =
           let all : map rest rows ≡ map v rows =
           sym (made_rows run lines rest row (λ t. v (row t)) (packed.values run at_packed) (suc d)) ∙ made_rows run lines v row (λ t. v (row t)) (λ t. refl) (suc d) in
           let some : map rest zs ≡ map v zs = sym (last_map (suc back) rest rows) ∙ ap (last_ones (suc back)) all ∙ last_map (suc back) v rows in
-          out.carries run r (suc d + delay_of_extreme back)
-          ∙ ap (λ n. run.at (suc d + delay_of_extreme back) b.node % 2 ^ n) bits
+          out.carries run r (suc d + delay_of_extreme (Some back))
+          ∙ ap (λ n. run.at (suc d + delay_of_extreme (Some back)) b.node % 2 ^ n) bits
           ∙ ap (λ n. n % 2 ^ w) (best.tells run at_best d q)
           ∙ ap (λ (o : Kind). best_in (better_in (record { extreme = extreme; kind = o; packed = true })) (suc back) (column_of run lines (carried_by run x) (suc d)) % 2 ^ w) is
           ∙ ap (λ l. best_in (better_in (record { extreme = extreme; kind = kind; packed = true })) (suc back) l % 2 ^ w)

@@ -1,4 +1,5 @@
 use Rattle.std.proofs.Common.{suc, ◌+◌, Some, false, map, ap, arith, refl, sym, subst, ◌≤◌, ◌∙◌}
+use Rattle.gl_algebra.specs.Frames.{delay_of_extreme}
 use Rattle.gl_algebra.specs.Columns.{kind_of_operand}
 use Rattle.gl_values.proofs.KindLemmas.{kind_some}
 use Rattle.gl_values.specs.Kinds.{width_of}
@@ -9,7 +10,7 @@ use Rattle.gl_totals.specs.Totals.{extreme_of}
 use Rattle.gl_net.proofs.Determined.{keeps_then}
 use Rattle.gl_wire.specs.Costs.{Cost}
 use Rattle.gl_frames_stages.specs.Columns.{carried_by, column_of}
-use Rattle.gl_frames_stages.specs.DoublingNets.{cost_of_doublings, delay_of_extreme}
+use Rattle.gl_frames_stages.specs.DoublingNets.{cost_of_doublings}
 use Rattle.gl_frames_stages.specs.Framing.{every, value_in}
 use Rattle.gl_frames_stages.specs.Inputs.{rows_by}
 use Rattle.gl_frames_stages.proofs.DoublingNet.{plain_best}
@@ -58,9 +59,9 @@ returns c =
       same_width = best.same_width ∙ wide;
       tells = λ run r.
           let at_value = best.keeps.runs run r in
-          tells_as run input.lines (delay_of_extreme back) (λ rows. extreme_of extreme k (last_ones (suc back) (map v rows))) (total_over (extreme_of extreme kind) v (Some back) every) (rows_by run input)
+          tells_as run input.lines (delay_of_extreme (Some back)) (λ rows. extreme_of extreme k (last_ones (suc back) (map v rows))) (total_over (extreme_of extreme kind) v (Some back) every) (rows_by run input)
           (carried_by run c.in_ok-best.best)
           (λ rows. total_through (extreme_of extreme k) back v rows ∙ ap (λ (n : Kind). total_over (extreme_of extreme n) v (Some back) every rows) is)
-          (tells_made run input.lines (delay_of_extreme back) v (λ xs. extreme_of extreme k (last_ones (suc back) xs)) (rows_by run input) (carried_by run x) (carried_by run c.in_ok-best.best)
+          (tells_made run input.lines (delay_of_extreme (Some back)) v (λ xs. extreme_of extreme k (last_ones (suc back) xs)) (rows_by run input) (carried_by run x) (carried_by run c.in_ok-best.best)
           (λ t. value.carries run at_value (suc t)) (λ d q. best.tells run r d q ∙ plain_best (record { extreme = extreme; kind = k; packed = false }) refl (suc back) (column_of run input.lines (carried_by run x) (suc d))));
     }

@@ -1,5 +1,6 @@
 use Rattle.std.proofs.Common.{◌≡◌, ℕ, suc, ◌+◌, ◌*◌, ◌^◌, ◌<◌, Some, map, ap, arith, subst, ◌∙◌}
 use Rattle.std.specs.Prelude.{nat_eq}
+use Rattle.gl_algebra.specs.Results.{counts_in}
 use Rattle.gl_bits.specs.Words.{bit}
 use Rattle.gl_values.specs.Kinds.{width_of}
 use Rattle.gl_values.specs.Totals.{count_of, sum_total}
@@ -9,17 +10,17 @@ use Rattle.gl_frames_wire.specs.Reaches.{place_bits}
 use Rattle.gl_net.proofs.Determined.{keeps_then}
 use Rattle.gl_net.proofs.Values.{bus_fits}
 use Rattle.gl_frames_stages.specs.Columns.{carried_by}
-use Rattle.gl_frames_stages.specs.Inputs.{passes_by, rows_by}
+use Rattle.gl_frames_stages.specs.Inputs.{rows_by}
 use Rattle.gl_frames_stages.specs.SlideNets.{widened}
 use Rattle.gl_frames_stages.proofs.FramingLemmas.{bit_word, count_through}
-use Rattle.gl_frames_stages.proofs.InputNet.{input_kept, tells_as, tells_made}
+use Rattle.gl_frames_stages.proofs.InputNet.{column_kind, column_there, input_kept, tells_as, tells_made}
 use Rattle.gl_frames_stages.proofs.framed.put_passing_count.Goals as goal
 
 pub put_operand-requires-clause-source : goal.put_operand-requires-clause-source
 put_operand-requires-clause-source c = c.requires.input.source
 
 pub put_operand-requires-clause-fits : goal.put_operand-requires-clause-fits
-put_operand-requires-clause-fits c = c.requires.filter.0
+put_operand-requires-clause-fits c = column_there c.args.input.source.kinds.now c.args.column c.requires.filter
 
 pub put_wide_sum-requires-clause-valid : goal.put_wide_sum-requires-clause-valid
 put_wide_sum-requires-clause-valid c = (input_kept _ _ c.args.input c.in_ok-bit.ensures.keeps c.requires.input).valid
@@ -28,17 +29,17 @@ pub put_wide_sum-requires-clause-eos : goal.put_wide_sum-requires-clause-eos
 put_wide_sum-requires-clause-eos c = (input_kept _ _ c.args.input c.in_ok-bit.ensures.keeps c.requires.input).eos
 
 pub put_wide_sum-requires-clause-value_width : goal.put_wide_sum-requires-clause-value_width
-put_wide_sum-requires-clause-value_width c = c.in_ok-bit.ensures.same_width ∙ ap width_of c.requires.filter.1
+put_wide_sum-requires-clause-value_width c = c.in_ok-bit.ensures.same_width ∙ ap width_of (column_kind c.args.input.source.kinds.now c.args.column c.requires.filter)
 
 pub returns : goal.returns
 returns c =
     let input = c.args.input in
     let x = c.in_ok-bit.bit in
     let column = c.args.column in
-    let p = passes_by (Some column) in
+    let p = counts_in (Some column) in
     let value = c.in_ok-bit.ensures in
     let sum = c.in_ok-sum.ensures in
-    let one : x.width ≡ 1 = value.same_width ∙ ap width_of c.requires.filter.1 in
+    let one : x.width ≡ 1 = value.same_width ∙ ap width_of (column_kind c.args.input.source.kinds.now c.args.column c.requires.filter) in
     let is = c.new.ensures.back in
     let next : c.new.result.back ≡ suc c.args.back = omega (arith, is) in
     let place : c.new.result.bits ≡ place_bits (c.args.back + 1) = c.new.ensures.bits in

@@ -1,5 +1,6 @@
 use Rattle.std.proofs.Common.{◌≡◌, suc, ◌+◌, ◌*◌, ◌^◌, Some, map, ap, arith, ◌∙◌}
 use Rattle.std.specs.Prelude.{if◌then◌else◌}
+use Rattle.gl_algebra.specs.Results.{counts_in}
 use Rattle.gl_algebra.specs.Columns.{kind_of_operand}
 use Rattle.gl_values.specs.Kinds.{width_of}
 use Rattle.gl_values.specs.Totals.{sum_total}
@@ -9,7 +10,7 @@ use Rattle.gl_frames_wire.specs.Reaches.{place_bits}
 use Rattle.gl_net.proofs.Determined.{keeps_then}
 use Rattle.gl_frames_stages.specs.Columns.{carried_by}
 use Rattle.gl_frames_stages.specs.Framing.{value_in}
-use Rattle.gl_frames_stages.specs.Inputs.{passes_by, rows_by}
+use Rattle.gl_frames_stages.specs.Inputs.{rows_by}
 use Rattle.gl_frames_stages.proofs.FramingLemmas.{sum_through}
 use Rattle.gl_frames_stages.proofs.InputNet.{input_kept, tells_as, tells_made}
 use Rattle.gl_frames_stages.proofs.framed.put_sum_item.Goals as goal
@@ -32,7 +33,7 @@ pub returns : goal.returns
 returns c =
     let input = c.args.input in
     let v = value_in c.args.operand in
-    let p = passes_by c.args.filter in
+    let p = counts_in c.args.filter in
     let x = c.in_ok-value.value in
     let m = c.in_ok-masked.masked in
     let value = c.in_ok-value.ensures in

@@ -20,17 +20,17 @@ put_items-requires-clause-input c = record {
 pub put_items-requires-clause-most : goal.put_items-requires-clause-most
 put_items-requires-clause-most c =
     let few = items_few c.args.kinds.now c.args.items.now c.requires.are_kinds c.requires.items in
-    let is = c.delay_of_items-cycles.ensures in
+    let is = c.delay_of_frames-cycles.ensures in
     omega (arith, few, is)
 
 pub put_late_lines-requires-clause-most : goal.put_late_lines-requires-clause-most
 put_late_lines-requires-clause-most c =
     let few = items_few c.args.kinds.now c.args.items.now c.requires.are_kinds c.requires.items in
-    let is = c.delay_of_items-cycles.ensures in
+    let is = c.delay_of_frames-cycles.ensures in
     omega (arith, few, is)
 
 pub put_items-requires-clause-late : goal.put_items-requires-clause-late
-put_items-requires-clause-late c = let is = c.delay_of_items-cycles.ensures in omega (arith, is)
+put_items-requires-clause-late c = let is = c.delay_of_frames-cycles.ensures in omega (arith, is)
 
 pub returns : goal.returns
 returns c =
@@ -41,5 +41,5 @@ returns c =
     let source : Source = record { columns = c.as_slice.result; kinds = c.args.kinds } in
     let input : Input = record { lines = lines; source = source } in
     frames_behind c.running_serves.ensures.streams c.args.net.now mid new c.args.below c.args.items.now source c.in_ok-columns.columns c.in_ok-late.late c.as_slice.ensures
-    (subst (λ (m : ℕ). AreItemsIn c.args.net.now mid m input c.args.items.now c.in_ok-columns.columns) c.delay_of_items-cycles.ensures c.in_ok-columns.ensures)
-    (subst (λ (m : ℕ). AreLinesLate mid new m lines c.in_ok-late.late) c.delay_of_items-cycles.ensures c.in_ok-late.ensures)
+    (subst (λ (m : ℕ). AreItemsIn c.args.net.now mid m input c.args.items.now c.in_ok-columns.columns) c.delay_of_frames-cycles.ensures c.in_ok-columns.ensures)
+    (subst (λ (m : ℕ). AreLinesLate mid new m lines c.in_ok-late.late) c.delay_of_frames-cycles.ensures c.in_ok-late.ensures)

@@ -7,4 +7,4 @@ pub returns : goal.returns
 returns c =
     item_late c.args.net.now c.put_item.new.net c.put_late.new.net c.args.input c.args.input.source.kinds.now c.args.item c.args.cycles c.in_ok-early.early c.in_ok-out.out c.requires.late
     c.in_ok-early.ensures
-    (subst (λ (d : ℕ). IsLateIn c.put_item.new.net c.put_late.new.net (c.args.cycles - d) c.in_ok-early.early c.in_ok-out.out) c.delay_of_item-gone.ensures c.in_ok-out.ensures)
+    (subst (λ (d : ℕ). IsLateIn c.put_item.new.net c.put_late.new.net (c.args.cycles - d) c.in_ok-early.early c.in_ok-out.out) c.delay_of_frame-gone.ensures c.in_ok-out.ensures)

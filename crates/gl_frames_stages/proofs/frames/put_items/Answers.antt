@@ -1,8 +1,8 @@
 use Rattle.std.proofs.Common.{◌≤◌, [], take, arith, sym, subst}
 use Rattle.gl_bits.proofs.AllLists.{taken_next}
+use Rattle.gl_algebra.specs.Frames.{delay_of_frame, delay_of_frames}
+use Rattle.gl_algebra.specs.declared.node.PlanFrame.{PlanFrame}
 use Rattle.gl_frames_stages.specs.FramesNets.{AreItemsIn}
-use Rattle.gl_frames_stages.specs.Items.{delay_of_item, delay_of_items}
-use Rattle.gl_frames_stages.specs.declared.item.FrameItem.{FrameItem}
 use Rattle.gl_frames_stages.proofs.CycleLemmas.{item_within}
 use Rattle.gl_frames_stages.proofs.FramesNet.{items_more, items_none}
 use Rattle.gl_frames_stages.proofs.InputNet.{input_kept}
@@ -17,8 +17,8 @@ put_part-requires-clause-input c = input_kept c.args.net.now c.loop-item.net c.a
 pub put_part-requires-clause-late : goal.put_part-requires-clause-late
 put_part-requires-clause-late c =
     let kinds = c.args.input.source.kinds.now in
-    let item : delay_of_item kinds c.item-item.result ≤ delay_of_items kinds c.args.items.now =
-    subst (λ (i : FrameItem). delay_of_item kinds i ≤ delay_of_items kinds c.args.items.now) (sym c.item-item.is)
+    let item : delay_of_frame kinds c.item-item.result ≤ delay_of_frames kinds c.args.items.now =
+    subst (λ (i : PlanFrame). delay_of_frame kinds i ≤ delay_of_frames kinds c.args.items.now) (sym c.item-item.is)
     (item_within kinds c.args.items.now c.loop-item.item-index c.item-item.result c.loop-item-test.true) in
     omega (arith, item, c.requires.late)
 

@@ -1,11 +1,12 @@
 use Rattle.std.proofs.Common.{refl, arith, sym, subst}
 use Rattle.std.specs.Prelude.{IfOk}
+use Rattle.gl_algebra.specs.Columns.{ConditionFits}
 use Rattle.gl_net.proofs.Growth.{same_keeps}
-use Rattle.gl_frames_stages.specs.Inputs.{FilterFits, IsMaskedIn}
+use Rattle.gl_frames_stages.specs.Inputs.{IsMaskedIn}
 use Rattle.gl_frames_stages.proofs.input.put_masked.Goals as goal
 
 pub put_masked_by-requires-clause-filter : goal.put_masked_by-requires-clause-filter
-put_masked_by-requires-clause-filter c = subst (FilterFits c.args.input.source.kinds.now) c.in-Some.is c.requires.filter
+put_masked_by-requires-clause-filter c = subst (ConditionFits c.args.input.source.kinds.now) c.in-Some.is c.requires.filter
 
 pub returns-in-Some : goal.returns-in-Some
 returns-in-Some c =

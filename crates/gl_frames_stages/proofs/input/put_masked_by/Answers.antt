@@ -5,23 +5,23 @@ use Rattle.gl_net.proofs.Determined.{keeps_then}
 use Rattle.gl_wire.specs.Wire.{row_at}
 use Rattle.gl_wire.proofs.ColumnLemmas.{bit_kept, bus_kept}
 use Rattle.gl_wire.proofs.GateLemmas.{bit_of, choose_line}
-use Rattle.gl_frames_stages.proofs.InputNet.{bit_at}
+use Rattle.gl_frames_stages.proofs.InputNet.{bit_at, column_kind, column_there}
 use Rattle.gl_frames_stages.proofs.input.put_masked_by.Goals as goal
 
 pub put_operand-requires-clause-source : goal.put_operand-requires-clause-source
 put_operand-requires-clause-source c = c.requires.input.source
 
 pub put_operand-requires-clause-fits : goal.put_operand-requires-clause-fits
-put_operand-requires-clause-fits c = c.requires.filter.0
+put_operand-requires-clause-fits c = column_there c.args.input.source.kinds.now c.args.column c.requires.filter
 
 pub bit-requires : goal.bit-requires
-bit-requires c = c.in_ok-passes.ensures.same_width ∙ ap width_of c.requires.filter.1
+bit-requires c = c.in_ok-passes.ensures.same_width ∙ ap width_of (column_kind c.args.input.source.kinds.now c.args.column c.requires.filter)
 
 pub choose-requires-clause-test : goal.choose-requires-clause-test
 choose-requires-clause-test c =
     let passes = c.in_ok-passes.ensures in
     bit_kept _ _ c.bit.result c.in_ok-zero.ensures.keeps
-    (bit_of c.put_operand.new.net c.in_ok-passes.passes c.bit.result passes.bus (passes.same_width ∙ ap width_of c.requires.filter.1) c.bit.ensures)
+    (bit_of c.put_operand.new.net c.in_ok-passes.passes c.bit.result passes.bus (passes.same_width ∙ ap width_of (column_kind c.args.input.source.kinds.now c.args.column c.requires.filter)) c.bit.ensures)
 
 pub choose-requires-clause-yes : goal.choose-requires-clause-yes
 choose-requires-clause-yes c = bus_kept _ _ c.args.value (keeps_then _ c.put_operand.new.net _ c.in_ok-passes.ensures.keeps c.in_ok-zero.ensures.keeps) c.requires.value

@@ -1,13 +1,14 @@
 use Rattle.std.proofs.Common.{suc, refl, arith, sym, subst}
 use Rattle.std.specs.Prelude.{IfOk}
+use Rattle.gl_algebra.specs.Columns.{ConditionFits}
 use Rattle.gl_net.proofs.Growth.{same_keeps}
 use Rattle.gl_wire.specs.Wire.{line_at}
-use Rattle.gl_frames_stages.specs.Inputs.{FilterFits, IsPassingIn}
+use Rattle.gl_frames_stages.specs.Inputs.{IsPassingIn}
 use Rattle.gl_frames_stages.proofs.InputNet.{all_pass}
 use Rattle.gl_frames_stages.proofs.input.put_passing.Goals as goal
 
 pub put_passing_by-requires-clause-filter : goal.put_passing_by-requires-clause-filter
-put_passing_by-requires-clause-filter c = subst (FilterFits c.args.input.source.kinds.now) c.in-Some.is c.requires.filter
+put_passing_by-requires-clause-filter c = subst (ConditionFits c.args.input.source.kinds.now) c.in-Some.is c.requires.filter
 
 pub returns-in-Some : goal.returns-in-Some
 returns-in-Some c =

@@ -1,5 +1,6 @@
 use Rattle.std.proofs.Common.{suc, Bool, None, Some, ap, arith, ◌∙◌}
 use Rattle.std.specs.Prelude.{◌&&◌, slice_index}
+use Rattle.gl_algebra.specs.Results.{counts_in}
 use Rattle.gl_values.specs.Kinds.{width_of}
 use Rattle.gl_frames.specs.Frames.{last_value_of}
 use Rattle.gl_net.proofs.Determined.{keeps_then}
@@ -8,8 +9,8 @@ use Rattle.gl_wire.proofs.ColumnLemmas.{bit_kept, bus_kept}
 use Rattle.gl_wire.proofs.GateLemmas.{bit_of}
 use Rattle.gl_frames_stages.specs.Columns.{carried_by}
 use Rattle.gl_frames_stages.specs.Framing.{value_in}
-use Rattle.gl_frames_stages.specs.Inputs.{passes_by, rows_by}
-use Rattle.gl_frames_stages.proofs.InputNet.{bit_at, input_kept}
+use Rattle.gl_frames_stages.specs.Inputs.{rows_by}
+use Rattle.gl_frames_stages.proofs.InputNet.{bit_at, column_kind, column_there, input_kept}
 use Rattle.gl_frames_stages.proofs.LastNet.{last_told}
 use Rattle.gl_frames_stages.proofs.MeetLemmas.{tells_next}
 use Rattle.gl_frames_stages.proofs.last.put_last_item.Goals as goal
@@ -18,13 +19,13 @@ pub put_operand-requires-clause-source : goal.put_operand-requires-clause-source
 put_operand-requires-clause-source c = c.requires.input.source
 
 pub put_operand-requires-clause-fits : goal.put_operand-requires-clause-fits
-put_operand-requires-clause-fits c = c.requires.filter.0
+put_operand-requires-clause-fits c = column_there c.args.input.source.kinds.now c.args.column c.requires.filter
 
 pub put_operand-requires-2-clause-source : goal.put_operand-requires-2-clause-source
 put_operand-requires-2-clause-source c = (input_kept _ _ c.args.input c.in_ok-passes.ensures.keeps c.requires.input).source
 
 pub bit-requires : goal.bit-requires
-bit-requires c = c.in_ok-passes.ensures.same_width ∙ ap width_of c.requires.filter.1
+bit-requires c = c.in_ok-passes.ensures.same_width ∙ ap width_of (column_kind c.args.input.source.kinds.now c.args.column c.requires.filter)
 
 pub both-requires-clause-left : goal.both-requires-clause-left
 both-requires-clause-left c =
@@ -34,7 +35,7 @@ pub both-requires-clause-right : goal.both-requires-clause-right
 both-requires-clause-right c =
     let passes = c.in_ok-passes.ensures in
     bit_kept _ _ c.bit.result c.in_ok-value.ensures.keeps
-    (bit_of c.put_operand.new.net c.in_ok-passes.passes c.bit.result passes.bus (passes.same_width ∙ ap width_of c.requires.filter.1) c.bit.ensures)
+    (bit_of c.put_operand.new.net c.in_ok-passes.passes c.bit.result passes.bus (passes.same_width ∙ ap width_of (column_kind c.args.input.source.kinds.now c.args.column c.requires.filter)) c.bit.ensures)
 
 pub put_last-requires-clause-eos : goal.put_last-requires-clause-eos
 put_last-requires-clause-eos c =
@@ -47,7 +48,7 @@ pub returns : goal.returns
 returns c =
     let input = c.args.input in
     let v = value_in c.args.operand in
-    let p = passes_by (Some c.args.column) in
+    let p = counts_in (Some c.args.column) in
     let x = c.in_ok-value.value in
     let passes = c.in_ok-passes.ensures in
     let value = c.in_ok-value.ensures in
