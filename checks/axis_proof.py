@@ -116,6 +116,7 @@ def exit_kept(line, columns):
     yield f'if ({line}_tvalid && out_{line} == which_{line}) assert (shown_{line} == word_{line});'
     yield f'if ({line}_tvalid) assert ({line}_tkeep == 0 || &{line}_tkeep);'
     yield f'if (wait_{line}) assert ({line}_tvalid && held_{line} == shown_{line});'
+    yield f'assert ({line}_push == (!rst && ({line}_row || {line}_eos)));'
     yield f'assert (in_{line} == out_{line} + {line}_stored + {line}_tvalid);'
     yield f'assert ({line}_some == ({line}_stored != 0));'
     yield 'assert (!lost);'
@@ -145,7 +146,7 @@ def proved(case, schema_file, module_text, text, steps, room):
     if said.returncode:
         sys.exit(said.stdout)
     said = ended(['yosys-smtbmc', '-s', 'z3', '-t', str(steps), f'{room}/proof.smt2'])
-    well = said.returncode == 0 and 'Status: passed' in said.stdout
+    well = said.returncode == 0 and 'status: passed' in said.stdout.lower()
     depths = ', '.join(re.findall(r'^// m_axis\w*: (\d+) places', text, re.M))
     print(f'{"ok" if well else "FAILED"} {case}: {depths} places, {steps} steps', flush=True)
     if not well:

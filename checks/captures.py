@@ -89,6 +89,14 @@ def pcapng(packets, order='<', resolution=6, link=1):
     return out
 
 
+def hashed(data):
+    """FNV-1a of 64 bits."""
+    value = 14695981039346656037
+    for byte in data:
+        value = (value ^ byte) * 1099511628211 % 2**64
+    return value
+
+
 def sample():
     """Three seconds of a small network: a name is asked for, a page is fetched, and a host is flooded."""
     host, server, name, victim = '10.0.0.1', '10.0.0.80', '10.0.0.53', '10.0.0.99'

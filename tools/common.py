@@ -12,6 +12,26 @@ PROGRAM = os.path.join(HOME, 'crates', 'glacier', 'out', 'glacier')
 STACK = 8 << 20  # bytes, as a process has them by default
 
 
+# ---- files
+
+
+def opened(path, mode='r'):
+    """A file of text or of bytes; where it cannot be opened, one line says so."""
+    try:
+        return open(path, mode) if 'b' in mode else open(path, mode, newline='', encoding='utf8')
+    except OSError as error:
+        sys.exit(f'{path}: {error.strerror}')
+
+
+def text_of(path):
+    """The text of a file; where it cannot be read, one line says so."""
+    with opened(path) as file:
+        try:
+            return file.read()
+        except (OSError, UnicodeDecodeError) as error:
+            sys.exit(f'{path}: no text of UTF-8: {error}')
+
+
 # ---- the program
 
 
@@ -65,6 +85,12 @@ def timed(words):
     if ran.returncode:
         sys.exit(f'status {ran.returncode}: ' + ' '.join(words))
     return seconds, [line for line in ran.stdout.decode().splitlines(True) if not line.startswith('- ')]
+
+
+def refused(text, command, files):
+    """Ends with the line of a refusal, and which script shows its place."""
+    shown = f': tools/where {command} {" ".join(files)} shows the place' if ' at ' in text else ''
+    sys.exit(f'{text}{shown}')
 
 
 def compiled(program, files, room, command='compile'):
@@ -132,8 +158,7 @@ def statements_of(text):
 
 def command_of(path, one='compile', several='many'):
     """The command for a file with one query, or for one with several."""
-    with open(path, encoding='utf8') as file:
-        return several if ';' in re.sub(r"'[^']*'|--[^\n]*", '', file.read()) else one
+    return several if ';' in re.sub(r"'[^']*'|--[^\n]*", '', text_of(path)) else one
 
 
 # ---- modules and testbenches

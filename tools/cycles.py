@@ -6,6 +6,8 @@ import csv
 import sys
 from fractions import Fraction
 
+from common import opened, text_of
+
 LAST = 10_000_000
 
 Event = collections.namedtuple('Event', 'time stream values')  # a tuple at a time in seconds; a tick has no stream
@@ -17,23 +19,6 @@ class Beat:
 
     def __init__(self, cycle, ticked, rows):
         self.cycle, self.ticked, self.rows = cycle, ticked, rows
-
-
-def opened(path, mode='r'):
-    """A file of text or of bytes; where it cannot be opened, one line says so."""
-    try:
-        return open(path, mode) if 'b' in mode else open(path, mode, newline='', encoding='utf8')
-    except OSError as error:
-        sys.exit(f'{path}: {error.strerror}')
-
-
-def text_of(path):
-    """The text of a file; where it cannot be read, one line says so."""
-    with opened(path) as file:
-        try:
-            return file.read()
-        except (OSError, UnicodeDecodeError) as error:
-            sys.exit(f'{path}: no text of UTF-8: {error}')
 
 
 def number(text):

@@ -4,7 +4,19 @@ import re
 import sys
 import tempfile
 
-from common import command_of, compiled, ended, has_tick, ports_of, results_of, schema_of, statements_of, width_of
+from common import (
+    command_of,
+    compiled,
+    ended,
+    has_tick,
+    ports_of,
+    refused,
+    results_of,
+    schema_of,
+    statements_of,
+    text_of,
+    width_of,
+)
 
 # A stream of the schema: what stands in front of its lines, its name, and its columns with their widths.
 Side = collections.namedtuple('Side', 'line stream columns')
@@ -122,9 +134,8 @@ def plan_of(program, files, depth=None, room=None):
     command = command_of(files[1])
     design, text = compiled(program, files, room, command)
     if design is None:
-        sys.exit(text)
-    with open(files[0], encoding='utf8') as file, open(files[1], encoding='utf8') as query:
-        schema, statements = schema_of(file.read()), statements_of(query.read())
+        refused(text, command, files)
+    schema, statements = schema_of(text_of(files[0])), statements_of(text_of(files[1]))
     said = ended([program, 'figures' if command == 'compile' else 'manyfigures', *files]).stdout
     gap = int(re.search(r'^gap (\d+)$', said, re.M)[1])
     results = [

@@ -60,7 +60,7 @@ fn operator_cure(word: &[u8]) -> Option<&'static str> {
 const MARKS: [Row; 5] = [
     Row {
         words: &[b"&", b"|", b"^", b"~", b"<<", b">>"],
-        cure: "There are no bit operations: give each flag a column of kind u1 in the feed.",
+        cure: "There are no bit operations: give each flag a column of kind u1 in the feed, and each network a column of its own.",
     },
     Row {
         words: &[b"::", b":"],
@@ -147,7 +147,7 @@ const SELECTS: [Row; 4] = [
     },
     Row {
         words: &[b"all"],
-        cure: "Leave ALL out: UNION keeps all rows.",
+        cure: "Leave ALL out: a select keeps all rows, and UNION keeps all rows of both.",
     },
     Row {
         words: &[b"except", b"intersect", b"minus", b"exists"],
@@ -216,7 +216,7 @@ const CHOICES: [Row; 3] = [
     },
     Row {
         words: &[b"distinct"],
-        cure: "A group gives each key once: SELECT k, count() AS n FROM t GROUP BY k GROUPS 64. Of rows of different keys nothing is counted.",
+        cure: "A group gives each key once: SELECT k, count() AS n FROM t GROUP BY k GROUPS 64. A select over it counts the keys: SELECT count() AS n FROM (SELECT k, count() AS c FROM t GROUP BY k GROUPS 64).",
     },
     Row {
         words: &[
@@ -264,4 +264,20 @@ pub(crate) fn cure_of(word: &[u8]) -> Option<&'static str> {
         return Some(cure);
     }
     foreign_function(word)
+}
+
+/// What one writes here in the place of a word that stands for a value in another language.
+pub(crate) fn value_cure(word: &[u8]) -> Option<&'static str> {
+    let is_value = is_one_of(
+        word,
+        &[
+            b"null",
+            b"true",
+            b"false",
+            b"now",
+            b"current_timestamp",
+            b"current_date",
+        ],
+    );
+    if is_value { cure_of(word) } else { None }
 }

@@ -1,10 +1,12 @@
 //! What is told of a refusal behind its line.
 
-use crate::lines::put_place;
+use crate::fields::record_of;
+use crate::lines::{put_place, shown_place};
 use crate::pieces::pieces_of;
 use crate::querying::put_query;
-use crate::records::{put_record, record_of};
-use crate::schemas::{other_text, put_schema};
+use crate::records::{fault_begins, put_record};
+use crate::schemas::put_schema;
+use crate::texts::{Sort, put_other};
 use gl_bits::Memory;
 use gl_figures::Limit;
 use gl_query::QueryFault;
@@ -39,8 +41,16 @@ fn put_schema_fault(
     fault: &SchemaFault,
 ) -> Result<(), AllocError> {
     let at = schema_place(fault);
-    put_place(out, refused.words.name(Part::Schema), refused.schema, at)?;
+    put_place(
+        out,
+        refused.words.name(Part::Schema),
+        refused.schema,
+        shown_place(refused.schema, at),
+    )?;
     let pieces = pieces_of(alloc, refused.schema)?;
+    if put_other(out, &pieces, Sort::Schema)? {
+        return Ok(());
+    }
     put_schema(out, fault, &pieces, pieces.find(at))
 }
 
@@ -53,33 +63,42 @@ fn put_query_fault(
     fault: &QueryFault,
 ) -> Result<(), AllocError> {
     let at = query_place(fault);
-    put_place(out, refused.words.name(Part::Query), refused.query, at)?;
+    put_place(
+        out,
+        refused.words.name(Part::Query),
+        refused.query,
+        shown_place(refused.query, at),
+    )?;
     let pieces = pieces_of(alloc, refused.query)?;
-    match pieces.get(0) {
-        b"stream" => out.push_str(
-            "This text is a schema: the schema comes first and the query second, why S Q T.",
-        ),
-        first if matches!(first, [b'0'..=b'9', ..]) => out.push_str(other_text(first).unwrap_or(
-            "",
-        )),
-        _ => put_query(out, fault, &pieces, pieces.find(at), schema),
+    if put_other(out, &pieces, Sort::Query)? {
+        return Ok(());
     }
+    put_query(out, fault, &pieces, at, schema)
 }
+
+// The bytes of a tuple file that tell whether it is one.
+const FRONT: usize = 4096;
 
 // Of a record of the tuple file.
 fn put_tuples_fault(
+    alloc: Global,
     out: &mut String,
     refused: &Refused<'_>,
     schema: &Schema,
     fault: &TupleFault,
 ) -> Result<(), AllocError> {
-    let record = record_of(refused.tuples, tuples_record(fault));
-    put_place(
-        out,
-        refused.words.name(Part::Tuples),
-        refused.tuples,
-        record.begins,
-    )?;
+    let text = refused.tuples;
+    let record = record_of(text, tuples_record(fault));
+    let at = record
+        .begins
+        .saturating_add(fault_begins(fault, record.bytes, schema));
+    put_place(out, refused.words.name(Part::Tuples), text, at as u64)?;
+    if matches!(fault, TupleFault::BadCycle { .. }) {
+        let pieces = pieces_of(alloc, text.get(..FRONT).unwrap_or(text))?;
+        if put_other(out, &pieces, Sort::Tuples)? {
+            return Ok(());
+        }
+    }
     put_record(out, fault, record, schema, refused.gap)
 }
 
@@ -144,7 +163,7 @@ fn put_behind_schema(
 ) -> Result<(), AllocError> {
     match refused.refusal {
         Refusal::Query(fault) => put_query_fault(alloc, out, refused, schema, fault),
-        Refusal::Tuples(fault) => put_tuples_fault(out, refused, schema, fault),
+        Refusal::Tuples(fault) => put_tuples_fault(alloc, out, refused, schema, fault),
         _ => Ok(()),
     }
 }

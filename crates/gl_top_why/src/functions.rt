@@ -30,6 +30,7 @@ const TIMES: [Row; 3] = [
             b"sliding",
             b"tumble_start",
             b"window_start",
+            b"window_end",
             b"time_bucket",
         ],
         cure: "A window of time stands behind the stream: FROM trades [SIZE 1 ADVANCE 1 TIME] GROUP BY symbol GROUPS 8. The feed gives the ticks, and min(ts) is the time of a window.",
@@ -46,7 +47,7 @@ const TIMES: [Row; 3] = [
             b"timestamp",
             b"unix_timestamp",
         ],
-        cure: "A time is a number of the feed's own: a column ts of kind u64, and for windows the feed's ticks, [SIZE 1 ADVANCE 1 TIME].",
+        cure: "A time is a number of the feed's own, a column ts of kind u64. Windows of time go by the feed's ticks, [SIZE 1 ADVANCE 1 TIME].",
     },
 ];
 
@@ -133,7 +134,7 @@ const NUMBERS: [Row; 2] = [
             b"ceiling",
             b"trunc",
         ],
-        cure: "There is no such function: a comparison is a number, 0 or 1, so write (b > a) * (b - a) with CAST, and there are no fractions to round.",
+        cure: "There is no such function: a comparison is a number, 0 or 1, so write (b > a) * (b - a) with CAST. There are no fractions to round.",
     },
 ];
 

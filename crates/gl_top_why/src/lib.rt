@@ -6,17 +6,24 @@
 //! what a sentence says.
 #![tactic(auto)]
 
+mod calls;
 mod elsewhere;
+mod expected;
 pub mod explaining;
+mod fields;
 mod functions;
 mod kinds;
+mod lacking;
 mod lines;
 mod names;
 mod pieces;
 mod querying;
 mod records;
+mod rules;
 mod schemas;
+mod states;
 mod syntax;
+mod texts;
 mod words;
 
 pub use explaining::{Refused, explanation};

@@ -49,12 +49,29 @@ fn place_of(text: &[u8], at: u64) -> Place {
     found
 }
 
-// The bytes up to the first line feed.
+// The bytes up to the first line feed, without a carriage return in front of it.
 fn line_of(text: &[u8]) -> &[u8] {
     match text.iter().position(|byte| *byte == b'\n') {
-        Some(end) => text.get(..end).unwrap_or(text),
+        Some(end) => {
+            let line = text.get(..end).unwrap_or(text);
+            line.strip_suffix(b"\r").unwrap_or(line)
+        }
         None => text,
     }
+}
+
+/// A place in a text; in place of the text's end that behind its last byte that is no white space.
+pub(crate) fn shown_place(text: &[u8], at: u64) -> u64 {
+    if at < text.len() as u64 {
+        return at;
+    }
+    let mut ends = 0usize;
+    for (place, byte) in text.iter().enumerate() {
+        if !matches!(*byte, b' ' | b'\t' | b'\r' | b'\n') {
+            ends = place.saturating_add(1);
+        }
+    }
+    ends as u64
 }
 
 /// Appends the name of a text, the line and the column of a place, that line, and a mark under the place.

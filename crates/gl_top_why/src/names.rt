@@ -1,8 +1,10 @@
-//! The names that a schema and the selects of a query have.
+//! The columns that the source of a select has, by the schema and by the selects of a query.
+//!
+//! The query is one that the reader takes, so that its pieces are where the grammar has them.
 
 use crate::lines::put_bytes;
 use crate::pieces::{Pieces, is_sign, is_spelled};
-use crate::words::is_name;
+use crate::words::{is_name, is_number};
 use gl_schema::{Schema, Stream, kind_front, kind_size};
 use gl_values::Kind;
 use std::alloc::AllocError;
@@ -25,9 +27,13 @@ pub(crate) fn put_streams(out: &mut String, schema: &Schema) -> Result<(), Alloc
     Ok(())
 }
 
-/// Appends the names of a stream's columns.
-pub(crate) fn put_columns(out: &mut String, stream: &Stream) -> Result<(), AllocError> {
-    let mut front = "";
+/// Appends the names of a stream's columns behind these words.
+pub(crate) fn put_columns(
+    out: &mut String,
+    words: &str,
+    stream: &Stream,
+) -> Result<(), AllocError> {
+    let mut front = words;
     for column in stream.columns.as_slice() {
         out.push_str(front)?;
         put_bytes(out, column.name.as_slice())?;
@@ -45,93 +51,248 @@ pub(crate) fn stream_named<'a>(schema: &'a Schema, name: &[u8]) -> Option<&'a St
         .find(|stream| stream.name.as_slice() == name)
 }
 
-// The place of FROM that belongs to the select around a piece: behind an item, in front of a condition.
-fn from_around(pieces: &Pieces<'_>, at: usize) -> Option<usize> {
+// The next place of a word from a piece on, outside of the brackets that are opened there.
+fn next_from(pieces: &Pieces<'_>, at: usize, wanted: &[u8]) -> Option<usize> {
     let mut open = 0u64;
-    if !is_spelled(pieces.clause(at), b"select") {
-        return from_before(pieces, at);
-    }
     for place in at..pieces.len() {
         let word = pieces.get(place);
         match word {
             b"(" | b"[" => open = open.saturating_add(1),
             b")" | b"]" => open = open.saturating_sub(1),
-            _ if open == 0 && is_spelled(word, b"from") => return Some(place),
+            _ if open == 0 && is_spelled(word, wanted) => return Some(place),
             _ => {}
         }
     }
     None
 }
 
-// The last FROM in front of a piece, outside of the brackets that are closed there.
-fn from_before(pieces: &Pieces<'_>, at: usize) -> Option<usize> {
+// The last place of a word in front of a piece, outside of the brackets that are closed there.
+fn last_before(pieces: &Pieces<'_>, at: usize, wanted: &[u8]) -> Option<usize> {
     let mut closed = 0u64;
     for place in (0..at).rev() {
         let word = pieces.get(place);
         match word {
             b")" | b"]" => closed = closed.saturating_add(1),
             b"(" | b"[" => closed = closed.saturating_sub(1),
-            _ if closed == 0 && is_spelled(word, b"from") => return Some(place),
+            _ if closed == 0 && is_spelled(word, wanted) => return Some(place),
             _ => {}
         }
     }
     None
 }
 
-// What a variable goes over, if it is one of an EACH.
-fn source_of<'a>(pieces: &Pieces<'a>, variable: &'a [u8]) -> &'a [u8] {
-    for place in 0..pieces.len() {
-        if is_spelled(pieces.get(place), b"each")
-            && pieces.get(place.saturating_add(1)) == variable
-        {
-            return pieces.get(place.saturating_add(3));
-        }
+/// The place of FROM that belongs to the select around a piece: behind an item, in front of all else.
+pub(crate) fn from_around(pieces: &Pieces<'_>, at: usize) -> Option<usize> {
+    if is_spelled(pieces.clause(at), b"select") {
+        next_from(pieces, at, b"from")
+    } else {
+        last_before(pieces, at, b"from")
     }
-    variable
 }
 
-/// The stream whose columns the select around a piece has, if its source is one or a variable over one.
+/// Where the source begins that has the columns of a piece: behind FROM, or behind IN for the key of an EACH.
+pub(crate) fn source_around(pieces: &Pieces<'_>, at: usize) -> Option<usize> {
+    let is_key = is_spelled(pieces.before(at, 1), b"by")
+        && !is_spelled(pieces.before(at, 2), b"group");
+    let front = if is_key {
+        last_before(pieces, at, b"in")?
+    } else {
+        from_around(pieces, at)?
+    };
+    Some(front.saturating_add(1))
+}
+
+/// The EACH in whose body a piece stands, the innermost one.
+pub(crate) fn each_around(pieces: &Pieces<'_>, at: usize) -> Option<usize> {
+    let mut place = at;
+    for _ in 0..at {
+        let open = pieces.open_before(place)?;
+        let front = pieces.before(open, 1);
+        if is_sign(front, b']') || is_number(front) {
+            return last_before(pieces, open, b"each");
+        }
+        place = open;
+    }
+    None
+}
+
+// What a query's columns are, by its first piece.
+#[derive(Clone, Copy)]
+enum Shape<'a> {
+    // The column at a place, and those of the query at another one.
+    Key(usize, usize),
+    // Those of the query at this place.
+    Same(usize),
+    // The items from this place on.
+    Items(usize),
+    // Those of a stream.
+    Whole(&'a Stream),
+    // It is not told.
+    Unknown,
+}
+
+// The columns of a name that stands as a source.
+fn name_shape<'a>(pieces: &Pieces<'_>, place: usize, schema: &'a Schema) -> Shape<'a> {
+    let name = pieces.get(place);
+    match each_around(pieces, place) {
+        Some(each) if pieces.get(each.saturating_add(1)) == name => {
+            Shape::Same(each.saturating_add(3))
+        }
+        Some(_) => Shape::Unknown,
+        None => match stream_named(schema, name) {
+            Some(stream) => Shape::Whole(stream),
+            None => Shape::Unknown,
+        },
+    }
+}
+
+// The columns of an EACH: its key and those of its body, or those of its body.
+fn each_shape<'a>(pieces: &Pieces<'_>, each: usize) -> Shape<'a> {
+    let source = each.saturating_add(3);
+    let mut open = 0u64;
+    let mut key = None;
+    for place in source..pieces.len() {
+        match pieces.get(place) {
+            b"(" if open == 0 && place != source => {
+                return match key {
+                    Some(key) => Shape::Key(key, place),
+                    None => Shape::Same(place),
+                };
+            }
+            b"(" => open = open.saturating_add(1),
+            b")" => open = open.saturating_sub(1),
+            word if open == 0 && is_spelled(word, b"by") => key = Some(place.saturating_add(1)),
+            _ => {}
+        }
+    }
+    Shape::Unknown
+}
+
+// Whether CONCAT joins the columns of a query in brackets, whose first piece this is.
+fn is_joined(pieces: &Pieces<'_>, first: usize) -> bool {
+    let mut open = 0u64;
+    for place in first..pieces.len() {
+        match pieces.get(place) {
+            b"(" => open = open.saturating_add(1),
+            b")" if open == 0 => return false,
+            b")" => open = open.saturating_sub(1),
+            word if open == 0 && is_spelled(word, b"concat") => return true,
+            _ => {}
+        }
+    }
+    false
+}
+
+// The columns of the query whose first piece this is.
+fn shape_of<'a>(pieces: &Pieces<'_>, place: usize, schema: &'a Schema) -> Shape<'a> {
+    let (word, next) = (pieces.get(place), place.saturating_add(1));
+    if is_sign(word, b'(') {
+        return if is_joined(pieces, next) {
+            Shape::Unknown
+        } else {
+            Shape::Same(next)
+        };
+    }
+    if is_spelled(word, b"each") {
+        return each_shape(pieces, place);
+    }
+    if !is_spelled(word, b"select") {
+        return name_shape(pieces, place, schema);
+    }
+    if is_sign(pieces.get(next), b'*') {
+        Shape::Same(place.saturating_add(3))
+    } else {
+        Shape::Items(next)
+    }
+}
+
+/// The stream whose columns the select around a piece has, if they are those of one.
 pub(crate) fn stream_around<'a>(
     pieces: &Pieces<'_>,
     at: usize,
     schema: &'a Schema,
 ) -> Option<&'a Stream> {
-    let name = if is_spelled(pieces.clause(at), b"in") || is_spelled(pieces.clause(at), b"each") {
-        pieces.before(at, 2)
-    } else {
-        let from = from_around(pieces, at)?;
-        source_of(pieces, pieces.get(from.saturating_add(1)))
-    };
-    stream_named(schema, name)
+    let mut place = source_around(pieces, at)?;
+    for _ in 0..pieces.len() {
+        match shape_of(pieces, place, schema) {
+            Shape::Same(next) => place = next,
+            Shape::Whole(stream) => return Some(stream),
+            _ => return None,
+        }
+    }
+    None
 }
 
-/// Appends the names that the items of the select below have, which stands in brackets behind FROM.
-pub(crate) fn put_items(
+// Whether the columns of the query at a place are told.
+fn is_told(pieces: &Pieces<'_>, first: usize, schema: &Schema) -> bool {
+    let mut place = first;
+    for _ in 0..pieces.len() {
+        match shape_of(pieces, place, schema) {
+            Shape::Same(next) | Shape::Key(_, next) => place = next,
+            Shape::Items(_) | Shape::Whole(_) => return true,
+            Shape::Unknown => return false,
+        }
+    }
+    false
+}
+
+// Appends the names of items from a place on, behind these words.
+fn put_items(
     out: &mut String,
+    words: &str,
     pieces: &Pieces<'_>,
-    at: usize,
+    first: usize,
 ) -> Result<(), AllocError> {
-    let Some(from) = from_around(pieces, at) else {
-        return Ok(());
-    };
     let mut open = 0u64;
-    let mut front = "";
-    for place in from.saturating_add(1)..pieces.len() {
+    let mut is_first = true;
+    for place in first..pieces.len() {
         let word = pieces.get(place);
         let behind = pieces.get(place.saturating_add(1));
         match word {
-            b"(" => open = open.saturating_add(1),
-            b")" => open = open.saturating_sub(1),
-            _ if open == 1 && is_spelled(word, b"from") => return Ok(()),
+            b"(" | b"[" => open = open.saturating_add(1),
+            b")" | b"]" => open = open.saturating_sub(1),
+            _ if open == 0 && is_spelled(word, b"from") => return Ok(()),
             _
-                if open == 1
+                if open == 0
                     && is_name(word)
                     && (is_sign(behind, b',') || is_spelled(behind, b"from")) => {
-                out.push_str(front)?;
+                out.push_str(if is_first { words } else { ", " })?;
                 put_bytes(out, word)?;
-                front = ", ";
+                is_first = false;
             }
             _ => {}
+        }
+    }
+    Ok(())
+}
+
+/// Appends the names of the columns that the select around a piece has, where they are told.
+pub(crate) fn put_columns_around(
+    out: &mut String,
+    pieces: &Pieces<'_>,
+    at: usize,
+    schema: &Schema,
+) -> Result<(), AllocError> {
+    let Some(first) = source_around(pieces, at) else {
+        return Ok(());
+    };
+    if !is_told(pieces, first, schema) {
+        return Ok(());
+    }
+    let mut place = first;
+    let mut front = "; there are ";
+    for _ in 0..pieces.len() {
+        match shape_of(pieces, place, schema) {
+            Shape::Key(key, next) => {
+                out.push_str(front)?;
+                put_bytes(out, pieces.get(key))?;
+                front = ", ";
+                place = next;
+            }
+            Shape::Same(next) => place = next,
+            Shape::Items(items) => return put_items(out, front, pieces, items),
+            Shape::Whole(stream) => return put_columns(out, front, stream),
+            Shape::Unknown => return Ok(()),
         }
     }
     Ok(())

@@ -149,6 +149,14 @@ impl<'a> Pieces<'a> {
         }
     }
 
+    /// Whether a piece begins with the byte at a place; the end of the text begins anywhere.
+    pub(crate) fn begins_at(&self, at: usize, byte: u64) -> bool {
+        match self.list.get(at) {
+            Some(piece) => piece.begins as u64 == byte,
+            None => true,
+        }
+    }
+
     /// The bracket that is open in front of a piece, if one is.
     pub(crate) fn open_before(&self, at: usize) -> Option<usize> {
         let mut closed = 0u64;

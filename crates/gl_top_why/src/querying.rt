@@ -1,48 +1,25 @@
 //! What is wrong with a query, in a sentence.
 
-use crate::elsewhere::cure_of;
+use crate::elsewhere::value_cure;
+use crate::expected::put_expected;
 use crate::lines::put_bytes;
-use crate::names::{put_columns, put_items, put_kind, put_streams, stream_around};
-use crate::pieces::{Pieces, is_sign, is_spelled};
+use crate::names::{each_around, put_columns_around, put_kind, put_streams, stream_around};
+use crate::pieces::{Pieces, is_one_of, is_sign, is_spelled};
+use crate::rules::put_rule;
+use crate::states::{State, state_at};
 use crate::syntax::{is_word_for_name, syntax_cure};
-use crate::words::{is_name, is_number, number_of};
+use crate::words::{is_number, is_operator, number_of};
 use gl_query::QueryFault;
-use gl_schema::Schema;
+use gl_schema::{Schema, Stream};
 use std::alloc::AllocError;
 
-// The sentence of each kind of fault; that of others is made of what stands there.
-fn sentence_of(fault: &QueryFault) -> &'static str {
-    match fault {
-        QueryFault::NotCondition { .. } => {
-            "This is no condition, which has one bit: write a comparison, price <> 0, or a column of kind u1."
-        }
-        QueryFault::MixedItems { .. } => {
-            "This item is of another sort than the first. Either all items are aggregates or none is: write GROUP BY price GROUPS 64 with the key in front, or min(price) AS price. A row beside its window's totals is wsum(price, [0, 0, 1])."
-        }
-        QueryFault::TwiceNamed { .. } => {
-            "Two columns of the result, or two results, would have this name: write AS and another one."
-        }
-        QueryFault::ColumnsDiffer { .. } => {
-            "The two sides of UNION have other kinds, or in another order: CAST, or name the columns in one order."
-        }
-        QueryFault::PaceDiffers { .. } => {
-            "CONCAT pairs rows, so both sides give one for each row of one stream, or one each at the end. Take two selects of one stream without WHERE, or two totals."
-        }
-        QueryFault::NotClosing { .. } => {
-            "The body must give nothing before the window or the group ends: let it be a total, SELECT sum(price) AS p FROM w."
-        }
-        QueryFault::NoTime { .. } => {
-            "A window of time goes over a stream of the schema alone. Put WHERE and items behind it: EACH w IN trades [SIZE 2 ADVANCE 2 TIME] (SELECT count() AS n FROM (SELECT price FROM w))."
-        }
-        QueryFault::TooDeep { .. } => {
-            "At most 32 brackets are open at once, 256 operators stand in one expression, and 64 UNION and CONCAT in a query: name a part in a select below."
-        }
-        _ => "",
-    }
-}
-
-// A token that no statement goes on with.
-fn put_syntax(out: &mut String, pieces: &Pieces<'_>, at: usize) -> Result<(), AllocError> {
+// A token that no statement goes on with, and what can stand there.
+fn put_syntax(
+    out: &mut String,
+    pieces: &Pieces<'_>,
+    at: usize,
+    byte: u64,
+) -> Result<(), AllocError> {
     let word = pieces.get(at);
     if word.is_empty() {
         out.push_str("The text ends here. ")?;
@@ -53,10 +30,15 @@ fn put_syntax(out: &mut String, pieces: &Pieces<'_>, at: usize) -> Result<(), Al
         put_bytes(out, word)?;
         out.push_str(" cannot stand here. ")?;
     }
-    out.push_str(syntax_cure(pieces, at))
+    out.push_str(syntax_cure(pieces, at))?;
+    if !pieces.begins_at(at, byte) {
+        return Ok(());
+    }
+    out.push('\n')?;
+    put_expected(out, pieces, at)
 }
 
-// A name that the schema has not.
+// A name that the schema has not, or that the body around has not.
 fn put_stream(
     out: &mut String,
     pieces: &Pieces<'_>,
@@ -65,6 +47,11 @@ fn put_stream(
 ) -> Result<(), AllocError> {
     out.push_str("There is no stream ")?;
     put_bytes(out, pieces.get(at))?;
+    if let Some(each) = each_around(pieces, at) {
+        out.push_str(" in this body: its one source is its variable ")?;
+        put_bytes(out, pieces.get(each.saturating_add(1)))?;
+        return out.push('.');
+    }
     out.push_str("; the schema has ")?;
     put_streams(out, schema)?;
     out.push_str(". Inside a body its variable is the one source.")
@@ -80,13 +67,9 @@ fn put_column(
     let word = pieces.get(at);
     out.push_str("There is no column ")?;
     put_bytes(out, word)?;
-    out.push_str("; there are ")?;
-    match stream_around(pieces, at, schema) {
-        Some(stream) => put_columns(out, stream)?,
-        None => put_items(out, pieces, at)?,
-    }
+    put_columns_around(out, pieces, at, schema)?;
     out.push_str(". ")?;
-    out.push_str(cure_of(word).unwrap_or("A select below has the columns that it names."))
+    out.push_str(value_cure(word).unwrap_or("A select below has the columns that it names."))
 }
 
 // A side of another kind.
@@ -108,37 +91,42 @@ fn put_kinds(
         );
     }
     put_bytes(out, word)?;
-    match word {
-        [b'\'', ..] => out.push_str(" is a text, and the other side is a number: write a number.")?,
-        _ if is_number(word) => out.push_str(
-            " is a number, and the other side is a text: write '..'.",
-        )?,
-        _ if is_name(word) => out.push_str(
-            " is a text, and a number must stand here: texts are compared, and min, max and count take them.",
-        )?,
-        _ => out.push_str(
-            " has sides of two kinds: make them one by CAST, CAST(v AS u32), or take a text for a number out.",
-        )?,
+    out.push_str(kinds_cure(pieces, at))?;
+    let is_signed = state_at(pieces, at.saturating_add(1)) == State::SignedNumber;
+    if is_number(word) || word.starts_with(b"'") || is_signed {
+        put_other_kind(out, pieces, at, schema)
+    } else {
+        put_own_kinds(out, pieces, at, schema)
     }
-    put_own_kinds(out, pieces, at, schema)
 }
 
-// The kinds of the columns on both sides of a piece.
-fn put_own_kinds(
-    out: &mut String,
-    pieces: &Pieces<'_>,
-    at: usize,
-    schema: &Schema,
-) -> Result<(), AllocError> {
-    let Some(stream) = stream_around(pieces, at, schema) else {
-        return Ok(());
-    };
+// What differs at a literal or an operator.
+fn kinds_cure(pieces: &Pieces<'_>, at: usize) -> &'static str {
+    let (word, next) = (pieces.get(at), at.saturating_add(1));
+    let is_beside = is_operator(pieces.before(at, 1)) || is_operator(pieces.get(next));
+    let signs: [&[u8]; 3] = [b"+", b"-", b"*"];
+    let is_summed = is_one_of(pieces.before(at, 1), &signs) || is_one_of(pieces.get(next), &signs);
+    if word.starts_with(b"'") && is_beside {
+        " is a text, and the other side is a number: write a number."
+    } else if word.starts_with(b"'") {
+        " is a text, and a number must stand here."
+    } else if is_number(word) && is_summed {
+        " is a number, and the other side is a text, with which nothing is reckoned."
+    } else if is_number(word) {
+        " is a number, and the other side is a text: write '..'."
+    } else if state_at(pieces, next) == State::SignedNumber {
+        " begins a number, and the other side is a text: write '..'."
+    } else if is_one_of(word, &signs) {
+        " takes two numbers of one kind, and a text is none: CAST(v AS u32) makes another kind of a number."
+    } else {
+        " has sides of two kinds: make them one by CAST, CAST(v AS u32), or take a text for a number out."
+    }
+}
+
+// Appends the kind of a column of this name.
+fn put_own_kind(out: &mut String, stream: &Stream, name: &[u8]) -> Result<(), AllocError> {
     for column in stream.columns.as_slice() {
-        let name = column.name.as_slice();
-        if name == pieces.before(at, 1)
-            || name == pieces.get(at)
-            || name == pieces.get(at.saturating_add(1))
-        {
+        if column.name.as_slice() == name {
             out.push(' ')?;
             put_bytes(out, name)?;
             out.push_str(" is ")?;
@@ -149,17 +137,80 @@ fn put_own_kinds(
     Ok(())
 }
 
-// A literal that its kind has no room for.
-fn put_literal(out: &mut String, pieces: &Pieces<'_>, at: usize) -> Result<(), AllocError> {
-    put_bytes(out, pieces.get(at))?;
-    if is_sign(pieces.get(at), b'-') {
-        return out.push_str(
-            " and its number are below 0, and the other side has no sign: CAST it, CAST(price AS s64) < -1.",
-        );
+// The kinds of the columns on both sides of an operator.
+fn put_own_kinds(
+    out: &mut String,
+    pieces: &Pieces<'_>,
+    at: usize,
+    schema: &Schema,
+) -> Result<(), AllocError> {
+    let Some(stream) = stream_around(pieces, at, schema) else {
+        return Ok(());
+    };
+    let (left, right) = (pieces.before(at, 1), pieces.get(at.saturating_add(1)));
+    put_own_kind(out, stream, left)?;
+    if left == right {
+        return Ok(());
     }
-    out.push_str(
-        " does not fit the kind on the other side: make that wider, CAST(price AS u64), or take a smaller number.",
-    )
+    put_own_kind(out, stream, right)
+}
+
+// The kind of the column on the other side of the operator beside a literal.
+fn put_other_kind(
+    out: &mut String,
+    pieces: &Pieces<'_>,
+    at: usize,
+    schema: &Schema,
+) -> Result<(), AllocError> {
+    let Some(stream) = stream_around(pieces, at, schema) else {
+        return Ok(());
+    };
+    if is_operator(pieces.before(at, 1)) {
+        put_own_kind(out, stream, pieces.before(at, 2))
+    } else if is_operator(pieces.get(at.saturating_add(1))) {
+        put_own_kind(out, stream, pieces.get(at.saturating_add(2)))
+    } else {
+        Ok(())
+    }
+}
+
+// Whether a literal is a condition of its own, with no other side.
+fn stands_alone(pieces: &Pieces<'_>, at: usize) -> bool {
+    let length = if is_sign(pieces.get(at), b'-') { 2 } else { 1 };
+    let next = pieces.get(at.saturating_add(length));
+    is_one_of(pieces.before(at, 1), &[b"where", b"and", b"or", b"not"])
+        && (!is_operator(next) || is_one_of(next, &[b"and", b"or"]))
+}
+
+// A literal that its kind has no room for.
+fn put_literal(
+    out: &mut String,
+    pieces: &Pieces<'_>,
+    at: usize,
+    schema: &Schema,
+) -> Result<(), AllocError> {
+    let word = pieces.get(at);
+    put_bytes(out, word)?;
+    let is_weight = match pieces.open_before(at) {
+        Some(open) => is_sign(pieces.get(open), b'['),
+        None => false,
+    };
+    if stands_alone(pieces, at) {
+        return out.push_str(" is no condition, which has one bit: write a comparison, price <> 0.");
+    }
+    out.push_str(if is_sign(word, b'-') {
+        " and its number do not fit the kind on the other side: CAST it to one with a sign, CAST(price AS s64) < -1."
+    } else if is_weight {
+        " does not fit the kind that it weighs: make that wider, wsum(CAST(price AS u64), [1, 2]), or take a smaller number."
+    } else if word.starts_with(b"'") {
+        " has more bytes than the kind on the other side: write a shorter text, or make that wider, CAST(symbol AS text8)."
+    } else {
+        " does not fit the kind on the other side: make that wider, CAST(price AS u64), or take a smaller number."
+    })?;
+    if is_weight {
+        return Ok(());
+    }
+    put_other_kind(out, pieces, at, schema)
 }
 
 // How many windows would be open at once, and the least advance with which 64 are enough.
@@ -204,21 +255,22 @@ fn put_range(out: &mut String, pieces: &Pieces<'_>, at: usize) -> Result<(), All
     out.push_str(" is one too many: a result has at most 32 columns, and a text at most 8 queries.")
 }
 
-/// Appends what is wrong with a query at a piece, and what to write.
+/// Appends what is wrong with a query at a byte, in a piece, and what to write.
 pub(crate) fn put_query(
     out: &mut String,
     fault: &QueryFault,
     pieces: &Pieces<'_>,
-    at: usize,
+    byte: u64,
     schema: &Schema,
 ) -> Result<(), AllocError> {
+    let at = pieces.find(byte);
     match fault {
-        QueryFault::Syntax { .. } => put_syntax(out, pieces, at),
+        QueryFault::Syntax { .. } => put_syntax(out, pieces, at, byte),
         QueryFault::UnknownStream { .. } => put_stream(out, pieces, at, schema),
         QueryFault::UnknownColumn { .. } => put_column(out, pieces, at, schema),
         QueryFault::KindsDiffer { .. } => put_kinds(out, pieces, at, schema),
-        QueryFault::LiteralTooWide { .. } => put_literal(out, pieces, at),
+        QueryFault::LiteralTooWide { .. } => put_literal(out, pieces, at, schema),
         QueryFault::OutOfRange { .. } => put_range(out, pieces, at),
-        _ => out.push_str(sentence_of(fault)),
+        _ => put_rule(out, fault, pieces, at),
     }
 }

@@ -1,155 +1,151 @@
 //! What is wrong with a tuple file, in a sentence: the record, the field, its column, its kind and its value.
 
+use crate::fields::{Record, field, field_begins};
 use crate::lines::put_bytes;
 use crate::names::{put_columns, put_kind, put_streams, stream_named};
-use crate::schemas::other_text;
 use crate::words::{is_number, number_of};
-use gl_schema::{Schema, Stream};
+use gl_schema::{Column, Schema, Stream, kind_size};
 use gl_tuples::TupleFault;
 use gl_values::Kind;
 use std::alloc::AllocError;
 use std::fmt::Write;
 
-/// A record of a tuple file: where it begins, its bytes, and those of the record before.
-#[derive(Clone, Copy)]
-pub(crate) struct Record<'a> {
-    pub(crate) begins: u64,
-    pub(crate) bytes: &'a [u8],
-    pub(crate) before: &'a [u8],
+// The greatest number of so many bits.
+fn greatest(bits: u32) -> u64 {
+    let cut = 64u32.saturating_sub(bits);
+    if cut >= 64 { 0 } else { u64::MAX >> cut }
 }
 
-// A line without the carriage return at its end.
-fn trimmed(line: &[u8]) -> &[u8] {
-    line.strip_suffix(b"\r").unwrap_or(line)
-}
-
-/// The record of a number, counted from 1, where each is a line. Empty lines are none.
-pub(crate) fn record_of(text: &[u8], number: u64) -> Record<'_> {
-    let mut found = Record {
-        begins: 0,
-        bytes: b"",
-        before: b"",
-    };
-    let (mut at, mut count) = (0u64, 0u64);
-    for line in text.split(|byte| *byte == b'\n') {
-        let bytes = trimmed(line);
-        if !bytes.is_empty() {
-            count = count.saturating_add(1);
-            found = Record {
-                begins: at,
-                bytes,
-                before: found.bytes,
-            };
-            if count >= number {
-                return found;
-            }
-        }
-        at = at.saturating_add(line.len() as u64).saturating_add(1);
-    }
-    found
-}
-
-// The field at a place of a record, without quotes around it.
-fn field(record: &[u8], at: usize) -> Option<&[u8]> {
-    let mut place = 0usize;
-    for bytes in record.split(|byte| *byte == b',') {
-        if place == at {
-            return Some(unquoted(bytes));
-        }
-        place = place.saturating_add(1);
-    }
-    None
-}
-
-// Bytes without quotes around them.
-fn unquoted(bytes: &[u8]) -> &[u8] {
-    match bytes {
-        [b'"', inner @ .., b'"'] => inner,
-        _ => bytes,
-    }
-}
-
-// Whether a value fits its kind.
-fn fits(kind: Kind, value: &[u8]) -> bool {
+// The greatest number of a kind, and how far its least one is below 0.
+fn bounds(kind: Kind) -> (u64, u64) {
+    let bits = u32::from(kind_size(kind));
     match kind {
-        Kind::Text(bytes) => {
+        Kind::Signed(_) => {
+            let most = greatest(bits.saturating_sub(1));
+            (most, most.saturating_add(1))
+        }
+        _ => (greatest(bits), 0),
+    }
+}
+
+// Whether a value fits its kind. A quote inside is passed over, since it may stand for another.
+fn fits(kind: Kind, value: &[u8]) -> bool {
+    let (most, below) = bounds(kind);
+    match (kind, value) {
+        (Kind::Text(_), _) if value.contains(&b'"') => true,
+        (Kind::Text(bytes), _) => {
             value.len() <= usize::from(bytes)
                 && value.iter().all(|byte| matches!(*byte, b' '..=b'~'))
         }
-        Kind::Unsigned(width) => is_below(value, u32::from(width)),
-        Kind::Signed(width) => match value {
-            [b'-', digits @ ..] => is_below(digits, u32::from(width)),
-            digits => is_below(digits, u32::from(width).saturating_sub(1)),
-        },
+        (Kind::Signed(_), [b'-', digits @ ..]) => is_at_most(digits, below),
+        (_, digits) => is_at_most(digits, most),
     }
 }
 
-// Whether digits spell a number of so many bits.
-fn is_below(digits: &[u8], bits: u32) -> bool {
+// Whether digits spell a number up to this one.
+fn is_at_most(digits: &[u8], most: u64) -> bool {
     match number_of(digits) {
-        Some(number) => bits >= 64 || number >> bits == 0,
+        Some(number) => number <= most,
         None => false,
     }
 }
 
+// A number past the bounds of its kind.
+fn put_bound(out: &mut String, kind: Kind, is_below: bool) -> Result<(), AllocError> {
+    let (most, below) = bounds(kind);
+    if is_below {
+        write!(out, "The number is below the least of its kind, -{below}")?;
+    } else {
+        write!(out, "The number is above the greatest of its kind, {most}")?;
+    }
+    out.push_str(if kind_size(kind) >= 64 {
+        ", and no kind is wider: count in a greater unit."
+    } else {
+        ": write a wider kind in the schema."
+    })
+}
+
 // Why a value does not fit its kind.
-fn value_cure(kind: Kind, value: &[u8]) -> &'static str {
+fn put_value_cure(out: &mut String, kind: Kind, value: &[u8]) -> Result<(), AllocError> {
+    let is_below = value.starts_with(b"-");
     match kind {
-        Kind::Text(_) =>
+        Kind::Text(_) => out.push_str(
             "The kind says how many bytes a text has at most, and each prints. Write a shorter one, or a wider kind in the schema.",
-        _ if value.is_empty() =>
-            "A value is lacking: there is no NULL, so write 0, or give the feed a column of kind u1 that tells.",
-        _ if value.contains(&b'.') =>
+        ),
+        _ if value.is_empty() => out.push_str(
+            "There is no NULL: write 0, or give the feed a column of kind u1 that tells.",
+        ),
+        _ if value.contains(&b'.') => out.push_str(
             "There are no fractions: write the number in its smallest unit, 11247 for 112.47.",
-        _ if value.starts_with(b"-") =>
+        ),
+        Kind::Unsigned(_) if is_below => out.push_str(
             "The kind has no sign: write one of s2 to s64 in the schema.",
-        _ if !value.iter().all(|byte| byte.is_ascii_digit()) =>
-            "A number has digits alone, without signs, spaces and units.",
-        _ => "The number is too great for its kind: write a wider one in the schema.",
+        ),
+        _ if is_number(value) => put_bound(out, kind, false),
+        _ if is_below && is_number(value.get(1..).unwrap_or(b"")) => put_bound(out, kind, true),
+        _ => out.push_str(
+            "A number has digits alone, behind a - where it is below 0: no other sign, no space and no unit.",
+        ),
     }
 }
 
-// The first field that does not fit its column.
-fn put_value(out: &mut String, record: &[u8], stream: &Stream) -> Result<(), AllocError> {
+// The first field that does not fit its column, counted from 0, and that column.
+fn bad_field<'a>(record: &[u8], stream: &'a Stream) -> Option<(usize, &'a Column)> {
     let mut at = 2usize;
     for column in stream.columns.as_slice() {
-        let value = field(record, at).unwrap_or(b"");
-        if !fits(column.kind, value) {
-            let number = at.saturating_add(1);
-            write!(out, "Field {number}, column ")?;
-            put_bytes(out, column.name.as_slice())?;
-            out.push_str(" of kind ")?;
-            put_kind(out, column.kind)?;
-            out.push_str(", has no value ")?;
-            put_bytes(out, value)?;
-            out.push_str(". ")?;
-            return out.push_str(value_cure(column.kind, value));
+        if !fits(column.kind, field(record, at).unwrap_or(b"")) {
+            return Some((at, column));
         }
         at = at.saturating_add(1);
     }
-    out.push_str("A value does not fit the kind of its column.")
+    None
+}
+
+// The stream that a record names.
+fn stream_of<'a>(record: &[u8], schema: &'a Schema) -> Option<&'a Stream> {
+    stream_named(schema, field(record, 1).unwrap_or(b""))
+}
+
+// A value that its column has no room for.
+fn put_bad_value(out: &mut String, record: &[u8], schema: &Schema) -> Result<(), AllocError> {
+    let bad = match stream_of(record, schema) {
+        Some(stream) => bad_field(record, stream),
+        None => None,
+    };
+    let Some((at, column)) = bad else {
+        return out.push_str("A value does not fit the kind of its column.");
+    };
+    let value = field(record, at).unwrap_or(b"");
+    let number = at.saturating_add(1);
+    write!(out, "Field {number}, column ")?;
+    put_bytes(out, column.name.as_slice())?;
+    out.push_str(" of kind ")?;
+    put_kind(out, column.kind)?;
+    if value.is_empty() {
+        out.push_str(", is empty. ")?;
+    } else {
+        out.push_str(", has no value ")?;
+        put_bytes(out, value)?;
+        out.push_str(". ")?;
+    }
+    put_value_cure(out, column.kind, value)
 }
 
 // What a record of the stream that this one names has.
 fn put_shape(out: &mut String, record: &[u8], schema: &Schema) -> Result<(), AllocError> {
-    let Some(stream) = stream_named(schema, field(record, 1).unwrap_or(b"")) else {
+    let Some(stream) = stream_of(record, schema) else {
         return out.push_str(
             "A record is a cycle, a stream and a value for each column, or a cycle and tick, or a cycle and end.",
         );
     };
     out.push_str("A record of ")?;
     put_bytes(out, stream.name.as_slice())?;
-    out.push_str(" is a cycle, the stream, and a value for each of ")?;
-    put_columns(out, stream)?;
+    put_columns(
+        out,
+        " is a cycle, the stream, and a value for each of ",
+        stream,
+    )?;
     out.push('.')
-}
-
-// A value that its column has no room for.
-fn put_bad_value(out: &mut String, record: &[u8], schema: &Schema) -> Result<(), AllocError> {
-    match stream_named(schema, field(record, 1).unwrap_or(b"")) {
-        Some(stream) => put_value(out, record, stream),
-        None => out.push_str("A value does not fit the kind of its column."),
-    }
 }
 
 // A stream that the schema has not.
@@ -173,17 +169,41 @@ fn put_close(out: &mut String, record: Record<'_>, gap: u32) -> Result<(), Alloc
 
 // What the first field may not be.
 fn put_cycle(out: &mut String, record: &[u8]) -> Result<(), AllocError> {
-    let first = field(record, 0).unwrap_or(b"");
-    let word = first.split(|byte| *byte == b' ').next().unwrap_or(b"");
-    if let Some(sentence) = other_text(word)
-        && !is_number(first)
-    {
-        return out.push_str(sentence);
-    }
-    put_bytes(out, first)?;
+    put_bytes(out, field(record, 0).unwrap_or(b""))?;
     out.push_str(
         " is no cycle: the first field has decimal digits alone. A file has no header; tools/beats makes cycles of time stamps.",
     )
+}
+
+// Where a record has too few fields or too many: at the first that is too much, or at its end.
+fn count_begins(record: &[u8], schema: &Schema) -> usize {
+    match field(record, 1).unwrap_or(b"") {
+        b"end" | b"tick" => field_begins(record, 2),
+        _ => match stream_of(record, schema) {
+            Some(stream) => {
+                field_begins(record, stream.columns.as_slice().len().saturating_add(2))
+            }
+            None => record.len(),
+        },
+    }
+}
+
+/// Where the fault of a record stands in it: where its field begins, if that is known.
+pub(crate) fn fault_begins(fault: &TupleFault, record: &[u8], schema: &Schema) -> usize {
+    match fault {
+        TupleFault::UnknownStream { .. }
+        | TupleFault::StreamTwice { .. }
+        | TupleFault::TickTwice { .. } => field_begins(record, 1),
+        TupleFault::FieldCount { .. } => count_begins(record, schema),
+        TupleFault::BadValue { .. } => match stream_of(record, schema) {
+            Some(stream) => match bad_field(record, stream) {
+                Some((at, _)) => field_begins(record, at),
+                None => 0,
+            },
+            None => 0,
+        },
+        _ => 0,
+    }
 }
 
 /// Appends what is wrong with a record of a tuple file, and what to write.

@@ -10,30 +10,51 @@ use std::alloc::AllocError;
 const FORM: &str =
     "A schema is stream NAME (NAME KIND, ..); once or more, as stream trades (symbol text4, price u32);";
 
-/// What a text is that stands where a schema should, by its first word.
-pub(crate) fn other_text(first: &[u8]) -> Option<&'static str> {
-    if is_one_of(first, &[b"select", b"each", b"("]) {
-        return Some(
-            "This text is a query: the schema comes first and the query second, why S Q T.",
-        );
+// What a schema waits for.
+#[derive(Clone, Copy, PartialEq, Eq)]
+enum Wanted {
+    Stream,
+    Name,
+    Open,
+    Column,
+    Kind,
+    Behind,
+    End,
+}
+
+// What it waits for behind a piece.
+fn behind(wanted: Wanted, piece: &[u8]) -> Wanted {
+    match wanted {
+        Wanted::Stream => Wanted::Name,
+        Wanted::Name => Wanted::Open,
+        Wanted::Open => Wanted::Column,
+        Wanted::Column => Wanted::Kind,
+        Wanted::Kind => Wanted::Behind,
+        Wanted::Behind if is_sign(piece, b',') => Wanted::Column,
+        Wanted::Behind => Wanted::End,
+        Wanted::End => Wanted::Stream,
     }
-    if matches!(first, [b'0'..=b'9', ..]) {
-        return Some(
-            "This text looks like a tuple file: the schema comes first, then the query, and the tuple file last.",
-        );
+}
+
+// What can stand at a piece, where the pieces in front begin a schema.
+fn wanted_at(pieces: &Pieces<'_>, at: usize) -> &'static str {
+    let mut wanted = Wanted::Stream;
+    for place in 0..at {
+        wanted = behind(wanted, pieces.get(place));
     }
-    if is_spelled(first, b"module") {
-        return Some("This text is Verilog: sim S V T takes it, behind the schema.");
+    match wanted {
+        Wanted::Stream => "stream",
+        Wanted::Name | Wanted::Column => "a name",
+        Wanted::Open => "(",
+        Wanted::Kind => "a kind",
+        Wanted::Behind => "a comma or )",
+        Wanted::End => ";",
     }
-    None
 }
 
 // What cannot stand there.
 fn syntax_cure(pieces: &Pieces<'_>, at: usize) -> &'static str {
     let (word, before) = (pieces.get(at), pieces.before(at, 1));
-    if let Some(cure) = other_text(pieces.get(0)) {
-        return cure;
-    }
     if is_spelled(word, b"stream") && at == 0 {
         return "The word stream is in small letters.";
     }
@@ -103,7 +124,10 @@ pub(crate) fn put_schema(
                 put_bytes(out, word)?;
                 out.push_str(" cannot stand here. ")?;
             }
-            out.push_str(syntax_cure(pieces, at))
+            out.push_str(syntax_cure(pieces, at))?;
+            out.push_str("\nHere ")?;
+            out.push_str(wanted_at(pieces, at))?;
+            out.push_str(" can stand.")
         }
     }
 }
