@@ -5,9 +5,10 @@ from meaning import number_of, shown
 CYCLES = 40000  # about how far a tuple file goes
 KEYWORDS = '''select from where group by groups each in size advance tuples time union concat into as and or not cast
 count sum min max avg wsum end tick valid eos'''.split()
+FRAMES = 'own lag lag count sum min max avg last_value'.split()
 NAMES = '''a b c d x1 y_2 price volume symbol cost wire reg module begin endmodule always assign clk rst out input
 posedge if else q it w g stream n0_1 u8 text1 overflow a0123456789b0123456789c012345678 initial memory integer
-case'''.split()
+case lag rows over filter row current partition last_value between unbounded preceding'''.split()
 UNSIGNED = 'u1 u1 u2 u3 u7 u8 u8 u16 u31 u32 u32 u33 u63 u64 u64'.split()
 SIGNED = 's2 s2 s3 s7 s8 s8 s16 s31 s32 s32 s33 s63 s64 s64'.split()
 TEXTS = 'text1 text2 text3 text4 text4 text7 text8'.split()
@@ -35,7 +36,7 @@ def weight_of(query):
     inside = (
         weight_of(query['body'])
         if query['body']
-        else 1 + sum(10 if sort == 'avg' else 1 for _, sort, _, _ in query['totals'] or [])
+        else 1 + sum(10 if it[1] == 'avg' else 1 for it in (query['totals'] or []) + (query['frames'] or []))
     )
     return weight_of(query['source']) + copies * inside
 
@@ -59,7 +60,8 @@ def may_have_spare(query):
 class Maker:
     """Draws schemas, queries and tuples. What it draws is accepted, unless its plan passes a limit."""
 
-    def __init__(self, draw, groups, signed, ticks, times, keyed):
+    def __init__(self, draw, groups, signed, ticks, times, keyed, frames=False):
+        self.frames = frames
         self.draw, self.groups, self.signed, self.ticks, self.times, self.keyed, self.words = (
             draw,
             groups,
@@ -208,16 +210,32 @@ class Maker:
             )
         return out
 
+    def frames_over(self, columns):
+        """Items of a select of frames, one to four, of which one looks back at least."""
+        out = []
+        for name in self.names(self.draw.randint(1, 4)):
+            sort, kind = self.draw.choice(FRAMES), self.draw.choice(columns)[1]
+            if kind[0] == 't' and sort in ('sum', 'avg'):
+                kind = self.number_kind()
+            argument = None if sort == 'count' else self.alone(columns, kind, self.draw.choice([0, 0, 1, 2]))
+            condition = self.expression(columns, 'u1', self.draw.randint(1, 2)) if self.often(0.4) else None
+            back = self.draw.choice([0, 1, 1, 2, 3, 4, 5, 7, 8, 19, None])
+            if sort in ('own', 'lag'):
+                condition, back = None, max(back or 1, 1) if sort == 'lag' else None
+            out.append((name, sort, argument, condition, back))
+        return out if any(item[1] != 'own' for item in out) else self.frames_over(columns)
+
     def read(self, scope):
         """A stream, or what a body sees."""
         name = self.draw.choice(list(scope))
         return {'sort': 'read', 'name': name, 'columns': scope[name], 'closing': False}
 
-    def select(self, source, items=None, totals=None, filter_=0.4, window=None, group=None):
+    def select(self, source, items=None, totals=None, filter_=0.4, window=None, group=None, frames=None, part=None):
         """A select over a source, with what is asked for and a condition or none."""
         columns = (
             [(name, 'u32' if sort == 'count' else e[1]) for name, sort, e, _ in totals or []]
             or [(name, e[1]) for name, e in items or []]
+            or [(name, 'u32' if sort == 'count' else e[1]) for name, sort, e, _, _ in frames or []]
             or source['columns']
         )
         if group:
@@ -228,6 +246,8 @@ class Maker:
             'source': source,
             'items': items,
             'totals': totals,
+            'frames': frames,
+            'part': part,
             'filter': condition,
             'window': window,
             'group': group,
@@ -257,6 +277,7 @@ class Maker:
             + ['window', 'window', 'each', 'each', 'UNION', 'CONCAT'] * (depth > 0)
             + ['group', 'by'] * (2 * self.groups)
             + ['keyed'] * (4 * self.keyed)
+            + ['frames'] * (4 * self.frames)
         )
         way = self.draw.choice(ways if depth >= 0 else ['total'])
         if way in ('UNION', 'CONCAT'):
@@ -270,6 +291,8 @@ class Maker:
             return self.select(source, None if self.often(0.2) else self.items(columns))
         if way == 'total':
             return self.select(source, totals=self.totals(columns))
+        if way == 'frames':
+            return self.select(source, frames=self.frames_over(columns))
         if way == 'window':
             return self.select(source, totals=self.totals(columns), window=self.window(measure))
         key, kind = self.draw.choice(columns)
@@ -289,6 +312,7 @@ class Maker:
             'body': body,
             'filter': None,
             'totals': None,
+            'frames': None,
             'window': None,
             'group': None,
         }

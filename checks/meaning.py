@@ -5,6 +5,8 @@ A query is a dict. Its 'sort' is
     read            the rows of 'name'
     UNION, CONCAT   of 'left' and 'right'
     select          'items' [(name, expression)], None for *; or 'totals' [(name, aggregate, expression, weights)];
+                    or 'frames' [(name, sort, expression, condition, back)], whose sort is 'own', 'lag', 'last_value'
+                    or an aggregate's, with 'part' (key, groups) or None;
                     over 'source', with 'window' (size, advance, 'TUPLES' or 'TIME'), 'filter' and 'group'
                     (key, groups), each None where it is missing
     each            'body' over 'source' by its 'window' or its 'group', or by both, the windows of each key, as 'var'
@@ -213,6 +215,44 @@ def total_of(item, rows):
     return sum(values) % 2**width if sort == 'sum' else sum(n * v for n, v in zip(weights, values)) % 2**width
 
 
+def frame_of(item, rows):
+    """What an item of a select of frames makes of the rows up to one, that one last."""
+    name, sort, expression, condition, back = item
+    if sort in ('own', 'lag'):
+        at = len(rows) - 1 - (back if sort == 'lag' else 0)
+        return value_of(expression, rows[at]) if at >= 0 else 0
+    last = rows if back is None else rows[-back - 1 :]
+    inside = [row for row in last if condition is None or value_of(condition, row)]
+    if sort == 'last_value':
+        return value_of(expression, inside[-1]) if inside else 0
+    return total_of((name, sort, expression, None), inside)
+
+
+def framed(query, names, rows):
+    """The rows of a select of frames over rows, and whether a row of a further key was left out."""
+    key, most = query['part'] or (None, 1)
+    own, out, spill = {}, [], False
+    for row in rows:
+        mine = own.get(row[names.index(key)] if key else None)
+        if mine is None and len(own) == most:
+            spill = True
+            continue
+        mine = own.setdefault(row[names.index(key)] if key else None, [])
+        mine.append(dict(zip(names, row)))
+        out.append(tuple(frame_of(item, mine) for item in query['frames']))
+    return spill, tuple(out)
+
+
+def over_frames(query, names, found):
+    """The results of a select of frames."""
+    out = collections.defaultdict(list)
+    for before, tree in found.items():
+        for rows in lists(tree):
+            spill, made = framed(query, names, rows)
+            out[before or spill].append(('rows', *made))
+    return {spill: either(trees) for spill, trees in out.items()}
+
+
 def both(left, right, join):
     """Two results joined; a spill of either is one of both."""
     out = collections.defaultdict(list)
@@ -322,6 +362,8 @@ def selected(query, columns, found):
             most,
             lambda rows: selected(query | {'filter': None, 'group': None}, columns, {False: ('rows', *rows)}),
         )
+    if query['frames']:
+        return over_frames(query, names, found)
     if query['totals']:
         open_ = lists if any(item[1] == 'wsum' for item in query['totals']) else some
         return {
@@ -407,6 +449,23 @@ def total_text(item):
     return f'{sort}({inside}, {weights}) AS {name}' if sort == 'wsum' else f'{sort}({inside}) AS {name}'
 
 
+def frame_text(item, part):
+    """The text of an item of a select of frames; its words' letters and its spelling go by its number of letters."""
+    name, sort, expression, condition, back = item
+    if sort == 'own':
+        return item_text((name, expression))
+    inside, way = expression_text(expression) if expression else '', len(name)
+    by = f'PARTITION BY {part[0]} GROUPS {part[1]}' if part else ''
+    over = 'OVER' if way % 2 else 'over'
+    if sort == 'lag':
+        number = '' if back == 1 and way % 3 == 0 else f', {back}'
+        return f"{'lag' if way % 2 else 'LAG'}({inside}{number}) {over} ({by}) AS {name}"
+    bound = f"{'UNBOUNDED' if back is None else back} PRECEDING"
+    rows = f'ROWS BETWEEN {bound} AND CURRENT ROW' if way % 3 == 1 else f'rows {bound}'
+    picks = f' FILTER (WHERE {expression_text(condition)})' if condition else ''
+    return f"{sort}({inside}){picks} {over} ({by + ' ' * bool(by) + rows}) AS {name}"
+
+
 def source_text(query):
     """The text of what stands behind FROM or IN."""
     return query['name'] if query['sort'] == 'read' else f'({query_text(query)})'
@@ -429,7 +488,12 @@ def query_text(query):
     if sort == 'each':
         parts = (f' BY {group[0]} GROUPS {group[1]}' if group else '') + window_text(query['window'])
         return f"EACH {query['var']} IN {source}{parts} ({query_text(query['body'])})"
-    items = [total_text(it) for it in query['totals'] or []] or [item_text(it) for it in query['items'] or []] or ['*']
+    items = (
+        [total_text(it) for it in query['totals'] or []]
+        or [frame_text(it, query['part']) for it in query['frames'] or []]
+        or [item_text(it) for it in query['items'] or []]
+        or ['*']
+    )
     text = (
         'SELECT ' + ', '.join(([group[0]] if group else []) + items) + f' FROM {source}' + window_text(query['window'])
     )
@@ -449,6 +513,8 @@ def forms_of(query):
         for name, found in (
             ('WHERE', query['filter']),
             ('aggregates', query['totals']),
+            ('frames', query['frames']),
+            ('frames of each key', query['frames'] and query['part']),
             ('windows', query['window']),
             ('windows of time', query['window'] and query['window'][2] == 'TIME'),
             ('groups', query['group']),
@@ -457,5 +523,5 @@ def forms_of(query):
         if found
     }
     out |= {'nested'} if query['source']['sort'] != 'read' or sort == 'each' else set()
-    out |= {'plain'} if sort == 'select' and not query['totals'] else set()
+    out |= {'plain'} if sort == 'select' and not query['totals'] and not query['frames'] else set()
     return out | forms_of(query['source']) | (forms_of(query['body']) if query['body'] else set())

@@ -11,9 +11,13 @@ use Rattle.gl_algebra.specs.declared.node.Operand.{Operand}
 use Rattle.gl_algebra.specs.declared.node.Operand.TheVariants.{Column, Literal}
 use Rattle.gl_algebra.specs.declared.node.PlanAgg.{PlanAgg}
 use Rattle.gl_algebra.specs.declared.node.PlanAgg.TheVariants.{Count, Sum, Min, Max, Avg, Wsum}
+use Rattle.gl_algebra.specs.declared.node.PlanFrame.{PlanFrame}
+use Rattle.gl_algebra.specs.declared.node.PlanFrame.TheVariants.{Own, Lag, Over}
+use Rattle.gl_algebra.specs.declared.node.PlanFrameAgg.{PlanFrameAgg}
+use Rattle.gl_algebra.specs.declared.node.PlanFrameAgg.TheVariants as over
 use Rattle.gl_algebra.specs.declared.node.PlanNode.{PlanNode}
-use Rattle.gl_algebra.specs.declared.node.PlanNode.TheVariants.{Stream, Body, Compute, Select, Project, Aggregate, Union, Beside, Window, TimeWindow, Group, Partition}
-use Rattle.gl_algebra.specs.Columns.{bit_kind, kind_of_column, kind_of_operand, kind_of_op, kind_of_agg, OperandFits, OpFits, AggFits}
+use Rattle.gl_algebra.specs.declared.node.PlanNode.TheVariants.{Stream, Body, Compute, Select, Project, Frames, Aggregate, Union, Beside, Window, TimeWindow, Group, Partition}
+use Rattle.gl_algebra.specs.Columns.{bit_kind, kind_of_column, kind_of_operand, kind_of_op, kind_of_agg, kind_of_frame, kind_of_frame_agg, OperandFits, OpFits, AggFits, FrameAggFits, FrameFits}
 use Rattle.gl_algebra.specs.Fits.{Suits}
 use Rattle.gl_algebra.specs.Laws.{ColumnsHaveKinds}
 use Rattle.gl_algebra.specs.Nodewise.{named_by}
@@ -39,6 +43,19 @@ module _ (kinds : List Kind) (are : All IsKind kinds) where
   agg_is (Avg operand) fits = operand_is operand fits.0
   agg_is (Wsum operand weights) fits = operand_is operand fits.0
 
+  frame_agg_is : (agg : PlanFrameAgg) → FrameAggFits kinds agg → IsKind (kind_of_frame_agg kinds agg)
+  frame_agg_is over.Count fits = (lit≤ tt, lit≤ tt)
+  frame_agg_is (over.Sum operand) fits = operand_is operand fits.0
+  frame_agg_is (over.Min operand) fits = operand_is operand fits
+  frame_agg_is (over.Max operand) fits = operand_is operand fits
+  frame_agg_is (over.Avg operand) fits = operand_is operand fits.0
+  frame_agg_is (over.LastValue operand) fits = operand_is operand fits
+
+  frame_is : (item : PlanFrame) → FrameFits kinds item → IsKind (kind_of_frame kinds item)
+  frame_is (Own operand) fits = operand_is operand fits
+  frame_is (Lag operand back) fits = operand_is operand fits.0
+  frame_is (Over agg filter back) fits = frame_agg_is agg fits.0
+
   mapped_are : {A : Type 0} (kind_of : A → Kind) (Fits : A → Type 0) → ((x : A) → Fits x → IsKind (kind_of x))
       → (xs : List A) → All Fits xs → All IsKind (map kind_of xs)
   mapped_are kind_of Fits is xs fit = All-map IsKind kind_of xs (All-weaker Fits (λ x. IsKind (kind_of x)) is xs fit)
@@ -55,6 +72,9 @@ row_is s (Select child column) suits are = are 0 0 (lit< tt)
 row_is s (Project child items) suits are =
     let own = are 0 0 (lit< tt) in
     mapped_are (s child).kinds own (kind_of_operand (s child).kinds) (OperandFits (s child).kinds) (operand_is (s child).kinds own) items suits
+row_is s (Frames child items) suits are =
+    let own = are 0 0 (lit< tt) in
+    mapped_are (s child).kinds own (kind_of_frame (s child).kinds) (FrameFits (s child).kinds) (frame_is (s child).kinds own) items suits
 row_is s (Aggregate child aggs) suits are =
     let own = are 0 0 (lit< tt) in
     mapped_are (s child).kinds own (kind_of_agg (s child).kinds) (AggFits (s child).kinds) (agg_is (s child).kinds own) aggs suits

@@ -1,5 +1,6 @@
 -- The equality test of nodes decides whether they are the same.
-use Rattle.std.proofs.Common.{◌≡◌, ℕ, Bool, true, false, ◌&&◌, List, refl, ap, subst, nat_eq}
+use Rattle.std.proofs.Common.{◌≡◌, ℕ, Bool, true, false, ◌&&◌, List, Option, Some, None, refl, ap, subst, nat_eq}
+use Rattle.std.specs.Option.{option_eq}
 use Rattle.std.specs.Bool.{Decides}
 use Rattle.std.specs.Cmp.{IsEquivalence, unsigned_Decides}
 use Rattle.std.specs.Cmp.Lexicographic.{pointwise, pointwise_decides}
@@ -27,8 +28,15 @@ use Rattle.gl_algebra.specs.declared.node.PlanAgg.{PlanAgg}
 use Rattle.gl_algebra.specs.declared.node.PlanAgg.TheVariants.{Count, Sum, Min, Max, Avg, Wsum}
 use Rattle.gl_algebra.specs.contracts.node.PlanAggPartialEq.TheImpl as OfPlanAgg
 use Rattle.gl_algebra.specs.contracts.node.PlanAggEq.TheImpl.Laws as PlanAggLaws
+use Rattle.gl_algebra.specs.declared.node.PlanFrame.{PlanFrame}
+use Rattle.gl_algebra.specs.declared.node.PlanFrame.TheVariants.{Own, Lag, Over}
+use Rattle.gl_algebra.specs.contracts.node.PlanFramePartialEq.TheImpl as OfPlanFrame
+use Rattle.gl_algebra.specs.contracts.node.PlanFrameEq.TheImpl.Laws as PlanFrameLaws
+use Rattle.gl_algebra.specs.declared.node.PlanFrameAgg.{PlanFrameAgg}
+use Rattle.gl_algebra.specs.declared.node.PlanFrameAgg.TheVariants as over
+use Rattle.gl_algebra.specs.contracts.node.PlanFrameAggPartialEq.TheImpl as OfPlanFrameAgg
 use Rattle.gl_algebra.specs.declared.node.PlanNode.{PlanNode}
-use Rattle.gl_algebra.specs.declared.node.PlanNode.TheVariants.{Stream, Body, Compute, Select, Project, Aggregate, Union, Beside, Window, TimeWindow, Group, Partition}
+use Rattle.gl_algebra.specs.declared.node.PlanNode.TheVariants.{Stream, Body, Compute, Select, Project, Frames, Aggregate, Union, Beside, Window, TimeWindow, Group, Partition}
 use Rattle.gl_algebra.specs.contracts.node.PlanNodeEq.TheImpl.Laws as PlanNodeLaws
 
 -- a test that holds of one thing alone, and of each thing and itself, decides
@@ -106,6 +114,35 @@ same_agg _ _ h = absurd (never h)
 same_aggs : (xs ys : List PlanAgg) → pointwise OfPlanAgg.ghosts.eq xs ys ≡ true → xs ≡ ys
 same_aggs xs ys = (pointwise_decides (decides_from OfPlanAgg.ghosts.eq PlanAggLaws.laws-law same_agg) xs ys).0
 
+same_frame_agg : (x y : PlanFrameAgg) → OfPlanFrameAgg.ghosts.eq x y ≡ true → x ≡ y
+same_frame_agg over.Count over.Count h = refl
+same_frame_agg (over.Sum a) (over.Sum b) h = ap over.Sum (same_operand a b h)
+same_frame_agg (over.Min a) (over.Min b) h = ap over.Min (same_operand a b h)
+same_frame_agg (over.Max a) (over.Max b) h = ap over.Max (same_operand a b h)
+same_frame_agg (over.Avg a) (over.Avg b) h = ap over.Avg (same_operand a b h)
+same_frame_agg (over.LastValue a) (over.LastValue b) h = ap over.LastValue (same_operand a b h)
+same_frame_agg _ _ h = absurd (never h)
+
+same_number : (x y : Option ℕ) → option_eq nat_eq x y ≡ true → x ≡ y
+same_number None None h = refl
+same_number None (Some n) h = absurd (never h)
+same_number (Some m) None h = absurd (never h)
+same_number (Some m) (Some n) h = ap Some (number m n h)
+
+same_frame : (x y : PlanFrame) → OfPlanFrame.ghosts.eq x y ≡ true → x ≡ y
+same_frame (Own a) (Own b) h = ap Own (same_operand a b h)
+same_frame (Lag a m) (Lag b n) h =
+    let parts = and_parts (OfOperand.ghosts.eq a b) (nat_eq m n) h in
+    λ i. Lag (same_operand a b parts.0 i) (number m n parts.1 i)
+same_frame (Over a f m) (Over b g n) h =
+    let first = and_parts (OfPlanFrameAgg.ghosts.eq a b) (option_eq nat_eq f g && option_eq nat_eq m n) h in
+    let second = and_parts (option_eq nat_eq f g) (option_eq nat_eq m n) first.1 in
+    λ i. Over (same_frame_agg a b first.0 i) (same_number f g second.0 i) (same_number m n second.1 i)
+same_frame _ _ h = absurd (never h)
+
+same_frames : (xs ys : List PlanFrame) → pointwise OfPlanFrame.ghosts.eq xs ys ≡ true → xs ≡ ys
+same_frames xs ys = (pointwise_decides (decides_from OfPlanFrame.ghosts.eq PlanFrameLaws.laws-law same_frame) xs ys).0
+
 -- nodes that pass the test of nodes are one
 pub same_node-is : (x y : PlanNode) → same_node x y ≡ true → x ≡ y
 same_node-is (Stream m k) (Stream n l) h =
@@ -121,6 +158,9 @@ same_node-is (Select c m) (Select d n) h =
 same_node-is (Project c o) (Project d p) h =
     let parts = and_parts (nat_eq c d) (pointwise OfOperand.ghosts.eq o p) h in
     λ i. Project (number c d parts.0 i) (same_operands o p parts.1 i)
+same_node-is (Frames c o) (Frames d p) h =
+    let parts = and_parts (nat_eq c d) (pointwise OfPlanFrame.ghosts.eq o p) h in
+    λ i. Frames (number c d parts.0 i) (same_frames o p parts.1 i)
 same_node-is (Aggregate c o) (Aggregate d p) h =
     let parts = and_parts (nat_eq c d) (pointwise OfPlanAgg.ghosts.eq o p) h in
     λ i. Aggregate (number c d parts.0 i) (same_aggs o p parts.1 i)

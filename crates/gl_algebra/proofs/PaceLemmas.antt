@@ -3,9 +3,10 @@ use Rattle.std.proofs.Common.{◌≡◌, ℕ, zero, suc, true, false, ◌&&◌, 
 use Rattle.std.proofs.lemmas.Bool.{eq-eqb}
 use Rattle.gl_algebra.specs.declared.figures.Figures.{Figures}
 use Rattle.gl_algebra.specs.declared.node.PlanNode.{PlanNode}
-use Rattle.gl_algebra.specs.declared.node.PlanNode.TheVariants.{Stream, Body, Compute, Select, Project, Aggregate, Union, Beside, Window, TimeWindow, Group, Partition}
+use Rattle.gl_algebra.specs.declared.node.PlanNode.TheVariants.{Stream, Body, Compute, Select, Project, Frames, Aggregate, Union, Beside, Window, TimeWindow, Group, Partition}
 use Rattle.gl_algebra.specs.FigureTable.{delayed, settled, last_of, is_fixed, in_step, at_end, joined, wait_of, beside_figures, figures_from, figures_of}
 use Rattle.gl_algebra.specs.Fits.{Suits}
+use Rattle.gl_algebra.specs.Frames.{delay_of_frames}
 use Rattle.gl_algebra.specs.Laws.{IsFixed, IsOnce, PaceFixes, PacesFixFigures}
 use Rattle.gl_algebra.specs.Nodewise.{named_by}
 use Rattle.gl_algebra.specs.Shapes.{Shape, shape_of, shape_from, Pace, unsteady, once, with_stream, with_body}
@@ -90,6 +91,9 @@ row_paced shapes figures (Compute child ops) suits h =
     settled_pace (shapes child).pace (delayed 1 (figures child)) (delayed_pace 1 (shapes child).pace (figures child) (h 0 0 (lit< tt)))
 row_paced shapes figures (Select child column) suits h = tt
 row_paced shapes figures (Project child items) suits h = settled_pace (shapes child).pace (figures child) (h 0 0 (lit< tt))
+row_paced shapes figures (Frames child items) suits h =
+    let delay = delay_of_frames (shapes child).kinds items in
+    settled_pace (shapes child).pace (delayed delay (figures child)) (delayed_pace delay (shapes child).pace (figures child) (h 0 0 (lit< tt)))
 row_paced shapes figures (Aggregate child aggs) suits h = record { tuples = refl; end_tuples = refl }
 row_paced shapes figures (Union left right) suits h = tt
 row_paced shapes figures (Beside left right) suits h =

@@ -4,7 +4,7 @@ use Rattle.std.proofs.lemmas.Bool.{false_from_ne_true}
 use Rattle.gl_values.specs.declared.kind.Kind.{Kind}
 use Rattle.gl_values.specs.Lists.{slices, Group as GroupOf, IsInterleaving}
 use Rattle.gl_algebra.specs.declared.node.PlanNode.{PlanNode}
-use Rattle.gl_algebra.specs.declared.node.PlanNode.TheVariants.{Stream, Body, Compute, Select, Project, Aggregate, Union, Beside, Window, TimeWindow, Group, Partition}
+use Rattle.gl_algebra.specs.declared.node.PlanNode.TheVariants.{Stream, Body, Compute, Select, Project, Frames, Aggregate, Union, Beside, Window, TimeWindow, Group, Partition}
 use Rattle.gl_algebra.specs.Fits.{IsOverStream, IsPlan, Suits}
 use Rattle.gl_algebra.specs.Laws.{BodiesReadTheirInput, HaveSameRows, UntimedResults}
 use Rattle.gl_algebra.specs.Nodewise.{named_by}
@@ -85,6 +85,8 @@ row_reads s m (Select child column) suits timed reads kinds leaves inputs others
     changed_within _ _ _ (reads 0 0 (lit< tt) kinds leaves inputs others same)
 row_reads s m (Project child items) suits timed reads kinds leaves inputs others same =
     changed_within _ _ _ (reads 0 0 (lit< tt) kinds leaves inputs others same)
+row_reads s m (Frames child items) suits timed reads kinds leaves inputs others same =
+    changed_within _ _ _ (reads 0 0 (lit< tt) kinds leaves inputs others same)
 row_reads s m (Aggregate child aggs) suits timed reads kinds leaves inputs others same =
     changed_within _ _ _ (reads 0 0 (lit< tt) kinds leaves inputs others same)
 row_reads s m (Union left right) suits timed reads kinds leaves inputs others same =
@@ -135,6 +137,7 @@ row_untimed s m (Body kinds) none each inputs others same = λ out spill r. reco
 row_untimed s m (Compute child ops) none each inputs others same = changed_within _ _ _ (each 0 0 (lit< tt) inputs others same)
 row_untimed s m (Select child column) none each inputs others same = changed_within _ _ _ (each 0 0 (lit< tt) inputs others same)
 row_untimed s m (Project child items) none each inputs others same = changed_within _ _ _ (each 0 0 (lit< tt) inputs others same)
+row_untimed s m (Frames child items) none each inputs others same = changed_within _ _ _ (each 0 0 (lit< tt) inputs others same)
 row_untimed s m (Aggregate child aggs) none each inputs others same = changed_within _ _ _ (each 0 0 (lit< tt) inputs others same)
 row_untimed s m (Union left right) none each inputs others same =
     both_within _ _ _ _ IsInterleaving (each 0 0 (lit< tt) inputs others same) (each 1 0 (lit< tt) inputs others same)

@@ -2,7 +2,7 @@
 use Rattle.std.proofs.Common.{◌≡◌, ℕ, ◌<◌, List, ◌++◌, length, Some, slice_get, refl, sym, arith}
 use Rattle.gl_algebra.specs.declared.figures.Figures.{Figures}
 use Rattle.gl_algebra.specs.declared.node.PlanNode.{PlanNode}
-use Rattle.gl_algebra.specs.declared.node.PlanNode.TheVariants.{Stream, Body, Compute, Select, Project, Aggregate, Union, Beside, Window, TimeWindow, Group, Partition}
+use Rattle.gl_algebra.specs.declared.node.PlanNode.TheVariants.{Stream, Body, Compute, Select, Project, Frames, Aggregate, Union, Beside, Window, TimeWindow, Group, Partition}
 use Rattle.gl_algebra.specs.FigureTable.{figures_of}
 use Rattle.gl_algebra.specs.Laws.{NodesFollowTables, EarlierNodesAreKept}
 use Rattle.gl_algebra.specs.Nodewise.{named_by}
@@ -26,6 +26,7 @@ weight_local s t f g v w (Body kinds) a b c = refl
 weight_local s t f g v w (Compute child ops) a b c = rw (a.0, c.0)
 weight_local s t f g v w (Select child column) a b c = rw (a.0, c.0)
 weight_local s t f g v w (Project child items) a b c = rw (a.0, c.0)
+weight_local s t f g v w (Frames child items) a b c = rw (a.0, c.0)
 weight_local s t f g v w (Aggregate child aggs) a b c = rw (a.0, c.0)
 weight_local s t f g v w (Union left right) a b c = rw (a.0, b.0, b.1.0, c.0, c.1.0)
 weight_local s t f g v w (Beside left right) a b c = rw (a.0, a.1.0, b.0, b.1.0, c.0, c.1.0)
@@ -40,6 +41,7 @@ copies_local v w (Body kinds) h = refl
 copies_local v w (Compute child ops) h = rw h.0
 copies_local v w (Select child column) h = rw h.0
 copies_local v w (Project child items) h = rw h.0
+copies_local v w (Frames child items) h = rw h.0
 copies_local v w (Aggregate child aggs) h = rw h.0
 copies_local v w (Union left right) h = rw (h.0, h.1.0)
 copies_local v w (Beside left right) h = rw (h.0, h.1.0)
@@ -55,6 +57,7 @@ lean_local s f o v w (Body kinds) h = refl
 lean_local s f o v w (Compute child ops) h = rw h.0
 lean_local s f o v w (Select child column) h = rw h.0
 lean_local s f o v w (Project child items) h = rw h.0
+lean_local s f o v w (Frames child items) h = rw h.0
 lean_local s f o v w (Aggregate child aggs) h = rw h.0
 lean_local s f o v w (Union left right) h = rw (h.0, h.1.0)
 lean_local s f o v w (Beside left right) h = rw (h.0, h.1.0)
@@ -69,6 +72,7 @@ form_local s v w (Body kinds) h = refl
 form_local s v w (Compute child ops) h = rw h.0
 form_local s v w (Select child column) h = rw h.0
 form_local s v w (Project child items) h = rw h.0
+form_local s v w (Frames child items) h = refl
 form_local s v w (Aggregate child aggs) h = rw h.0
 form_local s v w (Union left right) h = refl
 form_local s v w (Beside left right) h = refl
@@ -83,6 +87,7 @@ keys_local s o v w (Body kinds) h = refl
 keys_local s o v w (Compute child ops) h = rw h.0
 keys_local s o v w (Select child column) h = rw h.0
 keys_local s o v w (Project child items) h = rw h.0
+keys_local s o v w (Frames child items) h = rw h.0
 keys_local s o v w (Aggregate child aggs) h = rw h.0
 keys_local s o v w (Union left right) h = rw (h.0, h.1.0)
 keys_local s o v w (Beside left right) h = rw (h.0, h.1.0)
@@ -98,6 +103,7 @@ store_local s f o v w (Body kinds) h = refl
 store_local s f o v w (Compute child ops) h = rw h.0
 store_local s f o v w (Select child column) h = rw h.0
 store_local s f o v w (Project child items) h = rw h.0
+store_local s f o v w (Frames child items) h = rw h.0
 store_local s f o v w (Aggregate child aggs) h = rw h.0
 store_local s f o v w (Union left right) h = rw (h.0, h.1.0)
 store_local s f o v w (Beside left right) h = rw (h.0, h.1.0)

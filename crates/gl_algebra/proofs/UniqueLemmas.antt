@@ -2,8 +2,9 @@
 use Rattle.std.proofs.Common.{◌≡◌, ℕ, suc, ◌<◌, Bool, false, ◌||◌, ◌∷◌, map, slice_index, All, refl, sym, ◌∙◌, arith, lit<}
 use Rattle.gl_values.specs.Lists.{slices, groups, Group as GroupOf, has_further}
 use Rattle.gl_values.specs.Times.{tslices}
+use Rattle.gl_frames.specs.Frames.{framed}
 use Rattle.gl_algebra.specs.declared.node.PlanNode.{PlanNode}
-use Rattle.gl_algebra.specs.declared.node.PlanNode.TheVariants.{Stream, Body, Compute, Select, Project, Aggregate, Union, Beside, Window, TimeWindow, Group, Partition}
+use Rattle.gl_algebra.specs.declared.node.PlanNode.TheVariants.{Stream, Body, Compute, Select, Project, Frames, Aggregate, Union, Beside, Window, TimeWindow, Group, Partition}
 use Rattle.gl_values.specs.Partitions.{parts}
 use Rattle.gl_algebra.specs.Laws.{has_union_from, has_union, ResultsAreUnique}
 use Rattle.gl_algebra.specs.Nodewise.{named_by}
@@ -11,7 +12,7 @@ use Rattle.gl_algebra.specs.Shapes.{Shape, shape_of}
 use Rattle.gl_values.specs.Results.{Row, IsOfGroup}
 use Rattle.gl_bits.proofs.Bools.{neither_parts}
 use Rattle.gl_values.proofs.Unique.{HasOne, one_input, one_changed, one_of_parts, one_of_both}
-use Rattle.gl_algebra.specs.Results.{Inputs, given, Meaning, computed, selected, projected, times_with, totalled, meaning_from, IsPlanResult}
+use Rattle.gl_algebra.specs.Results.{Inputs, given, Meaning, computed, selected, projected, row_of_frames, times_with, totalled, meaning_from, IsPlanResult}
 use Rattle.gl_algebra.proofs.NodewiseLemmas.{Agree, nodewise-node, FollowsRow}
 use Rattle.gl_algebra.proofs.PlanLemmas.{in_order, by_nodes}
 use Rattle.gl_algebra.proofs.ResultLemmas.{meaning-node, moved}
@@ -33,6 +34,8 @@ rows_one s m u (Select child column) one none inputs =
     one_changed (m child inputs) (selected column) (one 0 0 (lit< tt) (neither_parts (u child) false none).0 inputs)
 rows_one s m u (Project child items) one none inputs =
     one_changed (m child inputs) (map (projected items)) (one 0 0 (lit< tt) (neither_parts (u child) false none).0 inputs)
+rows_one s m u (Frames child items) one none inputs =
+    one_changed (m child inputs) (framed (row_of_frames (s child).kinds items)) (one 0 0 (lit< tt) (neither_parts (u child) false none).0 inputs)
 rows_one s m u (Aggregate child aggs) one none inputs =
     one_changed (m child inputs) (totalled (s child).kinds aggs) (one 0 0 (lit< tt) (neither_parts (u child) false none).0 inputs)
 rows_one s m u (Union left right) one none inputs = absurd (cc)
@@ -68,6 +71,7 @@ union_local v w (Body kinds) h = refl
 union_local v w (Compute child ops) h = λ i. h.0 i || false
 union_local v w (Select child column) h = λ i. h.0 i || false
 union_local v w (Project child items) h = λ i. h.0 i || false
+union_local v w (Frames child items) h = λ i. h.0 i || false
 union_local v w (Aggregate child aggs) h = λ i. h.0 i || false
 union_local v w (Union left right) h = refl
 union_local v w (Beside left right) h = λ i. h.0 i || (h.1.0 i || false)

@@ -1,7 +1,7 @@
 -- The kinds of columns: of operands, of operations, of aggregates, and when they fit the columns that they are applied
 -- to.
-use Rattle.std.specs.Prelude.{ℕ, ◌≡◌, ◌<◌, ◌≤◌, List, length, slice_index_or, All, IsTrue, ⊤}
-use Rattle.gl_bits.specs.Limits.{most_weights}
+use Rattle.std.specs.Prelude.{ℕ, ◌≡◌, ◌<◌, ◌≤◌, List, length, Option, Some, None, slice_get, slice_index_or, All, IsTrue, ⊤}
+use Rattle.gl_bits.specs.Limits.{most_rows, most_weights}
 use Rattle.gl_bits.specs.Words.{Word, IsWord}
 use Rattle.gl_values.specs.Kinds.{width_of, can_cast, is_number, IsKind}
 use Rattle.gl_values.specs.declared.kind.Kind.{Kind}
@@ -15,6 +15,10 @@ use Rattle.gl_algebra.specs.declared.node.ColOp.{ColOp}
 use Rattle.gl_algebra.specs.declared.node.ColOp.TheVariants.{Not, Cast, Binary}
 use Rattle.gl_algebra.specs.declared.node.PlanAgg.{PlanAgg}
 use Rattle.gl_algebra.specs.declared.node.PlanAgg.TheVariants.{Count, Sum, Min, Max, Avg, Wsum}
+use Rattle.gl_algebra.specs.declared.node.PlanFrame.{PlanFrame}
+use Rattle.gl_algebra.specs.declared.node.PlanFrame.TheVariants.{Own, Lag, Over}
+use Rattle.gl_algebra.specs.declared.node.PlanFrameAgg.{PlanFrameAgg}
+use Rattle.gl_algebra.specs.declared.node.PlanFrameAgg.TheVariants as over
 
 -- the kind of one bit
 abbrev pub bit_kind : Kind
@@ -43,6 +47,21 @@ kind_of_agg kinds (Min operand) = kind_of_operand kinds operand
 kind_of_agg kinds (Max operand) = kind_of_operand kinds operand
 kind_of_agg kinds (Avg operand) = kind_of_operand kinds operand
 kind_of_agg kinds (Wsum operand weights) = kind_of_operand kinds operand
+
+-- the kind of the column that a function over the rows of a frame makes
+abbrev pub kind_of_frame_agg : List Kind → PlanFrameAgg → Kind
+kind_of_frame_agg kinds over.Count = Unsigned 32
+kind_of_frame_agg kinds (over.Sum operand) = kind_of_operand kinds operand
+kind_of_frame_agg kinds (over.Min operand) = kind_of_operand kinds operand
+kind_of_frame_agg kinds (over.Max operand) = kind_of_operand kinds operand
+kind_of_frame_agg kinds (over.Avg operand) = kind_of_operand kinds operand
+kind_of_frame_agg kinds (over.LastValue operand) = kind_of_operand kinds operand
+
+-- the kind of the column that an item of a node of frames makes
+abbrev pub kind_of_frame : List Kind → PlanFrame → Kind
+kind_of_frame kinds (Own operand) = kind_of_operand kinds operand
+kind_of_frame kinds (Lag operand back) = kind_of_operand kinds operand
+kind_of_frame kinds (Over agg filter back) = kind_of_frame_agg kinds agg
 
 -- a column that is there, or a literal of its kind's width
 abbrev pub OperandFits : List Kind → Operand → Type 0
@@ -79,3 +98,29 @@ AggFits kinds (Avg operand) = OperandFits kinds operand × IsTrue (is_number (ki
 AggFits kinds (Wsum operand weights) =
     OperandFits kinds operand × IsTrue (is_number (kind_of_operand kinds operand))
     × (length weights ≤ most_weights) × All (WeightFits (kind_of_operand kinds operand)) weights
+
+-- a function over the rows of a frame whose operand is there and has a kind that it takes
+abbrev pub FrameAggFits : List Kind → PlanFrameAgg → Type 0
+FrameAggFits kinds over.Count = ⊤
+FrameAggFits kinds (over.Sum operand) = OperandFits kinds operand × IsTrue (is_number (kind_of_operand kinds operand))
+FrameAggFits kinds (over.Min operand) = OperandFits kinds operand
+FrameAggFits kinds (over.Max operand) = OperandFits kinds operand
+FrameAggFits kinds (over.Avg operand) = OperandFits kinds operand × IsTrue (is_number (kind_of_operand kinds operand))
+FrameAggFits kinds (over.LastValue operand) = OperandFits kinds operand
+
+-- the column of a condition has one bit, where there is a condition
+abbrev pub ConditionFits : List Kind → Option ℕ → Type 0
+ConditionFits kinds None = ⊤
+ConditionFits kinds (Some column) = slice_get kinds column ≡ Some bit_kind
+
+-- a frame has at most 65,536 rows, the row itself among them; or all rows up to the row itself
+abbrev pub BackFits : Option ℕ → Type 0
+BackFits None = ⊤
+BackFits (Some back) = back < most_rows
+
+-- an item of a node of frames: its operands are there and have kinds that it takes, and it looks back over some rows
+-- and not too many
+abbrev pub FrameFits : List Kind → PlanFrame → Type 0
+FrameFits kinds (Own operand) = OperandFits kinds operand
+FrameFits kinds (Lag operand back) = OperandFits kinds operand × (1 ≤ back) × (back < most_rows)
+FrameFits kinds (Over agg filter back) = FrameAggFits kinds agg × ConditionFits kinds filter × BackFits back

@@ -1,27 +1,21 @@
 -- What bounds the register bits and the memory bits of a plan's circuit, where queues are rings in memories, and so are
 -- the states of a group's slots where its body is direct.
-use Rattle.std.specs.Prelude.{ℕ, zero, suc, ◌+◌, ◌*◌, ◌^◌, List, nat_le, if◌then◌else◌}
+use Rattle.std.specs.Prelude.{ℕ, ◌+◌, ◌*◌, sum_by, List, if◌then◌else◌}
 use Rattle.gl_values.specs.Kinds.{width_of}
+use Rattle.gl_values.specs.declared.kind.Kind.{Kind}
 use Rattle.gl_algebra.specs.declared.figures.Figures.{Figures}
+use Rattle.gl_algebra.specs.declared.node.PlanFrame.{PlanFrame}
 use Rattle.gl_algebra.specs.declared.node.PlanNode.{PlanNode}
-use Rattle.gl_algebra.specs.declared.node.PlanNode.TheVariants.{Union, Group}
+use Rattle.gl_algebra.specs.declared.node.PlanNode.TheVariants.{Union, Group, Frames}
 use Rattle.gl_algebra.specs.Columns.{kind_of_column}
 use Rattle.gl_algebra.specs.Direct.{Form, copied, rowwise, totalling, form_of}
 use Rattle.gl_algebra.specs.FigureTable.{figures_of, needs_spacer}
+use Rattle.gl_algebra.specs.Frames.{delay_of_frames, frames_in, words_of_frame}
 use Rattle.gl_algebra.specs.Nodewise.{nodewise}
 use Rattle.gl_algebra.specs.Shapes.{Shape, shape_of, shape_from}
+pub use Rattle.gl_algebra.specs.Rings.{least_exponent, ring}
 use Rattle.gl_algebra.specs.Views.{copies_in, of_body}
 use Rattle.gl_algebra.specs.Weights.{lines_of, own_part, pad_of, part_of_spacer, sum_over_children, weight_of_copies}
-
--- the least exponent, of so many from this one on, whose power of two is at least a depth
-abbrev pub least_exponent : ℕ → ℕ → ℕ → ℕ
-least_exponent zero exponent depth = exponent
-least_exponent (suc more) exponent depth =
-    if nat_le depth (2 ^ exponent) then exponent else least_exponent more (suc exponent) depth
-
--- the words of a ring that holds so many entries: the least power of two that is at least 2 and at least the depth
-unfoldable pub ring : ℕ → ℕ
-ring depth = 2 ^ least_exponent depth 1 depth
 
 -- the registers of the spacer before a body of this gap, where one stands; its queue is a ring
 abbrev pub lean_of_spacer : ℕ → Figures → ℕ → ℕ
@@ -84,6 +78,13 @@ store_of_groups copied groups body = groups * body
 store_of_groups rowwise groups body = groups * body
 store_of_groups (totalling many delay) groups body = 128 * (many * ring groups)
 
+-- the memories of items of frames over columns of these kinds, where their node has so many lines: the columns and two
+-- words of each frame wait in rings for the slowest, and each frame has its state and its rings
+abbrev pub store_of_frames : List Kind → ℕ → List PlanFrame → ℕ
+store_of_frames kinds lines items =
+    64 * (lines + 2 * sum_by frames_in items) * ring (delay_of_frames kinds items)
+    + 32 + sum_by (λ item. 128 * frames_in item + 65 * words_of_frame item) items
+
 -- a node's own part in memories, from those of bodies
 abbrev pub own_store : (ℕ → Shape) → (ℕ → Figures) → (ℕ → Form) → (ℕ → ℕ) → ℕ → PlanNode → ℕ
 own_store shapes figures forms stores lines (Union left right) =
@@ -91,6 +92,7 @@ own_store shapes figures forms stores lines (Union left right) =
 own_store shapes figures forms stores lines (Group source body key groups) =
     store_of_groups (forms body) groups (stores body)
     + part_of_spacer store_of_spacer shapes figures (Group source body key groups)
+own_store shapes figures forms stores lines (Frames child items) = store_of_frames (shapes child).kinds lines items
 own_store shapes figures forms stores lines node =
     copies_in node * of_body stores node + part_of_spacer store_of_spacer shapes figures node
 

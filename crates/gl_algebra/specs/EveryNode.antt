@@ -9,6 +9,8 @@ use Rattle.gl_algebra.specs.declared.node.Operand.{Operand}
 use Rattle.gl_algebra.specs.declared.node.Operand.TheVariants.{Column}
 use Rattle.gl_algebra.specs.declared.node.PlanAgg.{PlanAgg}
 use Rattle.gl_algebra.specs.declared.node.PlanAgg.TheVariants.{Sum}
+use Rattle.gl_algebra.specs.declared.node.PlanFrame.{PlanFrame}
+use Rattle.gl_algebra.specs.declared.node.PlanFrame.TheVariants.{Lag}
 use Rattle.gl_algebra.specs.declared.node.PlanNode.TheVariants.{Stream, Body}
 use Rattle.gl_algebra.specs.Shapes.{Shape, unsteady, once, with_stream}
 
@@ -27,6 +29,10 @@ tests = Binary Eq (Column 0) (Column 0) ∷ []
 -- the number alone
 abbrev pub items : List Operand
 items = Column 0 ∷ []
+
+-- the number before it
+abbrev pub frames : List PlanFrame
+frames = Lag (Column 0) 1 ∷ []
 
 -- the sum of the numbers
 abbrev pub sums : List PlanAgg

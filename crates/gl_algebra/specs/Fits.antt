@@ -4,8 +4,8 @@ use Rattle.gl_bits.specs.Limits.{most_copies, most_groups, most_rows, most_windo
 use Rattle.gl_values.specs.Kinds.{IsKind}
 use Rattle.gl_values.specs.declared.kind.Kind.{Kind}
 use Rattle.gl_algebra.specs.declared.node.PlanNode.{PlanNode}
-use Rattle.gl_algebra.specs.declared.node.PlanNode.TheVariants.{Stream, Body, Compute, Select, Project, Aggregate, Union, Beside, Window, TimeWindow, Group, Partition}
-use Rattle.gl_algebra.specs.Columns.{bit_kind, OperandFits, OpFits, AggFits}
+use Rattle.gl_algebra.specs.declared.node.PlanNode.TheVariants.{Stream, Body, Compute, Select, Project, Frames, Aggregate, Union, Beside, Window, TimeWindow, Group, Partition}
+use Rattle.gl_algebra.specs.Columns.{bit_kind, OperandFits, OpFits, AggFits, FrameFits}
 use Rattle.gl_algebra.specs.Nodewise.{named_by}
 use Rattle.gl_algebra.specs.Shapes.{Shape, unsteady, shape_of, kinds_of}
 use Rattle.gl_algebra.specs.Views.{copies_of_time, copies_of_window, copies_of_partition}
@@ -27,6 +27,7 @@ Suits shapes (Body kinds) = All IsKind kinds
 Suits shapes (Compute child ops) = All (OpFits (shapes child).kinds) ops
 Suits shapes (Select child column) = slice_get (shapes child).kinds column ≡ Some bit_kind
 Suits shapes (Project child items) = All (OperandFits (shapes child).kinds) items
+Suits shapes (Frames child items) = All (FrameFits (shapes child).kinds) items
 Suits shapes (Aggregate child aggs) = All (AggFits (shapes child).kinds) aggs
 Suits shapes (Union left right) = (shapes left).kinds ≡ (shapes right).kinds
 Suits shapes (Beside left right) = ((shapes left).pace ≡ (shapes right).pace) × ((shapes left).pace ≢ unsteady)

@@ -4,6 +4,8 @@ pub mod Columns
 pub mod Shapes
 pub mod Fits
 pub mod Added
+pub mod Rings
+pub mod Frames
 pub mod FigureTable
 pub mod Small
 pub mod Wides

@@ -1,18 +1,23 @@
 -- What a plan means over lists of rows: the results that each node may have, and whether rows were left out of its
 -- groups. After the operators of Mueller, Teubner and Alonso, Streams on Wires, PVLDB 2(1), 2009.
-use Rattle.std.specs.Prelude.{ℕ, false, List, [], ◌∷◌, ◌++◌, map, filter, nat_eq, slice_index}
+use Rattle.std.specs.Prelude.{ℕ, Bool, true, false, List, [], ◌∷◌, ◌++◌, Option, Some, None, map, filter, nat_eq, slice_index}
 use Rattle.gl_values.specs.Kinds.{width_of}
 use Rattle.gl_values.specs.Lists.{slices, groups, has_further, IsInterleaving}
 use Rattle.gl_values.specs.Partitions.{parts}
 use Rattle.gl_values.specs.Results.{Row, Results, IsInput, IsChanged, IsOfBoth, AreBeside, IsOfParts, IsOfGroup}
 use Rattle.gl_values.specs.Totals.{count_of, sum_total, least_of, greatest_of, average_of, weighted_sum}
 use Rattle.gl_values.specs.Times.{tslices}
+use Rattle.gl_frames.specs.Frames.{frame_of, framed, lag_of, last_value_of, own_of}
 use Rattle.gl_bits.specs.Words.{bits_of}
 use Rattle.gl_values.specs.declared.kind.Kind.{Kind}
 use Rattle.gl_algebra.specs.declared.node.ColOp.{ColOp}
 use Rattle.gl_algebra.specs.declared.node.Operand.{Operand}
 use Rattle.gl_algebra.specs.declared.node.PlanAgg.{PlanAgg}
 use Rattle.gl_algebra.specs.declared.node.PlanAgg.TheVariants.{Count, Sum, Min, Max, Avg, Wsum}
+use Rattle.gl_algebra.specs.declared.node.PlanFrame.{PlanFrame}
+use Rattle.gl_algebra.specs.declared.node.PlanFrame.TheVariants.{Own, Lag, Over}
+use Rattle.gl_algebra.specs.declared.node.PlanFrameAgg.{PlanFrameAgg}
+use Rattle.gl_algebra.specs.declared.node.PlanFrameAgg.TheVariants as over
 use Rattle.gl_algebra.specs.declared.node.PlanNode.{PlanNode}
 use Rattle.gl_algebra.specs.declared.node.PlanNode.TheVariants as Node
 use Rattle.gl_algebra.specs.Columns.{kind_of_operand}
@@ -64,6 +69,39 @@ computed kinds ops row = row ++ map (value_of_op kinds row) ops
 abbrev pub selected : ℕ → List Row → List Row
 selected column rows = filter (λ row. nat_eq (slice_index row column) 1) rows
 
+-- whether a row counts in a frame: the column of its condition is 1; without a condition each row counts
+abbrev pub counts_in : Option ℕ → Row → Bool
+counts_in None row = true
+counts_in (Some column) row = nat_eq (slice_index row column) 1
+
+-- the values of an operand in the rows of a frame that count
+abbrev pub values_in : Option ℕ → Option ℕ → List Row → Operand → List ℕ
+values_in filter back rows operand = map (λ row. value_of_operand row operand) (frame_of back (counts_in filter) rows)
+
+-- the value of a function over the last ones of these rows, whose columns have these kinds
+abbrev pub value_over : List Kind → Option ℕ → Option ℕ → List Row → PlanFrameAgg → ℕ
+value_over kinds filter back rows over.Count = count_of (frame_of back (counts_in filter) rows)
+value_over kinds filter back rows (over.Sum operand) =
+    sum_total (width_of (kind_of_operand kinds operand)) (values_in filter back rows operand)
+value_over kinds filter back rows (over.Min operand) =
+    least_of (kind_of_operand kinds operand) (values_in filter back rows operand)
+value_over kinds filter back rows (over.Max operand) =
+    greatest_of (kind_of_operand kinds operand) (values_in filter back rows operand)
+value_over kinds filter back rows (over.Avg operand) =
+    average_of (kind_of_operand kinds operand) (values_in filter back rows operand)
+value_over kinds filter back rows (over.LastValue operand) =
+    last_value_of (λ row. value_of_operand row operand) back (counts_in filter) rows
+
+-- what an item of a node of frames makes of the rows up to a row, the row itself last
+abbrev pub value_of_frame : List Kind → List Row → PlanFrame → ℕ
+value_of_frame kinds rows (Own operand) = own_of (λ row. value_of_operand row operand) rows
+value_of_frame kinds rows (Lag operand back) = lag_of (λ row. value_of_operand row operand) back rows
+value_of_frame kinds rows (Over agg filter back) = value_over kinds filter back rows agg
+
+-- one row of the items' values
+abbrev pub row_of_frames : List Kind → List PlanFrame → List Row → Row
+row_of_frames kinds items rows = map (value_of_frame kinds rows) items
+
 -- one row of the items' values, each a column or a literal
 abbrev pub projected : List Operand → Row → Row
 projected items row = map (value_of_operand row) items
@@ -81,6 +119,8 @@ meaning_from shapes meanings (Node.Compute child ops) inputs =
 meaning_from shapes meanings (Node.Select child column) inputs = IsChanged (meanings child inputs) (selected column)
 meaning_from shapes meanings (Node.Project child items) inputs =
     IsChanged (meanings child inputs) (map (projected items))
+meaning_from shapes meanings (Node.Frames child items) inputs =
+    IsChanged (meanings child inputs) (framed (row_of_frames (shapes child).kinds items))
 meaning_from shapes meanings (Node.Aggregate child aggs) inputs =
     IsChanged (meanings child inputs) (totalled (shapes child).kinds aggs)
 meaning_from shapes meanings (Node.Union left right) inputs =

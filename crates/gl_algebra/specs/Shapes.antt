@@ -3,8 +3,8 @@
 use Rattle.std.specs.Prelude.{ℕ, ◌≡◌, ◌<◌, length, Bool, true, false, ◌&&◌, List, [], ◌∷◌, ◌++◌, map}
 use Rattle.gl_values.specs.declared.kind.Kind.{Kind}
 use Rattle.gl_algebra.specs.declared.node.PlanNode.{PlanNode}
-use Rattle.gl_algebra.specs.declared.node.PlanNode.TheVariants.{Stream, Body, Compute, Select, Project, Aggregate, Union, Beside, Window, TimeWindow, Group, Partition}
-use Rattle.gl_algebra.specs.Columns.{kind_of_column, kind_of_operand, kind_of_op, kind_of_agg}
+use Rattle.gl_algebra.specs.declared.node.PlanNode.TheVariants.{Stream, Body, Compute, Select, Project, Frames, Aggregate, Union, Beside, Window, TimeWindow, Group, Partition}
+use Rattle.gl_algebra.specs.Columns.{kind_of_column, kind_of_operand, kind_of_op, kind_of_agg, kind_of_frame}
 use Rattle.gl_algebra.specs.Nodewise.{nodewise}
 
 -- how rows come: one with each row of a stream or of the body's input, one with the end alone, or neither
@@ -40,6 +40,8 @@ shape_from shapes (Compute child ops) =
 shape_from shapes (Select child column) = record (shapes child) { pace = unsteady }
 shape_from shapes (Project child items) =
     let of_child = shapes child in record of_child { kinds = map (kind_of_operand of_child.kinds) items }
+shape_from shapes (Frames child items) =
+    let of_child = shapes child in record of_child { kinds = map (kind_of_frame of_child.kinds) items }
 shape_from shapes (Aggregate child aggs) =
     let of_child = shapes child in
     record of_child { kinds = map (kind_of_agg of_child.kinds) aggs; closing = true; pace = once }

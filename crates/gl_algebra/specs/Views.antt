@@ -3,7 +3,7 @@ use Rattle.std.specs.Prelude.{ℕ, ◌*◌, ◌+◌, ◌/◌, Bool, true, false,
 use Rattle.std.specs.Int.{div_ceil}
 use Rattle.std.specs.List.{list_any}
 use Rattle.gl_algebra.specs.declared.node.PlanNode.{PlanNode}
-use Rattle.gl_algebra.specs.declared.node.PlanNode.TheVariants.{Stream, Body, Compute, Select, Project, Aggregate, Union, Beside, Window, TimeWindow, Group, Partition}
+use Rattle.gl_algebra.specs.declared.node.PlanNode.TheVariants.{Stream, Body, Compute, Select, Project, Frames, Aggregate, Union, Beside, Window, TimeWindow, Group, Partition}
 
 -- the nodes whose rows it takes
 abbrev pub children_of : PlanNode → List ℕ
@@ -12,6 +12,7 @@ children_of (Body kinds) = []
 children_of (Compute child ops) = child ∷ []
 children_of (Select child column) = child ∷ []
 children_of (Project child items) = child ∷ []
+children_of (Frames child items) = child ∷ []
 children_of (Aggregate child aggs) = child ∷ []
 children_of (Union left right) = left ∷ right ∷ []
 children_of (Beside left right) = left ∷ right ∷ []

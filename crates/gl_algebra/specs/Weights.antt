@@ -1,14 +1,17 @@
 -- The weight of a node, which bounds its hardware, and the copies of bodies that it has.
-use Rattle.std.specs.Prelude.{ℕ, ◌+◌, ◌*◌, max, sum_by, List, [], ◌∷◌, length, if◌then◌else◌}
+use Rattle.std.specs.Prelude.{ℕ, ◌+◌, ◌*◌, ◌/◌, min, max, sum_by, List, [], ◌∷◌, length, if◌then◌else◌}
 use Rattle.gl_values.specs.Kinds.{width_of}
 use Rattle.gl_values.specs.declared.kind.Kind.{Kind}
 use Rattle.gl_algebra.specs.declared.figures.Figures.{Figures}
+use Rattle.gl_algebra.specs.declared.node.PlanFrame.{PlanFrame}
+use Rattle.gl_algebra.specs.declared.node.PlanFrame.TheVariants.{Own, Lag, Over}
 use Rattle.gl_algebra.specs.declared.node.PlanNode.{PlanNode}
-use Rattle.gl_algebra.specs.declared.node.PlanNode.TheVariants.{Stream, Body, Compute, Select, Project, Aggregate, Union, Beside, Window, TimeWindow, Group, Partition}
+use Rattle.gl_algebra.specs.declared.node.PlanNode.TheVariants.{Stream, Body, Compute, Select, Project, Frames, Aggregate, Union, Beside, Window, TimeWindow, Group, Partition}
 use Rattle.gl_algebra.specs.declared.node.PlanAgg.{PlanAgg}
 use Rattle.gl_algebra.specs.declared.node.PlanAgg.TheVariants.{Count, Sum, Min, Max, Avg, Wsum}
 use Rattle.gl_algebra.specs.Columns.{kind_of_operand}
 use Rattle.gl_algebra.specs.FigureTable.{figures_of, delay_of_aggs, gap_in, wait_of, needs_spacer}
+use Rattle.gl_algebra.specs.Frames.{delay_of_frames, digits_of_frame, frames_in, rings_of_frame, words_of_frame}
 use Rattle.gl_algebra.specs.Nodewise.{nodewise}
 use Rattle.gl_algebra.specs.Shapes.{Shape, shape_of, shape_from}
 use Rattle.gl_algebra.specs.Views.{children_of, copies_in, copies_of_partition, copies_of_time, copies_of_window, of_body}
@@ -25,6 +28,28 @@ weight_of_agg kinds (Min operand) = 24
 weight_of_agg kinds (Max operand) = 24
 weight_of_agg kinds (Avg operand) = 16 * (width_of (kind_of_operand kinds operand) + 34)
 weight_of_agg kinds (Wsum operand weights) = 24 + 8 * length weights
+
+-- the part of each frame, its words aside: what goes with every frame, with each of its rings and with its divider
+abbrev pub weight_of_rings : ℕ → ℕ → ℕ
+weight_of_rings rings digits = 48 + 32 * rings + 16 * (digits + 2)
+
+-- the part of an item, its words aside; an operand of the row itself has none
+abbrev pub weight_of_frame : List Kind → PlanFrame → ℕ
+weight_of_frame kinds (Own operand) = 0
+weight_of_frame kinds (Lag operand back) = weight_of_rings 1 0
+weight_of_frame kinds (Over agg filter back) =
+    weight_of_rings (rings_of_frame (Over agg filter back)) (digits_of_frame kinds (Over agg filter back))
+
+-- the words of all items: one that counts rows, two of each frame's state, and those of the rings
+abbrev pub words_of_frames : List PlanFrame → ℕ
+words_of_frames items = 1 + sum_by (λ item. 2 * frames_in item + words_of_frame item) items
+
+-- the part of items over columns of these kinds, where their node has so many lines: these wait four cycles at most in
+-- registers and for the rest in rings, and 16 words of memory count as one
+abbrev pub weight_of_frames : List Kind → ℕ → List PlanFrame → ℕ
+weight_of_frames kinds lines items =
+    4 * lines * (min (delay_of_frames kinds items) 4 + 4) + 32
+    + sum_by (weight_of_frame kinds) items + words_of_frames items / 16
 
 -- the delay that is added to the shorter of two sides
 abbrev pub pad_of : Figures → Figures → ℕ
@@ -60,6 +85,8 @@ own_part spacer shapes figures weights lines (Body kinds) = lines
 own_part spacer shapes figures weights lines (Compute child ops) = 4 * (lines + length ops)
 own_part spacer shapes figures weights lines (Select child column) = 4 * lines
 own_part spacer shapes figures weights lines (Project child items) = 4 * lines
+own_part spacer shapes figures weights lines (Frames child items) =
+    weight_of_frames (shapes child).kinds lines items
 own_part spacer shapes figures weights lines (Aggregate child aggs) =
     let kinds = (shapes child).kinds in
     4 * lines + sum_by (λ agg. 2 * delay_of_aggs kinds aggs + weight_of_agg kinds agg) aggs

@@ -1,13 +1,15 @@
 -- Worked plans, with the figures, weights and copies that follow from the tables by hand.
-use Rattle.std.specs.Prelude.{ℕ, ◌≡◌, List, [], ◌∷◌}
+use Rattle.std.specs.Prelude.{ℕ, ◌≡◌, List, [], ◌∷◌, Some, None}
 use Rattle.gl_values.specs.declared.kind.Kind.{Kind}
 use Rattle.gl_values.specs.declared.kind.Kind.TheVariants.{Unsigned, Text}
 use Rattle.gl_algebra.specs.declared.node.Operand.TheVariants.{Column, Literal}
 use Rattle.gl_values.specs.declared.op.Op.TheVariants as Op
 use Rattle.gl_algebra.specs.declared.node.ColOp.TheVariants.{Binary}
 use Rattle.gl_algebra.specs.declared.node.PlanAgg.TheVariants.{Count, Sum, Max, Avg}
+use Rattle.gl_algebra.specs.declared.node.PlanFrame.TheVariants.{Own, Lag, Over}
+use Rattle.gl_algebra.specs.declared.node.PlanFrameAgg.TheVariants as over
 use Rattle.gl_algebra.specs.declared.node.PlanNode.{PlanNode}
-use Rattle.gl_algebra.specs.declared.node.PlanNode.TheVariants.{Stream, Body, Compute, Select, Project, Aggregate, Union, Beside, Window, TimeWindow, Group, Partition}
+use Rattle.gl_algebra.specs.declared.node.PlanNode.TheVariants.{Stream, Body, Compute, Select, Project, Frames, Aggregate, Union, Beside, Window, TimeWindow, Group, Partition}
 use Rattle.gl_algebra.specs.Cost.{keys_of}
 use Rattle.gl_algebra.specs.FigureTable.{figures_of}
 use Rattle.gl_algebra.specs.Roots.{copies_with_spare, gap_of, latency_of, most_memory, most_registers, weight_with_output}
@@ -98,6 +100,36 @@ abbrev pub prices_of_both : List PlanNode
 prices_of_both =
     Stream 0 trade_kinds ∷ Project 0 (Column 1 ∷ []) ∷ Stream 1 trade_kinds ∷ Project 2 (Column 1 ∷ []) ∷ Union 1 3 ∷ []
 
+-- each price with the one before it
+abbrev pub prices_before : List PlanNode
+prices_before = Stream 0 trade_kinds ∷ Frames 0 (Own (Column 1) ∷ Lag (Column 1) 1 ∷ []) ∷ []
+
+-- each price with the sum of two prices, the least of three and the average of two, its own the last of them
+abbrev pub last_prices : List PlanNode
+last_prices =
+    Stream 0 trade_kinds
+    ∷ Frames 0
+    (Own (Column 1) ∷ Over (over.Sum (Column 1)) None (Some 1) ∷ Over (over.Min (Column 1)) None (Some 2)
+    ∷ Over (over.Avg (Column 1)) None (Some 1) ∷ [])
+    ∷ []
+
+-- each price with the sum of the last 65,536 and the price 65,535 rows before
+abbrev pub far_prices : List PlanNode
+far_prices =
+    Stream 0 trade_kinds
+    ∷ Frames 0
+    (Own (Column 1) ∷ Over (over.Sum (Column 1)) None (Some 65535) ∷ Lag (Column 1) 65535 ∷ [])
+    ∷ []
+
+-- the number of volumes above 10 among the last three, and the number and the sum of all up to each
+abbrev pub counted_volumes : List PlanNode
+counted_volumes =
+    Stream 0 trade_kinds
+    ∷ Compute 0 (Binary Op.Gt (Column 2) (Literal (record { bits = 10; width = 32 }) (Unsigned 32)) ∷ [])
+    ∷ Frames 1
+    (Over over.Count (Some 3) (Some 2) ∷ Over over.Count None None ∷ Over (over.Sum (Column 2)) None None ∷ [])
+    ∷ []
+
 -- a root's latency, gap and copies
 pub record Has (nodes : List PlanNode) (root latency gap copies : ℕ) : Type 0 where
   pub is_late : latency_of nodes root ≡ latency
@@ -122,18 +154,29 @@ pub record WorkedFigures : Type 0 where
   pub overlaps_by_symbol : Has (sums_in_partitions 2 3 2) 3 9 1 4
   pub gaps_by_symbol : Has (sums_in_partitions 2 1 3) 3 7 1 2
   pub neighbours_in_windows : Has counts_of_sums 5 14 1 9
+  pub last_of_each : figures_of last_prices 1
+      ≡ record { a = 38; lt = 38; le = 38; nt = 1; ne = 1; gt = 1; ge = 1 }
+  pub prices_before : Has prices_before 1 2 1 0
+  pub last_prices : Has last_prices 1 39 1 0
+  pub far_prices : Has far_prices 1 4 1 0
+  pub counted_volumes : Has counted_volumes 2 5 1 0
 
 -- 262,144 is the most
 pub record WorkedWeights : Type 0 where
   pub most : weight_with_output (averages_by_symbol 200) 3 ≡ 262101
   pub more : weight_with_output (averages_by_symbol 201) 3 ≡ 263410
   pub all : weight_with_output (averages_by_symbol 256) 3 ≡ 335405
+  pub one_before : weight_with_output prices_before 1 ≡ 325
+  pub last_of_each : weight_with_output last_prices 1 ≡ 1253
+  pub far : weight_with_output far_prices 1 ≡ 8697
 
 -- the states of 200 averages stand in a memory, and so do those of 4 sums; windows at the root have a third copy of
--- groups, and there are three
+-- groups, and there are three; frames have rings
 pub record WorkedBits : Type 0 where
   pub registers : most_registers (averages_by_symbol 200) 3 ≡ 111632
   pub memories : most_memory (averages_by_symbol 200) 3 ≡ 32768
   pub sums : most_memory sums_by_symbol 3 ≡ 512
   pub in_windows : most_memory counts_by_symbol_in_windows 7 ≡ 1536
   pub keys : keys_of counts_by_symbol_in_windows 7 ≡ 272
+  pub one_before : most_memory prices_before 1 ≡ 1058
+  pub last_of_each : most_memory last_prices 1 ≡ 50088

@@ -1,10 +1,10 @@
 //! The kinds of columns: of operands, of operations, of aggregates, and of lists of these.
 
 ghost use Rattle.std.specs.Prelude.{◌≡◌, ◌++◌, ◌∷◌, IfOk, map};
-ghost use Rattle.gl_algebra.specs.Columns.{kind_of_agg, kind_of_column, kind_of_op, kind_of_operand};
+ghost use Rattle.gl_algebra.specs.Columns.{kind_of_agg, kind_of_column, kind_of_frame, kind_of_frame_agg, kind_of_op, kind_of_operand};
 ghost use Rattle.gl_values.specs.Operators.{result_kind};
 
-use crate::node::{ColOp, Kinds, Operand, PlanAgg};
+use crate::node::{ColOp, Kinds, Operand, PlanAgg, PlanFrame, PlanFrameAgg};
 use gl_bits::{Listed, Memory};
 use gl_values::{Kind, Sort};
 use std::alloc::Global;
@@ -61,6 +61,31 @@ pub fn kind_of_agg(kinds: &[Kind], agg: &PlanAgg) -> Kind
         PlanAgg::Max(operand) => kind_of_operand(kinds, operand),
         PlanAgg::Avg(operand) => kind_of_operand(kinds, operand),
         PlanAgg::Wsum(operand, _) => kind_of_operand(kinds, operand),
+    }
+}
+
+/// The kind of the column that a function over the rows of a frame makes.
+pub fn kind_of_frame_agg(kinds: &[Kind], agg: &PlanFrameAgg) -> Kind
+    ensures { result ≡ kind_of_frame_agg kinds.now agg.now }
+{
+    match agg {
+        PlanFrameAgg::Count => Kind::Unsigned(32),
+        PlanFrameAgg::Sum(operand) => kind_of_operand(kinds, operand),
+        PlanFrameAgg::Min(operand) => kind_of_operand(kinds, operand),
+        PlanFrameAgg::Max(operand) => kind_of_operand(kinds, operand),
+        PlanFrameAgg::Avg(operand) => kind_of_operand(kinds, operand),
+        PlanFrameAgg::LastValue(operand) => kind_of_operand(kinds, operand),
+    }
+}
+
+/// The kind of the column that an item of a node of frames makes.
+pub fn kind_of_frame(kinds: &[Kind], item: &PlanFrame) -> Kind
+    ensures { result ≡ kind_of_frame kinds.now item.now }
+{
+    match item {
+        PlanFrame::Own(operand) => kind_of_operand(kinds, operand),
+        PlanFrame::Lag(operand, _) => kind_of_operand(kinds, operand),
+        PlanFrame::Over { agg, .. } => kind_of_frame_agg(kinds, agg),
     }
 }
 
@@ -130,6 +155,21 @@ pub(crate) fn columns_of_aggs(
     let mut all = Vec::new(alloc);
     for agg in aggs {
         all.push(kind_of_agg(kinds, agg))?;
+    }
+    Ok(Listed::from_vec(all))
+}
+
+// The kinds of the columns that the items of a node of frames make.
+pub(crate) fn columns_of_frames(
+    alloc: Global,
+    kinds: &[Kind],
+    items: &[PlanFrame],
+) -> Result<Kinds, Memory>
+    ensures { IfOk result (λ all. all ≡ map (kind_of_frame kinds.now) items.now) }
+{
+    let mut all = Vec::new(alloc);
+    for item in items {
+        all.push(kind_of_frame(kinds, item))?;
     }
     Ok(Listed::from_vec(all))
 }

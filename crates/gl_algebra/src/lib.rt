@@ -7,6 +7,7 @@
 
 pub mod columns;
 pub mod figures;
+pub mod frames;
 pub mod laws;
 pub mod node;
 pub mod number;
@@ -15,6 +16,9 @@ pub mod table;
 mod wide;
 
 pub use figures::{Figures, Spare};
-pub use node::{ColOp, Kinds, Operand, Operands, Ops, PlanAgg, PlanAggs, PlanNode, Weights};
+pub use node::{
+    ColOp, Kinds, Operand, Operands, Ops, PlanAgg, PlanAggs, PlanFrame, PlanFrameAgg, PlanFrames,
+    PlanNode, Weights,
+};
 pub use number::PlanId;
 pub use plan::Plan;

@@ -20,6 +20,9 @@ pub type PlanAggs = Listed<PlanAgg>;
 /// The weights of the values of a list, the oldest value's first.
 pub type Weights = Listed<Word>;
 
+/// Frames, each of which makes one column, in order.
+pub type PlanFrames = Listed<PlanFrame>;
+
 /// What an operation or an aggregate takes of a row.
 #[derive(Clone, Copy, PartialEq, Eq, Hash, Debug)]
 pub enum Operand {
@@ -57,6 +60,41 @@ pub enum PlanAgg {
     Wsum(Operand, Weights),
 }
 
+/// A function over the rows of a frame.
+#[derive(Clone, Copy, PartialEq, Eq, Hash, Debug)]
+pub enum PlanFrameAgg {
+    /// The number of rows.
+    Count,
+    /// The sum of the values.
+    Sum(Operand),
+    /// The least value.
+    Min(Operand),
+    /// The greatest value.
+    Max(Operand),
+    /// The sum by the number of rows.
+    Avg(Operand),
+    /// The value of the last row; 0 over none.
+    LastValue(Operand),
+}
+
+/// What an item of a node of frames makes of a row and of the rows before it.
+#[derive(Clone, Copy, PartialEq, Eq, Hash, Debug)]
+pub enum PlanFrame {
+    /// An operand of the row itself.
+    Own(Operand),
+    /// LAG: the operand of the row so many rows before; 0 where there is none.
+    Lag(Operand, u32),
+    /// A function over the last rows up to the row itself.
+    Over {
+        /// The function.
+        agg: PlanFrameAgg,
+        /// The number of the column that is 1 in the rows that count; without one all count.
+        filter: Option<u16>,
+        /// How many rows before the row itself are in its frame; without a number all are.
+        back: Option<u32>,
+    },
+}
+
 /// A node of a plan. Where it speaks of another node, its child, it does so by that node's number.
 #[derive(Drop, PartialEq, Eq, Hash, Debug)]
 pub enum PlanNode {
@@ -84,6 +122,13 @@ pub enum PlanNode {
         child: PlanId,
         /// The columns and literals that make a row, in order.
         items: Operands,
+    },
+    /// Of each row of the child what the items make of it and of the rows before it.
+    Frames {
+        /// The number of the node that is read.
+        child: PlanId,
+        /// The items, one for each column of the row.
+        items: PlanFrames,
     },
     /// One row: the aggregates over all rows of the child.
     Aggregate {

@@ -9,8 +9,8 @@ ghost use Rattle.gl_algebra.specs.Shapes.{kinds_of, kinds_over};
 ghost use Rattle.gl_algebra.specs.Views.{is_time, reads_time};
 
 use crate::columns::{
-    columns_of_aggs, columns_of_both, columns_of_items, columns_with_key, columns_with_ops,
-    kind_of_column, same_columns,
+    columns_of_aggs, columns_of_both, columns_of_frames, columns_of_items, columns_with_key,
+    columns_with_ops, kind_of_column, same_columns,
 };
 use crate::node::{Kinds, PlanNode};
 use crate::number::PlanId;
@@ -129,6 +129,11 @@ impl Plan {
             ),
             PlanNode::Select { child, .. } => same_columns(alloc, self.kinds(*child)),
             PlanNode::Project { child, items } => columns_of_items(
+                alloc,
+                self.kinds(*child),
+                items.as_slice(),
+            ),
+            PlanNode::Frames { child, items } => columns_of_frames(
                 alloc,
                 self.kinds(*child),
                 items.as_slice(),

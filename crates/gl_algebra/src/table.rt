@@ -44,6 +44,13 @@ pub fn picked_figures(source: &Figures) -> Option<Figures>
     narrowed(settled(widened(source)))
 }
 
+/// Frames, the slowest of which has this delay.
+pub fn frame_figures(delay: u32, source: &Figures) -> Option<Figures>
+    ensures { result ≡ small_of (settled (delayed delay source.now)) }
+{
+    narrowed(settled(delayed(delay as u128, widened(source))))
+}
+
 /// The cycles from an aggregate's operand to its value.
 pub fn delay_of_agg(kinds: &[Kind], agg: &PlanAgg) -> u32
     ensures { result ≡ delay_of_agg kinds.now agg.now }

@@ -7,10 +7,10 @@ use Rattle.gl_schema.specs.declared.schema.Stream.{Stream}
 use Rattle.gl_schema.specs.declared.schema.Schema.{Schema}
 use Rattle.gl_schema.specs.Names.{IsName}
 use Rattle.gl_schema.specs.Schemas.{IsColumn, IsSchema, IsStream, column_names}
-use Rattle.gl_query.specs.Columns.{agg_column, columns_of, item_column, picked_columns, source_columns, variable}
+use Rattle.gl_query.specs.Columns.{agg_column, columns_of, frame_column, item_column, picked_columns, source_columns, variable}
 use Rattle.gl_query.specs.Names.{HasNames, QueryHasNames}
-use Rattle.gl_query.specs.Parts.{InAggItem, InItem, InPick}
-use Rattle.gl_query.specs.Shapes.{AggItemShape, ItemShape, PickShape, QueryShape}
+use Rattle.gl_query.specs.Parts.{InAggItem, InFrameItem, InItem, InPick}
+use Rattle.gl_query.specs.Shapes.{AggItemShape, FrameItemShape, ItemShape, PickShape, QueryShape}
 use Rattle.gl_query.specs.Shapes as shape
 
 abbrev AreNamed : List Column → Type 0
@@ -44,6 +44,10 @@ aggs_named : (columns : List Column) (items : List AggItemShape) → AllByRecurs
 aggs_named columns [] h = tt
 aggs_named columns (i ∷ items) h = (h.0.1, aggs_named columns items h.1)
 
+frames_named : (columns : List Column) (items : List FrameItemShape) → AllByRecursion (InFrameItem HasNames IsName) items → AreNamed (map (frame_column columns) items)
+frames_named columns [] h = tt
+frames_named columns (i ∷ items) h = (h.0.1, frames_named columns items h.1)
+
 picked_named : (columns : List Column) (pick : PickShape) → AreNamed columns → InPick HasNames IsName pick → AreNamed (picked_columns columns pick)
 picked_named columns shape.All h p = h
 picked_named columns (shape.Items items) h p = items_named columns items p
@@ -57,6 +61,7 @@ query_named (shape.Read name) sources h q = source_named sources name h
 query_named (shape.Rows pick filter source) sources h q =
     picked_named (columns_of sources source) pick (query_named source sources h q.0) q.1
 query_named (shape.Total aggs source) sources h q = aggs_named (columns_of sources source) aggs q.1
+query_named (shape.Frames items filter source) sources h q = frames_named (columns_of sources source) items q.1
 query_named (shape.Each measure var source size advance body) sources h q =
     query_named body (variable var (columns_of sources source)) (query_named source sources h q.0, tt) q.1
 query_named (shape.PerGroup var source key groups body) sources h q =

@@ -10,23 +10,24 @@ use Rattle.gl_schema.specs.declared.schema.Column.{Column as NamedColumn}
 use Rattle.gl_schema.specs.declared.schema.Stream.{Stream}
 use Rattle.gl_schema.specs.declared.schema.Schema.{Schema}
 use Rattle.gl_query.specs.declared.tree.Statement.{Statement}
-use Rattle.gl_query.specs.Shapes.{ExprShape, ItemShape, AggShape, AggItemShape, PickShape, QueryShape, query_shape}
+use Rattle.gl_query.specs.Shapes.{ExprShape, ItemShape, AggShape, AggItemShape, FrameAggShape, FrameShape, FrameItemShape, PickShape, QueryShape, query_shape}
 use Rattle.gl_query.specs.Shapes as shape
 use Rattle.gl_query.specs.Values.{kind_alone, operand_place}
-use Rattle.gl_query.specs.Columns.{agg_column, agg_kind, columns_of, variable, item_column}
-use Rattle.gl_query.specs.Accepted.{IsAcceptedOver, IsFilter, IsPick}
+use Rattle.gl_query.specs.Columns.{agg_column, agg_kind, columns_of, frame_column, variable, item_column}
+use Rattle.gl_query.specs.Accepted.{IsAcceptedOver, IsFilter, IsFrame, IsPick}
 use Rattle.gl_query.specs.Sizes.{IsSmall, QueryIsSmall, operators_in}
-use Rattle.gl_query.specs.Parts.{InAgg, InAggItem, InFilter, InItem, InPick}
+use Rattle.gl_query.specs.Parts.{InAgg, InAggItem, InFilter, InFrame, InFrameAgg, InFrameItem, InItem, InPick}
 use Rattle.gl_query.specs.Checked.{IsChecked}
 use Rattle.gl_query.specs.Laws.{AreKinds}
-use Rattle.gl_query.proofs.Real.{IsScope, body_is, real}
+use Rattle.gl_query.proofs.Real.{IsScope, alone_kind, body_is, real}
 use Rattle.gl_bits.proofs.AllLists.{all_of_mapped}
 use Rattle.gl_elaborate.specs.Terms.{Term, Column, Literal, Not, Cast, Binary, ops_in, ops_in_all, term_of}
-use Rattle.gl_elaborate.specs.Plans.{condition_of, filter_of, picked_terms, arguments_of, arguments_of_all}
-use Rattle.gl_elaborate.specs.Fitting.{CanPlace, FilterTerm}
+use Rattle.gl_elaborate.specs.Plans.{condition_of, filter_of, frame_arguments, frame_terms, frames_terms, picked_terms, arguments_of, arguments_of_all}
+use Rattle.gl_elaborate.specs.Fitting.{CanPlace, FilterTerm, FrameTerms}
 use Rattle.gl_elaborate.proofs.AcceptedLemmas.{column-fits, term-fits}
 use Rattle.gl_elaborate.proofs.RowsLemmas.{pick-fits}
 use Rattle.gl_elaborate.proofs.TotalsLemmas.{arguments-fit}
+use Rattle.gl_elaborate.proofs.FramesLemmas.{own-arguments-fit}
 use Rattle.gl_elaborate.proofs.RoomLemmas.{ops-both}
 use Rattle.gl_elaborate.proofs.StatementLemmas.{schema-reader}
 
@@ -99,11 +100,47 @@ arguments-ops columns (i ∷ items) h =
     let both = ops-both (arguments_of columns i.agg) (arguments_of_all columns items) in
     omega arith
 
+frame-argument-ops : (columns : List NamedColumn) (a : FrameAggShape) → InFrameAgg IsSmall a → ops_in_all (frame_arguments columns a) ≤ 256
+frame-argument-ops columns shape.CountOver s = omega arith
+frame-argument-ops columns (shape.SumOver e) s = let one = term-ops columns (kind_alone e) e in omega arith
+frame-argument-ops columns (shape.MinOver e) s = let one = term-ops columns (kind_alone e) e in omega arith
+frame-argument-ops columns (shape.MaxOver e) s = let one = term-ops columns (kind_alone e) e in omega arith
+frame-argument-ops columns (shape.AvgOver e) s = let one = term-ops columns (kind_alone e) e in omega arith
+frame-argument-ops columns (shape.LastOver e) s = let one = term-ops columns (kind_alone e) e in omega arith
+
+frame-ops : (columns : List NamedColumn) (f : FrameShape) → InFrame IsSmall f → ops_in_all (frame_terms columns f) ≤ 513
+frame-ops columns (shape.Own e) s = let one = term-ops columns (kind_alone e) e in omega arith
+frame-ops columns (shape.Lag e back) s = let one = term-ops columns (kind_alone e) e in omega arith
+frame-ops columns (shape.Over agg condition back) s =
+    let first = frame-argument-ops columns agg s.0 in
+    let second = filter-ops columns condition s.1 in
+    let both = ops-both (frame_arguments columns agg) (option_to_list (filter_of columns condition)) in
+    omega arith
+
+frames-ops : (columns : List NamedColumn) (items : List FrameItemShape) → AllByRecursion (InFrameItem IsSmall AnyName) items
+    → ops_in_all (frames_terms columns items) ≤ 513 * length items
+frames-ops columns [] h = omega arith
+frames-ops columns (i ∷ items) h =
+    let one = frame-ops columns i.frame h.0.0 in
+    let rest = frames-ops columns items h.1 in
+    let both = ops-both (frame_terms columns i.frame) (frames_terms columns items) in
+    omega arith
+
 -- ---- queries
 
 filter-term : (columns : List NamedColumn) → AreKinds columns → (condition : Option ExprShape) → IsFilter columns condition → FilterTerm columns condition
 filter-term columns kinds None h = tt
 filter-term columns kinds (Some e) h = term-fits columns kinds e (Unsigned 1) (lit≤ tt, lit≤ tt) h.typed
+
+frame-term : (columns : List NamedColumn) → AreKinds columns → (f : FrameShape) → IsFrame columns f → FrameTerms columns f
+frame-term columns kinds (shape.Own e) h = term-fits columns kinds e (kind_alone e) (alone_kind e) h
+frame-term columns kinds (shape.Lag e back) h = term-fits columns kinds e (kind_alone e) (alone_kind e) h.typed
+frame-term columns kinds (shape.Over agg condition back) h = (own-arguments-fit columns kinds agg h.typed, filter-term columns kinds condition h.picks)
+
+frame-terms : (columns : List NamedColumn) → AreKinds columns → (items : List FrameItemShape) → AllByRecursion (λ (i : FrameItemShape). IsFrame columns i.frame) items
+    → AllByRecursion (λ (i : FrameItemShape). FrameTerms columns i.frame) items
+frame-terms columns kinds [] h = tt
+frame-terms columns kinds (i ∷ items) h = (frame-term columns kinds i.frame h.0, frame-terms columns kinds items h.1)
 
 items-are : (columns : List NamedColumn) (items : List AggItemShape) → AreKinds (map (agg_column columns) items)
     → AllByRecursion (λ (i : AggItemShape). IsKind (agg_kind columns i.agg)) items
@@ -140,6 +177,24 @@ can (shape.Total aggs source) sources timed most is a s =
         typed = a.1.typed;
         kinds = items-are columns aggs whole.kinds;
         terms = arguments-fit columns own.kinds aggs a.1.typed;
+        room = omega arith;
+      },
+    )
+can (shape.Frames items condition source) sources timed most is a s =
+    let columns = columns_of sources source in
+    let own = real source (record { sources = sources; timed = timed }) is a.0 in
+    let narrow = own.result.most in
+    let all = frames-ops columns items s.1 in
+    let filters = filter-ops columns condition s.2 in
+    let both = ops-both (frames_terms columns items) (option_to_list (filter_of columns condition)) in
+    let short = a.1.columns.most in
+    let same = length-map items (frame_column columns) in (
+      can source sources timed most is a.0 s.0,
+      record {
+        typed = a.1.typed;
+        filters = a.1.filters;
+        terms = frame-terms columns own.kinds items a.1.typed;
+        filter_term = filter-term columns own.kinds condition a.1.filters;
         room = omega arith;
       },
     )

@@ -22,6 +22,7 @@ use Rattle.gl_algebra.specs.Results.{computed}
 use Rattle.gl_algebra.proofs.ListLemmas.{first_passes}
 use Rattle.gl_algebra.proofs.NodeEquality.{same_op as op-same}
 use Rattle.gl_elaborate.specs.Terms.{Term, Column, Literal, Not, Cast, Binary, IsTerm, term_kind, term_value}
+use Rattle.gl_elaborate.proofs.DepthLemmas.{IsNoLiteral}
 use Rattle.gl_elaborate.specs.Levels.{same_op, leaf_of, binary_of, op_of, or_these, innermost, innermost_of_all, level_of, or_column, reduced}
 use Rattle.gl_algebra.specs.contracts.node.ColOpEq.TheImpl.Laws as ColOpLaws
 
@@ -170,6 +171,7 @@ pub record IsCarried (kinds kinds' : List Kind) (widen : Row → Row) (t t' : Te
   pub fits : IsTerm kinds' t'
   pub kind : term_kind kinds' t' ≡ term_kind kinds t
   pub value : (row : Row) → length row ≡ length kinds → term_value kinds' (widen row) t' ≡ term_value kinds row t
+  pub still : IsNoLiteral t → IsNoLiteral t'
 
 module _ (kinds : List Kind) (level : List ColOp) where
   -- the kinds with those of a level
@@ -195,6 +197,7 @@ module _ (kinds : List Kind) (level : List ColOp) where
             (slice_get-map (value_of_op kinds row) level place ∙ ap (option_map (value_of_op kinds row)) at) in
             ap (λ (n : ℕ). get_or (computed kinds level row) (n + place) 0) (sym same)
             ∙ get_or-append-add row (map (value_of_op kinds row) level) place 0 ∙ value ∙ is.value row;
+        still = λ no. tt;
       }
 
   or-carried : (t rest : Term) (found : Option ColOp) (ops : List ColOp) → op_of t ≡ found → IsTerm kinds t
@@ -210,19 +213,22 @@ module _ (kinds : List Kind) (level : List ColOp) where
     fits = rw length-append (omega arith);
     kind = get_or_append_left kinds (map (kind_of_op kinds) level) bit_kind n fits;
     value = λ row same. get_or_append_left row (map (value_of_op kinds row) level) 0 n (rw same fits);
+    still = λ no. tt;
   }
-  carried (Literal w k) fits has = record { fits = fits; kind = refl; value = λ row same. refl }
+  carried (Literal w k) fits has = record { fits = fits; kind = refl; value = λ row same. refl; still = λ no. no }
   carried (Not t) fits has = or-carried (Not t) (Not (reduced (length kinds) level t)) (op_of (Not t)) (innermost t) refl fits has
       (λ ops. let below = carried t fits.0 ops in record {
         fits = (below.fits, below.kind ∙ fits.1);
         kind = refl;
         value = λ row same. ap (not_of 1) (below.value row same);
+        still = λ no. tt;
       })
   carried (Cast t k) fits has = or-carried (Cast t k) (Cast (reduced (length kinds) level t) k) (op_of (Cast t k)) (innermost t) refl fits has
       (λ ops. let below = carried t fits.0 ops in record {
         fits = (below.fits, subst (λ (j : Kind). IsTrue (can_cast j k)) (sym below.kind) fits.1);
         kind = refl;
         value = λ row same. rw (below.kind, below.value row same) refl;
+        still = λ no. tt;
       })
   carried (Binary o l r) fits has = or-carried (Binary o l r)
       (Binary o (reduced (length kinds) level l) (reduced (length kinds) level r)) (op_of (Binary o l r)) (innermost l ++ innermost r) refl fits has
@@ -233,6 +239,7 @@ module _ (kinds : List Kind) (level : List ColOp) where
         fits = (a.fits, b.fits, a.kind ∙ fits.2 ∙ sym b.kind, subst (SortFits (sort_of o)) (sym a.kind) fits.3);
         kind = ap (result_kind (sort_of o)) a.kind;
         value = λ row same. rw (a.kind, a.value row same, b.value row same) refl;
+        still = λ no. tt;
       })
 
   pub all-carried : (ts : List Term) → AllByRecursion (IsTerm kinds) ts → AllByRecursion (Has level) (innermost_of_all ts)

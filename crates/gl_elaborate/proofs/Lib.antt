@@ -2,6 +2,8 @@ pub mod PlacedLemmas
 pub mod StandsLemmas
 pub mod RowsLemmas
 pub mod TotalsLemmas
+pub mod FramedLemmas
+pub mod FramesLemmas
 pub mod LongLemmas
 pub mod ReadLemmas
 pub mod TwoLemmas

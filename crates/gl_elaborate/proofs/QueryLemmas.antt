@@ -1,5 +1,5 @@
 -- The plan of an accepted query fits, has the query's shape, and each of its results is one of the query.
-use Rattle.std.proofs.Common.{◌≡◌, ◌≢◌, ℕ, Bool, true, false, ◌&&◌, List, [], ◌∷◌, ◌++◌, Option, Some, None, slice_index, refl, sym, ap, subst, ◌∙◌, map}
+use Rattle.std.proofs.Common.{◌≡◌, ◌≢◌, ℕ, Bool, true, false, ◌&&◌, List, [], ◌∷◌, ◌++◌, length, Option, Some, None, slice_index, refl, sym, ap, subst, ◌∙◌, map}
 use Rattle.std.specs.List.{AllByRecursion}
 use Rattle.std.specs.Prelude.{IsSome}
 use Rattle.std.proofs.lemmas.List.{map-append}
@@ -11,14 +11,14 @@ use Rattle.gl_schema.specs.declared.schema.Stream.{Stream}
 use Rattle.gl_schema.specs.Schemas.{kinds_of}
 use Rattle.gl_query.specs.declared.tree.Measure.{Measure}
 use Rattle.gl_query.specs.declared.tree.Measure.TheVariants.{Tuples, Time}
-use Rattle.gl_query.specs.Shapes.{ExprShape, AggItemShape, QueryShape}
+use Rattle.gl_query.specs.Shapes.{ExprShape, AggItemShape, FrameItemShape, QueryShape}
 use Rattle.gl_query.specs.Shapes as shape
 use Rattle.gl_query.specs.Values.{column_number}
-use Rattle.gl_query.specs.Columns.{columns_of, source_columns, variable, is_closing, pace_of, unfiltered, picked_columns}
+use Rattle.gl_query.specs.Columns.{columns_of, frame_column, source_columns, variable, is_closing, pace_of, unfiltered, picked_columns}
 use Rattle.gl_query.specs.Columns as query
 use Rattle.gl_query.specs.Accepted.{IsAcceptedOver, can_measure}
 use Rattle.gl_query.specs.Windows.{parts_of}
-use Rattle.gl_query.specs.Results.{Env, IsResultIn, only, picked, kept, ticks_in, times_in, total_row}
+use Rattle.gl_query.specs.Results.{Env, IsResultIn, frame_row, only, picked, kept, ticks_in, times_in, total_row}
 use Rattle.gl_query.proofs.Holding.{all_parts}
 use Rattle.gl_query.proofs.Real.{AreReal, real}
 use Rattle.gl_algebra.specs.declared.node.PlanNode.{PlanNode}
@@ -29,7 +29,7 @@ use Rattle.gl_algebra.specs.Added.{Placed, added}
 use Rattle.gl_algebra.specs.Results.{Inputs, given, times_with, IsPlanResult}
 use Rattle.gl_elaborate.proofs.TermLemmas.{kind-column}
 use Rattle.gl_elaborate.proofs.AcceptedLemmas.{column-fits}
-use Rattle.gl_elaborate.specs.Plans.{placed, rows_over, totals_over, window_node}
+use Rattle.gl_elaborate.specs.Plans.{filter_of, frames_over, frames_terms, levelled, placed, rows_over, selected, totals_over, window_node}
 use Rattle.gl_elaborate.specs.Fitting.{PlacedFit}
 use Rattle.gl_elaborate.specs.Right.{plan_pace, leaves_of, shape_for}
 use Rattle.gl_elaborate.proofs.LongLemmas.{AreLong, in-groups, in-parts, results-long}
@@ -38,8 +38,10 @@ use Rattle.gl_elaborate.proofs.PlacedLemmas.{IsOver, is_added}
 use Rattle.gl_elaborate.proofs.StandsLemmas.{Stands, weaker}
 use Rattle.gl_elaborate.proofs.RowsLemmas.{IsPicked, pace_under, rows-stand}
 use Rattle.gl_elaborate.proofs.TotalsLemmas.{IsTotalled, HasDelay, totals-stand}
+use Rattle.gl_elaborate.proofs.FramesLemmas.{HasFrameDelay, IsFramed, frames-stand}
 use Rattle.gl_elaborate.proofs.TwoLemmas.{behind, left_still, union-stands, beside-stands, window-stands, group-stands, partition-stands}
 use Rattle.gl_query.specs.Laws.{IsLongAs, ResultsAreLong}
+use Rattle.gl_frames.specs.Frames.{framed}
 
 -- ---- results in parts
 
@@ -150,6 +152,27 @@ right lengths (shape.Total aggs source) read sources timed nodes reader a plan =
             rows = r.rows;
             of_source = result;
             changed = subst (λ (s : List Stream). out ≡ total_row (columns_of s source) aggs r.rows ∷ [])
+                (sym sees.streams) (r.made (results-long lengths source sources timed env r.rows spill a.0 sees.streams sees.are_long result));
+          }),
+    )
+right lengths (shape.Frames items condition source) read sources timed nodes reader a plan =
+    let columns = columns_of sources source in
+    let below = right lengths source read sources timed nodes reader a.0 plan in
+    let are = columns-are source read sources timed reader a.0 in
+    let done = frames-stand columns are.kinds nodes (placed read sources source nodes) (shape_for read sources source) (means_for read sources timed source) refl
+    items a.1.typed condition a.1.filters below.1 in
+    let at = frames_over columns items condition (placed read sources source nodes) in
+    let paced = subst (λ (p : Pace). Stands nodes at (record (shape_for read sources source) { kinds = kinds_of (map (frame_column columns) items); pace = p })
+    (λ inputs. IsFramed columns items condition (means_for read sources timed source inputs))) (rows-pace read condition (pace_of source)) done.2 in (
+      (below.0, done.0),
+      weaker nodes at (shape_for read sources (shape.Frames items condition source)) (λ inputs. IsFramed columns items condition (means_for read sources timed source inputs))
+          (means_for read sources timed (shape.Frames items condition source)) paced
+          (λ inputs out spill r env sees.
+          let result = r.of_source env sees in
+          record {
+            rows = r.rows;
+            of_source = result;
+            changed = subst (λ (s : List Stream). out ≡ framed (frame_row (columns_of s source) items) (kept (columns_of s source) condition r.rows))
                 (sym sees.streams) (r.made (results-long lengths source sources timed env r.rows spill a.0 sees.streams sees.are_long result));
           }),
     )
@@ -331,3 +354,15 @@ total-delay lengths aggs source read sources timed nodes reader a plan =
     let are = columns-are source read sources timed reader a.0 in
     (totals-stand columns are.kinds nodes (placed read sources source nodes) (shape_for read sources source) (means_for read sources timed source) refl
     aggs a.1.typed below.1).1
+
+pub frames-delay : ResultsAreLong → (items : List FrameItemShape) (condition : Option ExprShape) (source : QueryShape) (read : List ℕ → PlanNode) (sources : List Stream) (timed : Bool)
+    (nodes : List PlanNode) → IsReader read sources timed → IsAcceptedOver (record { sources = sources; timed = timed }) (shape.Frames items condition source) → IsPlan nodes
+    → let columns = columns_of sources source in
+    let over = levelled (length columns) (placed read sources source nodes) (frames_terms columns items) (filter_of columns condition) in
+    HasFrameDelay columns items (selected over.at over.filter) over.items
+frames-delay lengths items condition source read sources timed nodes reader a plan =
+    let columns = columns_of sources source in
+    let below = right lengths source read sources timed nodes reader a.0 plan in
+    let are = columns-are source read sources timed reader a.0 in
+    (frames-stand columns are.kinds nodes (placed read sources source nodes) (shape_for read sources source) (means_for read sources timed source) refl
+    items a.1.typed condition a.1.filters below.1).1

@@ -64,7 +64,7 @@ flat-column kinds (Binary o l r) d fits nl bit = absurd (omega arith)
 
 -- ---- conditions
 
-record IsCast (kinds : List Kind) (t t' : Term) : Type 0 where
+pub record IsCast (kinds : List Kind) (t t' : Term) : Type 0 where
   pub fits : IsTerm kinds t'
   pub kind : term_kind kinds t' ≡ bit_kind
   pub no : IsNoLiteral t'
@@ -76,7 +76,7 @@ same_bit n width kind k w fits =
     let less : n < 2 = omega (arith, fits, narrow) in
     ap (λ (j : Kind). cast_of j (Unsigned 1) n) k ∙ (let same : n % 2 ≡ n = omega arith in same)
 
-condition : (kinds : List Kind) (t : Term) → IsTerm kinds t → term_kind kinds t ≡ bit_kind → IsCast kinds t (condition_of t)
+pub condition : (kinds : List Kind) (t : Term) → IsTerm kinds t → term_kind kinds t ≡ bit_kind → IsCast kinds t (condition_of t)
 condition kinds (Column n) fits bit = record { fits = fits; kind = bit; no = tt; value = λ row. refl }
 condition kinds (Literal w k) fits bit = record {
   fits = (fits, subst (λ (j : Kind). IsTrue (can_cast j (Unsigned 1))) (sym bit) refl);
@@ -182,7 +182,7 @@ through w p q f g P each (row ∷ rows) h =
     let rest = through w p q f g P each rows h.1 in
     by_cases (q row) (λ e. rw (here.0, e) (λ i. here.1 i ∷ rest i)) (λ e. rw (here.0, e) rest)
 
-unfiltered : (rows : List Row) → rows ≡ filter (λ (row : Row). true) rows
+pub unfiltered : (rows : List Row) → rows ≡ filter (λ (row : Row). true) rows
 unfiltered [] = refl
 unfiltered (row ∷ rows) = ap (λ (l : List Row). row ∷ l) (unfiltered rows)
 

@@ -8,15 +8,17 @@ use Rattle.gl_values.specs.declared.kind.Kind.{Kind}
 use Rattle.gl_algebra.specs.declared.node.Operand.{Operand}
 use Rattle.gl_algebra.specs.declared.node.ColOp.{ColOp}
 use Rattle.gl_algebra.specs.declared.node.PlanAgg.{PlanAgg}
+use Rattle.gl_algebra.specs.declared.node.PlanFrame.{PlanFrame}
 use Rattle.gl_algebra.specs.declared.node.PlanNode.{PlanNode}
 use Rattle.gl_algebra.specs.declared.node.PlanNode.TheVariants as node
-use Rattle.gl_algebra.specs.Columns.{bit_kind, kind_of_operand, kind_of_agg, OperandFits, OpFits, AggFits}
+use Rattle.gl_algebra.specs.Columns.{bit_kind, kind_of_operand, kind_of_agg, kind_of_frame, OperandFits, OpFits, AggFits, FrameFits}
 use Rattle.gl_algebra.specs.Fits.{Fits}
 use Rattle.gl_algebra.specs.Shapes.{Shape, unsteady, once, shape_from, shape_of}
 use Rattle.gl_values.specs.Results.{Row, Results, IsChanged}
+use Rattle.gl_frames.specs.Frames.{framed}
 use Rattle.gl_bits.proofs.AllLists.{all_append, all_front, all_back, map_map}
 use Rattle.gl_algebra.specs.Added.{Placed, added}
-use Rattle.gl_algebra.specs.Results.{Inputs, Meaning, IsPlanResult, meaning_from, computed, selected, projected, totalled}
+use Rattle.gl_algebra.specs.Results.{Inputs, Meaning, IsPlanResult, meaning_from, computed, row_of_frames, selected, projected, totalled}
 use Rattle.gl_algebra.proofs.ResultLemmas.{moved}
 use Rattle.gl_elaborate.specs.Terms.{Term, IsTerm, depth_of_all}
 use Rattle.gl_elaborate.specs.Levels.{innermost_of_all, level_of, reduced}
@@ -91,6 +93,20 @@ module _ (old : List PlanNode) (at : Placed) (shape : Shape) (Means : Meaning) (
     timed = tt;
   }
 
+  pub frames-fits : (items : List PlanFrame) → AllByRecursion (FrameFits shape.kinds) items → Fits at.nodes (length at.nodes) (node.Frames at.root items)
+  frames-fits items fits = record {
+    before = before;
+    suits = subst (λ (x : Shape). All (FrameFits x.kinds) items) (sym s.is) (All-from_recursion (FrameFits shape.kinds) items fits);
+    timed = tt;
+  }
+
+  pub frames-stands : (items : List PlanFrame) → AllByRecursion (FrameFits shape.kinds) items
+      → Stands old (added at.nodes (node.Frames at.root items)) (record shape { kinds = map (kind_of_frame shape.kinds) items })
+      (λ inputs. IsChanged (Means inputs) (framed (row_of_frames shape.kinds items)))
+  frames-stands items fits =
+      one-more (node.Frames at.root items) (λ x. framed (row_of_frames x.kinds items)) (frames-fits items fits)
+      (λ x. refl) (λ x m inputs out spill r. r)
+
   pub aggregate-fits : (aggs : List PlanAgg) → AllByRecursion (AggFits shape.kinds) aggs → Fits at.nodes (length at.nodes) (node.Aggregate at.root aggs)
   aggregate-fits aggs fits = record {
     before = before;
@@ -148,6 +164,7 @@ carried-then k k' k'' w w' x y z wide a b = record {
   fits = b.fits;
   kind = b.kind ∙ a.kind;
   value = λ row same. b.value (w row) (wide row same) ∙ a.value row same;
+  still = λ no. b.still (a.still no);
 }
 
 zip-then : (k k' k'' : List Kind) (w w' : Row → Row) (xs ys zs : List Term) → ((row : Row) → length row ≡ length k → length (w row) ≡ length k')
@@ -162,7 +179,7 @@ zip-then k k' k'' w w' (x ∷ xs) (y ∷ ys) (z ∷ zs) wide a b =
 
 zip-self : (k : List Kind) (xs : List Term) → AllByRecursion (IsTerm k) xs → AllZip (IsCarried k k (λ row. row)) xs xs
 zip-self k [] h = tt
-zip-self k (x ∷ xs) h = (record { fits = h.0; kind = refl; value = λ row same. refl }, zip-self k xs h.1)
+zip-self k (x ∷ xs) h = (record { fits = h.0; kind = refl; value = λ row same. refl; still = λ no. no }, zip-self k xs h.1)
 
 pub zip-fits : (k k' : List Kind) (w : Row → Row) (xs ys : List Term) → AllZip (IsCarried k k' w) xs ys → AllByRecursion (IsTerm k') ys
 zip-fits k k' w [] [] h = tt

@@ -8,7 +8,7 @@ use Rattle.gl_schema.specs.declared.schema.Stream.{Stream}
 use Rattle.gl_schema.specs.Schemas.{kinds_of}
 use Rattle.gl_query.specs.declared.tree.Measure.{Measure}
 use Rattle.gl_query.specs.declared.tree.Measure.TheVariants.{Tuples, Time}
-use Rattle.gl_query.specs.Shapes.{AggItemShape, ExprShape, PickShape, QueryShape, query_shape}
+use Rattle.gl_query.specs.Shapes.{AggItemShape, ExprShape, FrameItemShape, PickShape, QueryShape, query_shape}
 use Rattle.gl_query.specs.Shapes as shape
 use Rattle.gl_query.specs.Columns.{columns_of, variable}
 use Rattle.gl_query.specs.Windows as windows
@@ -22,7 +22,7 @@ use Rattle.gl_algebra.proofs.ListLemmas.{any_at}
 use Rattle.gl_algebra.proofs.PlanLemmas.{node_inserted}
 use Rattle.gl_elaborate.specs.Terms.{Term, depth_of_all}
 use Rattle.gl_elaborate.specs.Levels.{level_of, operand_of, reduced}
-use Rattle.gl_elaborate.specs.Plans.{aggs_of, arguments_of_all, column_under, filter_of, levelled, levels, picked_terms, placed, rows_over, selected, stream_node, totals_over, window_node, with_filter}
+use Rattle.gl_elaborate.specs.Plans.{aggs_of, arguments_of_all, column_under, filter_of, frames_of, frames_over, frames_terms, levelled, levels, picked_terms, placed, rows_over, selected, stream_node, totals_over, window_node, with_filter}
 use Rattle.gl_elaborate.specs.Laws.{PlansTellTime}
 
 -- ---- one node more
@@ -75,6 +75,15 @@ totals-quiet columns aggs at =
     quiet over.at.nodes (node.Aggregate over.at.root (aggs_of columns aggs over.items)) refl
     ∙ levels-quiet (depth_of_all (with_filter (arguments_of_all columns aggs) None)) (length columns) at (arguments_of_all columns aggs) None
 
+frames-quiet : (columns : List NamedColumn) (items : List FrameItemShape) (filter : Option ExprShape) (at : Placed)
+    → reads_time (frames_over columns items filter at).nodes ≡ reads_time at.nodes
+frames-quiet columns items filter at =
+    let over = levelled (length columns) at (frames_terms columns items) (filter_of columns filter) in
+    let chosen = selected over.at over.filter in
+    quiet chosen.nodes (node.Frames chosen.root (frames_of items over.items)) refl ∙ select-quiet over.at over.filter
+    ∙ levels-quiet (depth_of_all (with_filter (frames_terms columns items) (filter_of columns filter))) (length columns) at (frames_terms columns items)
+    (filter_of columns filter)
+
 -- ---- queries
 
 three : (a b c d : Bool) → (((a || b) || c) || d) ≡ (a || (d || b || c))
@@ -97,6 +106,8 @@ placed-time (shape.Rows pick filter source) read sources nodes h =
     rows-quiet (columns_of sources source) pick filter (placed read sources source nodes) ∙ placed-time source read sources nodes h
 placed-time (shape.Total aggs source) read sources nodes h =
     totals-quiet (columns_of sources source) aggs (placed read sources source nodes) ∙ placed-time source read sources nodes h
+placed-time (shape.Frames items filter source) read sources nodes h =
+    frames-quiet (columns_of sources source) items filter (placed read sources source nodes) ∙ placed-time source read sources nodes h
 placed-time (shape.Each measure var source size advance body) read sources nodes h =
     let columns = columns_of sources source in
     let inner : List ℕ → PlanNode = λ name. node.Body (kinds_of columns) in

@@ -45,7 +45,7 @@ use Rattle.gl_elaborate.proofs.RowsLemmas.{flat-operand}
 use Rattle.gl_query.proofs.Real.{alone_kind}
 
 -- an operand stands for an expression over rows that are as long as the columns are many
-record IsArgument (columns : List NamedColumn) (kinds : List Kind) (widen : Row → Row) (e : ExprShape) (x : Operand) : Type 0 where
+pub record IsArgument (columns : List NamedColumn) (kinds : List Kind) (widen : Row → Row) (e : ExprShape) (x : Operand) : Type 0 where
   pub fits : OperandFits kinds x
   pub kind : kind_of_operand kinds x ≡ kind_of columns (kind_alone e) e
   pub value : (row : Row) → length row ≡ length columns → value_of_operand (widen row) x ≡ value_of columns (kind_alone e) e row
@@ -58,7 +58,7 @@ record IsAggregate (columns : List NamedColumn) (kinds : List Kind) (widen : Row
   pub value : (rows : List Row) → AreLong columns rows → total_of kinds (map widen rows) x ≡ agg_value columns rows a
 
 module _ (columns : List NamedColumn) (areKinds : AreKinds columns) (kinds : List Kind) (widen : Row → Row) where
-  argument : (e : ExprShape) (t : Term) → IsCarried (kinds_of columns) kinds widen (term_of columns (kind_alone e) e) t → depth_of t ≡ 0
+  pub argument : (e : ExprShape) (t : Term) → IsCarried (kinds_of columns) kinds widen (term_of columns (kind_alone e) e) t → depth_of t ≡ 0
       → IsArgument columns kinds widen e (operand_of t)
   argument e t carried flat =
       let leaf = flat-operand kinds t flat carried.fits in
@@ -76,7 +76,7 @@ module _ (columns : List NamedColumn) (areKinds : AreKinds columns) (kinds : Lis
       let rest = values e x is rows long.1 in
       λ i. here i ∷ rest i
 
-  counted : (rows : List Row) → count_of (map widen rows) ≡ count_of rows
+  pub counted : (rows : List Row) → count_of (map widen rows) ≡ count_of rows
   unfolding count_of
   counted rows = rw length-map refl
 
@@ -96,10 +96,10 @@ module _ (columns : List NamedColumn) (areKinds : AreKinds columns) (kinds : Lis
   weight-bits kind [] = refl
   weight-bits kind (n ∷ weights) = ap (λ (l : List ℕ). n ∷ l) (weight-bits kind weights)
 
-  summed : (e : ExprShape) (x : Operand) → IsArgument columns kinds widen e x → IsSummed columns e → IsTrue (is_number (kind_of_operand kinds x))
+  pub summed : (e : ExprShape) (x : Operand) → IsArgument columns kinds widen e x → IsSummed columns e → IsTrue (is_number (kind_of_operand kinds x))
   summed e x is h = subst (λ (j : Kind). IsTrue (is_number j)) (sym is.kind) h.number
 
-  sum_of_kind : (e : ExprShape) (x : Operand) → IsArgument columns kinds widen e x → (f : Kind → List ℕ → ℕ) (rows : List Row) → AreLong columns rows
+  pub sum_of_kind : (e : ExprShape) (x : Operand) → IsArgument columns kinds widen e x → (f : Kind → List ℕ → ℕ) (rows : List Row) → AreLong columns rows
       → f (kind_of_operand kinds x) (map (λ row. value_of_operand row x) (map widen rows)) ≡ f (kind_of columns (kind_alone e) e) (values_of columns e rows)
   sum_of_kind e x is f rows long = λ i. f (is.kind i) (values e x is rows long i)
 

@@ -123,6 +123,9 @@ module _ (lengths : ResultsAreLong) (schema : Schema) (fine : IsSchema schema) w
   whole (shape.Total aggs source) a =
       let p = plain _ (node.Aggregate _ _) refl in
       record { spare = p.none; figures = p.own ∙ own_figures (shape.Total aggs source) a }
+  whole (shape.Frames items filter source) a =
+      let p = plain _ (node.Frames _ _) refl in
+      record { spare = p.none; figures = p.own ∙ own_figures (shape.Frames items filter source) a }
   whole (shape.Each Time var source size advance body) a =
       let p = plain _ (node.TimeWindow _ _ size advance) refl in
       record { spare = p.none; figures = p.own ∙ own_figures (shape.Each Time var source size advance body) a }

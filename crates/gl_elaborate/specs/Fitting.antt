@@ -3,11 +3,11 @@
 use Rattle.std.specs.Prelude.{◌≡◌, ℕ, zero, suc, ◌+◌, ◌<◌, ◌≤◌, List, map, length, Option, Some, None, option_map}
 use Rattle.gl_values.specs.declared.kind.Kind.TheVariants.{Unsigned}
 use Rattle.gl_schema.specs.declared.schema.Column.{Column as NamedColumn}
-use Rattle.gl_query.specs.Shapes.{ExprShape, PickShape, AggItemShape, QueryShape}
+use Rattle.gl_query.specs.Shapes.{ExprShape, PickShape, AggItemShape, FrameShape, FrameItemShape, QueryShape}
 use Rattle.gl_query.specs.Shapes as shape
-use Rattle.gl_query.specs.Values.{column_number}
+use Rattle.gl_query.specs.Values.{column_number, kind_alone}
 use Rattle.gl_query.specs.Columns.{agg_kind, columns_of, variable}
-use Rattle.gl_query.specs.Accepted.{IsAgg, IsRows}
+use Rattle.gl_query.specs.Accepted.{IsAgg, IsFilter, IsFrame, IsRows}
 use Rattle.gl_values.specs.Kinds.{IsKind}
 use Rattle.std.specs.List.{AllByRecursion}
 use Rattle.gl_schema.specs.declared.schema.Stream.{Stream}
@@ -18,7 +18,7 @@ use Rattle.gl_algebra.specs.Fits.{Fits}
 use Rattle.gl_algebra.specs.Added.{Placed, added}
 use Rattle.gl_elaborate.specs.Terms.{Term, depth_of_all, ops_in_all, term_of, IsTerm}
 use Rattle.gl_elaborate.specs.Levels.{level_of, reduced, operand_of}
-use Rattle.gl_elaborate.specs.Plans.{levelled, selected, column_under, picked_terms, filter_of, with_filter, arguments_of_all, aggs_of, placed, window_node}
+use Rattle.gl_elaborate.specs.Plans.{levelled, selected, column_under, picked_terms, filter_of, with_filter, arguments_of_all, aggs_of, frame_arguments, frames_of, frames_terms, placed, window_node}
 
 -- a node fits behind these
 abbrev pub FitsNext : List PlanNode → PlanNode → Type 0
@@ -72,6 +72,21 @@ pub record TotalsFit (columns : List NamedColumn) (items : List AggItemShape) (a
       let over = levelled (length columns) at (arguments_of_all columns items) None in
       FitsNext over.at.nodes (node.Aggregate over.at.root (aggs_of columns items over.items))
 
+-- the node of frames fits
+abbrev pub FramedFits : Placed → List FrameItemShape → List Term → Type 0
+FramedFits at items terms = FitsNext at.nodes (node.Frames at.root (frames_of items terms))
+
+-- the nodes of a select of frames
+pub record FramesFit (columns : List NamedColumn) (items : List FrameItemShape) (filter : Option ExprShape)
+    (at : Placed) : Type 0 where
+  pub of_levels : LevelledFit (length columns) at (frames_terms columns items) (filter_of columns filter)
+  pub of_select :
+      let over = levelled (length columns) at (frames_terms columns items) (filter_of columns filter)
+      in SelectFits over.at over.filter
+  pub of_frames :
+      let over = levelled (length columns) at (frames_terms columns items) (filter_of columns filter) in
+      FramedFits (selected over.at over.filter) items over.items
+
 -- the nodes of a query
 abbrev pub PlacedFit : (List ℕ → PlanNode) → List Stream → QueryShape → List PlanNode → Type 0
 PlacedFit read sources (shape.Read name) nodes = FitsNext nodes (read name)
@@ -80,6 +95,9 @@ PlacedFit read sources (shape.Rows pick filter source) nodes =
     (placed read sources source nodes)
 PlacedFit read sources (shape.Total aggs source) nodes =
     PlacedFit read sources source nodes × TotalsFit (columns_of sources source) aggs (placed read sources source nodes)
+PlacedFit read sources (shape.Frames items filter source) nodes =
+    PlacedFit read sources source nodes × FramesFit (columns_of sources source) items filter
+    (placed read sources source nodes)
 PlacedFit read sources (shape.Each measure var source size advance body) nodes =
     let columns = columns_of sources source in
     let from = placed read sources source nodes in
@@ -132,12 +150,30 @@ pub record CanPlaceTotal (columns : List NamedColumn) (items : List AggItemShape
   pub terms : AllByRecursion (IsTerm (kinds_of columns)) (arguments_of_all columns items)
   pub room : length columns + ops_in_all (arguments_of_all columns items) < 65536
 
+-- the expressions of a frame are terms
+abbrev pub FrameTerms : List NamedColumn → FrameShape → Type 0
+FrameTerms columns (shape.Own e) = IsTerm (kinds_of columns) (term_of columns (kind_alone e) e)
+FrameTerms columns (shape.Lag e back) = IsTerm (kinds_of columns) (term_of columns (kind_alone e) e)
+FrameTerms columns (shape.Over agg filter back) =
+    AllByRecursion (IsTerm (kinds_of columns)) (frame_arguments columns agg) × FilterTerm columns filter
+
+-- frames can become nodes: they and the filter are accepted, their expressions are terms, and columns stay below 65,536
+pub record CanPlaceFrames (columns : List NamedColumn) (items : List FrameItemShape) (filter : Option ExprShape)
+    : Type 0 where
+  pub typed : AllByRecursion (λ (i : FrameItemShape). IsFrame columns i.frame) items
+  pub filters : IsFilter columns filter
+  pub terms : AllByRecursion (λ (i : FrameItemShape). FrameTerms columns i.frame) items
+  pub filter_term : FilterTerm columns filter
+  pub room : length columns + ops_in_all (with_filter (frames_terms columns items) (filter_of columns filter)) < 65536
+
 -- what code that places a query needs
 abbrev pub CanPlace : List Stream → QueryShape → Type 0
 CanPlace sources (shape.Read name) = length sources ≤ 8
 CanPlace sources (shape.Rows pick filter source) =
     CanPlace sources source × CanPlaceRows (columns_of sources source) pick filter
 CanPlace sources (shape.Total aggs source) = CanPlace sources source × CanPlaceTotal (columns_of sources source) aggs
+CanPlace sources (shape.Frames items filter source) =
+    CanPlace sources source × CanPlaceFrames (columns_of sources source) items filter
 CanPlace sources (shape.Each measure var source size advance body) =
     CanPlace sources source × CanPlace (variable var (columns_of sources source)) body × (size ≤ 65536)
     × (advance ≤ 65536)

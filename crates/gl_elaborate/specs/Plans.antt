@@ -12,7 +12,7 @@ use Rattle.gl_schema.specs.Schemas.{kinds_of}
 use Rattle.gl_query.specs.declared.tree.Measure.{Measure}
 use Rattle.gl_query.specs.declared.tree.Measure.TheVariants.{Tuples, Time}
 use Rattle.gl_query.specs.declared.tree.Statement.{Statement}
-use Rattle.gl_query.specs.Shapes.{ExprShape, AggShape, ItemShape, AggItemShape, PickShape, QueryShape, query_shape}
+use Rattle.gl_query.specs.Shapes.{ExprShape, AggShape, ItemShape, AggItemShape, FrameAggShape, FrameShape, FrameItemShape, PickShape, QueryShape, query_shape}
 use Rattle.gl_query.specs.Shapes as shape
 use Rattle.gl_query.specs.Values.{column_number, kind_alone, kind_of}
 use Rattle.gl_query.specs.Columns.{columns_of, source_columns, variable}
@@ -20,6 +20,10 @@ use Rattle.gl_algebra.specs.declared.node.Operand.{Operand}
 use Rattle.gl_algebra.specs.declared.node.Operand.TheVariants as operand
 use Rattle.gl_algebra.specs.declared.node.PlanAgg.{PlanAgg}
 use Rattle.gl_algebra.specs.declared.node.PlanAgg.TheVariants as agg
+use Rattle.gl_algebra.specs.declared.node.PlanFrame.{PlanFrame}
+use Rattle.gl_algebra.specs.declared.node.PlanFrame.TheVariants as frame
+use Rattle.gl_algebra.specs.declared.node.PlanFrameAgg.{PlanFrameAgg}
+use Rattle.gl_algebra.specs.declared.node.PlanFrameAgg.TheVariants as frame_agg
 use Rattle.gl_algebra.specs.declared.node.PlanNode.{PlanNode}
 use Rattle.gl_algebra.specs.declared.node.PlanNode.TheVariants as node
 use Rattle.gl_algebra.specs.Added.{Placed, added, placed_at}
@@ -148,6 +152,85 @@ totals_over columns aggs at =
     let over = levelled (length columns) at (arguments_of_all columns aggs) None in
     added over.at.nodes (node.Aggregate over.at.root (aggs_of columns aggs over.items))
 
+-- ---- frames
+
+-- the terms of the argument of a function over the rows of a frame, at most one
+abbrev pub frame_arguments : List NamedColumn → FrameAggShape → List Term
+frame_arguments columns shape.CountOver = []
+frame_arguments columns (shape.SumOver e) = term_of columns (kind_alone e) e ∷ []
+frame_arguments columns (shape.MinOver e) = term_of columns (kind_alone e) e ∷ []
+frame_arguments columns (shape.MaxOver e) = term_of columns (kind_alone e) e ∷ []
+frame_arguments columns (shape.AvgOver e) = term_of columns (kind_alone e) e ∷ []
+frame_arguments columns (shape.LastOver e) = term_of columns (kind_alone e) e ∷ []
+
+-- the terms of a frame: its argument, then its condition
+abbrev pub frame_terms : List NamedColumn → FrameShape → List Term
+frame_terms columns (shape.Own e) = term_of columns (kind_alone e) e ∷ []
+frame_terms columns (shape.Lag e back) = term_of columns (kind_alone e) e ∷ []
+frame_terms columns (shape.Over agg filter back) =
+    frame_arguments columns agg ++ option_to_list (filter_of columns filter)
+
+-- the terms of all frames in their order
+abbrev pub frames_terms : List NamedColumn → List FrameItemShape → List Term
+frames_terms columns [] = []
+frames_terms columns (i ∷ items) = frame_terms columns i.frame ++ frames_terms columns items
+
+-- a function over the first of the terms that are left
+abbrev pub frame_agg_over : FrameAggShape → List Term → PlanFrameAgg
+frame_agg_over shape.CountOver terms = frame_agg.Count
+frame_agg_over (shape.SumOver e) terms = frame_agg.Sum (first_of terms)
+frame_agg_over (shape.MinOver e) terms = frame_agg.Min (first_of terms)
+frame_agg_over (shape.MaxOver e) terms = frame_agg.Max (first_of terms)
+frame_agg_over (shape.AvgOver e) terms = frame_agg.Avg (first_of terms)
+frame_agg_over (shape.LastOver e) terms = frame_agg.LastValue (first_of terms)
+
+-- the terms behind its argument
+abbrev pub behind_argument : FrameAggShape → List Term → List Term
+behind_argument shape.CountOver terms = terms
+behind_argument (shape.SumOver e) terms = rest_of terms
+behind_argument (shape.MinOver e) terms = rest_of terms
+behind_argument (shape.MaxOver e) terms = rest_of terms
+behind_argument (shape.AvgOver e) terms = rest_of terms
+behind_argument (shape.LastOver e) terms = rest_of terms
+
+-- the column of a condition, which the first of the terms that are left became
+abbrev pub condition_over : Option ExprShape → List Term → Option ℕ
+condition_over None terms = None
+condition_over (Some e) terms = Some (column_under (first_of terms))
+
+-- the terms behind a condition
+abbrev pub behind_condition : Option ExprShape → List Term → List Term
+behind_condition None terms = terms
+behind_condition (Some e) terms = rest_of terms
+
+-- an item of a node of frames over the first of the terms that are left
+abbrev pub frame_over : FrameShape → List Term → PlanFrame
+frame_over (shape.Own e) terms = frame.Own (first_of terms)
+frame_over (shape.Lag e back) terms = frame.Lag (first_of terms) back
+frame_over (shape.Over agg filter back) terms =
+    frame.Over (frame_agg_over agg terms) (condition_over filter (behind_argument agg terms)) back
+
+-- the terms behind those of a frame
+abbrev pub behind_frame : FrameShape → List Term → List Term
+behind_frame (shape.Own e) terms = rest_of terms
+behind_frame (shape.Lag e back) terms = rest_of terms
+behind_frame (shape.Over agg filter back) terms = behind_condition filter (behind_argument agg terms)
+
+-- the items of a plan's node, each over the operands that its terms became
+abbrev pub frames_of : List FrameItemShape → List Term → List PlanFrame
+frames_of [] terms = []
+frames_of (i ∷ items) terms = frame_over i.frame terms ∷ frames_of items (behind_frame i.frame terms)
+
+-- a node of these frames, whose terms are columns or literals by now, behind a plan
+abbrev pub framed_over : Placed → List FrameItemShape → List Term → Placed
+framed_over at items terms = added at.nodes (node.Frames at.root (frames_of items terms))
+
+-- a select of frames: what its frames and its filter compute, then the filter, then the frames over what is kept
+abbrev pub frames_over : List NamedColumn → List FrameItemShape → Option ExprShape → Placed → Placed
+frames_over columns items filter at =
+    let over = levelled (length columns) at (frames_terms columns items) (filter_of columns filter) in
+    framed_over (selected over.at over.filter) items over.items
+
 -- ---- queries
 
 -- the windows of a source, over tuples or over time
@@ -162,6 +245,8 @@ placed read sources (shape.Rows pick filter source) nodes =
     rows_over (columns_of sources source) pick filter (placed read sources source nodes)
 placed read sources (shape.Total aggs source) nodes =
     totals_over (columns_of sources source) aggs (placed read sources source nodes)
+placed read sources (shape.Frames items filter source) nodes =
+    frames_over (columns_of sources source) items filter (placed read sources source nodes)
 placed read sources (shape.Each measure var source size advance body) nodes =
     let columns = columns_of sources source in
     let from = placed read sources source nodes in

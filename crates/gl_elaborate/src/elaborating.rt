@@ -12,6 +12,7 @@ ghost use Rattle.gl_elaborate.specs.Fitting.{CanPlace, FitsNext, PlacedFit};
 ghost use Rattle.gl_elaborate.specs.Plans.{placed, plan_behind, plan_of, window_node, Keeps};
 ghost use Rattle.gl_elaborate.specs.Sources.{read_of};
 
+use crate::frames::frames_over;
 use crate::levels::put;
 use crate::rows::rows_over;
 use crate::sources::source_node;
@@ -19,7 +20,7 @@ use crate::totals::totals_over;
 use gl_algebra::{Plan, PlanId, PlanNode};
 use gl_bits::Memory;
 use gl_query::columns::{
-    agg_columns, group_columns, joined_columns, picked_columns, source_columns,
+    agg_columns, frame_columns, group_columns, joined_columns, picked_columns, source_columns,
 };
 use gl_query::kinds::column_number;
 use gl_query::laws::results_are_long;
@@ -176,6 +177,23 @@ pub fn query_into(
             let (at, columns) = query_into(alloc, sources, source, plan)?;
             let root = totals_over(alloc, plan, columns.as_slice(), aggs.as_slice(), at)?;
             let own = agg_columns(alloc, columns.as_slice(), aggs.as_slice())?;
+            Ok((root, own))
+        }
+        Query::Frames {
+            items,
+            filter,
+            source,
+        } => {
+            let (at, columns) = query_into(alloc, sources, source, plan)?;
+            let root = frames_over(
+                alloc,
+                plan,
+                columns.as_slice(),
+                items.as_slice(),
+                filter,
+                at,
+            )?;
+            let own = frame_columns(alloc, columns.as_slice(), items.as_slice())?;
             Ok((root, own))
         }
         Query::Each {

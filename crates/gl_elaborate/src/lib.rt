@@ -6,6 +6,7 @@
 #![tactic(auto)]
 
 pub mod elaborating;
+mod frames;
 pub mod laws;
 pub mod leveling;
 mod levels;

@@ -94,7 +94,7 @@ fn condition_tree(alloc: Global, tree: Tree) -> Result<Tree, Memory>
 }
 
 // The tree of a filter, if there is one.
-fn filter_tree(
+pub(crate) fn filter_tree(
     alloc: Global,
     columns: &[Column],
     filter: &Option<Expr>,
@@ -126,18 +126,25 @@ fn operands_of(alloc: Global, trees: &[Tree]) -> Result<Operands, Memory>
     Ok(operands)
 }
 
-// The number of a column.
-fn column_under(tree: &Tree) -> u16
-    ensures { result ≡ column_under (operand_of (term tree.now)) }
+// The number of the column that an operand names; 0 for a literal.
+pub(crate) fn column_in(operand: &Operand) -> u16
+    ensures { result ≡ column_under operand.now }
 {
-    match operand_of(tree) {
-        Operand::Column(number) => number,
+    match operand {
+        Operand::Column(number) => *number,
         Operand::Literal(..) => 0,
     }
 }
 
+// The number of a column.
+fn column_under(tree: &Tree) -> u16
+    ensures { result ≡ column_under (operand_of (term tree.now)) }
+{
+    column_in(&operand_of(tree))
+}
+
 // Selects the rows for which the filter, if there is one, is 1.
-fn select(plan: &mut Plan, at: PlanId, filter: &Option<Tree>) -> Result<PlanId, Memory>
+pub(crate) fn select(plan: &mut Plan, at: PlanId, filter: &Option<Tree>) -> Result<PlanId, Memory>
     requires { SelectFits (placed_at plan.old at) (option_map term filter.now) }
     ensures root { IfOk result (λ id.
         placed_at plan.new id ≡ selected (placed_at plan.old at) (option_map term filter.now)) }

@@ -26,7 +26,7 @@ use gl_values::Kind;
 use std::alloc::Global;
 
 // Adds the tree of an expression.
-fn push_tree(
+pub(crate) fn push_tree(
     alloc: Global,
     columns: &[Column],
     expr: &Expr,
@@ -94,7 +94,7 @@ fn push_arguments(
 }
 
 // The first tree as an operand.
-fn first_of(trees: &[Tree]) -> Operand
+pub(crate) fn first_of(trees: &[Tree]) -> Operand
     ensures { result ≡ first_of (map term trees.now) }
 {
     match trees.split_first() {
@@ -104,7 +104,7 @@ fn first_of(trees: &[Tree]) -> Operand
 }
 
 // The trees behind the first.
-fn rest_of(trees: &[Tree]) -> &[Tree]
+pub(crate) fn rest_of(trees: &[Tree]) -> &[Tree]
     ensures { map term result.now ≡ rest_of (map term trees.now) }
 {
     match trees.split_first() {

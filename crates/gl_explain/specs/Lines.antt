@@ -10,6 +10,10 @@ use Rattle.gl_algebra.specs.declared.node.Operand.{Operand}
 use Rattle.gl_algebra.specs.declared.node.Operand.TheVariants.{Column, Literal}
 use Rattle.gl_algebra.specs.declared.node.PlanAgg.{PlanAgg}
 use Rattle.gl_algebra.specs.declared.node.PlanAgg.TheVariants as agg
+use Rattle.gl_algebra.specs.declared.node.PlanFrame.{PlanFrame}
+use Rattle.gl_algebra.specs.declared.node.PlanFrame.TheVariants.{Own, Lag, Over}
+use Rattle.gl_algebra.specs.declared.node.PlanFrameAgg.{PlanFrameAgg}
+use Rattle.gl_algebra.specs.declared.node.PlanFrameAgg.TheVariants as over
 use Rattle.gl_algebra.specs.declared.node.PlanNode.{PlanNode}
 use Rattle.gl_algebra.specs.declared.node.PlanNode.TheVariants as node
 use Rattle.gl_algebra.specs.Added.{Placed}
@@ -53,6 +57,31 @@ abbrev pub aggs_text : List PlanAgg → List ℕ
 aggs_text [] = []
 aggs_text (a ∷ as') = agg_text a ++ aggs_text as'
 
+-- a function over the rows of a frame is its name
+unfoldable pub frame_agg_text : PlanFrameAgg → List ℕ
+frame_agg_text over.Count = codes " count"
+frame_agg_text (over.Sum x) = codes " sum"
+frame_agg_text (over.Min x) = codes " min"
+frame_agg_text (over.Max x) = codes " max"
+frame_agg_text (over.Avg x) = codes " avg"
+frame_agg_text (over.LastValue x) = codes " last_value"
+
+-- how many rows before its own a frame has; nothing where it has all
+abbrev pub back_text : Option ℕ → List ℕ
+back_text None = []
+back_text (Some back) = numbered (codes " ") back
+
+-- an item of a node of frames is an operand, or a name and its number of rows
+unfoldable pub frame_text : PlanFrame → List ℕ
+frame_text (Own x) = operand_text x
+frame_text (Lag x back) = codes " lag" ++ numbered (codes " ") back
+frame_text (Over a filter back) = frame_agg_text a ++ back_text back
+
+-- items one behind the other
+abbrev pub frames_text : List PlanFrame → List ℕ
+frames_text [] = []
+frames_text (f ∷ fs) = frame_text f ++ frames_text fs
+
 -- the name of a stream by its number
 abbrev pub name_of : Option Stream → List ℕ
 name_of None = []
@@ -69,6 +98,7 @@ words_of schema (node.Body kinds) = codes "input body"
 words_of schema (node.Compute child ops) = codes "compute" ++ node_text child ++ numbered (codes " ") (length ops)
 words_of schema (node.Select child column) = codes "select" ++ node_text child ++ column_text column
 words_of schema (node.Project child items) = codes "project" ++ node_text child ++ operands_text items
+words_of schema (node.Frames child items) = codes "frames" ++ node_text child ++ frames_text items
 words_of schema (node.Aggregate child aggs) = codes "aggregate" ++ node_text child ++ aggs_text aggs
 words_of schema (node.Union left right) = codes "union" ++ node_text left ++ node_text right
 words_of schema (node.Beside left right) = codes "beside" ++ node_text left ++ node_text right

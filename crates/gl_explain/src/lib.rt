@@ -5,6 +5,7 @@
 #![tactic(auto)]
 
 pub mod explaining;
+pub mod laws;
 pub mod lines;
 
 pub use explaining::explain;

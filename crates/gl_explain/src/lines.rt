@@ -5,7 +5,9 @@ ghost use Rattle.gl_algebra.specs.Small.{AreFigures};
 ghost use Rattle.gl_explain.specs.Lines.{HasLine};
 ghost use Rattle.gl_explain.specs.Lines as spec;
 
-use gl_algebra::{Figures, Operand, Plan, PlanAgg, PlanId, PlanNode, Spare};
+use gl_algebra::{
+    Figures, Operand, Plan, PlanAgg, PlanFrame, PlanFrameAgg, PlanId, PlanNode, Spare,
+};
 use gl_bits::Memory;
 use gl_schema::Schema;
 use itoa::Buffer;
@@ -91,6 +93,59 @@ fn put_aggs(text: &mut Vec<u8>, aggs: &[PlanAgg]) -> Result<(), Memory>
     put_aggs(text, rest)
 }
 
+#[tactic(auto, unfolding(crate::specs::Lines::frame_agg_text))]
+fn frame_agg_text(agg: &PlanFrameAgg) -> &'static [u8]
+    ensures { result.now ≡ spec.frame_agg_text agg.now }
+{
+    match agg {
+        PlanFrameAgg::Count => b" count",
+        PlanFrameAgg::Sum(_) => b" sum",
+        PlanFrameAgg::Min(_) => b" min",
+        PlanFrameAgg::Max(_) => b" max",
+        PlanFrameAgg::Avg(_) => b" avg",
+        PlanFrameAgg::LastValue(_) => b" last_value",
+    }
+}
+
+// Appends how many rows before its own a frame has, where it has not all.
+fn put_back(text: &mut Vec<u8>, back: Option<u32>) -> Result<(), Memory>
+    ensures { OnOk result (text.new.items ≡ text.old.items ++ spec.back_text back) }
+{
+    match back {
+        Some(back) => put_number(text, b" ", u128::from(back)),
+        None => Ok(()),
+    }
+}
+
+// Appends an item of a node of frames.
+#[tactic(auto, unfolding(crate::specs::Lines::frame_text))]
+fn put_frame(text: &mut Vec<u8>, item: &PlanFrame) -> Result<(), Memory>
+    ensures { OnOk result (text.new.items ≡ text.old.items ++ spec.frame_text item.now) }
+{
+    match item {
+        PlanFrame::Own(operand) => put_operand(text, operand),
+        PlanFrame::Lag(_, back) => {
+            put(text, b" lag")?;
+            put_number(text, b" ", u128::from(*back))
+        }
+        PlanFrame::Over { agg, back, .. } => {
+            put(text, frame_agg_text(agg))?;
+            put_back(text, *back)
+        }
+    }
+}
+
+// Appends items of a node of frames.
+fn put_frames(text: &mut Vec<u8>, items: &[PlanFrame]) -> Result<(), Memory>
+    ensures { OnOk result (text.new.items ≡ text.old.items ++ spec.frames_text items.now) }
+{
+    let Some((first, rest)) = items.split_first() else {
+        return Ok(());
+    };
+    put_frame(text, first)?;
+    put_frames(text, rest)
+}
+
 // Appends the words of the leaf of a stream.
 #[tactic(auto, unfolding(crate::specs::Lines::stream_text))]
 fn put_stream(text: &mut Vec<u8>, schema: &Schema, number: u8) -> Result<(), Memory>
@@ -141,6 +196,10 @@ pub fn put_words(text: &mut Vec<u8>, schema: &Schema, node: &PlanNode) -> Result
         PlanNode::Project { child, items } => {
             put_one(text, b"project", *child)?;
             put_operands(text, items.as_slice())
+        }
+        PlanNode::Frames { child, items } => {
+            put_one(text, b"frames", *child)?;
+            put_frames(text, items.as_slice())
         }
         PlanNode::Aggregate { child, aggs } => {
             put_one(text, b"aggregate", *child)?;

@@ -6,7 +6,7 @@ use Rattle.gl_bits.specs.Limits.{most_weight}
 use Rattle.gl_algebra.specs.declared.figures.Figures.{Figures}
 use Rattle.gl_algebra.specs.declared.figures.Spare.{Spare}
 use Rattle.gl_algebra.specs.declared.node.PlanNode.{PlanNode}
-use Rattle.gl_algebra.specs.declared.node.PlanNode.TheVariants.{Stream, Body, Compute, Select, Project, Aggregate, Union, Beside, Window, TimeWindow, Group, Partition}
+use Rattle.gl_algebra.specs.declared.node.PlanNode.TheVariants.{Stream, Body, Compute, Select, Project, Frames, Aggregate, Union, Beside, Window, TimeWindow, Group, Partition}
 use Rattle.gl_algebra.specs.FigureTable.{AreSmall, figures_of, stride_of}
 use Rattle.gl_algebra.specs.Fits.{IsPlan}
 use Rattle.gl_algebra.specs.Laws.{NodesFollowTables}
@@ -40,6 +40,7 @@ none_inside nodes root node at not = sym (inside_there nodes root node at ∙ by
     by (Compute child ops) not = refl
     by (Select child column) not = refl
     by (Project child items) not = refl
+    by (Frames child items) not = refl
     by (Aggregate child aggs) not = refl
     by (Union left right) not = refl
     by (Beside left right) not = refl
@@ -126,6 +127,7 @@ module _ (nodes : List PlanNode) (root : ℕ) (plan : IsPlan nodes) (small : Are
   by_node (Compute child ops) it at h = small.le
   by_node (Select child column) it at h = small.le
   by_node (Project child items) it at h = small.le
+  by_node (Frames child items) it at h = small.le
   by_node (Aggregate child aggs) it at h = small.le
   by_node (Union left right) it at h = small.le
   by_node (Beside left right) it at h = small.le

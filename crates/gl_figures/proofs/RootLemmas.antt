@@ -9,7 +9,7 @@ use Rattle.gl_bits.specs.Limits.{most_rows, most_weight}
 use Rattle.gl_algebra.specs.declared.figures.Figures.{Figures}
 use Rattle.gl_algebra.specs.declared.figures.Spare.{Spare}
 use Rattle.gl_algebra.specs.declared.node.PlanNode.{PlanNode}
-use Rattle.gl_algebra.specs.declared.node.PlanNode.TheVariants.{Stream, Body, Compute, Select, Project, Aggregate, Union, Beside, Window, TimeWindow, Group, Partition}
+use Rattle.gl_algebra.specs.declared.node.PlanNode.TheVariants.{Stream, Body, Compute, Select, Project, Frames, Aggregate, Union, Beside, Window, TimeWindow, Group, Partition}
 use Rattle.gl_algebra.specs.FigureTable.{IsSound, figures_of}
 use Rattle.gl_algebra.specs.Fits.{IsPlan, IsWithin}
 use Rattle.gl_algebra.specs.Laws.{FiguresAreSound, NodesFollowTables}
@@ -110,6 +110,7 @@ module _ (nodes : List PlanNode) (root : ℕ) (node : PlanNode) (at : slice_get 
       by (Compute child ops) not = refl
       by (Select child column) not = refl
       by (Project child items) not = refl
+      by (Frames child items) not = refl
       by (Aggregate child aggs) not = refl
       by (Union left right) not = refl
       by (Beside left right) not = refl
@@ -178,6 +179,7 @@ module _ (follow : NodesFollowTables) (nodes : List PlanNode) (root : ℕ) (plan
   closer (Compute child ops) it at h = absurd (cc (h))
   closer (Select child column) it at h = absurd (cc (h))
   closer (Project child items) it at h = absurd (cc (h))
+  closer (Frames child items) it at h = absurd (cc (h))
   closer (Aggregate child aggs) it at h = absurd (cc (h))
   closer (Union left right) it at h = absurd (cc (h))
   closer (Beside left right) it at h = absurd (cc (h))

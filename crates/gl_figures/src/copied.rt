@@ -66,6 +66,7 @@ fn copies_over(plan: &Plan, copies: &[u64], number: usize, node: &PlanNode) -> u
         PlanNode::Compute { child, .. } => cap(copies_at(plan, copies, number, *child)),
         PlanNode::Select { child, .. } => cap(copies_at(plan, copies, number, *child)),
         PlanNode::Project { child, .. } => cap(copies_at(plan, copies, number, *child)),
+        PlanNode::Frames { child, .. } => cap(copies_at(plan, copies, number, *child)),
         PlanNode::Aggregate { child, .. } => cap(copies_at(plan, copies, number, *child)),
         PlanNode::Union { left, right } => {
             cap(copies_at(plan, copies, number, *left) + copies_at(plan, copies, number, *right))

@@ -10,11 +10,12 @@ ghost use Rattle.gl_figures.specs.Answered.{AreSmallBefore, IsLate};
 ghost use Rattle.gl_figures.specs.Known.{small_over, HasFigures};
 
 use crate::Limit;
+use gl_algebra::frames::delay_of_frames;
 use gl_algebra::laws::nodes_follow_tables;
 use gl_algebra::table::{
     aggregate_figures, beside_figures, copies_of_partition, copies_of_time, copies_of_window,
-    delay_of_aggs, group_figures, input_figures, partition_figures, picked_figures, row_figures,
-    union_figures, window_figures,
+    delay_of_aggs, frame_figures, group_figures, input_figures, partition_figures, picked_figures,
+    row_figures, union_figures, window_figures,
 };
 use gl_algebra::{Figures, Plan, PlanId, PlanNode};
 use gl_bits::Memory;
@@ -72,6 +73,10 @@ fn figures_over(plan: &Plan, figures: &[Figures], number: usize, node: &PlanNode
         PlanNode::Project { child, .. } => picked_figures(&figures_at(
             plan, figures, number, *child,
         )),
+        PlanNode::Frames { child, items } => {
+            let delay = delay_of_frames(plan.kinds(*child), items.as_slice());
+            frame_figures(delay, &figures_at(plan, figures, number, *child))
+        }
         PlanNode::Aggregate { child, aggs } => {
             let delay = delay_of_aggs(plan.kinds(*child), aggs.as_slice());
             aggregate_figures(delay, &figures_at(plan, figures, number, *child))

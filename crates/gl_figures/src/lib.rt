@@ -5,6 +5,7 @@
 
 pub mod copied;
 pub mod figured;
+mod frames;
 pub mod laws;
 pub mod marks;
 pub mod reach_laws;

@@ -37,6 +37,7 @@ fn mark_children(marks: &mut [bool], node: &PlanNode)
         PlanNode::Compute { child, .. } => mark(marks, *child),
         PlanNode::Select { child, .. } => mark(marks, *child),
         PlanNode::Project { child, .. } => mark(marks, *child),
+        PlanNode::Frames { child, .. } => mark(marks, *child),
         PlanNode::Aggregate { child, .. } => mark(marks, *child),
         PlanNode::Union { left, right } | PlanNode::Beside { left, right } => {
             mark(marks, *left);

@@ -13,6 +13,7 @@ ghost use Rattle.gl_figures.specs.Known.{capped_at, own_weight_by, weight_by, Ha
 
 use crate::copied::{cap, times};
 use crate::figured::figures_at;
+use crate::frames::weight_of_frames;
 use gl_algebra::table::{
     copies_of_partition, copies_of_time, copies_of_window, delay_of_agg, delay_of_aggs, wait_of,
 };
@@ -118,6 +119,7 @@ fn weight_of_children(plan: &Plan, weights: &[u64], number: usize, node: &PlanNo
         PlanNode::Compute { child, .. } => weight_at(plan, weights, number, *child),
         PlanNode::Select { child, .. } => weight_at(plan, weights, number, *child),
         PlanNode::Project { child, .. } => weight_at(plan, weights, number, *child),
+        PlanNode::Frames { child, .. } => weight_at(plan, weights, number, *child),
         PlanNode::Aggregate { child, .. } => weight_at(plan, weights, number, *child),
         PlanNode::Window { source, .. } => weight_at(plan, weights, number, *source),
         PlanNode::TimeWindow { source, .. } => weight_at(plan, weights, number, *source),
@@ -195,6 +197,11 @@ fn own_weight(
         PlanNode::Compute { ops, .. } => 4 * (own + ops.len() as u128),
         PlanNode::Select { .. } => 4 * own,
         PlanNode::Project { .. } => 4 * own,
+        PlanNode::Frames { child, items } => {
+            // What `len` ensures of it is what the goals below ask for.
+            let _ = items.len();
+            weight_of_frames(plan.kinds(*child), own, items.as_slice())
+        }
         PlanNode::Aggregate { child, aggs } => {
             // What `len` ensures of it is what the goals below ask for.
             let _ = aggs.len();

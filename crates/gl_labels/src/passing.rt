@@ -2,7 +2,7 @@
 
 use crate::columns::{Source, Table};
 use crate::subject::Subject;
-use gl_algebra::{Operand, Plan, PlanNode};
+use gl_algebra::{Operand, Plan, PlanFrame, PlanNode};
 use gl_bits::Memory;
 use std::alloc::Global;
 
@@ -26,6 +26,10 @@ fn column_below(table: &Table, node: &PlanNode, column: usize) -> Option<(usize,
         PlanNode::Project { child, items } => match items.as_slice().get(column)? {
             Operand::Column(at) => Some((child.number(), *at as usize)),
             Operand::Literal(_, _) => None,
+        },
+        PlanNode::Frames { child, items } => match items.as_slice().get(column)? {
+            PlanFrame::Own(Operand::Column(at)) => Some((child.number(), *at as usize)),
+            _ => None,
         },
         PlanNode::Union { left, .. } => Some((left.number(), column)),
         PlanNode::Beside { left, right } => {
@@ -104,6 +108,7 @@ fn leaf_of(node: &PlanNode, number: usize, leaves: &[Option<usize>]) -> Option<u
         PlanNode::Compute { child, .. }
         | PlanNode::Select { child, .. }
         | PlanNode::Project { child, .. }
+        | PlanNode::Frames { child, .. }
         | PlanNode::Aggregate { child, .. } => entry(leaves, child.number()),
         PlanNode::Union { left, right } | PlanNode::Beside { left, right } => {
             match entry(leaves, left.number()) {

@@ -1,3 +1,4 @@
 pub mod Planned
 pub mod Together
 pub mod Worked
+pub mod WorkedFrames

@@ -157,12 +157,31 @@ fn put_beside(plan: &mut Plan, source: PlanId) -> Result<(), Memory>
     Ok(())
 }
 
+// The items of a node of frames.
+fn lags(alloc: Global) -> Result<PlanFrames, Memory>
+    ensures { IfOk result (λ items. items ≡ every.frames) }
+{
+    let before = PlanFrame::Lag(Operand::Column(0), 1);
+    Ok(Listed::from_vec(vec![in alloc; before]?))
+}
+
+// Adds the number before each of a stream.
+fn put_frames(alloc: Global, plan: &mut Plan, child: PlanId) -> Result<(), Memory>
+    requires { HasShape plan.old child every.of_stream }
+    ensures { OnOk result (KeepsShapes plan.old plan.new) }
+{
+    let items = lags(alloc)?;
+    put(plan, PlanNode::Frames { child, items })?;
+    Ok(())
+}
+
 // Adds a node of every other kind.
 fn put_others(alloc: Global, plan: &mut Plan, body: PlanId) -> Result<(), Memory>
     requires { HasShape plan.old body every.of_sums }
 {
     let source = put_stream(alloc, plan)?;
     put_beside(plan, source)?;
+    put_frames(alloc, plan, source)?;
     put_windows(plan, source, body)?;
     put_groups(plan, source, body)
 }

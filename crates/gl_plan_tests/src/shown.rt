@@ -1,6 +1,6 @@
 //! A plan as text: a line for each node, with its words and its figures.
 
-use gl_algebra::{ColOp, Figures, Operand, Plan, PlanAgg, PlanNode};
+use gl_algebra::{ColOp, Figures, Operand, Plan, PlanAgg, PlanFrame, PlanFrameAgg, PlanNode};
 use gl_bits::Word;
 use gl_schema::Schema;
 use gl_values::Kind;
@@ -95,6 +95,54 @@ fn push_agg(out: &mut String, agg: &PlanAgg) -> Result<(), AllocError> {
     }
 }
 
+fn push_frame_agg(out: &mut String, agg: &PlanFrameAgg) -> Result<(), AllocError> {
+    match agg {
+        PlanFrameAgg::Count => Ok(out.push_str(" count")?),
+        PlanFrameAgg::Sum(x) => {
+            out.push_str(" sum")?;
+            push_operand(out, x)
+        }
+        PlanFrameAgg::Min(x) => {
+            out.push_str(" min")?;
+            push_operand(out, x)
+        }
+        PlanFrameAgg::Max(x) => {
+            out.push_str(" max")?;
+            push_operand(out, x)
+        }
+        PlanFrameAgg::Avg(x) => {
+            out.push_str(" avg")?;
+            push_operand(out, x)
+        }
+        PlanFrameAgg::LastValue(x) => {
+            out.push_str(" last_value")?;
+            push_operand(out, x)
+        }
+    }
+}
+
+fn push_frame(out: &mut String, item: &PlanFrame) -> Result<(), AllocError> {
+    match item {
+        PlanFrame::Own(x) => push_operand(out, x),
+        PlanFrame::Lag(x, back) => {
+            out.push_str(" lag")?;
+            push_operand(out, x)?;
+            write!(out, " {}", *back)
+        }
+        PlanFrame::Over { agg, filter, back } => {
+            push_frame_agg(out, agg)?;
+            match filter {
+                Some(column) => write!(out, " where c{}", *column)?,
+                None => {}
+            }
+            match back {
+                Some(rows) => write!(out, " {}", *rows),
+                None => Ok(()),
+            }
+        }
+    }
+}
+
 fn push_node(out: &mut String, schema: &Schema, node: &PlanNode) -> Result<(), AllocError> {
     match node {
         PlanNode::Stream(number, _) => {
@@ -118,6 +166,12 @@ fn push_node(out: &mut String, schema: &Schema, node: &PlanNode) -> Result<(), A
             write!(out, "project p{}", child.number())?;
             for item in items.as_slice() {
                 push_operand(out, item)?;
+            }
+        }
+        PlanNode::Frames { child, items } => {
+            write!(out, "frames p{}", child.number())?;
+            for item in items.as_slice() {
+                push_frame(out, item)?;
             }
         }
         PlanNode::Aggregate { child, aggs } => {

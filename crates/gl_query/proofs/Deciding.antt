@@ -19,11 +19,11 @@ use Rattle.gl_query.specs.declared.fault.QueryFault.{QueryFault}
 use Rattle.gl_query.specs.declared.tree.Name.{Name}
 use Rattle.gl_query.specs.declared.tree.Num.{Num}
 use Rattle.gl_query.specs.Trees as tree
-use Rattle.gl_query.specs.Trees.{ExprTree, AggTree}
-use Rattle.gl_query.specs.Alike.{expr_alike, agg_alike}
+use Rattle.gl_query.specs.Trees.{ExprTree, AggTree, FrameAggTree, FrameTree}
+use Rattle.gl_query.specs.Alike.{expr_alike, agg_alike, frame_agg_alike, frame_alike}
 use Rattle.gl_query.specs.Values.{CanApply, HasKind, IsLettersOf, IsNegativeOf, IsNumberOf, is_loose, kind_alone, kind_of, letters_fit, operand_place}
-use Rattle.gl_query.specs.Accepted.{IsAgg, IsFilter, IsSummed}
-use Rattle.gl_query.specs.Faults.{first_of, or_else, rules_under_name, unless, same_kinds, is_bit, is_within, number_fault, negative_fault, letters_fault, operator_fault, of_operands, expr_fault, whole_fault, whole_kind, filter_fault, named_fault, summed_fault, too_many, weights_fault, agg_fault}
+use Rattle.gl_query.specs.Accepted.{IsAgg, IsBack, IsFilter, IsFrame, IsFrameAgg, IsSummed}
+use Rattle.gl_query.specs.Faults.{first_of, or_else, rules_under_name, unless, same_kinds, is_bit, is_within, number_fault, negative_fault, letters_fault, operator_fault, of_operands, expr_fault, whole_fault, whole_kind, filter_fault, named_fault, summed_fault, too_many, weights_fault, agg_fault, frame_agg_fault, back_fault, frame_fault}
 
 -- no fault comes exactly where this holds
 pub record Decides (fault : Option QueryFault) (P : Type 0) : Type 0 where
@@ -184,6 +184,36 @@ agg_decides (tree.Wsum e ns) columns name =
     (λ s. both (too_many (slice_get ns 64)) _ (many_decides ns) (λ m. weights_decides (whole_kind columns e) ns)))
     (λ h. record { summed = h.0; most = subst (λ (k : ℕ). k ≤ 64) (sym long) h.1.0; fit = h.1.1 })
     (λ w. (w.summed, (subst (λ (k : ℕ). k ≤ 64) long w.most, w.fit)))
+
+-- ---- frames
+
+frame_agg_decides : (a : FrameAggTree) (columns : List NamedColumn) (name : Name) → Decides (frame_agg_fault columns a name) (IsFrameAgg columns (frame_agg_alike a))
+frame_agg_decides tree.CountOver columns name = always (Unit {0}) tt
+frame_agg_decides (tree.SumOver e) columns name = summed_decides e columns name
+frame_agg_decides (tree.MinOver e) columns name = whole_decides e columns
+frame_agg_decides (tree.MaxOver e) columns name = whole_decides e columns
+frame_agg_decides (tree.AvgOver e) columns name = summed_decides e columns name
+frame_agg_decides (tree.LastOver e) columns name = whole_decides e columns
+
+back_decides : (back : Option Num) → Decides (back_fault back) (IsBack (option_map (λ (n : Num). n.value) back))
+back_decides None = always (Unit {0}) tt
+back_decides (Some n) = rule (nat_lt n.value 65536) _ (n.value < 65536) (ltb-true n.value 65536) (lt-ltb n.value 65536)
+
+pub frame_decides : (f : FrameTree) (columns : List NamedColumn) (name : Name) → Decides (frame_fault columns f name) (IsFrame columns (frame_alike f))
+frame_decides (tree.Own e) columns name = whole_decides e columns
+frame_decides (tree.Lag e back at) columns name =
+    let k = back.value in
+    change _
+    (both (whole_fault columns e) _ (whole_decides e columns)
+    (λ h. rule (nat_le 1 k && nat_lt k 65536) _ ((1 ≤ k) × (k < 65536))
+    (λ t. let p = and_parts (nat_le 1 k) (nat_lt k 65536) t in (leb-true 1 k p.0, ltb-true k 65536 p.1))
+    (λ w. and_both (nat_le 1 k) (nat_lt k 65536) (le-leb 1 k w.0) (lt-ltb k 65536 w.1))))
+    (λ h. record { typed = h.0; some = h.1.0; most = h.1.1 }) (λ l. (l.typed, (l.some, l.most)))
+frame_decides (tree.Over agg filter back at) columns name =
+    change _
+    (both (frame_agg_fault columns agg name) _ (frame_agg_decides agg columns name)
+    (λ h. both (filter_fault columns filter) _ (filter_decides filter columns) (λ p. back_decides back)))
+    (λ h. record { typed = h.0; picks = h.1.0; reach = h.1.1 }) (λ o. (o.typed, (o.picks, o.reach)))
 
 -- ---- what is under a name
 

@@ -3,11 +3,12 @@ use Rattle.std.proofs.Common.{◌≡◌, suc, List, [], ◌∷◌, ◌++◌, Boo
 use Rattle.std.specs.Prelude.{◌||◌, Option, Some, None, IsSome, filter}
 use Rattle.std.proofs.lemmas.List.{length-map}
 use Rattle.gl_values.specs.Lists.{IsInterleaving, nothing, from_first, from_second}
+use Rattle.gl_frames.proofs.ListLemmas.{each_length}
 use Rattle.gl_query.specs.Shapes.{QueryShape}
 use Rattle.gl_query.specs.Shapes as shape
 use Rattle.gl_query.specs.Columns.{Pace, Once, Step, pace_of}
 use Rattle.gl_values.specs.Results.{Row, Results, IsChanged, AreJoined, IsOfParts, IsOfBoth, AreBeside, beside}
-use Rattle.gl_query.specs.Results.{Env, IsResultIn, rows_of}
+use Rattle.gl_query.specs.Results.{Env, IsResultIn, columns_in, frame_row, rows_of}
 use Rattle.gl_query.specs.Accepted.{IsAcceptedOver}
 use Rattle.gl_query.specs.Laws.{AcceptedHaveResults, scope_of}
 
@@ -44,6 +45,10 @@ paced (shape.Rows pick None source) env out spill r =
     let same = ap length r.changed ∙ length-map _ _ ∙ ap length (all_kept r.rows) in
     paced_alike env (pace_of source) r.rows out same (paced source env r.rows spill r.of_source)
 paced (shape.Total aggs source) env out spill r = ap length r.changed
+paced (shape.Frames items (Some e) source) env out spill r = tt
+paced (shape.Frames items None source) env out spill r =
+    let same = ap length r.changed ∙ each_length (frame_row (columns_in env source) items) [] _ ∙ ap length (all_kept r.rows) in
+    paced_alike env (pace_of source) r.rows out same (paced source env r.rows spill r.of_source)
 paced (shape.Each measure var source size advance body) env out spill r = tt
 paced (shape.PerGroup var source key n body) env out spill r = tt
 paced (shape.Partition var source key n size advance body) env out spill r = tt
@@ -117,6 +122,7 @@ some_result : (q : QueryShape) (env : Env) (timed : Bool) → IsAcceptedOver (sc
 some_result (shape.Read name) env timed a = record { rows = rows_of env name; spill = false; is = record { rows = refl; kept = refl } }
 some_result (shape.Rows pick filter source) env timed a = some_changed (IsResultIn source env) _ (some_result source env timed a.0)
 some_result (shape.Total aggs source) env timed a = some_changed (IsResultIn source env) _ (some_result source env timed a.0)
+some_result (shape.Frames items filter source) env timed a = some_changed (IsResultIn source env) _ (some_result source env timed a.0)
 some_result (shape.Each measure var source size advance body) env timed a =
     some_of_parts (IsResultIn source env) _ _ _ (some_result source env timed a.0) (λ rows. some_result body _ false a.2)
 some_result (shape.PerGroup var source key n body) env timed a =

@@ -1,6 +1,6 @@
 -- A statement has no first fault exactly where it is accepted.
 use Rattle.std.proofs.Common.{◌≡◌, ℕ, ◌*◌, ◌<◌, ◌≤◌, true, false, List, [], ◌∷◌, length, map, Option, Some, None, refl, sym, ap, subst, arith, lit≤}
-use Rattle.std.specs.Prelude.{not, IsSome, bytes_eq, nat_le, nat_lt}
+use Rattle.std.specs.Prelude.{not, IsSome, bytes_eq, nat_le, nat_lt, option_map}
 use Rattle.std.specs.Int.{div_ceil}
 use Rattle.std.specs.List.{AllByRecursion, IsDistinct, list_any}
 use Rattle.std.proofs.lemmas.Bool.{leb-true, le-leb, ltb-true, lt-ltb}
@@ -14,16 +14,16 @@ use Rattle.gl_query.specs.declared.tree.Measure.TheVariants.{Tuples}
 use Rattle.gl_query.specs.declared.tree.Name.{Name}
 use Rattle.gl_query.specs.declared.tree.Num.{Num}
 use Rattle.gl_query.specs.Trees as tree
-use Rattle.gl_query.specs.Trees.{ItemTree, AggItemTree, PickTree, QueryTree}
-use Rattle.gl_query.specs.Alike.{expr_alike, agg_alike, item_alike, agg_item_alike, pick_alike, query_alike}
+use Rattle.gl_query.specs.Trees.{ExprTree, ItemTree, AggItemTree, FrameItemTree, PickTree, QueryTree}
+use Rattle.gl_query.specs.Alike.{expr_alike, agg_alike, item_alike, agg_item_alike, frame_alike, frame_item_alike, pick_alike, query_alike}
 use Rattle.gl_query.specs.Shapes.{QueryShape}
 use Rattle.gl_query.specs.Values.{HasKind, kind_alone}
-use Rattle.gl_query.specs.Columns.{Pace, Once, Step, agg_column, is_closing, item_column, pace_of}
-use Rattle.gl_query.specs.Accepted.{AreResultColumns, IsAcceptedOver, IsAgg, IsPick, IsTotal, IsWindow, KeepPace, Scope, body_scope, can_measure, columns_under}
+use Rattle.gl_query.specs.Columns.{Pace, Once, Step, agg_column, frame_column, is_closing, item_column, pace_of}
+use Rattle.gl_query.specs.Accepted.{AreFrames, AreResultColumns, IsAcceptedOver, IsAgg, IsFrame, IsPick, IsTotal, IsWindow, KeepPace, Scope, body_scope, can_measure, columns_under}
 use Rattle.gl_query.specs.Windows.{copies_of}
-use Rattle.gl_query.specs.Faults.{unless, agg_fault, are_distinct, aggs_fault, beside_fault, is_within, key_fault, pick_fault, query_fault, same_kinds, same_pace, whole_fault, window_fault, windows_fault}
+use Rattle.gl_query.specs.Faults.{or_else, unless, agg_fault, are_distinct, aggs_fault, beside_fault, filter_fault, frame_fault, frames_fault, is_within, key_fault, pick_fault, query_fault, same_kinds, same_pace, whole_fault, window_fault, windows_fault}
 use Rattle.gl_query.specs.Laws.{FirstFaultsAreExact}
-use Rattle.gl_query.proofs.Deciding.{Decides, agg_decides, always, both, change, equal_lists, filter_decides, is_within_of, lists_equal, named_decides, rule, test, whole_decides, within}
+use Rattle.gl_query.proofs.Deciding.{Decides, agg_decides, always, both, change, equal_lists, filter_decides, frame_decides, is_within_of, lists_equal, named_decides, rule, test, whole_decides, within}
 use Rattle.gl_query.proofs.Real.{IsScope, body_is, no_names, real, schema_is}
 
 -- ---- names
@@ -59,6 +59,10 @@ item_names columns (i ∷ items) = ap (λ (l : List (List ℕ)). i.name.text ∷
 agg_names : (columns : List NamedColumn) (items : List AggItemTree) → column_names (map (agg_column columns) (map agg_item_alike items)) ≡ map (λ (i : AggItemTree). i.name.text) items
 agg_names columns [] = refl
 agg_names columns (i ∷ items) = ap (λ (l : List (List ℕ)). i.name.text ∷ l) (agg_names columns items)
+
+frame_names : (columns : List NamedColumn) (items : List FrameItemTree) → column_names (map (frame_column columns) (map frame_item_alike items)) ≡ map (λ (i : FrameItemTree). i.name.text) items
+frame_names columns [] = refl
+frame_names columns (i ∷ items) = ap (λ (l : List (List ℕ)). i.name.text ∷ l) (frame_names columns items)
 
 -- columns with the names of what is listed
 named_columns : {A : Type 0} (name : A → Name) (columns : List NamedColumn) (items : List A) → column_names columns ≡ map (λ i. (name i).text) items
@@ -96,6 +100,16 @@ aggs_typed : (columns : List NamedColumn) (items : List AggItemTree) → AllByRe
 aggs_typed columns [] h = tt
 aggs_typed columns (i ∷ items) h = (h.0, aggs_typed columns items h.1)
 
+typed_frames : (columns : List NamedColumn) (items : List FrameItemTree) → AllByRecursion (λ (i : FrameItemTree). IsFrame columns (frame_alike i.frame)) items
+    → AllByRecursion (λ i. IsFrame columns i.frame) (map frame_item_alike items)
+typed_frames columns [] h = tt
+typed_frames columns (i ∷ items) h = (h.0, typed_frames columns items h.1)
+
+frames_typed : (columns : List NamedColumn) (items : List FrameItemTree) → AllByRecursion (λ i. IsFrame columns i.frame) (map frame_item_alike items)
+    → AllByRecursion (λ (i : FrameItemTree). IsFrame columns (frame_alike i.frame)) items
+frames_typed columns [] h = tt
+frames_typed columns (i ∷ items) h = (h.0, frames_typed columns items h.1)
+
 pick_decides : (p : PickTree) (columns : List NamedColumn) → Decides (pick_fault columns p) (IsPick columns (pick_alike p))
 pick_decides tree.All columns = always (Unit {0}) tt
 pick_decides (tree.Items items) columns =
@@ -117,6 +131,25 @@ total_decides items columns =
     (λ n. record { typed = typed_aggs columns items n.each; columns = named_columns name out items (agg_names columns items) n.most n.distinct })
     (λ a. let r = columns_named name out items (agg_names columns items) a.columns in
     record { each = aggs_typed columns items a.typed; most = r.0; distinct = r.1 })
+
+frames_decide : (items : List FrameItemTree) (filter : Option ExprTree) (columns : List NamedColumn)
+    → Decides (or_else (frames_fault columns [] items) (filter_fault columns filter))
+    (AreFrames columns (map frame_item_alike items) (option_map expr_alike filter) (map (frame_column columns) (map frame_item_alike items)))
+frames_decide items filter columns =
+    let name : FrameItemTree → Name = λ i. i.name in
+    let Own : FrameItemTree → Type 0 = λ i. IsFrame columns (frame_alike i.frame) in
+    let out = map (frame_column columns) (map frame_item_alike items) in
+    change _
+    (both (frames_fault columns [] items) _
+    (named_decides name (λ (i : FrameItemTree). frame_fault columns i.frame i.name) Own (λ i. frame_decides i.frame columns i.name) [] items (lit≤ tt) no_names)
+    (λ n. filter_decides filter columns))
+    (λ h. record {
+      typed = typed_frames columns items h.0.each;
+      columns = named_columns name out items (frame_names columns items) h.0.most h.0.distinct;
+      filters = h.1;
+    })
+    (λ a. let r = columns_named name out items (frame_names columns items) a.columns in
+    (record { each = frames_typed columns items a.typed; most = r.0; distinct = r.1 }, a.filters))
 
 -- ---- parts of queries
 
@@ -184,6 +217,9 @@ query_decides (tree.Rows pick filter source) scope s =
 query_decides (tree.Total aggs source) scope s =
     let columns = columns_under scope (query_alike source) in
     both (query_fault scope source) _ (query_decides source scope s) (λ a. total_decides aggs columns)
+query_decides (tree.Frames items filter source) scope s =
+    let columns = columns_under scope (query_alike source) in
+    both (query_fault scope source) _ (query_decides source scope s) (λ a. frames_decide items filter columns)
 query_decides (tree.Each measure var source size advance body at) scope s =
     let columns = columns_under scope (query_alike source) in
     let inside = body_scope var.text columns in

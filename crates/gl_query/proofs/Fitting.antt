@@ -1,6 +1,6 @@
 -- The rows of a result fit the kinds of the query's columns.
 use Rattle.std.proofs.Common.{◌≡◌, ℕ, suc, ◌+◌, ◌-◌, ◌*◌, ◌/◌, ◌%◌, ◌<◌, ◌≤◌, ◌^◌, Bool, true, List, [], ◌∷◌, ◌++◌, length, map, sym, ap, subst, ◌∙◌, arith}
-use Rattle.std.specs.Prelude.{◌||◌, bytes_eq, bit_and, bit_or, neg_ℤ, nat_le, nat_lt, pos, replicate, sum, slice_get, slice_index, option_map, unwrap_or}
+use Rattle.std.specs.Prelude.{◌||◌, IfSome, Option, None, Some, bytes_eq, bit_and, bit_or, neg_ℤ, nat_le, nat_lt, pos, replicate, sum, slice_get, slice_index, option_map, unwrap_or}
 use Rattle.std.specs.List.{AllByRecursion, fold, list_all, list_any}
 use Rattle.std.proofs.lemmas.Bool.{leb-true, ltb-true}
 use Rattle.std.proofs.Math.Nat.{mod-lt, div-lt_iff_lt-mul, mul_comm, mul-lt-mul_of_pos_right}
@@ -13,6 +13,7 @@ use Rattle.gl_values.specs.declared.op.Op.TheVariants as op
 use Rattle.gl_values.specs.Kinds.{IsKind, bytes_in, width_of, is_at_most, is_below, signed_number}
 use Rattle.gl_values.specs.Operators.{cast_of, operate, result_kind, sort_of}
 use Rattle.gl_values.specs.Results.{Row}
+use Rattle.gl_frames.specs.Frames.{frame_of, lag_of, number_or, row_before}
 use Rattle.gl_values.specs.Totals.{count_of, greater, greatest_of, least_of, lesser, sum_total, weighted, weighted_sum}
 use Rattle.gl_bits.specs.Words.{difference_of, eq_of, not_of, product_of, sum_of}
 use Rattle.gl_bits.proofs.AllLists.{all_append}
@@ -22,14 +23,14 @@ use Rattle.gl_values.proofs.Signs.{word_fits}
 use Rattle.gl_values.proofs.Totalling.{average_fits}
 use Rattle.gl_schema.specs.declared.schema.Column.{Column}
 use Rattle.gl_schema.specs.Schemas.{IsRowOf, has_column, kinds_of, number_of, padded, text_word}
-use Rattle.gl_query.specs.Shapes.{AggItemShape, AggShape, ExprShape, ItemShape, PickShape}
+use Rattle.gl_query.specs.Shapes.{AggItemShape, AggShape, ExprShape, FrameAggShape, FrameItemShape, FrameShape, ItemShape, PickShape}
 use Rattle.gl_query.specs.Shapes as shape
 use Rattle.gl_query.specs.Values.{CanApply, HasKind, IsLettersOf, column_number, kind_alone, kind_of, operand_place, value_of}
-use Rattle.gl_query.specs.Columns.{agg_column, agg_kind, item_column, picked_columns}
-use Rattle.gl_query.specs.Accepted.{IsAgg, IsPick}
-use Rattle.gl_query.specs.Results.{agg_value, picked, total_row, values_of}
+use Rattle.gl_query.specs.Columns.{agg_column, agg_kind, frame_agg_kind, frame_column, frame_kind, item_column, picked_columns}
+use Rattle.gl_query.specs.Accepted.{IsAgg, IsFrame, IsFrameAgg, IsPick}
+use Rattle.gl_query.specs.Results.{agg_value, frame_agg_value, frame_row, frame_value, keeps, picked, total_row, values_of}
 use Rattle.gl_query.specs.Laws.{ResultsFit}
-use Rattle.gl_query.proofs.Holding.{IsKept, results_hold}
+use Rattle.gl_query.proofs.Holding.{IsKept, all_before, all_in_frame, results_hold}
 use Rattle.gl_query.proofs.OwnKinds.{operator_gives}
 use Rattle.gl_schema.proofs.TextNumbers.{bytes_below, zeros_small}
 
@@ -215,6 +216,41 @@ fit_totals : (columns : List Column) (aggs : List AggItemShape) (rows : List Row
 fit_totals columns [] rows h fits = tt
 fit_totals columns (i ∷ aggs) rows h fits = (agg_below columns rows i.agg h.0 fits, fit_totals columns aggs rows h.1 fits)
 
+-- ---- frames
+
+-- the value of a row, and 0 where there is none
+number_below : (columns : List Column) (e : ExprShape) (o : Option Row) → HasKind columns (kind_alone e) e → IfSome o (IsRowOf columns)
+    → number_or (value_of columns (kind_alone e) e) o < 2 ^ width_of (kind_of columns (kind_alone e) e)
+number_below columns e None h fits = pow_pos (width_of (kind_of columns (kind_alone e) e))
+number_below columns e (Some row) h fits = value_below e columns (kind_alone e) row h fits
+
+before_below : (columns : List Column) (e : ExprShape) (k : ℕ) (rows : List Row) → HasKind columns (kind_alone e) e → AllByRecursion (IsRowOf columns) rows
+    → lag_of (value_of columns (kind_alone e) e) k rows < 2 ^ width_of (kind_of columns (kind_alone e) e)
+before_below columns e k rows h fits = number_below columns e (row_before k rows) h (all_before (IsRowOf columns) k rows fits)
+
+frame_agg_below : (columns : List Column) (back : Option ℕ) (passes : Row → Bool) (rows : List Row) (agg : FrameAggShape) → IsFrameAgg columns agg
+    → AllByRecursion (IsRowOf columns) rows → frame_agg_value columns back passes rows agg < 2 ^ width_of (frame_agg_kind columns agg)
+frame_agg_below columns back passes rows shape.CountOver h fits = count_below (frame_of back passes rows)
+frame_agg_below columns back passes rows (shape.SumOver e) h fits = sum_below _ (values_of columns e (frame_of back passes rows))
+frame_agg_below columns back passes rows (shape.MinOver e) h fits =
+    least_below _ _ (values_of columns e (frame_of back passes rows)) (values_below columns e _ h (all_in_frame (IsRowOf columns) back passes rows fits))
+frame_agg_below columns back passes rows (shape.MaxOver e) h fits =
+    greatest_below _ _ (values_of columns e (frame_of back passes rows)) (values_below columns e _ h (all_in_frame (IsRowOf columns) back passes rows fits))
+frame_agg_below columns back passes rows (shape.AvgOver e) h fits = average_fits _ (values_of columns e (frame_of back passes rows))
+frame_agg_below columns back passes rows (shape.LastOver e) h fits =
+    before_below columns e 0 (frame_of back passes rows) h (all_in_frame (IsRowOf columns) back passes rows fits)
+
+frame_below : (columns : List Column) (rows : List Row) (f : FrameShape) → IsFrame columns f → AllByRecursion (IsRowOf columns) rows
+    → frame_value columns rows f < 2 ^ width_of (frame_kind columns f)
+frame_below columns rows (shape.Own e) h fits = before_below columns e 0 rows h fits
+frame_below columns rows (shape.Lag e back) h fits = before_below columns e back rows h.typed fits
+frame_below columns rows (shape.Over agg filter back) h fits = frame_agg_below columns back (keeps columns filter) rows agg h.typed fits
+
+fit_frames : (columns : List Column) (items : List FrameItemShape) (rows : List Row) → AllByRecursion (λ (i : FrameItemShape). IsFrame columns i.frame) items
+    → AllByRecursion (IsRowOf columns) rows → IsRowOf (map (frame_column columns) items) (frame_row columns items rows)
+fit_frames columns [] rows h fits = tt
+fit_frames columns (i ∷ items) rows h fits = (frame_below columns rows i.frame h.0 fits, fit_frames columns items rows h.1 fits)
+
 fit_joined : (lefts rights : List Column) (left right : Row) → IsRowOf lefts left → IsRowOf rights right → IsRowOf (lefts ++ rights) (left ++ right)
 fit_joined [] rights [] right h k = k
 fit_joined [] rights (n ∷ ns) right h k = absurd h
@@ -246,6 +282,7 @@ fit_kept : IsKept IsRowOf
 fit_kept = record {
   picks = fit_picked;
   totals = fit_totals;
+  frames = fit_frames;
   keyed = λ columns more key row rest known h k. (column_below columns row key known h, k);
   joined = fit_joined;
   alike = λ columns others row e h. fits_columns columns row (subst (λ (ks : List Kind). FitsKinds ks row) (sym e) (fits_kinds others row h));

@@ -1,23 +1,25 @@
 -- A property of rows that each step from the sources to the result of a query keeps holds of the rows of the result.
 use Rattle.std.proofs.Common.{◌≡◌, ℕ, zero, suc, ◌-◌, ◌+◌, ◌*◌, ◌%◌, ◌/◌, Bool, false, List, [], ◌∷◌, ◌++◌, length, refl, sym, subst, map, filter, take, drop, nat_lt, nat_eq}
-use Rattle.std.specs.Prelude.{◌&&◌, nat_le, IsTrue, bytes_eq, flat_map, not, slice_index}
+use Rattle.std.specs.Prelude.{◌&&◌, IfSome, Option, None, Some, nat_le, IsTrue, bytes_eq, flat_map, not, reverse, slice_get, slice_index}
 use Rattle.std.specs.List.{AllByRecursion, range_with_len}
+use Rattle.std.proofs.lemmas.List.{reverse-append}
 use Rattle.gl_values.specs.Lists.{Group, IsInterleaving, nothing, from_first, from_second, distinct, groups, keys_of, part, rows_with, slices}
 use Rattle.gl_values.specs.Partitions.{completed, completed_by, fulls, has_key, keyed, parts, short_slices}
 use Rattle.gl_values.specs.Results.{Row, Results, AreJoined, IsOfGroup, beside}
 use Rattle.gl_values.specs.Times.{tfirsts, tpart}
+use Rattle.gl_frames.specs.Frames.{each_of, frame_of, row_before, rows_preceding}
 use Rattle.gl_bits.proofs.AllLists.{all_append, all_weaker}
 use Rattle.gl_bits.proofs.Bools.{by_cases}
 use Rattle.gl_schema.specs.declared.schema.Column.{Column}
 use Rattle.gl_schema.specs.Schemas.{has_column, kinds_of}
 use Rattle.gl_query.specs.declared.tree.Measure.{Measure}
 use Rattle.gl_query.specs.declared.tree.Measure.TheVariants.{Tuples, Time}
-use Rattle.gl_query.specs.Shapes.{AggItemShape, PickShape}
+use Rattle.gl_query.specs.Shapes.{AggItemShape, FrameItemShape, PickShape}
 use Rattle.gl_query.specs.Shapes as shape
 use Rattle.gl_query.specs.Values.{column_kind, column_number}
-use Rattle.gl_query.specs.Columns.{agg_column, columns_of, picked_columns, source_columns, variable}
-use Rattle.gl_query.specs.Accepted.{IsAgg, IsPick}
-use Rattle.gl_query.specs.Results.{IsResultIn, columns_in, keeps, kept, only, picked, streams_of, ticks_in, times_in, total_row}
+use Rattle.gl_query.specs.Columns.{agg_column, columns_of, frame_column, picked_columns, source_columns, variable}
+use Rattle.gl_query.specs.Accepted.{IsAgg, IsFrame, IsPick}
+use Rattle.gl_query.specs.Results.{IsResultIn, columns_in, frame_row, keeps, kept, only, picked, streams_of, ticks_in, times_in, total_row}
 use Rattle.gl_query.specs.Windows.{parts_of}
 use Rattle.gl_query.specs.Laws.{HoldsIn, HoldsOfResults}
 
@@ -27,6 +29,8 @@ pub record IsKept (P : List Column → Row → Type 0) : Type 0 where
       → P (picked_columns columns pick) (picked columns pick row)
   pub totals : (columns : List Column) (aggs : List AggItemShape) (rows : List Row) → AllByRecursion (λ (i : AggItemShape). IsAgg columns i.agg) aggs
       → AllByRecursion (P columns) rows → P (map (agg_column columns) aggs) (total_row columns aggs rows)
+  pub frames : (columns : List Column) (items : List FrameItemShape) (rows : List Row) → AllByRecursion (λ (i : FrameItemShape). IsFrame columns i.frame) items
+      → AllByRecursion (P columns) rows → P (map (frame_column columns) items) (frame_row columns items rows)
   pub keyed : (columns more : List Column) (key : List ℕ) (row rest : Row) → IsTrue (has_column columns key) → P columns row → P more rest
       → P (record { name = key; kind = column_kind columns key } ∷ more) (slice_index row (column_number columns key) ∷ rest)
   pub joined : (lefts rights : List Column) (left right : Row) → P lefts left → P rights right → P (lefts ++ rights) (left ++ right)
@@ -77,6 +81,37 @@ pub all_parts : (P : Row → Type 0) (measure : Measure) (size advance : ℕ) (t
     → AllByRecursion (AllByRecursion P) (parts_of measure size advance times ticks rows)
 all_parts P Tuples size advance times ticks rows h = all_slices P size advance rows h
 all_parts P Time size advance times ticks rows h = all_tfirsts P size advance (suc (ticks / advance)) times rows h
+
+-- ---- rows up to a row
+
+all_reversed : {A : Type 0} (P : A → Type 0) (xs : List A) → AllByRecursion P xs → AllByRecursion P (reverse xs)
+all_reversed P [] h = tt
+all_reversed P (x ∷ xs) h = subst (AllByRecursion P) (sym (reverse-append (x ∷ []) xs)) (all_append P (reverse xs) (x ∷ []) (all_reversed P xs h.1) (h.0, tt))
+
+all_get : {A : Type 0} (P : A → Type 0) (xs : List A) (k : ℕ) → AllByRecursion P xs → IfSome (slice_get xs k) P
+all_get P [] k h = tt
+all_get P (x ∷ xs) zero h = h.0
+all_get P (x ∷ xs) (suc k) h = all_get P xs k h.1
+
+-- a row before the last one
+pub all_before : {A : Type 0} (P : A → Type 0) (k : ℕ) (xs : List A) → AllByRecursion P xs → IfSome (row_before k xs) P
+all_before P k xs h = all_get P (reverse xs) k (all_reversed P xs h)
+
+all_preceding : {A : Type 0} (P : A → Type 0) (back : Option ℕ) (xs : List A) → AllByRecursion P xs → AllByRecursion P (rows_preceding back xs)
+all_preceding P None xs h = h
+all_preceding P (Some k) xs h = all_drop P (length xs - suc k) xs h
+
+-- the rows of a frame that pass
+pub all_in_frame : {A : Type 0} (P : A → Type 0) (back : Option ℕ) (passes : A → Bool) (xs : List A) → AllByRecursion P xs → AllByRecursion P (frame_of back passes xs)
+all_in_frame P back passes xs h = all_filter P passes (rows_preceding back xs) (all_preceding P back xs h)
+
+-- what is made of the rows up to each
+all_each : {A : Type 0} (P : Row → Type 0) (Q : A → Type 0) (f : List A → Row) → ((ys : List A) → AllByRecursion Q ys → P (f ys)) → (seen xs : List A)
+    → AllByRecursion Q seen → AllByRecursion Q xs → AllByRecursion P (each_of (λ ys. Some (f ys)) seen xs)
+all_each P Q f g seen [] h k = tt
+all_each P Q f g seen (x ∷ xs) h k =
+    let more : AllByRecursion Q (seen ++ x ∷ []) = all_append Q seen (x ∷ []) h (k.0, tt) in
+    (g (seen ++ x ∷ []) more, all_each P Q f g (seen ++ x ∷ []) xs more k.1)
 
 -- ---- groups
 
@@ -197,6 +232,12 @@ results_hold P k (shape.Total aggs source) env timed out spill a h r =
     let columns = columns_in env source in
     let rows = results_hold P k source env timed r.rows spill a.0 h r.of_source in
     subst (AllByRecursion (P (map (agg_column columns) aggs))) (sym r.changed) (k.totals columns aggs r.rows a.1.typed rows, tt)
+results_hold P k (shape.Frames items condition source) env timed out spill a h r =
+    let columns = columns_in env source in
+    let rows = results_hold P k source env timed r.rows spill a.0 h r.of_source in
+    subst (AllByRecursion (P (map (frame_column columns) items))) (sym r.changed)
+    (all_each (P (map (frame_column columns) items)) (P columns) (frame_row columns items) (λ ys held. k.frames columns items ys a.1.typed held) []
+    (kept columns condition r.rows) tt (all_filter (P columns) (keeps columns condition) r.rows rows))
 results_hold P k (shape.Each measure var source size advance body) env timed out spill a h r =
     let columns = columns_in env source in
     let rows = results_hold P k source env timed r.rows r.source_spill a.0 h r.of_source in

@@ -4,10 +4,10 @@ use Rattle.gl_values.specs.Results.{Row}
 use Rattle.gl_bits.proofs.AllLists.{length_map}
 use Rattle.gl_schema.specs.declared.schema.Column.{Column}
 use Rattle.gl_schema.specs.Schemas.{kinds_of}
-use Rattle.gl_query.specs.Shapes.{AggItemShape, ItemShape, PickShape}
+use Rattle.gl_query.specs.Shapes.{AggItemShape, FrameItemShape, ItemShape, PickShape}
 use Rattle.gl_query.specs.Shapes as shape
-use Rattle.gl_query.specs.Columns.{agg_column, item_column, picked_columns}
-use Rattle.gl_query.specs.Results.{agg_value, picked, total_row}
+use Rattle.gl_query.specs.Columns.{agg_column, frame_column, item_column, picked_columns}
+use Rattle.gl_query.specs.Results.{agg_value, frame_row, frame_value, picked, total_row}
 use Rattle.gl_query.specs.Values.{kind_alone, value_of}
 use Rattle.gl_query.specs.Laws.{IsLongAs, ResultsAreLong}
 use Rattle.gl_query.proofs.Holding.{IsKept, results_hold}
@@ -21,6 +21,10 @@ long_totals : (columns : List Column) (aggs : List AggItemShape) (rows : List Ro
 long_totals columns aggs rows =
     length_map (λ (i : AggItemShape). agg_value columns rows i.agg) aggs ∙ sym (length_map (agg_column columns) aggs)
 
+long_frames : (columns : List Column) (items : List FrameItemShape) (rows : List Row) → IsLongAs (map (frame_column columns) items) (frame_row columns items rows)
+long_frames columns items rows =
+    length_map (λ (i : FrameItemShape). frame_value columns rows i.frame) items ∙ sym (length_map (frame_column columns) items)
+
 long_joined : (lefts rights : List Column) (left right : Row) → IsLongAs lefts left → IsLongAs rights right → IsLongAs (lefts ++ rights) (left ++ right)
 long_joined lefts rights left right h k =
     length-append left right ∙ ap (λ n. n + length right) h ∙ ap (λ n. length lefts + n) k ∙ sym (length-append lefts rights)
@@ -33,6 +37,7 @@ long_kept : IsKept IsLongAs
 long_kept = record {
   picks = λ columns pick row p h. long_picked columns pick row h;
   totals = λ columns aggs rows p h. long_totals columns aggs rows;
+  frames = λ columns items rows p h. long_frames columns items rows;
   keyed = λ columns more key row rest known h k. ap suc k;
   joined = long_joined;
   alike = long_alike;

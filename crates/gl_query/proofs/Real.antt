@@ -16,12 +16,12 @@ use Rattle.gl_schema.specs.declared.schema.Column.{Column}
 use Rattle.gl_schema.specs.declared.schema.Stream.{Stream}
 use Rattle.gl_schema.proofs.KindTable.{written_is}
 use Rattle.gl_schema.specs.Schemas.{IsColumn, IsStream, has_stream}
-use Rattle.gl_query.specs.Shapes.{AggItemShape, AggShape, ExprShape, ItemShape, QueryShape}
+use Rattle.gl_query.specs.Shapes.{AggItemShape, AggShape, ExprShape, FrameAggShape, FrameItemShape, FrameShape, ItemShape, QueryShape}
 use Rattle.gl_query.specs.Shapes as shape
 use Rattle.gl_query.specs.Values.{HasKind, begins_with_text, column_number, has_minus, kind_alone, kind_of, loose_kind, operand_place, operator_kind, own_kind}
-use Rattle.gl_query.specs.Columns.{agg_column, agg_kind, item_column, source_columns}
-use Rattle.gl_query.specs.Accepted.{AreResultColumns, IsAcceptedOver, IsAgg, Scope, body_scope, columns_under}
-use Rattle.gl_query.specs.Sizes.{HasItems}
+use Rattle.gl_query.specs.Columns.{agg_column, agg_kind, frame_agg_kind, frame_column, frame_kind, item_column, source_columns}
+use Rattle.gl_query.specs.Accepted.{AreResultColumns, IsAcceptedOver, IsAgg, IsFrame, IsFrameAgg, Scope, body_scope, columns_under}
+use Rattle.gl_query.specs.Sizes.{HasFrame, HasItems}
 use Rattle.gl_query.specs.Laws.{AcceptedHaveRealColumns, AreKinds}
 
 -- what holds of the columns of each source
@@ -129,6 +129,24 @@ aggs_are : (items : List AggItemShape) (columns : List Column) → AreKinds colu
 aggs_are [] columns h t = tt
 aggs_are (i ∷ items) columns h t = (agg_is i.agg columns h t.0, aggs_are items columns h t.1)
 
+frame_agg_is : (a : FrameAggShape) (columns : List Column) → AreKinds columns → IsFrameAgg columns a → IsKind (frame_agg_kind columns a)
+frame_agg_is shape.CountOver columns h t = (lit≤ tt, lit≤ tt)
+frame_agg_is (shape.SumOver e) columns h t = whole_is e columns h t.typed
+frame_agg_is (shape.MinOver e) columns h t = whole_is e columns h t
+frame_agg_is (shape.MaxOver e) columns h t = whole_is e columns h t
+frame_agg_is (shape.AvgOver e) columns h t = whole_is e columns h t.typed
+frame_agg_is (shape.LastOver e) columns h t = whole_is e columns h t
+
+frame_is : (f : FrameShape) (columns : List Column) → AreKinds columns → IsFrame columns f → IsKind (frame_kind columns f)
+frame_is (shape.Own e) columns h t = whole_is e columns h t
+frame_is (shape.Lag e back) columns h t = whole_is e columns h t.typed
+frame_is (shape.Over agg filter back) columns h t = frame_agg_is agg columns h t.typed
+
+frames_are : (items : List FrameItemShape) (columns : List Column) → AreKinds columns → AllByRecursion (λ (i : FrameItemShape). IsFrame columns i.frame) items
+    → AreKinds (map (frame_column columns) items)
+frames_are [] columns h t = tt
+frames_are (i ∷ items) columns h t = (frame_is i.frame columns h t.0, frames_are items columns h t.1)
+
 -- ---- queries
 
 pub record AreReal (columns : List Column) : Type 0 where
@@ -144,6 +162,9 @@ real (shape.Rows (shape.Items items) filter source) scope s a =
 real (shape.Total aggs source) scope s a =
     let r = real source scope s a.0 in
     record { result = a.1.columns; kinds = aggs_are aggs (columns_under scope source) r.kinds a.1.typed }
+real (shape.Frames items filter source) scope s a =
+    let r = real source scope s a.0 in
+    record { result = a.1.columns; kinds = frames_are items (columns_under scope source) r.kinds a.1.typed }
 real (shape.Each measure var source size advance body) scope s a =
     let r = real source scope s a.0 in
     real body (body_scope var (columns_under scope source)) (body_is var (columns_under scope source) r.result r.kinds) a.2
@@ -206,6 +227,10 @@ streams_some (s ∷ streams) h name t =
     by_cases (bytes_eq name s.name) (λ e. rw e h.0.some')
     (λ e. rw e (streams_some streams h.1 name (subst (λ (b : Bool). (b || list_any (λ (x : Stream). bytes_eq name x.name) streams) ≡ true) e t)))
 
+some_frame : (columns : List Column) (items : List FrameItemShape) → HasFrame items → 1 ≤ length (map (frame_column columns) items)
+some_frame columns [] h = absurd (cc)
+some_frame columns (i ∷ items) h = omega arith
+
 some : (q : QueryShape) (scope : Scope) → HasSome scope → HasItems q → IsAcceptedOver scope q → 1 ≤ length (columns_under scope q)
 unfolding HasSome
 some (shape.Read name) scope s i a = s name a
@@ -213,6 +238,7 @@ some (shape.Rows shape.All filter source) scope s i a = some source scope s i.0 
 some (shape.Rows (shape.Items items) filter source) scope s i a =
     subst (λ (k : ℕ). 1 ≤ k) (sym (length_map (item_column (columns_under scope source)) items)) i.1
 some (shape.Total aggs source) scope s i a = subst (λ (k : ℕ). 1 ≤ k) (sym (length_map (agg_column (columns_under scope source)) aggs)) i.1
+some (shape.Frames items filter source) scope s i a = some_frame (columns_under scope source) items i.1
 some (shape.Each measure var source size advance body) scope s i a =
     some body (body_scope var (columns_under scope source)) (body_some var (columns_under scope source) (some source scope s i.0 a.0)) i.1 a.2
 some (shape.PerGroup var source key groups body) scope s i a = omega arith

@@ -8,6 +8,7 @@ pub unique : HasOneResult
 unique (shape.Read name) none env = one_input (rows_of env name)
 unique (shape.Rows pick filter source) none env = one_changed (IsResultIn source env) _ (unique source none env)
 unique (shape.Total aggs source) none env = one_changed (IsResultIn source env) _ (unique source none env)
+unique (shape.Frames items filter source) none env = one_changed (IsResultIn source env) _ (unique source none env)
 unique (shape.Each measure var source size advance body) none env =
     one_of_parts (IsResultIn source env) _ _ _ (unique source none.0 env) (λ rows. unique body none.1 _)
 unique (shape.PerGroup var source key n body) none env =

@@ -1,5 +1,5 @@
 -- Which statements are accepted over a schema.
-use Rattle.std.specs.Prelude.{◌≡◌, ℕ, ◌*◌, ◌≤◌, Bool, true, false, List, length, Option, Some, None, IsSome, IsTrue, bytes_eq}
+use Rattle.std.specs.Prelude.{◌≡◌, ℕ, ◌*◌, ◌<◌, ◌≤◌, Bool, true, false, List, length, Option, Some, None, IsSome, IsTrue, bytes_eq}
 use Rattle.std.specs.Int.{div_ceil}
 use Rattle.std.specs.List.{AllByRecursion, IsDistinct}
 use Rattle.gl_values.specs.Kinds.{is_number}
@@ -12,7 +12,7 @@ use Rattle.gl_schema.specs.Schemas.{column_names, has_column, has_stream, kinds_
 use Rattle.gl_query.specs.declared.tree.Measure.{Measure}
 use Rattle.gl_query.specs.declared.tree.Measure.TheVariants.{Tuples, Time}
 use Rattle.gl_query.specs.declared.tree.Statement.{Statement}
-use Rattle.gl_query.specs.Shapes.{ExprShape, AggShape, ItemShape, AggItemShape, PickShape, QueryShape, query_shape}
+use Rattle.gl_query.specs.Shapes.{ExprShape, AggShape, ItemShape, AggItemShape, FrameAggShape, FrameShape, FrameItemShape, PickShape, QueryShape, query_shape}
 use Rattle.gl_query.specs.Shapes as shape
 use Rattle.gl_query.specs.Values.{HasKind, IsNumberOf, kind_alone, kind_of}
 use Rattle.gl_query.specs.Columns.{columns_of, picked_columns, is_closing, pace_of, variable}
@@ -64,6 +64,39 @@ abbrev pub IsFilter : List Column → Option ExprShape → Type 0
 IsFilter columns None = Unit {0}
 IsFilter columns (Some e) = IsCondition columns e
 
+-- a function over the rows of a frame is accepted as the aggregate is; the argument of LAST_VALUE has a kind
+abbrev pub IsFrameAgg : List Column → FrameAggShape → Type 0
+IsFrameAgg columns shape.CountOver = Unit {0}
+IsFrameAgg columns (shape.SumOver e) = IsSummed columns e
+IsFrameAgg columns (shape.MinOver e) = HasKind columns (kind_alone e) e
+IsFrameAgg columns (shape.MaxOver e) = HasKind columns (kind_alone e) e
+IsFrameAgg columns (shape.AvgOver e) = IsSummed columns e
+IsFrameAgg columns (shape.LastOver e) = HasKind columns (kind_alone e) e
+
+-- LAG looks back over 1 to 65,535 rows
+pub record IsLag (columns : List Column) (e : ExprShape) (back : ℕ) : Type 0 where
+  pub typed : HasKind columns (kind_alone e) e
+  pub some : 1 ≤ back
+  pub most : back < limit.most_rows
+
+-- a frame has at most 65,536 rows, the row itself among them; or all rows up to the row itself
+abbrev pub IsBack : Option ℕ → Type 0
+IsBack None = Unit {0}
+IsBack (Some back) = back < limit.most_rows
+
+-- a function is accepted over the last rows, of which a condition may pick
+pub record IsOver (columns : List Column) (agg : FrameAggShape) (filter : Option ExprShape) (back : Option ℕ)
+    : Type 0 where
+  pub typed : IsFrameAgg columns agg
+  pub picks : IsFilter columns filter
+  pub reach : IsBack back
+
+-- a frame's expressions have kinds, and it looks back over some rows and not too many
+abbrev pub IsFrame : List Column → FrameShape → Type 0
+IsFrame columns (shape.Own e) = HasKind columns (kind_alone e) e
+IsFrame columns (shape.Lag e back) = IsLag columns e back
+IsFrame columns (shape.Over agg filter back) = IsOver columns agg filter back
+
 -- SIZE and ADVANCE are 1 to 65,536, and at most 64 windows are open at once
 pub record IsWindow (measure : Measure) (size advance : ℕ) : Type 0 where
   pub some_size : 1 ≤ size
@@ -81,6 +114,13 @@ pub record IsRows (source : List Column) (pick : PickShape) (filter : Option Exp
 pub record IsTotal (source : List Column) (aggs : List AggItemShape) (result : List Column) : Type 0 where
   pub typed : AllByRecursion (λ (i : AggItemShape). IsAgg source i.agg) aggs
   pub columns : AreResultColumns result
+
+-- a select of frames is accepted where each frame and the filter is, and their names make columns of a result
+pub record AreFrames (source : List Column) (items : List FrameItemShape) (filter : Option ExprShape)
+    (result : List Column) : Type 0 where
+  pub typed : AllByRecursion (λ (i : FrameItemShape). IsFrame source i.frame) items
+  pub columns : AreResultColumns result
+  pub filters : IsFilter source filter
 
 -- the key is a column, GROUPS is 1 to 256, and the key's name is no other column's
 pub record IsGrouping (source : List Column) (key : List ℕ) (groups : ℕ) (result : List Column) : Type 0 where
@@ -138,6 +178,9 @@ IsAcceptedOver scope (shape.Rows pick filter source) =
 IsAcceptedOver scope (shape.Total aggs source) =
     IsAcceptedOver scope source × IsTotal (columns_under scope source) aggs
     (columns_under scope (shape.Total aggs source))
+IsAcceptedOver scope (shape.Frames items filter source) =
+    IsAcceptedOver scope source
+    × AreFrames (columns_under scope source) items filter (columns_under scope (shape.Frames items filter source))
 IsAcceptedOver scope (shape.Each measure var source size advance body) =
     IsAcceptedOver scope source × IsWindow measure size advance
     × IsAcceptedOver (body_scope var (columns_under scope source)) body × IsTrue (is_closing body)

@@ -1,9 +1,9 @@
 -- Trees without their places.
 use Rattle.std.specs.Prelude.{map, option_map}
 use Rattle.gl_query.specs.declared.tree.Num.{Num}
-use Rattle.gl_query.specs.Shapes.{ExprShape, AggShape, ItemShape, AggItemShape, PickShape, QueryShape, StatementShape}
+use Rattle.gl_query.specs.Shapes.{ExprShape, AggShape, ItemShape, AggItemShape, FrameAggShape, FrameShape, FrameItemShape, PickShape, QueryShape, StatementShape}
 use Rattle.gl_query.specs.Shapes as shape
-use Rattle.gl_query.specs.Trees.{ExprTree, AggTree, ItemTree, AggItemTree, PickTree, QueryTree, StatementTree}
+use Rattle.gl_query.specs.Trees.{ExprTree, AggTree, ItemTree, AggItemTree, FrameAggTree, FrameTree, FrameItemTree, PickTree, QueryTree, StatementTree}
 use Rattle.gl_query.specs.Trees as tree
 
 -- an expression without the places of its parts
@@ -33,6 +33,26 @@ item_alike i = record { expr = expr_alike i.expr; name = i.name.text }
 abbrev pub agg_item_alike : AggItemTree → AggItemShape
 agg_item_alike i = record { agg = agg_alike i.agg; name = i.name.text }
 
+-- a function over the rows of a frame without the places of its parts
+abbrev pub frame_agg_alike : FrameAggTree → FrameAggShape
+frame_agg_alike tree.CountOver = shape.CountOver
+frame_agg_alike (tree.SumOver e) = shape.SumOver (expr_alike e)
+frame_agg_alike (tree.MinOver e) = shape.MinOver (expr_alike e)
+frame_agg_alike (tree.MaxOver e) = shape.MaxOver (expr_alike e)
+frame_agg_alike (tree.AvgOver e) = shape.AvgOver (expr_alike e)
+frame_agg_alike (tree.LastOver e) = shape.LastOver (expr_alike e)
+
+-- a frame without the places of its parts
+abbrev pub frame_alike : FrameTree → FrameShape
+frame_alike (tree.Own e) = shape.Own (expr_alike e)
+frame_alike (tree.Lag e back at) = shape.Lag (expr_alike e) back.value
+frame_alike (tree.Over agg filter back at) =
+    shape.Over (frame_agg_alike agg) (option_map expr_alike filter) (option_map (λ (n : Num). n.value) back)
+
+-- a named frame without the places of its parts
+abbrev pub frame_item_alike : FrameItemTree → FrameItemShape
+frame_item_alike i = record { frame = frame_alike i.frame; name = i.name.text }
+
 -- what a select picks, without the places of its items
 abbrev pub pick_alike : PickTree → PickShape
 pick_alike tree.All = shape.All
@@ -44,6 +64,8 @@ query_alike (tree.Read name) = shape.Read name.text
 query_alike (tree.Rows pick filter source) =
     shape.Rows (pick_alike pick) (option_map expr_alike filter) (query_alike source)
 query_alike (tree.Total aggs source) = shape.Total (map agg_item_alike aggs) (query_alike source)
+query_alike (tree.Frames items filter source) =
+    shape.Frames (map frame_item_alike items) (option_map expr_alike filter) (query_alike source)
 query_alike (tree.Each measure var source size advance body at) =
     shape.Each measure var.text (query_alike source) size.value advance.value (query_alike body)
 query_alike (tree.PerGroup var source key groups body at) =

@@ -4,7 +4,7 @@ use Rattle.gl_values.specs.declared.kind.Kind.{Kind}
 use Rattle.gl_values.specs.declared.kind.Kind.TheVariants.{Unsigned}
 use Rattle.gl_schema.specs.declared.schema.Column.{Column}
 use Rattle.gl_schema.specs.declared.schema.Stream.{Stream}
-use Rattle.gl_query.specs.Shapes.{AggShape, ItemShape, AggItemShape, PickShape, QueryShape}
+use Rattle.gl_query.specs.Shapes.{AggShape, ItemShape, AggItemShape, FrameAggShape, FrameShape, FrameItemShape, PickShape, QueryShape}
 use Rattle.gl_query.specs.Shapes as shape
 use Rattle.gl_query.specs.Values.{column_kind, kind_alone, kind_of}
 use Rattle.gl_query.specs.Windows.{is_time}
@@ -26,6 +26,21 @@ agg_kind columns (shape.Max e) = kind_of columns (kind_alone e) e
 agg_kind columns (shape.Avg e) = kind_of columns (kind_alone e) e
 agg_kind columns (shape.Wsum e weights) = kind_of columns (kind_alone e) e
 
+-- over the rows of a frame `count` gives 32 bits too, every other function the kind of its argument
+abbrev pub frame_agg_kind : List Column → FrameAggShape → Kind
+frame_agg_kind columns shape.CountOver = Unsigned 32
+frame_agg_kind columns (shape.SumOver e) = kind_of columns (kind_alone e) e
+frame_agg_kind columns (shape.MinOver e) = kind_of columns (kind_alone e) e
+frame_agg_kind columns (shape.MaxOver e) = kind_of columns (kind_alone e) e
+frame_agg_kind columns (shape.AvgOver e) = kind_of columns (kind_alone e) e
+frame_agg_kind columns (shape.LastOver e) = kind_of columns (kind_alone e) e
+
+-- an earlier row's value has the kind that its expression has
+abbrev pub frame_kind : List Column → FrameShape → Kind
+frame_kind columns (shape.Own e) = kind_of columns (kind_alone e) e
+frame_kind columns (shape.Lag e back) = kind_of columns (kind_alone e) e
+frame_kind columns (shape.Over agg filter back) = frame_agg_kind columns agg
+
 -- an item gives a column of its name, whose kind is the one that its expression has alone
 abbrev pub item_column : List Column → ItemShape → Column
 item_column columns i = record { name = i.name; kind = kind_of columns (kind_alone i.expr) i.expr }
@@ -33,6 +48,10 @@ item_column columns i = record { name = i.name; kind = kind_of columns (kind_alo
 -- a named aggregate gives a column of its name, whose kind is the aggregate's
 abbrev pub agg_column : List Column → AggItemShape → Column
 agg_column columns i = record { name = i.name; kind = agg_kind columns i.agg }
+
+-- a named frame gives a column of its name, whose kind is the frame's
+abbrev pub frame_column : List Column → FrameItemShape → Column
+frame_column columns i = record { name = i.name; kind = frame_kind columns i.frame }
 
 -- the star keeps the columns of the source; items give one column each, in their order
 abbrev pub picked_columns : List Column → PickShape → List Column
@@ -44,6 +63,7 @@ abbrev pub columns_of : List Stream → QueryShape → List Column
 columns_of sources (shape.Read name) = source_columns sources name
 columns_of sources (shape.Rows pick filter source) = picked_columns (columns_of sources source) pick
 columns_of sources (shape.Total aggs source) = map (agg_column (columns_of sources source)) aggs
+columns_of sources (shape.Frames items filter source) = map (frame_column (columns_of sources source)) items
 columns_of sources (shape.Each measure var source size advance body) =
     columns_of (variable var (columns_of sources source)) body
 columns_of sources (shape.PerGroup var source key groups body) =
@@ -60,6 +80,7 @@ abbrev pub is_closing : QueryShape → Bool
 is_closing (shape.Read name) = false
 is_closing (shape.Rows pick filter source) = is_closing source
 is_closing (shape.Total aggs source) = true
+is_closing (shape.Frames items filter source) = is_closing source
 is_closing (shape.Each measure var source size advance body) = not (is_time measure) && is_closing source
 is_closing (shape.PerGroup var source key groups body) = true
 is_closing (shape.Partition var source key groups size advance body) = is_closing source
@@ -81,6 +102,7 @@ abbrev pub pace_of : QueryShape → Option Pace
 pace_of (shape.Read name) = Some (Step name)
 pace_of (shape.Rows pick filter source) = unfiltered filter (pace_of source)
 pace_of (shape.Total aggs source) = Some Once
+pace_of (shape.Frames items filter source) = unfiltered filter (pace_of source)
 pace_of (shape.Each measure var source size advance body) = None
 pace_of (shape.PerGroup var source key groups body) = None
 pace_of (shape.Partition var source key groups size advance body) = None

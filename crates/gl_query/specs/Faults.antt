@@ -19,7 +19,7 @@ use Rattle.gl_query.specs.declared.tree.Measure.{Measure}
 use Rattle.gl_query.specs.declared.tree.Measure.TheVariants.{Tuples}
 use Rattle.gl_query.specs.declared.tree.Name.{Name}
 use Rattle.gl_query.specs.declared.tree.Num.{Num}
-use Rattle.gl_query.specs.Trees.{ExprTree, AggTree, ItemTree, AggItemTree, PickTree, QueryTree, StatementTree, Column, Number, Minus, Letters, Not, Cast, Binary, Count, Sum, Min, Max, Avg, Wsum, All, Items, Read, Rows, Total, Each, PerGroup, Partition, Union, Concat}
+use Rattle.gl_query.specs.Trees.{ExprTree, AggTree, ItemTree, AggItemTree, FrameAggTree, FrameTree, FrameItemTree, PickTree, QueryTree, StatementTree, Column, Number, Minus, Letters, Not, Cast, Binary, Count, Sum, Min, Max, Avg, Wsum, CountOver, SumOver, MinOver, MaxOver, AvgOver, LastOver, Own, Lag, Over, All, Items, Read, Rows, Total, Frames, Each, PerGroup, Partition, Union, Concat}
 use Rattle.gl_query.specs.Shapes.{QueryShape}
 use Rattle.gl_query.specs.Alike.{expr_alike, query_alike}
 use Rattle.gl_query.specs.Values.{is_loose, kind_alone, kind_of, letters_fit, operand_place}
@@ -205,6 +205,37 @@ abbrev pub aggs_fault : List NamedColumn → List AggItemTree → List AggItemTr
 aggs_fault columns earlier items =
     named_fault (λ (i : AggItemTree). i.name) (λ (i : AggItemTree). agg_fault columns i.agg i.name) earlier items
 
+-- ---- frames: the argument, its kind, the condition, and how many rows are looked back over
+
+-- the first fault of a function over the rows of a frame
+abbrev pub frame_agg_fault : List NamedColumn → FrameAggTree → Name → Option QueryFault
+frame_agg_fault columns CountOver name = None
+frame_agg_fault columns (SumOver e) name = summed_fault columns e name
+frame_agg_fault columns (MinOver e) name = whole_fault columns e
+frame_agg_fault columns (MaxOver e) name = whole_fault columns e
+frame_agg_fault columns (AvgOver e) name = summed_fault columns e name
+frame_agg_fault columns (LastOver e) name = whole_fault columns e
+
+-- a frame has fewer than 65,536 rows before the row itself
+abbrev pub back_fault : Option Num → Option QueryFault
+back_fault None = None
+back_fault (Some n) = unless (nat_lt n.value most_rows) (OutOfRange n.at)
+
+-- the first fault of a frame
+abbrev pub frame_fault : List NamedColumn → FrameTree → Name → Option QueryFault
+frame_fault columns (Own e) name = whole_fault columns e
+frame_fault columns (Lag e back at) name =
+    or_else (whole_fault columns e)
+    (unless (nat_le 1 back.value && nat_lt back.value most_rows) (OutOfRange back.at))
+frame_fault columns (Over agg filter back at) name =
+    or_else (frame_agg_fault columns agg name) (or_else (filter_fault columns filter) (back_fault back))
+
+-- the first fault of a list of named frames, behind those that were already looked at
+abbrev pub frames_fault : List NamedColumn → List FrameItemTree → List FrameItemTree → Option QueryFault
+frames_fault columns earlier items =
+    named_fault (λ (i : FrameItemTree). i.name) (λ (i : FrameItemTree). frame_fault columns i.frame i.name) earlier
+    items
+
 -- ---- queries
 
 -- SIZE, ADVANCE, and SIZE again for the windows that are open at once
@@ -241,6 +272,9 @@ query_fault scope (Rows pick filter source) =
     or_else (query_fault scope source) (or_else (pick_fault columns pick) (filter_fault columns filter))
 query_fault scope (Total aggs source) =
     or_else (query_fault scope source) (aggs_fault (columns_under scope (query_alike source)) [] aggs)
+query_fault scope (Frames items filter source) =
+    let columns = columns_under scope (query_alike source) in
+    or_else (query_fault scope source) (or_else (frames_fault columns [] items) (filter_fault columns filter))
 query_fault scope (Each measure var source size advance body at) =
     let inside = body_scope var.text (columns_under scope (query_alike source)) in
     or_else (query_fault scope source)

@@ -4,6 +4,7 @@ use Rattle.std.specs.Prelude.{ℕ, ◌+◌, Bool, true, false, List, [], ◌∷�
 use Rattle.gl_values.specs.declared.kind.Kind.TheVariants.{Unsigned}
 use Rattle.gl_values.specs.Kinds.{width_of}
 use Rattle.gl_values.specs.Lists.{IsInterleaving, groups, has_further}
+use Rattle.gl_frames.specs.Frames.{frame_of, framed, lag_of, own_of, last_value_of}
 use Rattle.gl_values.specs.Partitions.{parts}
 use Rattle.gl_values.specs.Results.{Row, Results, IsInput, IsChanged, IsOfBoth, AreBeside, IsOfParts, IsOfGroup}
 use Rattle.gl_values.specs.Totals.{average_of, count_of, greatest_of, least_of, sum_total, weighted_sum}
@@ -12,7 +13,7 @@ use Rattle.gl_schema.specs.declared.schema.Stream.{Stream}
 use Rattle.gl_schema.specs.declared.schema.Schema.{Schema}
 use Rattle.gl_schema.specs.Beats.{Inputs}
 use Rattle.gl_query.specs.declared.tree.Statement.{Statement}
-use Rattle.gl_query.specs.Shapes.{ExprShape, AggShape, ItemShape, AggItemShape, PickShape, QueryShape, query_shape}
+use Rattle.gl_query.specs.Shapes.{ExprShape, AggShape, ItemShape, AggItemShape, FrameAggShape, FrameShape, FrameItemShape, PickShape, QueryShape, query_shape}
 use Rattle.gl_query.specs.Shapes as shape
 use Rattle.gl_query.specs.Values.{column_number, kind_alone, kind_of, value_of}
 use Rattle.gl_query.specs.Columns.{columns_of}
@@ -52,6 +53,30 @@ agg_value columns rows (shape.Wsum e weights) =
 -- the one row of aggregates
 abbrev pub total_row : List Column → List AggItemShape → List Row → Row
 total_row columns aggs rows = map (λ (i : AggItemShape). agg_value columns rows i.agg) aggs
+
+-- a function over the rows of a frame: the last rows of those up to a row, of which a condition picks
+abbrev pub frame_agg_value : List Column → Option ℕ → (Row → Bool) → List Row → FrameAggShape → ℕ
+frame_agg_value columns back passes rows shape.CountOver = count_of (frame_of back passes rows)
+frame_agg_value columns back passes rows (shape.SumOver e) =
+    sum_total (width_of (kind_of columns (kind_alone e) e)) (values_of columns e (frame_of back passes rows))
+frame_agg_value columns back passes rows (shape.MinOver e) =
+    least_of (kind_of columns (kind_alone e) e) (values_of columns e (frame_of back passes rows))
+frame_agg_value columns back passes rows (shape.MaxOver e) =
+    greatest_of (kind_of columns (kind_alone e) e) (values_of columns e (frame_of back passes rows))
+frame_agg_value columns back passes rows (shape.AvgOver e) =
+    average_of (kind_of columns (kind_alone e) e) (values_of columns e (frame_of back passes rows))
+frame_agg_value columns back passes rows (shape.LastOver e) =
+    last_value_of (value_of columns (kind_alone e) e) back passes rows
+
+-- what a frame makes of the rows up to a row, the row itself last
+abbrev pub frame_value : List Column → List Row → FrameShape → ℕ
+frame_value columns rows (shape.Own e) = own_of (value_of columns (kind_alone e) e) rows
+frame_value columns rows (shape.Lag e back) = lag_of (value_of columns (kind_alone e) e) back rows
+frame_value columns rows (shape.Over agg filter back) = frame_agg_value columns back (keeps columns filter) rows agg
+
+-- what a select of frames makes of the rows up to a row: a value for each item
+abbrev pub frame_row : List Column → List FrameItemShape → List Row → Row
+frame_row columns items rows = map (λ (i : FrameItemShape). frame_value columns rows i.frame) items
 
 -- ---- what a query sees
 
@@ -119,6 +144,9 @@ IsResultIn (shape.Rows pick filter source) env =
 IsResultIn (shape.Total aggs source) env =
     let columns = columns_in env source in
     IsChanged (IsResultIn source env) (λ rows. total_row columns aggs rows ∷ [])
+IsResultIn (shape.Frames items filter source) env =
+    let columns = columns_in env source in
+    IsChanged (IsResultIn source env) (λ rows. framed (frame_row columns items) (kept columns filter rows))
 IsResultIn (shape.Each measure var source size advance body) env =
     let columns = columns_in env source in
     IsOfParts (IsResultIn source env) (parts_of measure size advance (times_in env source) (ticks_in env source))

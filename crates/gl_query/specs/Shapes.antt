@@ -11,6 +11,11 @@ use Rattle.gl_query.specs.declared.tree.Agg.{Agg}
 use Rattle.gl_query.specs.declared.tree.Agg.TheVariants as agg
 use Rattle.gl_query.specs.declared.tree.Item.{Item}
 use Rattle.gl_query.specs.declared.tree.AggItem.{AggItem}
+use Rattle.gl_query.specs.declared.tree.FrameAgg.{FrameAgg}
+use Rattle.gl_query.specs.declared.tree.FrameAgg.TheVariants as frame_agg
+use Rattle.gl_query.specs.declared.tree.Frame.{Frame}
+use Rattle.gl_query.specs.declared.tree.Frame.TheVariants as frame
+use Rattle.gl_query.specs.declared.tree.FrameItem.{FrameItem}
 use Rattle.gl_query.specs.declared.tree.Pick.{Pick}
 use Rattle.gl_query.specs.declared.tree.Pick.TheVariants as pick
 use Rattle.gl_query.specs.declared.tree.Query.{Query}
@@ -46,16 +51,37 @@ pub record AggItemShape : Type 0 where
   pub agg : AggShape
   pub name : List ℕ
 
+-- a function over the rows of a frame
+pub data FrameAggShape : Type 0 where
+  CountOver : FrameAggShape
+  SumOver : (e : ExprShape) → FrameAggShape
+  MinOver : (e : ExprShape) → FrameAggShape
+  MaxOver : (e : ExprShape) → FrameAggShape
+  AvgOver : (e : ExprShape) → FrameAggShape
+  LastOver : (e : ExprShape) → FrameAggShape
+
+-- a frame: an expression over the row, the value of an earlier row, or a function over the last rows
+pub data FrameShape : Type 0 where
+  Own : (e : ExprShape) → FrameShape
+  Lag : (e : ExprShape) (back : ℕ) → FrameShape
+  Over : (agg : FrameAggShape) (filter : Option ExprShape) (back : Option ℕ) → FrameShape
+
+-- a frame and the name of its column
+pub record FrameItemShape : Type 0 where
+  pub frame : FrameShape
+  pub name : List ℕ
+
 -- every column, or these items
 pub data PickShape : Type 0 where
   All : PickShape
   Items : (items : List ItemShape) → PickShape
 
--- a query in its eight forms
+-- a query in its nine forms
 pub data QueryShape : Type 0 where
   Read : (name : List ℕ) → QueryShape
   Rows : (pick : PickShape) (filter : Option ExprShape) (source : QueryShape) → QueryShape
   Total : (aggs : List AggItemShape) (source : QueryShape) → QueryShape
+  Frames : (items : List FrameItemShape) (filter : Option ExprShape) (source : QueryShape) → QueryShape
   Each : (measure : Measure) (var : List ℕ) (source : QueryShape) (size advance : ℕ) (body : QueryShape) → QueryShape
   PerGroup : (var : List ℕ) (source : QueryShape) (key : List ℕ) (groups : ℕ) (body : QueryShape) → QueryShape
   Partition : (var : List ℕ) (source : QueryShape) (key : List ℕ) (groups size advance : ℕ) (body : QueryShape)
@@ -97,6 +123,26 @@ item_shape i = record { expr = expr_shape i.expr; name = i.name.text }
 abbrev pub agg_item_shape : AggItem → AggItemShape
 agg_item_shape i = record { agg = agg_shape i.agg; name = i.name.text }
 
+-- the shape of a function over the rows of a frame that code holds
+abbrev pub frame_agg_shape : FrameAgg → FrameAggShape
+frame_agg_shape frame_agg.Count = CountOver
+frame_agg_shape (frame_agg.Sum e) = SumOver (expr_shape e)
+frame_agg_shape (frame_agg.Min e) = MinOver (expr_shape e)
+frame_agg_shape (frame_agg.Max e) = MaxOver (expr_shape e)
+frame_agg_shape (frame_agg.Avg e) = AvgOver (expr_shape e)
+frame_agg_shape (frame_agg.LastValue e) = LastOver (expr_shape e)
+
+-- the shape of a frame that code holds
+abbrev pub frame_shape : Frame → FrameShape
+frame_shape (frame.Own e) = Own (expr_shape e)
+frame_shape (frame.Lag e back at) = Lag (expr_shape e) back.value
+frame_shape (frame.Over agg filter back at) =
+    Over (frame_agg_shape agg) (option_map expr_shape filter) (option_map (λ (n : Num). n.value) back)
+
+-- the shape of a named frame that code holds
+abbrev pub frame_item_shape : FrameItem → FrameItemShape
+frame_item_shape i = record { frame = frame_shape i.frame; name = i.name.text }
+
 -- the shape of what a select picks, as code holds it
 abbrev pub pick_shape : Pick → PickShape
 pick_shape pick.All = All
@@ -108,6 +154,8 @@ query_shape (query.Read name) = Read name.text
 query_shape (query.Rows' pick filter p source) =
     Rows (pick_shape pick) (option_map expr_shape filter) (query_shape source)
 query_shape (query.Total' aggs p source) = Total (map agg_item_shape aggs) (query_shape source)
+query_shape (query.Frames' items filter p source) =
+    Frames (map frame_item_shape items) (option_map expr_shape filter) (query_shape source)
 query_shape (query.Each' var p source size advance q body at) =
     Each Tuples var.text (query_shape source) size.value advance.value (query_shape body)
 query_shape (query.EachTime' var p source size advance q body at) =

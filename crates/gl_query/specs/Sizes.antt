@@ -1,6 +1,7 @@
 -- How large the expressions of a query are.
-use Rattle.std.specs.Prelude.{ℕ, ◌+◌, ◌≤◌, length}
-use Rattle.gl_query.specs.Shapes.{ExprShape, PickShape, QueryShape}
+use Rattle.std.specs.Prelude.{ℕ, ◌+◌, ◌≤◌, Bool, true, false, List, length, IsTrue}
+use Rattle.std.specs.List.{list_any}
+use Rattle.gl_query.specs.Shapes.{ExprShape, FrameItemShape, FrameShape, PickShape, QueryShape}
 use Rattle.gl_query.specs.Shapes as shape
 use Rattle.gl_query.specs.Parts.{InQuery}
 
@@ -27,11 +28,22 @@ abbrev pub PickHasItems : PickShape → Type 0
 PickHasItems shape.All = Unit {0}
 PickHasItems (shape.Items items) = 1 ≤ length items
 
+-- whether a frame looks at more than its row
+abbrev pub looks_back : FrameShape → Bool
+looks_back (shape.Own e) = false
+looks_back (shape.Lag e back) = true
+looks_back (shape.Over agg filter back) = true
+
+-- a select of frames has one that looks at more than its row
+abbrev pub HasFrame : List FrameItemShape → Type 0
+HasFrame items = IsTrue (list_any (λ (i : FrameItemShape). looks_back i.frame) items)
+
 -- no select in a query has an empty list of items, however deep it stands
 abbrev pub HasItems : QueryShape → Type 0
 HasItems (shape.Read name) = Unit {0}
 HasItems (shape.Rows pick filter source) = HasItems source × PickHasItems pick
 HasItems (shape.Total aggs source) = HasItems source × (1 ≤ length aggs)
+HasItems (shape.Frames items filter source) = HasItems source × HasFrame items
 HasItems (shape.Each measure var source size advance body) = HasItems source × HasItems body
 HasItems (shape.PerGroup var source key groups body) = HasItems source × HasItems body
 HasItems (shape.Partition var source key groups size advance body) = HasItems source × HasItems body

@@ -12,6 +12,11 @@ use Rattle.gl_query.specs.declared.tree.Agg.{Agg}
 use Rattle.gl_query.specs.declared.tree.Agg.TheVariants as agg
 use Rattle.gl_query.specs.declared.tree.Item.{Item}
 use Rattle.gl_query.specs.declared.tree.AggItem.{AggItem}
+use Rattle.gl_query.specs.declared.tree.FrameAgg.{FrameAgg}
+use Rattle.gl_query.specs.declared.tree.FrameAgg.TheVariants as frame_agg
+use Rattle.gl_query.specs.declared.tree.Frame.{Frame}
+use Rattle.gl_query.specs.declared.tree.Frame.TheVariants as frame
+use Rattle.gl_query.specs.declared.tree.FrameItem.{FrameItem}
 use Rattle.gl_query.specs.declared.tree.Pick.{Pick}
 use Rattle.gl_query.specs.declared.tree.Pick.TheVariants as pick
 use Rattle.gl_query.specs.declared.tree.Query.{Query}
@@ -47,16 +52,37 @@ pub record AggItemTree : Type 0 where
   pub agg : AggTree
   pub name : Name
 
+-- a function over the rows of a frame, with its places
+pub data FrameAggTree : Type 0 where
+  CountOver : FrameAggTree
+  SumOver : (e : ExprTree) → FrameAggTree
+  MinOver : (e : ExprTree) → FrameAggTree
+  MaxOver : (e : ExprTree) → FrameAggTree
+  AvgOver : (e : ExprTree) → FrameAggTree
+  LastOver : (e : ExprTree) → FrameAggTree
+
+-- a frame with its places: an expression over the row, the value of an earlier row, or a function over the last rows
+pub data FrameTree : Type 0 where
+  Own : (e : ExprTree) → FrameTree
+  Lag : (e : ExprTree) (back : Num) (at : ℕ) → FrameTree
+  Over : (agg : FrameAggTree) (filter : Option ExprTree) (back : Option Num) (at : ℕ) → FrameTree
+
+-- a frame of a select and the name of its column
+pub record FrameItemTree : Type 0 where
+  pub frame : FrameTree
+  pub name : Name
+
 -- what a select picks: all columns of its source, or a list of items
 pub data PickTree : Type 0 where
   All : PickTree
   Items : (items : List ItemTree) → PickTree
 
--- a query in its eight forms, with the places of its names, its numbers and its keywords
+-- a query in its nine forms, with the places of its names, its numbers and its keywords
 pub data QueryTree : Type 0 where
   Read : (name : Name) → QueryTree
   Rows : (pick : PickTree) (filter : Option ExprTree) (source : QueryTree) → QueryTree
   Total : (aggs : List AggItemTree) (source : QueryTree) → QueryTree
+  Frames : (items : List FrameItemTree) (filter : Option ExprTree) (source : QueryTree) → QueryTree
   Each : (measure : Measure) (var : Name) (source : QueryTree) (size advance : Num) (body : QueryTree) (at : ℕ) → QueryTree
   PerGroup : (var : Name) (source : QueryTree) (key : Name) (groups : Num) (body : QueryTree) (at : ℕ) → QueryTree
   Partition : (var : Name) (source : QueryTree) (key : Name) (groups size advance : Num) (body : QueryTree) (at : ℕ)
@@ -96,20 +122,40 @@ item_tree i = record { expr = expr_tree i.expr; name = i.name }
 abbrev pub agg_item_tree : AggItem → AggItemTree
 agg_item_tree i = record { agg = agg_tree i.agg; name = i.name }
 
--- the tree of what a select picks, as code holds it
-abbrev pub pick_tree : Pick → PickTree
-pick_tree pick.All = All
-pick_tree (pick.Items items) = Items (map item_tree items)
+-- the tree of a function over the rows of a frame that code holds
+abbrev pub frame_agg_tree : FrameAgg → FrameAggTree
+frame_agg_tree frame_agg.Count = CountOver
+frame_agg_tree (frame_agg.Sum e) = SumOver (expr_tree e)
+frame_agg_tree (frame_agg.Min e) = MinOver (expr_tree e)
+frame_agg_tree (frame_agg.Max e) = MaxOver (expr_tree e)
+frame_agg_tree (frame_agg.Avg e) = AvgOver (expr_tree e)
+frame_agg_tree (frame_agg.LastValue e) = LastOver (expr_tree e)
 
 -- the tree of a filter, where there is one
 abbrev pub filter_tree : Option Expr → Option ExprTree
 filter_tree o = option_map expr_tree o
+
+-- the tree of a frame that code holds
+abbrev pub frame_tree : Frame → FrameTree
+frame_tree (frame.Own e) = Own (expr_tree e)
+frame_tree (frame.Lag e back at) = Lag (expr_tree e) back at
+frame_tree (frame.Over agg filter back at) = Over (frame_agg_tree agg) (filter_tree filter) back at
+
+-- the tree of a named frame that code holds
+abbrev pub frame_item_tree : FrameItem → FrameItemTree
+frame_item_tree i = record { frame = frame_tree i.frame; name = i.name }
+
+-- the tree of what a select picks, as code holds it
+abbrev pub pick_tree : Pick → PickTree
+pick_tree pick.All = All
+pick_tree (pick.Items items) = Items (map item_tree items)
 
 -- the tree of a query that code holds; windows over tuples and over time differ by their measure
 abbrev pub query_tree : Query → QueryTree
 query_tree (query.Read name) = Read name
 query_tree (query.Rows' pick filter p source) = Rows (pick_tree pick) (filter_tree filter) (query_tree source)
 query_tree (query.Total' aggs p source) = Total (map agg_item_tree aggs) (query_tree source)
+query_tree (query.Frames' items filter p source) = Frames (map frame_item_tree items) (filter_tree filter) (query_tree source)
 query_tree (query.Each' var p source size advance q body at) =
     Each Tuples var (query_tree source) size advance (query_tree body) at
 query_tree (query.EachTime' var p source size advance q body at) =

@@ -2,13 +2,13 @@
 
 ghost use Rattle.std.specs.Prelude.{◌≡◌, ◌∷◌, ◌++◌, IfOk, map};
 ghost use Rattle.gl_schema.specs.Schemas.{column_names, kinds_of};
-ghost use Rattle.gl_query.specs.Shapes.{agg_item_shape, agg_shape, item_shape, pick_shape, query_shape};
+ghost use Rattle.gl_query.specs.Shapes.{agg_item_shape, agg_shape, frame_agg_shape, frame_item_shape, frame_shape, item_shape, pick_shape, query_shape};
 ghost use Rattle.gl_query.specs.Values.{column_kind};
-ghost use Rattle.gl_query.specs.Columns.{agg_column, agg_kind, columns_of, item_column, picked_columns, source_columns, variable};
+ghost use Rattle.gl_query.specs.Columns.{agg_column, agg_kind, columns_of, frame_agg_kind, frame_column, frame_kind, item_column, picked_columns, source_columns, variable};
 ghost use Rattle.gl_query.specs.Sources.{scope_of};
 
 use crate::kinds::{column_kind, kind_alone, kind_of};
-use crate::tree::{Agg, AggItem, Item, Pick, Query};
+use crate::tree::{Agg, AggItem, Frame, FrameAgg, FrameItem, Item, Pick, Query};
 use gl_bits::{Listed, Memory};
 use gl_schema::{Column, Columns, NameText, Stream};
 use gl_values::Kind;
@@ -155,6 +155,48 @@ pub fn agg_columns(alloc: Global, columns: &[Column], aggs: &[AggItem]) -> Resul
     Ok(out)
 }
 
+/// The kind of a function over the rows of a frame.
+pub fn frame_agg_kind(columns: &[Column], agg: &FrameAgg) -> Kind
+    ensures { result ≡ frame_agg_kind columns.now (frame_agg_shape agg.now) }
+{
+    match agg {
+        FrameAgg::Count => Kind::Unsigned(32),
+        FrameAgg::Sum(expr)
+        | FrameAgg::Min(expr)
+        | FrameAgg::Max(expr)
+        | FrameAgg::Avg(expr)
+        | FrameAgg::LastValue(expr) => kind_of(columns, kind_alone(expr), expr),
+    }
+}
+
+/// The kind of a frame.
+pub fn frame_kind(columns: &[Column], frame: &Frame) -> Kind
+    ensures { result ≡ frame_kind columns.now (frame_shape frame.now) }
+{
+    match frame {
+        Frame::Own(expr) => kind_of(columns, kind_alone(expr), expr),
+        Frame::Lag { arg, .. } => kind_of(columns, kind_alone(arg), arg),
+        Frame::Over { agg, .. } => frame_agg_kind(columns, agg),
+    }
+}
+
+/// The columns of frames.
+pub fn frame_columns(
+    alloc: Global,
+    columns: &[Column],
+    items: &[FrameItem],
+) -> Result<Columns, Memory>
+    ensures { IfOk result (λ v. v ≡ map (frame_column columns.now) (map frame_item_shape items.now)) }
+{
+    let mut out = Listed::new(alloc);
+    for item in items {
+        let name = copy_of_name(alloc, item.name.text.as_slice())?;
+        let kind = frame_kind(columns, &item.frame);
+        out.push(Column { name, kind })?;
+    }
+    Ok(out)
+}
+
 /// The columns of one list, then those of another.
 pub fn joined_columns(first: Columns, second: Columns) -> Result<Columns, Memory>
     ensures { IfOk result (λ v. v ≡ first ++ second) }
@@ -200,6 +242,10 @@ pub fn columns_of(alloc: Global, sources: Sources<'_>, query: &Query) -> Result<
         Query::Total { aggs, source } => {
             let columns = columns_of(alloc, sources, source)?;
             agg_columns(alloc, columns.as_slice(), aggs.as_slice())
+        }
+        Query::Frames { items, source, .. } => {
+            let columns = columns_of(alloc, sources, source)?;
+            frame_columns(alloc, columns.as_slice(), items.as_slice())
         }
         Query::Each {
             var,

@@ -16,6 +16,9 @@ pub type ItemList = Listed<Item>;
 /// The items of a select of aggregates.
 pub type AggItems = Listed<AggItem>;
 
+/// The items of a select of frames.
+pub type FrameItems = Listed<FrameItem>;
+
 /// A name, and where it stands.
 #[derive(Drop, Debug)]
 pub struct Name {
@@ -114,6 +117,60 @@ pub struct AggItem {
     pub name: Name,
 }
 
+/// A function over the rows of a frame, as SQL's window functions are.
+#[derive(Drop, Debug)]
+pub enum FrameAgg {
+    /// The number of rows.
+    Count,
+    /// The sum of the values.
+    Sum(Expr),
+    /// The least value.
+    Min(Expr),
+    /// The greatest value.
+    Max(Expr),
+    /// The sum by the number of rows.
+    Avg(Expr),
+    /// The value of the last row; 0 over none.
+    LastValue(Expr),
+}
+
+/// What an item of a select of frames makes of a row and of the rows before it.
+#[derive(Drop, Debug)]
+pub enum Frame {
+    /// An expression over the row itself.
+    Own(Expr),
+    /// LAG: the value of an earlier row; 0 where there is none.
+    Lag {
+        /// The value.
+        arg: Expr,
+        /// How many rows earlier: 1 to 65,535.
+        back: Num,
+        /// The byte of the text where LAG stands.
+        at: u64,
+    },
+    /// A function over the last rows up to the row itself.
+    Over {
+        /// The function.
+        agg: FrameAgg,
+        /// FILTER: the condition of the rows of the frame that count; all count without one.
+        filter: Option<Expr>,
+        /// ROWS: how many rows before the row itself are in its frame, 0 to 65,535; all of them
+        /// without a number.
+        back: Option<Num>,
+        /// The byte of the text where the function stands.
+        at: u64,
+    },
+}
+
+/// A frame under a name.
+#[derive(Drop, Debug)]
+pub struct FrameItem {
+    /// The frame.
+    pub frame: Frame,
+    /// The name of its column.
+    pub name: Name,
+}
+
 /// What a select picks of its source's columns.
 #[derive(Drop, Debug)]
 pub enum Pick {
@@ -150,6 +207,15 @@ pub enum Query {
     Total {
         /// The aggregates, one for each column.
         aggs: AggItems,
+        /// What the rows are of.
+        source: Box<Query>,
+    },
+    /// For each row that the filter keeps, what the items make of it and of the rows before it.
+    Frames {
+        /// The items of a row, one for each column.
+        items: FrameItems,
+        /// The condition of the rows that are kept; all are kept without one.
+        filter: Option<Expr>,
         /// What the rows are of.
         source: Box<Query>,
     },

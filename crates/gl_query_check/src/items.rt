@@ -71,8 +71,8 @@ pub fn pick_fault(columns: &[Column], pick: &Pick) -> Option<QueryFault>
     }
 }
 
-// The first fault of an argument that is added or averaged.
-fn summed_fault(arg: Placed, name: &Name) -> Option<QueryFault>
+/// The first fault of an argument that is added or averaged.
+pub fn summed_fault(arg: Placed, name: &Name) -> Option<QueryFault>
     ensures { let number = is_number arg.kind in
         result ≡ faults.or_else arg.fault (faults.unless number (KindsDiffer name.now.at)) }
 {

@@ -4,7 +4,9 @@
 
 pub mod checking;
 mod expressions;
+mod frames;
 mod items;
+mod paces;
 mod queries;
 mod rules;
 

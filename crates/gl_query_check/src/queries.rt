@@ -1,31 +1,35 @@
 //! Faults of queries, and the columns of those that have none.
 
-ghost use Rattle.std.specs.Prelude.{◌≡◌, ◌*◌, ◌≤◌, [], map, nat_le, option_map, IfOk};
+ghost use Rattle.std.specs.Prelude.{◌≡◌, ◌*◌, ◌≤◌, [], map, nat_le, IfOk};
 ghost use Rattle.gl_bits.specs.Limits.{most_copies, most_groups, most_rows};
 ghost use Rattle.gl_query.specs.Accepted as accepted;
 ghost use Rattle.gl_query.specs.Accepted.{columns_under};
-ghost use Rattle.gl_query.specs.Alike.{agg_item_alike, pick_alike, query_alike};
+ghost use Rattle.gl_query.specs.Alike.{agg_item_alike, frame_item_alike, pick_alike, query_alike};
 ghost use Rattle.gl_query.specs.Columns as columns;
 ghost use Rattle.gl_query.specs.Faults as faults;
 ghost use Rattle.gl_query.specs.declared.fault.QueryFault.TheVariants as fault;
 ghost use Rattle.gl_query.specs.Sources.{scope_of};
-ghost use Rattle.gl_query.specs.Columns.{agg_column, picked_columns};
+ghost use Rattle.gl_query.specs.Columns.{agg_column, frame_column, picked_columns};
 ghost use Rattle.gl_query.specs.Windows.{copies_of};
-ghost use Rattle.gl_query.specs.Trees.{agg_item_tree, filter_tree, pick_tree, query_tree};
+ghost use Rattle.gl_query.specs.Trees.{agg_item_tree, filter_tree, frame_item_tree, pick_tree, query_tree};
 ghost use Rattle.gl_query_check.specs.Answers.{Answers};
-ghost use Rattle.gl_query_check.specs.Paces.{pace};
 
 use crate::expressions::filter_fault;
+use crate::frames::frames_fault;
 use crate::items::{aggs_fault, pick_fault};
+use crate::paces::{pace_of, same_pace};
 use crate::rules::{
     are_distinct, has_column, has_source, is_among, is_within, or_else, refuse, same_kinds, unless,
 };
 use gl_bits::Memory;
 use gl_bits::limits::{MOST_COLUMNS, MOST_COPIES, MOST_GROUPS, MOST_ROWS, MOST_WINDOWS};
 use gl_query::columns::{
-    agg_columns, group_columns, joined_columns, picked_columns, source_columns,
+    agg_columns, frame_columns, group_columns, joined_columns, picked_columns, source_columns,
 };
-use gl_query::{AggItem, AggItems, Expr, Measure, Name, Num, Pick, Query, QueryFault, Sources};
+use gl_query::{
+    AggItem, AggItems, Expr, FrameItem, FrameItems, Measure, Name, Num, Pick, Query, QueryFault,
+    Sources,
+};
 use gl_schema::{Column, Columns};
 use std::alloc::Global;
 
@@ -38,6 +42,7 @@ fn is_closing(query: &Query) -> bool
         Query::Read(_) => false,
         Query::Rows { source, .. } => is_closing(source),
         Query::Total { .. } => true,
+        Query::Frames { source, .. } => is_closing(source),
         Query::Each { source, .. } => is_closing(source),
         Query::EachTime { .. } => false,
         Query::PerGroup { .. } => true,
@@ -60,6 +65,7 @@ fn has_times(sources: Sources<'_>, query: &Query) -> bool
         },
         Query::Rows { .. }
         | Query::Total { .. }
+        | Query::Frames { .. }
         | Query::Each { .. }
         | Query::EachTime { .. }
         | Query::PerGroup { .. }
@@ -123,44 +129,6 @@ fn windows_fault(groups: Num, size: Num, advance: Num) -> Option<QueryFault>
     )
 }
 
-/// How many rows a query gives: one, or one for each row of a source.
-#[derive(Clone, Copy)]
-enum Pace<'a> {
-    Once,
-    Step(&'a [u8]),
-}
-
-// The pace of a query.
-fn pace_of(query: &Query) -> Option<Pace<'_>>
-    ensures { option_map pace result ≡ columns.pace_of (query_alike (query_tree query.now)) }
-{
-    match query {
-        Query::Read(name) => Some(Pace::Step(name.text.as_slice())),
-        Query::Rows { filter, source, .. } => match filter {
-            None => pace_of(source),
-            Some(_) => None,
-        },
-        Query::Total { .. } => Some(Pace::Once),
-        Query::Each { .. }
-        | Query::EachTime { .. }
-        | Query::PerGroup { .. }
-        | Query::Partition { .. }
-        | Query::Union { .. } => None,
-        Query::Concat { left, .. } => pace_of(left),
-    }
-}
-
-// Whether two paces are one.
-fn same_pace(left: Option<Pace<'_>>, right: Option<Pace<'_>>) -> bool
-    ensures { result ≡ faults.same_pace (option_map pace left.entry) (option_map pace right.entry) }
-{
-    match (left, right) {
-        (Some(Pace::Once), Some(Pace::Once)) => true,
-        (Some(Pace::Step(a)), Some(Pace::Step(b))) => a == b,
-        _ => false,
-    }
-}
-
 // The first fault of two queries side by side, of their columns together.
 fn beside_fault(left: &Query, right: &Query, columns: &[Column], at: u64) -> Option<QueryFault>
     ensures { let l = query_alike (query_tree left.now) in
@@ -208,6 +176,15 @@ fn totalled(alloc: Global, columns: &[Column], aggs: &[AggItem]) -> Result<Colum
     agg_columns(alloc, columns, aggs)
 }
 
+// The columns of frames.
+#[tactic(auto, using(gl_query::proofs::Alike::frames_same))]
+fn framed(alloc: Global, columns: &[Column], items: &[FrameItem]) -> Result<Columns, Memory>
+    ensures { let shapes = map frame_item_alike (map frame_item_tree items.now) in
+        IfOk result (λ v. v ≡ map (frame_column columns.now) shapes) }
+{
+    frame_columns(alloc, columns, items)
+}
+
 // A select of items over columns.
 #[tactic(auto, using(crate::proofs::Passing::passing))]
 fn rows_checked(
@@ -235,6 +212,25 @@ fn total_checked(alloc: Global, columns: Columns, aggs: &AggItems) -> Result<Col
 {
     refuse(aggs_fault(columns.as_slice(), aggs.as_slice(), 0))?;
     Ok(totalled(alloc, columns.as_slice(), aggs.as_slice())?)
+}
+
+// A select of frames over columns.
+#[tactic(auto, using(crate::proofs::Passing::passing))]
+fn frames_checked(
+    alloc: Global,
+    columns: Columns,
+    items: &FrameItems,
+    filter: &Option<Expr>,
+) -> Result<Columns, QueryFault>
+    ensures { let trees = map frame_item_tree items.now in
+        let of_items = faults.frames_fault columns [] trees in
+        let of_filter = faults.filter_fault columns (filter_tree filter.now) in
+        let out = map (frame_column columns) (map frame_item_alike trees) in
+        Answers (faults.or_else of_items of_filter) out result }
+{
+    refuse(frames_fault(columns.as_slice(), items.as_slice(), 0))?;
+    refuse(filter_fault(columns.as_slice(), filter))?;
+    Ok(framed(alloc, columns.as_slice(), items.as_slice())?)
 }
 
 /// The columns of a query, where it is accepted over the sources that it may read, or its first
@@ -265,6 +261,14 @@ pub fn columns_checked(
         Query::Total { aggs, source } => {
             let columns = columns_checked(alloc, sources, source)?;
             total_checked(alloc, columns, aggs)
+        }
+        Query::Frames {
+            items,
+            filter,
+            source,
+        } => {
+            let columns = columns_checked(alloc, sources, source)?;
+            frames_checked(alloc, columns, items, filter)
         }
         Query::Each {
             var,

@@ -15,7 +15,7 @@ use Rattle.gl_query_tokens.specs.Tokens.{Mode, Between, InWord, InText, AfterHal
 use Rattle.gl_query_tokens.specs.Words.{word_token}
 use Rattle.gl_query_reader.specs.Grammar.{bare_tokens}
 use Rattle.gl_query_printer.specs.declared.text.Behind.{Behind}
-use Rattle.gl_query_printer.specs.declared.text.Behind.TheVariants.{Opening, Aggregate, Operand, Sign, Other}
+use Rattle.gl_query_printer.specs.declared.text.Behind.TheVariants.{Opening, Named, Operand, Sign, Other}
 use Rattle.gl_query_printer.specs.Spaced.{token_text, plain_text, letters_text, place_behind, is_closing, is_number, is_opening, needs_space, gap, spaced, text_of}
 use Rattle.gl_query_tokens.proofs.Sound.{IsLetters, are_inside, are_letters, is_inside, is_letter, is_word}
 use Rattle.gl_query_printer.proofs.Places.{placeless}
@@ -100,7 +100,7 @@ word_apart (b ∷ w) more h = letter_apart b (and_parts (is_letter (class_of b))
 -- what stands behind a token does not go on with it
 abbrev pub EndsIn : Behind → List ℕ → Type 0
 EndsIn Opening bs = Unit {0}
-EndsIn Aggregate bs = Ends bs
+EndsIn Named bs = Ends bs
 EndsIn Operand bs = Ends bs
 EndsIn Sign bs = Apart bs
 EndsIn Other bs = Ends bs
@@ -263,7 +263,7 @@ either_needed true b h = inl refl
 either_needed false true h = inr refl
 either_needed false false h = absurd (true≢false h)
 
-behind_name : (u : Token) → needs_space Aggregate u ≡ false → Begins (token_text u)
+behind_name : (u : Token) → needs_space Named u ≡ false → Begins (token_text u)
 behind_name u h = elim (either_needed (is_opening u) (is_closing u) h) [ inl o ↦ opening_begins u o | inr c ↦ closing_begins u c ]
 
 behind_other : (u : Token) → not (is_closing u) ≡ false → Begins (token_text u)
@@ -276,8 +276,8 @@ apart_by_gap false text more f = space_ends.dash
 
 rest_ends : (p : Behind) (ts : List Token) → AllByRecursion Readable ts → EndsIn p (spaced p ts)
 rest_ends Opening ts h = tt
-rest_ends Aggregate [] h = tt
-rest_ends Aggregate (u ∷ ts) h = ends_by_gap (needs_space Aggregate u) (token_text u) (spaced (place_behind Aggregate u) ts) (behind_name u)
+rest_ends Named [] h = tt
+rest_ends Named (u ∷ ts) h = ends_by_gap (needs_space Named u) (token_text u) (spaced (place_behind Named u) ts) (behind_name u)
 rest_ends Operand [] h = tt
 rest_ends Operand (u ∷ ts) h = ends_by_gap (needs_space Operand u) (token_text u) (spaced (place_behind Operand u) ts) (behind_other u)
 rest_ends Sign [] h = tt

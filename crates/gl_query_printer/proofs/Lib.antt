@@ -4,9 +4,13 @@ pub mod Loops
 pub mod Places
 pub mod Lexed
 pub mod Writable
+pub mod WritableQueries
 pub mod Decimals
+pub mod ReadableWords
 pub mod Readable
 pub mod ReadBack
+pub mod ReadBackFrames
+pub mod ReadBackSelects
 pub mod ReadBackWindows
 pub mod ReadBackQueries
 pub mod ReadBackStatement

@@ -4,11 +4,12 @@ use Rattle.std.proofs.lemmas.List.{drop_all}
 use Rattle.gl_query.specs.declared.tree.Num.{Num}
 use Rattle.gl_query.specs.declared.tree.Item.{Item}
 use Rattle.gl_query.specs.declared.tree.AggItem.{AggItem}
-use Rattle.gl_query.specs.Shapes.{item_shape, agg_item_shape}
+use Rattle.gl_query.specs.declared.tree.FrameItem.{FrameItem}
+use Rattle.gl_query.specs.Shapes.{item_shape, agg_item_shape, frame_item_shape}
 use Rattle.gl_query_tokens.specs.declared.token.Plain.TheVariants as plain
 use Rattle.gl_query_tokens.specs.declared.token.Token.TheVariants as token
 use Rattle.gl_query_reader.specs.Written.{spell_item, spell_items, spell_numbers}
-use Rattle.gl_query_printer.specs.Canonical.{num_of, item_of, agg_item_of}
+use Rattle.gl_query_printer.specs.Canonical.{num_of, item_of, agg_item_of, frame_item_of}
 use Rattle.gl_query_tokens.specs.declared.token.Token.{Token}
 use Rattle.gl_query_printer.specs.declared.text.Behind.{Behind}
 use Rattle.gl_query_printer.specs.Spaced.{place_behind, gap, needs_space, token_text, spaced}
@@ -33,6 +34,16 @@ item_tokens i = spell_item (item_of (item_shape i))
 
 abbrev pub agg_tokens : AggItem → List Token
 agg_tokens i = spell_item (agg_item_of (agg_item_shape i))
+
+abbrev pub frame_tokens : FrameItem → List Token
+frame_tokens i = spell_item (frame_item_of (frame_item_shape i))
+
+pub frames_next : (xs : List FrameItem) (at : ℕ) (d : FrameItem) → at < length xs → behind_commas frame_tokens (drop at xs) ≡ (token.Plain plain.Comma ∷ frame_tokens (get_or xs at d)) ++ behind_commas frame_tokens (drop (at + 1) xs)
+frames_next xs at d lt = commas_next frame_tokens xs at d lt
+
+pub frames_first : (x : FrameItem) (xs : List FrameItem) → spell_items (map frame_item_of (map frame_item_shape (x ∷ xs))) ≡ frame_tokens x ++ behind_commas frame_tokens xs
+frames_first x [] = sym (append-nil (frame_tokens x))
+frames_first x (y ∷ xs) = ap (λ ts. frame_tokens x ++ token.Plain plain.Comma ∷ ts) (frames_first y xs)
 
 pub numbers_next : (xs : List Num) (at : ℕ) (d : Num) → at < length xs → behind_commas number_tokens (drop at xs) ≡ (token.Plain plain.Comma ∷ number_tokens (get_or xs at d)) ++ behind_commas number_tokens (drop (at + 1) xs)
 numbers_next xs at d lt = commas_next number_tokens xs at d lt
@@ -77,8 +88,16 @@ aggs_end xs x rest at out start e le h =
     ended AggItem agg_tokens rest at out _ le h ∙ append_assoc start (agg_tokens x) (behind_commas agg_tokens rest)
     ∙ ap (λ (ts : List Token). start ++ ts) (sym (aggs_first x rest) ∙ ap (λ (ys : List AggItem). spell_items (map agg_item_of (map agg_item_shape ys))) (sym e))
 
+pub frames_end : (xs : List FrameItem) (x : FrameItem) (rest : List FrameItem) (at : ℕ) (out start : List Token) → xs ≡ x ∷ rest → length rest ≤ at
+    → out ++ behind_commas frame_tokens (drop at rest) ≡ (start ++ frame_tokens x) ++ behind_commas frame_tokens rest → out ≡ start ++ spell_items (map frame_item_of (map frame_item_shape xs))
+frames_end xs x rest at out start e le h =
+    ended FrameItem frame_tokens rest at out _ le h ∙ append_assoc start (frame_tokens x) (behind_commas frame_tokens rest)
+    ∙ ap (λ (ts : List Token). start ++ ts) (sym (frames_first x rest) ∙ ap (λ (ys : List FrameItem). spell_items (map frame_item_of (map frame_item_shape ys))) (sym e))
+
 pub ruleset number_steps = (numbers_next, numbers_first)
 
 pub ruleset item_steps = (items_next, items_first)
 
 pub ruleset agg_steps = (aggs_next, aggs_first)
+
+pub ruleset frame_steps = (frames_next, frames_first)

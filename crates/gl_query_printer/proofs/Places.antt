@@ -21,6 +21,7 @@ placeless (token.Join j at) = token.Join j 0
 placeless (token.Each at) = token.Each 0
 placeless (token.By at) = token.By 0
 placeless (token.Size at) = token.Size 0
+placeless (token.Word w at) = token.Word w 0
 placeless (token.Plain p) = token.Plain p
 placeless token.Stray = token.Stray
 
@@ -40,6 +41,7 @@ placed at (token.Join j b) = token.Join j at
 placed at (token.Each b) = token.Each at
 placed at (token.By b) = token.By at
 placed at (token.Size b) = token.Size at
+placed at (token.Word w b) = token.Word w at
 placed at (token.Plain p) = token.Plain p
 placed at token.Stray = token.Stray
 
@@ -58,6 +60,7 @@ place_of (token.Join j at) = at
 place_of (token.Each at) = at
 place_of (token.By at) = at
 place_of (token.Size at) = at
+place_of (token.Word w at) = at
 place_of (token.Plain p) = 0
 place_of token.Stray = 0
 
@@ -76,6 +79,7 @@ placed_back (token.Join j at) = refl
 placed_back (token.Each at) = refl
 placed_back (token.By at) = refl
 placed_back (token.Size at) = refl
+placed_back (token.Word w at) = refl
 placed_back (token.Plain p) = refl
 placed_back token.Stray = refl
 
@@ -87,7 +91,7 @@ pub record Parts (us xs ys : List Token) : Type 0 where
   pub front_is : map placeless front ≡ xs
   pub back_is : map placeless back ≡ ys
 
-none_some : {A : Type 0} (x : A) (xs : List A) → [] ≡ x ∷ xs → ⊥
+pub none_some : {A : Type 0} (x : A) (xs : List A) → [] ≡ x ∷ xs → ⊥
 none_some x xs h = absurd (cc)
 
 pub parts : (us xs ys : List Token) → map placeless us ≡ xs ++ ys → Parts us xs ys

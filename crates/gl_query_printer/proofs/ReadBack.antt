@@ -1,7 +1,7 @@
 -- What is read from tokens that are the canonical ones but for their places.
 use Rattle.std.proofs.Common.{◌≡◌, ℕ, ◌<◌, ◌≤◌, Bool, true, false, List, [], ◌∷◌, ◌++◌, map, None, refl, sym, ap, subst, ◌∙◌, arith, leb-true, lit<}
-use Rattle.std.specs.Prelude.{nat_le, nat_lt, if◌then◌else◌}
-use Rattle.std.specs.List.{AllByRecursion}
+use Rattle.std.specs.Prelude.{◌||◌, nat_le, nat_lt, if◌then◌else◌}
+use Rattle.std.specs.List.{AllByRecursion, list_any}
 use Rattle.std.proofs.lemmas.Bool.{ltb-true, true≢false}
 use Rattle.std.proofs.lemmas.Slice.Eq.{bytes_eq-Decides}
 use Rattle.gl_schema.specs.SchemaText.{kind_text}
@@ -17,7 +17,7 @@ use Rattle.gl_query_tokens.specs.declared.token.Token.{Token}
 use Rattle.gl_query_tokens.specs.declared.token.Token.TheVariants as token
 use Rattle.gl_query_reader.specs.Written as written
 use Rattle.gl_query_reader.specs.Written.{level, looseness, left_looseness, IsExpr, IsAgg, IsItem, AreItems, spell, spell_numbers, spell_agg, spell_item, spell_items}
-use Rattle.gl_query_reader.specs.Meaning.{expr_meaning, agg_meaning, plain_items, agg_items, is_total}
+use Rattle.gl_query_reader.specs.Meaning.{expr_meaning, agg_meaning, plain_items, agg_items, is_total, is_framed, has_over}
 use Rattle.gl_query_reader.specs.Mixed.{first_other, same}
 use Rattle.gl_query.specs.Alike.{expr_alike, agg_alike, item_alike, agg_item_alike}
 use Rattle.gl_query_printer.specs.Canonical.{name_of, num_of, fitted, expr_of, agg_of, is_bare, item_of, agg_item_of}
@@ -181,7 +181,7 @@ pub record ReadFold (us : List Token) (f : Fold) (e : ExprShape) : Type 0 where
   pub grammar : IsExpr arg
   pub alike : expr_alike (expr_meaning arg) ≡ e
 
-read_fold : (f : Fold) (e : ExprShape) → CanBeExpr e → (us : List Token) → map placeless us ≡ spell_agg (written.Fold' f 0 0 (expr_of e)) → ReadFold us f e
+pub read_fold : (f : Fold) (e : ExprShape) → CanBeExpr e → (us : List Token) → map placeless us ≡ spell_agg (written.Fold' f 0 0 (expr_of e)) → ReadFold us f e
 read_fold f e c us h =
     let a = first us (token.Fold f 0) (token.Open 0 ∷ (spell (expr_of e) ++ token.Plain plain.Close ∷ [])) h in
     let b = first a.rest (token.Open 0) (spell (expr_of e) ++ token.Plain plain.Close ∷ []) a.rest_is in
@@ -238,21 +238,23 @@ read_agg (shape.Wsum e (n ∷ ns)) c us h =
 
 -- ---- items
 
--- an item whose part in the result is this one
-pub record ReadOne {A : Type 0} (g : List written.Item → List A) (b : Bool) (us : List Token) (i : A) : Type 0 where
+-- an item whose part in the result is this one; it has OVER where f says so
+pub record ReadOne {A : Type 0} (g : List written.Item → List A) (f : A → Bool) (b : Bool) (us : List Token) (i : A) : Type 0 where
   pub tree : written.Item
   pub spelled : spell_item tree ≡ us
   pub grammar : IsItem tree
   pub total : is_total tree ≡ b
+  pub framed : is_framed tree ≡ f i
   pub alike : g (tree ∷ []) ≡ i ∷ []
 
-pub record ReadList {A : Type 0} (g : List written.Item → List A) (b : Bool) (us : List Token) (i : A) (is : List A) : Type 0 where
+pub record ReadList {A : Type 0} (g : List written.Item → List A) (f : A → Bool) (b : Bool) (us : List Token) (i : A) (is : List A) : Type 0 where
   pub first' : written.Item
   pub rest : List written.Item
   pub spelled : spell_items (first' ∷ rest) ≡ us
   pub grammar : AreItems (first' ∷ rest)
   pub total : is_total first' ≡ b
   pub others : first_other b rest ≡ None
+  pub over : has_over (first' ∷ rest) ≡ list_any f (i ∷ is)
   pub alike : g (first' ∷ rest) ≡ i ∷ is
 
 same_refl : (b : Bool) → same b b ≡ true
@@ -262,18 +264,21 @@ same_refl false = refl
 others_more : (b : Bool) (i : written.Item) (is : List written.Item) → is_total i ≡ b → first_other b is ≡ None → first_other b (i ∷ is) ≡ None
 others_more b i is e h = rw (e, same_refl b) h
 
-pub read_list : {A : Type 0} (f : A → written.Item) (C : A → Type 0) (g : List written.Item → List A) (b : Bool) → ((x : written.Item) (xs : List written.Item) → g (x ∷ xs) ≡ g (x ∷ []) ++ g xs)
-    → ((i : A) → C i → (us : List Token) → map placeless us ≡ spell_item (f i) → ReadOne g b us i) → (i : A) (is : List A) → AllByRecursion C (i ∷ is)
-    → (us : List Token) → map placeless us ≡ spell_items (map f (i ∷ is)) → ReadList g b us i is
-read_list f C g b parted one i [] c us h =
+over_with : {A : Type 0} (o : A → Bool) (t : written.Item) (ts : List written.Item) (i : A) (is : List A) → is_framed t ≡ o i → has_over ts ≡ list_any o is → has_over (t ∷ ts) ≡ list_any o (i ∷ is)
+over_with o t ts i is e h = ap (λ (x : Bool). x || has_over ts) e ∙ ap (λ (x : Bool). o i || x) h
+
+pub read_list : {A : Type 0} (f : A → written.Item) (C : A → Type 0) (g : List written.Item → List A) (o : A → Bool) (b : Bool) → ((x : written.Item) (xs : List written.Item) → g (x ∷ xs) ≡ g (x ∷ []) ++ g xs)
+    → ((i : A) → C i → (us : List Token) → map placeless us ≡ spell_item (f i) → ReadOne g o b us i) → (i : A) (is : List A) → AllByRecursion C (i ∷ is)
+    → (us : List Token) → map placeless us ≡ spell_items (map f (i ∷ is)) → ReadList g o b us i is
+read_list f C g o b parted one i [] c us h =
     let x = one i c.0 us h in
-    record { first' = x.tree; rest = []; spelled = x.spelled; grammar = (x.grammar, tt); total = x.total; others = refl; alike = x.alike }
-read_list f C g b parted one i (j ∷ is) c us h =
+    record { first' = x.tree; rest = []; spelled = x.spelled; grammar = (x.grammar, tt); total = x.total; others = refl; over = over_with o x.tree [] i [] x.framed refl; alike = x.alike }
+read_list f C g o b parted one i (j ∷ is) c us h =
     let more = spell_items (map f (j ∷ is)) in
     let p = parts us (spell_item (f i)) (token.Plain plain.Comma ∷ more) h in
     let a = first p.back (token.Plain plain.Comma) more p.back_is in
     let x = one i c.0 p.front p.front_is in
-    let r = read_list f C g b parted one j is c.1 a.rest a.rest_is in
+    let r = read_list f C g o b parted one j is c.1 a.rest a.rest_is in
     record {
       first' = x.tree;
       rest = r.first' ∷ r.rest;
@@ -281,6 +286,7 @@ read_list f C g b parted one i (j ∷ is) c us h =
       grammar = (x.grammar, r.grammar);
       total = x.total;
       others = others_more b r.first' r.rest r.total r.others;
+      over = over_with o x.tree (r.first' ∷ r.rest) i (j ∷ is) x.framed r.over;
       alike = parted x.tree (r.first' ∷ r.rest) ∙ ap (λ (ys : List _). ys ++ g (r.first' ∷ r.rest)) x.alike ∙ ap (λ (ys : List _). i ∷ ys) r.alike;
     }
 
@@ -294,11 +300,17 @@ pub plains_parted : (x : written.Item) (xs : List written.Item) → plains (x �
 plains_parted (written.Bare name) xs = refl
 plains_parted (written.Named e name) xs = refl
 plains_parted (written.Total a name) xs = refl
+plains_parted (written.Framed o name) xs = refl
 
 pub totals_parted : (x : written.Item) (xs : List written.Item) → totals (x ∷ xs) ≡ totals (x ∷ []) ++ totals xs
 totals_parted (written.Bare name) xs = refl
 totals_parted (written.Named e name) xs = refl
 totals_parted (written.Total a name) xs = refl
+totals_parted (written.Framed o name) xs = refl
+
+-- none of these has OVER
+abbrev pub no_over : {A : Type 0} → A → Bool
+no_over x = false
 
 bare_is : (e : ExprShape) (name : List ℕ) → is_bare e name ≡ true → e ≡ shape.Column name
 bare_is (shape.Column column) name h = ap shape.Column ((bytes_eq-Decides column name).0 h)
@@ -316,7 +328,7 @@ abbrev plain_item : ExprShape → List ℕ → ItemShape
 plain_item e name = record { expr = e; name = name }
 
 read_item_by : (b : Bool) (e : ExprShape) (name : List ℕ) → is_bare e name ≡ b → CanBeExpr e → (us : List Token)
-    → map placeless us ≡ spell_item (if b then written.Bare (name_of name) else written.Named (expr_of e) (name_of name)) → ReadOne plains false us (plain_item e name)
+    → map placeless us ≡ spell_item (if b then written.Bare (name_of name) else written.Named (expr_of e) (name_of name)) → ReadOne plains no_over false us (plain_item e name)
 read_item_by true e name q c us h =
     let a = alone us (token.Name (name_of name)) h in
     record {
@@ -324,6 +336,7 @@ read_item_by true e name q c us h =
       spelled = sym a.whole;
       grammar = tt;
       total = refl;
+      framed = refl;
       alike = ap (λ (z : ExprShape). plain_item z name ∷ []) (sym (bare_is e name q));
     }
 read_item_by false e name q c us h =
@@ -336,13 +349,14 @@ read_item_by false e name q c us h =
       spelled = two us p.front p.back (spell x.tree) _ p.whole x.spelled (cons (token.Plain plain.As) p.back a.rest _ a.whole (sym n.whole));
       grammar = x.grammar;
       total = refl;
+      framed = refl;
       alike = ap (λ (z : ExprShape). plain_item z name ∷ []) x.alike;
     }
 
-pub read_item : (i : ItemShape) → CanBeItem i → (us : List Token) → map placeless us ≡ spell_item (item_of i) → ReadOne plains false us i
+pub read_item : (i : ItemShape) → CanBeItem i → (us : List Token) → map placeless us ≡ spell_item (item_of i) → ReadOne plains no_over false us i
 read_item i c us h = read_item_by (is_bare i.expr i.name) i.expr i.name refl c.0 us h
 
-pub read_agg_item : (i : AggItemShape) → CanBeAggItem i → (us : List Token) → map placeless us ≡ spell_item (agg_item_of i) → ReadOne totals true us i
+pub read_agg_item : (i : AggItemShape) → CanBeAggItem i → (us : List Token) → map placeless us ≡ spell_item (agg_item_of i) → ReadOne totals no_over true us i
 read_agg_item i c us h =
     let p = parts us (spell_agg (agg_of i.agg)) (token.Plain plain.As ∷ token.Name (name_of i.name) ∷ []) h in
     let x = read_agg i.agg c.0 p.front p.front_is in
@@ -353,5 +367,6 @@ read_agg_item i c us h =
       spelled = two us p.front p.back (spell_agg x.tree) _ p.whole x.spelled (cons (token.Plain plain.As) p.back a.rest _ a.whole (sym n.whole));
       grammar = x.grammar;
       total = refl;
+      framed = refl;
       alike = ap (λ (z : AggShape). total_item z i.name ∷ []) x.alike;
     }

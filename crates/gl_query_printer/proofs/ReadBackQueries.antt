@@ -1,11 +1,9 @@
--- A canonical text is read back: selects, queries and statements.
+-- A canonical text is read back: queries.
 use Rattle.std.proofs.Common.{◌≡◌, ℕ, Bool, true, false, List, [], ◌∷◌, ◌++◌, map, Option, Some, None, option_map, refl, sym, ap, ◌∙◌}
-use Rattle.std.specs.List.{AllByRecursion}
 use Rattle.std.proofs.lemmas.Bool.{true≢false}
-use Rattle.gl_values.specs.declared.op.Op.TheVariants as op
 use Rattle.gl_query.specs.declared.tree.Measure.{Measure}
 use Rattle.gl_query.specs.declared.tree.Measure.TheVariants.{Tuples}
-use Rattle.gl_query.specs.Shapes.{ExprShape, ItemShape, AggItemShape, PickShape, QueryShape}
+use Rattle.gl_query.specs.Shapes.{ExprShape, FrameItemShape, PickShape, QueryShape}
 use Rattle.gl_query.specs.Shapes as shape
 use Rattle.gl_query_tokens.specs.declared.token.Join.{Join}
 use Rattle.gl_query_tokens.specs.declared.token.Join.TheVariants.{Union, Concat}
@@ -13,87 +11,18 @@ use Rattle.gl_query_tokens.specs.declared.token.Plain.TheVariants as plain
 use Rattle.gl_query_tokens.specs.declared.token.Token.{Token}
 use Rattle.gl_query_tokens.specs.declared.token.Token.TheVariants as token
 use Rattle.gl_query_reader.specs.Written as written
-use Rattle.gl_query_reader.specs.Written.{AreItems, IsPick, IsFilter, IsQuery, IsSource, IsTerm, spell, spell_items, spell_pick, spell_window, spell_row_window, spell_filter, spell_grouping, spell_query}
+use Rattle.gl_query_reader.specs.Written.{IsQuery, IsSource, IsTerm, spell_items, spell_pick, spell_window, spell_row_window, spell_filter, spell_grouping, spell_query}
 use Rattle.gl_query.specs.Trees as meant
-use Rattle.gl_query_reader.specs.Meaning.{expr_meaning, is_total, by_pick, by_items, query_meaning, join_meaning}
-use Rattle.gl_query_reader.specs.Mixed.{first_other, mixed_plain, mixed_pick, mixed_in, least}
+use Rattle.gl_query_reader.specs.Meaning.{expr_meaning, by_pick, query_meaning, join_meaning}
+use Rattle.gl_query_reader.specs.Mixed.{mixed_pick, mixed_in, least}
 use Rattle.gl_query.specs.Alike.{expr_alike, query_alike}
 use Rattle.gl_query_printer.specs.Brackets.{is_stream, is_term}
-use Rattle.gl_query_printer.specs.Canonical.{name_of, expr_of, item_of, agg_item_of, pick_of, bracketed_unless, source_of, term_of, window_of, grouping_of, query_of}
+use Rattle.gl_query_printer.specs.Canonical.{name_of, expr_of, agg_item_of, frame_item_of, pick_of, bracketed_unless, source_of, term_of, window_of, grouping_of, query_of}
 use Rattle.gl_query_printer.proofs.Places.{placeless, parts, first, alone, nothing}
-use Rattle.gl_query_printer.proofs.Writable.{CanBeItem, CanBeAggItem, Some', CanBePick, CanBeFilter, CanBeSource, IsNoStream}
+use Rattle.gl_query_printer.proofs.Writable.{CanBeSource, IsNoStream}
 use Rattle.gl_query_printer.proofs.ReadBackWindows.{read_window, read_row_window, read_grouping}
-use Rattle.gl_query_printer.proofs.ReadBack.{cons, two, read_expr, read_list, plains, totals, plains_parted, totals_parted, read_item, read_agg_item}
-
--- ---- selects
-
-pub record ReadPick (us : List Token) (p : PickShape) : Type 0 where
-  pub tree : written.Pick
-  pub spelled : spell_pick tree ≡ us
-  pub grammar : IsPick tree
-  pub mixed : mixed_pick tree None ≡ None
-  pub alike : (f : Option meant.ExprTree) (s : meant.QueryTree) → query_alike (by_pick tree f s) ≡ shape.Rows p (option_map expr_alike f) (query_alike s)
-
-items_pick : (i : written.Item) (is : List written.Item) → AreItems (i ∷ is) → IsPick (written.Items (i ∷ is))
-items_pick i is g = g
-
-mixed_by : (b : Bool) (i : written.Item) (is : List written.Item) → is_total i ≡ b → first_other b is ≡ None → mixed_plain (i ∷ is) ≡ None
-mixed_by b i is e h = rw e h
-
-plain_pick : (i : written.Item) (is : List written.Item) (f : Option meant.ExprTree) (s : meant.QueryTree) (x : ItemShape) (xs : List ItemShape) → is_total i ≡ false → plains (i ∷ is) ≡ x ∷ xs
-    → query_alike (by_items (is_total i) (i ∷ is) f s) ≡ shape.Rows (shape.Items (x ∷ xs)) (option_map expr_alike f) (query_alike s)
-plain_pick i is f s x xs e h = ap (λ (b : Bool). query_alike (by_items b (i ∷ is) f s)) e ∙ ap (λ (ys : List ItemShape). shape.Rows (shape.Items ys) (option_map expr_alike f) (query_alike s)) h
-
-read_pick : (p : PickShape) → CanBePick p → (us : List Token) → map placeless us ≡ spell_pick (pick_of p) → ReadPick us p
-read_pick shape.All c us h =
-    let a = alone us (token.Operator op.Mul 0) h in
-    record { tree = written.All a.at; spelled = sym a.whole; grammar = tt; mixed = refl; alike = λ f s. refl }
-read_pick (shape.Items []) c us h = absurd c.0
-read_pick (shape.Items (i ∷ is)) c us h =
-    let r = read_list item_of CanBeItem plains false plains_parted read_item i is c.1 us h in
-    record {
-      tree = written.Items (r.first' ∷ r.rest);
-      spelled = r.spelled;
-      grammar = items_pick r.first' r.rest r.grammar;
-      mixed = mixed_by false r.first' r.rest r.total r.others;
-      alike = λ f s. plain_pick r.first' r.rest f s i is r.total r.alike;
-    }
-
-pub record ReadAggs (us : List Token) (aggs : List AggItemShape) : Type 0 where
-  pub tree : written.Pick
-  pub spelled : spell_pick tree ≡ us
-  pub grammar : IsPick tree
-  pub mixed : mixed_pick tree None ≡ None
-  pub alike : (s : meant.QueryTree) → query_alike (by_pick tree None s) ≡ shape.Total aggs (query_alike s)
-
-total_pick : (i : written.Item) (is : List written.Item) (s : meant.QueryTree) (x : AggItemShape) (xs : List AggItemShape) → is_total i ≡ true → totals (i ∷ is) ≡ x ∷ xs
-    → query_alike (by_items (is_total i) (i ∷ is) None s) ≡ shape.Total (x ∷ xs) (query_alike s)
-total_pick i is s x xs e h = ap (λ (b : Bool). query_alike (by_items b (i ∷ is) None s)) e ∙ ap (λ (ys : List AggItemShape). shape.Total ys (query_alike s)) h
-
-read_aggs : (aggs : List AggItemShape) → Some' aggs → AllByRecursion CanBeAggItem aggs → (us : List Token) → map placeless us ≡ spell_items (map agg_item_of aggs) → ReadAggs us aggs
-read_aggs [] s c us h = absurd s
-read_aggs (i ∷ is) s c us h =
-    let r = read_list agg_item_of CanBeAggItem totals true totals_parted read_agg_item i is c us h in
-    record {
-      tree = written.Items (r.first' ∷ r.rest);
-      spelled = r.spelled;
-      grammar = items_pick r.first' r.rest r.grammar;
-      mixed = mixed_by true r.first' r.rest r.total r.others;
-      alike = λ s. total_pick r.first' r.rest s i is r.total r.alike;
-    }
-
-pub record ReadFilter (us : List Token) (f : Option ExprShape) : Type 0 where
-  pub tree : Option written.Expr
-  pub spelled : spell_filter tree ≡ us
-  pub grammar : IsFilter tree
-  pub alike : option_map expr_alike (option_map expr_meaning tree) ≡ f
-
-read_filter : (f : Option ExprShape) → CanBeFilter f → (us : List Token) → map placeless us ≡ spell_filter (option_map expr_of f) → ReadFilter us f
-read_filter None c us h = record { tree = None; spelled = sym (nothing us h); grammar = tt; alike = refl }
-read_filter (Some e) c us h =
-    let a = first us (token.Plain plain.Where) (spell (expr_of e)) h in
-    let x = read_expr e c a.rest a.rest_is in
-    record { tree = Some x.tree; spelled = cons (token.Plain plain.Where) us a.rest (spell x.tree) a.whole x.spelled; grammar = x.grammar; alike = ap Some x.alike }
+use Rattle.gl_query_printer.proofs.ReadBack.{cons, two}
+use Rattle.gl_query_printer.proofs.ReadBackSelects.{read_pick, read_aggs, read_frames, read_filter}
 
 -- ---- queries
 
@@ -128,6 +57,7 @@ no_stream : (q : QueryShape) → is_stream (query_of q) ≡ false → IsNoStream
 no_stream (shape.Read name) h = absurd (true≢false h)
 no_stream (shape.Rows pick filter source) h = tt
 no_stream (shape.Total aggs source) h = tt
+no_stream (shape.Frames items filter source) h = tt
 no_stream (shape.Each measure var source size advance body) h = tt
 no_stream (shape.PerGroup var source key groups body) h = tt
 no_stream (shape.Partition var source key groups size advance body) h = tt
@@ -215,6 +145,12 @@ alike_rows : (p : written.Pick) (f : Option written.Expr) (s : written.Query) (p
     → query_alike (by_pick p (option_map expr_meaning f) (query_meaning s)) ≡ shape.Rows pick filter source
 alike_rows p f s pick filter source a b c =
     a (option_map expr_meaning f) (query_meaning s) ∙ ap (λ (o : Option ExprShape). shape.Rows pick o (query_alike (query_meaning s))) b ∙ ap (shape.Rows pick filter) c
+
+alike_frames : (p : written.Pick) (f : Option written.Expr) (s : written.Query) (items : List FrameItemShape) (filter : Option ExprShape) (source : QueryShape)
+    → ((f : Option meant.ExprTree) (s : meant.QueryTree) → query_alike (by_pick p f s) ≡ shape.Frames items (option_map expr_alike f) (query_alike s)) → option_map expr_alike (option_map expr_meaning f) ≡ filter → query_alike (query_meaning s) ≡ source
+    → query_alike (by_pick p (option_map expr_meaning f) (query_meaning s)) ≡ shape.Frames items filter source
+alike_frames p f s items filter source a b c =
+    a (option_map expr_meaning f) (query_meaning s) ∙ ap (λ (o : Option ExprShape). shape.Frames items o (query_alike (query_meaning s))) b ∙ ap (shape.Frames items filter) c
 
 alike_each : (by measure : Measure) (var : List ℕ) (a b s m : ℕ) (x y source body : QueryShape) → by ≡ measure → x ≡ source → a ≡ s → b ≡ m → y ≡ body
     → shape.Each by var x a b y ≡ shape.Each measure var source s m body
@@ -317,6 +253,28 @@ read_query (shape.Total aggs source) c us h =
       term = λ n e. (x.grammar, y.grammar, tt);
       mixed = none_mixed (mixed_pick x.tree None) (mixed_in y.tree) x.mixed y.mixed;
       alike = x.alike (query_meaning y.tree) ∙ ap (shape.Total aggs) y.alike;
+    }
+read_query (shape.Frames items filter source) c us h =
+    let filters = spell_filter (option_map expr_of filter) in
+    let inner = spell_query (source_of (query_of source)) in
+    let picks = spell_items (map frame_item_of items) in
+    let a = first us (token.Plain plain.Select) (picks ++ token.Plain plain.From ∷ (inner ++ (filters ++ []))) h in
+    let p = parts a.rest picks (token.Plain plain.From ∷ (inner ++ (filters ++ []))) a.rest_is in
+    let x = read_frames items c.0 c.1 p.front p.front_is in
+    let b = first p.back (token.Plain plain.From) (inner ++ (filters ++ [])) p.back_is in
+    let d = parts b.rest inner (filters ++ []) b.rest_is in
+    let y = read_source (is_stream (query_of source)) source refl (λ vs k. read_query source c.3 vs k) d.front d.front_is in
+    let f = parts d.back filters [] d.back_is in
+    let z = read_filter filter c.2 f.front f.front_is in
+    record {
+      tree = written.Select x.tree y.tree None z.tree None;
+      spelled = cons (token.Plain plain.Select) us a.rest _ a.whole (two a.rest p.front p.back (spell_pick x.tree) _ p.whole x.spelled (cons (token.Plain plain.From) p.back b.rest _ b.whole
+          (two b.rest d.front d.back (spell_query y.tree) _ d.whole y.spelled (two d.back f.front f.back (spell_filter z.tree) [] f.whole z.spelled (sym (nothing f.back f.back_is))))));
+      grammar = λ n. (x.grammar, y.grammar, z.grammar);
+      bare = λ e. absurd (true≢false (sym e));
+      term = λ n e. (x.grammar, y.grammar, z.grammar);
+      mixed = none_mixed (mixed_pick x.tree None) (mixed_in y.tree) x.mixed y.mixed;
+      alike = alike_frames x.tree z.tree y.tree items filter source x.alike z.alike y.alike;
     }
 read_query (shape.Each measure var source size advance body) c us h =
     let end : List Token = token.Open 0 ∷ (spell_query (query_of body) ++ token.Plain plain.Close ∷ []) in

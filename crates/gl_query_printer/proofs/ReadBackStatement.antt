@@ -11,7 +11,7 @@ use Rattle.gl_query_reader.specs.Mixed.{mixed_in}
 use Rattle.gl_query.specs.Alike.{query_alike, statement_alike}
 use Rattle.gl_query_printer.specs.Canonical.{name_of, query_of, canonical_tokens}
 use Rattle.gl_query_printer.proofs.Places.{placeless, parts, first, alone}
-use Rattle.gl_query_printer.proofs.Writable.{CanBeStatement}
+use Rattle.gl_query_printer.proofs.WritableQueries.{CanBeStatement}
 use Rattle.gl_query_printer.proofs.ReadBack.{cons, two}
 use Rattle.gl_query_printer.proofs.ReadBackQueries.{read_query}
 

@@ -6,7 +6,7 @@ use Rattle.gl_values.specs.declared.op.Op.{Op}
 use Rattle.gl_values.specs.declared.op.Op.TheVariants as op
 use Rattle.gl_query.specs.declared.tree.Measure.{Measure}
 use Rattle.gl_query.specs.declared.tree.Measure.TheVariants.{Tuples, Time}
-use Rattle.gl_query.specs.Shapes.{ExprShape, AggShape, ItemShape, AggItemShape, PickShape, QueryShape, StatementShape}
+use Rattle.gl_query.specs.Shapes.{ExprShape, AggShape, ItemShape, AggItemShape, FrameAggShape, FrameShape, FrameItemShape, PickShape, QueryShape, StatementShape}
 use Rattle.gl_query.specs.Shapes as shape
 use Rattle.gl_query_tokens.specs.declared.token.Fold.{Fold}
 use Rattle.gl_query_tokens.specs.declared.token.Fold.TheVariants.{Sum, Min, Max, Avg}
@@ -14,23 +14,27 @@ use Rattle.gl_query_tokens.specs.declared.token.Join.{Join}
 use Rattle.gl_query_tokens.specs.declared.token.Join.TheVariants.{Union, Concat}
 use Rattle.gl_query_tokens.specs.declared.token.Plain.{Plain}
 use Rattle.gl_query_tokens.specs.declared.token.Plain.TheVariants as plain
+use Rattle.gl_query_tokens.specs.declared.token.Word.TheVariants as word
+use Rattle.gl_query_tokens.specs.declared.token.Spelling.TheVariants.{Small, Capital}
 use Rattle.gl_query_tokens.specs.declared.token.Token.{Token}
 use Rattle.gl_query_tokens.specs.declared.token.Token.TheVariants as token
 use Rattle.gl_query_tokens.specs.Tokens.{class_of, follow_of, sign_token}
-use Rattle.gl_query_tokens.specs.Words.{is_keyword, word_token}
+use Rattle.gl_query_tokens.specs.Words.{is_keyword, word_text, word_token}
 use Rattle.gl_query_reader.specs.Written as written
-use Rattle.gl_query_reader.specs.Written.{measure_word, spell, spell_numbers, spell_agg, spell_item, spell_items, spell_pick, spell_window, spell_filter, spell_grouping, spell_query}
-use Rattle.gl_query_printer.specs.Canonical.{name_of, num_of, fitted, expr_of, agg_of, is_bare, item_of, agg_item_of, pick_of, bracketed_unless, source_of, term_of, window_of, grouping_of, query_of, canonical_tokens}
+use Rattle.gl_query_reader.specs.Written.{measure_word, spell, spell_numbers, spell_agg, spell_over_agg, spell_filtering, spell_bound, spell_head, spell_rows, spell_over, spell_item, spell_items, spell_pick, spell_window, spell_filter, spell_grouping, spell_query}
+use Rattle.gl_query_printer.specs.Canonical.{name_of, num_of, fitted, expr_of, agg_of, is_bare, item_of, agg_item_of, over_agg_of, filtering_of, bound_of, rows_of, frame_by, frame_item_of, pick_of, bracketed_unless, source_of, term_of, window_of, grouping_of, query_of, canonical_tokens}
 use Rattle.gl_query_printer.specs.declared.text.Behind.{Behind}
-use Rattle.gl_query_printer.specs.declared.text.Behind.TheVariants.{Opening, Aggregate, Operand, Sign, Other}
+use Rattle.gl_query_printer.specs.declared.text.Behind.TheVariants.{Opening, Named, Operand, Sign, Other}
 use Rattle.gl_query_printer.specs.Spaced.{token_text, plain_text, operator_text, fold_text, join_text, place_behind}
 use Rattle.gl_query_printer.proofs.Lexed.{Readable, ReadAs, Apart, Ends, EndsIn, dash_ends, ends_apart, half_ends, letters_readable, no_number, read_word}
 use Rattle.gl_query_tokens.proofs.Sound.{is_word}
+use Rattle.gl_query_printer.proofs.ReadableWords.{over_readable, filter_word_readable, rows_word_readable, preceding_readable, unbounded_readable, lag_word, last_value_word}
 use Rattle.gl_query_printer.proofs.Places.{placeless}
 use Rattle.gl_query_tokens.proofs.Sound.{IsNameWord, IsSmall}
 use Rattle.gl_bits.proofs.AllLists.{all_append}
 use Rattle.gl_query_printer.proofs.Decimals.{number_readable}
-use Rattle.gl_query_printer.proofs.Writable.{CanBeExpr, AreWeights, CanBeAgg, CanBeItem, CanBeAggItem, CanBePick, CanBeFilter, CanBeSource, CanBeStatement}
+use Rattle.gl_query_printer.proofs.Writable.{CanBeExpr, AreWeights, CanBeAgg, CanBeItem, CanBeAggItem, CanBeFrameAgg, CanBeBack, CanBeFrame, CanBeFrameItem, CanBePick, CanBeFilter, CanBeSource}
+use Rattle.gl_query_printer.proofs.WritableQueries.{CanBeStatement}
 
 -- ---- tokens
 
@@ -146,7 +150,7 @@ join_readable Concat = no_number refl (λ p at bs e. read_word (codes "CONCAT") 
 behind_minus : (p : Behind) (bs : List ℕ) → EndsIn (place_behind p (token.Operator op.Sub 0)) bs → Apart bs
 unfolding place_behind
 behind_minus Opening bs e = e
-behind_minus Aggregate bs e = ends_apart bs e
+behind_minus Named bs e = ends_apart bs e
 behind_minus Operand bs e = e
 behind_minus Sign bs e = ends_apart bs e
 behind_minus Other bs e = ends_apart bs e
@@ -211,15 +215,55 @@ agg_readable (shape.Avg e) c = folded Avg e c
 agg_readable (shape.Wsum e ns) c =
     (wsum_readable, (open_readable, join (spell (expr_of e)) _ (expr_readable e c.0) (comma_readable, (left_readable, join (spell_numbers (map num_of ns)) _ (weights_readable ns c.1) (right_readable, closed)))))
 
-item_by : (b : Bool) (e : ExprShape) (name : List ℕ) → CanBeExpr e → IsNameWord name → AreReadable (spell_item (if b then written.Bare (name_of name) else written.Named (expr_of e) (name_of name)))
-item_by true e name c h = (name_readable name h, tt)
-item_by false e name c h = join (spell (expr_of e)) _ (expr_readable e c) (as_readable, (name_readable name h, tt))
+one_item : (b : Bool) (e : ExprShape) (name : List ℕ) → CanBeExpr e → IsNameWord name → AreReadable (spell_item (if b then written.Bare (name_of name) else written.Named (expr_of e) (name_of name)))
+one_item true e name c h = (name_readable name h, tt)
+one_item false e name c h = join (spell (expr_of e)) _ (expr_readable e c) (as_readable, (name_readable name h, tt))
 
 item_readable : (i : ItemShape) → CanBeItem i → AreReadable (spell_item (item_of i))
-item_readable i c = item_by (is_bare i.expr i.name) i.expr i.name c.0 c.1
+item_readable i c = one_item (is_bare i.expr i.name) i.expr i.name c.0 c.1
 
 agg_item_readable : (i : AggItemShape) → CanBeAggItem i → AreReadable (spell_item (agg_item_of i))
 agg_item_readable i c = join (spell_agg (agg_of i.agg)) _ (agg_readable i.agg c.0) (as_readable, (name_readable i.name c.1, tt))
+
+folded_over : (f : Fold) (e : ExprShape) → CanBeExpr e → AreReadable (spell_over_agg (written.FoldOf f 0 0 (expr_of e)))
+folded_over f e c = (fold_readable f, (open_readable, join (spell (expr_of e)) (token.Plain plain.Close ∷ []) (expr_readable e c) closed))
+
+over_agg_readable : (a : FrameAggShape) → CanBeFrameAgg a → AreReadable (spell_over_agg (over_agg_of a))
+over_agg_readable shape.CountOver c = (count_readable, (open_readable, closed))
+over_agg_readable (shape.SumOver e) c = folded_over Sum e c
+over_agg_readable (shape.MinOver e) c = folded_over Min e c
+over_agg_readable (shape.MaxOver e) c = folded_over Max e c
+over_agg_readable (shape.AvgOver e) c = folded_over Avg e c
+over_agg_readable (shape.LastOver e) c = (name_readable (word_text word.LastValue) last_value_word, (open_readable, join (spell (expr_of e)) (token.Plain plain.Close ∷ []) (expr_readable e c) closed))
+
+filtering_readable : (f : Option ExprShape) → CanBeFilter f → AreReadable (spell_filtering (filtering_of f))
+filtering_readable None c = tt
+filtering_readable (Some e) c = (filter_word_readable, (open_readable, (where_readable, join (spell (expr_of e)) (token.Plain plain.Close ∷ []) (expr_readable e c) closed)))
+
+bound_readable : (b : Option ℕ) → CanBeBack b → Readable (spell_bound (bound_of b))
+bound_readable None c = unbounded_readable
+bound_readable (Some n) c = number_readable n c
+
+under_name : (over : written.Over) (name : List ℕ) → AreReadable (spell_over over) → IsNameWord name → AreReadable (spell_item (written.Framed over (name_of name)))
+under_name over name h n = join (spell_over over) (token.Plain plain.As ∷ token.Name (name_of name) ∷ []) h (as_readable, (name_readable name n, tt))
+
+frame_readable : (f : FrameShape) (name : List ℕ) → CanBeFrame f → IsNameWord name → AreReadable (spell_item (frame_by f name))
+frame_readable (shape.Own e) name c n = one_item (is_bare e name) e name c n
+frame_readable (shape.Lag e back) name c n =
+    let head : written.OverHead = written.LagOf (Small 0) 0 (expr_of e) (Some (num_of back)) in
+    under_name (written.OverOf head (Capital 0) 0 None) name
+    (join (spell_head head) (token.Word word.Over 0 ∷ token.Open 0 ∷ token.Plain plain.Close ∷ [])
+    (name_readable (word_text word.Lag) lag_word, (open_readable, join (spell (expr_of e)) (token.Plain plain.Comma ∷ token.Number (num_of back) ∷ token.Plain plain.Close ∷ []) (expr_readable e c.0) (comma_readable, (number_readable back c.1, closed))))
+    (over_readable, (open_readable, closed))) n
+frame_readable (shape.Over agg filter back) name c n =
+    let head : written.OverHead = written.Ranged (over_agg_of agg) (filtering_of filter) in
+    under_name (written.OverOf head (Capital 0) 0 (Some (rows_of back))) name
+    (join (spell_head head) (token.Word word.Over 0 ∷ token.Open 0 ∷ (spell_rows (Some (rows_of back)) ++ token.Plain plain.Close ∷ []))
+    (join (spell_over_agg (over_agg_of agg)) (spell_filtering (filtering_of filter)) (over_agg_readable agg c.0) (filtering_readable filter c.1))
+    (over_readable, (open_readable, (rows_word_readable, (bound_readable back c.2, (preceding_readable, closed)))))) n
+
+frame_item_readable : (i : FrameItemShape) → CanBeFrameItem i → AreReadable (spell_item (frame_item_of i))
+frame_item_readable i c = frame_readable i.frame i.name c.0 c.1
 
 items_readable : {A : Type 0} (f : A → written.Item) (C : A → Type 0) → ((i : A) → C i → AreReadable (spell_item (f i))) → (is : List A) → AllByRecursion C is → AreReadable (spell_items (map f is))
 items_readable f C one [] c = tt
@@ -260,6 +304,8 @@ query_readable (shape.Rows pick filter source) c =
     (select_readable, join (spell_pick (pick_of pick)) _ (pick_readable pick c.0) (from_readable, join (spell_query (source_of (query_of source))) _ (bracketed _ (query_of source) (query_readable source c.2)) (join (spell_filter (option_map expr_of filter)) [] (filter_readable filter c.1) tt)))
 query_readable (shape.Total aggs source) c =
     (select_readable, join (spell_items (map agg_item_of aggs)) _ (items_readable agg_item_of CanBeAggItem agg_item_readable aggs c.1) (from_readable, join (spell_query (source_of (query_of source))) [] (bracketed _ (query_of source) (query_readable source c.2)) tt))
+query_readable (shape.Frames items filter source) c =
+    (select_readable, join (spell_items (map frame_item_of items)) _ (items_readable frame_item_of CanBeFrameItem frame_item_readable items c.1) (from_readable, join (spell_query (source_of (query_of source))) _ (bracketed _ (query_of source) (query_readable source c.3)) (join (spell_filter (option_map expr_of filter)) [] (filter_readable filter c.2) tt)))
 query_readable (shape.Each measure var source size advance body) c = (
   each_readable,
   (

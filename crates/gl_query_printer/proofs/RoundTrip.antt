@@ -12,7 +12,7 @@ use Rattle.gl_query_printer.proofs.Lexed.{text_has}
 use Rattle.gl_bits.proofs.AllLists.{all_mapped}
 use Rattle.gl_query_tokens.specs.declared.token.Lexeme.{Lexeme}
 use Rattle.gl_query_tokens.proofs.Sound.{IsSound, text_sound}
-use Rattle.gl_query_printer.proofs.Writable.{CanBeStatement, statement_can}
+use Rattle.gl_query_printer.proofs.WritableQueries.{CanBeStatement, statement_can}
 use Rattle.gl_query_printer.proofs.Readable.{statement_readable}
 use Rattle.gl_query_printer.proofs.ReadBackStatement.{read_statement}
 

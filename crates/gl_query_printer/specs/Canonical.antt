@@ -1,18 +1,23 @@
 -- The statement that the canonical text writes: brackets stand exactly where the grammar needs them.
-use Rattle.std.specs.Prelude.{ℕ, Bool, true, false, List, map, bytes_eq, nat_le, nat_lt, None, Some, option_map, if◌then◌else◌}
+use Rattle.std.specs.Prelude.{ℕ, Bool, true, false, List, map, bytes_eq, nat_le, nat_lt, Option, None, Some, option_map, if◌then◌else◌}
 use Rattle.gl_schema.specs.SchemaText.{kind_text}
 use Rattle.gl_query.specs.declared.tree.Measure.{Measure}
 use Rattle.gl_query.specs.declared.tree.Name.{Name}
 use Rattle.gl_query.specs.declared.tree.Num.{Num}
-use Rattle.gl_query.specs.Shapes.{ExprShape, AggShape, ItemShape, AggItemShape, PickShape, QueryShape, StatementShape}
+use Rattle.gl_query.specs.Shapes.{ExprShape, AggShape, ItemShape, AggItemShape, FrameAggShape, FrameShape, FrameItemShape, PickShape, QueryShape, StatementShape}
 use Rattle.gl_query.specs.Shapes as shape
 use Rattle.gl_query_tokens.specs.declared.token.Fold.TheVariants.{Sum, Min, Max, Avg}
 use Rattle.gl_query_tokens.specs.declared.token.Join.TheVariants.{Union, Concat}
+use Rattle.gl_query_tokens.specs.declared.token.Spelling.TheVariants.{Small, Capital}
 use Rattle.gl_query_tokens.specs.declared.token.Token.{Token}
+use Rattle.gl_query_reader.specs.declared.written.Bound.{Bound}
+use Rattle.gl_query_reader.specs.declared.written.Bound.TheVariants as bound
+use Rattle.gl_query_reader.specs.declared.written.FrameRows.{FrameRows}
+use Rattle.gl_query_reader.specs.declared.written.FrameRows.TheVariants as rows
 use Rattle.gl_query_reader.specs.declared.written.RowWindow.{RowWindow}
 use Rattle.gl_query_reader.specs.declared.written.Window.{Window}
 use Rattle.gl_query_reader.specs.declared.written.Grouping.{Grouping}
-use Rattle.gl_query_reader.specs.Written.{Expr, Column, Number, Minus, Letters, Brackets, Cast, Not, Binary, Agg, Count, Fold', Wsum, Item, Bare, Named, Total, Pick, All, Items, Query, Stream, InBrackets, Select, Windows, Groups, Join', Statement, level, looseness, left_looseness, spell_statement}
+use Rattle.gl_query_reader.specs.Written.{Expr, Column, Number, Minus, Letters, Brackets, Cast, Not, Binary, Agg, Count, Fold', Wsum, OverAgg, CountOf, FoldOf, LastOf, Filtering, FilterOf, LagOf, Ranged, OverOf, Item, Bare, Named, Total, Framed, Pick, All, Items, Query, Stream, InBrackets, Select, Windows, Groups, Join', Statement, level, looseness, left_looseness, spell_statement}
 use Rattle.gl_query_printer.specs.Brackets.{is_stream, is_term}
 
 -- what has no place of its own yet has place 0
@@ -54,9 +59,48 @@ abbrev pub is_bare : ExprShape → List ℕ → Bool
 is_bare (shape.Column column) name = bytes_eq column name
 is_bare e name = false
 
--- a column under its own name stands alone, every other item has AS
+-- a column under its own name stands alone, every other expression has AS
+abbrev pub item_by : ExprShape → List ℕ → Item
+item_by e name = if is_bare e name then Bare (name_of name) else Named (expr_of e) (name_of name)
+
+-- an expression under its name as the canonical text writes it
 abbrev pub item_of : ItemShape → Item
-item_of i = if is_bare i.expr i.name then Bare (name_of i.name) else Named (expr_of i.expr) (name_of i.name)
+item_of i = item_by i.expr i.name
+
+-- a function over the rows of a frame as the canonical text writes it, whose word is in small letters
+abbrev pub over_agg_of : FrameAggShape → OverAgg
+over_agg_of shape.CountOver = CountOf 0 0
+over_agg_of (shape.SumOver e) = FoldOf Sum 0 0 (expr_of e)
+over_agg_of (shape.MinOver e) = FoldOf Min 0 0 (expr_of e)
+over_agg_of (shape.MaxOver e) = FoldOf Max 0 0 (expr_of e)
+over_agg_of (shape.AvgOver e) = FoldOf Avg 0 0 (expr_of e)
+over_agg_of (shape.LastOver e) = LastOf (Small 0) 0 (expr_of e)
+
+-- FILTER and its condition, where there is one
+abbrev pub filtering_of : Option ExprShape → Option Filtering
+filtering_of None = None
+filtering_of (Some e) = Some (FilterOf (Capital 0) 0 (expr_of e))
+
+-- a number of rows, or UNBOUNDED
+abbrev pub bound_of : Option ℕ → Bound
+bound_of None = bound.Unbounded (Capital 0)
+bound_of (Some n) = bound.Number (num_of n)
+
+-- the rows of a frame without BETWEEN
+abbrev pub rows_of : Option ℕ → FrameRows
+rows_of back = rows.Short (Capital 0) (bound_of back) (Capital 0)
+
+-- a frame under its name: an expression over the row itself as any other, and else a function with OVER
+abbrev pub frame_by : FrameShape → List ℕ → Item
+frame_by (shape.Own e) name = item_by e name
+frame_by (shape.Lag e back) name =
+    Framed (OverOf (LagOf (Small 0) 0 (expr_of e) (Some (num_of back))) (Capital 0) 0 None) (name_of name)
+frame_by (shape.Over agg filter back) name =
+    Framed (OverOf (Ranged (over_agg_of agg) (filtering_of filter)) (Capital 0) 0 (Some (rows_of back))) (name_of name)
+
+-- a named frame as the canonical text writes it
+abbrev pub frame_item_of : FrameItemShape → Item
+frame_item_of i = frame_by i.frame i.name
 
 -- a named aggregate as the canonical text writes it
 abbrev pub agg_item_of : AggItemShape → Item
@@ -99,6 +143,8 @@ query_of (shape.Read name) = Stream (name_of name)
 query_of (shape.Rows pick filter source) =
     Select (pick_of pick) (source_of (query_of source)) None (option_map expr_of filter) None
 query_of (shape.Total aggs source) = Select (Items (map agg_item_of aggs)) (source_of (query_of source)) None None None
+query_of (shape.Frames items filter source) =
+    Select (Items (map frame_item_of items)) (source_of (query_of source)) None (option_map expr_of filter) None
 query_of (shape.Each measure var source size advance body) =
     Windows 0 (name_of var) (source_of (query_of source)) (window_of measure size advance) 0 (query_of body)
 query_of (shape.PerGroup var source key groups body) =

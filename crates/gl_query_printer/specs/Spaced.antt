@@ -8,10 +8,12 @@ use Rattle.gl_query_tokens.specs.declared.token.Join.{Join}
 use Rattle.gl_query_tokens.specs.declared.token.Join.TheVariants as join
 use Rattle.gl_query_tokens.specs.declared.token.Plain.{Plain}
 use Rattle.gl_query_tokens.specs.declared.token.Plain.TheVariants as plain
+use Rattle.gl_query_tokens.specs.declared.token.Word.{Word}
+use Rattle.gl_query_tokens.specs.declared.token.Word.TheVariants as word
 use Rattle.gl_query_tokens.specs.declared.token.Token.{Token}
 use Rattle.gl_query_tokens.specs.declared.token.Token.TheVariants as token
 use Rattle.gl_query_printer.specs.declared.text.Behind.{Behind}
-use Rattle.gl_query_printer.specs.declared.text.Behind.TheVariants.{Opening, Aggregate, Operand, Sign, Other}
+use Rattle.gl_query_printer.specs.declared.text.Behind.TheVariants.{Opening, Named, Operand, Sign, Other}
 
 -- how an operator is written
 unfoldable pub operator_text : Op → List ℕ
@@ -58,6 +60,19 @@ plain_text plain.RightSquare = codes "]"
 plain_text plain.Comma = codes ","
 plain_text plain.Semicolon = codes ";"
 
+-- a word of frames that is no name is in capitals
+unfoldable pub capitals : Word → List ℕ
+capitals word.Over = codes "OVER"
+capitals word.Filter = codes "FILTER"
+capitals word.Rows = codes "ROWS"
+capitals word.Preceding = codes "PRECEDING"
+capitals word.Unbounded = codes "UNBOUNDED"
+capitals word.Between = codes "BETWEEN"
+capitals word.Current = codes "CURRENT"
+capitals word.Row = codes "ROW"
+capitals word.Lag = codes "LAG"
+capitals word.LastValue = codes "LAST_VALUE"
+
 -- a number is written in decimal
 abbrev pub number_text : ℕ → List ℕ
 number_text n = decimal n
@@ -82,13 +97,14 @@ token_text (token.Join j at) = join_text j
 token_text (token.Each at) = codes "EACH"
 token_text (token.By at) = codes "BY"
 token_text (token.Size at) = codes "SIZE"
+token_text (token.Word w at) = capitals w
 token_text (token.Plain p) = plain_text p
 token_text token.Stray = []
 
 -- an operand may begin in a place
 abbrev pub begins_operand : Behind → Bool
 begins_operand Opening = true
-begins_operand Aggregate = false
+begins_operand Named = false
 begins_operand Operand = true
 begins_operand Sign = false
 begins_operand Other = false
@@ -102,9 +118,10 @@ is_sign b t = false
 abbrev pub behind_token : Token → Behind
 behind_token (token.Open at) = Opening
 behind_token (token.Plain plain.LeftSquare) = Opening
-behind_token (token.Count at) = Aggregate
-behind_token (token.Wsum at) = Aggregate
-behind_token (token.Fold f at) = Aggregate
+behind_token (token.Name name) = Named
+behind_token (token.Count at) = Named
+behind_token (token.Wsum at) = Named
+behind_token (token.Fold f at) = Named
 behind_token (token.Operator o at) = Operand
 behind_token (token.Not at) = Operand
 behind_token (token.Plain plain.Select) = Operand
@@ -133,11 +150,11 @@ abbrev pub is_number : Token → Bool
 is_number (token.Number n) = true
 is_number t = false
 
--- a space stands before a token, but none behind `(` and `[`, at the text's beginning, between an aggregate's name and
--- its bracket, or between a number's sign and the number
+-- a space stands before a token, but none behind `(` and `[`, at the text's beginning, between a name or the keyword of
+-- an aggregate and a bracket, or between a number's sign and the number
 abbrev pub needs_space : Behind → Token → Bool
 needs_space Opening t = false
-needs_space Aggregate t = not (is_opening t) && not (is_closing t)
+needs_space Named t = not (is_opening t) && not (is_closing t)
 needs_space Operand t = not (is_closing t)
 needs_space Sign t = not (is_number t)
 needs_space Other t = not (is_closing t)

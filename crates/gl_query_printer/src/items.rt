@@ -6,7 +6,7 @@ ghost use Rattle.gl_query_tokens.specs.declared.token.Token.TheVariants as token
 ghost use Rattle.gl_query_tokens.specs.declared.token.Plain.TheVariants as plain;
 ghost use Rattle.gl_query_tokens.specs.declared.token.Fold.TheVariants as fold;
 ghost use Rattle.gl_query_reader.specs.Written as written;
-ghost use Rattle.gl_query_printer.specs.Canonical.{name_of, num_of, expr_of, agg_of, is_bare, item_of, agg_item_of, pick_of};
+ghost use Rattle.gl_query_printer.specs.Canonical.{name_of, num_of, expr_of, agg_of, is_bare, item_by, item_of, agg_item_of, pick_of};
 
 use crate::expressions::put_expr;
 use crate::tokens::{put, put_name, put_number, put_open, put_plain};
@@ -15,8 +15,13 @@ use gl_query::{Agg, AggItem, Expr, Item, Name, Num, Op, Pick};
 use gl_query_tokens::{Fold, Plain, Token};
 use std::alloc::Global;
 
-// Puts an aggregate over the values of an expression.
-fn put_fold(alloc: Global, tokens: &mut Vec<Token>, fold: Fold, arg: &Expr) -> Result<(), Memory>
+/// Puts an aggregate over the values of an expression.
+pub(crate) fn put_fold(
+    alloc: Global,
+    tokens: &mut Vec<Token>,
+    fold: Fold,
+    arg: &Expr,
+) -> Result<(), Memory>
     ensures { OnOk result (tokens.new.items ≡ tokens.old.items
         ++ written.spell_agg (written.Fold' fold 0 0 (expr_of (expr_shape arg.now)))) }
 {
@@ -65,8 +70,8 @@ fn put_wsum(
     put_plain(tokens, Plain::Close)
 }
 
-// Puts the number of rows.
-fn put_count(tokens: &mut Vec<Token>) -> Result<(), Memory>
+/// Puts the number of rows.
+pub(crate) fn put_count(tokens: &mut Vec<Token>) -> Result<(), Memory>
     ensures { OnOk result (tokens.new.items ≡ tokens.old.items
         ++ written.spell_agg (written.Count 0 0)) }
 {
@@ -89,8 +94,8 @@ fn put_agg(alloc: Global, tokens: &mut Vec<Token>, agg: &Agg) -> Result<(), Memo
     }
 }
 
-// Puts AS and a name.
-fn put_as(alloc: Global, tokens: &mut Vec<Token>, name: &Name) -> Result<(), Memory>
+/// Puts AS and a name.
+pub(crate) fn put_as(alloc: Global, tokens: &mut Vec<Token>, name: &Name) -> Result<(), Memory>
     ensures { OnOk result (tokens.new.items ≡ tokens.old.items ++ token.Plain plain.As
         ∷ token.Name (name_of name.now.text) ∷ []) }
 {
@@ -108,16 +113,28 @@ fn is_bare(expr: &Expr, name: &Name) -> bool
     }
 }
 
-// Puts an item; a column under its own name stands alone.
+/// Puts an expression under a name; a column under its own name stands alone.
+pub(crate) fn put_named(
+    alloc: Global,
+    tokens: &mut Vec<Token>,
+    expr: &Expr,
+    name: &Name,
+) -> Result<(), Memory>
+    ensures { OnOk result (tokens.new.items ≡ tokens.old.items
+        ++ written.spell_item (item_by (expr_shape expr.now) name.now.text)) }
+{
+    if is_bare(expr, name) {
+        return put_name(alloc, tokens, name.text.as_slice());
+    }
+    put_expr(alloc, tokens, expr)?;
+    put_as(alloc, tokens, name)
+}
+
 fn put_item(alloc: Global, tokens: &mut Vec<Token>, item: &Item) -> Result<(), Memory>
     ensures { OnOk result (tokens.new.items ≡ tokens.old.items
         ++ written.spell_item (item_of (item_shape item.now))) }
 {
-    if is_bare(&item.expr, &item.name) {
-        return put_name(alloc, tokens, item.name.text.as_slice());
-    }
-    put_expr(alloc, tokens, &item.expr)?;
-    put_as(alloc, tokens, &item.name)
+    put_named(alloc, tokens, &item.expr, &item.name)
 }
 
 // Puts an aggregate under its name.

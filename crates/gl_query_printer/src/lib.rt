@@ -4,6 +4,7 @@
 mod expressions;
 mod items;
 pub mod laws;
+mod over_items;
 pub mod printing;
 mod queries;
 mod text;

@@ -5,7 +5,7 @@ ghost use Rattle.gl_query_printer.specs.Spaced as spec;
 
 use gl_bits::Memory;
 use gl_query::Op;
-use gl_query_tokens::{Fold, Join, Plain, Token};
+use gl_query_tokens::{Fold, Join, Plain, Token, Word};
 use itoa::Buffer;
 
 /// What the place behind a token is.
@@ -13,8 +13,8 @@ use itoa::Buffer;
 pub enum Behind {
     /// The text's beginning, or behind `(` or `[`.
     Opening,
-    /// Behind an aggregate's name.
-    Aggregate,
+    /// Behind a name, or behind the keyword of an aggregate.
+    Named,
     /// Behind any other token where an operand may begin.
     Operand,
     /// Behind the sign of a number.
@@ -106,6 +106,24 @@ fn plain_text(plain: Plain) -> &'static [u8]
     }
 }
 
+#[tactic(auto, unfolding(crate::specs::Spaced::capitals))]
+fn capitals(word: Word) -> &'static [u8]
+    ensures { result.now ≡ spec.capitals word }
+{
+    match word {
+        Word::Over => b"OVER",
+        Word::Filter => b"FILTER",
+        Word::Rows => b"ROWS",
+        Word::Preceding => b"PRECEDING",
+        Word::Unbounded => b"UNBOUNDED",
+        Word::Between => b"BETWEEN",
+        Word::Current => b"CURRENT",
+        Word::Row => b"ROW",
+        Word::Lag => b"LAG",
+        Word::LastValue => b"LAST_VALUE",
+    }
+}
+
 // Appends a text literal.
 #[tactic(auto, unfolding(crate::specs::Spaced::letters_text))]
 fn put_letters(text: &mut Vec<u8>, letters: &[u8]) -> Result<(), Memory>
@@ -136,6 +154,7 @@ fn put_token(text: &mut Vec<u8>, token: &Token) -> Result<(), Memory>
         Token::Each { .. } => put(text, b"EACH"),
         Token::By { .. } => put(text, b"BY"),
         Token::Size { .. } => put(text, b"SIZE"),
+        Token::Word { word, .. } => put(text, capitals(*word)),
         Token::Plain(plain) => put(text, plain_text(*plain)),
         Token::Stray => Ok(()),
     }
@@ -147,7 +166,7 @@ fn begins_operand(behind: Behind) -> bool
 {
     match behind {
         Behind::Opening | Behind::Operand => true,
-        Behind::Aggregate | Behind::Sign | Behind::Other => false,
+        Behind::Named | Behind::Sign | Behind::Other => false,
     }
 }
 
@@ -167,7 +186,8 @@ fn behind_token(token: &Token) -> Behind
 {
     match token {
         Token::Open { .. } | Token::Plain(Plain::LeftSquare) => Behind::Opening,
-        Token::Count { .. } | Token::Wsum { .. } | Token::Fold { .. } => Behind::Aggregate,
+        Token::Name(_) => Behind::Named,
+        Token::Count { .. } | Token::Wsum { .. } | Token::Fold { .. } => Behind::Named,
         Token::Operator { .. } | Token::Not { .. } => Behind::Operand,
         Token::Plain(Plain::Select | Plain::Where | Plain::Comma) => Behind::Operand,
         _ => Behind::Other,
@@ -220,7 +240,7 @@ fn needs_space(behind: Behind, token: &Token) -> bool
 {
     match behind {
         Behind::Opening => false,
-        Behind::Aggregate => !is_opening(token) && !is_closing(token),
+        Behind::Named => !is_opening(token) && !is_closing(token),
         Behind::Sign => !is_number(token),
         Behind::Operand | Behind::Other => !is_closing(token),
     }

@@ -1,29 +1,23 @@
 -- What was read so far begins a statement.
-use Rattle.std.proofs.Common.{◌≡◌, ℕ, true, false, List, [], ◌∷◌, ◌++◌, Option, Some, None, refl, sym, ap, ◌∙◌, arith}
+use Rattle.std.proofs.Common.{◌≡◌, ℕ, true, false, List, [], ◌∷◌, ◌++◌, Option, Some, None, refl, sym, ◌∙◌}
 use Rattle.std.specs.Prelude.{codes}
-use Rattle.gl_values.specs.declared.kind.Kind.TheVariants.{Unsigned}
-use Rattle.gl_schema.specs.SchemaText.{kind_text}
-use Rattle.gl_schema.specs.SchemaFaults.{kind_named}
-use Rattle.gl_schema.specs.Written.{is_written, kinds}
-use Rattle.gl_schema.proofs.KindTable.{kind_is_named}
 use Rattle.gl_query.specs.declared.tree.Measure.TheVariants.{Tuples}
 use Rattle.gl_query.specs.declared.tree.Name.{Name}
 use Rattle.gl_query.specs.declared.tree.Num.{Num}
 use Rattle.gl_values.specs.declared.op.Op.TheVariants as op
-use Rattle.gl_query_tokens.specs.declared.token.Fold.{Fold}
 use Rattle.gl_query_tokens.specs.declared.token.Plain.TheVariants as plain
 use Rattle.gl_query_tokens.specs.declared.token.Token.{Token}
 use Rattle.gl_query_tokens.specs.declared.token.Token.TheVariants as token
-use Rattle.gl_query_tokens.specs.Sorts.{plain_eq, is_plain}
+use Rattle.gl_query_tokens.specs.Sorts.{plain_eq}
 use Rattle.gl_query_reader.specs.declared.written.Window.{Window}
 use Rattle.gl_query_reader.specs.declared.written.Grouping.{Grouping}
-use Rattle.gl_query_reader.specs.Written.{Expr, Column, Brackets, Cast, Not, Binary, Agg, Fold', Wsum, Item, Pick, All, Items, Query, Stream, InBrackets, Select, Groups, Join', Statement}
-use Rattle.gl_query_reader.specs.States.{after_window, measured, row_window, State, Frame, Head, WindowHead, BodyHead, GroupsHead, Unnamed, SelectHead, EachHead, SelectWindow, EachWindow, GroupsWindow, WindowsHead, GroupsHead', SelectGroups, EachGroups, UnnamedExpr, UnnamedAgg, LeftOf, NotOf, BracketOf, InCast, InItem, InFold, InWsum, InFilter, JoinOf, InQuery, InSource, InBody, WantKind, WantWeightsOpen, WantWeight, HaveWeight, WantWsumClose, WantAs, WantItemName, HaveItem, WantSource, HaveSource, HaveEachSource, WantSize, WantSizeNumber, WantAdvance, WantAdvanceNumber, WantMeasure, WantWindowClose, WantKey, WantGroups, WantGroupsNumber, WantBody, HaveTerm, WantName, HaveName, WantEnd}
-use Rattle.gl_query_reader.specs.Machine.{Reduced, reduced, have_term, after_expr, after_source, after_groups, body_of, under_name, is_operator, step, finish}
+use Rattle.gl_query_reader.specs.Written.{Expr, Agg, Wsum, Item, Pick, All, Items, Query, Stream, InBrackets, Select, Groups, Join', Statement}
+use Rattle.gl_query_reader.specs.States.{after_window, measured, row_window, State, Frame, Head, WindowHead, BodyHead, GroupsHead, Unnamed, SelectHead, EachHead, SelectWindow, EachWindow, GroupsWindow, WindowsHead, GroupsHead', SelectGroups, EachGroups, UnnamedAgg, JoinOf, InQuery, InSource, InBody, WantWeightsOpen, WantWeight, HaveWeight, WantWsumClose, HaveAgg, WantItemName, HaveItem, WantSource, HaveSource, HaveEachSource, WantSize, WantSizeNumber, WantAdvance, WantAdvanceNumber, WantMeasure, WantWindowClose, WantKey, WantGroups, WantGroupsNumber, WantBody, HaveTerm, WantName, HaveName, WantEnd}
+use Rattle.gl_query_reader.specs.Machine.{have_term, after_source, body_of, under_name, step, finish}
+use Rattle.gl_query_reader.specs.Windowed.{after_groups}
 use Rattle.gl_query_reader.proofs.Steps.{steps, state, is-machine}
-use Rattle.gl_query_reader.proofs.ReadExpressions.{wanting, having, reduced-not, reduced-binary, looseness-le}
 use Rattle.gl_query_reader.proofs.ReadQueries.{Follows, close-follows, into-follows, have-source, have-whole, term-alone}
-use Rattle.gl_query_reader.proofs.Said.{InExpr, InTerm, Fits}
+use Rattle.gl_query_reader.proofs.Said.{InTerm, Fits}
 use Rattle.gl_bits.proofs.Machines.{machine-append}
 
 abbrev pub some_name : Name
@@ -31,14 +25,6 @@ some_name = record { text = codes "a"; at = 0 }
 
 abbrev pub some_number : Num
 some_number = record { value = 1; at = 0 }
-
--- the word of a kind
-abbrev pub some_word : Name
-some_word = record { text = kind_text (Unsigned 1); at = 0 }
-
-word_is_kind : kind_named some_word.text ≡ Some (Unsigned 1)
-unfolding is_written kinds
-word_is_kind = kind_is_named (Unsigned 1) refl
 
 -- tokens that lead to a whole statement
 pub record Ends (s : State) : Type 0 where
@@ -178,19 +164,19 @@ item_name_step fs items u = refl
 pub item_name_ends : (fs : List Frame) (items : List Item) (u : Unnamed) → Fits fs → InTerm fs → Ends (state (WantItemName items u) fs)
 item_name_ends fs items u f i = by_token _ (state (HaveItem (items ++ under_name u some_name ∷ [])) fs) (token.Name some_name) (item_name_step fs items u) (have_item_ends fs (items ++ under_name u some_name ∷ []) f i)
 
-as_step : (fs : List Frame) (items : List Item) (agg : Agg) → step (state (WantAs items agg) fs) (token.Plain plain.As) ≡ Some (state (WantItemName items (UnnamedAgg agg)) fs)
+as_step : (fs : List Frame) (items : List Item) (agg : Agg) → step (state (HaveAgg items agg) fs) (token.Plain plain.As) ≡ Some (state (WantItemName items (UnnamedAgg agg)) fs)
 unfolding step plain_eq
 as_step fs items agg = refl
 
-pub as_ends : (fs : List Frame) (items : List Item) (agg : Agg) → Fits fs → InTerm fs → Ends (state (WantAs items agg) fs)
+pub as_ends : (fs : List Frame) (items : List Item) (agg : Agg) → Fits fs → InTerm fs → Ends (state (HaveAgg items agg) fs)
 as_ends fs items agg f i = by_token _ (state (WantItemName items (UnnamedAgg agg)) fs) (token.Plain plain.As) (as_step fs items agg) (item_name_ends fs items (UnnamedAgg agg) f i)
 
-wsum_close_step : (fs : List Frame) (items : List Item) (at open' : ℕ) (e : Expr) (ns : List Num) → step (state (WantWsumClose items at open' e ns) fs) (token.Plain plain.Close) ≡ Some (state (WantAs items (Wsum at open' e ns)) fs)
+wsum_close_step : (fs : List Frame) (items : List Item) (at open' : ℕ) (e : Expr) (ns : List Num) → step (state (WantWsumClose items at open' e ns) fs) (token.Plain plain.Close) ≡ Some (state (HaveAgg items (Wsum at open' e ns)) fs)
 unfolding step plain_eq
 wsum_close_step fs items at open' e ns = refl
 
 pub wsum_close_ends : (fs : List Frame) (items : List Item) (at open' : ℕ) (e : Expr) (ns : List Num) → Fits fs → InTerm fs → Ends (state (WantWsumClose items at open' e ns) fs)
-wsum_close_ends fs items at open' e ns f i = by_token _ (state (WantAs items (Wsum at open' e ns)) fs) (token.Plain plain.Close) (wsum_close_step fs items at open' e ns) (as_ends fs items (Wsum at open' e ns) f i)
+wsum_close_ends fs items at open' e ns f i = by_token _ (state (HaveAgg items (Wsum at open' e ns)) fs) (token.Plain plain.Close) (wsum_close_step fs items at open' e ns) (as_ends fs items (Wsum at open' e ns) f i)
 
 have_weight_step : (fs : List Frame) (items : List Item) (at open' : ℕ) (e : Expr) (ns : List Num) → step (state (HaveWeight items at open' e ns) fs) (token.Plain plain.RightSquare) ≡ Some (state (WantWsumClose items at open' e ns) fs)
 unfolding step plain_eq
@@ -212,82 +198,6 @@ weights_open_step fs items at open' e = refl
 
 pub weights_open_ends : (fs : List Frame) (items : List Item) (at open' : ℕ) (e : Expr) → Fits fs → InTerm fs → Ends (state (WantWeightsOpen items at open' e) fs)
 weights_open_ends fs items at open' e f i = by_token _ (state (WantWeight items at open' e []) fs) (token.Plain plain.LeftSquare) (weights_open_step fs items at open' e) (weight_ends fs items at open' e [] f i)
-
--- ---- behind an expression
-
-pub record ExprEnds (fs : List Frame) (e : Expr) : Type 0 where
-  pub next : Token
-  pub operator : is_operator next ≡ false
-  pub there : State
-  pub goes : (let r = reduced 6 fs e in after_expr r.0 r.1 next) ≡ Some there
-  pub ends : Ends there
-
-expr_step : (fs : List Frame) (e : Expr) (t : Token) → is_operator t ≡ false → step (having e fs) t ≡ (let r = reduced 6 fs e in after_expr r.0 r.1 t)
-unfolding step
-expr_step fs e t o = rw o refl
-
-expr_then : (fs : List Frame) (e : Expr) → ExprEnds fs e → Ends (having e fs)
-expr_then fs e x = by_token (having e fs) x.there x.next (expr_step fs e x.next x.operator ∙ x.goes) x.ends
-
-kind_steps : (fs : List Frame) (at open' : ℕ) (e : Expr) → steps (state (WantKind at open' e) fs) (token.Name some_word ∷ token.Plain plain.Close ∷ []) ≡ Some (having (Cast at open' e some_word (Unsigned 1)) fs)
-unfolding steps step plain_eq
-kind_steps fs at open' e = rw word_is_kind refl
-
-pub kind_then : (fs : List Frame) (at open' : ℕ) (e : Expr) → ExprEnds fs (Cast at open' e some_word (Unsigned 1)) → Ends (state (WantKind at open' e) fs)
-kind_then fs at open' e x = by_tokens _ (having (Cast at open' e some_word (Unsigned 1)) fs) (token.Name some_word ∷ token.Plain plain.Close ∷ []) (kind_steps fs at open' e) (expr_then fs (Cast at open' e some_word (Unsigned 1)) x)
-
--- the token that ends an expression where nothing binds it
-brackets_go : (at : ℕ) (fs : List Frame) (e : Expr) → (let r = reduced 6 (BracketOf at ∷ fs) e in after_expr r.0 r.1 (token.Plain plain.Close)) ≡ Some (having (Brackets at e) fs)
-unfolding reduced plain_eq
-brackets_go at fs e = refl
-
-cast_goes : (at open' : ℕ) (fs : List Frame) (e : Expr) → (let r = reduced 6 (InCast at open' ∷ fs) e in after_expr r.0 r.1 (token.Plain plain.As)) ≡ Some (state (WantKind at open' e) fs)
-unfolding reduced plain_eq
-cast_goes at open' fs e = refl
-
-item_goes : (items : List Item) (fs : List Frame) (e : Expr) → (let r = reduced 6 (InItem items ∷ fs) e in after_expr r.0 r.1 (token.Plain plain.As)) ≡ Some (state (WantItemName items (UnnamedExpr e)) fs)
-unfolding reduced plain_eq
-item_goes items fs e = refl
-
-fold_goes : (items : List Item) (fold : Fold) (at open' : ℕ) (fs : List Frame) (e : Expr) → (let r = reduced 6 (InFold items fold at open' ∷ fs) e in after_expr r.0 r.1 (token.Plain plain.Close)) ≡ Some (state (WantAs items (Fold' fold at open' e)) fs)
-unfolding reduced plain_eq
-fold_goes items fold at open' fs e = refl
-
-wsum_goes : (items : List Item) (at open' : ℕ) (fs : List Frame) (e : Expr) → (let r = reduced 6 (InWsum items at open' ∷ fs) e in after_expr r.0 r.1 (token.Plain plain.Comma)) ≡ Some (state (WantWeightsOpen items at open' e) fs)
-unfolding reduced plain_eq
-wsum_goes items at open' fs e = refl
-
-filter_goes : (pick : Pick) (source : Query) (window : Option Window) (fs : List Frame) (e : Expr) (t : Token) → is_plain plain.Group t ≡ false → (let r = reduced 6 (InFilter pick source window ∷ fs) e in after_expr r.0 r.1 t) ≡ have_term fs (Select pick source window (Some e) None) t
-unfolding reduced
-filter_goes pick source window fs e t g = rw g refl
-
--- what waits for an expression ends
-pub expr_ends : (fs : List Frame) (e : Expr) → Fits fs → InExpr fs → ExprEnds fs e
-expr_ends (LeftOf l o at ∷ fs) e f i =
-    let x = expr_ends fs (Binary o at l e) f.1 f.0.0 in
-    record { next = x.next; operator = x.operator; there = x.there; goes = ap (λ (r : Reduced). after_expr r.0 r.1 x.next) (reduced-binary 6 o at l fs e (looseness-le o)) ∙ x.goes; ends = x.ends }
-expr_ends (NotOf at ∷ fs) e f i =
-    let x = expr_ends fs (Not at e) f.1 f.0.0 in
-    record { next = x.next; operator = x.operator; there = x.there; goes = ap (λ (r : Reduced). after_expr r.0 r.1 x.next) (reduced-not 6 at fs e (omega arith)) ∙ x.goes; ends = x.ends }
-expr_ends (BracketOf at ∷ fs) e f i = record { next = token.Plain plain.Close; operator = refl; there = having (Brackets at e) fs; goes = brackets_go at fs e; ends = expr_then fs (Brackets at e) (expr_ends fs (Brackets at e) f.1 f.0) }
-expr_ends (InCast at open' ∷ fs) e f i = record { next = token.Plain plain.As; operator = refl; there = state (WantKind at open' e) fs; goes = cast_goes at open' fs e; ends = kind_then fs at open' e (expr_ends fs (Cast at open' e some_word (Unsigned 1)) f.1 f.0) }
-expr_ends (InItem items ∷ fs) e f i = record { next = token.Plain plain.As; operator = refl; there = state (WantItemName items (UnnamedExpr e)) fs; goes = item_goes items fs e; ends = item_name_ends fs items (UnnamedExpr e) f.1 f.0.0 }
-expr_ends (InFold items fold at open' ∷ fs) e f i = record { next = token.Plain plain.Close; operator = refl; there = state (WantAs items (Fold' fold at open' e)) fs; goes = fold_goes items fold at open' fs e; ends = as_ends fs items (Fold' fold at open' e) f.1 f.0.0 }
-expr_ends (InWsum items at open' ∷ fs) e f i = record { next = token.Plain plain.Comma; operator = refl; there = state (WantWeightsOpen items at open' e) fs; goes = wsum_goes items at open' fs e; ends = weights_open_ends fs items at open' e f.1 f.0.0 }
-expr_ends (InFilter pick source window ∷ fs) e f i =
-    let x = term_ends fs (Select pick source window (Some e) None) f.1 f.0.0 in
-    record { next = x.next; operator = x.follows.operator; there = x.there; goes = filter_goes pick source window fs e x.next x.follows.group ∙ x.goes; ends = x.ends }
-expr_ends fs e f i = absurd i
-
-pub have_expr_ends : (fs : List Frame) (e : Expr) → Fits fs → InExpr fs → Ends (having e fs)
-have_expr_ends fs e f i = expr_then fs e (expr_ends fs e f i)
-
-operand_step : (fs : List Frame) → step (wanting fs) (token.Name some_name) ≡ Some (having (Column some_name) fs)
-unfolding step
-operand_step fs = refl
-
-pub operand_ends : (fs : List Frame) → Fits fs → InExpr fs → Ends (wanting fs)
-operand_ends fs f i = by_token (wanting fs) (having (Column some_name) fs) (token.Name some_name) (operand_step fs) (have_expr_ends fs (Column some_name) f i)
 
 -- ---- sources, windows and groups
 

@@ -5,19 +5,24 @@ use Rattle.gl_values.specs.declared.kind.Kind.TheVariants.{Unsigned}
 use Rattle.gl_query.specs.declared.tree.Name.{Name}
 use Rattle.gl_query_tokens.specs.declared.token.Fold.{Fold}
 use Rattle.gl_query_tokens.specs.declared.token.Plain.TheVariants as plain
+use Rattle.gl_query_tokens.specs.declared.token.Spelling.{Spelling}
+use Rattle.gl_query_tokens.specs.declared.token.Spelling.TheVariants.{Capital}
 use Rattle.gl_query_tokens.specs.declared.token.Token.{Token}
 use Rattle.gl_query_tokens.specs.declared.token.Token.TheVariants as token
 use Rattle.gl_query_tokens.specs.Sorts.{plain_eq}
+use Rattle.gl_query_reader.specs.declared.over_state.Call.{Call}
 use Rattle.gl_query_reader.specs.declared.written.Window.{Window}
-use Rattle.gl_query_reader.specs.Written.{Expr, Column, Minus, Cast, Count, Item, Pick, All, Query, Stream}
-use Rattle.gl_query_reader.specs.States.{State, Control, Frame, SelectHead, EachHead, SelectGroups, InCast, InItem, InFold, InWsum, WantTerm, WantItem, WantOperand, WantMinus, HaveExpr, WantCastOpen, WantKind, WantCastClose, WantCountOpen, WantCountClose, WantFoldOpen, WantWsumOpen, WantWeightsOpen, WantWeight, HaveWeight, WantWsumClose, WantAs, WantItemName, HaveItem, WantFrom, WantSource, HaveSource, HaveEachSource, WantSize, WantSizeNumber, WantAdvance, WantAdvanceNumber, WantMeasure, WantWindowClose, WantBy, WantKey, WantGroups, WantGroupsNumber, WantVar, WantIn, WantBody, HaveTerm, WantName, HaveName, WantEnd}
+use Rattle.gl_query_reader.specs.Written.{Expr, Column, Minus, Cast, Count, OverAgg, Item, Pick, All, Query, Stream}
+use Rattle.gl_query_reader.specs.States.{State, Control, Frame, SelectHead, EachHead, SelectGroups, InCast, InItem, InFold, InWsum, InCall, InCondition, WantTerm, WantItem, WantOperand, WantMinus, HaveExpr, WantCastOpen, WantKind, WantCastClose, WantCountOpen, WantCountClose, WantFoldOpen, WantWsumOpen, WantWeightsOpen, WantWeight, HaveWeight, WantWsumClose, HaveAgg, WantCallOpen, WantBack, WantLagClose, WantOver, WantFilterOpen, WantFilterWhere, WantOverOpen, InOver, WantOverAs, WantItemName, HaveItem, WantFrom, WantSource, HaveSource, HaveEachSource, WantSize, WantSizeNumber, WantAdvance, WantAdvanceNumber, WantMeasure, WantWindowClose, WantBy, WantKey, WantGroups, WantGroupsNumber, WantVar, WantIn, WantBody, HaveTerm, WantName, HaveName, WantEnd}
 use Rattle.gl_query_reader.specs.Machine.{step}
 use Rattle.gl_query_reader.proofs.Steps.{steps, state}
 use Rattle.gl_query_reader.proofs.ReadExpressions.{wanting, having}
 use Rattle.gl_query_reader.specs.Grammar.{CanBegin}
 use Rattle.gl_query_reader.proofs.Said.{InTerm, Fits, Holds, Read}
 use Rattle.gl_query_reader.proofs.Sound.{sound_steps, sound_finish}
-use Rattle.gl_query_reader.proofs.Begins.{some_name, some_number, some_word, Ends, by_token, by_tokens, all_text, named_ends, closed_ends, unnamed_ends, have_term_ends, have_source_ends, want_body_ends, have_each_ends, have_item_ends, item_name_ends, as_ends, wsum_close_ends, have_weight_ends, weight_ends, weights_open_ends, kind_then, expr_ends, have_expr_ends, operand_ends, want_source_ends, window_close_ends, measure_ends, advance_number_ends, advance_ends, size_number_ends, size_ends, groups_number_ends, groups_ends, key_ends}
+use Rattle.gl_query_reader.proofs.Begins.{some_name, some_number, Ends, by_token, by_tokens, all_text, named_ends, closed_ends, unnamed_ends, have_term_ends, have_source_ends, want_body_ends, have_each_ends, have_item_ends, item_name_ends, as_ends, wsum_close_ends, have_weight_ends, weight_ends, weights_open_ends, want_source_ends, window_close_ends, measure_ends, advance_number_ends, advance_ends, size_number_ends, size_ends, groups_number_ends, groups_ends, key_ends}
+use Rattle.gl_query_reader.proofs.BeginsFrames.{over_as_ends, in_over_ends, over_open_ends, over_ends, lag_close_ends, back_ends}
+use Rattle.gl_query_reader.proofs.BeginsExpressions.{some_word, kind_then, expr_ends, have_expr_ends, operand_ends}
 
 -- ---- single tokens before these
 
@@ -45,12 +50,12 @@ count_open_step : (fs : List Frame) (items : List Item) (at : ℕ) → step (sta
 unfolding step
 count_open_step fs items at = refl
 
-count_close_step : (fs : List Frame) (items : List Item) (at open' : ℕ) → step (state (WantCountClose items at open') fs) (token.Plain plain.Close) ≡ Some (state (WantAs items (Count at open')) fs)
+count_close_step : (fs : List Frame) (items : List Item) (at open' : ℕ) → step (state (WantCountClose items at open') fs) (token.Plain plain.Close) ≡ Some (state (HaveAgg items (Count at open')) fs)
 unfolding step plain_eq
 count_close_step fs items at open' = refl
 
 count_close_ends : (fs : List Frame) (items : List Item) (at open' : ℕ) → Fits fs → InTerm fs → Ends (state (WantCountClose items at open') fs)
-count_close_ends fs items at open' f i = by_token _ (state (WantAs items (Count at open')) fs) (token.Plain plain.Close) (count_close_step fs items at open') (as_ends fs items (Count at open') f i)
+count_close_ends fs items at open' f i = by_token _ (state (HaveAgg items (Count at open')) fs) (token.Plain plain.Close) (count_close_step fs items at open') (as_ends fs items (Count at open') f i)
 
 fold_open_step : (fs : List Frame) (items : List Item) (fold : Fold) (at : ℕ) → step (state (WantFoldOpen items fold at) fs) (token.Open 0) ≡ Some (wanting (InFold items fold at 0 ∷ fs))
 unfolding step
@@ -79,6 +84,21 @@ var_step : (fs : List Frame) (at : ℕ) → step (state (WantVar at) fs) (token.
 unfolding step
 var_step fs at = refl
 
+call_open_step : (fs : List Frame) (items : List Item) (c : Call) (at : ℕ) → step (state (WantCallOpen items c at) fs) (token.Open 0) ≡ Some (wanting (InCall items c (Capital at) 0 ∷ fs))
+unfolding step
+call_open_step fs items c at = refl
+
+filter_open_step : (fs : List Frame) (items : List Item) (a : OverAgg) (w : Spelling) → step (state (WantFilterOpen items a w) fs) (token.Open 0) ≡ Some (state (WantFilterWhere items a w 0) fs)
+unfolding step
+filter_open_step fs items a w = refl
+
+filter_where_step : (fs : List Frame) (items : List Item) (a : OverAgg) (w : Spelling) (open' : ℕ) → step (state (WantFilterWhere items a w open') fs) (token.Plain plain.Where) ≡ Some (wanting (InCondition items a w open' ∷ fs))
+unfolding step plain_eq
+filter_where_step fs items a w open' = refl
+
+filter_where_ends : (fs : List Frame) (items : List Item) (a : OverAgg) (w : Spelling) (open' : ℕ) → Fits fs → Holds (WantFilterWhere items a w open') fs → Ends (state (WantFilterWhere items a w open') fs)
+filter_where_ends fs items a w open' f h = by_token _ (wanting (InCondition items a w open' ∷ fs)) (token.Plain plain.Where) (filter_where_step fs items a w open') (operand_ends (InCondition items a w open' ∷ fs) (h, f) tt)
+
 -- every state goes on to a whole statement
 pub state_ends : (c : Control) (fs : List Frame) → Fits fs → Holds c fs → Ends (state c fs)
 state_ends WantTerm fs f h = by_tokens (state WantTerm fs) (state (HaveSource (All 0) (Stream some_name) None) fs) all_text (all_steps fs) (have_source_ends fs (All 0) (Stream some_name) None f h)
@@ -97,7 +117,16 @@ state_ends (WantWeightsOpen items at open' e) fs f h = weights_open_ends fs item
 state_ends (WantWeight items at open' e ns) fs f h = weight_ends fs items at open' e ns f h.0
 state_ends (HaveWeight items at open' e ns) fs f h = have_weight_ends fs items at open' e ns f h.0
 state_ends (WantWsumClose items at open' e ns) fs f h = wsum_close_ends fs items at open' e ns f h.0
-state_ends (WantAs items agg) fs f h = as_ends fs items agg f h.0
+state_ends (HaveAgg items agg) fs f h = as_ends fs items agg f h.0
+state_ends (WantCallOpen items c at) fs f h = by_token _ (wanting (InCall items c (Capital at) 0 ∷ fs)) (token.Open 0) (call_open_step fs items c at) (operand_ends (InCall items c (Capital at) 0 ∷ fs) (h, f) tt)
+state_ends (WantBack items w open' e) fs f h = back_ends fs items w open' e f h.0
+state_ends (WantLagClose items w open' e n) fs f h = lag_close_ends fs items w open' e n f h.0
+state_ends (WantOver items head) fs f h = over_ends fs items head f h.0
+state_ends (WantFilterOpen items a w) fs f h = by_token _ (state (WantFilterWhere items a w 0) fs) (token.Open 0) (filter_open_step fs items a w) (filter_where_ends fs items a w 0 f h)
+state_ends (WantFilterWhere items a w open') fs f h = filter_where_ends fs items a w open' f h
+state_ends (WantOverOpen items head w) fs f h = over_open_ends fs items head w f h.0
+state_ends (InOver items head w open' r) fs f h = in_over_ends fs items head w open' r f h.0
+state_ends (WantOverAs items o) fs f h = over_as_ends fs items o f h.0
 state_ends (WantItemName items u) fs f h = item_name_ends fs items u f h.0
 state_ends (HaveItem items) fs f h = have_item_ends fs items f h.0
 state_ends (WantFrom at) fs f h = by_token _ (state (WantSource (SelectHead (All at))) fs) (token.Plain plain.From) (from_step fs at) (want_source_ends fs (SelectHead (All at)) f h)

@@ -3,14 +3,18 @@ pub mod Loop
 pub mod Eaches
 pub mod ItemLists
 pub mod Steps
+pub mod RowsSaid
 pub mod ReadExpressions
 pub mod ReadItems
 pub mod ReadQueries
 pub mod Said
 pub mod SoundTerms
 pub mod SoundExpressions
+pub mod SoundFrames
 pub mod Sound
 pub mod Begins
+pub mod BeginsFrames
+pub mod BeginsExpressions
 pub mod BeginsAll
 pub mod Meets
 pub mod Exact
@@ -18,6 +22,7 @@ pub mod Verdicts
 pub mod Meanings
 pub mod Small
 pub mod Limiting
+pub mod LimitingFrames
 pub mod LimitingItems
 pub mod LimitingQueries
 pub mod Regular

@@ -124,7 +124,7 @@ limits (Cast at open' e word kind) b o j rest g m s h =
     let inside = small_at (b + 1) k j false (omega arith) v g in
     let last : Keeps (counts (b + 1) k j false) (behind ++ rest) =
     under inside (under inside (under (small_at (b + 1 - 1) k j false (omega arith) v g) (keeps_at (b + 1 - 1) k j (omega arith) (omega arith) refl h))) in
-    under (small_at b (o + 1) j false (omega arith) (omega arith) g) (under (small_at (b + 1) (o + 1) j true (omega arith) (omega arith) g)
+    under (small_at b (o + 1) j true (omega arith) (omega arith) g) (under (small_at (b + 1) (o + 1) j true (omega arith) (omega arith) g)
     (paired (spell e) behind rest (limits e (b + 1) (o + 1) j (behind ++ rest) g (omega arith) v last)))
 limits (Not at e) b o j rest g m s h =
     let u : o + (operators_of e + 1) ≤ 256 = s in
@@ -135,3 +135,21 @@ limits (Binary op at l r) b o j rest g m s h =
     let right : List Token = token.Operator op at ∷ spell r in
     let behind = limits r b (o + operators_of l + 1) j rest g (omega arith) (omega arith) (keeps_at b (o + operators_of l + 1 + operators_of r) j refl (omega arith) refl h) in
     paired (spell l) right rest (limits l b o j (right ++ rest) g (omega arith) (omega arith) (under (small_at b (o + operators_of l + 1) j true (omega arith) (omega arith) g) behind))
+
+-- ---- what is known behind a part of a query
+
+abbrev pub close : Token
+close = token.Plain plain.Close
+
+-- what is known behind a part of a query: how deep it was, that its whole expressions were short, and counts that the rest keeps
+pub record Behind (b j depth : ℕ) (short : Type 0) (rest : List Token) : Type 0 where
+  pub depth' : b + depth ≤ 32
+  pub short' : short
+  pub operators : ℕ
+  pub operand : Bool
+  pub small : operators ≤ 256
+  pub rest' : Keeps (counts b operators j operand) rest
+
+-- the rest keeps the limits, whatever was counted of the last expression
+abbrev pub Any : ℕ → ℕ → List Token → Type 0
+Any b j rest = (o : ℕ) (d : Bool) → o ≤ 256 → Keeps (counts b o j d) rest

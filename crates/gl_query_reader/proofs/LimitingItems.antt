@@ -13,24 +13,9 @@ use Rattle.gl_query_reader.specs.declared.written.Grouping.{Grouping}
 use Rattle.gl_query_reader.specs.Limits.{IsSmall}
 use Rattle.gl_query_reader.specs.Sizes.{expr_depth, agg_depth, item_depth, items_depth, pick_depth, filter_depth, operators_of, AggIsShort, ItemIsShort, PickIsShort, FilterIsShort}
 use Rattle.gl_query_reader.specs.States.{measured}
-use Rattle.gl_query_reader.specs.Written.{Expr, Agg, Count, Fold', Wsum, Item, Bare, Named, Total, Pick, All, Items, spell, spell_numbers, spell_agg, spell_item, spell_items, spell_pick, spell_window, spell_if_window, spell_row_window, spell_filter, spell_grouping, spell_if_grouping}
-use Rattle.gl_query_reader.proofs.Limiting.{counts, Keeps, over, under, parted, paired, keeps_at, small_at, limited, limits}
-
-abbrev pub close : Token
-close = token.Plain plain.Close
-
--- what is known behind a part of a query: how deep it was, that its whole expressions were short, and counts that the rest keeps
-pub record Behind (b j depth : ℕ) (short : Type 0) (rest : List Token) : Type 0 where
-  pub depth' : b + depth ≤ 32
-  pub short' : short
-  pub operators : ℕ
-  pub operand : Bool
-  pub small : operators ≤ 256
-  pub rest' : Keeps (counts b operators j operand) rest
-
--- the rest keeps the limits, whatever was counted of the last expression
-abbrev pub Any : ℕ → ℕ → List Token → Type 0
-Any b j rest = (o : ℕ) (d : Bool) → o ≤ 256 → Keeps (counts b o j d) rest
+use Rattle.gl_query_reader.specs.Written.{Expr, Agg, Count, Fold', Wsum, Item, Bare, Named, Total, Framed, Pick, All, Items, spell, spell_numbers, spell_agg, spell_over, spell_item, spell_items, spell_pick, spell_window, spell_if_window, spell_row_window, spell_filter, spell_grouping, spell_if_grouping}
+use Rattle.gl_query_reader.proofs.Limiting.{counts, Keeps, over, under, parted, paired, keeps_at, small_at, limited, limits, close, Behind, Any}
+use Rattle.gl_query_reader.proofs.LimitingFrames.{limited_over, limits_over}
 
 -- ---- aggregates
 
@@ -126,6 +111,10 @@ limited_item (Total a name) b j rest f h =
     let tail : List Token = token.Plain plain.As ∷ token.Name name ∷ [] in
     let x = limited_agg a b j true (tail ++ rest) (parted (spell_agg a) tail rest h) in
     record { depth' = x.depth'; short' = x.short'; operators = x.operators; operand = false; small = x.small; rest' = (over (over x.rest').1).1 }
+limited_item (Framed o name) b j rest f h =
+    let tail : List Token = token.Plain plain.As ∷ token.Name name ∷ [] in
+    let x = limited_over o b j true (tail ++ rest) (parted (spell_over o) tail rest h) in
+    record { depth' = x.depth'; short' = x.short'; operators = x.operators; operand = false; small = x.small; rest' = (over (over x.rest').1).1 }
 
 limits_item : (i : Item) (b j : ℕ) (rest : List Token) → j ≤ 64 → b + item_depth i ≤ 32 → ItemIsShort i → Any b j rest → Keeps (counts b 0 j true) (spell_item i ++ rest)
 limits_item (Bare name) b j rest g m s h = under (small_at b 0 j false (omega arith) (omega arith) g) (h 0 false (omega arith))
@@ -140,6 +129,10 @@ limits_item (Total a name) b j rest g m s h =
     let tail : List Token = token.Plain plain.As ∷ token.Name name ∷ [] in
     paired (spell_agg a) tail rest (limits_agg a b j true (tail ++ rest) g m s
     (λ o d' v. (let f = small_at b o j false (omega arith) v g in under f (under f (h o false v)))))
+limits_item (Framed o name) b j rest g m s h =
+    let tail : List Token = token.Plain plain.As ∷ token.Name name ∷ [] in
+    paired (spell_over o) tail rest (limits_over o b j true (tail ++ rest) g m s
+    (λ n d' v. (let f = small_at b n j false (omega arith) v g in under f (under f (h n false v)))))
 
 limited_items : (is : List Item) (b j : ℕ) (rest : List Token) → IsSmall (counts b 0 j true) → Keeps (counts b 0 j true) (spell_items is ++ rest) → Behind b j (items_depth is) (AllByRecursion ItemIsShort is) rest
 limited_items [] b j rest f h =

@@ -3,11 +3,11 @@ use Rattle.std.proofs.Common.{◌≡◌, ℕ, ◌+◌, ◌-◌, ◌≤◌, Bool,
 use Rattle.gl_query_tokens.specs.declared.token.Plain.TheVariants as plain
 use Rattle.gl_query_tokens.specs.declared.token.Token.{Token}
 use Rattle.gl_query_tokens.specs.declared.token.Token.TheVariants as token
-use Rattle.gl_query_reader.specs.Limits.{IsSmall, none_counted, keeps_limits}
+use Rattle.gl_query_reader.specs.Limits.{IsSmall, none_counted, operators_open, keeps_limits}
 use Rattle.gl_query_reader.specs.Sizes.{pick_depth, filter_depth, depth_of, joins_of, AreShort, IsWithinLimits, LimitsAreCounted}
 use Rattle.gl_query_reader.specs.Written.{Query, Stream, InBrackets, Select, Windows, Groups, Join', Statement, spell_pick, spell_window, spell_if_window, spell_row_window, spell_filter, spell_grouping, spell_if_grouping, spell_query, spell_end, spell_statement}
-use Rattle.gl_query_reader.proofs.Limiting.{counts, Keeps, over, under, parted, paired, keeps_at, small_at}
-use Rattle.gl_query_reader.proofs.LimitingItems.{close, Any, limited_pick, limits_pick, window_to, window_from, row_window_to, row_window_from, grouping_to, grouping_from, if_window_to, if_window_from, if_grouping_to, if_grouping_from, limited_filter, limits_filter}
+use Rattle.gl_query_reader.proofs.Limiting.{counts, Keeps, over, under, parted, paired, keeps_at, small_at, close, Any}
+use Rattle.gl_query_reader.proofs.LimitingItems.{limited_pick, limits_pick, window_to, window_from, row_window_to, row_window_from, grouping_to, grouping_from, if_window_to, if_window_from, if_grouping_to, if_grouping_from, limited_filter, limits_filter}
 
 -- the same behind a query, whose joins count too
 record Past (b j depth joins : ℕ) (short : Type 0) (rest : List Token) : Type 0 where
@@ -32,7 +32,7 @@ limited_in (Stream name) b o j d rest f h =
     }
 limited_in (InBrackets at q) b o j d rest f h =
     let p = over h in
-    let x = limited_in q (b + 1) o j true (close ∷ rest) p.0 (parted (spell_query q) (close ∷ []) rest p.1) in
+    let x = limited_in q (b + 1) (operators_open (counts b o j d)) j true (close ∷ rest) p.0 (parted (spell_query q) (close ∷ []) rest p.1) in
     record {
       depth' = (let t : b + 1 + depth_of q ≤ 32 = x.depth' in omega arith);
       joins' = x.joins';
@@ -73,7 +73,7 @@ limited_in (Windows at var source window open' body) b o j d rest f h =
     let p = over (over (over h).1).1 in
     let y = limited_in source b o j false (tail ++ rest) p.0 (parted (spell_query source) tail rest p.1) in
     let q = over (window_to window b y.operators k y.operand (token.Open open' ∷ (bodies ++ rest)) (parted (spell_window window) (token.Open open' ∷ bodies) rest y.rest')) in
-    let z = limited_in body (b + 1) y.operators k true (close ∷ rest) q.0 (parted (spell_query body) (close ∷ []) rest q.1) in
+    let z = limited_in body (b + 1) 0 k true (close ∷ rest) q.0 (parted (spell_query body) (close ∷ []) rest q.1) in
     record {
       depth' = (let t : b + depth_of source ≤ 32 = y.depth' in let u : b + 1 + depth_of body ≤ 32 = z.depth' in omega arith);
       joins' = (let t : j + joins_of source + joins_of body ≤ 64 = z.joins' in omega arith);
@@ -92,7 +92,7 @@ limited_in (Groups at var source grouping window open' body) b o j d rest f h =
     let y = limited_in source b o j false (tail ++ rest) p.0 (parted (spell_query source) tail rest p.1) in
     let v = grouping_to grouping b y.operators k y.operand (windowed ++ rest) (parted (spell_grouping grouping) windowed rest y.rest') in
     let q = over (row_window_to window b y.operators k (token.Open open' ∷ (bodies ++ rest)) (parted (spell_row_window window) (token.Open open' ∷ bodies) rest v)) in
-    let z = limited_in body (b + 1) y.operators k true (close ∷ rest) q.0 (parted (spell_query body) (close ∷ []) rest q.1) in
+    let z = limited_in body (b + 1) 0 k true (close ∷ rest) q.0 (parted (spell_query body) (close ∷ []) rest q.1) in
     record {
       depth' = (let t : b + depth_of source ≤ 32 = y.depth' in let u : b + 1 + depth_of body ≤ 32 = z.depth' in omega arith);
       joins' = (let t : j + joins_of source + joins_of body ≤ 64 = z.joins' in omega arith);
@@ -118,13 +118,19 @@ limited_in (Join' join at l r) b o j d rest f h =
       rest' = keeps_at {j = k + 1 + joins_of r} b y.operators (j + (joins_of l + joins_of r + 1)) refl refl (omega arith) y.rest';
     }
 
+open_small : (b o j : ℕ) (d : Bool) → o ≤ 256 → operators_open (counts b o j d) ≤ 256
+open_small b o j true f = f
+open_small b o j false f = omega arith
+
 limits_in : (q : Query) (b o j : ℕ) (d : Bool) (rest : List Token) → o ≤ 256 → b + depth_of q ≤ 32 → j + joins_of q ≤ 64 → AreShort q → Any b (j + joins_of q) rest → Keeps (counts b o j d) (spell_query q ++ rest)
 limits_in (Stream name) b o j d rest f m n s h =
     under (small_at b o j false (omega arith) f (omega arith)) (keeps_at b o j refl refl (omega arith) (h o false f))
 limits_in (InBrackets at q) b o j d rest f m n s h =
     let t : b + (depth_of q + 1) ≤ 32 = m in
     let k = j + joins_of q in
-    under (small_at (b + 1) o j true (omega arith) f (omega arith)) (paired (spell_query q) (close ∷ []) rest (limits_in q (b + 1) o j true (close ∷ rest) f (omega arith) n s
+    let o2 = operators_open (counts b o j d) in
+    let f2 : o2 ≤ 256 = open_small b o j d f in
+    under (small_at (b + 1) o2 j true (omega arith) f2 (omega arith)) (paired (spell_query q) (close ∷ []) rest (limits_in q (b + 1) o2 j true (close ∷ rest) f2 (omega arith) n s
     (λ o' d' v. under (small_at (b + 1 - 1) o' k false (omega arith) v n) (keeps_at {b = b} (b + 1 - 1) o' k (omega arith) refl refl (h o' false v)))))
 limits_in (Select pick source window filter grouping) b o j d rest f m n s h =
     let t : b + max (pick_depth pick) (max (depth_of source) (filter_depth filter)) ≤ 32 = m in
@@ -152,9 +158,9 @@ limits_in (Windows at var source window open' body) b o j d rest f m n s h =
     let g : k ≤ 64 = omega arith in
     let p : i ≤ 64 = omega arith in
     let last : Any (b + 1) i (close ∷ rest) = λ o' d' v. under (small_at (b + 1 - 1) o' i false (omega arith) v p) (keeps_at {b = b} (b + 1 - 1) o' i (omega arith) refl (omega arith) (h o' false v)) in
-    let within : Any b k (token.Open open' ∷ (bodies ++ rest)) =
-    λ o' d' v. under (small_at (b + 1) o' k true (omega arith) v g) (paired (spell_query body) (close ∷ []) rest (limits_in body (b + 1) o' k true (close ∷ rest) v (omega arith) p s.1 last)) in
-    let windowed : Any b k (tail ++ rest) = λ o' d' v. paired (spell_window window) (token.Open open' ∷ bodies) rest (window_from window b o' k d' (token.Open open' ∷ (bodies ++ rest)) e v g (within o' false v)) in
+    let within : (o' : ℕ) → o' ≤ 256 → Keeps (counts b o' k false) (token.Open open' ∷ (bodies ++ rest)) =
+    λ o' v. under (small_at (b + 1) 0 k true (omega arith) (omega arith) g) (paired (spell_query body) (close ∷ []) rest (limits_in body (b + 1) 0 k true (close ∷ rest) (omega arith) (omega arith) p s.1 last)) in
+    let windowed : Any b k (tail ++ rest) = λ o' d' v. paired (spell_window window) (token.Open open' ∷ bodies) rest (window_from window b o' k d' (token.Open open' ∷ (bodies ++ rest)) e v g (within o' v)) in
     let c = small_at b o j false e f (omega arith) in
     under c (under c (under c (paired (spell_query source) tail rest (limits_in source b o j false (tail ++ rest) f (omega arith) g s.0 windowed))))
 limits_in (Groups at var source grouping window open' body) b o j d rest f m n s h =
@@ -169,10 +175,10 @@ limits_in (Groups at var source grouping window open' body) b o j d rest f m n s
     let g : k ≤ 64 = omega arith in
     let p : i ≤ 64 = omega arith in
     let last : Any (b + 1) i (close ∷ rest) = λ o' d' v. under (small_at (b + 1 - 1) o' i false (omega arith) v p) (keeps_at {b = b} (b + 1 - 1) o' i (omega arith) refl (omega arith) (h o' false v)) in
-    let within : Any b k (token.Open open' ∷ (bodies ++ rest)) =
-    λ o' d' v. under (small_at (b + 1) o' k true (omega arith) v g) (paired (spell_query body) (close ∷ []) rest (limits_in body (b + 1) o' k true (close ∷ rest) v (omega arith) p s.1 last)) in
+    let within : (o' : ℕ) → o' ≤ 256 → Keeps (counts b o' k false) (token.Open open' ∷ (bodies ++ rest)) =
+    λ o' v. under (small_at (b + 1) 0 k true (omega arith) (omega arith) g) (paired (spell_query body) (close ∷ []) rest (limits_in body (b + 1) 0 k true (close ∷ rest) (omega arith) (omega arith) p s.1 last)) in
     let windowed : (o' : ℕ) → o' ≤ 256 → Keeps (counts b o' k false) (behind ++ rest) =
-    λ o' v. paired (spell_row_window window) (token.Open open' ∷ bodies) rest (row_window_from window b o' k (token.Open open' ∷ (bodies ++ rest)) e v g (within o' false v)) in
+    λ o' v. paired (spell_row_window window) (token.Open open' ∷ bodies) rest (row_window_from window b o' k (token.Open open' ∷ (bodies ++ rest)) e v g (within o' v)) in
     let grouped : Any b k (tail ++ rest) = λ o' d' v. paired (spell_grouping grouping) behind rest (grouping_from grouping b o' k d' (behind ++ rest) e v g (windowed o' v)) in
     let c = small_at b o j false e f (omega arith) in
     under c (under c (under c (paired (spell_query source) tail rest (limits_in source b o j false (tail ++ rest) f (omega arith) g s.0 grouped))))

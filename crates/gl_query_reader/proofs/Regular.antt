@@ -14,6 +14,7 @@ use Rattle.gl_query.specs.Laws.{TreesAreAlike}
 use Rattle.gl_query.specs.Names.{HasNames}
 use Rattle.gl_query.specs.Sizes.{IsSmall, QueryIsSmall}
 use Rattle.gl_query_tokens.specs.declared.token.Plain.TheVariants as plain
+use Rattle.gl_query_tokens.specs.declared.token.Word.TheVariants as word
 use Rattle.gl_query_tokens.specs.declared.token.Token.{Token}
 use Rattle.gl_query_tokens.specs.declared.token.Token.TheVariants as token
 use Rattle.gl_query_tokens.specs.declared.token.Lexeme.{Lexeme}
@@ -24,7 +25,7 @@ use Rattle.gl_query_reader.specs.Grammar.{bare_tokens, HaveStatement, HasStateme
 use Rattle.gl_query_reader.specs.Limits.{keeps_limits, none_counted}
 use Rattle.gl_query_reader.specs.Meaning.{expr_meaning, query_meaning, statement_meaning}
 use Rattle.gl_query_reader.specs.Written as written
-use Rattle.gl_query_reader.proofs.Meanings.{AggHolds, FilterHolds, GroupingHolds, ItemHolds, PickHolds, QueryHolds, query_in}
+use Rattle.gl_query_reader.proofs.Meanings.{AggHolds, OverAggHolds, FilteringHolds, HeadHolds, OverHolds, FilterHolds, GroupingHolds, ItemHolds, PickHolds, QueryHolds, query_in}
 use Rattle.gl_query_reader.proofs.Small.{statement_small}
 
 abbrev pub AreSound : List Token → Type 0
@@ -53,6 +54,24 @@ agg_names (written.Wsum at open' e ns) h =
     let tail : List Token = token.Plain plain.Comma ∷ token.Plain plain.LeftSquare ∷ (written.spell_numbers ns ++ token.Plain plain.RightSquare ∷ token.Plain plain.Close ∷ []) in
     expr_names e (sound_parts (written.spell e) tail h.1.1).0
 
+over_agg_names : (a : written.OverAgg) → AreSound (written.spell_over_agg a) → OverAggHolds HasNames a
+over_agg_names (written.CountOf at open') h = tt
+over_agg_names (written.FoldOf f at open' e) h = expr_names e (sound_parts (written.spell e) (token.Plain plain.Close ∷ []) h.1.1).0
+over_agg_names (written.LastOf w open' e) h = expr_names e (sound_parts (written.spell e) (token.Plain plain.Close ∷ []) h.1.1).0
+
+filtering_names : (f : Option written.Filtering) → AreSound (written.spell_filtering f) → FilteringHolds HasNames f
+filtering_names None h = tt
+filtering_names (Some (written.FilterOf w open' e)) h = expr_names e (sound_parts (written.spell e) (token.Plain plain.Close ∷ []) h.1.1.1).0
+
+head_names : (head : written.OverHead) → AreSound (written.spell_head head) → HeadHolds HasNames head
+head_names (written.LagOf w open' e back) h = expr_names e (sound_parts (written.spell e) (written.spell_back back ++ token.Plain plain.Close ∷ []) h.1.1).0
+head_names (written.Ranged a f) h =
+    let p = sound_parts (written.spell_over_agg a) (written.spell_filtering f) h in
+    (over_agg_names a p.0, filtering_names f p.1)
+
+over_names : (o : written.Over) → AreSound (written.spell_over o) → OverHolds HasNames o
+over_names (written.OverOf head w open' r) h = head_names head (sound_parts (written.spell_head head) (written.spell_word word.Over w ∷ token.Open open' ∷ (written.spell_rows r ++ token.Plain plain.Close ∷ [])) h).0
+
 item_names : (i : written.Item) → AreSound (written.spell_item i) → ItemHolds HasNames IsName i
 item_names (written.Bare name) h = (h.0.name, h.0.name)
 item_names (written.Named e name) h =
@@ -61,6 +80,9 @@ item_names (written.Named e name) h =
 item_names (written.Total a name) h =
     let p = sound_parts (written.spell_agg a) (token.Plain plain.As ∷ token.Name name ∷ []) h in
     (agg_names a p.0, p.1.1.0.name)
+item_names (written.Framed o name) h =
+    let p = sound_parts (written.spell_over o) (token.Plain plain.As ∷ token.Name name ∷ []) h in
+    (over_names o p.0, p.1.1.0.name)
 
 items_names : (is : List written.Item) → AreSound (written.spell_items is) → AllByRecursion (ItemHolds HasNames IsName) is
 items_names [] h = tt

@@ -11,14 +11,18 @@ use Rattle.gl_query.specs.declared.tree.Num.{Num}
 use Rattle.gl_values.specs.declared.op.Op.TheVariants as op
 use Rattle.gl_query_tokens.specs.declared.token.Plain.{Plain}
 use Rattle.gl_query_tokens.specs.declared.token.Plain.TheVariants as plain
+use Rattle.gl_query_tokens.specs.declared.token.Spelling.{Spelling}
+use Rattle.gl_query_tokens.specs.declared.token.Word.{Word}
+use Rattle.gl_query_tokens.specs.declared.token.Word.TheVariants as word
 use Rattle.gl_query_tokens.specs.declared.token.Token.{Token}
 use Rattle.gl_query_tokens.specs.declared.token.Token.TheVariants as token
-use Rattle.gl_query_tokens.specs.Sorts.{plain_eq, is_plain, name_in, number_in, open_in, size_in, by_in}
-use Rattle.gl_query_reader.specs.Written.{Wsum, Item, Items, Query, left_looseness, looseness, level, IsExpr, IsAgg, AreItems, IsPick, IsFilter, IsQuery, IsSource, IsTerm, spell, spell_numbers, spell_agg, spell_items, measure_word, spell_pick, spell_window, spell_if_window, spell_row_window, spell_filter, spell_grouping, spell_query}
-use Rattle.gl_query_reader.specs.States.{measure_in, measure_for, State, Control, Frame, Head, WindowHead, BodyHead, GroupsHead, Unnamed, SelectHead, EachHead, SelectWindow, EachWindow, GroupsWindow, WindowsHead, GroupsHead', SelectGroups, EachGroups, UnnamedExpr, UnnamedAgg, LeftOf, NotOf, BracketOf, InCast, InItem, InFold, InWsum, InFilter, JoinOf, InQuery, InSource, InBody, WantTerm, WantItem, WantOperand, WantMinus, HaveExpr, WantCastOpen, WantKind, WantCastClose, WantCountOpen, WantCountClose, WantFoldOpen, WantWsumOpen, WantWeightsOpen, WantWeight, HaveWeight, WantWsumClose, WantAs, WantItemName, HaveItem, WantFrom, WantSource, HaveSource, HaveEachSource, WantSize, WantSizeNumber, WantAdvance, WantAdvanceNumber, WantMeasure, WantWindowClose, WantBy, WantKey, WantGroups, WantGroupsNumber, WantVar, WantIn, WantBody, HaveTerm, WantName, HaveName, WantEnd}
+use Rattle.gl_query_tokens.specs.Sorts.{plain_eq, is_plain, name_in, number_in, open_in, size_in, by_in, word_in}
+use Rattle.gl_query_reader.specs.Written.{Wsum, Item, Items, Query, left_looseness, looseness, level, IsExpr, IsAgg, IsOverAgg, IsOverHead, IsOver, AreItems, IsPick, IsFilter, IsQuery, IsSource, IsTerm, spell, spell_numbers, spell_agg, spell_word, spell_over_agg, spell_head, spell_over, spell_items, measure_word, spell_pick, spell_window, spell_if_window, spell_row_window, spell_filter, spell_grouping, spell_query}
+use Rattle.gl_query_reader.specs.States.{measure_in, measure_for, State, Control, Frame, Head, WindowHead, BodyHead, GroupsHead, Unnamed, SelectHead, EachHead, SelectWindow, EachWindow, GroupsWindow, WindowsHead, GroupsHead', SelectGroups, EachGroups, UnnamedExpr, UnnamedAgg, UnnamedOver, LeftOf, NotOf, BracketOf, InCast, InItem, InFold, InWsum, InCall, InCondition, InFilter, JoinOf, InQuery, InSource, InBody, WantTerm, WantItem, WantOperand, WantMinus, HaveExpr, WantCastOpen, WantKind, WantCastClose, WantCountOpen, WantCountClose, WantFoldOpen, WantWsumOpen, WantWeightsOpen, WantWeight, HaveWeight, WantWsumClose, HaveAgg, WantCallOpen, WantBack, WantLagClose, WantOver, WantFilterOpen, WantFilterWhere, WantOverOpen, InOver, WantOverAs, WantItemName, HaveItem, WantFrom, WantSource, HaveSource, HaveEachSource, WantSize, WantSizeNumber, WantAdvance, WantAdvanceNumber, WantMeasure, WantWindowClose, WantBy, WantKey, WantGroups, WantGroupsNumber, WantVar, WantIn, WantBody, HaveTerm, WantName, HaveName, WantEnd}
 use Rattle.gl_query_reader.specs.Machine.{room}
 use Rattle.gl_query_reader.proofs.Steps.{state}
 use Rattle.gl_query_reader.proofs.ReadQueries.{NoJoin}
+use Rattle.gl_query_reader.proofs.RowsSaid.{call_word, rows_text, word_is, FitsSoFar}
 use Rattle.gl_bits.proofs.Options.{some_same}
 
 -- ---- the tokens
@@ -48,6 +52,7 @@ groups_text (EachGroups at var source) = token.Each at ∷ token.Name var ∷ to
 abbrev pub unnamed_text : Unnamed → List Token
 unnamed_text (UnnamedExpr e) = spell e
 unnamed_text (UnnamedAgg a) = spell_agg a
+unnamed_text (UnnamedOver o) = spell_over o
 
 -- a select so far, in its items
 abbrev pub in_items : List Item → List Token → List Token
@@ -67,6 +72,8 @@ frame_text (InCast at open') = token.Cast at ∷ token.Open open' ∷ []
 frame_text (InItem items) = token.Plain plain.Select ∷ items_before items
 frame_text (InFold items fold at open') = in_items items (token.Fold fold at ∷ token.Open open' ∷ [])
 frame_text (InWsum items at open') = in_items items (token.Wsum at ∷ token.Open open' ∷ [])
+frame_text (InCall items c w open') = in_items items (spell_word (call_word c) w ∷ token.Open open' ∷ [])
+frame_text (InCondition items a w open') = in_items items (spell_over_agg a ++ spell_word word.Filter w ∷ token.Open open' ∷ token.Plain plain.Where ∷ [])
 frame_text (InFilter pick source window) = token.Plain plain.Select ∷ (spell_pick pick ++ token.Plain plain.From ∷ (spell_query source ++ (spell_if_window window ++ token.Plain plain.Where ∷ [])))
 frame_text (JoinOf l join at) = spell_query l ++ token.Join join at ∷ []
 frame_text (InQuery at) = token.Open at ∷ []
@@ -95,7 +102,16 @@ control_text (WantWeightsOpen items at open' e) = in_items items (token.Wsum at 
 control_text (WantWeight items at open' e ns) = in_items items (token.Wsum at ∷ token.Open open' ∷ (spell e ++ token.Plain plain.Comma ∷ token.Plain plain.LeftSquare ∷ numbers_before ns))
 control_text (HaveWeight items at open' e ns) = in_items items (token.Wsum at ∷ token.Open open' ∷ (spell e ++ token.Plain plain.Comma ∷ token.Plain plain.LeftSquare ∷ spell_numbers ns))
 control_text (WantWsumClose items at open' e ns) = in_items items (token.Wsum at ∷ token.Open open' ∷ (spell e ++ token.Plain plain.Comma ∷ token.Plain plain.LeftSquare ∷ (spell_numbers ns ++ token.Plain plain.RightSquare ∷ [])))
-control_text (WantAs items agg) = in_items items (spell_agg agg)
+control_text (HaveAgg items agg) = in_items items (spell_agg agg)
+control_text (WantCallOpen items c at) = in_items items (token.Word (call_word c) at ∷ [])
+control_text (WantBack items w open' e) = in_items items (spell_word word.Lag w ∷ token.Open open' ∷ (spell e ++ token.Plain plain.Comma ∷ []))
+control_text (WantLagClose items w open' e n) = in_items items (spell_word word.Lag w ∷ token.Open open' ∷ (spell e ++ token.Plain plain.Comma ∷ token.Number n ∷ []))
+control_text (WantOver items head) = in_items items (spell_head head)
+control_text (WantFilterOpen items a w) = in_items items (spell_over_agg a ++ spell_word word.Filter w ∷ [])
+control_text (WantFilterWhere items a w open') = in_items items (spell_over_agg a ++ spell_word word.Filter w ∷ token.Open open' ∷ [])
+control_text (WantOverOpen items head w) = in_items items (spell_head head ++ spell_word word.Over w ∷ [])
+control_text (InOver items head w open' r) = in_items items (spell_head head ++ spell_word word.Over w ∷ token.Open open' ∷ rows_text r)
+control_text (WantOverAs items o) = in_items items (spell_over o)
 control_text (WantItemName items u) = in_items items (unnamed_text u ++ token.Plain plain.As ∷ [])
 control_text (HaveItem items) = token.Plain plain.Select ∷ spell_items items
 control_text (WantFrom at) = token.Plain plain.Select ∷ token.Operator op.Mul at ∷ []
@@ -148,6 +164,7 @@ IsGroupsHead (EachGroups at var source) = IsSource source
 abbrev pub IsUnnamed : Unnamed → Type 0
 IsUnnamed (UnnamedExpr e) = IsExpr e
 IsUnnamed (UnnamedAgg a) = IsAgg a
+IsUnnamed (UnnamedOver o) = IsOver o
 
 -- the innermost frame waits for an expression
 abbrev pub InExpr : List Frame → Type 0
@@ -158,6 +175,8 @@ InExpr (InCast at open' ∷ fs) = Unit {0}
 InExpr (InItem items ∷ fs) = Unit {0}
 InExpr (InFold items fold at open' ∷ fs) = Unit {0}
 InExpr (InWsum items at open' ∷ fs) = Unit {0}
+InExpr (InCall items c w open' ∷ fs) = Unit {0}
+InExpr (InCondition items a w open' ∷ fs) = Unit {0}
 InExpr (InFilter pick source window ∷ fs) = Unit {0}
 InExpr fs = ⊥
 
@@ -178,6 +197,8 @@ IsFrame (InCast at open') fs = InExpr fs
 IsFrame (InItem items) fs = InTerm fs × AreItems items
 IsFrame (InFold items fold at open') fs = InTerm fs × AreItems items
 IsFrame (InWsum items at open') fs = InTerm fs × AreItems items
+IsFrame (InCall items c w open') fs = InTerm fs × AreItems items
+IsFrame (InCondition items a w open') fs = InTerm fs × AreItems items × IsOverAgg a
 IsFrame (InFilter pick source window) fs = InTerm fs × IsPick pick × IsSource source
 IsFrame (JoinOf l join at) fs = InTerm fs × NoJoin fs × IsQuery l
 IsFrame (InQuery at) fs = InTerm fs
@@ -205,7 +226,16 @@ Holds (WantWeightsOpen items at open' e) fs = InTerm fs × AreItems items × IsE
 Holds (WantWeight items at open' e ns) fs = InTerm fs × AreItems items × IsExpr e
 Holds (HaveWeight items at open' e ns) fs = InTerm fs × AreItems items × IsExpr e × IsAgg (Wsum at open' e ns)
 Holds (WantWsumClose items at open' e ns) fs = InTerm fs × AreItems items × IsExpr e × IsAgg (Wsum at open' e ns)
-Holds (WantAs items agg) fs = InTerm fs × AreItems items × IsAgg agg
+Holds (HaveAgg items agg) fs = InTerm fs × AreItems items × IsAgg agg
+Holds (WantCallOpen items c at) fs = InTerm fs × AreItems items
+Holds (WantBack items w open' e) fs = InTerm fs × AreItems items × IsExpr e
+Holds (WantLagClose items w open' e n) fs = InTerm fs × AreItems items × IsExpr e
+Holds (WantOver items head) fs = InTerm fs × AreItems items × IsOverHead head
+Holds (WantFilterOpen items a w) fs = InTerm fs × AreItems items × IsOverAgg a
+Holds (WantFilterWhere items a w open') fs = InTerm fs × AreItems items × IsOverAgg a
+Holds (WantOverOpen items head w) fs = InTerm fs × AreItems items × IsOverHead head
+Holds (InOver items head w open' r) fs = InTerm fs × AreItems items × IsOverHead head × FitsSoFar head r
+Holds (WantOverAs items o) fs = InTerm fs × AreItems items × IsOver o
 Holds (WantItemName items u) fs = InTerm fs × AreItems items × IsUnnamed u
 Holds (HaveItem items) fs = InTerm fs × IsPick (Items items)
 Holds (WantFrom at) fs = InTerm fs
@@ -286,6 +316,19 @@ by_number t f s' done e g = absurd cc
 pub by_open : (t : Token) (f : ℕ → Option State) (s' : State) (done : List Token) → option_and_then f (open_in t) ≡ Some s' → ((n : ℕ) → f n ≡ Some s' → Read s' (done ++ token.Open n ∷ [])) → Read s' (done ++ t ∷ [])
 by_open (token.Open n) f s' done e g = g n e
 by_open t f s' done e g = absurd cc
+
+-- an opening bracket, or else
+pub by_open_or : (t : Token) (f : Option ℕ → Option State) (s' : State) (done : List Token) → f (open_in t) ≡ Some s' → ((n : ℕ) → f (Some n) ≡ Some s' → Read s' (done ++ token.Open n ∷ [])) → (f None ≡ Some s' → Read s' (done ++ t ∷ [])) → Read s' (done ++ t ∷ [])
+by_open_or (token.Open n) f s' done e here there = here n e
+by_open_or t f s' done e here there = there e
+
+-- a word of frames, or else
+pub by_word_or : (w : Word) (t : Token) (f : Option Spelling → Option State) (s' : State) (done : List Token) → f (word_in w t) ≡ Some s' → ((x : Spelling) → f (Some x) ≡ Some s' → Read s' (done ++ spell_word w x ∷ [])) → (f None ≡ Some s' → Read s' (done ++ t ∷ [])) → Read s' (done ++ t ∷ [])
+by_word_or w t f s' done e here there = test (word_in w t) refl e
+  where
+    test : (o : Option Spelling) → word_in w t ≡ o → f o ≡ Some s' → Read s' (done ++ t ∷ [])
+    test None h d = there d
+    test (Some x) h d = subst (λ (u : Token). Read s' (done ++ u ∷ [])) (word_is w t x h) (here x d)
 
 pub by_size : (t : Token) (f : ℕ → Option State) (s' : State) (done : List Token) → option_and_then f (size_in t) ≡ Some s' → ((n : ℕ) → f n ≡ Some s' → Read s' (done ++ token.Size n ∷ [])) → Read s' (done ++ t ∷ [])
 by_size (token.Size n) f s' done e g = g n e

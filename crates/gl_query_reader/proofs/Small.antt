@@ -7,6 +7,10 @@ use Rattle.gl_bits.proofs.Bools.{neither_parts}
 use Rattle.gl_query.specs.Sizes.{IsSmall, operators_in}
 use Rattle.gl_query.specs.Alike.{expr_alike}
 use Rattle.gl_query_tokens.specs.declared.token.Plain.TheVariants as plain
+use Rattle.gl_query_tokens.specs.declared.token.Spelling.{Spelling}
+use Rattle.gl_query_tokens.specs.declared.token.Spelling.TheVariants.{Small, Capital}
+use Rattle.gl_query_tokens.specs.declared.token.Word.{Word}
+use Rattle.gl_query_tokens.specs.declared.token.Word.TheVariants as word
 use Rattle.gl_query_tokens.specs.declared.token.Token.{Token}
 use Rattle.gl_query_tokens.specs.declared.token.Token.TheVariants as token
 use Rattle.gl_query_reader.specs.declared.limits.Counts.{Counts}
@@ -14,7 +18,7 @@ use Rattle.gl_query_reader.specs.declared.written.Grouping.{Grouping}
 use Rattle.gl_query_reader.specs.Limits.{after, counted, is_past, keeps_limits, none_counted}
 use Rattle.gl_query_reader.specs.Meaning.{expr_meaning}
 use Rattle.gl_query_reader.specs.Written as written
-use Rattle.gl_query_reader.proofs.Meanings.{AggHolds, FilterHolds, GroupingHolds, ItemHolds, PickHolds, QueryHolds}
+use Rattle.gl_query_reader.proofs.Meanings.{AggHolds, OverAggHolds, FilteringHolds, HeadHolds, OverHolds, FilterHolds, GroupingHolds, ItemHolds, PickHolds, QueryHolds}
 
 -- ---- along tokens
 
@@ -64,8 +68,9 @@ expr_adds (written.Letters text at) n begins = record { operators = omega arith;
 expr_adds (written.Brackets at e) n begins =
     let m = after n (token.Open at) in
     let a = expr_adds e m refl in
+    let here : m.operators ≡ n.operators = rw begins refl in
     subst (λ (c : Counts). Adds n c (ops e)) (sym (counted_both (written.spell e) (token.Plain plain.Close ∷ []) m))
-    (record { operators = a.operators; behind = refl })
+    (record { operators = a.operators ∙ ap (λ (x : ℕ). x + ops e) here; behind = refl })
 expr_adds (written.Cast at open' e word kind) n begins =
     let m = after (after n (token.Cast at)) (token.Open open') in
     let a = expr_adds e m refl in
@@ -119,6 +124,46 @@ agg_small (written.Wsum at open' e ns) more n w =
     whole_small e (tail ++ more) start refl refl
     (subst (IsWithin start) (append_assoc (written.spell e) tail more) (within_more _ (token.Open open') _ (within_more n (token.Wsum at) _ w)))
 
+-- a word of frames leaves no operand to begin
+word_more : (v : Word) (s : Spelling) (more : List Token) (n : Counts) → IsWithin n (written.spell_word v s ∷ more) → (m : Counts) × (m.operand ≡ false) × IsWithin m more
+word_more v (Small at) more n w = (after n (written.spell_word v (Small at)), refl, within_more n (written.spell_word v (Small at)) more w)
+word_more v (Capital at) more n w = (after n (token.Word v at), refl, within_more n (token.Word v at) more w)
+
+-- an expression in the bracket of a function, or of FILTER
+opened_small : (e : written.Expr) (open' : ℕ) (more : List Token) (n : Counts) → n.operand ≡ false → IsWithin n (token.Open open' ∷ (written.spell e ++ more)) → IsSmall (expr_alike (expr_meaning e))
+opened_small e open' more n d w = whole_small e more (after n (token.Open open')) refl (rw d refl) (within_more n (token.Open open') _ w)
+
+over_agg_small : (a : written.OverAgg) (more : List Token) (n : Counts) → IsWithin n (written.spell_over_agg a ++ more) → OverAggHolds IsSmall a
+over_agg_small (written.CountOf at open') more n w = tt
+over_agg_small (written.FoldOf fold at open' e) more n w = agg_small (written.Fold' fold at open' e) more n w
+over_agg_small (written.LastOf v open' e) more n w =
+    let tail : List Token = token.Plain plain.Close ∷ [] in
+    let m = word_more word.LastValue v _ n w in
+    opened_small e open' (tail ++ more) m.0 m.1 (subst (λ (x : List Token). IsWithin m.0 (token.Open open' ∷ x)) (append_assoc (written.spell e) tail more) m.2)
+
+filtering_small : (f : Option written.Filtering) (more : List Token) (n : Counts) → IsWithin n (written.spell_filtering f ++ more) → FilteringHolds IsSmall f
+filtering_small None more n w = tt
+filtering_small (Some (written.FilterOf v open' e)) more n w =
+    let tail : List Token = token.Plain plain.Close ∷ [] in
+    let m = word_more word.Filter v _ n w in
+    let opened = within_more m.0 (token.Open open') _ m.2 in
+    let start = after (after m.0 (token.Open open')) (token.Plain plain.Where) in
+    whole_small e (tail ++ more) start refl refl (subst (IsWithin start) (append_assoc (written.spell e) tail more) (within_more _ (token.Plain plain.Where) _ opened))
+
+head_small : (head : written.OverHead) (more : List Token) (n : Counts) → IsWithin n (written.spell_head head ++ more) → HeadHolds IsSmall head
+head_small (written.LagOf v open' e back) more n w =
+    let tail : List Token = written.spell_back back ++ token.Plain plain.Close ∷ [] in
+    let m = word_more word.Lag v _ n w in
+    opened_small e open' (tail ++ more) m.0 m.1 (subst (λ (x : List Token). IsWithin m.0 (token.Open open' ∷ x)) (append_assoc (written.spell e) tail more) m.2)
+head_small (written.Ranged a f) more n w =
+    let v = subst (IsWithin n) (append_assoc (written.spell_over_agg a) (written.spell_filtering f) more) w in
+    (over_agg_small a (written.spell_filtering f ++ more) n v, filtering_small f more _ (within_behind (written.spell_over_agg a) (written.spell_filtering f ++ more) n v))
+
+over_small : (o : written.Over) (more : List Token) (n : Counts) → IsWithin n (written.spell_over o ++ more) → OverHolds IsSmall o
+over_small (written.OverOf head v open' r) more n w =
+    let tail : List Token = written.spell_word word.Over v ∷ token.Open open' ∷ (written.spell_rows r ++ token.Plain plain.Close ∷ []) in
+    head_small head (tail ++ more) n (subst (IsWithin n) (append_assoc (written.spell_head head) tail more) w)
+
 item_small : (i : written.Item) (more : List Token) (n : Counts) → n.operand ≡ true → n.operators ≡ 0 → IsWithin n (written.spell_item i ++ more) → ItemHolds IsSmall Any i
 item_small (written.Bare name) more n begins none w = (omega arith, tt)
 item_small (written.Named e name) more n begins none w =
@@ -127,6 +172,9 @@ item_small (written.Named e name) more n begins none w =
 item_small (written.Total a name) more n begins none w =
     let tail : List Token = token.Plain plain.As ∷ token.Name name ∷ [] in
     (agg_small a (tail ++ more) n (subst (IsWithin n) (append_assoc (written.spell_agg a) tail more) w), tt)
+item_small (written.Framed o name) more n begins none w =
+    let tail : List Token = token.Plain plain.As ∷ token.Name name ∷ [] in
+    (over_small o (tail ++ more) n (subst (IsWithin n) (append_assoc (written.spell_over o) tail more) w), tt)
 
 items_small : (is : List written.Item) (more : List Token) (n : Counts) → n.operand ≡ true → n.operators ≡ 0 → IsWithin n (written.spell_items is ++ more) → AllByRecursion (ItemHolds IsSmall Any) is
 items_small [] more n begins none w = tt

@@ -10,13 +10,18 @@ use Rattle.gl_values.specs.declared.op.Op.{Op}
 use Rattle.gl_values.specs.declared.op.Op.TheVariants as op
 use Rattle.gl_query_tokens.specs.declared.token.Fold.{Fold}
 use Rattle.gl_query_tokens.specs.declared.token.Plain.TheVariants as plain
+use Rattle.gl_query_tokens.specs.declared.token.Spelling.TheVariants.{Small}
+use Rattle.gl_query_tokens.specs.declared.token.Word.TheVariants as word
 use Rattle.gl_query_tokens.specs.declared.token.Token.{Token}
 use Rattle.gl_query_tokens.specs.declared.token.Token.TheVariants as token
-use Rattle.gl_query_reader.specs.Written.{Expr, Column, Minus, Cast, Not, Binary, Agg, Count, Wsum, Item, Bare, All, Items, Select, looseness, left_looseness, level, IsExpr, IsAgg, IsItem, AreItems, IsPick, spell, spell_numbers, spell_agg, spell_item, spell_items, spell_pick, spell_query, spell_if_window}
-use Rattle.gl_query_reader.specs.States.{State, Frame, SelectHead, Unnamed, UnnamedExpr, UnnamedAgg, LeftOf, NotOf, BracketOf, InCast, InItem, InFold, InWsum, InFilter, WantItem, WantOperand, WantMinus, HaveExpr, WantCastOpen, WantKind, WantCastClose, WantCountOpen, WantCountClose, WantFoldOpen, WantWsumOpen, WantWeightsOpen, WantWeight, HaveWeight, WantWsumClose, WantAs, WantItemName, HaveItem, WantFrom, WantSource, goes}
-use Rattle.gl_query_reader.specs.Machine.{Reduced, room, reduced, want_operand, have_item, after_expr, after_item, bare, under_name}
+use Rattle.gl_query_reader.specs.Written.{Expr, Column, Minus, Cast, Not, Binary, Count, Wsum, Item, Bare, All, Items, Select, looseness, left_looseness, level, IsExpr, IsAgg, IsItem, AreItems, IsPick, spell, spell_numbers, spell_agg, spell_word, spell_over_agg, spell_over, spell_item, spell_items, spell_pick, spell_query, spell_if_window}
+use Rattle.gl_query_reader.specs.States.{State, Frame, SelectHead, Unnamed, UnnamedExpr, UnnamedAgg, UnnamedOver, LeftOf, NotOf, BracketOf, InCast, InItem, InFold, InWsum, InCall, InCondition, InFilter, WantItem, WantOperand, WantMinus, HaveExpr, WantCastOpen, WantKind, WantCastClose, WantCountOpen, WantCountClose, WantFoldOpen, WantWsumOpen, WantWeightsOpen, WantWeight, HaveWeight, WantWsumClose, HaveAgg, WantCallOpen, WantItemName, HaveItem, WantFrom, WantSource, goes}
+use Rattle.gl_query_reader.specs.Machine.{Reduced, room, reduced, want_operand, have_item, after_expr, after_item, bare, bare_or_call, under_name}
+use Rattle.gl_query_reader.specs.Framing.{begin_call, named_call}
+use Rattle.gl_query_reader.specs.declared.over_state.Call.TheVariants as call
+use Rattle.gl_query_reader.proofs.RowsSaid.{call_word, named_is}
 use Rattle.gl_query_reader.proofs.ReadExpressions.{pair}
-use Rattle.gl_query_reader.proofs.Said.{items_before, numbers_before, in_items, unnamed_text, before, control_text, IsUnnamed, InExpr, Fits, Read, by_some, by_if, by_plain, by_name, by_number, by_open, go_on, go_in}
+use Rattle.gl_query_reader.proofs.Said.{items_before, numbers_before, in_items, unnamed_text, before, control_text, IsUnnamed, InExpr, Fits, Read, by_some, by_if, by_plain, by_name, by_number, by_open, by_open_or, go_on, go_in}
 use Rattle.gl_query_reader.proofs.SoundTerms.{Keeps, keeps_term}
 use Rattle.gl_bits.proofs.Options.{then_some}
 
@@ -102,10 +107,10 @@ keeps_minus at fs t s' f h e = by_number t _ s' _ e (λ n d. by_some _ s' _ d (g
 pub keeps_cast_open : (at : ℕ) → Keeps (WantCastOpen at)
 keeps_cast_open at fs t s' f h e = by_open t _ s' _ e (λ n d. by_some _ s' _ d (go_in (token.Cast at ∷ []) WantOperand (InCast at n) fs (token.Open n) f h tt refl refl))
 
-cast_kind : (x : List Token) (a b c t : Token) → (a ∷ b ∷ (x ++ c ∷ [])) ++ t ∷ [] ≡ a ∷ b ∷ (x ++ c ∷ t ∷ [])
+pub cast_kind : (x : List Token) (a b c t : Token) → (a ∷ b ∷ (x ++ c ∷ [])) ++ t ∷ [] ≡ a ∷ b ∷ (x ++ c ∷ t ∷ [])
 cast_kind x a b c t = simp append_assoc
 
-cast_end : (x : List Token) (a b c d t : Token) → (a ∷ b ∷ (x ++ c ∷ d ∷ [])) ++ t ∷ [] ≡ a ∷ b ∷ (x ++ c ∷ d ∷ t ∷ [])
+pub cast_end : (x : List Token) (a b c d t : Token) → (a ∷ b ∷ (x ++ c ∷ d ∷ [])) ++ t ∷ [] ≡ a ∷ b ∷ (x ++ c ∷ d ∷ t ∷ [])
 cast_end x a b c d t = simp append_assoc
 
 pub keeps_kind : (at open' : ℕ) (inner : Expr) → Keeps (WantKind at open' inner)
@@ -126,16 +131,19 @@ keeps_item items fs (token.Operator o at) s' f h e = absurd cc
 keeps_item items fs (token.Count at) s' f h e = by_some _ s' _ e (go_on (control_text (WantItem items)) (WantCountOpen items at) fs (token.Count at) f h refl)
 keeps_item items fs (token.Fold fold at) s' f h e = by_some _ s' _ e (go_on (control_text (WantItem items)) (WantFoldOpen items fold at) fs (token.Fold fold at) f h refl)
 keeps_item items fs (token.Wsum at) s' f h e = by_some _ s' _ e (go_on (control_text (WantItem items)) (WantWsumOpen items at) fs (token.Wsum at) f h refl)
+keeps_item items fs (token.Word word.Lag at) s' f h e = by_some _ s' _ e (go_on (control_text (WantItem items)) (WantCallOpen items call.Lag at) fs (token.Word word.Lag at) f h refl)
+keeps_item items fs (token.Word word.LastValue at) s' f h e = by_some _ s' _ e (go_on (control_text (WantItem items)) (WantCallOpen items call.LastValue at) fs (token.Word word.LastValue at) f h refl)
+keeps_item items fs (token.Word w at) s' f h e = absurd cc
 keeps_item items fs t s' f h e = keeps_operand_in (InItem items ∷ fs) t s' (h, f) tt e
 
-behind_items : (items : List Item) (more : List Token) (t : Token) → in_items items more ++ t ∷ [] ≡ in_items items (more ++ t ∷ [])
+pub behind_items : (items : List Item) (more : List Token) (t : Token) → in_items items more ++ t ∷ [] ≡ in_items items (more ++ t ∷ [])
 behind_items items more t = ap (λ (x : List Token). token.Plain plain.Select ∷ x) (append_assoc (items_before items) more (t ∷ []))
 
 pub keeps_count_open : (items : List Item) (at : ℕ) → Keeps (WantCountOpen items at)
 keeps_count_open items at fs t s' f h e = by_open t _ s' _ e (λ n d. by_some _ s' _ d (go_on (control_text (WantCountOpen items at)) (WantCountClose items at n) fs (token.Open n) f h (behind_items items (token.Count at ∷ []) (token.Open n))))
 
 pub keeps_count_close : (items : List Item) (at open' : ℕ) → Keeps (WantCountClose items at open')
-keeps_count_close items at open' fs t s' f h e = by_plain plain.Close t _ s' _ e (go_on (control_text (WantCountClose items at open')) (WantAs items (Count at open')) fs (token.Plain plain.Close) f (h.0, h.1, tt) (behind_items items (token.Count at ∷ token.Open open' ∷ []) (token.Plain plain.Close)))
+keeps_count_close items at open' fs t s' f h e = by_plain plain.Close t _ s' _ e (go_on (control_text (WantCountClose items at open')) (HaveAgg items (Count at open')) fs (token.Plain plain.Close) f (h.0, h.1, tt) (behind_items items (token.Count at ∷ token.Open open' ∷ []) (token.Plain plain.Close)))
 
 pub keeps_fold_open : (items : List Item) (fold : Fold) (at : ℕ) → Keeps (WantFoldOpen items fold at)
 keeps_fold_open items fold at fs t s' f h e = by_open t _ s' _ e (λ n d. by_some _ s' _ d (go_in (control_text (WantFoldOpen items fold at)) WantOperand (InFold items fold at n) fs (token.Open n) f h tt refl (behind_items items (token.Fold fold at ∷ []) (token.Open n))))
@@ -174,19 +182,18 @@ keeps_have_weight items at open' arg weights fs t s' f h e =
     (behind_weights items at open' arg (spell_numbers weights) (token.Plain plain.RightSquare))))
 
 pub keeps_wsum_close : (items : List Item) (at open' : ℕ) (arg : Expr) (weights : List Num) → Keeps (WantWsumClose items at open' arg weights)
-keeps_wsum_close items at open' arg weights fs t s' f h e = by_plain plain.Close t _ s' _ e (go_on (control_text (WantWsumClose items at open' arg weights)) (WantAs items (Wsum at open' arg weights)) fs (token.Plain plain.Close) f (h.0, h.1, h.3)
+keeps_wsum_close items at open' arg weights fs t s' f h e = by_plain plain.Close t _ s' _ e (go_on (control_text (WantWsumClose items at open' arg weights)) (HaveAgg items (Wsum at open' arg weights)) fs (token.Plain plain.Close) f (h.0, h.1, h.3)
     (behind_weights items at open' arg (spell_numbers weights ++ token.Plain plain.RightSquare ∷ []) (token.Plain plain.Close) ∙ weighted items at open' arg _ _ (append_assoc (spell_numbers weights) (token.Plain plain.RightSquare ∷ []) (token.Plain plain.Close ∷ []))))
-
-pub keeps_as : (items : List Item) (agg : Agg) → Keeps (WantAs items agg)
-keeps_as items agg fs t s' f h e = by_plain plain.As t _ s' _ e (go_on (control_text (WantAs items agg)) (WantItemName items (UnnamedAgg agg)) fs (token.Plain plain.As) f h (behind_items items (spell_agg agg) (token.Plain plain.As)))
 
 named : (u : Unnamed) (n : Name) → (unnamed_text u ++ token.Plain plain.As ∷ []) ++ token.Name n ∷ [] ≡ spell_item (under_name u n)
 named (UnnamedExpr e) n = append_assoc (spell e) (token.Plain plain.As ∷ []) (token.Name n ∷ [])
 named (UnnamedAgg a) n = append_assoc (spell_agg a) (token.Plain plain.As ∷ []) (token.Name n ∷ [])
+named (UnnamedOver o) n = append_assoc (spell_over o) (token.Plain plain.As ∷ []) (token.Name n ∷ [])
 
 named-is : (u : Unnamed) (n : Name) → IsUnnamed u → IsItem (under_name u n)
 named-is (UnnamedExpr e) n h = h
 named-is (UnnamedAgg a) n h = h
+named-is (UnnamedOver o) n h = h
 
 pub keeps_item_name : (items : List Item) (u : Unnamed) → Keeps (WantItemName items u)
 keeps_item_name items u fs t s' f h e = by_name t _ s' _ e (λ n d. by_some _ s' _ d (go_on (control_text (WantItemName items u)) (HaveItem (items ++ under_name u n ∷ [])) fs (token.Name n) f (h.0, are-push items (under_name u n) h.1 (named-is u n h.2))
@@ -241,6 +248,8 @@ reduces p (InCast at open' ∷ fs) e f i g le lt = (InCast at open' ∷ fs, e, r
 reduces p (InItem items ∷ fs) e f i g le lt = (InItem items ∷ fs, e, record { machine = refl; text = refl; expr = g; level = le; within = tt; fits = f })
 reduces p (InFold items fold at open' ∷ fs) e f i g le lt = (InFold items fold at open' ∷ fs, e, record { machine = refl; text = refl; expr = g; level = le; within = tt; fits = f })
 reduces p (InWsum items at open' ∷ fs) e f i g le lt = (InWsum items at open' ∷ fs, e, record { machine = refl; text = refl; expr = g; level = le; within = tt; fits = f })
+reduces p (InCall items c w open' ∷ fs) e f i g le lt = (InCall items c w open' ∷ fs, e, record { machine = refl; text = refl; expr = g; level = le; within = tt; fits = f })
+reduces p (InCondition items a w open' ∷ fs) e f i g le lt = (InCondition items a w open' ∷ fs, e, record { machine = refl; text = refl; expr = g; level = le; within = tt; fits = f })
 reduces p (InFilter pick source window ∷ fs) e f i g le lt = (InFilter pick source window ∷ fs, e, record { machine = refl; text = refl; expr = g; level = le; within = tt; fits = f })
 reduces p fs e f i g le lt = absurd i
 
@@ -264,11 +273,30 @@ keeps_bare items fs e t s' n f g b d =
     (rw (bare-is e n b) (ap (λ (x : List Token). before fs ++ token.Plain plain.Select ∷ x) (sym (items-push items (Bare n))) ∙ sym (append_assoc (before fs) (token.Plain plain.Select ∷ items_before items) (token.Name n ∷ []))))
     (keeps_have_item (items ++ Bare n ∷ []) fs t s' f.1 (f.0.0, are-push items (Bare n) f.0.1 tt) d)
 
+bracket_behind : (b i : List Token) (s u o : Token) → (b ++ (s ∷ (i ++ u ∷ o ∷ []))) ++ [] ≡ ((b ++ (s ∷ i)) ++ u ∷ []) ++ o ∷ []
+bracket_behind b i s u o = append-nil (b ++ (s ∷ (i ++ u ∷ o ∷ []))) ∙ grouped b i s u o
+  where
+    grouped : (b i : List Token) (s u o : Token) → b ++ (s ∷ (i ++ u ∷ o ∷ [])) ≡ ((b ++ (s ∷ i)) ++ u ∷ []) ++ o ∷ []
+    grouped b i s u o = simp append_assoc
+
+-- a name that was a column alone is that of a function
+keeps_call : (items : List Item) (fs : List Frame) (e : Expr) (n : ℕ) (s' : State) (name : Name) → Fits (InItem items ∷ fs) → bare e ≡ Some name → begin_call fs items name n ≡ Some s' → Read s' ((before (InItem items ∷ fs) ++ spell e) ++ token.Open n ∷ [])
+keeps_call items fs e n s' name f b d =
+    let c = then_some _ (named_call name) s' d in
+    by_some _ s' _ c.2 (record {
+      text = bracket_behind (before fs) (items_before items) (token.Plain plain.Select) (spell_word (call_word c.0) (Small name.at)) (token.Open n)
+          ∙ ap (λ (u : Token). ((before fs ++ (token.Plain plain.Select ∷ items_before items)) ++ u ∷ []) ++ token.Open n ∷ []) (named_is name c.0 c.1)
+          ∙ ap (λ (x : Expr). ((before fs ++ (token.Plain plain.Select ∷ items_before items)) ++ spell x) ++ token.Open n ∷ []) (sym (bare-is e name b));
+      fits = ((f.0.0, f.0.1), f.1);
+      holds = tt;
+    })
+
 after_in_item : (items : List Item) (fs : List Frame) (e : Expr) (t : Token) (s' : State) → Fits (InItem items ∷ fs) → IsExpr e → after_item fs items e t ≡ Some s' → Read s' ((before (InItem items ∷ fs) ++ spell e) ++ t ∷ [])
 after_in_item items fs e t s' f g d =
     by_if plain.As t _ _ s' _ d
     (λ d1. by_some _ s' _ d1 (record { text = text (before fs) (items_before items) (spell e) (token.Plain plain.Select) (token.Plain plain.As); fits = f.1; holds = (f.0.0, f.0.1, g) }))
-    (λ d1. let h = then_some _ (bare e) s' d1 in keeps_bare items fs e t s' h.0 f g h.1 h.2)
+    (λ d1. let h = then_some _ (bare e) s' d1 in
+    by_open_or t (λ o. bare_or_call o fs items h.0 t) s' _ h.2 (λ n d2. keeps_call items fs e n s' h.0 f h.1 d2) (λ d2. keeps_bare items fs e t s' h.0 f g h.1 d2))
   where
     text : (b i x : List Token) (s a : Token) → b ++ (s ∷ (i ++ (x ++ a ∷ []))) ≡ ((b ++ (s ∷ i)) ++ x) ++ a ∷ []
     text b i x s a = simp append_assoc
@@ -294,6 +322,24 @@ keeps_after (InWsum items at open' ∷ fs) e t s' f g d = by_plain plain.Comma t
   where
     text : (b i x : List Token) (s k o c : Token) → b ++ (s ∷ (i ++ k ∷ o ∷ (x ++ c ∷ []))) ≡ ((b ++ (s ∷ (i ++ k ∷ o ∷ []))) ++ x) ++ c ∷ []
     text b i x s k o c = simp append_assoc
+keeps_after (InCall items call.LastValue w open' ∷ fs) e t s' f g d = by_plain plain.Close t _ s' _ d (record { text = text (before fs) (items_before items) (spell e) (token.Plain plain.Select) (spell_word word.LastValue w) (token.Open open') (token.Plain plain.Close); fits = f.1; holds = (f.0.0, f.0.1, (g, tt)) })
+  where
+    grouped : (b i x : List Token) (s k o c : Token) → b ++ (s ∷ (i ++ k ∷ o ∷ (x ++ c ∷ []))) ≡ ((b ++ (s ∷ (i ++ k ∷ o ∷ []))) ++ x) ++ c ∷ []
+    grouped b i x s k o c = simp append_assoc
+
+    text : (b i x : List Token) (s k o c : Token) → b ++ (s ∷ (i ++ ((k ∷ o ∷ (x ++ c ∷ [])) ++ []))) ≡ ((b ++ (s ∷ (i ++ k ∷ o ∷ []))) ++ x) ++ c ∷ []
+    text b i x s k o c = ap (λ (y : List Token). b ++ (s ∷ (i ++ y))) (append-nil (k ∷ o ∷ (x ++ c ∷ []))) ∙ grouped b i x s k o c
+keeps_after (InCall items call.Lag w open' ∷ fs) e t s' f g d =
+    by_if plain.Comma t _ _ s' _ d
+    (λ d1. by_some _ s' _ d1 (record { text = text (before fs) (items_before items) (spell e) (token.Plain plain.Select) (spell_word word.Lag w) (token.Open open') (token.Plain plain.Comma); fits = f.1; holds = (f.0.0, f.0.1, g) }))
+    (λ d1. by_plain plain.Close t _ s' _ d1 (record { text = text (before fs) (items_before items) (spell e) (token.Plain plain.Select) (spell_word word.Lag w) (token.Open open') (token.Plain plain.Close); fits = f.1; holds = (f.0.0, f.0.1, g) }))
+  where
+    text : (b i x : List Token) (s k o c : Token) → b ++ (s ∷ (i ++ k ∷ o ∷ (x ++ c ∷ []))) ≡ ((b ++ (s ∷ (i ++ k ∷ o ∷ []))) ++ x) ++ c ∷ []
+    text b i x s k o c = simp append_assoc
+keeps_after (InCondition items a w open' ∷ fs) e t s' f g d = by_plain plain.Close t _ s' _ d (record { text = text (before fs) (items_before items) (spell_over_agg a) (spell e) (token.Plain plain.Select) (spell_word word.Filter w) (token.Open open') (token.Plain plain.Where) (token.Plain plain.Close); fits = f.1; holds = (f.0.0, f.0.1, (f.0.2, g)) })
+  where
+    text : (b i y x : List Token) (s k o v c : Token) → b ++ (s ∷ (i ++ (y ++ k ∷ o ∷ v ∷ (x ++ c ∷ [])))) ≡ ((b ++ (s ∷ (i ++ (y ++ k ∷ o ∷ v ∷ [])))) ++ x) ++ c ∷ []
+    text b i y x s k o v c = simp append_assoc
 keeps_after (InFilter pick source window ∷ fs) e t s' f g d =
     by_if plain.Group t _ _ s' _ d
     (λ d1. by_some _ s' _ d1 (record { text = text (before fs) (spell_pick pick) (spell_query source) (spell_if_window window) (spell e) (token.Plain plain.Group); fits = f.1; holds = (f.0.0, (f.0.1, f.0.2, g)) }))

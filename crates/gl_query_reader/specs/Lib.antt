@@ -1,5 +1,7 @@
 pub mod Written
 pub mod States
+pub mod Framing
+pub mod Windowed
 pub mod Machine
 pub mod Trees
 pub mod Limits

@@ -20,17 +20,22 @@ begins_after plain.Comma = true
 begins_after plain.LeftSquare = true
 begins_after p = false
 
--- behind such a token an operand begins, so that a minus is the sign of a number
+-- behind such a token an operand begins, so that a minus is the sign of a number; behind CAST its bracket does
 abbrev pub begins_operand : Token → Bool
 begins_operand (token.Open at) = true
 begins_operand (token.Operator o at) = true
 begins_operand (token.Not at) = true
+begins_operand (token.Cast at) = true
 begins_operand (token.Plain p) = begins_after p
 begins_operand t = false
 
 -- a sign that stands where an operand may begin is no operator, as the `*` of all columns
 abbrev pub operators_with : Counts → ℕ
 operators_with n = if n.operand then n.operators else n.operators + 1
+
+-- a bracket where no operand begins is that of a function, of OVER or of a query: what is in it counts anew
+abbrev pub operators_open : Counts → ℕ
+operators_open n = if n.operand then n.operators else 0
 
 -- another whole expression may begin behind these
 abbrev pub with_plain : Counts → Plain → Counts
@@ -42,7 +47,7 @@ with_plain n p = n
 
 -- the counts with a token
 abbrev pub with_token : Counts → Token → Counts
-with_token n (token.Open at) = record n { brackets = n.brackets + 1 }
+with_token n (token.Open at) = record n { brackets = n.brackets + 1; operators = operators_open n }
 with_token n (token.Operator o at) = record n { operators = operators_with n }
 with_token n (token.Not at) = record n { operators = n.operators + 1 }
 with_token n (token.Cast at) = record n { operators = n.operators + 1 }

@@ -12,12 +12,13 @@ use Rattle.gl_query_tokens.specs.declared.token.Plain.{Plain}
 use Rattle.gl_query_tokens.specs.declared.token.Plain.TheVariants as plain
 use Rattle.gl_query_tokens.specs.declared.token.Token.{Token}
 use Rattle.gl_query_tokens.specs.declared.token.Token.TheVariants as token
-use Rattle.gl_query_tokens.specs.Sorts.{is_plain, name_in, number_in, open_in, size_in, by_in}
+use Rattle.gl_query_tokens.specs.Sorts.{is_plain, name_in, number_in, open_in, by_in}
 use Rattle.gl_query_reader.specs.declared.written.Window.{Window}
-use Rattle.gl_query_reader.specs.declared.written.Grouping.{Grouping}
-use Rattle.gl_query_reader.specs.Written.{Expr, Column, Number, Minus, Letters, Brackets, Cast, Not, Binary, Count, Fold', Wsum, Item, Bare, Named, Total, Pick, All, Items, Query, Stream, InBrackets, Select, Windows, Groups, Join', Statement, looseness, left_looseness}
+use Rattle.gl_query_reader.specs.Written.{Expr, Column, Number, Minus, Letters, Brackets, Cast, Not, Binary, Count, Fold', Wsum, LagOf, Item, Bare, Named, Total, Framed, Pick, All, Items, Query, Stream, InBrackets, Select, Windows, Groups, Join', Statement, looseness, left_looseness}
 use Rattle.gl_query_reader.specs.Begun.{want_body}
-use Rattle.gl_query_reader.specs.States.{Head, after_window, measure_for, measured, SelectHead, EachHead, WindowHead, SelectWindow, EachWindow, BodyHead, WindowsHead, GroupsHead', GroupsHead, SelectGroups, EachGroups, Unnamed, UnnamedExpr, UnnamedAgg, Frame, Control, State, goes, expected, LeftOf, NotOf, BracketOf, InCast, InItem, InFold, InWsum, InFilter, JoinOf, InQuery, InSource, InBody, WantTerm, WantItem, WantOperand, WantMinus, HaveExpr, WantCastOpen, WantKind, WantCastClose, WantCountOpen, WantCountClose, WantFoldOpen, WantWsumOpen, WantWeightsOpen, WantWeight, HaveWeight, WantWsumClose, WantAs, WantItemName, HaveItem, WantFrom, WantSource, HaveSource, HaveEachSource, WantSize, WantSizeNumber, WantAdvance, WantAdvanceNumber, WantMeasure, WantWindowClose, WantBy, WantKey, WantGroups, WantGroupsNumber, WantVar, WantIn, WantBody, HaveTerm, WantName, HaveName, WantEnd}
+use Rattle.gl_query_reader.specs.Framing.{begin_call, want_call, want_call_open, after_call, want_back, want_over, have_agg, want_filter_open, want_filter_where, after_condition, want_over_open, in_over}
+use Rattle.gl_query_reader.specs.Windowed.{want_size, want_size_number, want_advance_number, want_measure, want_by, want_key, want_groups_number}
+use Rattle.gl_query_reader.specs.States.{Head, after_window, SelectHead, EachHead, SelectWindow, EachWindow, BodyHead, WindowsHead, GroupsHead', EachGroups, Unnamed, UnnamedExpr, UnnamedAgg, UnnamedOver, Frame, Control, State, goes, expected, LeftOf, NotOf, BracketOf, InCast, InItem, InFold, InWsum, InCall, InCondition, InFilter, JoinOf, InQuery, InSource, InBody, WantTerm, WantItem, WantOperand, WantMinus, HaveExpr, WantCastOpen, WantKind, WantCastClose, WantCountOpen, WantCountClose, WantFoldOpen, WantWsumOpen, WantWeightsOpen, WantWeight, HaveWeight, WantWsumClose, HaveAgg, WantCallOpen, WantBack, WantLagClose, WantOver, WantFilterOpen, WantFilterWhere, WantOverOpen, InOver, WantOverAs, WantItemName, HaveItem, WantFrom, WantSource, HaveSource, HaveEachSource, WantSize, WantSizeNumber, WantAdvance, WantAdvanceNumber, WantMeasure, WantWindowClose, WantBy, WantKey, WantGroups, WantGroupsNumber, WantVar, WantIn, WantBody, HaveTerm, WantName, HaveName, WantEnd}
 
 -- ---- expressions
 
@@ -170,12 +171,13 @@ is_star o = false
 abbrev pub want_all : Op → List Item → ℕ → List Frame → Option State
 want_all o items at fs = if is_star o && none_yet items then goes (WantFrom at) fs else None
 
--- whether a token is `*` or begins an aggregate
+-- whether a token is `*`, or begins an aggregate or a function with a capital
 abbrev pub begins_agg : Token → Bool
 begins_agg (token.Operator o at) = is_star o
 begins_agg (token.Count at) = true
 begins_agg (token.Fold fold at) = true
 begins_agg (token.Wsum at) = true
+begins_agg (token.Word w at) = true
 begins_agg t = false
 
 abbrev pub want_agg : List Item → List Frame → Token → Option State
@@ -183,6 +185,7 @@ want_agg items fs (token.Operator o at) = want_all o items at fs
 want_agg items fs (token.Count at) = goes (WantCountOpen items at) fs
 want_agg items fs (token.Fold fold at) = goes (WantFoldOpen items fold at) fs
 want_agg items fs (token.Wsum at) = goes (WantWsumOpen items at) fs
+want_agg items fs (token.Word w at) = want_call items fs w at
 want_agg items fs t = None
 
 abbrev pub want_item : List Item → List Frame → Token → Option State
@@ -208,6 +211,7 @@ have_weight fs items at open' e ns t = if is_plain plain.Comma t then goes (Want
 abbrev pub under_name : Unnamed → Name → Item
 under_name (UnnamedExpr e) name = Named e name
 under_name (UnnamedAgg agg) name = Total agg name
+under_name (UnnamedOver over) name = Framed over name
 
 abbrev pub want_item_name : List Frame → List Item → Unnamed → Token → Option State
 want_item_name fs items u t = option_and_then (λ name. goes (HaveItem (items ++ under_name u name ∷ [])) fs) (name_in t)
@@ -224,9 +228,14 @@ abbrev pub bare : Expr → Option Name
 bare (Column name) = Some name
 bare e = None
 
+abbrev pub bare_or_call : Option ℕ → List Frame → List Item → Name → Token → Option State
+bare_or_call None fs items name t = have_item fs (items ++ Bare name ∷ []) t
+bare_or_call (Some n) fs items name t = begin_call fs items name n
+
+-- a column alone ends its item, but a bracket behind it makes it the name of a function
 abbrev pub after_item : List Frame → List Item → Expr → Token → Option State
 after_item fs items e t = if is_plain plain.As t then goes (WantItemName items (UnnamedExpr e)) fs else
-    option_and_then (λ name. have_item fs (items ++ Bare name ∷ []) t) (bare e)
+    option_and_then (λ name. bare_or_call (open_in t) fs items name t) (bare e)
 
 abbrev pub after_filter : List Frame → Pick → Query → Option Window → Expr → Token → Option State
 after_filter fs pick source window e t =
@@ -240,7 +249,7 @@ abbrev pub after_cast : List Frame → ℕ → ℕ → Expr → Token → Option
 after_cast fs at open' e t = expected plain.As (WantKind at open' e) fs t
 
 abbrev pub after_fold : List Frame → List Item → Fold → ℕ → ℕ → Expr → Token → Option State
-after_fold fs items fold at open' e t = expected plain.Close (WantAs items (Fold' fold at open' e)) fs t
+after_fold fs items fold at open' e t = expected plain.Close (HaveAgg items (Fold' fold at open' e)) fs t
 
 abbrev pub after_wsum : List Frame → List Item → ℕ → ℕ → Expr → Token → Option State
 after_wsum fs items at open' e t = expected plain.Comma (WantWeightsOpen items at open' e) fs t
@@ -253,6 +262,8 @@ after_expr (InCast at open' ∷ fs) e t = after_cast fs at open' e t
 after_expr (InItem items ∷ fs) e t = after_item fs items e t
 after_expr (InFold items fold at open' ∷ fs) e t = after_fold fs items fold at open' e t
 after_expr (InWsum items at open' ∷ fs) e t = after_wsum fs items at open' e t
+after_expr (InCall items c w open' ∷ fs) e t = after_call fs items c w open' e t
+after_expr (InCondition items agg w open' ∷ fs) e t = after_condition fs items agg w open' e t
 after_expr (InFilter pick source window ∷ fs) e t = after_filter fs pick source window e t
 after_expr (f ∷ fs) e t = None
 
@@ -292,35 +303,6 @@ abbrev pub have_each_source : List Frame → ℕ → Name → Query → Token �
 have_each_source fs at var source t =
     if is_plain plain.LeftSquare t then goes (WantSize (EachWindow at var) source) fs else
     option_and_then (λ n. goes (WantKey (EachGroups at var source) n) fs) (by_in t)
-
-abbrev pub want_size : List Frame → WindowHead → Query → Token → Option State
-want_size fs head source t = option_and_then (λ n. goes (WantSizeNumber head source n) fs) (size_in t)
-
-abbrev pub want_size_number : List Frame → WindowHead → Query → ℕ → Token → Option State
-want_size_number fs head source at t = option_and_then (λ n. goes (WantAdvance head source at n) fs) (number_in t)
-
-abbrev pub want_advance_number : List Frame → WindowHead → Query → ℕ → Num → Token → Option State
-want_advance_number fs head source at size t =
-    option_and_then (λ n. goes (WantMeasure head source at size n) fs) (number_in t)
-
-abbrev pub want_measure : List Frame → WindowHead → Query → ℕ → Num → Num → Token → Option State
-want_measure fs head source at size advance t =
-    option_and_then (λ m. goes (WantWindowClose head source (measured at size advance m)) fs) (measure_for head t)
-
-abbrev pub want_by : List Frame → Pick → Query → Option Window → Option Expr → Token → Option State
-want_by fs pick source window filter t =
-    option_and_then (λ n. goes (WantKey (SelectGroups pick source window filter) n) fs) (by_in t)
-
-abbrev pub want_key : List Frame → GroupsHead → ℕ → Token → Option State
-want_key fs head at t = option_and_then (λ key. goes (WantGroups head at key) fs) (name_in t)
-
-abbrev pub after_groups : GroupsHead → Grouping → Control
-after_groups (SelectGroups pick source window filter) g = HaveTerm (Select pick source window filter (Some g))
-after_groups (EachGroups at var source) g = WantBody (GroupsHead' at var source g None)
-
-abbrev pub want_groups_number : List Frame → GroupsHead → ℕ → Name → Token → Option State
-want_groups_number fs head at key t =
-    option_and_then (λ n. goes (after_groups head (record { at = at; key = key; groups = n })) fs) (number_in t)
 
 -- ---- terms and the statement
 
@@ -369,14 +351,23 @@ step_at (WantCastOpen at) fs t = want_cast_open fs at t
 step_at (WantKind at open' e) fs t = want_kind fs at open' e t
 step_at (WantCastClose at open' e word kind) fs t = want_cast_close fs at open' e word kind t
 step_at (WantCountOpen items at) fs t = want_count_open fs items at t
-step_at (WantCountClose items at open') fs t = expected plain.Close (WantAs items (Count at open')) fs t
+step_at (WantCountClose items at open') fs t = expected plain.Close (HaveAgg items (Count at open')) fs t
 step_at (WantFoldOpen items fold at) fs t = want_fold_open fs items fold at t
 step_at (WantWsumOpen items at) fs t = want_wsum_open fs items at t
 step_at (WantWeightsOpen items at open' e) fs t = expected plain.LeftSquare (WantWeight items at open' e []) fs t
 step_at (WantWeight items at open' e ns) fs t = want_weight fs items at open' e ns t
 step_at (HaveWeight items at open' e ns) fs t = have_weight fs items at open' e ns t
-step_at (WantWsumClose items at open' e ns) fs t = expected plain.Close (WantAs items (Wsum at open' e ns)) fs t
-step_at (WantAs items agg) fs t = expected plain.As (WantItemName items (UnnamedAgg agg)) fs t
+step_at (WantWsumClose items at open' e ns) fs t = expected plain.Close (HaveAgg items (Wsum at open' e ns)) fs t
+step_at (HaveAgg items agg) fs t = have_agg fs items agg t
+step_at (WantCallOpen items c at) fs t = want_call_open fs items c at t
+step_at (WantBack items w open' e) fs t = want_back fs items w open' e t
+step_at (WantLagClose items w open' e n) fs t = expected plain.Close (WantOver items (LagOf w open' e (Some n))) fs t
+step_at (WantOver items head) fs t = want_over fs items head t
+step_at (WantFilterOpen items agg w) fs t = want_filter_open fs items agg w t
+step_at (WantFilterWhere items agg w open') fs t = want_filter_where fs items agg w open' t
+step_at (WantOverOpen items head w) fs t = want_over_open fs items head w t
+step_at (InOver items head w open' rows) fs t = in_over fs items head w open' rows t
+step_at (WantOverAs items over) fs t = expected plain.As (WantItemName items (UnnamedOver over)) fs t
 step_at (WantItemName items u) fs t = want_item_name fs items u t
 step_at (HaveItem items) fs t = have_item fs items t
 step_at (WantFrom at) fs t = expected plain.From (WantSource (SelectHead (All at))) fs t

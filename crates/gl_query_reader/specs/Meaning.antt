@@ -1,11 +1,19 @@
 -- What a statement that is written means: a tree of queries, with places.
 use Rattle.std.specs.Prelude.{ℕ, Bool, true, false, List, [], ◌∷◌, codes, Option, Some, None, option_map}
+use Rattle.std.specs.List.{list_any}
 use Rattle.gl_query.specs.declared.tree.Name.{Name}
-use Rattle.gl_query.specs.Trees.{ExprTree, AggTree, ItemTree, AggItemTree, QueryTree, StatementTree, Column, Number, Minus, Letters, Not, Cast, Binary, Count, Sum, Min, Max, Avg, Wsum, All, Items, Read, Rows, Total, Each, PerGroup, Partition, Union, Concat}
+use Rattle.gl_query.specs.declared.tree.Num.{Num}
+use Rattle.gl_query.specs.Trees.{ExprTree, AggTree, ItemTree, AggItemTree, FrameAggTree, FrameTree, FrameItemTree, QueryTree, StatementTree, Column, Number, Minus, Letters, Not, Cast, Binary, Count, Sum, Min, Max, Avg, Wsum, CountOver, SumOver, MinOver, MaxOver, AvgOver, LastOver, Own, Lag, Over, All, Items, Read, Rows, Total, Frames, Each, PerGroup, Partition, Union, Concat}
 use Rattle.gl_query_tokens.specs.declared.token.Fold.{Fold}
 use Rattle.gl_query_tokens.specs.declared.token.Fold.TheVariants as fold
 use Rattle.gl_query_tokens.specs.declared.token.Join.{Join}
 use Rattle.gl_query_tokens.specs.declared.token.Join.TheVariants as join
+use Rattle.gl_query_tokens.specs.declared.token.Spelling.{Spelling}
+use Rattle.gl_query_tokens.specs.declared.token.Spelling.TheVariants.{Small, Capital}
+use Rattle.gl_query_reader.specs.declared.written.Bound.{Bound}
+use Rattle.gl_query_reader.specs.declared.written.Bound.TheVariants as bound
+use Rattle.gl_query_reader.specs.declared.written.FrameRows.{FrameRows}
+use Rattle.gl_query_reader.specs.declared.written.FrameRows.TheVariants as rows
 use Rattle.gl_query_reader.specs.declared.written.RowWindow.{RowWindow}
 use Rattle.gl_query_reader.specs.declared.written.Window.{Window}
 use Rattle.gl_query_reader.specs.declared.written.Grouping.{Grouping}
@@ -35,12 +43,68 @@ agg_meaning (written.Count at open') = Count at
 agg_meaning (written.Fold' f at open' e) = fold_meaning f (expr_meaning e)
 agg_meaning (written.Wsum at open' e weights) = Wsum (expr_meaning e) weights
 
--- the items that are no aggregates; a column alone has its own name
+-- the function over the rows of a frame that a keyword of a fold makes of its argument
+abbrev pub fold_over : Fold → ExprTree → FrameAggTree
+fold_over fold.Sum e = SumOver e
+fold_over fold.Min e = MinOver e
+fold_over fold.Max e = MaxOver e
+fold_over fold.Avg e = AvgOver e
+
+-- the function over the rows of a frame that a written one means
+abbrev pub over_agg_meaning : written.OverAgg → FrameAggTree
+over_agg_meaning (written.CountOf at open') = CountOver
+over_agg_meaning (written.FoldOf f at open' e) = fold_over f (expr_meaning e)
+over_agg_meaning (written.LastOf w open' e) = LastOver (expr_meaning e)
+
+-- the place of a word of frames
+abbrev pub spelled_at : Spelling → ℕ
+spelled_at (Small at) = at
+spelled_at (Capital at) = at
+
+-- the place of a function over rows
+abbrev pub over_agg_at : written.OverAgg → ℕ
+over_agg_at (written.CountOf at open') = at
+over_agg_at (written.FoldOf f at open' e) = at
+over_agg_at (written.LastOf w open' e) = spelled_at w
+
+-- the condition of FILTER, where there is one
+abbrev pub filtering_meaning : Option written.Filtering → Option ExprTree
+filtering_meaning None = None
+filtering_meaning (Some (written.FilterOf w open' e)) = Some (expr_meaning e)
+
+-- LAG looks one row back where no number says how many; that number then stands at LAG
+abbrev pub back_or_one : Option Num → ℕ → Num
+back_or_one None at = record { value = 1; at = at }
+back_or_one (Some n) at = n
+
+-- a number of rows before the row itself; UNBOUNDED has none, and takes all
+abbrev pub bound_meaning : Bound → Option Num
+bound_meaning (bound.Number n) = Some n
+bound_meaning (bound.Unbounded w) = None
+
+-- both spellings of the rows of a frame mean the same
+abbrev pub rows_meaning : Option FrameRows → Option Num
+rows_meaning None = None
+rows_meaning (Some (rows.Short r b p)) = bound_meaning b
+rows_meaning (Some (rows.Between f at c o)) = bound_meaning f.bound
+
+-- what stands before OVER and the rows behind it mean a frame
+abbrev pub frame_meaning : written.OverHead → Option FrameRows → FrameTree
+frame_meaning (written.LagOf w open' e back) r = Lag (expr_meaning e) (back_or_one back (spelled_at w)) (spelled_at w)
+frame_meaning (written.Ranged a f) r =
+    Over (over_agg_meaning a) (filtering_meaning f) (rows_meaning r) (over_agg_at a)
+
+-- the frame that a written function with OVER means
+abbrev pub over_meaning : written.Over → FrameTree
+over_meaning (written.OverOf head w open' r) = frame_meaning head r
+
+-- the items that are no aggregates and have no OVER; a column alone has its own name
 abbrev pub plain_items : List written.Item → List ItemTree
 plain_items [] = []
 plain_items (written.Bare name ∷ is) = record { expr = Column name; name = name } ∷ plain_items is
 plain_items (written.Named e name ∷ is) = record { expr = expr_meaning e; name = name } ∷ plain_items is
 plain_items (written.Total a name ∷ is) = plain_items is
+plain_items (written.Framed o name ∷ is) = plain_items is
 
 -- the items that are aggregates
 abbrev pub agg_items : List written.Item → List AggItemTree
@@ -48,12 +112,33 @@ agg_items [] = []
 agg_items (written.Bare name ∷ is) = agg_items is
 agg_items (written.Named e name ∷ is) = agg_items is
 agg_items (written.Total a name ∷ is) = record { agg = agg_meaning a; name = name } ∷ agg_items is
+agg_items (written.Framed o name ∷ is) = agg_items is
+
+-- the items that are no aggregates, as frames: an expression without OVER is one over the row itself
+abbrev pub frame_items : List written.Item → List FrameItemTree
+frame_items [] = []
+frame_items (written.Bare name ∷ is) = record { frame = Own (Column name); name = name } ∷ frame_items is
+frame_items (written.Named e name ∷ is) = record { frame = Own (expr_meaning e); name = name } ∷ frame_items is
+frame_items (written.Total a name ∷ is) = frame_items is
+frame_items (written.Framed o name ∷ is) = record { frame = over_meaning o; name = name } ∷ frame_items is
 
 -- an item is an aggregate
 abbrev pub is_total : written.Item → Bool
 is_total (written.Bare name) = false
 is_total (written.Named e name) = false
 is_total (written.Total a name) = true
+is_total (written.Framed o name) = false
+
+-- an item has OVER
+abbrev pub is_framed : written.Item → Bool
+is_framed (written.Bare name) = false
+is_framed (written.Named e name) = false
+is_framed (written.Total a name) = false
+is_framed (written.Framed o name) = true
+
+-- some item has OVER
+abbrev pub has_over : List written.Item → Bool
+has_over items = list_any is_framed items
 
 -- the variable of the bodies that a select makes
 abbrev pub it : ℕ → Name
@@ -64,10 +149,15 @@ abbrev pub filtered : Option ExprTree → QueryTree → QueryTree
 filtered None source = source
 filtered (Some e) source = Rows All (Some e) source
 
+-- with one OVER the items of a select are frames, without any they are expressions over a row
+abbrev pub by_over : Bool → List written.Item → Option ExprTree → QueryTree → QueryTree
+by_over true items filter source = Frames (frame_items items) filter source
+by_over false items filter source = Rows (Items (plain_items items)) filter source
+
 -- a select of aggregates gives one row for its whole source, a select of other items one for each row
 abbrev pub by_items : Bool → List written.Item → Option ExprTree → QueryTree → QueryTree
 by_items true items filter source = Total (agg_items items) (filtered filter source)
-by_items false items filter source = Rows (Items (plain_items items)) filter source
+by_items false items filter source = by_over (has_over items) items filter source
 
 -- the first item is an aggregate
 abbrev pub begins_total : List written.Item → Bool

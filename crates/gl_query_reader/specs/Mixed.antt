@@ -2,8 +2,8 @@
 use Rattle.std.specs.Prelude.{ℕ, Bool, true, false, not, List, [], ◌∷◌, Option, Some, None, bytes_eq, nat_le, if◌then◌else◌}
 use Rattle.gl_query.specs.declared.tree.Name.{Name}
 use Rattle.gl_query_reader.specs.declared.written.Grouping.{Grouping}
-use Rattle.gl_query_reader.specs.Written.{Expr, Column, Number, Minus, Letters, Brackets, Cast, Not, Binary, Agg, Count, Fold', Wsum, Item, Bare, Named, Total, Pick, All, Items, Query, Stream, InBrackets, Select, Windows, Groups, Join'}
-use Rattle.gl_query_reader.specs.Meaning.{is_total}
+use Rattle.gl_query_reader.specs.Written.{Expr, Column, Number, Minus, Letters, Brackets, Cast, Not, Binary, Agg, Count, Fold', Wsum, OverHead, LagOf, Ranged, Over, OverOf, Item, Bare, Named, Total, Framed, Pick, All, Items, Query, Stream, InBrackets, Select, Windows, Groups, Join'}
+use Rattle.gl_query_reader.specs.Meaning.{is_total, over_agg_at, spelled_at}
 
 -- the place of an expression's first token
 abbrev pub first_at : Expr → ℕ
@@ -22,11 +22,21 @@ agg_at (Count at open') = at
 agg_at (Fold' fold at open' e) = at
 agg_at (Wsum at open' e ns) = at
 
+-- the place of what stands before OVER
+abbrev pub head_at : OverHead → ℕ
+head_at (LagOf w open' e back) = spelled_at w
+head_at (Ranged agg filter) = over_agg_at agg
+
+-- the place of the function of an OVER
+abbrev pub over_at : Over → ℕ
+over_at (OverOf head w open' rows) = head_at head
+
 -- the place at which an item begins
 abbrev pub item_at : Item → ℕ
 item_at (Bare name) = name.at
 item_at (Named e name) = first_at e
 item_at (Total agg name) = agg_at agg
+item_at (Framed over name) = over_at over
 
 -- two truth values agree
 abbrev pub same : Bool → Bool → Bool
@@ -43,8 +53,9 @@ abbrev pub is_key : Name → Item → Bool
 is_key key (Bare name) = bytes_eq name.text key.text
 is_key key (Named e name) = false
 is_key key (Total agg name) = false
+is_key key (Framed over name) = false
 
--- behind the key stands at least one item, and all are aggregates
+-- behind the key stands at least one item, and all are aggregates without OVER
 abbrev pub behind_key : Grouping → List Item → Option ℕ
 behind_key g [] = Some g.at
 behind_key g (i ∷ is) = first_other true (i ∷ is)

@@ -3,7 +3,7 @@ use Rattle.std.specs.Prelude.{◌≡◌, ℕ, ◌+◌, ◌≤◌, max, true, ◌
 use Rattle.std.specs.List.{AllByRecursion}
 use Rattle.gl_bits.specs.Limits.{most_brackets, most_joins, most_operators}
 use Rattle.gl_query_reader.specs.Limits.{none_counted, keeps_limits}
-use Rattle.gl_query_reader.specs.Written.{Expr, Column, Number, Minus, Letters, Brackets, Cast, Not, Binary, Agg, Count, Fold', Wsum, Item, Bare, Named, Total, Pick, All, Items, Query, Stream, InBrackets, Select, Windows, Groups, Join', Statement, spell_statement}
+use Rattle.gl_query_reader.specs.Written.{Expr, Column, Number, Minus, Letters, Brackets, Cast, Not, Binary, Agg, Count, Fold', Wsum, OverAgg, CountOf, FoldOf, LastOf, Filtering, FilterOf, OverHead, LagOf, Ranged, Over, OverOf, Item, Bare, Named, Total, Framed, Pick, All, Items, Query, Stream, InBrackets, Select, Windows, Groups, Join', Statement, spell_statement}
 
 -- how many round brackets are open at once
 abbrev pub expr_depth : Expr → ℕ
@@ -22,11 +22,32 @@ agg_depth (Count at open') = 1
 agg_depth (Fold' fold at open' e) = expr_depth e + 1
 agg_depth (Wsum at open' e weights) = expr_depth e + 1
 
+-- how many brackets are open at once in a function over rows, its own among them
+abbrev pub over_agg_depth : OverAgg → ℕ
+over_agg_depth (CountOf at open') = 1
+over_agg_depth (FoldOf fold at open' e) = expr_depth e + 1
+over_agg_depth (LastOf word open' e) = expr_depth e + 1
+
+-- how many brackets are open at once in a FILTER, its own among them
+abbrev pub filtering_depth : Option Filtering → ℕ
+filtering_depth None = 0
+filtering_depth (Some (FilterOf word open' e)) = expr_depth e + 1
+
+-- how many brackets are open at once in what stands before OVER
+abbrev pub head_depth : OverHead → ℕ
+head_depth (LagOf word open' e back) = expr_depth e + 1
+head_depth (Ranged agg filter) = max (over_agg_depth agg) (filtering_depth filter)
+
+-- how many brackets are open at once in a function with OVER: what stands before OVER has one at least, as OVER has
+abbrev pub over_depth : Over → ℕ
+over_depth (OverOf head word open' rows) = max (head_depth head) 1
+
 -- how many brackets are open at once in an item
 abbrev pub item_depth : Item → ℕ
 item_depth (Bare name) = 0
 item_depth (Named e name) = expr_depth e
 item_depth (Total agg name) = agg_depth agg
+item_depth (Framed over name) = over_depth over
 
 -- how many brackets are open at once in any of the items
 abbrev pub items_depth : List Item → ℕ
@@ -83,11 +104,32 @@ AggIsShort (Count at open') = Unit {0}
 AggIsShort (Fold' fold at open' e) = IsShort e
 AggIsShort (Wsum at open' e weights) = IsShort e
 
+-- the argument of a function over rows is short
+abbrev pub OverAggIsShort : OverAgg → Type 0
+OverAggIsShort (CountOf at open') = Unit {0}
+OverAggIsShort (FoldOf fold at open' e) = IsShort e
+OverAggIsShort (LastOf word open' e) = IsShort e
+
+-- the condition of FILTER is short, where there is one
+abbrev pub FilteringIsShort : Option Filtering → Type 0
+FilteringIsShort None = Unit {0}
+FilteringIsShort (Some (FilterOf word open' e)) = IsShort e
+
+-- each whole expression before OVER is short
+abbrev pub HeadIsShort : OverHead → Type 0
+HeadIsShort (LagOf word open' e back) = IsShort e
+HeadIsShort (Ranged agg filter) = OverAggIsShort agg × FilteringIsShort filter
+
+-- each whole expression of a function with OVER is short
+abbrev pub OverIsShort : Over → Type 0
+OverIsShort (OverOf head word open' rows) = HeadIsShort head
+
 -- the expression of an item is short
 abbrev pub ItemIsShort : Item → Type 0
 ItemIsShort (Bare name) = Unit {0}
 ItemIsShort (Named e name) = IsShort e
 ItemIsShort (Total agg name) = AggIsShort agg
+ItemIsShort (Framed over name) = OverIsShort over
 
 -- the expressions of all items that are picked are short
 abbrev pub PickIsShort : Pick → Type 0

@@ -10,13 +10,16 @@ use Rattle.gl_query_tokens.specs.declared.token.Fold.{Fold}
 use Rattle.gl_query_tokens.specs.declared.token.Join.{Join}
 use Rattle.gl_query_tokens.specs.declared.token.Plain.{Plain}
 use Rattle.gl_query_tokens.specs.declared.token.Plain.TheVariants as plain
+use Rattle.gl_query_tokens.specs.declared.token.Spelling.{Spelling}
 use Rattle.gl_query_tokens.specs.declared.token.Token.{Token}
 use Rattle.gl_query_tokens.specs.declared.token.Token.TheVariants as token
 use Rattle.gl_query_tokens.specs.Sorts.{is_plain}
 use Rattle.gl_query_reader.specs.declared.written.RowWindow.{RowWindow}
 use Rattle.gl_query_reader.specs.declared.written.Window.{Window}
 use Rattle.gl_query_reader.specs.declared.written.Grouping.{Grouping}
-use Rattle.gl_query_reader.specs.Written.{Expr, Agg, Item, Pick, Query}
+use Rattle.gl_query_reader.specs.declared.over_state.Call.{Call}
+use Rattle.gl_query_reader.specs.declared.over_state.RowsSoFar.{RowsSoFar}
+use Rattle.gl_query_reader.specs.Written.{Expr, Agg, OverAgg, OverHead, Over, Item, Pick, Query}
 
 -- what reads a source: a select of these items, or an EACH with its variable
 pub data Head : Type 0 where
@@ -39,12 +42,13 @@ pub data GroupsHead : Type 0 where
   SelectGroups : (pick : Pick) (source : Query) (window : Option Window) (filter : Option Expr) → GroupsHead
   EachGroups : (at : ℕ) (var : Name) (source : Query) → GroupsHead
 
--- an expression or an aggregate that waits for its name
+-- an expression, an aggregate or a function with OVER that waits for its name
 pub data Unnamed : Type 0 where
   UnnamedExpr : (e : Expr) → Unnamed
   UnnamedAgg : (agg : Agg) → Unnamed
+  UnnamedOver : (over : Over) → Unnamed
 
--- what is open: eight frames wait for an expression, four for a query
+-- what is open: ten frames wait for an expression, four for a query
 pub data Frame : Type 0 where
   LeftOf : (l : Expr) (o : Op) (at : ℕ) → Frame
   NotOf : (at : ℕ) → Frame
@@ -53,6 +57,8 @@ pub data Frame : Type 0 where
   InItem : (items : List Item) → Frame
   InFold : (items : List Item) (fold : Fold) (at open' : ℕ) → Frame
   InWsum : (items : List Item) (at open' : ℕ) → Frame
+  InCall : (items : List Item) (call : Call) (word : Spelling) (open' : ℕ) → Frame
+  InCondition : (items : List Item) (agg : OverAgg) (word : Spelling) (open' : ℕ) → Frame
   InFilter : (pick : Pick) (source : Query) (window : Option Window) → Frame
   JoinOf : (l : Query) (join : Join) (at : ℕ) → Frame
   InQuery : (at : ℕ) → Frame
@@ -77,7 +83,16 @@ pub data Control : Type 0 where
   WantWeight : (items : List Item) (at open' : ℕ) (arg : Expr) (weights : List Num) → Control
   HaveWeight : (items : List Item) (at open' : ℕ) (arg : Expr) (weights : List Num) → Control
   WantWsumClose : (items : List Item) (at open' : ℕ) (arg : Expr) (weights : List Num) → Control
-  WantAs : (items : List Item) (agg : Agg) → Control
+  HaveAgg : (items : List Item) (agg : Agg) → Control
+  WantCallOpen : (items : List Item) (call : Call) (at : ℕ) → Control
+  WantBack : (items : List Item) (word : Spelling) (open' : ℕ) (arg : Expr) → Control
+  WantLagClose : (items : List Item) (word : Spelling) (open' : ℕ) (arg : Expr) (back : Num) → Control
+  WantOver : (items : List Item) (head : OverHead) → Control
+  WantFilterOpen : (items : List Item) (agg : OverAgg) (word : Spelling) → Control
+  WantFilterWhere : (items : List Item) (agg : OverAgg) (word : Spelling) (open' : ℕ) → Control
+  WantOverOpen : (items : List Item) (head : OverHead) (word : Spelling) → Control
+  InOver : (items : List Item) (head : OverHead) (word : Spelling) (open' : ℕ) (rows : RowsSoFar) → Control
+  WantOverAs : (items : List Item) (over : Over) → Control
   WantItemName : (items : List Item) (unnamed : Unnamed) → Control
   HaveItem : (items : List Item) → Control
   WantFrom : (at : ℕ) → Control

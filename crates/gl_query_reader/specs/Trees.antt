@@ -7,17 +7,23 @@ use Rattle.gl_query_reader.specs.Meaning.{each_group}
 use Rattle.gl_query_reader.specs.declared.written.WrittenExpr as expr
 use Rattle.gl_query_reader.specs.declared.written.WrittenAgg.{WrittenAgg}
 use Rattle.gl_query_reader.specs.declared.written.WrittenAgg.TheVariants as agg
+use Rattle.gl_query_reader.specs.declared.written.WrittenOverAgg.{WrittenOverAgg}
+use Rattle.gl_query_reader.specs.declared.written.WrittenOverAgg.TheVariants as over_agg
+use Rattle.gl_query_reader.specs.declared.written.WrittenFilter.{WrittenFilter}
+use Rattle.gl_query_reader.specs.declared.written.WrittenHead.{WrittenHead}
+use Rattle.gl_query_reader.specs.declared.written.WrittenHead.TheVariants as written_head
+use Rattle.gl_query_reader.specs.declared.written.WrittenOver.{WrittenOver}
 use Rattle.gl_query_reader.specs.declared.written.WrittenItem.{WrittenItem}
 use Rattle.gl_query_reader.specs.declared.written.WrittenItem.TheVariants as item
 use Rattle.gl_query_reader.specs.declared.written.WrittenPick.{WrittenPick}
 use Rattle.gl_query_reader.specs.declared.written.WrittenPick.TheVariants as pick
-use Rattle.gl_query_reader.specs.declared.written.Over.{Over}
+use Rattle.gl_query_reader.specs.declared.written.Over.{Over as EachOver}
 use Rattle.gl_query_reader.specs.declared.written.Over.TheVariants as over
 use Rattle.gl_query_reader.specs.declared.written.WrittenEach.{WrittenEach}
 use Rattle.gl_query_reader.specs.declared.written.WrittenSelect.{WrittenSelect}
 use Rattle.gl_query_reader.specs.declared.written.WrittenQuery as query
 use Rattle.gl_query_reader.specs.declared.written.WrittenStatement.{WrittenStatement}
-use Rattle.gl_query_reader.specs.Written.{Expr, Column, Number, Minus, Letters, Brackets, Cast, Not, Binary, Agg, Count, Fold', Wsum, Item, Bare, Named, Total, Pick, All, Items, Query, Stream, InBrackets, Select, Windows, Groups, Join', Statement}
+use Rattle.gl_query_reader.specs.Written.{Expr, Column, Number, Minus, Letters, Brackets, Cast, Not, Binary, Agg, Count, Fold', Wsum, OverAgg, CountOf, FoldOf, LastOf, Filtering, FilterOf, OverHead, LagOf, Ranged, Over, OverOf, Item, Bare, Named, Total, Framed, Pick, All, Items, Query, Stream, InBrackets, Select, Windows, Groups, Join', Statement}
 use Rattle.gl_query_reader.specs.declared.frames.Head.{Head}
 use Rattle.gl_query_reader.specs.declared.frames.WindowBy.{WindowBy}
 use Rattle.gl_query_reader.specs.declared.frames.WindowBy.TheVariants as window_by
@@ -35,6 +41,8 @@ use Rattle.gl_query_reader.specs.declared.state.ExprControl.{ExprControl}
 use Rattle.gl_query_reader.specs.declared.state.ExprControl.TheVariants as expr_control
 use Rattle.gl_query_reader.specs.declared.state.ItemControl.{ItemControl}
 use Rattle.gl_query_reader.specs.declared.state.ItemControl.TheVariants as item_control
+use Rattle.gl_query_reader.specs.declared.over_state.OverControl.{OverControl}
+use Rattle.gl_query_reader.specs.declared.over_state.OverControl.TheVariants as over_control
 use Rattle.gl_query_reader.specs.declared.state.AggControl.{AggControl}
 use Rattle.gl_query_reader.specs.declared.state.AggControl.TheVariants as agg_control
 use Rattle.gl_query_reader.specs.declared.state.SourceControl.{SourceControl}
@@ -64,11 +72,31 @@ agg_of (agg.Count at open') = Count at open'
 agg_of (agg.Fold fold at open' e) = Fold' fold at open' (expr_of e)
 agg_of (agg.Wsum at open' e ns) = Wsum at open' (expr_of e) ns
 
+-- the function over rows that the reader's tree of it stands for
+abbrev pub over_agg_of : WrittenOverAgg → OverAgg
+over_agg_of (over_agg.Count at open') = CountOf at open'
+over_agg_of (over_agg.Fold fold at open' e) = FoldOf fold at open' (expr_of e)
+over_agg_of (over_agg.LastValue w open' e) = LastOf w open' (expr_of e)
+
+-- the FILTER that the reader's tree of it stands for
+abbrev pub filtering_of : WrittenFilter → Filtering
+filtering_of f = FilterOf f.word f.open (expr_of f.cond)
+
+-- what stands before OVER, from the reader's tree of it
+abbrev pub written_head_of : WrittenHead → OverHead
+written_head_of (written_head.Lag w open' e back) = LagOf w open' (expr_of e) back
+written_head_of (written_head.Ranged a filter) = Ranged (over_agg_of a) (option_map filtering_of filter)
+
+-- the function with OVER that the reader's tree of it stands for
+abbrev pub written_over_of : WrittenOver → Over
+written_over_of o = OverOf (written_head_of o.head) o.word o.open o.rows
+
 -- the item that the reader's tree of it stands for
 abbrev pub item_of : WrittenItem → Item
 item_of (item.Bare name) = Bare name
 item_of (item.Named e name) = Named (expr_of e) name
 item_of (item.Total a name) = Total (agg_of a) name
+item_of (item.Framed o name) = Framed (written_over_of o) name
 
 -- the items that the reader's trees stand for, in their order
 abbrev pub items_of : List WrittenItem → List Item
@@ -88,7 +116,7 @@ abbrev pub select_of : WrittenSelect → Query → Query
 select_of s source = Select (pick_of s.pick) source s.window (filter_of s.filter) s.grouping
 
 -- the EACH over windows or groups that its parts stand for
-abbrev pub over_of : Over → ℕ → Name → ℕ → Query → Query → Query
+abbrev pub over_of : EachOver → ℕ → Name → ℕ → Query → Query → Query
 over_of (over.Windows w) at var open' source body = Windows at var source w open' body
 over_of (over.Groups g w) at var open' source body = Groups at var source g w open' body
 
@@ -105,7 +133,7 @@ query_of (query.Each' e p source q body) = each_of e (query_of source) (query_of
 query_of (query.Join' join at p l q r) = Join' join at (query_of l) (query_of r)
 
 -- what an EACH means over what its source means, with what its body means
-abbrev pub over_tree : Over → ℕ → Name → QueryTree → QueryTree → QueryTree
+abbrev pub over_tree : EachOver → ℕ → Name → QueryTree → QueryTree → QueryTree
 over_tree (over.Windows w) at var source body = Each w.measure var source w.size w.advance body at
 over_tree (over.Groups g w) at var source body = each_group var source g w body at
 
@@ -129,7 +157,7 @@ window_head_of (window_by.Each at var) = states.EachWindow at var
 window_head_of (window_by.Groups at var grouping) = states.GroupsWindow at var grouping
 
 -- what stands before the bracket of a body over windows or groups
-abbrev pub over_head_of : Over → ℕ → Name → Query → states.BodyHead
+abbrev pub over_head_of : EachOver → ℕ → Name → Query → states.BodyHead
 over_head_of (over.Windows w) at var source = states.WindowsHead at var source w
 over_head_of (over.Groups g w) at var source = states.GroupsHead' at var source g w
 
@@ -147,6 +175,7 @@ groups_head_of (groups_head.Each at var source) = states.EachGroups at var (quer
 abbrev pub unnamed_of : Unnamed → states.Unnamed
 unnamed_of (unnamed.Expr e) = states.UnnamedExpr (expr_of e)
 unnamed_of (unnamed.Agg a) = states.UnnamedAgg (agg_of a)
+unnamed_of (unnamed.Over o) = states.UnnamedOver (written_over_of o)
 
 -- what is open, from the reader's frame
 abbrev pub frame_of : Frame → states.Frame
@@ -157,6 +186,8 @@ frame_of (frame.InCast at open') = states.InCast at open'
 frame_of (frame.InItem items) = states.InItem (items_of items)
 frame_of (frame.InFold items fold at open') = states.InFold (items_of items) fold at open'
 frame_of (frame.InWsum items at open') = states.InWsum (items_of items) at open'
+frame_of (frame.InCall items c w open') = states.InCall (items_of items) c w open'
+frame_of (frame.InCondition h open') = states.InCondition (items_of h.items) (over_agg_of h.agg) h.word open'
 frame_of (frame.InFilter from) = states.InFilter (pick_of from.pick) (query_of from.source) from.window
 frame_of (frame.JoinOf l join at) = states.JoinOf (query_of l) join at
 frame_of (frame.InQuery at) = states.InQuery at
@@ -179,7 +210,7 @@ expr_control_of (expr_control.WantCastClose h word kind) = states.WantCastClose 
 -- what was read last between the items of a select, from the reader's value
 abbrev pub item_control_of : ItemControl → states.Control
 item_control_of (item_control.WantItem items) = states.WantItem (items_of items)
-item_control_of (item_control.WantAs items a) = states.WantAs (items_of items) (agg_of a)
+item_control_of (item_control.HaveAgg items a) = states.HaveAgg (items_of items) (agg_of a)
 item_control_of (item_control.WantItemName items u) = states.WantItemName (items_of items) (unnamed_of u)
 item_control_of (item_control.HaveItem items) = states.HaveItem (items_of items)
 item_control_of (item_control.WantFrom at) = states.WantFrom at
@@ -194,6 +225,21 @@ agg_control_of (agg_control.WantWeightsOpen h) = states.WantWeightsOpen (items_o
 agg_control_of (agg_control.WantWeight h ns) = states.WantWeight (items_of h.items) h.at h.open (expr_of h.arg) ns
 agg_control_of (agg_control.HaveWeight h ns) = states.HaveWeight (items_of h.items) h.at h.open (expr_of h.arg) ns
 agg_control_of (agg_control.WantWsumClose h ns) = states.WantWsumClose (items_of h.items) h.at h.open (expr_of h.arg) ns
+
+-- what was read last inside a function with OVER, from the reader's value
+abbrev pub over_control_of : OverControl → states.Control
+over_control_of (over_control.WantCallOpen items c at) = states.WantCallOpen (items_of items) c at
+over_control_of (over_control.WantBack h) = states.WantBack (items_of h.items) h.word h.open (expr_of h.arg)
+over_control_of (over_control.WantLagClose h back) =
+    states.WantLagClose (items_of h.items) h.word h.open (expr_of h.arg) back
+over_control_of (over_control.WantOver items head) = states.WantOver (items_of items) (written_head_of head)
+over_control_of (over_control.WantFilterOpen h) = states.WantFilterOpen (items_of h.items) (over_agg_of h.agg) h.word
+over_control_of (over_control.WantFilterWhere h open') =
+    states.WantFilterWhere (items_of h.items) (over_agg_of h.agg) h.word open'
+over_control_of (over_control.WantOverOpen h) = states.WantOverOpen (items_of h.items) (written_head_of h.head) h.word
+over_control_of (over_control.InOver h open' rows) =
+    states.InOver (items_of h.items) (written_head_of h.head) h.word open' rows
+over_control_of (over_control.WantOverAs items o) = states.WantOverAs (items_of items) (written_over_of o)
 
 -- what was read last before or behind a source, from the reader's value
 abbrev pub source_control_of : SourceControl → states.Control
@@ -239,6 +285,7 @@ abbrev pub control_of : Control → states.Control
 control_of (control.Expr c) = expr_control_of c
 control_of (control.Item c) = item_control_of c
 control_of (control.Agg c) = agg_control_of c
+control_of (control.Over c) = over_control_of c
 control_of (control.Source c) = source_control_of c
 control_of (control.Window c) = window_control_of c
 control_of (control.Groups c) = groups_control_of c

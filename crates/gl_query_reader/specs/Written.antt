@@ -12,11 +12,20 @@ use Rattle.gl_query_tokens.specs.declared.token.Fold.{Fold}
 use Rattle.gl_query_tokens.specs.declared.token.Join.{Join}
 use Rattle.gl_query_tokens.specs.declared.token.Plain.{Plain}
 use Rattle.gl_query_tokens.specs.declared.token.Plain.TheVariants as plain
+use Rattle.gl_query_tokens.specs.declared.token.Word.{Word}
+use Rattle.gl_query_tokens.specs.declared.token.Word.TheVariants as word
+use Rattle.gl_query_tokens.specs.declared.token.Spelling.{Spelling}
+use Rattle.gl_query_tokens.specs.declared.token.Spelling.TheVariants.{Small, Capital}
 use Rattle.gl_query_tokens.specs.declared.token.Token.{Token}
 use Rattle.gl_query_tokens.specs.declared.token.Token.TheVariants as token
+use Rattle.gl_query_tokens.specs.Words.{word_text}
 use Rattle.gl_query_reader.specs.declared.written.RowWindow.{RowWindow}
 use Rattle.gl_query_reader.specs.declared.written.Window.{Window}
 use Rattle.gl_query_reader.specs.declared.written.Grouping.{Grouping}
+use Rattle.gl_query_reader.specs.declared.written.Bound.{Bound}
+use Rattle.gl_query_reader.specs.declared.written.Bound.TheVariants as bound
+use Rattle.gl_query_reader.specs.declared.written.FrameRows.{FrameRows}
+use Rattle.gl_query_reader.specs.declared.written.FrameRows.TheVariants as rows
 
 -- an expression as it is written, brackets included
 pub data Expr : Type 0 where
@@ -35,11 +44,31 @@ pub data Agg : Type 0 where
   Fold' : (fold : Fold) (at open' : ℕ) (e : Expr) → Agg
   Wsum : (at open' : ℕ) (e : Expr) (weights : List Num) → Agg
 
--- an item: a column under its own name, an expression or an aggregate under a name
+-- a function over the rows of a frame as it is written
+pub data OverAgg : Type 0 where
+  CountOf : (at open' : ℕ) → OverAgg
+  FoldOf : (fold : Fold) (at open' : ℕ) (e : Expr) → OverAgg
+  LastOf : (word : Spelling) (open' : ℕ) (e : Expr) → OverAgg
+
+-- FILTER as it is written, with its condition
+pub data Filtering : Type 0 where
+  FilterOf : (word : Spelling) (open' : ℕ) (e : Expr) → Filtering
+
+-- what stands before OVER: LAG and how many rows it looks back, or a function over rows and its FILTER
+pub data OverHead : Type 0 where
+  LagOf : (word : Spelling) (open' : ℕ) (e : Expr) (back : Option Num) → OverHead
+  Ranged : (agg : OverAgg) (filter : Option Filtering) → OverHead
+
+-- a function with OVER, and the rows in the bracket behind it
+pub data Over : Type 0 where
+  OverOf : (head : OverHead) (word : Spelling) (open' : ℕ) (rows : Option FrameRows) → Over
+
+-- an item: a column under its own name, an expression, an aggregate or a function with OVER under a name
 pub data Item : Type 0 where
   Bare : (name : Name) → Item
   Named : (e : Expr) (name : Name) → Item
   Total : (agg : Agg) (name : Name) → Item
+  Framed : (over : Over) (name : Name) → Item
 
 -- what a select picks
 pub data Pick : Type 0 where
@@ -122,11 +151,39 @@ IsAgg (Fold' fold at open' e) = IsExpr e
 IsAgg (Wsum at open' e []) = ⊥
 IsAgg (Wsum at open' e (n ∷ ns)) = IsExpr e
 
--- an item is written by the grammar where its expression or aggregate is
+-- the argument of a function over rows is written by the grammar
+abbrev pub IsOverAgg : OverAgg → Type 0
+IsOverAgg (CountOf at open') = Unit {0}
+IsOverAgg (FoldOf fold at open' e) = IsExpr e
+IsOverAgg (LastOf word open' e) = IsExpr e
+
+-- the condition of FILTER is written by the grammar, or there is none
+abbrev pub IsFiltering : Option Filtering → Type 0
+IsFiltering None = Unit {0}
+IsFiltering (Some (FilterOf word open' e)) = IsExpr e
+
+-- what stands before OVER is written by the grammar
+abbrev pub IsOverHead : OverHead → Type 0
+IsOverHead (LagOf word open' e back) = IsExpr e
+IsOverHead (Ranged agg filter) = IsOverAgg agg × IsFiltering filter
+
+-- LAG has no rows behind OVER, and a function over rows has some
+abbrev pub FitsRows : OverHead → Option FrameRows → Type 0
+FitsRows (LagOf word open' e back) None = Unit {0}
+FitsRows (LagOf word open' e back) (Some r) = ⊥
+FitsRows (Ranged agg filter) None = ⊥
+FitsRows (Ranged agg filter) (Some r) = Unit {0}
+
+-- a function with OVER is written by the grammar
+abbrev pub IsOver : Over → Type 0
+IsOver (OverOf head word open' rows) = IsOverHead head × FitsRows head rows
+
+-- an item is written by the grammar where its expression, its aggregate or its function is
 abbrev pub IsItem : Item → Type 0
 IsItem (Bare name) = Unit {0}
 IsItem (Named e name) = IsExpr e
 IsItem (Total agg name) = IsAgg agg
+IsItem (Framed over name) = IsOver over
 
 -- every item is written by the grammar
 abbrev pub AreItems : List Item → Type 0
@@ -202,11 +259,60 @@ spell_agg (Wsum at open' e ns) =
     token.Wsum at ∷ token.Open open' ∷ (spell e ++ token.Plain plain.Comma ∷ token.Plain plain.LeftSquare
     ∷ (spell_numbers ns ++ token.Plain plain.RightSquare ∷ token.Plain plain.Close ∷ []))
 
--- the tokens of an item: a column alone, or an expression or aggregate with AS and a name
+-- the token of a word of frames: a name in small letters, or the word
+abbrev pub spell_word : Word → Spelling → Token
+spell_word w (Small at) = token.Name (record { text = word_text w; at = at })
+spell_word w (Capital at) = token.Word w at
+
+-- the tokens of a function over rows: its keyword or its word, and in brackets its argument
+abbrev pub spell_over_agg : OverAgg → List Token
+spell_over_agg (CountOf at open') = token.Count at ∷ token.Open open' ∷ token.Plain plain.Close ∷ []
+spell_over_agg (FoldOf fold at open' e) = token.Fold fold at ∷ token.Open open' ∷ (spell e ++ token.Plain plain.Close ∷ [])
+spell_over_agg (LastOf w open' e) =
+    spell_word word.LastValue w ∷ token.Open open' ∷ (spell e ++ token.Plain plain.Close ∷ [])
+
+-- `FILTER ( WHERE condition )`, or none
+abbrev pub spell_filtering : Option Filtering → List Token
+spell_filtering None = []
+spell_filtering (Some (FilterOf w open' e)) =
+    spell_word word.Filter w ∷ token.Open open' ∷ token.Plain plain.Where ∷ (spell e ++ token.Plain plain.Close ∷ [])
+
+-- a comma and how many rows LAG looks back, or none
+abbrev pub spell_back : Option Num → List Token
+spell_back None = []
+spell_back (Some n) = token.Plain plain.Comma ∷ token.Number n ∷ []
+
+-- the tokens of what stands before OVER
+abbrev pub spell_head : OverHead → List Token
+spell_head (LagOf w open' e back) =
+    spell_word word.Lag w ∷ token.Open open' ∷ (spell e ++ (spell_back back ++ token.Plain plain.Close ∷ []))
+spell_head (Ranged agg filter) = spell_over_agg agg ++ spell_filtering filter
+
+-- a number of rows, or UNBOUNDED
+abbrev pub spell_bound : Bound → Token
+spell_bound (bound.Number n) = token.Number n
+spell_bound (bound.Unbounded w) = spell_word word.Unbounded w
+
+-- `ROWS bound PRECEDING`, or `ROWS BETWEEN bound PRECEDING AND CURRENT ROW`, or none
+abbrev pub spell_rows : Option FrameRows → List Token
+spell_rows None = []
+spell_rows (Some (rows.Short r b p)) = spell_word word.Rows r ∷ spell_bound b ∷ spell_word word.Preceding p ∷ []
+spell_rows (Some (rows.Between f at c o)) =
+    spell_word word.Rows f.rows ∷ spell_word word.Between f.between ∷ spell_bound f.bound
+    ∷ spell_word word.Preceding f.preceding ∷ token.Operator op.And at ∷ spell_word word.Current c
+    ∷ spell_word word.Row o ∷ []
+
+-- `head OVER ( rows )`
+abbrev pub spell_over : Over → List Token
+spell_over (OverOf head w open' rows) =
+    spell_head head ++ spell_word word.Over w ∷ token.Open open' ∷ (spell_rows rows ++ token.Plain plain.Close ∷ [])
+
+-- the tokens of an item: a column alone, or an expression, an aggregate or a function with OVER, with AS and a name
 abbrev pub spell_item : Item → List Token
 spell_item (Bare name) = token.Name name ∷ []
 spell_item (Named e name) = spell e ++ token.Plain plain.As ∷ token.Name name ∷ []
 spell_item (Total agg name) = spell_agg agg ++ token.Plain plain.As ∷ token.Name name ∷ []
+spell_item (Framed over name) = spell_over over ++ token.Plain plain.As ∷ token.Name name ∷ []
 
 -- items with a comma between each two
 abbrev pub spell_items : List Item → List Token

@@ -109,7 +109,7 @@ fn have_weight(head: WsumHead, weights: Nums, token: &Token) -> Option<Control>
 
 // WSUM with its weights.
 fn weighted(head: WsumHead, weights: Nums) -> Control
-    ensures { control_of result ≡ states.WantAs (items_of head.items)
+    ensures { control_of result ≡ states.HaveAgg (items_of head.items)
         (Wsum head.at head.open (expr_of head.arg) weights) }
 {
     let WsumHead {
@@ -124,7 +124,7 @@ fn weighted(head: WsumHead, weights: Nums) -> Control
         arg,
         weights,
     };
-    Control::Item(ItemControl::WantAs { items, agg })
+    Control::Item(ItemControl::HaveAgg { items, agg })
 }
 
 /// The place behind a token in an aggregate.
@@ -141,7 +141,7 @@ pub fn step_agg(
         AggControl::WantCountOpen { items, at } => Ok(want_count_open(items, at, token)),
         AggControl::WantCountClose { items, at, open } => {
             let agg = WrittenAgg::Count { at, open };
-            let next = Control::Item(ItemControl::WantAs { items, agg });
+            let next = Control::Item(ItemControl::HaveAgg { items, agg });
             Ok(expect(token, Plain::Close, next))
         }
         AggControl::WantFoldOpen { items, fold, at } => want_fold_open(

@@ -1,19 +1,22 @@
 //! What may stand behind an expression.
 
 ghost use Rattle.std.specs.Prelude.{◌≡◌, ◌∷◌, List, IfOk};
+ghost use Rattle.gl_query_tokens.specs.Sorts as sorts;
 ghost use Rattle.gl_query_reader.specs.States as states;
 ghost use Rattle.gl_query_reader.specs.Machine as machine;
 ghost use Rattle.gl_query_reader.specs.Trees.{expr_of, items_of, pick_of, query_of, frame_of, frames_of, leads};
 
+use crate::call_steps::{after_call, begin_call};
 use crate::frames::{CastHead, Frame, SelectFrom, Unnamed, WsumHead};
 use crate::items::{have_item, with_item};
+use crate::over_steps::after_condition;
 use crate::parts::{expect, refuse};
 use crate::state::{AggControl, Control, ExprControl, GroupsControl, ItemControl};
 use crate::terms::end_select;
 use crate::written::{WrittenAgg, WrittenExpr, WrittenItem, WrittenItems};
 use gl_bits::boxes::{OneBox, one_box};
 use gl_query::Name;
-use gl_query_tokens::sorts::is_plain;
+use gl_query_tokens::sorts::{is_plain, open_in};
 use gl_query_tokens::{Fold, Plain, Token};
 use std::alloc::{AllocError, Global};
 
@@ -30,21 +33,40 @@ fn bare(expr: WrittenExpr) -> Option<Name>
     }
 }
 
+// Behind a column alone, which a bracket makes the name of a function.
+fn after_bare(
+    frames: &mut Vec<Frame>,
+    items: WrittenItems,
+    name: Name,
+    token: &Token,
+) -> Result<Option<Control>, AllocError>
+    ensures { IfOk result (λ o. leads o (frames_of frames.new.items)
+        ≡ machine.bare_or_call (sorts.open_in token.now) (frames_of frames.old.items)
+        (items_of items) name token.now) }
+{
+    match open_in(token) {
+        Some(open) => begin_call(frames, items, &name, open),
+        None => Ok(have_item(with_item(items, WrittenItem::Bare(name))?, token)),
+    }
+}
+
 // Behind the expression of an item.
 fn after_item(
+    frames: &mut Vec<Frame>,
     items: WrittenItems,
     expr: WrittenExpr,
     token: &Token,
 ) -> Result<Option<Control>, AllocError>
-    ensures { IfOk result (λ o. (fs : List states.Frame) → leads o fs
-        ≡ machine.after_item fs (items_of items) (expr_of expr) token.now) }
+    ensures { IfOk result (λ o. leads o (frames_of frames.new.items)
+        ≡ machine.after_item (frames_of frames.old.items) (items_of items) (expr_of expr)
+        token.now) }
 {
     if is_plain(token, Plain::As) {
         let unnamed = Unnamed::Expr(expr);
         return Ok(Some(Control::Item(ItemControl::WantItemName { items, unnamed })));
     }
     match bare(expr) {
-        Some(name) => Ok(have_item(with_item(items, WrittenItem::Bare(name))?, token)),
+        Some(name) => after_bare(frames, items, name, token),
         None => Ok(refuse(items)),
     }
 }
@@ -123,7 +145,7 @@ fn after_fold(
     expect(
         token,
         Plain::Close,
-        Control::Item(ItemControl::WantAs { items, agg }),
+        Control::Item(ItemControl::HaveAgg { items, agg }),
     )
 }
 
@@ -182,7 +204,7 @@ fn after_expr_in(
     match frame {
         Frame::InBrackets { at } => after_brackets(alloc, at, expr, token),
         Frame::InCast { at, open } => Ok(after_cast(at, open, expr, token)),
-        Frame::InItem { items } => after_item(items, expr, token),
+        Frame::InItem { items } => after_item(frames, items, expr, token),
         Frame::InFold {
             items,
             fold,
@@ -190,6 +212,13 @@ fn after_expr_in(
             open,
         } => Ok(after_fold(items, fold, at, open, expr, token)),
         Frame::InWsum { items, at, open } => Ok(after_wsum(items, at, open, expr, token)),
+        Frame::InCall {
+            items,
+            call,
+            word,
+            open,
+        } => Ok(after_call(items, call, word, open, expr, token)),
+        Frame::InCondition { head, open } => Ok(after_condition(head, open, expr, token)),
         Frame::InFilter(from) => after_filter(alloc, frames, from, expr, token),
         other => Ok(refuse((other, expr))),
     }

@@ -1,10 +1,12 @@
 //! What is open of the text that was read so far.
 
+use crate::over_state::{Call, FilterHead};
 use crate::written::{
-    Grouping, Over, Window, WrittenAgg, WrittenExpr, WrittenItems, WrittenPick, WrittenQuery,
+    Grouping, Over, Window, WrittenAgg, WrittenExpr, WrittenItems, WrittenOver, WrittenPick,
+    WrittenQuery,
 };
 use gl_query::{Name, Op};
-use gl_query_tokens::{Fold, Join};
+use gl_query_tokens::{Fold, Join, Spelling};
 
 /// What reads a source.
 #[derive(Drop)]
@@ -116,13 +118,15 @@ pub struct WsumHead {
     pub arg: WrittenExpr,
 }
 
-/// An expression or an aggregate that waits for its name.
+/// An expression, an aggregate or a function with OVER that waits for its name.
 #[derive(Drop)]
 pub enum Unnamed {
     /// An expression behind which AS was read.
     Expr(WrittenExpr),
     /// An aggregate behind which AS was read.
     Agg(WrittenAgg),
+    /// A function with OVER behind which AS was read.
+    Over(WrittenOver),
 }
 
 /// What is open around the place where the reader stands. The innermost frame stands last.
@@ -178,6 +182,24 @@ pub enum Frame {
         /// The place of WSUM.
         at: u64,
         /// The place of its opening bracket.
+        open: u64,
+    },
+    /// A LAG or LAST_VALUE that waits for its argument.
+    InCall {
+        /// The items before it.
+        items: WrittenItems,
+        /// Which of the two it is.
+        call: Call,
+        /// How its name is spelled.
+        word: Spelling,
+        /// The place of its opening bracket.
+        open: u64,
+    },
+    /// A FILTER that waits for its condition.
+    InCondition {
+        /// What stands before its bracket.
+        head: FilterHead,
+        /// The place of the bracket.
         open: u64,
     },
     /// A select behind WHERE, which waits for its condition.

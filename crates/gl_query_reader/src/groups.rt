@@ -3,6 +3,7 @@
 ghost use Rattle.std.specs.Prelude.{◌≡◌, List, IfOk};
 ghost use Rattle.gl_query_reader.specs.States as states;
 ghost use Rattle.gl_query_reader.specs.Machine as machine;
+ghost use Rattle.gl_query_reader.specs.Windowed as windowed;
 ghost use Rattle.gl_query_reader.specs.Trees.{pick_of, query_of, filter_of, groups_head_of, groups_control_of, leads};
 
 use crate::frames::{BodyHead, GroupsHead, SelectFrom};
@@ -19,7 +20,7 @@ use std::alloc::{AllocError, Global};
 // BY behind GROUP.
 fn want_by(from: SelectFrom, filter: Option<WrittenExpr>, token: &Token) -> Option<Control>
     ensures { (fs : List states.Frame) → leads result fs
-        ≡ machine.want_by fs (pick_of from.pick) (query_of from.source) from.window
+        ≡ windowed.want_by fs (pick_of from.pick) (query_of from.source) from.window
         (filter_of filter) token.now }
 {
     match by_in(token) {
@@ -39,7 +40,7 @@ fn want_key(
     token: &Token,
 ) -> Result<Option<Control>, AllocError>
     ensures { IfOk result (λ o. (fs : List states.Frame) → leads o fs
-        ≡ machine.want_key fs (groups_head_of head) at token.now) }
+        ≡ windowed.want_key fs (groups_head_of head) at token.now) }
 {
     match keep_named(alloc, head, token)? {
         Some(
@@ -59,7 +60,7 @@ fn after_groups(
     grouping: Grouping,
 ) -> Result<Option<Control>, AllocError>
     ensures { IfOk result (λ o. (fs : List states.Frame) → leads o fs
-        ≡ states.goes (machine.after_groups (groups_head_of head) grouping) fs) }
+        ≡ states.goes (windowed.after_groups (groups_head_of head) grouping) fs) }
 {
     match head {
         GroupsHead::Select { from, filter } => {
@@ -87,7 +88,7 @@ fn want_groups_number(
     token: &Token,
 ) -> Result<Option<Control>, AllocError>
     ensures { IfOk result (λ o. (fs : List states.Frame) → leads o fs
-        ≡ machine.want_groups_number fs (groups_head_of head) at key token.now) }
+        ≡ windowed.want_groups_number fs (groups_head_of head) at key token.now) }
 {
     match number_in(token) {
         Some(groups) => after_groups(alloc, head, Grouping { at, key, groups }),

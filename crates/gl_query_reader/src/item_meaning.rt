@@ -129,7 +129,7 @@ fn agg_meaning(alloc: Global, written: WrittenAgg) -> Result<Agg, AllocError>
     }
 }
 
-// Adds what an item means, where it is no aggregate; a column alone has its own name.
+// Adds what an item means, where it is no aggregate and has no OVER; a column alone has its own name.
 #[tactic(auto, using(crate::proofs::ItemLists::item_steps))]
 fn add_plain(alloc: Global, items: &mut Vec<Item>, item: WrittenItem) -> Result<(), AllocError>
     ensures { OnOk result (map item_tree items.new.items ≡ map item_tree items.old.items
@@ -149,6 +149,11 @@ fn add_plain(alloc: Global, items: &mut Vec<Item>, item: WrittenItem) -> Result<
         }
         WrittenItem::Total { agg, name } => {
             drop(agg);
+            drop(name);
+            Ok(())
+        }
+        WrittenItem::Framed { over, name } => {
+            drop(over);
             drop(name);
             Ok(())
         }
@@ -178,10 +183,15 @@ fn add_agg(alloc: Global, aggs: &mut Vec<AggItem>, item: WrittenItem) -> Result<
             drop(name);
             Ok(())
         }
+        WrittenItem::Framed { over, name } => {
+            drop(over);
+            drop(name);
+            Ok(())
+        }
     }
 }
 
-/// What the items that are no aggregates mean.
+/// What the items that are no aggregates and have no OVER mean.
 #[tactic(auto, using(crate::proofs::ItemLists::item_steps))]
 pub fn plain_items(alloc: Global, written: WrittenItems) -> Result<ItemList, AllocError>
     ensures { IfOk result (λ items. map item_tree items ≡ meaning.plain_items (items_of written)) }

@@ -5,9 +5,11 @@ ghost use Rattle.gl_query_reader.specs.States as states;
 ghost use Rattle.gl_query_reader.specs.Machine as machine;
 ghost use Rattle.gl_query_reader.specs.Trees.{item_of, items_of, unnamed_of, item_control_of, frames_of, leads};
 
+use crate::call_steps::want_call;
 use crate::expressions::want_operand;
 use crate::frames::{Frame, Head, Unnamed};
 use crate::keeping::{Beside, listed, put};
+use crate::over_steps::have_agg;
 use crate::parts::{expect, keep_named, refuse};
 use crate::state::{AggControl, Control, ItemControl, SourceControl};
 use crate::written::{WrittenItem, WrittenItems, WrittenPick};
@@ -36,18 +38,18 @@ fn want_all(items: WrittenItems, op: Op, at: u64) -> Option<Control>
     }
 }
 
-// Whether the token is `*` or begins an aggregate.
+// Whether the token is `*`, or begins an aggregate or a function with a capital.
 fn begins_agg(token: &Token) -> bool
     ensures { result ≡ machine.begins_agg token.now }
 {
     match token {
         Token::Operator { op, .. } => is_star(*op),
-        Token::Count { .. } | Token::Fold { .. } | Token::Wsum { .. } => true,
+        Token::Count { .. } | Token::Fold { .. } | Token::Wsum { .. } | Token::Word { .. } => true,
         _ => false,
     }
 }
 
-// `*`, or the keyword of an aggregate.
+// `*`, the keyword of an aggregate, or a function with a capital.
 fn want_agg(items: WrittenItems, token: &Token) -> Option<Control>
     ensures { (fs : List states.Frame) →
         leads result fs ≡ machine.want_agg (items_of items) fs token.now }
@@ -60,6 +62,7 @@ fn want_agg(items: WrittenItems, token: &Token) -> Option<Control>
             Some(Control::Agg(AggControl::WantFoldOpen { items, fold, at }))
         }
         Token::Wsum { at } => Some(Control::Agg(AggControl::WantWsumOpen { items, at: *at })),
+        Token::Word { word, at } => want_call(items, *word, *at),
         _ => refuse(items),
     }
 }
@@ -88,6 +91,7 @@ fn under_name(unnamed: Unnamed, name: Name) -> WrittenItem
     match unnamed {
         Unnamed::Expr(expr) => WrittenItem::Named { expr, name },
         Unnamed::Agg(agg) => WrittenItem::Total { agg, name },
+        Unnamed::Over(over) => WrittenItem::Framed { over, name },
     }
 }
 
@@ -151,11 +155,7 @@ pub fn step_item(
 {
     match control {
         ItemControl::WantItem { items } => want_item(alloc, items, frames, token),
-        ItemControl::WantAs { items, agg } => {
-            let unnamed = Unnamed::Agg(agg);
-            let next = Control::Item(ItemControl::WantItemName { items, unnamed });
-            Ok(expect(token, Plain::As, next))
-        }
+        ItemControl::HaveAgg { items, agg } => Ok(have_agg(items, agg, token)),
         ItemControl::WantItemName { items, unnamed } => {
             want_item_name(alloc, items, unnamed, token)
         }

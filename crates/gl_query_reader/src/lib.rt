@@ -3,6 +3,7 @@
 #![tactic(auto)]
 
 mod aggregates;
+mod call_steps;
 mod expressions;
 mod following;
 mod frames;
@@ -15,9 +16,13 @@ mod limits;
 mod meaning;
 mod mixed;
 mod operators;
+mod over_meaning;
+mod over_state;
+mod over_steps;
 mod parsing;
 mod parts;
 mod queries;
+mod row_steps;
 mod select_meaning;
 mod sources;
 mod state;

@@ -15,7 +15,7 @@ pub struct Counts {
     pub operators: u32,
     /// UNION and CONCAT so far.
     pub joins: u32,
-    /// Whether an operand may begin here.
+    /// Whether an operand may begin here, or the bracket of CAST.
     pub operand: bool,
 }
 
@@ -24,7 +24,8 @@ fn begins_operand(token: &Token) -> bool
     ensures { result ≡ limits.begins_operand token.now }
 {
     match token {
-        Token::Open { .. } | Token::Operator { .. } | Token::Not { .. } => true,
+        Token::Open { .. } | Token::Operator { .. } => true,
+        Token::Not { .. } | Token::Cast { .. } => true,
         Token::Plain(plain) => match plain {
             Plain::Select | Plain::Where | Plain::Comma | Plain::LeftSquare => true,
             _ => false,
@@ -64,6 +65,7 @@ impl Counts {
         match token {
             Token::Open { .. } => Counts {
                 brackets: self.brackets + 1,
+                operators: self.operators_open(),
                 ..self
             },
             Token::Operator { .. } => Counts {
@@ -96,6 +98,13 @@ impl Counts {
         } else {
             self.operators + 1
         }
+    }
+
+    // What is in a bracket where no operand begins counts anew.
+    fn operators_open(self) -> u32
+        ensures { result ≡ limits.operators_open self }
+    {
+        if self.operand { self.operators } else { 0 }
     }
 
     fn with_plain(self, plain: Plain) -> Counts

@@ -3,10 +3,14 @@
 ghost use Rattle.std.specs.Prelude.{◌≡◌};
 ghost use Rattle.gl_query_reader.specs.Meaning as meaning;
 ghost use Rattle.gl_query_reader.specs.Mixed as mixed;
-ghost use Rattle.gl_query_reader.specs.Trees.{expr_of, agg_of, item_of, items_of, pick_of, query_of};
+ghost use Rattle.gl_query_reader.specs.Trees.{expr_of, agg_of, over_agg_of, written_over_of, item_of, items_of, pick_of, query_of};
 
-use crate::written::{Grouping, WrittenAgg, WrittenExpr, WrittenItem, WrittenPick, WrittenQuery};
+use crate::written::{
+    Grouping, WrittenAgg, WrittenExpr, WrittenHead, WrittenItem, WrittenOver, WrittenOverAgg,
+    WrittenPick, WrittenQuery,
+};
 use gl_query::Name;
+use gl_query_tokens::Spelling;
 
 // The place of an expression's first token.
 fn first_at(expr: &WrittenExpr) -> u64
@@ -34,6 +38,37 @@ fn agg_at(agg: &WrittenAgg) -> u64
     }
 }
 
+/// The place of a word of frames.
+pub fn spelled_at(word: Spelling) -> u64
+    ensures { result ≡ meaning.spelled_at word }
+{
+    match word {
+        Spelling::Small { at } => at,
+        Spelling::Capital { at } => at,
+    }
+}
+
+/// The place of a function over rows.
+pub fn over_agg_at(agg: &WrittenOverAgg) -> u64
+    ensures { result ≡ meaning.over_agg_at (over_agg_of agg.now) }
+{
+    match agg {
+        WrittenOverAgg::Count { at, .. } => *at,
+        WrittenOverAgg::Fold { at, .. } => *at,
+        WrittenOverAgg::LastValue { word, .. } => spelled_at(*word),
+    }
+}
+
+// The place of the function of an OVER.
+fn over_at(over: &WrittenOver) -> u64
+    ensures { result ≡ mixed.over_at (written_over_of over.now) }
+{
+    match &over.head {
+        WrittenHead::Lag { word, .. } => spelled_at(*word),
+        WrittenHead::Ranged { agg, .. } => over_agg_at(agg),
+    }
+}
+
 // The place of an item's first token.
 fn item_at(item: &WrittenItem) -> u64
     ensures { result ≡ mixed.item_at (item_of item.now) }
@@ -42,6 +77,7 @@ fn item_at(item: &WrittenItem) -> u64
         WrittenItem::Bare(name) => name.at,
         WrittenItem::Named { expr, .. } => first_at(expr),
         WrittenItem::Total { agg, .. } => agg_at(agg),
+        WrittenItem::Framed { over, .. } => over_at(over),
     }
 }
 
@@ -53,7 +89,30 @@ pub fn is_total(item: &WrittenItem) -> bool
         WrittenItem::Bare(_) => false,
         WrittenItem::Named { .. } => false,
         WrittenItem::Total { .. } => true,
+        WrittenItem::Framed { .. } => false,
     }
+}
+
+fn is_framed(item: &WrittenItem) -> bool
+    ensures { result ≡ meaning.is_framed (item_of item.now) }
+{
+    match item {
+        WrittenItem::Framed { .. } => true,
+        _ => false,
+    }
+}
+
+/// Whether some item has OVER.
+#[tactic(auto, using(crate::proofs::ItemLists::item_steps))]
+pub fn has_over(items: &[WrittenItem]) -> bool
+    ensures { result ≡ meaning.has_over (items_of items.now) }
+{
+    for item in items {
+        if is_framed(item) {
+            return true;
+        }
+    }
+    false
 }
 
 // Whether the item is of this sort.
@@ -88,6 +147,7 @@ fn is_key(key: &Name, item: &WrittenItem) -> bool
         WrittenItem::Bare(name) => name.text.as_slice() == key.text.as_slice(),
         WrittenItem::Named { .. } => false,
         WrittenItem::Total { .. } => false,
+        WrittenItem::Framed { .. } => false,
     }
 }
 

@@ -14,6 +14,7 @@ use crate::frames::Frame;
 use crate::groups::step_groups;
 use crate::items::step_item;
 use crate::limits::Counts;
+use crate::over_steps::step_over;
 use crate::queries::step_query;
 use crate::sources::step_source;
 use crate::state::{Control, QueryControl};
@@ -56,6 +57,7 @@ fn step(
         Control::Expr(control) => step_expr(alloc, control, frames, token),
         Control::Item(control) => step_item(alloc, control, frames, token),
         Control::Agg(control) => step_agg(alloc, control, frames, token),
+        Control::Over(control) => step_over(control, frames, token),
         Control::Source(control) => step_source(alloc, control, frames, token),
         Control::Window(control) => Ok(step_window(control, token)),
         Control::Groups(control) => step_groups(alloc, control, token),

@@ -2,12 +2,13 @@
 
 ghost use Rattle.std.specs.Prelude.{◌≡◌, IfOk, option_map};
 ghost use Rattle.gl_query_reader.specs.Meaning as meaning;
-ghost use Rattle.gl_query.specs.Trees.{filter_tree, query_tree, All, Each, Items, PerGroup, Read, Rows, Total};
+ghost use Rattle.gl_query.specs.Trees.{filter_tree, query_tree, All, Each, Frames, Items, PerGroup, Read, Rows, Total};
 ghost use Rattle.gl_query_reader.specs.Trees.{items_of, pick_of, filter_of};
 
 use crate::item_meaning::{agg_items, expr_meaning, plain_items};
 use crate::keeping::{Beside, keep_beside, take_both};
-use crate::mixed::is_total;
+use crate::mixed::{has_over, is_total};
+use crate::over_meaning::frame_items;
 use crate::written::{
     Grouping, Window, WrittenExpr, WrittenItem, WrittenItems, WrittenPick, WrittenSelect,
 };
@@ -106,6 +107,49 @@ fn rows(
     })
 }
 
+fn framed_rows(
+    alloc: Global,
+    items: WrittenItems,
+    filter: Option<Expr>,
+    source: Query,
+) -> Result<Query, AllocError>
+    ensures { IfOk result (λ q. query_tree q
+        ≡ Frames (meaning.frame_items (items_of items)) (filter_tree filter)
+        (query_tree source)) }
+{
+    let OneBox {
+        kept: (items, filter),
+        boxed: source,
+    } = one_box(alloc, (items, filter), source)?;
+    let Beside {
+        kept: (filter, source),
+        made: items,
+    } = keep_beside((filter, source), frame_items(alloc, items))?;
+    Ok(Query::Frames {
+        items,
+        filter,
+        source,
+    })
+}
+
+// With one OVER the items are frames, without any they are expressions over a row.
+fn by_over(
+    alloc: Global,
+    items: WrittenItems,
+    filter: Option<Expr>,
+    source: Query,
+) -> Result<Query, AllocError>
+    ensures { IfOk result (λ q. query_tree q
+        ≡ meaning.by_over (meaning.has_over (items_of items)) (items_of items)
+        (filter_tree filter) (query_tree source)) }
+{
+    if has_over(items.as_slice()) {
+        framed_rows(alloc, items, filter, source)
+    } else {
+        rows(alloc, items, filter, source)
+    }
+}
+
 fn begins_total(items: &[WrittenItem]) -> bool
     ensures { result ≡ meaning.begins_total (items_of items.now) }
 {
@@ -130,7 +174,7 @@ fn by_pick(
             if begins_total(items.as_slice()) {
                 filtered_totals(alloc, items, filter, source)
             } else {
-                rows(alloc, items, filter, source)
+                by_over(alloc, items, filter, source)
             }
         }
     }

@@ -3,6 +3,7 @@
 use crate::frames::{
     BodyHead, CastHead, GroupsHead, Head, SelectFrom, Unnamed, WindowHead, WsumHead,
 };
+use crate::over_state::OverControl;
 use crate::written::{Window, WrittenAgg, WrittenExpr, WrittenItems, WrittenQuery};
 use gl_query::{Name, Num, Nums};
 use gl_query_tokens::Fold;
@@ -49,18 +50,18 @@ pub enum ItemControl {
         /// The items that are complete.
         items: WrittenItems,
     },
-    /// AS behind an aggregate.
-    WantAs {
+    /// AS behind an aggregate, or what makes a function with OVER of it.
+    HaveAgg {
         /// The items that are complete.
         items: WrittenItems,
-        /// The aggregate that waits for its name.
+        /// The aggregate that was read last.
         agg: WrittenAgg,
     },
     /// The name of an item.
     WantItemName {
         /// The items that are complete.
         items: WrittenItems,
-        /// The expression or aggregate that waits for its name.
+        /// What waits for its name.
         unnamed: Unnamed,
     },
     /// `,` or FROM behind an item.
@@ -273,6 +274,8 @@ pub enum Control {
     Item(ItemControl),
     /// In an aggregate.
     Agg(AggControl),
+    /// In a function with OVER.
+    Over(OverControl),
     /// At a source.
     Source(SourceControl),
     /// In a window.

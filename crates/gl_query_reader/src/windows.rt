@@ -3,6 +3,7 @@
 ghost use Rattle.std.specs.Prelude.{◌≡◌, List};
 ghost use Rattle.gl_query_reader.specs.States as states;
 ghost use Rattle.gl_query_reader.specs.Machine as machine;
+ghost use Rattle.gl_query_reader.specs.Windowed as windowed;
 ghost use Rattle.gl_query_reader.specs.Trees.{query_of, window_head_of, window_control_of, control_of, leads};
 
 use crate::frames::{BodyHead, SelectFrom, WindowBy, WindowHead};
@@ -16,7 +17,7 @@ use gl_query_tokens::{Plain, Token};
 // SIZE.
 fn want_size(head: WindowHead, token: &Token) -> Option<Control>
     ensures { (fs : List states.Frame) → leads result fs
-        ≡ machine.want_size fs (window_head_of head.head) (query_of head.source) token.now }
+        ≡ windowed.want_size fs (window_head_of head.head) (query_of head.source) token.now }
 {
     match size_in(token) {
         Some(at) => Some(Control::Window(WindowControl::WantSizeNumber { head, at })),
@@ -27,7 +28,7 @@ fn want_size(head: WindowHead, token: &Token) -> Option<Control>
 // The number behind SIZE.
 fn want_size_number(head: WindowHead, at: u64, token: &Token) -> Option<Control>
     ensures { (fs : List states.Frame) → leads result fs
-        ≡ machine.want_size_number fs (window_head_of head.head) (query_of head.source) at token.now }
+        ≡ windowed.want_size_number fs (window_head_of head.head) (query_of head.source) at token.now }
 {
     match number_in(token) {
         Some(size) => Some(Control::Window(WindowControl::WantAdvance { head, at, size })),
@@ -38,7 +39,7 @@ fn want_size_number(head: WindowHead, at: u64, token: &Token) -> Option<Control>
 // The number behind ADVANCE.
 fn want_advance_number(head: WindowHead, at: u64, size: Num, token: &Token) -> Option<Control>
     ensures { (fs : List states.Frame) → leads result fs
-        ≡ machine.want_advance_number fs (window_head_of head.head) (query_of head.source) at size
+        ≡ windowed.want_advance_number fs (window_head_of head.head) (query_of head.source) at size
         token.now }
 {
     match number_in(token) {
@@ -88,7 +89,7 @@ fn want_measure(
     token: &Token,
 ) -> Option<Control>
     ensures { (fs : List states.Frame) → leads result fs
-        ≡ machine.want_measure fs (window_head_of head.head) (query_of head.source) at size advance
+        ≡ windowed.want_measure fs (window_head_of head.head) (query_of head.source) at size advance
         token.now }
 {
     match measure_for(&head.head, token) {

@@ -3,7 +3,7 @@
 
 use gl_bits::Listed;
 use gl_query::{Measure, Name, Num, Nums, Op, TextBytes};
-use gl_query_tokens::{Fold, Join};
+use gl_query_tokens::{Fold, Join, Spelling};
 use gl_values::Kind;
 
 /// The items of a select, as written.
@@ -104,6 +104,85 @@ pub enum WrittenAgg {
     },
 }
 
+/// A function over the rows of a frame as it is written, without its FILTER and its OVER.
+#[derive(Drop)]
+pub enum WrittenOverAgg {
+    /// COUNT, which has nothing in its bracket.
+    Count {
+        /// The place of the keyword.
+        at: u64,
+        /// The place of the opening bracket.
+        open: u64,
+    },
+    /// SUM, MIN, MAX or AVG of an argument.
+    Fold {
+        /// Which of the four it is.
+        fold: Fold,
+        /// The place of the keyword.
+        at: u64,
+        /// The place of the opening bracket.
+        open: u64,
+        /// The argument.
+        arg: WrittenExpr,
+    },
+    /// LAST_VALUE of an argument.
+    LastValue {
+        /// How LAST_VALUE is spelled.
+        word: Spelling,
+        /// The place of the opening bracket.
+        open: u64,
+        /// The argument.
+        arg: WrittenExpr,
+    },
+}
+
+/// FILTER as it is written.
+#[derive(Drop)]
+pub struct WrittenFilter {
+    /// How FILTER is spelled.
+    pub word: Spelling,
+    /// The place of the opening bracket.
+    pub open: u64,
+    /// The condition behind WHERE.
+    pub cond: WrittenExpr,
+}
+
+/// What stands before OVER, as it is written.
+#[derive(Drop)]
+pub enum WrittenHead {
+    /// LAG of an argument.
+    Lag {
+        /// How LAG is spelled.
+        word: Spelling,
+        /// The place of the opening bracket.
+        open: u64,
+        /// The argument.
+        arg: WrittenExpr,
+        /// The number of rows behind the argument, where it stands.
+        back: Option<Num>,
+    },
+    /// A function over the rows of a frame.
+    Ranged {
+        /// The function with its argument.
+        agg: WrittenOverAgg,
+        /// Its FILTER, where it has one.
+        filter: Option<WrittenFilter>,
+    },
+}
+
+/// A function with OVER as it is written.
+#[derive(Drop)]
+pub struct WrittenOver {
+    /// What stands before OVER.
+    pub head: WrittenHead,
+    /// How OVER is spelled.
+    pub word: Spelling,
+    /// The place of the bracket behind OVER.
+    pub open: u64,
+    /// The rows in that bracket, where there are some.
+    pub rows: Option<FrameRows>,
+}
+
 /// An item of a select as it is written.
 #[derive(Drop)]
 pub enum WrittenItem {
@@ -113,6 +192,8 @@ pub enum WrittenItem {
     Named { expr: WrittenExpr, name: Name },
     /// An aggregate under a name.
     Total { agg: WrittenAgg, name: Name },
+    /// A function with OVER under a name.
+    Framed { over: WrittenOver, name: Name },
 }
 
 /// What a select picks, as written.
@@ -146,6 +227,53 @@ pub struct RowWindow {
     pub size: Num,
     /// The number behind ADVANCE.
     pub advance: Num,
+}
+
+/// Where the rows of a frame begin.
+#[derive(Clone, Copy)]
+pub enum Bound {
+    /// So many rows before the row itself.
+    Number(Num),
+    /// UNBOUNDED: at the first row.
+    Unbounded(Spelling),
+}
+
+/// `ROWS BETWEEN bound PRECEDING`
+#[derive(Clone, Copy)]
+pub struct BetweenFront {
+    /// How ROWS is spelled.
+    pub rows: Spelling,
+    /// How BETWEEN is spelled.
+    pub between: Spelling,
+    /// Where the rows begin.
+    pub bound: Bound,
+    /// How PRECEDING is spelled.
+    pub preceding: Spelling,
+}
+
+/// The rows of a frame as they are written.
+#[derive(Clone, Copy)]
+pub enum FrameRows {
+    /// `ROWS bound PRECEDING`
+    Short {
+        /// How ROWS is spelled.
+        rows: Spelling,
+        /// Where the rows begin.
+        bound: Bound,
+        /// How PRECEDING is spelled.
+        preceding: Spelling,
+    },
+    /// `ROWS BETWEEN bound PRECEDING AND CURRENT ROW`
+    Between {
+        /// What stands before AND.
+        front: BetweenFront,
+        /// The place of AND.
+        and_at: u64,
+        /// How CURRENT is spelled.
+        current: Spelling,
+        /// How ROW is spelled.
+        row: Spelling,
+    },
 }
 
 /// The place of BY, the name behind it, and the number of groups.

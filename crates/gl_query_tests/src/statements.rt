@@ -53,7 +53,7 @@ pub(crate) fn fronts(alloc: Global, text: &[u8]) -> Result<String, AllocError> {
 fn word_of(query: &Query) -> &'static str {
     match query {
         Query::Read(_) => "stream",
-        Query::Rows { .. } | Query::Total { .. } => "SELECT",
+        Query::Rows { .. } | Query::Total { .. } | Query::Frames { .. } => "SELECT",
         Query::Each { .. }
         | Query::EachTime { .. }
         | Query::PerGroup { .. }

@@ -1,5 +1,6 @@
 -- Each select of a statement that a text has has an item; so its result has a column.
-use Rattle.std.proofs.Common.{◌≡◌, ◌⊎◌, ℕ, ◌≤◌, Bool, true, false, List, [], ◌∷◌, length, map, Option, Some, None, refl, sym, subst, inl, inr, arith}
+use Rattle.std.proofs.Common.{◌≡◌, ◌⊎◌, ℕ, ◌≤◌, Bool, true, false, List, [], ◌∷◌, length, map, Option, Some, None, refl, sym, subst, ◌∙◌, inl, inr, arith}
+use Rattle.std.proofs.lemmas.Bool.{or_parts}
 use Rattle.std.specs.Prelude.{nat_le, option_map, if◌then◌else◌}
 use Rattle.gl_query.specs.declared.tree.Name.{Name}
 use Rattle.gl_query.specs.declared.tree.Statement.{Statement}
@@ -15,29 +16,33 @@ use Rattle.gl_query_reader.specs.declared.written.Grouping.{Grouping}
 use Rattle.gl_query_reader.specs.declared.written.RowWindow.{RowWindow}
 use Rattle.gl_query_reader.specs.declared.written.Window.{Window}
 use Rattle.gl_query_reader.specs.Grammar.{HasStatement}
-use Rattle.gl_query_reader.specs.Meaning.{agg_items, by_items, each_group, expr_meaning, filtered, grouped, is_total, it, join_meaning, plain_items, query_meaning, select_meaning}
+use Rattle.gl_query_reader.specs.Meaning.{agg_items, by_items, by_over, has_over, is_framed, each_group, expr_meaning, filtered, grouped, is_total, it, join_meaning, plain_items, query_meaning, select_meaning}
 use Rattle.gl_query_reader.specs.Mixed.{behind_key, first_other, is_key, item_at, least, mixed_in, mixed_pick}
+use Rattle.gl_query_reader.proofs.Meanings.{back_is_over}
 use Rattle.gl_query_reader.specs.Written.{IsPick, IsQuery, IsSource, IsTerm}
 use Rattle.gl_query_reader.specs.Written as written
 use Rattle.gl_query_texts.specs.Judged.{AcceptedTextsHaveColumns}
 
 -- ---- items
 
-plain_some : (i : written.Item) (is : List written.Item) → is_total i ≡ false → 1 ≤ length (map item_alike (plain_items (i ∷ is)))
-plain_some (written.Bare name) is e = omega arith
-plain_some (written.Named x name) is e = omega arith
-plain_some (written.Total a name) is e = absurd cc
+plain_some : (i : written.Item) (is : List written.Item) → is_total i ≡ false → is_framed i ≡ false → 1 ≤ length (map item_alike (plain_items (i ∷ is)))
+plain_some (written.Bare name) is e f = omega arith
+plain_some (written.Named x name) is e f = omega arith
+plain_some (written.Total a name) is e f = absurd cc
+plain_some (written.Framed o name) is e f = absurd cc
 
 aggs_some : (i : written.Item) (is : List written.Item) → is_total i ≡ true → 1 ≤ length (map agg_item_alike (agg_items (i ∷ is)))
 aggs_some (written.Bare name) is e = absurd cc
 aggs_some (written.Named x name) is e = absurd cc
 aggs_some (written.Total a name) is e = omega arith
+aggs_some (written.Framed o name) is e = absurd cc
 
 -- behind the key stands an aggregate
 first_total : (j : written.Item) (js : List written.Item) → first_other true (j ∷ js) ≡ None → is_total j ≡ true
 first_total (written.Bare name) js e = absurd cc
 first_total (written.Named x name) js e = absurd cc
 first_total (written.Total a name) js e = refl
+first_total (written.Framed o name) js e = absurd cc
 
 behind_some : (g : Grouping) (is : List written.Item) → behind_key g is ≡ None → 1 ≤ length (map agg_item_alike (agg_items is))
 behind_some g [] e = absurd cc
@@ -51,6 +56,7 @@ key_some g (written.Bare name) is e = by (is_key g.key (written.Bare name)) refl
     by false k = absurd (let f : ◌≡◌ {A = Option ℕ} (Some (item_at (written.Bare name))) None = rw k at e in cc)
 key_some g (written.Named x name) is e = absurd cc
 key_some g (written.Total a name) is e = absurd cc
+key_some g (written.Framed o name) is e = absurd cc
 
 -- ---- selects
 
@@ -58,10 +64,15 @@ filtered_have : (f : Option ExprTree) (source : QueryTree) → HasItems (query_a
 filtered_have None source s = s
 filtered_have (Some e) source s = (s, tt)
 
+by_over_have : (b : Bool) (i : written.Item) (is : List written.Item) (f : Option ExprTree) (source : QueryTree) → is_total i ≡ false → has_over (i ∷ is) ≡ b → HasItems (query_alike source)
+    → HasItems (query_alike (by_over b (i ∷ is) f source))
+by_over_have true i is f source e o s = (s, back_is_over (i ∷ is) ∙ o)
+by_over_have false i is f source e o s = (s, plain_some i is e (or_parts (is_framed i) (has_over is) o).0)
+
 by_items_have : (b : Bool) (i : written.Item) (is : List written.Item) (f : Option ExprTree) (source : QueryTree) → is_total i ≡ b → HasItems (query_alike source)
     → HasItems (query_alike (by_items b (i ∷ is) f source))
 by_items_have true i is f source e s = (filtered_have f source s, aggs_some i is e)
-by_items_have false i is f source e s = (s, plain_some i is e)
+by_items_have false i is f source e s = by_over_have (has_over (i ∷ is)) i is f source e refl s
 
 grouped_have : (p : written.Pick) (f : Option ExprTree) (g : Option Grouping) (source : QueryTree) → IsPick p → mixed_pick p g ≡ None → HasItems (query_alike source)
     → HasItems (query_alike (grouped p f g source))

@@ -11,6 +11,7 @@ use Rattle.std.specs.List as lists
 use Rattle.gl_query_tokens.specs.declared.token.Fold.TheVariants as fold
 use Rattle.gl_query_tokens.specs.declared.token.Join.TheVariants as join
 use Rattle.gl_query_tokens.specs.declared.token.Plain.TheVariants as plain
+use Rattle.gl_query_tokens.specs.declared.token.Word.TheVariants as word
 use Rattle.gl_query_tokens.specs.declared.token.Token.{Token}
 use Rattle.gl_query_tokens.specs.declared.token.Token.TheVariants as token
 use Rattle.gl_query_tokens.specs.declared.token.Lexeme.{Lexeme}
@@ -19,7 +20,7 @@ use Rattle.gl_query_tokens.specs.declared.lexing.Class.TheVariants.{Letter, Blan
 use Rattle.gl_query_tokens.specs.declared.lexing.Follow.{Follow}
 use Rattle.gl_query_tokens.specs.declared.lexing.Follow.TheVariants.{Pair, Comment, Fresh}
 use Rattle.gl_query_tokens.specs.Tokens.{Mode, Between, InWord, InText, AfterHalf, InComment, Move, to, begin, in_word, after_half, move, last_of, scan, tokens_of, class_of, follow_of, sign_token, text_token, lexeme}
-use Rattle.gl_query_tokens.specs.Words.{is_keyword, clause_of, window_of, operator_of, keyword_of, or_else, with_digit, number_of, number_token, word_token}
+use Rattle.gl_query_tokens.specs.Words.{is_keyword, clause_of, window_of, operator_of, keyword_of, frame_word_of, or_else, with_digit, number_of, number_token, word_token}
 
 abbrev pub is_letter : Class → Bool
 is_letter Letter = true
@@ -103,6 +104,9 @@ keywords_agree w a b =
     agree_or (clause_of w a) (clause_of w b) (or_else (window_of w a) (operator_of w a)) (or_else (window_of w b) (operator_of w b)) (clauses_agree w a b)
     (agree_or (window_of w a) (window_of w b) (operator_of w a) (operator_of w b) (windows_agree w a b) (operators_agree w a b))
 
+frame_words_agree : (w : List ℕ) (a b : ℕ) → Agrees (frame_word_of w a) (frame_word_of w b)
+frame_words_agree w a b = agree_if (is_keyword w (codes "over")) (token.Word word.Over a) (token.Word word.Over b) _ _ tt (agree_if (is_keyword w (codes "filter")) (token.Word word.Filter a) (token.Word word.Filter b) _ _ tt (agree_if (is_keyword w (codes "rows")) (token.Word word.Rows a) (token.Word word.Rows b) _ _ tt (agree_if (is_keyword w (codes "preceding")) (token.Word word.Preceding a) (token.Word word.Preceding b) _ _ tt (agree_if (is_keyword w (codes "unbounded")) (token.Word word.Unbounded a) (token.Word word.Unbounded b) _ _ tt (agree_if (is_keyword w (codes "between")) (token.Word word.Between a) (token.Word word.Between b) _ _ tt (agree_if (is_keyword w (codes "current")) (token.Word word.Current a) (token.Word word.Current b) _ _ tt (agree_if (is_keyword w (codes "row")) (token.Word word.Row a) (token.Word word.Row b) _ _ tt (agree_if (is_keyword w (codes "lag")) (token.Word word.Lag a) (token.Word word.Lag b) _ _ tt (agree_if (is_keyword w (codes "last_value")) (token.Word word.LastValue a) (token.Word word.LastValue b) _ _ tt (none_agree))))))))))
+
 agree_none : (o : Option Token) → Agree None o → o ≡ None
 agree_none None h = refl
 agree_none (Some t) h = absurd h
@@ -144,11 +148,15 @@ unfolding word_token
 name_token w at k n = rw (k, n) refl
 
 abbrev named : List ℕ → ℕ → Bool → Token
-named w at b = if b then token.Name (record { text = w; at = at }) else number_token (number_of w) at
+named w at b = if b then token.Name (record { text = w; at = at }) else unwrap_or (frame_word_of w at) (number_token (number_of w) at)
+
+framed_by : (o : Option Token) (t : Token) → Agree o o → IsSound t → IsSound (unwrap_or o t)
+framed_by None t h s = s
+framed_by (Some u) t h s = h
 
 named_sound : (w : List ℕ) (at : ℕ) (b : Bool) → is_word w ≡ true → ((c : ℕ) → keyword_of w c ≡ None) → is_name w ≡ b → IsSound (named w at b)
 named_sound w at true h k n = record { word = h; name = n; token = λ c. name_token w c (k c) n }
-named_sound w at false h k n = number_sound w at
+named_sound w at false h k n = framed_by (frame_word_of w at) (number_token (number_of w) at) (frame_words_agree w at at).is (number_sound w at)
 
 word_by : (w : List ℕ) (at : ℕ) (o : Option Token) → is_word w ≡ true → keyword_of w at ≡ o → IsSound (unwrap_or o (named w at (is_name w)))
 word_by w at None h e = named_sound w at (is_name w) h (λ c. agree_none (keyword_of w c) (subst (λ (o : Option Token). Agree o (keyword_of w c)) e (keywords_agree w at c).is)) refl

@@ -6,6 +6,8 @@ use Rattle.gl_values.specs.declared.op.Op.TheVariants.{And, Or}
 use Rattle.gl_query_tokens.specs.declared.token.Fold.TheVariants.{Sum, Min, Max, Avg}
 use Rattle.gl_query_tokens.specs.declared.token.Join.TheVariants.{Union, Concat}
 use Rattle.gl_query_tokens.specs.declared.token.Plain.TheVariants.{Select, From, Where, Group, Groups, In, Advance, Tuples, Time, Into, As}
+use Rattle.gl_query_tokens.specs.declared.token.Word.{Word}
+use Rattle.gl_query_tokens.specs.declared.token.Word.TheVariants as word
 use Rattle.gl_query_tokens.specs.declared.token.Token.{Token}
 use Rattle.gl_query_tokens.specs.declared.token.Token.TheVariants as token
 use Rattle.gl_schema.specs.Names.{is_name, is_digit}
@@ -58,6 +60,32 @@ operator_of w at = if is_keyword w (codes "and") then Some (token.Operator And a
 abbrev pub keyword_of : List ℕ → ℕ → Option Token
 keyword_of w at = or_else (clause_of w at) (or_else (window_of w at) (operator_of w at))
 
+-- the words of frames, which are names in small letters
+abbrev pub frame_word_of : List ℕ → ℕ → Option Token
+frame_word_of w at = if is_keyword w (codes "over") then Some (token.Word word.Over at) else
+    if is_keyword w (codes "filter") then Some (token.Word word.Filter at) else
+    if is_keyword w (codes "rows") then Some (token.Word word.Rows at) else
+    if is_keyword w (codes "preceding") then Some (token.Word word.Preceding at) else
+    if is_keyword w (codes "unbounded") then Some (token.Word word.Unbounded at) else
+    if is_keyword w (codes "between") then Some (token.Word word.Between at) else
+    if is_keyword w (codes "current") then Some (token.Word word.Current at) else
+    if is_keyword w (codes "row") then Some (token.Word word.Row at) else
+    if is_keyword w (codes "lag") then Some (token.Word word.Lag at) else
+    if is_keyword w (codes "last_value") then Some (token.Word word.LastValue at) else None
+
+-- the letters of a word of frames
+unfoldable pub word_text : Word → List ℕ
+word_text word.Over = codes "over"
+word_text word.Filter = codes "filter"
+word_text word.Rows = codes "rows"
+word_text word.Preceding = codes "preceding"
+word_text word.Unbounded = codes "unbounded"
+word_text word.Between = codes "between"
+word_text word.Current = codes "current"
+word_text word.Row = codes "row"
+word_text word.Lag = codes "lag"
+word_text word.LastValue = codes "last_value"
+
 -- a number and one more byte: None where that is no digit, or the number would reach 2 ^ 128
 abbrev pub with_digit : Option ℕ → ℕ → Option ℕ
 with_digit None b = None
@@ -72,8 +100,9 @@ abbrev pub number_token : Option ℕ → ℕ → Token
 number_token None at = token.Stray
 number_token (Some n) at = token.Number (record { value = n; at = at })
 
--- the token of a run of letters, digits and underscores that begins at a place
+-- the token of a run of letters, digits and underscores that begins at a place: a word of frames is one where it is no
+-- name, since it has a capital
 unfoldable pub word_token : List ℕ → ℕ → Token
 word_token w at =
     unwrap_or (keyword_of w at) (if is_name w then token.Name (record { text = w; at = at })
-    else number_token (number_of w) at)
+    else unwrap_or (frame_word_of w at) (number_token (number_of w) at))

@@ -7,4 +7,4 @@ pub mod token;
 pub mod words;
 
 pub use lexing::lexemes;
-pub use token::{Fold, Join, Lexeme, Plain, Token};
+pub use token::{Fold, Join, Lexeme, Plain, Spelling, Token, Word};

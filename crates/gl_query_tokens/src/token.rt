@@ -61,6 +61,40 @@ pub enum Plain {
     Semicolon,
 }
 
+/// A word of the frames of a select: one where the grammar asks for it, and a name elsewhere.
+#[derive(Clone, Copy, PartialEq, Eq, Debug)]
+pub enum Word {
+    /// OVER
+    Over,
+    /// FILTER
+    Filter,
+    /// ROWS
+    Rows,
+    /// PRECEDING
+    Preceding,
+    /// UNBOUNDED
+    Unbounded,
+    /// BETWEEN
+    Between,
+    /// CURRENT
+    Current,
+    /// ROW
+    Row,
+    /// LAG
+    Lag,
+    /// LAST_VALUE
+    LastValue,
+}
+
+/// How a word of the frames is spelled, and the byte of the text where it begins.
+#[derive(Clone, Copy, Debug)]
+pub enum Spelling {
+    /// In small letters: its token is a name.
+    Small { at: u64 },
+    /// With a capital: its token is the word.
+    Capital { at: u64 },
+}
+
 /// A token. Each place is the byte of the text where the token begins.
 #[derive(Drop, Debug)]
 pub enum Token {
@@ -92,6 +126,8 @@ pub enum Token {
     By { at: u64 },
     /// SIZE
     Size { at: u64 },
+    /// A word of the frames with a capital, so that it is no name.
+    Word { word: Word, at: u64 },
     /// A keyword or a sign of whose place no statement knows.
     Plain(Plain),
     /// What is no token of the language.

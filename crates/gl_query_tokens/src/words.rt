@@ -1,9 +1,10 @@
 //! Words: keywords, names and numbers.
 
 ghost use Rattle.std.specs.Prelude.{◌≡◌, IfOk, Some};
-ghost use Rattle.gl_query_tokens.specs.Words.{is_keyword, clause_of, window_of, operator_of, keyword_of, with_digit, number_of, word_token};
+ghost use Rattle.gl_query_tokens.specs.declared.token.Token.TheVariants as token;
+ghost use Rattle.gl_query_tokens.specs.Words.{is_keyword, clause_of, window_of, operator_of, keyword_of, frame_word_of, with_digit, number_of, word_token, word_text};
 
-use crate::token::{Fold, Join, Plain, Token};
+use crate::token::{Fold, Join, Plain, Token, Word};
 use gl_query::{Name, Num, Op};
 use gl_schema::{NameText, is_name};
 use std::alloc::{AllocError, Global};
@@ -144,6 +145,68 @@ fn keyword_of(word: &[u8], at: u64) -> Option<Token>
     operator_of(word, at)
 }
 
+fn framed(word: Word, at: u64) -> Option<Token>
+    ensures { result ≡ Some (token.Word word at) }
+{
+    Some(Token::Word { word, at })
+}
+
+// The words of the frames of a select.
+fn frame_word_of(word: &[u8], at: u64) -> Option<Token>
+    ensures { result ≡ frame_word_of word.now at }
+{
+    if is_keyword(word, b"over") {
+        return framed(Word::Over, at);
+    }
+    if is_keyword(word, b"filter") {
+        return framed(Word::Filter, at);
+    }
+    if is_keyword(word, b"rows") {
+        return framed(Word::Rows, at);
+    }
+    if is_keyword(word, b"preceding") {
+        return framed(Word::Preceding, at);
+    }
+    if is_keyword(word, b"unbounded") {
+        return framed(Word::Unbounded, at);
+    }
+    if is_keyword(word, b"between") {
+        return framed(Word::Between, at);
+    }
+    if is_keyword(word, b"current") {
+        return framed(Word::Current, at);
+    }
+    if is_keyword(word, b"row") {
+        return framed(Word::Row, at);
+    }
+    if is_keyword(word, b"lag") {
+        return framed(Word::Lag, at);
+    }
+    if is_keyword(word, b"last_value") {
+        return framed(Word::LastValue, at);
+    }
+    None
+}
+
+/// The letters of a word of the frames.
+#[tactic(auto, unfolding(crate::specs::Words::word_text))]
+pub fn word_text(word: Word) -> &'static [u8]
+    ensures { result.now ≡ word_text word }
+{
+    match word {
+        Word::Over => b"over",
+        Word::Filter => b"filter",
+        Word::Rows => b"rows",
+        Word::Preceding => b"preceding",
+        Word::Unbounded => b"unbounded",
+        Word::Between => b"between",
+        Word::Current => b"current",
+        Word::Row => b"row",
+        Word::Lag => b"lag",
+        Word::LastValue => b"last_value",
+    }
+}
+
 // The number that the digits spell, where it is below 2^128.
 #[tactic(auto, unfolding(crate::specs::Words::number_of), using(crate::proofs::Numbers::number_steps))]
 fn number_of(word: &[u8]) -> Option<u128>
@@ -176,6 +239,9 @@ pub fn word_token(alloc: Global, word: &[u8], at: u64) -> Result<Token, AllocErr
     if is_name(word) {
         let text = NameText::from_vec(Vec::from_slice(alloc, word)?);
         return Ok(Token::Name(Name { text, at }));
+    }
+    if let Some(token) = frame_word_of(word, at) {
+        return Ok(token);
     }
     match number_of(word) {
         Some(value) => Ok(Token::Number(Num { value, at })),

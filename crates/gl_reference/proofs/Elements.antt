@@ -6,10 +6,11 @@ use Rattle.gl_values.specs.Results.{Row}
 use Rattle.gl_schema.specs.declared.schema.Column.{Column}
 use Rattle.gl_query.specs.declared.tree.Item.{Item}
 use Rattle.gl_query.specs.declared.tree.AggItem.{AggItem}
-use Rattle.gl_query.specs.Shapes.{AggItemShape, ExprShape, ItemShape, agg_item_shape, agg_shape, expr_shape, item_shape}
+use Rattle.gl_query.specs.declared.tree.FrameItem.{FrameItem}
+use Rattle.gl_query.specs.Shapes.{AggItemShape, ExprShape, FrameItemShape, ItemShape, agg_item_shape, agg_shape, expr_shape, frame_item_shape, frame_shape, item_shape}
 use Rattle.gl_query.specs.Values.{HasKind, kind_alone}
-use Rattle.gl_query.specs.Accepted.{AreItems, IsAgg}
-use Rattle.gl_reference.specs.Fits.{AreAggs, HasKindAlone, HasWord, IsRow}
+use Rattle.gl_query.specs.Accepted.{AreItems, IsAgg, IsFrame}
+use Rattle.gl_reference.specs.Fits.{AreAggs, AreFramesOf, HasKindAlone, HasWord, IsRow}
 use Rattle.gl_reference.proofs.Fitting.{all_place}
 use Rattle.gl_query.proofs.Real.{alone_kind}
 
@@ -27,3 +28,9 @@ pub agg_at : (columns : List Column) (aggs : List AggItem) (i : ℕ) (x : AggIte
 agg_at columns aggs i x lt is h =
     let typed = all_of_mapped (λ (j : AggItemShape). IsAgg columns j.agg) agg_item_shape aggs h in
     all_place (λ (j : AggItem). IsAgg columns (agg_shape j.agg)) aggs i x lt is typed
+
+pub frame_at : (columns : List Column) (items : List FrameItem) (i : ℕ) (x : FrameItem) → i < length items → x ≡ get_or items i x
+    → AreFramesOf columns (map frame_item_shape items) → IsFrame columns (frame_shape x.frame)
+frame_at columns items i x lt is h =
+    let typed = all_of_mapped (λ (j : FrameItemShape). IsFrame columns j.frame) frame_item_shape items h in
+    all_place (λ (j : FrameItem). IsFrame columns (frame_shape j.frame)) items i x lt is typed

@@ -10,3 +10,4 @@ pub mod Fitting
 pub mod Passing
 pub mod Elements
 pub mod Partitioning
+pub mod Framing

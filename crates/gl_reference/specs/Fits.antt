@@ -9,10 +9,10 @@ use Rattle.gl_schema.specs.declared.schema.Column.{Column}
 use Rattle.gl_schema.specs.declared.schema.Schema.{Schema}
 use Rattle.gl_schema.specs.Schemas.{IsRowOf, IsSchema}
 use Rattle.gl_query.specs.declared.tree.Statement.{Statement}
-use Rattle.gl_query.specs.Shapes.{AggItemShape, ExprShape, QueryShape}
+use Rattle.gl_query.specs.Shapes.{AggItemShape, ExprShape, FrameItemShape, QueryShape}
 use Rattle.gl_query.specs.Values.{HasKind, kind_alone}
 use Rattle.gl_query.specs.Columns.{source_columns}
-use Rattle.gl_query.specs.Accepted.{AreResultColumns, IsAccepted, IsAcceptedOver, IsAgg, body_scope}
+use Rattle.gl_query.specs.Accepted.{AreResultColumns, IsAccepted, IsAcceptedOver, IsAgg, IsFrame, body_scope}
 use Rattle.gl_query.specs.Laws.{AreKinds, HoldsIn}
 use Rattle.gl_query.specs.Results.{Env, env_of, streams_of}
 use Rattle.gl_reference.specs.Sources.{given_inputs}
@@ -46,6 +46,10 @@ HasKindAlone columns e = HasKind columns (kind_alone e) e
 -- every aggregate of a list is accepted over these columns
 abbrev pub AreAggs : List Column → List AggItemShape → Type 0
 AreAggs columns aggs = AllByRecursion (λ (i : AggItemShape). IsAgg columns i.agg) aggs
+
+-- every frame of a list is accepted over these columns
+abbrev pub AreFramesOf : List Column → List FrameItemShape → Type 0
+AreFramesOf columns items = AllByRecursion (λ (i : FrameItemShape). IsFrame columns i.frame) items
 
 -- sources with columns of a result, of kinds that are kinds, and rows that fit them
 pub record AreSources (env : Env) : Type 0 where

@@ -3,3 +3,4 @@ pub mod Joins
 pub mod Worked
 pub mod Fits
 pub mod Partitions
+pub mod Frames

@@ -19,7 +19,7 @@ use gl_values::{Kind, totals};
 use std::alloc::Global;
 
 /// The values of an expression over rows.
-fn values_over(
+pub(crate) fn values_over(
     alloc: Global,
     columns: &[Column],
     expr: &Expr,
@@ -41,7 +41,7 @@ fn values_over(
 
 /// The sum in the width of a kind.
 #[tactic(auto, using(crate::proofs::Widths::kind_width, gl_values::proofs::KindLemmas::passes_test, gl_values::proofs::KindLemmas::tested_kind))]
-fn sum_in(kind: Kind, values: &[u128]) -> Result<u128, Fault>
+pub(crate) fn sum_in(kind: Kind, values: &[u128]) -> Result<u128, Fault>
     ensures value { IfOk result (λ v. v ≡ sum_total (width_of kind) values.now) }
     ensures fits { IsKind kind → IsOrMemory result }
 {
@@ -53,7 +53,7 @@ fn sum_in(kind: Kind, values: &[u128]) -> Result<u128, Fault>
 
 /// The average in a kind.
 #[tactic(auto, using(gl_values::proofs::KindLemmas::passes_test, gl_values::proofs::KindLemmas::tested_kind))]
-fn average_in(kind: Kind, values: &[u128]) -> Result<u128, Fault>
+pub(crate) fn average_in(kind: Kind, values: &[u128]) -> Result<u128, Fault>
     ensures value { IfOk result (λ v. v ≡ average_of kind values.now) }
     ensures fits { IsKind kind → IsOrMemory result }
 {
@@ -88,7 +88,7 @@ fn numbers(alloc: Global, nums: &[Num]) -> Result<Vec<u128>, Memory>
 
 /// The kind of an expression that stands alone.
 #[tactic(auto, using(gl_query::proofs::Real::whole_is))]
-fn own_kind(columns: &[Column], expr: &Expr) -> Kind
+pub(crate) fn own_kind(columns: &[Column], expr: &Expr) -> Kind
     ensures value { result
         ≡ kind_of columns.now (kind_alone (expr_shape expr.now)) (expr_shape expr.now) }
     ensures real { AreKinds columns.now → HasKindAlone columns.now (expr_shape expr.now)

@@ -3,20 +3,21 @@
 ghost use Rattle.std.specs.Prelude.{◌≡◌, ◌≤◌, ◌||◌, ◌++◌, IfOk, length, map, option_map};
 ghost use Rattle.gl_bits.specs.Limits.{most_groups};
 ghost use Rattle.gl_values.specs.Lists.{slices};
-ghost use Rattle.gl_query.specs.Shapes.{agg_item_shape, expr_shape, pick_shape, query_shape};
+ghost use Rattle.gl_query.specs.Shapes.{agg_item_shape, expr_shape, frame_item_shape, pick_shape, query_shape};
 ghost use Rattle.gl_query.specs.Shapes as shape;
 ghost use Rattle.gl_values.specs.Results.{AreBeside};
-ghost use Rattle.gl_query.specs.Accepted.{IsRows, IsWindow};
+ghost use Rattle.gl_query.specs.Accepted.{IsFilter, IsRows, IsWindow};
 ghost use Rattle.gl_query.specs.declared.tree.Measure.TheVariants.{Tuples};
-ghost use Rattle.gl_reference.specs.Fits.{AreAggs, AreRows, IsOrMemory};
+ghost use Rattle.gl_reference.specs.Fits.{AreAggs, AreFramesOf, AreRows, IsOrMemory};
 ghost use Rattle.gl_reference.specs.Sources.{IsAnswer, columns_over};
 
 use crate::aggregates::total_row;
 use crate::columns::{Source, columns_of, source_named};
+use crate::frames::frames_over;
 use crate::rows::{Fault, beside, copy_of_table, joined, picked_rows};
 use gl_bits::Listed;
 use gl_bits::limits::{MOST_GROUPS, MOST_ROWS};
-use gl_query::{AggItem, Expr, Name, Pick, Query};
+use gl_query::{AggItem, Expr, FrameItem, Name, Pick, Query};
 use gl_values::Table;
 use gl_values::lists::slices_of;
 use std::alloc::Global;
@@ -92,6 +93,38 @@ pub fn total_from(
     let row = total_row(alloc, columns.as_slice(), aggs, from.rows.as_slice())?;
     let mut rows = Listed::new(alloc);
     rows.push(row)?;
+    Ok(Answer {
+        rows,
+        spill: from.spill,
+    })
+}
+
+/// What frames make of the rows that a filter keeps of a result of the source.
+pub fn frames_from(
+    alloc: Global,
+    sources: &[Source<'_>],
+    source: &Query,
+    items: &[FrameItem],
+    filter: &Option<Expr>,
+    from: Answer,
+) -> Result<Answer, Fault>
+    requires { IsAnswer sources.now (query_shape source.now) from }
+    ensures value { IfOk result (IsAnswer sources.now
+        (shape.Frames (map frame_item_shape items.now) (option_map expr_shape filter.now)
+        (query_shape source.now))) }
+    ensures fits { let columns = columns_over sources.now source.now in
+        AreFramesOf columns (map frame_item_shape items.now)
+        → IsFilter columns (option_map expr_shape filter.now)
+        → AreRows columns from.rows → IsOrMemory result }
+{
+    let columns = columns_of(alloc, sources, source)?;
+    let rows = frames_over(
+        alloc,
+        columns.as_slice(),
+        items,
+        filter,
+        from.rows.as_slice(),
+    )?;
     Ok(Answer {
         rows,
         spill: from.spill,

@@ -5,6 +5,7 @@
 pub mod aggregates;
 pub mod answers;
 pub mod columns;
+pub mod frames;
 pub mod partitions;
 pub mod results;
 pub mod rows;

@@ -13,7 +13,8 @@ ghost use Rattle.gl_reference.specs.Sources.{IsAnswer, env_view, given_inputs};
 ghost use Rattle.gl_reference.specs.Joins.{AreOverGroups, AreOverSlices};
 
 use crate::answers::{
-    Answer, concat_of, groups_wanted, of_parts, read, rows_from, total_from, union_of, windows_of,
+    Answer, concat_of, frames_from, groups_wanted, of_parts, read, rows_from, total_from, union_of,
+    windows_of,
 };
 use crate::columns::{Clock, Source, columns_of};
 use crate::partitions::partitions_of;
@@ -114,6 +115,14 @@ pub fn result_of(alloc: Global, sources: &[Source<'_>], query: &Query) -> Result
         Query::Total { aggs, source } => {
             let from = result_of(alloc, sources, source)?;
             total_from(alloc, sources, source, aggs.as_slice(), from)
+        }
+        Query::Frames {
+            items,
+            filter,
+            source,
+        } => {
+            let from = result_of(alloc, sources, source)?;
+            frames_from(alloc, sources, source, items.as_slice(), filter, from)
         }
         Query::Each {
             var,

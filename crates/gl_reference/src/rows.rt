@@ -3,7 +3,7 @@
 ghost use Rattle.std.specs.Prelude.{◌≡◌, ◌++◌, ◌∷◌, IfOk, length, map, option_map};
 ghost use Rattle.gl_query.specs.Shapes.{Items, expr_shape, item_shape, pick_shape};
 ghost use Rattle.gl_values.specs.Results.{beside};
-ghost use Rattle.gl_query.specs.Accepted.{IsPick, IsRows};
+ghost use Rattle.gl_query.specs.Accepted.{IsFilter, IsPick, IsRows};
 ghost use Rattle.gl_query.specs.Results.{kept, picked};
 ghost use Rattle.gl_reference.specs.declared.rows.Fault.TheVariants as fault;
 ghost use Rattle.gl_reference.specs.Fits.{AreRows, IsOrMemory, IsRow};
@@ -126,6 +126,27 @@ pub fn picked_rows(
     for row in rows {
         if keeps(columns, filter, row.as_slice()).ok_or(Fault::Unfit)? {
             out.push(picked_row(alloc, columns, pick, row.as_slice())?)?;
+        }
+    }
+    Ok(out)
+}
+
+/// The rows that a filter keeps.
+pub fn kept_rows(
+    alloc: Global,
+    columns: &[Column],
+    filter: &Option<Expr>,
+    rows: &[Listed<u128>],
+) -> Result<Table, Fault>
+    ensures value { IfOk result (λ v. v
+        ≡ kept columns.now (option_map expr_shape filter.now) rows.now) }
+    ensures fits { IsFilter columns.now (option_map expr_shape filter.now)
+        → AreRows columns.now rows.now → IsOrMemory result }
+{
+    let mut out = Listed::new(alloc);
+    for row in rows {
+        if keeps(columns, filter, row.as_slice()).ok_or(Fault::Unfit)? {
+            out.push(copy_of_row(alloc, row.as_slice())?)?;
         }
     }
     Ok(out)

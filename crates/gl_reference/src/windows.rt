@@ -30,6 +30,7 @@ pub fn clock_of<'a>(sources: &[Source<'a>], query: &Query) -> Option<Clock<'a>>
         },
         Query::Rows { .. }
         | Query::Total { .. }
+        | Query::Frames { .. }
         | Query::Each { .. }
         | Query::EachTime { .. }
         | Query::PerGroup { .. }

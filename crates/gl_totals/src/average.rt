@@ -100,8 +100,8 @@ fn put_signed(net: &mut NetBuilder, fraction: Fraction, go: Bit) -> Result<Bus, 
     Ok(out)
 }
 
-// The same for a kind, which says whether the top has a sign.
-fn put_quotient(
+/// The quotient of a fraction, toward 0, and 0 where the bottom is 0; a kind says whether the top has a sign.
+pub fn put_quotient(
     net: &mut NetBuilder,
     kind: Kind,
     fraction: Fraction,

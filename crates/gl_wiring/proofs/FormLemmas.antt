@@ -3,7 +3,7 @@ use Rattle.std.proofs.Common.{◌≡◌, ℕ, suc, ◌≤◌, List, [], ◌∷�
 use Rattle.gl_values.specs.declared.kind.Kind.{Kind}
 use Rattle.gl_algebra.specs.declared.node.PlanAgg.{PlanAgg}
 use Rattle.gl_algebra.specs.declared.node.PlanNode.{PlanNode}
-use Rattle.gl_algebra.specs.declared.node.PlanNode.TheVariants.{Stream, Body, Compute, Select, Project, Aggregate, Union, Beside, Window, TimeWindow, Group, Partition}
+use Rattle.gl_algebra.specs.declared.node.PlanNode.TheVariants.{Stream, Body, Compute, Select, Project, Frames, Aggregate, Union, Beside, Window, TimeWindow, Group, Partition}
 use Rattle.gl_algebra.specs.Direct.{Form, copied, rowwise, totalling, form_from, is_direct, is_rowwise, rows_over, totals_over}
 use Rattle.gl_algebra.specs.FigureTable.{delay_of_aggs}
 use Rattle.gl_algebra.specs.Shapes.{Shape}
@@ -56,6 +56,7 @@ others_no_rows shapes forms (Body kinds) a b c d = absurd (a kinds refl)
 others_no_rows shapes forms (Compute child ops) a b c d = absurd (b child ops refl)
 others_no_rows shapes forms (Select child column) a b c d = absurd (c child column refl)
 others_no_rows shapes forms (Project child items) a b c d = absurd (d child items refl)
+others_no_rows shapes forms (Frames child items) a b c d = refl
 others_no_rows shapes forms (Aggregate child aggs) a b c d = sym (totals_no_rows (forms child) (shapes child).kinds aggs)
 others_no_rows shapes forms (Union left right) a b c d = refl
 others_no_rows shapes forms (Beside left right) a b c d = refl
@@ -71,6 +72,7 @@ others_not_direct shapes forms (Body kinds) a = refl
 others_not_direct shapes forms (Compute child ops) a = sym (rows_not_direct (forms child))
 others_not_direct shapes forms (Select child column) a = sym (rows_not_direct (forms child))
 others_not_direct shapes forms (Project child items) a = sym (rows_not_direct (forms child))
+others_not_direct shapes forms (Frames child items) a = refl
 others_not_direct shapes forms (Aggregate child aggs) a = absurd (a child aggs refl)
 others_not_direct shapes forms (Union left right) a = refl
 others_not_direct shapes forms (Beside left right) a = refl

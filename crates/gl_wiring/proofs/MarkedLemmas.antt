@@ -8,7 +8,7 @@ use Rattle.gl_bits.proofs.AllLists.{get_there}
 use Rattle.gl_bits.proofs.Bools.{or_cases, or_left, or_right}
 use Rattle.gl_algebra.specs.declared.figures.Figures.{Figures}
 use Rattle.gl_algebra.specs.declared.node.PlanNode.{PlanNode}
-use Rattle.gl_algebra.specs.declared.node.PlanNode.TheVariants.{Stream, Body, Compute, Select, Project, Aggregate, Union, Beside, Window, TimeWindow, Group, Partition}
+use Rattle.gl_algebra.specs.declared.node.PlanNode.TheVariants.{Stream, Body, Compute, Select, Project, Frames, Aggregate, Union, Beside, Window, TimeWindow, Group, Partition}
 use Rattle.gl_algebra.specs.Fits.{IsPlan}
 use Rattle.gl_algebra.specs.Views.{children_of}
 use Rattle.gl_algebra.proofs.PlanLemmas.{in_order}
@@ -64,6 +64,7 @@ module _ (laws : LawsBelow) (nodes : List PlanNode) (figures : List Figures) (ne
   can_children id (Compute child ops) at can = ((can_child laws nodes figures id (Compute child ops) net tick leaves plan at can child [] refl refl).can, tt)
   can_children id (Select child column) at can = ((can_child laws nodes figures id (Select child column) net tick leaves plan at can child [] refl refl).can, tt)
   can_children id (Project child items) at can = ((can_child laws nodes figures id (Project child items) net tick leaves plan at can child [] refl refl).can, tt)
+  can_children id (Frames child items) at can = ((can_child laws nodes figures id (Frames child items) net tick leaves plan at can child [] refl refl).can, tt)
   can_children id (Aggregate child aggs) at can = ((can_child laws nodes figures id (Aggregate child aggs) net tick leaves plan at can child [] refl refl).can, tt)
   can_children id (Union left right) at can = (
     (can_left laws nodes figures id (Union left right) net tick leaves plan at can left right refl refl).can,

@@ -1,7 +1,8 @@
 -- The circuits of nodes of one child.
-use Rattle.std.proofs.Common.{◌≡◌, ℕ, zero, suc, ◌+◌, List, [], ◌∷◌, ◌++◌, map, length, Option, Some, None, Bool, true, false, slice_get, All, nat_eq, cond, refl, ap, ◌∙◌, subst, arith}
+use Rattle.std.proofs.Common.{◌≡◌, ℕ, zero, suc, ◌+◌, List, [], ◌∷◌, ◌++◌, map, length, Option, Some, None, Bool, true, false, slice_get, All, nat_eq, cond, refl, sym, ap, ◌∙◌, subst, arith}
 use Rattle.std.specs.Prelude.{filter_map, slice_index, if◌then◌else◌}
 use Rattle.std.specs.List.{cons_option}
+use Rattle.std.proofs.lemmas.List.{length-map}
 use Rattle.std.proofs.lemmas.Option.{slice_get_within}
 use Rattle.gl_bits.proofs.Options.{some_same}
 use Rattle.gl_values.specs.Kinds.{IsKind, width_of}
@@ -11,24 +12,33 @@ use Rattle.gl_algebra.specs.declared.figures.Figures.{Figures}
 use Rattle.gl_algebra.specs.declared.node.ColOp.{ColOp}
 use Rattle.gl_algebra.specs.declared.node.Operand.{Operand}
 use Rattle.gl_algebra.specs.declared.node.PlanAgg.{PlanAgg}
+use Rattle.gl_algebra.specs.declared.node.PlanFrame.{PlanFrame}
 use Rattle.gl_algebra.specs.declared.node.PlanNode.{PlanNode}
-use Rattle.gl_algebra.specs.declared.node.PlanNode.TheVariants.{Compute, Select, Project, Aggregate}
-use Rattle.gl_algebra.specs.Columns.{kind_of_op, kind_of_operand}
+use Rattle.gl_algebra.specs.declared.node.PlanNode.TheVariants.{Compute, Select, Project, Frames, Aggregate}
+use Rattle.gl_algebra.specs.Columns.{FrameFits, kind_of_frame, kind_of_op, kind_of_operand}
+use Rattle.gl_algebra.specs.Cost.{store_of_frames}
 use Rattle.gl_algebra.specs.FigureTable.{delayed, settled, aggregate_figures, delay_of_aggs, figures_of}
 use Rattle.gl_algebra.specs.Fits.{IsPlan}
-use Rattle.gl_algebra.specs.Results.{IsPlanResult, computed, selected, projected}
+use Rattle.gl_algebra.specs.Frames.{delay_of_frames}
+use Rattle.gl_algebra.specs.Results.{IsPlanResult, computed, selected, projected, row_of_frames}
 use Rattle.gl_algebra.specs.Shapes.{Shape, kinds_of, shape_of}
+use Rattle.gl_algebra.specs.Weights.{weight_of_frames}
 use Rattle.gl_algebra.proofs.FigureLemmas.{delayed_by_none}
 use Rattle.gl_algebra.proofs.SoundLemmas.{delayed_sound}
 use Rattle.gl_net.specs.declared.node.Bit.{Bit}
 use Rattle.gl_net.specs.Net.{Net}
 use Rattle.gl_figures.proofs.PartLemmas.{parts_at}
+use Rattle.gl_frames_stages.specs.Counted.{FramesAreCounted}
+use Rattle.gl_frames_stages.specs.FramesNets.{frames_widths}
+use Rattle.gl_frames_stages.specs.ItemCosts.{cost_of_frames}
+use Rattle.gl_frames_wire.specs.Running.{Each, Runs}
 use Rattle.gl_rows.specs.Costs.{computed_widths, cost_of_items, cost_of_rows, projected_widths}
 use Rattle.gl_totals.specs.Costs.{cost_of_aggs}
 use Rattle.gl_totals.specs.Totals.{total_row, total_widths}
 use Rattle.gl_wire.specs.declared.emitted.Emitted.{Emitted}
 use Rattle.gl_wire.specs.declared.wire.Wire.{Wire}
 use Rattle.gl_wire.specs.Blocks.{IsBehind}
+use Rattle.gl_wire.specs.Counted.{IsCounted}
 use Rattle.gl_wire.specs.Pace.{KeepsPace}
 use Rattle.gl_wire.specs.Serves.{Serves}
 use Rattle.gl_wire.specs.Shapes.{Steady, AtEnds, Mapped, Totalled, keep_where}
@@ -62,6 +72,15 @@ pub width_at : (kinds : List Kind) (column : ℕ) (kind : Kind) → slice_get ki
 width_at [] column kind at = absurd cc
 width_at (k ∷ kinds) zero kind at = ap (λ (x : Kind). Some (width_of x)) (some_same k kind at)
 width_at (k ∷ kinds) (suc column) kind at = width_at kinds column kind at
+
+-- items over the lines of their node
+frames_counted : FramesAreCounted → (kinds : List Kind) (items : List PlanFrame) → All IsKind kinds → All (FrameFits kinds) items
+    → (let lines = length (map (kind_of_frame kinds) items) + 2 in
+    IsCounted (cost_of_frames kinds (delay_of_frames kinds items) items) (weight_of_frames kinds lines items) (weight_of_frames kinds lines items)
+    (store_of_frames kinds lines items))
+frames_counted law kinds items are fit =
+    subst (λ (n : ℕ). IsCounted (cost_of_frames kinds (delay_of_frames kinds items) items) (weight_of_frames kinds (n + 2) items) (weight_of_frames kinds (n + 2) items)
+    (store_of_frames kinds (n + 2) items)) (sym (length-map items (kind_of_frame kinds))) (law kinds items are fit)
 
 module _ (laws : LawsBelow) (nodes : List PlanNode) (id : ℕ) (old new : Net) (tick : Option Bit) (leaves : List Wire) (below e : Emitted) (plan : IsPlan nodes) where
   pub compute_put : (child : ℕ) (ops : List ColOp) → slice_get nodes id ≡ Some (Compute child ops) → Gives nodes child old tick leaves below
@@ -139,6 +158,33 @@ module _ (laws : LawsBelow) (nodes : List PlanNode) (id : ℕ) (old new : Net) (
             (λ x y ls s p. let n : f.a + 0 ≡ f.a = omega arith in
             subst (λ (a : ℕ). KeepsPace (shape_of nodes child).pace a ls y) n (steady_pace 0 (projected items) x y s (shape_of nodes child).pace f.a ls p))
             (λ i xs ys p r m. (follows.results i ys p).1 (record { rows = xs; of_source = r; changed = m ∙ mapped_all (projected items) xs })));
+      }
+
+  pub frames_put : (child : ℕ) (items : List PlanFrame) → slice_get nodes id ≡ Some (Frames child items) → Gives nodes child old tick leaves below
+      → (let kinds = kinds_of nodes child in IsBehind old new (Runs (delay_of_frames kinds items) (λ rows. Some (row_of_frames kinds items rows))) (frames_widths kinds items)
+      (cost_of_frames kinds (delay_of_frames kinds items) items) below e)
+      → IsPutBehind nodes id old new tick leaves e
+  frames_put child items at h b =
+      let follows = laws.nodes_follow_tables nodes id (Frames child items) plan at in
+      let parts = parts_at nodes id (Frames child items) at in
+      let f : Figures = figures_of nodes child in
+      let kinds = kinds_of nodes child in
+      let m : ℕ = delay_of_frames kinds items in
+      let step : List Row → Option Row = λ rows. Some (row_of_frames kinds items rows) in
+      let within = first_within nodes id (Frames child items) plan at child [] refl in
+      let sound = laws.figures_are_sound nodes child plan within in
+      let suits = (plan.fits id (Frames child items) at).suits in
+      record {
+        keeps = b.keeps;
+        cost = cost_behind nodes id _ _ _ old new _
+            (record { weight' = parts.weight; lean' = omega (arith, parts.lean, parts.keys); store' = parts.store })
+            b.cost (frames_counted laws.frames_are_counted kinds items (laws.columns_have_kinds nodes child plan within) suits);
+        gives = rw (follows.shape, follows.figures) (behind (shape_of nodes child) _ f (settled (delayed m f)) (IsPlanResult nodes child)
+            (IsPlanResult nodes id) old new tick leaves below e _ _ _ (Each step)
+            h b refl (record { gt = omega arith; ge = omega arith })
+            (λ x y s. laws.running_settles m step x y f (delayed_sound m f sound) s)
+            (λ x y ls s p. laws.followers_keep_pace m x y (laws.running_keeps_pace m (row_of_frames kinds items) x y s) (shape_of nodes child).pace f.a ls p)
+            (λ i xs ys p r made. (follows.results i ys p).1 (record { rows = xs; of_source = r; changed = made })));
       }
 
   pub aggregate_put : (child : ℕ) (aggs : List PlanAgg) → slice_get nodes id ≡ Some (Aggregate child aggs) → Gives nodes child old tick leaves below

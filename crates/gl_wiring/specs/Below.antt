@@ -3,6 +3,8 @@ use Rattle.gl_algebra.specs.Laws.{BodiesReadTheirInput, ClosingNodesWait, Column
 use Rattle.gl_figures.specs.Reach.{OnceIsLess}
 use Rattle.gl_wire.specs.Laws.{EndsServe, FollowersKeepPace, OwnBeatsFit, SteadyServes, TotalsComeWithEnds, UnspacedIsApart}
 use Rattle.gl_wire_lanes.specs.Laws.{BeginsBehind}
+use Rattle.gl_frames_wire.specs.Laws.{RunningKeepsPace, RunningSettles}
+use Rattle.gl_frames_stages.specs.Counted.{FramesAreCounted}
 use Rattle.gl_windows.specs.Costs.{RotationsAreCounted, TimesAreCounted}
 use Rattle.gl_windows.specs.Laws.{WindowsRotate}
 use Rattle.gl_windows.specs.TimeRotations.{TimesRotate}
@@ -32,6 +34,9 @@ pub record LawsBelow : Type 0 where
   pub totals_come_with_ends : TotalsComeWithEnds
   pub unspaced_is_apart : UnspacedIsApart
   pub begins_behind : BeginsBehind
+  pub running_settles : RunningSettles
+  pub running_keeps_pace : RunningKeepsPace
+  pub frames_are_counted : FramesAreCounted
   pub windows_rotate : WindowsRotate
   pub rotations_are_counted : RotationsAreCounted
   pub times_rotate : TimesRotate

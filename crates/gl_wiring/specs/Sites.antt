@@ -1,6 +1,6 @@
 -- That nodes are a plan, and that figures are theirs, has one proof at most: what a site keeps beside its plan.
 -- No promise rests on it.
-use Rattle.std.specs.Prelude.{ℕ, ◌≡◌, List, slice_get, Option, Some}
+use Rattle.std.specs.Prelude.{ℕ, ◌≡◌, List, slice_get, Option, Some, None}
 use Rattle.std.specs.Coded.{Coded}
 use Rattle.std.proofs.Common.{ap}
 use Rattle.std.proofs.Props.{props}
@@ -13,14 +13,18 @@ use Rattle.gl_algebra.specs.contracts.node.PlanNode as node
 use Rattle.gl_algebra.specs.declared.figures.Figures.{Figures}
 use Rattle.gl_algebra.specs.contracts.figures.Figures as figures
 use Rattle.gl_algebra.specs.declared.node.PlanNode.{PlanNode}
-use Rattle.gl_algebra.specs.declared.node.PlanNode.TheVariants.{Stream, Body, Compute, Select, Project, Aggregate, Union, Beside, Window, TimeWindow, Group, Partition}
+use Rattle.gl_algebra.specs.declared.node.PlanNode.TheVariants.{Stream, Body, Compute, Select, Project, Frames, Aggregate, Union, Beside, Window, TimeWindow, Group, Partition}
 use Rattle.gl_algebra.specs.declared.node.Operand.{Operand}
 use Rattle.gl_algebra.specs.declared.node.Operand.TheVariants.{Column, Literal}
 use Rattle.gl_algebra.specs.declared.node.ColOp.{ColOp}
 use Rattle.gl_algebra.specs.declared.node.ColOp.TheVariants.{Not, Cast, Binary}
 use Rattle.gl_algebra.specs.declared.node.PlanAgg.{PlanAgg}
 use Rattle.gl_algebra.specs.declared.node.PlanAgg.TheVariants.{Count, Sum, Min, Max, Avg, Wsum}
-use Rattle.gl_algebra.specs.Columns.{OperandFits, SortFits, OpFits, AggFits}
+use Rattle.gl_algebra.specs.declared.node.PlanFrame.{PlanFrame}
+use Rattle.gl_algebra.specs.declared.node.PlanFrame.TheVariants.{Own, Lag, Over}
+use Rattle.gl_algebra.specs.declared.node.PlanFrameAgg.{PlanFrameAgg}
+use Rattle.gl_algebra.specs.declared.node.PlanFrameAgg.TheVariants as over
+use Rattle.gl_algebra.specs.Columns.{OperandFits, SortFits, OpFits, AggFits, FrameAggFits, ConditionFits, BackFits, FrameFits}
 use Rattle.gl_algebra.specs.Fits.{IsOverStream, IsPlan, Suits}
 use Rattle.gl_algebra.specs.Shapes.{Shape}
 use Rattle.gl_algebra.specs.Small.{AreFigures}
@@ -60,12 +64,34 @@ agg_prop kinds (Max operand) = hlevel (sets, operand_prop)
 agg_prop kinds (Avg operand) = hlevel (sets, operand_prop)
 agg_prop kinds (Wsum operand weights) = hlevel (sets, operand_prop)
 
+frame_agg_prop : (kinds : List Kind) (agg : PlanFrameAgg) → IsProp (FrameAggFits kinds agg)
+frame_agg_prop kinds over.Count = hlevel sets
+frame_agg_prop kinds (over.Sum operand) = hlevel (sets, operand_prop)
+frame_agg_prop kinds (over.Min operand) = hlevel (sets, operand_prop)
+frame_agg_prop kinds (over.Max operand) = hlevel (sets, operand_prop)
+frame_agg_prop kinds (over.Avg operand) = hlevel (sets, operand_prop)
+frame_agg_prop kinds (over.LastValue operand) = hlevel (sets, operand_prop)
+
+condition_prop : (kinds : List Kind) (o : Option ℕ) → IsProp (ConditionFits kinds o)
+condition_prop kinds None = hlevel sets
+condition_prop kinds (Some column) = hlevel sets
+
+back_prop : (o : Option ℕ) → IsProp (BackFits o)
+back_prop None = hlevel sets
+back_prop (Some back) = hlevel sets
+
+frame_prop : (kinds : List Kind) (frame : PlanFrame) → IsProp (FrameFits kinds frame)
+frame_prop kinds (Own operand) = hlevel (sets, operand_prop)
+frame_prop kinds (Lag operand back) = hlevel (sets, operand_prop)
+frame_prop kinds (Over agg filter back) = hlevel (sets, frame_agg_prop, condition_prop, back_prop)
+
 suits_prop : (shapes : ℕ → Shape) (n : PlanNode) → IsProp (Suits shapes n)
 suits_prop shapes (Stream number kinds) = hlevel sets
 suits_prop shapes (Body kinds) = hlevel sets
 suits_prop shapes (Compute child ops) = hlevel (sets, op_prop)
 suits_prop shapes (Select child column) = hlevel sets
 suits_prop shapes (Project child items) = hlevel (sets, operand_prop)
+suits_prop shapes (Frames child items) = hlevel (sets, frame_prop)
 suits_prop shapes (Aggregate child aggs) = hlevel (sets, agg_prop)
 suits_prop shapes (Union left right) = hlevel sets
 suits_prop shapes (Beside left right) = hlevel sets
@@ -113,6 +139,7 @@ over_prop nodes (Body kinds) = hlevel sets
 over_prop nodes (Compute child ops) = hlevel sets
 over_prop nodes (Select child column) = hlevel sets
 over_prop nodes (Project child items) = hlevel sets
+over_prop nodes (Frames child items) = hlevel sets
 over_prop nodes (Aggregate child aggs) = hlevel sets
 over_prop nodes (Union left right) = hlevel sets
 over_prop nodes (Beside left right) = hlevel sets

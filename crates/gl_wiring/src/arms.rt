@@ -1,7 +1,7 @@
 //! The circuit of a node of each kind behind those of its children.
 
 ghost use Rattle.std.specs.Prelude.{◌≡◌, ◌<◌, Some, slice_get, IfOk, length};
-ghost use Rattle.gl_algebra.specs.declared.node.PlanNode.TheVariants.{Compute, Select, Project, Aggregate, Union, Beside};
+ghost use Rattle.gl_algebra.specs.declared.node.PlanNode.TheVariants.{Compute, Select, Project, Frames, Aggregate, Union, Beside};
 ghost use Rattle.gl_wire.specs.Faults.{no_faults};
 ghost use Rattle.gl_wiring.specs.Put.{IsPutBehind};
 ghost use Rattle.gl_wiring.specs.Tables.{HasCircuit};
@@ -9,8 +9,9 @@ ghost use Rattle.gl_wiring.specs.Tables.{HasCircuit};
 use crate::below::laws_below;
 use crate::site::Site;
 use crate::tables::circuit_at;
-use gl_algebra::{Operands, Ops, PlanAggs, PlanId};
+use gl_algebra::{Operands, Ops, PlanAggs, PlanFrames, PlanId};
 use gl_bits::Memory;
+use gl_frames_stages::put_frames;
 use gl_net::{Buses, NetBuilder};
 use gl_queue::{Joiner, UnionOf};
 use gl_rows::{put_compute, put_project, put_select};
@@ -104,6 +105,32 @@ pub(crate) fn project_node(
     laws_below();
     let below = circuit_at(site.alloc, table, child)?;
     let e = put_project(
+        site.alloc,
+        net,
+        below,
+        site.plan.kinds(child),
+        items.as_slice(),
+    )?;
+    Ok(e)
+}
+
+/// Of each row of the child what these items make of it and of the rows before it.
+pub(crate) fn frames_node(
+    net: &mut NetBuilder,
+    site: Site<'_>,
+    id: PlanId,
+    child: PlanId,
+    items: &PlanFrames,
+    table: &[Option<Emitted>],
+) -> Result<Emitted, Memory>
+    requires node { slice_get site.plan.now id ≡ Some (Frames child items.now) }
+    requires there { HasCircuit site.plan.now net.old site.tick site.leaves.now table.now child }
+    ensures { let s = site.entry in
+        IfOk result (λ e. IsPutBehind s.plan.now id net.old net.new s.tick s.leaves.now e) }
+{
+    laws_below();
+    let below = circuit_at(site.alloc, table, child)?;
+    let e = put_frames(
         site.alloc,
         net,
         below,

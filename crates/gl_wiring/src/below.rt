@@ -4,6 +4,8 @@ ghost use Rattle.gl_wiring.specs.Below.{LawsBelow};
 
 use gl_algebra::laws as plans;
 use gl_figures::reach_laws::once_is_less;
+use gl_frames_stages::laws::frames_are_counted;
+use gl_frames_wire::laws::running_serves;
 use gl_wire::laws as wires;
 use gl_wire_lanes::laws::begins_behind;
 
@@ -26,6 +28,8 @@ pub fn laws_below()
     wires::totals_come_with_ends();
     wires::unspaced_is_apart();
     begins_behind();
+    running_serves();
+    frames_are_counted();
     gl_windows::laws::windows_rotate();
     gl_windows::laws::costs_are_counted();
     gl_windows::laws::times_rotate();

@@ -26,12 +26,32 @@ returns-clause-figures c = record {
   overlaps_by_symbol = record { is_late = refl; is_apart = refl; is_copied = refl };
   gaps_by_symbol = record { is_late = refl; is_apart = refl; is_copied = refl };
   neighbours_in_windows = record { is_late = refl; is_apart = refl; is_copied = refl };
+  last_of_each = refl;
+  prices_before = record { is_late = refl; is_apart = refl; is_copied = refl };
+  last_prices = record { is_late = refl; is_apart = refl; is_copied = refl };
+  far_prices = record { is_late = refl; is_apart = refl; is_copied = refl };
+  counted_volumes = record { is_late = refl; is_apart = refl; is_copied = refl };
 }
 
 pub returns-clause-weights : goal.returns-clause-weights
-unfolding figures_of shape_of weight_of spare_at of_further nodewise value_to_depth
-returns-clause-weights c = record { most = refl; more = refl; all = refl }
+unfolding figures_of shape_of weight_of spare_at of_further ring nodewise value_to_depth
+returns-clause-weights c = record {
+  most = refl;
+  more = refl;
+  all = refl;
+  one_before = refl;
+  last_of_each = refl;
+  far = refl;
+}
 
 pub returns-clause-bits : goal.returns-clause-bits
 unfolding figures_of shape_of weight_of form_of lean_of keys_of store_of spare_at of_further ring nodewise value_to_depth
-returns-clause-bits c = record { registers = refl; memories = refl; sums = refl; in_windows = refl; keys = refl }
+returns-clause-bits c = record {
+  registers = refl;
+  memories = refl;
+  sums = refl;
+  in_windows = refl;
+  keys = refl;
+  one_before = refl;
+  last_of_each = refl;
+}

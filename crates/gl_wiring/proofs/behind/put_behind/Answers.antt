@@ -1,5 +1,5 @@
 use Rattle.std.proofs.Common.{◌∙◌, sym, ap, slice_get, Some}
-use Rattle.gl_algebra.specs.declared.node.PlanNode.TheVariants.{Compute, Select, Project, Aggregate, Union, Beside}
+use Rattle.gl_algebra.specs.declared.node.PlanNode.TheVariants.{Compute, Select, Project, Frames, Aggregate, Union, Beside}
 use Rattle.gl_wiring.proofs.LeafLemmas.{body_put, body_there, stream_put, stream_there}
 use Rattle.gl_wiring.proofs.behind.put_behind.Goals as goal
 
@@ -32,6 +32,9 @@ select_node-requires-clause-there c = (c.requires.children (Select c.in-Select.c
 
 pub project_node-requires-clause-there : goal.project_node-requires-clause-there
 project_node-requires-clause-there c = (c.requires.children (Project c.in-Project.child c.in-Project.items) (c.node.ensures.node ∙ ap Some c.in-Project.is)).0
+
+pub frames_node-requires-clause-there : goal.frames_node-requires-clause-there
+frames_node-requires-clause-there c = (c.requires.children (Frames c.in-Frames.child c.in-Frames.items) (c.node.ensures.node ∙ ap Some c.in-Frames.is)).0
 
 pub aggregate_node-requires-clause-there : goal.aggregate_node-requires-clause-there
 aggregate_node-requires-clause-there c = (c.requires.children (Aggregate c.in-Aggregate.child c.in-Aggregate.aggs) (c.node.ensures.node ∙ ap Some c.in-Aggregate.is)).0

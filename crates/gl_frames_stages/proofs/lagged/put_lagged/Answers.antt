@@ -1,0 +1,33 @@
+use Rattle.std.proofs.Common.{arith, ◌∙◌}
+use Rattle.gl_frames.specs.Frames.{row_before}
+use Rattle.gl_net.proofs.Determined.{keeps_then}
+use Rattle.gl_wire.proofs.ColumnLemmas.{bit_kept, bus_kept}
+use Rattle.gl_wire.proofs.StageLemmas.{line_first}
+use Rattle.gl_frames_stages.specs.Columns.{carried_by}
+use Rattle.gl_frames_stages.proofs.LaggedNet.{maybe_later}
+use Rattle.gl_frames_stages.proofs.lagged.put_lagged.Goals as goal
+
+pub later-requires : goal.later-requires
+later-requires c = bus_kept _ _ c.in_ok-found.found.word c.in_ok-some.ensures.keeps c.in_ok-found.ensures.bus
+
+pub returns : goal.returns
+returns c = rw c.note_bus.ensures (
+    let found = c.in_ok-found.ensures in
+    let some = c.in_ok-some.ensures in
+    let word = c.in_ok-word.ensures in
+    record {
+      keeps = keeps_then _ c.put_found.new.net _ found.keeps (keeps_then _ c.later_bit.new.net _ some.keeps word.keeps);
+      cost = record {
+        nodes = omega (arith, found.cost.nodes, some.cost.nodes, word.cost.nodes);
+        registers = omega (arith, found.cost.registers, some.cost.registers, word.cost.registers, found.same_width);
+        memories = omega (arith, found.cost.memories, some.cost.memories, word.cost.memories);
+      };
+      bit = bit_kept _ _ c.in_ok-some.some word.keeps some.bit;
+      bus = word.bus;
+      same_width = word.same_width ∙ found.same_width;
+      fresh = λ run r. some.line run (word.keeps.runs run r) 0 ∙ line_first run c.in_ok-found.found.some;
+      tells = λ run r.
+          let at_some = word.keeps.runs run r in
+          maybe_later run c.args.lines (row_before c.args.reach.back) (carried_by run c.args.value) c.in_ok-found.found (record { some = c.in_ok-some.some; word = c.in_ok-word.word })
+          (found.finds run (some.keeps.runs run at_some)) (some.line run at_some) (word.value run r);
+    })

@@ -1,0 +1,31 @@
+use Rattle.std.proofs.Common.{ℕ, Option, None, arith, refl, sym, subst}
+use Rattle.std.specs.Prelude.{IfOk}
+use Rattle.std.proofs.lemmas.Result.{IfOk-weaker}
+use Rattle.gl_algebra.specs.Results.{counts_in}
+use Rattle.gl_algebra.specs.Columns.{ConditionFits, kind_of_operand}
+use Rattle.gl_values.specs.Kinds.{width_of}
+use Rattle.gl_frames.specs.Frames.{last_value_of}
+use Rattle.gl_frames_stages.specs.Framing.{cost_of_last, cost_of_own, every, value_in}
+use Rattle.gl_frames_stages.specs.Inputs.{IsItemIn}
+use Rattle.gl_frames_stages.proofs.WholeNet.{item_as}
+use Rattle.gl_frames_stages.proofs.over.put_all_last.Goals as goal
+
+pub put_last_item-requires-clause-filter : goal.put_last_item-requires-clause-filter
+put_last_item-requires-clause-filter c = subst (ConditionFits c.args.input.source.kinds.now) c.in-Some.is c.requires.filter
+
+pub returns-in-Some : goal.returns-in-Some
+returns-in-Some c =
+    let w = width_of (kind_of_operand c.args.input.source.kinds.now c.args.operand) in
+    subst (λ (f : Option ℕ). IfOk c.put_last_item.result (IsItemIn c.args.net.now c.put_last_item.new.net (cost_of_last w) 1 w (last_value_of (value_in c.args.operand) None (counts_in f)) c.args.input))
+    (sym c.in-Some.is) c.put_last_item.ensures
+
+pub returns-in-None : goal.returns-in-None
+returns-in-None c =
+    let w = width_of (kind_of_operand c.args.input.source.kinds.now c.args.operand) in
+    let v = value_in c.args.operand in
+    let old = c.args.net.now in
+    let new = c.put_own_item.new.net in
+    subst (λ (f : Option ℕ). IfOk c.put_own_item.result (IsItemIn old new (cost_of_last w) 1 w (last_value_of v None (counts_in f)) c.args.input)) (sym c.in-None.is)
+    (IfOk-weaker c.put_own_item.result (IsItemIn old new (cost_of_own w) 1 w (last_value_of v None every) c.args.input) (IsItemIn old new (cost_of_last w) 1 w (last_value_of v None (counts_in None)) c.args.input)
+    (λ out. item_as old new (cost_of_own w) (cost_of_last w) 1 1 w w (last_value_of v None every) (last_value_of v None (counts_in None)) c.args.input out
+    (omega arith) (omega arith) (omega arith) refl refl (λ rows. refl)) (c.put_own_item.ensures None))

@@ -1,0 +1,54 @@
+//! The paces of queries.
+
+ghost use Rattle.std.specs.Prelude.{◌≡◌, option_map};
+ghost use Rattle.gl_query.specs.Alike.{query_alike};
+ghost use Rattle.gl_query.specs.Columns as columns;
+ghost use Rattle.gl_query.specs.Faults as faults;
+ghost use Rattle.gl_query.specs.Trees.{query_tree};
+ghost use Rattle.gl_query_check.specs.Paces.{pace};
+
+use gl_query::Query;
+
+/// How many rows a query gives: one, or one for each row of a source.
+#[derive(Clone, Copy)]
+pub enum Pace<'a> {
+    /// One row.
+    Once,
+    /// One row for each row of the source of this name.
+    Step(&'a [u8]),
+}
+
+/// The pace of a query, where it has one.
+pub fn pace_of(query: &Query) -> Option<Pace<'_>>
+    ensures { option_map pace result ≡ columns.pace_of (query_alike (query_tree query.now)) }
+{
+    match query {
+        Query::Read(name) => Some(Pace::Step(name.text.as_slice())),
+        Query::Rows { filter, source, .. } => match filter {
+            None => pace_of(source),
+            Some(_) => None,
+        },
+        Query::Total { .. } => Some(Pace::Once),
+        Query::Frames { filter, source, .. } => match filter {
+            None => pace_of(source),
+            Some(_) => None,
+        },
+        Query::Each { .. }
+        | Query::EachTime { .. }
+        | Query::PerGroup { .. }
+        | Query::Partition { .. }
+        | Query::Union { .. } => None,
+        Query::Concat { left, .. } => pace_of(left),
+    }
+}
+
+/// Whether two paces are one.
+pub fn same_pace(left: Option<Pace<'_>>, right: Option<Pace<'_>>) -> bool
+    ensures { result ≡ faults.same_pace (option_map pace left.entry) (option_map pace right.entry) }
+{
+    match (left, right) {
+        (Some(Pace::Once), Some(Pace::Once)) => true,
+        (Some(Pace::Step(a)), Some(Pace::Step(b))) => a == b,
+        _ => false,
+    }
+}
