@@ -109,10 +109,11 @@ rings_of_frame (Over agg filter back) = rings_over agg filter back
 
 -- ---- the words of rings
 
--- the words of the ring of a sum, which holds the rows of its frame
+-- the words of the ring of a sum, which gives the row that leaves the frame: a ring has more words than the distance that
+-- it is read at, so no word is read in the cycle that writes it
 abbrev pub words_of_sum : Option ℕ → ℕ
 words_of_sum None = 0
-words_of_sum (Some back) = ring (back + 1)
+words_of_sum (Some back) = ring (back + 2)
 
 -- the words of the ring of a count
 abbrev pub words_of_count : Option ℕ → Option ℕ → ℕ
@@ -124,7 +125,7 @@ words_of_count (Some column) back = words_of_sum back
 abbrev pub words_of_doublings : ℕ → ℕ → ℕ → ℕ
 words_of_doublings zero exponent back = 0
 words_of_doublings (suc more) exponent back =
-    ring (min (2 ^ exponent) (back + 1 - 2 ^ exponent)) + words_of_doublings more (exponent + 1) back
+    ring (min (2 ^ exponent) (back + 1 - 2 ^ exponent) + 1) + words_of_doublings more (exponent + 1) back
 
 -- the words of the rings of an extreme
 abbrev pub words_of_extreme : Option ℕ → ℕ
@@ -143,5 +144,5 @@ words_over (LastValue operand) filter back = 0
 -- the words of the rings of an item
 abbrev pub words_of_frame : PlanFrame → ℕ
 words_of_frame (Own operand) = 0
-words_of_frame (Lag operand back) = ring back
+words_of_frame (Lag operand back) = ring (back + 1)
 words_of_frame (Over agg filter back) = words_over agg filter back

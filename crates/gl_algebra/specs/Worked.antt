@@ -167,8 +167,8 @@ pub record WorkedWeights : Type 0 where
   pub more : weight_with_output (averages_by_symbol 201) 3 ≡ 263410
   pub all : weight_with_output (averages_by_symbol 256) 3 ≡ 335405
   pub one_before : weight_with_output prices_before 1 ≡ 325
-  pub last_of_each : weight_with_output last_prices 1 ≡ 1253
-  pub far : weight_with_output far_prices 1 ≡ 8697
+  pub last_of_each : weight_with_output last_prices 1 ≡ 1254
+  pub far : weight_with_output far_prices 1 ≡ 12793
 
 -- the states of 200 averages stand in a memory, and so do those of 4 sums; windows at the root have a third copy of
 -- groups, and there are three; frames have rings
@@ -179,4 +179,4 @@ pub record WorkedBits : Type 0 where
   pub in_windows : most_memory counts_by_symbol_in_windows 7 ≡ 1536
   pub keys : keys_of counts_by_symbol_in_windows 7 ≡ 272
   pub one_before : most_memory prices_before 1 ≡ 1058
-  pub last_of_each : most_memory last_prices 1 ≡ 50088
+  pub last_of_each : most_memory last_prices 1 ≡ 50348

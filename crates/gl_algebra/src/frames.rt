@@ -226,7 +226,7 @@ fn words_of_sum(back: Option<u32>) -> u64
 {
     match back {
         None => 0,
-        Some(back) => ring(u64::from(back) + 1),
+        Some(back) => ring(u64::from(back) + 2),
     }
 }
 
@@ -252,7 +252,7 @@ fn words_of_doublings(more: u8, exponent: u8, back: u32) -> u64
     }
     let covered = 1u64 << exponent;
     let rest = (u64::from(back) + 1).saturating_sub(covered);
-    ring(covered.min(rest)) + words_of_doublings(more - 1, exponent + 1, back)
+    ring(covered.min(rest) + 1) + words_of_doublings(more - 1, exponent + 1, back)
 }
 
 // The words of the rings of an extreme.
@@ -288,7 +288,7 @@ pub fn words_of_frame(item: &PlanFrame) -> u64
 {
     match item {
         PlanFrame::Own(_) => 0,
-        PlanFrame::Lag(_, back) => ring(u64::from(*back)),
+        PlanFrame::Lag(_, back) => ring(u64::from(*back) + 1),
         PlanFrame::Over { agg, filter, back } => words_over(agg, *filter, *back),
     }
 }

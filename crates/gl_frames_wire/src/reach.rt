@@ -25,7 +25,7 @@ impl Reach {
         ensures bits { result.bits ≡ place_bits back }
         ensures fits { IsReach result }
     {
-        let depth = u64::from(back);
+        let depth = u64::from(back) + 1;
         let bits = least_exponent(depth, 1, depth);
         Reach { back, bits }
     }

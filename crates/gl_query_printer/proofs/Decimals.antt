@@ -122,6 +122,9 @@ not_both : (a b c d : Bool) → (a && false && b && c && d) ≡ false
 not_both true b c d = refl
 not_both false b c d = refl
 
+no_frame_word : (c : ℕ) (cs : List ℕ) (at : ℕ) → IsInRange 48 57 c → IsNone' (frame_word_of (c ∷ cs) at)
+no_frame_word c cs at r = passes (is_keyword (c ∷ cs) (codes "over")) (token.Word word.Over at) _ (no_keyword c cs 111 (codes "ver") r refl (lit≤ tt)) (passes (is_keyword (c ∷ cs) (codes "filter")) (token.Word word.Filter at) _ (no_keyword c cs 102 (codes "ilter") r refl (lit≤ tt)) (passes (is_keyword (c ∷ cs) (codes "rows")) (token.Word word.Rows at) _ (no_keyword c cs 114 (codes "ows") r refl (lit≤ tt)) (passes (is_keyword (c ∷ cs) (codes "preceding")) (token.Word word.Preceding at) _ (no_keyword c cs 112 (codes "receding") r refl (lit≤ tt)) (passes (is_keyword (c ∷ cs) (codes "unbounded")) (token.Word word.Unbounded at) _ (no_keyword c cs 117 (codes "nbounded") r refl (lit≤ tt)) (passes (is_keyword (c ∷ cs) (codes "between")) (token.Word word.Between at) _ (no_keyword c cs 98 (codes "etween") r refl (lit≤ tt)) (passes (is_keyword (c ∷ cs) (codes "current")) (token.Word word.Current at) _ (no_keyword c cs 99 (codes "urrent") r refl (lit≤ tt)) (passes (is_keyword (c ∷ cs) (codes "row")) (token.Word word.Row at) _ (no_keyword c cs 114 (codes "ow") r refl (lit≤ tt)) (passes (is_keyword (c ∷ cs) (codes "lag")) (token.Word word.Lag at) _ (no_keyword c cs 108 (codes "ag") r refl (lit≤ tt)) (passes (is_keyword (c ∷ cs) (codes "last_value")) (token.Word word.LastValue at) _ (no_keyword c cs 108 (codes "ast_value") r refl (lit≤ tt)) none)))))))))
+
 no_name : (c : ℕ) (cs : List ℕ) → IsInRange 48 57 c → is_name (c ∷ cs) ≡ false
 unfolding is_name begins_with_letter
 no_name c cs r =
@@ -130,7 +133,7 @@ no_name c cs r =
 
 word_of_digits : (c : ℕ) (cs : List ℕ) (at : ℕ) → IsInRange 48 57 c → word_token (c ∷ cs) at ≡ number_token (number_of (c ∷ cs)) at
 unfolding word_token
-word_of_digits c cs at r = rw (no_keywords c cs at r, no_name c cs r) refl
+word_of_digits c cs at r = rw (no_keywords c cs at r, no_name c cs r, (no_frame_word c cs at r).is) refl
 
 -- a numeral is read as its number
 record IsDecimal (ds : List ℕ) (n : ℕ) : Type 0 where
