@@ -17,8 +17,9 @@ use Rattle.gl_query_tokens.specs.declared.token.Join.TheVariants as join
 use Rattle.gl_query_tokens.specs.declared.token.Plain.TheVariants as plain
 use Rattle.gl_query_tokens.specs.declared.token.Token.{Token}
 use Rattle.gl_query_tokens.specs.declared.token.Token.TheVariants as token
+use Rattle.gl_query_tokens.specs.declared.token.Word.TheVariants as word
 use Rattle.gl_query_tokens.specs.Tokens.{class_of}
-use Rattle.gl_query_tokens.specs.Words.{is_keyword, clause_of, window_of, operator_of, keyword_of, or_else, with_digit, number_of, number_token, word_token}
+use Rattle.gl_query_tokens.specs.Words.{is_keyword, clause_of, frame_word_of, window_of, operator_of, keyword_of, or_else, with_digit, number_of, number_token, word_token}
 use Rattle.gl_query_printer.specs.Canonical.{num_of}
 use Rattle.gl_query_printer.specs.Spaced.{token_text, place_behind}
 use Rattle.gl_query_printer.proofs.Lexed.{Readable, read_word, word_apart}
