@@ -1,6 +1,7 @@
 //! Aggregates, functions and selects in expressions: what to write where one of them cannot stand.
 
 use crate::elsewhere::cure_of;
+use crate::frames::frame_cure;
 use crate::kinds::kind_cure;
 use crate::lacking::{EACH_WINDOW, KEY, WEIGHTS};
 use crate::pieces::{Pieces, is_one_of, is_sign, is_spelled};
@@ -142,7 +143,9 @@ fn named_cure(pieces: &Pieces<'_>, at: usize) -> Option<&'static str> {
             "Behind FROM stands the name of a stream or a query in brackets, and no function.",
         );
     }
-    Some("There is no such function. There are count, sum, min, max, avg and wsum, and CAST.")
+    Some(
+        "There is no such function. There are count, sum, min, max, avg and wsum, lag and last_value with OVER, and CAST.",
+    )
 }
 
 // Calls of functions that are not there.
@@ -177,6 +180,9 @@ pub(crate) fn calls_cure(pieces: &Pieces<'_>, at: usize, state: State) -> Option
         return Some(cure);
     }
     if let Some(cure) = weights_cure(pieces, at, state) {
+        return Some(cure);
+    }
+    if let Some(cure) = frame_cure(pieces, at, state) {
         return Some(cure);
     }
     if let Some(cure) = total_cure(pieces, at, state) {

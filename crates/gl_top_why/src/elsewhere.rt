@@ -85,7 +85,7 @@ fn mark_cure(word: &[u8]) -> Option<&'static str> {
     cure_in(&MARKS, word)
 }
 
-const CLAUSES: [Row; 5] = [
+const CLAUSES: [Row; 7] = [
     Row {
         words: &[
             b"order", b"limit", b"fetch", b"top", b"offset", b"sort", b"asc", b"desc", b"nulls",
@@ -97,8 +97,12 @@ const CLAUSES: [Row; 5] = [
         cure: "Write a select over the select: SELECT k, s FROM (SELECT k, sum(x) AS s FROM t GROUP BY k GROUPS 64) WHERE s > 5.",
     },
     Row {
-        words: &[b"over", b"partition"],
-        cure: "A window stands behind the source: FROM t [SIZE 5 ADVANCE 1 TUPLES]. One of each key's own rows is EACH w IN t BY k GROUPS 8 [SIZE 5 ADVANCE 1 TUPLES] (SELECT sum(x) AS s FROM w).",
+        words: &[b"over"],
+        cure: "OVER stands right behind the brackets of count, sum, min, max, avg, lag or last_value: sum(price) OVER (ROWS 19 PRECEDING) AS s.",
+    },
+    Row {
+        words: &[b"partition"],
+        cure: "Windows of one key's own rows are EACH w IN t BY k GROUPS 8 [SIZE 5 ADVANCE 1 TUPLES] (SELECT sum(x) AS s FROM w).",
     },
     Row {
         words: &[
@@ -110,7 +114,11 @@ const CLAUSES: [Row; 5] = [
             b"unbounded",
             b"frame",
         ],
-        cure: "A window stands behind the source and counts rows, [SIZE 5 ADVANCE 1 TUPLES], or ticks of the feed, [SIZE 5 ADVANCE 1 TIME].",
+        cure: "A window of rows to come stands behind the source, [SIZE 5 ADVANCE 1 TUPLES], and one of ticks too, [SIZE 5 ADVANCE 1 TIME]. The rows before are in OVER: sum(x) OVER (ROWS 4 PRECEDING) AS s.",
+    },
+    Row {
+        words: &[b"filter"],
+        cure: "FILTER stands between a function and its OVER: count() FILTER (WHERE price > 100) OVER (ROWS 19 PRECEDING) AS n.",
     },
     Row {
         words: &[
@@ -118,7 +126,6 @@ const CLAUSES: [Row; 5] = [
             b"rollup",
             b"grouping",
             b"sets",
-            b"filter",
             b"pivot",
             b"unpivot",
             b"tablesample",

@@ -1,5 +1,6 @@
 //! What can stand at a piece.
 
+use crate::frames::frame_words;
 use crate::pieces::{Pieces, is_one_of, is_sign, is_spelled};
 use crate::states::{State, is_of_query, state_at};
 use crate::words::is_name;
@@ -59,6 +60,7 @@ fn put_behind_operand(out: &mut String, pieces: &Pieces<'_>, at: usize) -> Resul
     match expression_call(pieces, at) {
         Some(call) if is_spelled(call, b"cast") => out.push_str(" or AS"),
         Some(call) if is_spelled(call, b"wsum") => out.push_str(" or a comma"),
+        Some(call) if is_spelled(call, b"lag") => out.push_str(", a comma or )"),
         Some(_) => out.push_str(" or )"),
         None if is_spelled(pieces.clause(at), b"where") => {
             out.push_str(", GROUP BY, ")?;
@@ -115,7 +117,7 @@ fn item_words(state: State) -> Option<&'static str> {
         State::From => Some("FROM"),
         State::Weights => Some("["),
         State::BehindWeight => Some("a comma or ]"),
-        _ => None,
+        _ => frame_words(state),
     }
 }
 

@@ -56,10 +56,18 @@ fn time_cure(word: &[u8]) -> Option<&'static str> {
     cure_in(&TIMES, word)
 }
 
-const PLACES: [Row; 3] = [
+const PLACES: [Row; 5] = [
     Row {
-        words: &[b"lag", b"lead"],
-        cure: "A window of two rows has the row before: wsum(x, [1, 0]) is the older one's, in FROM t [SIZE 2 ADVANCE 1 TUPLES].",
+        words: &[b"lead"],
+        cure: "There is no row after this one: take what is before it, lag(x) OVER () AS before, and read each row one later.",
+    },
+    Row {
+        words: &[b"lag"],
+        cure: "lag is an item with OVER and a name: lag(x) OVER () AS before, or lag(x, 3) OVER () AS older.",
+    },
+    Row {
+        words: &[b"row_number", b"rownum"],
+        cure: "Count the rows up to each: count() OVER (ROWS UNBOUNDED PRECEDING) AS n.",
     },
     Row {
         words: &[
@@ -72,7 +80,6 @@ const PLACES: [Row; 3] = [
             b"arg_max",
             b"arg_min",
             b"first_value",
-            b"last_value",
             b"nth_value",
             b"any_value",
             b"latest",
@@ -82,11 +89,9 @@ const PLACES: [Row; 3] = [
     },
     Row {
         words: &[
-            b"row_number",
             b"rank",
             b"dense_rank",
             b"ntile",
-            b"rownum",
             b"percentile",
             b"percentile_cont",
             b"median",

@@ -1,6 +1,7 @@
 //! What a statement lacks at a piece, by what it waits for there.
 
 use crate::expected::{expression_call, is_bare_item};
+use crate::frames::frame_lacking;
 use crate::pieces::{Pieces, is_one_of, is_sign, is_spelled};
 use crate::states::State;
 use crate::words::is_operator;
@@ -97,7 +98,7 @@ fn item(state: State) -> Option<&'static str> {
         ),
         State::CallOpen => Some("Brackets are lacking: count(), sum(price) or CAST(price AS u64)."),
         State::CountEnd => Some("Write count(), with nothing in its brackets."),
-        State::TotalAs => Some(ITEM_NAMES),
+        State::TotalAs | State::TotalEnd => Some(ITEM_NAMES),
         State::ItemName => Some("A name is lacking behind AS."),
         State::BehindItem | State::From => Some(FROM),
         State::Kind | State::CastEnd => Some(
@@ -108,7 +109,7 @@ fn item(state: State) -> Option<&'static str> {
             "Weights are numbers without a sign, parted by commas: wsum(price, [1, 2]).",
         ),
         State::SignedNumber => Some(SIGN),
-        _ => None,
+        _ => frame_lacking(state),
     }
 }
 

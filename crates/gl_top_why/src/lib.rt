@@ -11,6 +11,7 @@ mod elsewhere;
 mod expected;
 pub mod explaining;
 mod fields;
+mod frames;
 mod functions;
 mod kinds;
 mod lacking;

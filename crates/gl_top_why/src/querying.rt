@@ -6,7 +6,7 @@ use crate::lines::put_bytes;
 use crate::names::{each_around, put_columns_around, put_kind, put_streams, stream_around};
 use crate::pieces::{Pieces, is_one_of, is_sign, is_spelled};
 use crate::rules::put_rule;
-use crate::states::{State, state_at};
+use crate::states::{State, call_at, state_at};
 use crate::syntax::{is_word_for_name, syntax_cure};
 use crate::words::{is_number, is_operator, number_of};
 use gl_query::QueryFault;
@@ -248,6 +248,12 @@ fn put_range(out: &mut String, pieces: &Pieces<'_>, at: usize) -> Result<(), All
         return out.push_str(
             " is out of range: GROUPS is 1 to 256, and so are the groups by the windows of each that are open at once.",
         );
+    }
+    if is_one_of(before, &[b"rows", b"between"]) {
+        return out.push_str(" is out of range: ROWS takes 0 to 65,535 rows before the row itself.");
+    }
+    if is_spelled(call_at(pieces, at), b"lag") {
+        return out.push_str(" is out of range: lag looks back 1 to 65,535 rows.");
     }
     if is_number(word) {
         return out.push_str(" is the 65th weight: a wsum has at most 64.");

@@ -48,7 +48,7 @@ fn put_mixed(out: &mut String, pieces: &Pieces<'_>, at: usize) -> Result<(), All
             " begins an item that is no aggregate, and behind the key stand aggregates alone: min(price) AS price.",
         ),
         None if is_total(word) => out.push_str(
-            " begins an aggregate, and the first item is none. Either all items are aggregates or none is: write GROUP BY price GROUPS 64 with the key in front, or min(price) AS price. A row beside its window's totals is wsum(price, [0, 0, 1]).",
+            " begins an aggregate, and the first item is none. Either all items are aggregates or none is: write GROUP BY price GROUPS 64 with the key in front, or min(price) AS price. A row beside a total of the rows before has OVER: sum(price) OVER (ROWS 19 PRECEDING) AS s.",
         ),
         None => out.push_str(
             " begins an item that is no aggregate, and the first one is. Either all items are aggregates or none is: write GROUP BY price GROUPS 64 with the key in front, or min(price) AS price.",

@@ -3,6 +3,7 @@
 //! The pieces in front of the first syntax fault begin a statement. So the last few of them tell, with the
 //! bracket around.
 
+use crate::frames::frame_state;
 use crate::pieces::{Pieces, is_one_of, is_sign, is_spelled};
 use crate::words::{is_name, is_number, is_total};
 
@@ -53,6 +54,32 @@ pub(crate) enum State {
     CountEnd,
     /// AS behind an aggregate.
     TotalAs,
+    /// AS, FILTER or OVER behind an aggregate.
+    TotalEnd,
+    /// FILTER or OVER behind `last_value`.
+    FilterOrOver,
+    /// OVER behind `lag` or a FILTER.
+    Over,
+    /// The bracket behind FILTER or OVER.
+    FrameOpen,
+    /// WHERE in the bracket of a FILTER.
+    FilterWhere,
+    /// ROWS in the bracket of an OVER.
+    FrameRows,
+    /// How many rows, behind ROWS and BETWEEN.
+    FrameBound,
+    /// PRECEDING.
+    Preceding,
+    /// AND behind the PRECEDING of a BETWEEN.
+    FrameAnd,
+    /// CURRENT.
+    Current,
+    /// ROW.
+    Row,
+    /// The end of `lag` or OVER.
+    FrameEnd,
+    /// The number of `lag`.
+    FrameBack,
     /// The name of an item.
     ItemName,
     /// A comma or FROM behind an item.
@@ -334,6 +361,9 @@ pub(crate) fn state_at(pieces: &Pieces<'_>, at: usize) -> State {
     let before = pieces.before(at, 1);
     if before.is_empty() {
         return State::Term;
+    }
+    if let Some(state) = frame_state(pieces, at) {
+        return state;
     }
     if let Some(state) = state_in(&BEHIND, before) {
         return state;

@@ -96,7 +96,7 @@ fn is_other_name(pieces: &Pieces<'_>, at: usize, state: State) -> bool {
     let next = pieces.get(at.saturating_add(1));
     matches!(
         state,
-        State::BehindOperand | State::TotalAs | State::BehindItem
+        State::BehindOperand | State::TotalAs | State::TotalEnd | State::BehindItem
     ) && is_name(pieces.get(at))
         && is_spelled(pieces.clause(at), b"select")
         && is_one_of(next, &[b",", b"from"])
@@ -190,7 +190,7 @@ fn item_cure(pieces: &Pieces<'_>, at: usize, state: State) -> Option<&'static st
     let word = pieces.get(at);
     let is_behind = matches!(
         state,
-        State::BehindOperand | State::TotalAs | State::BehindItem
+        State::BehindOperand | State::TotalAs | State::TotalEnd | State::BehindItem
     );
     if state == State::From && is_sign(word, b',') || state == State::Item && is_sign(word, b'*') {
         return Some("* stands alone, for all columns: name each column where more is asked for.");
@@ -206,7 +206,7 @@ fn item_cure(pieces: &Pieces<'_>, at: usize, state: State) -> Option<&'static st
             "Write AS in front of an item's other name: price AS p. Between two items stands a comma.",
         );
     }
-    if state == State::TotalAs && !is_sign(word, b')') {
+    if matches!(state, State::TotalAs | State::TotalEnd) && !is_sign(word, b')') {
         return Some(ITEM_NAMES);
     }
     None
