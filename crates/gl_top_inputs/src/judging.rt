@@ -1,6 +1,6 @@
 //! Judging the texts: each is read and judged before the next is read.
 
-ghost use Rattle.std.specs.Prelude.{◌≡◌, IfOk, Ok};
+ghost use Rattle.std.specs.Prelude.{◌≡◌, [], IfOk, Ok};
 ghost use Rattle.gl_schema.specs.Schemas.{IsSchema};
 ghost use Rattle.gl_schema.specs.Beats.{KeepsGap};
 ghost use Rattle.gl_tuple_reader.specs.Entries.{Gives};
@@ -44,8 +44,13 @@ pub struct KeptTexts {
 }
 
 impl KeptTexts {
-    /// No text.
-    pub fn new(alloc: Global) -> KeptTexts {
+    /// No text, and no gap.
+    pub fn new(alloc: Global) -> KeptTexts
+        ensures schema { result.schema ≡ [] }
+        ensures query { result.query ≡ [] }
+        ensures tuples { result.tuples ≡ [] }
+        ensures gap { result.gap ≡ 0 }
+    {
         KeptTexts {
             schema: Vec::new(alloc),
             query: Vec::new(alloc),
