@@ -16,10 +16,10 @@ const LAG: &str =
 const FILTER: &str = "A condition in brackets is lacking: FILTER (WHERE price > 100).";
 
 const FUNCTION: &str =
-    "OVER is lacking: lag(price) OVER () AS before, last_value(price) OVER (ROWS 19 PRECEDING) AS old.";
+    "OVER is lacking: lag(price) OVER () AS prior, last_value(price) OVER (ROWS 19 PRECEDING) AS old.";
 
 const ALONE: &str =
-    "A function with OVER is a whole item. Name it with AS, and reckon with the name in a select over this one: SELECT price - before AS d FROM (SELECT price, lag(price) OVER () AS before FROM t).";
+    "A function with OVER is a whole item. Name it with AS, and reckon with the name in a select over this one: SELECT price - prior AS d FROM (SELECT price, lag(price) OVER () AS prior FROM t).";
 
 // Functions that count nowhere else, by their brackets.
 const FUNCTIONS: [&[u8]; 2] = [b"lag", b"last_value"];
@@ -227,7 +227,7 @@ pub(crate) fn frame_cure(pieces: &Pieces<'_>, at: usize, state: State) -> Option
     }
     if is_spelled(word, b"over") && state == State::TotalAs {
         return Some(
-            "wsum has no OVER, since its weights count a window's rows. lag(price) OVER () AS before gives the row before, and a select over it weighs both.",
+            "wsum has no OVER, since its weights count a window's rows. lag(price) OVER () AS prior gives the row before, and a select over it weighs both.",
         );
     }
     frame_lacking(state)

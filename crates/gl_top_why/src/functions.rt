@@ -59,11 +59,11 @@ fn time_cure(word: &[u8]) -> Option<&'static str> {
 const PLACES: [Row; 5] = [
     Row {
         words: &[b"lead"],
-        cure: "There is no row after this one: take what is before it, lag(x) OVER () AS before, and read each row one later.",
+        cure: "There is no row after this one: take what is before it, lag(x) OVER () AS prior, and read each row one later.",
     },
     Row {
         words: &[b"lag"],
-        cure: "lag is an item with OVER and a name: lag(x) OVER () AS before, or lag(x, 3) OVER () AS older.",
+        cure: "lag is an item with OVER and a name: lag(x) OVER () AS prior, or lag(x, 3) OVER () AS older.",
     },
     Row {
         words: &[b"row_number", b"rownum"],
