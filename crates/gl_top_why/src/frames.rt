@@ -18,6 +18,12 @@ const FILTER: &str = "A condition in brackets is lacking: FILTER (WHERE price > 
 const FUNCTION: &str =
     "OVER is lacking: lag(price) OVER () AS prior, last_value(price) OVER (ROWS 19 PRECEDING) AS old.";
 
+const FILTERED: &str =
+    "FILTER goes with OVER alone. Of a total write the condition behind WHERE, or multiply by it: sum(CAST(price > 100 AS u32) * volume) AS v.";
+
+const NAMELESS: &str =
+    "A window has no name: write its rows in brackets behind each OVER, OVER (ROWS 19 PRECEDING).";
+
 const ALONE: &str =
     "A function with OVER is a whole item. Name it with AS, and reckon with the name in a select over this one: SELECT price - prior AS d FROM (SELECT price, lag(price) OVER () AS prior FROM t).";
 
@@ -193,10 +199,10 @@ fn over_cure(word: &[u8]) -> &'static str {
     }
 }
 
-// Whether what closes in front is the bracket of an OVER.
-fn is_behind_over(pieces: &Pieces<'_>, at: usize) -> bool {
+// Whether what closes in front is the bracket of this word, which stands behind a function.
+fn is_behind(pieces: &Pieces<'_>, at: usize, word: &[u8]) -> bool {
     match closed_before(pieces, at) {
-        Some(open) => { is_sign(pieces.before(at, 1), b')') && opens_behind(pieces, open, b"over") }
+        Some(open) => is_sign(pieces.before(at, 1), b')') && opens_behind(pieces, open, word),
         None => false,
     }
 }
@@ -216,8 +222,14 @@ pub(crate) fn frame_cure(pieces: &Pieces<'_>, at: usize, state: State) -> Option
             over_cure(word)
         });
     }
-    if is_operator(word) && is_behind_over(pieces, at) {
+    if is_operator(word) && is_behind(pieces, at, b"over") {
         return Some(ALONE);
+    }
+    if state == State::Over && is_behind(pieces, at, b"filter") {
+        return Some(FILTERED);
+    }
+    if state == State::FrameOpen && is_spelled(pieces.before(at, 1), b"over") {
+        return Some(NAMELESS);
     }
     let is_called = at
         .checked_sub(1)
