@@ -1,4 +1,4 @@
--- What is given where a front of groups is reasoned about: the machine behind a source, and what the source keeps to in time.
+-- What is given where a front of slots is reasoned about: the machine behind a source, and what the source keeps to in time.
 use Rattle.std.proofs.Common.{ℕ, ◌+◌, ◌-◌, ◌*◌, ◌≤◌, arith}
 use Rattle.gl_values.specs.Results.{Row}
 use Rattle.gl_wire.specs.Wire.{Carried}

@@ -1,4 +1,4 @@
--- A front of groups in a netlist: its wires, its keys and its own line.
+-- A front of slots in a netlist: its wires, its keys and its own line.
 use Rattle.std.specs.Prelude.{◌≡◌, ℕ, suc, ◌+◌, ◌-◌, ◌*◌, ◌<◌, ◌≤◌, List, length, Some, None, Bool, slice_get, slice_index, if◌then◌else◌, nat_eq, not, ◌&&◌, ◌||◌}
 use Rattle.std.specs.List.{sum}
 use Rattle.gl_values.specs.Results.{Row}

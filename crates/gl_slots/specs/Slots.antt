@@ -1,4 +1,4 @@
--- The front of groups as a machine: which slot takes a tuple, and which takes an end.
+-- The front of slots as a machine: which slot takes a tuple, and which takes an end.
 use Rattle.std.specs.Prelude.{◌≡◌, ℕ, zero, suc, ◌-◌, ◌<◌, List, [], length, Option, Some, None, Bool, true, false, not, ◌&&◌, if◌then◌else◌, nat_eq, nat_lt, slice_get, take}
 use Rattle.std.specs.List.{list_any}
 use Rattle.gl_values.specs.Lists.{keys_of, rows_with}

@@ -1,4 +1,4 @@
-//! The front of groups: which slot takes a tuple, and which takes an end.
+//! The front of slots: which slot takes a tuple, and which takes an end.
 
 ghost use Rattle.std.specs.Prelude.{◌<◌, ◌≤◌, ◌^◌, IfOk, length};
 ghost use Rattle.gl_bits.specs.Words.{IsWidth};

@@ -1,4 +1,4 @@
-//! The parts of a front of groups, each with its registers.
+//! The parts of a front of slots, each with its registers.
 
 ghost use Rattle.std.specs.Prelude.{◌≡◌, ◌<◌, ◌≤◌, ◌^◌, IfOk, length};
 ghost use Rattle.gl_net.specs.Net.{IsBit, IsBus};
