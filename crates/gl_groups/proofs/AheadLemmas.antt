@@ -7,10 +7,10 @@ use Rattle.gl_bits.proofs.Bools.{and_both, and_left, and_parts, and_right, and_s
 use Rattle.gl_wire_registers.specs.Lines.{any_to}
 use Rattle.gl_wire_registers.proofs.LineLemmas.{any_same}
 use Rattle.gl_groups.specs.Ahead.{Ahead, Finds, GoesOn, many_kept, sought_in}
-use Rattle.gl_groups.specs.Seeking.{Sought, found, has, is_next, kept, matches, takes}
-use Rattle.gl_groups.proofs.EventLemmas.{any_here, any_there}
-use Rattle.gl_groups.proofs.SeekLemmas.{takes_last}
-use Rattle.gl_groups.proofs.HomeLemmas.{InOrder, found_kept, order_next}
+use Rattle.gl_slots.specs.Seeking.{Sought, found, has, is_next, kept, matches, takes}
+use Rattle.gl_slots.proofs.OneLemmas.{any_here, any_there}
+use Rattle.gl_slots.proofs.SeekLemmas.{takes_last}
+use Rattle.gl_slots.proofs.HomeLemmas.{InOrder, found_kept, order_next}
 use Rattle.gl_groups.proofs.AheadSteps.{any_either, any_both, any_nowhere, found_holds, holds, holds_moved, holds_same, takes_any, takes_at, takes_new, takes_room, then_counted, then_few}
 
 -- what is so in a cycle: which slot has the key, whether it is set free or not, is known

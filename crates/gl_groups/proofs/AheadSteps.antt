@@ -4,9 +4,9 @@ use Rattle.std.specs.Prelude.{not, ◌&&◌, ◌||◌, if◌then◌else◌, nat_
 use Rattle.std.proofs.lemmas.Bool.{cases_lt, le-ltb, lt-ltb, ltb-true, ltb-false}
 use Rattle.gl_bits.proofs.Bools.{and_both, and_left, and_parts, and_right, by_cases, else_false, not_both, not_false, not_true, or_cases, or_left, or_none, or_right, same_when}
 use Rattle.gl_wire_registers.specs.Lines.{any_to}
-use Rattle.gl_groups.specs.Seeking.{Sought, asked, found, has, is_new, is_next, kept, matches, takes}
-use Rattle.gl_groups.proofs.EventLemmas.{any_here, any_there}
-use Rattle.gl_groups.proofs.HomeLemmas.{InOrder, comes_from, found_here, found_kept, found_key, key_kept, key_taken}
+use Rattle.gl_slots.specs.Seeking.{Sought, asked, found, has, is_new, is_next, kept, matches, takes}
+use Rattle.gl_slots.proofs.OneLemmas.{any_here, any_there}
+use Rattle.gl_slots.proofs.HomeLemmas.{InOrder, comes_from, found_here, found_kept, found_key, key_kept, key_taken}
 
 -- ---- one of n
 

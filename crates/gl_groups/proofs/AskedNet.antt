@@ -7,7 +7,7 @@ use Rattle.gl_wire.specs.declared.wire.Wire.{Wire}
 use Rattle.gl_wire.specs.Wire.{line_at, row_at}
 use Rattle.gl_wire.proofs.ColumnLemmas.{row_at-value}
 use Rattle.gl_wire_registers.specs.Held.{held_at}
-use Rattle.gl_groups.specs.declared.parts.Flush.{Flush}
+use Rattle.gl_slots.specs.declared.parts.Flush.{Flush}
 use Rattle.gl_groups.specs.Finding.{IsAsked}
 use Rattle.gl_groups.specs.Lanes.{IsLate}
 use Rattle.gl_groups.proofs.LaneRun.{asking_of}

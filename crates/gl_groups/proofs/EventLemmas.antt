@@ -1,8 +1,7 @@
 -- At most one slot has an event in a cycle, so one wire carries them all.
-use Rattle.std.proofs.Common.{◌≡◌, ℕ, zero, suc, ◌<◌, List, [], ◌∷◌, ◌++◌, Option, Some, None, Bool, true, false, refl, sym, ap, ◌∙◌, subst, arith, inl, inr, ◌⊎◌, eqb-true, eq-eqb}
+use Rattle.std.proofs.Common.{◌≡◌, ℕ, zero, suc, ◌<◌, List, [], ◌∷◌, ◌++◌, Option, Some, None, Bool, true, false, refl, sym, ap, ◌∙◌, subst, inl, inr, eqb-true, eq-eqb}
 use Rattle.std.specs.Prelude.{slice_get, not, ◌&&◌, ◌||◌, if◌then◌else◌, nat_eq, nat_lt, length}
 use Rattle.std.specs.List.{list_any}
-use Rattle.std.proofs.lemmas.Bool.{cases_lt}
 use Rattle.gl_values.specs.Results.{Row}
 use Rattle.gl_values.specs.Tables.{with_key}
 use Rattle.gl_bits.proofs.Bools.{and_left, and_parts, and_right, by_cases, neither_parts, not_both, or_cases, or_left, or_right, same_when}
@@ -10,27 +9,10 @@ use Rattle.gl_net.proofs.Lists.{get_push_cases}
 use Rattle.gl_wire.specs.Wire.{Carried}
 use Rattle.gl_wire_lanes.specs.Lanes.{Begins, IsFresh, Lane, is_open}
 use Rattle.gl_wire_registers.specs.Lines.{any_to}
-use Rattle.gl_groups.specs.Slots.{Slots, freed, keys_at, keys_now, of_slot, same_key, slot_ends, slot_now, slot_takes, slots_at, slots_next, with_tuple}
+use Rattle.gl_slots.proofs.OneLemmas.{any_here, any_there, not_listed}
+use Rattle.gl_slots.specs.Slots.{Slots, freed, keys_at, keys_now, of_slot, same_key, slot_ends, slot_now, slot_takes, slots_at, slots_next, with_tuple}
 
 -- ---- one of some lines
-
-pub any_there : (n : ℕ) (f : ℕ → Bool) → any_to n f ≡ true → (k : ℕ) × (k < n) × (f k ≡ true)
-any_there zero f h = absurd (cc)
-any_there (suc n) f h = elim (or_cases (any_to n f) (f n) h) [
-  | inl a ↦ (let p = any_there n f a in (p.0, omega (arith, p.1), p.2))
-  | inr b ↦ (n, omega arith, b)
-]
-
-pub any_here : (n : ℕ) (f : ℕ → Bool) (k : ℕ) → k < n → f k ≡ true → any_to n f ≡ true
-any_here zero f k l h = absurd (omega (arith, l))
-any_here (suc n) f k l h = by_cases (nat_eq k n) (λ e. or_right (any_to n f) (f n) (subst (λ i. f i ≡ true) (eqb-true k n e) h))
-    (λ e. or_left (any_to n f) (f n) (any_here n f k (other k n l e) h))
-  where
-    other : (k n : ℕ) → k < suc n → nat_eq k n ≡ false → k < n
-    other k n l e = elim (near k n l) [ inl q ↦ q | inr q ↦ (let z = eq-eqb k n q in absurd (cc)) ]
-      where
-        near : (k n : ℕ) → k < suc n → (k < n) ⊎ (k ≡ n)
-        near k n l = elim (cases_lt k n) [ inl a ↦ inl a | inr a ↦ inr (omega (arith, l, a)) ]
 
 any_only : (n : ℕ) (f : ℕ → Bool) (k : ℕ) → k < n → ((j : ℕ) → j < n → f j ≡ true → j ≡ k) → any_to n f ≡ f k
 any_only n f k l only =
@@ -199,11 +181,6 @@ module _ (n : ℕ) (takes ends : ℕ → ℕ → Bool) (l : Lane) (h : IsOne n t
 
 abbrev pub Apart : List ℕ → Type 0
 Apart ks = (j k x : ℕ) → slice_get ks j ≡ Some x → slice_get ks k ≡ Some x → j ≡ k
-
-pub not_listed : (ks : List ℕ) (y j : ℕ) → list_any (nat_eq y) ks ≡ false → slice_get ks j ≡ Some y → ⊥
-not_listed [] y j none at = absurd (cc)
-not_listed (x ∷ ks) y zero none at = let e : x ≡ y = cc in let own = eq-eqb y x (sym e) in let p = neither_parts (nat_eq y x) (list_any (nat_eq y) ks) none in let q = p.0 in absurd (cc)
-not_listed (x ∷ ks) y (suc j) none at = not_listed ks y j (neither_parts (nat_eq y x) (list_any (nat_eq y) ks) none).1 at
 
 apart_with : (count : ℕ) (ks : List ℕ) (y : ℕ) → Apart ks → Apart (with_key count ks y)
 unfolding with_key

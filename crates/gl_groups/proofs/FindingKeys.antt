@@ -14,8 +14,8 @@ use Rattle.gl_wire_registers.proofs.CounterLemmas.{held_by}
 use Rattle.gl_wire_registers.proofs.FlagLemmas.{length_replicate, reg_start, reg_width, regs_count, same_bits}
 use Rattle.gl_wire_registers.proofs.RegisterLemmas.{closed_up, grown_bus}
 use Rattle.gl_groups.specs.Finding.{AddsKeysTaken}
-use Rattle.gl_groups.specs.SlotLines.{AddsNexts, AreKeysOf}
-use Rattle.gl_groups.proofs.SlotNet.{held_of-get}
+use Rattle.gl_slots.specs.SlotLines.{AddsNexts, AreKeysOf}
+use Rattle.gl_slots.proofs.SlotNet.{held_of-get}
 
 module _ (n0 n1 : Net) (nexts : List Bit) (w : Word) (last : Bus) (regs : List Bus) (wide : w.width ≡ last.width) (zeros : w.bits ≡ 0) (o : Opens n0 n1 (replicate (length nexts) w) regs) where
   pub regs_taken : AreKeysOf n1 last regs

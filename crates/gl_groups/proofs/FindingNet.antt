@@ -15,10 +15,10 @@ use Rattle.gl_wire_registers.specs.declared.lines.LineOp.TheVariants.{Both, ButN
 use Rattle.gl_wire_registers.specs.Lines.{AddsLines, line_of, pairs, with_line}
 use Rattle.gl_wire_registers.proofs.LineLemmas.{bits_kept, line_of-get, line_of-new, line_of-old}
 use Rattle.gl_wire_registers.proofs.RegisterLemmas.{grown_bus}
-use Rattle.gl_groups.specs.declared.slots.Asks.{Asks}
+use Rattle.gl_slots.specs.declared.slots.Asks.{Asks}
 use Rattle.gl_groups.specs.Finding.{AddsAsked, AddsHeld, AddsLater, AddsMet}
-use Rattle.gl_groups.specs.Picks.{AreAlike}
-use Rattle.gl_groups.specs.SlotLines.{AddsAsks, same_to}
+use Rattle.gl_slots.specs.Picks.{AreAlike}
+use Rattle.gl_slots.specs.SlotLines.{AddsAsks, same_to}
 
 -- one line more
 pub later_more : (old mid new : Net) (n : ℕ) (lines bs : List Bit) (x b : Bit) → AddsLater old mid lines n bs → slice_get lines n ≡ Some x → IsLaterLine mid new x b

@@ -10,13 +10,13 @@ use Rattle.gl_wire.specs.Apart.{Carries, a_tuple, an_end}
 use Rattle.gl_wire.specs.Wire.{Carried}
 use Rattle.gl_wire_registers.specs.Lines.{any_to}
 use Rattle.gl_groups.specs.Firsts.{TellsNew, ends_at, is_begun, takes_row_at}
-use Rattle.gl_groups.specs.Groupings.{AwaitsTurns}
-use Rattle.gl_groups.specs.Slots.{AreSlots, Slots, freed, keys_at, keys_now, of_slot, same_key, slot_at, slot_ends, slot_ends_at, slot_now, slot_takes, slots_at, slots_next}
-use Rattle.gl_groups.proofs.EventLemmas.{any_here, any_there}
-use Rattle.gl_groups.proofs.FlushLemmas.{fresh}
+use Rattle.gl_slots.specs.Keys.{AwaitsTurns}
+use Rattle.gl_slots.specs.Slots.{AreSlots, Slots, freed, keys_at, keys_now, of_slot, same_key, slot_at, slot_ends, slot_ends_at, slot_now, slot_takes, slots_at, slots_next}
+use Rattle.gl_slots.proofs.OneLemmas.{any_here, any_there}
+use Rattle.gl_slots.proofs.FlushLemmas.{fresh}
 use Rattle.gl_groups.proofs.NewKeyLemmas.{has_now, new_slot, old_has, old_is, old_now, slot_new}
-use Rattle.gl_groups.proofs.PhaseLemmas.{Phase, flows, flushes, phase}
-use Rattle.gl_groups.proofs.Setting.{Setting, awaited}
+use Rattle.gl_slots.proofs.PhaseLemmas.{Phase, flows, flushes, phase}
+use Rattle.gl_slots.proofs.Setting.{Setting, awaited}
 
 -- ---- one cycle of the machine
 

@@ -18,11 +18,11 @@ use Rattle.gl_groups.specs.declared.finding.Asking.{Asking}
 use Rattle.gl_groups.specs.declared.finding.Sought.{Sought}
 use Rattle.gl_groups.specs.Ahead.{Ahead, GoesOn, sought_in}
 use Rattle.gl_groups.specs.Finding.{AddsHeld, AddsSlotsFound, AddsSought, AreFound, AreSought, IsAsked, IsSought, ahead_in}
-use Rattle.gl_groups.specs.Seeking.{Sought as Slots, is_next, kept}
-use Rattle.gl_groups.specs.SlotLines.{asked_of, same_to}
+use Rattle.gl_slots.specs.Seeking.{Sought as Slots, is_next, kept}
+use Rattle.gl_slots.specs.SlotLines.{asked_of, same_to}
 use Rattle.gl_groups.specs.Telling.{passes_in}
-use Rattle.gl_groups.proofs.SeenNet.{bit_opened}
-use Rattle.gl_groups.proofs.SlotNet.{bits_opened}
+use Rattle.gl_slots.proofs.SeenNet.{bit_opened}
+use Rattle.gl_slots.proofs.SlotNet.{bits_opened}
 
 pub sought_opened : (old new : Net) (n width key : ℕ) (r : Sought) → Grows old new → AreSought old n width key r → AreSought new n width key r
 sought_opened old new n width key r g h = record {

@@ -25,19 +25,20 @@ use Rattle.gl_wire.specs.CopyLaws.{FitsIsTimed}
 use Rattle.gl_wire.proofs.TimeLemmas.{next_stream}
 use Rattle.gl_wire.proofs.WholeServes.{whole_lines}
 use Rattle.gl_wire_registers.specs.Timers.{IsClose}
-use Rattle.gl_groups.specs.Groupings.{AreKeys, AwaitsTurns, OfGroups, key_of, line_of_further, with_keys}
+use Rattle.gl_slots.specs.Keys.{AreKeys, AwaitsTurns, line_of_further, with_keys}
+use Rattle.gl_groups.specs.Groupings.{OfGroups, key_of}
 use Rattle.gl_wire.specs.Bodies.{OfBody}
 use Rattle.gl_groups.specs.Laws.{GroupingsServe, GroupsGroup}
-use Rattle.gl_groups.specs.Slots.{AreSlots, came_further, key_or, slot_or, slots_at, who_slots}
-use Rattle.gl_groups.proofs.Setting.{Setting}
+use Rattle.gl_slots.specs.Slots.{AreSlots, came_further, key_or, slot_or, slots_at, who_slots}
+use Rattle.gl_slots.proofs.Setting.{Setting}
 use Rattle.gl_wire.proofs.NumberLemmas.{all_turns}
-use Rattle.gl_wire.proofs.VisitLemmas.{BeatOf, its_end, its_tuple, beat_of}
-use Rattle.gl_groups.proofs.SlotLemmas.{of_group}
-use Rattle.gl_groups.proofs.PhaseLemmas.{empty_slots, keys_stay, slot_begins, slot_from, slot_parted}
+use Rattle.gl_wire.proofs.VisitLemmas.{beat_of}
+use Rattle.gl_slots.proofs.SlotLemmas.{of_group}
+use Rattle.gl_slots.proofs.PhaseLemmas.{empty_slots, keys_stay, slot_begins, slot_from, slot_parted}
 use Rattle.gl_groups.proofs.TurnLemmas.{many_slots, no_slots_end, visit_key}
 use Rattle.gl_groups.proofs.ScheduleLemmas.{slot_caused, slot_origin, slots_schedule}
-use Rattle.gl_groups.proofs.FurtherLemmas.{further_carries, further_so, further_told}
-use Rattle.gl_groups.proofs.KeyedLemmas.{keyed_serving}
+use Rattle.gl_slots.proofs.FurtherLemmas.{further_carries, further_so, further_told}
+use Rattle.gl_slots.proofs.KeyedLemmas.{end_of, keyed_serving}
 
 -- the gap after an end that a front of groups wants: the last slot has given its rows before its key may change
 abbrev pub rest_gap : ℕ → Figures → ℕ
@@ -131,10 +132,6 @@ group_table count f s some sound = record {
   few_more = λ m n l. omega arith;
   many_more = λ m n l. omega arith;
 }
-
-pub end_of : (b : Carried) (t : ℕ) (e : Bool) → e ≡ true → BeatOf b t e → b.ends t ≡ true
-end_of b t true p (its_end q) = q
-end_of b t false p (its_tuple r q z) = absurd (cc)
 
 -- results of groups, with other words for what the body makes of rows
 joined_as : (P Q : List Row → Results) → ((rows ys : List Row) (p : Bool) → P rows ys p → Q rows ys p)

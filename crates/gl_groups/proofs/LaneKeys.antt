@@ -4,7 +4,7 @@ use Rattle.std.specs.Prelude.{not, ◌&&◌, ◌||◌, if◌then◌else◌}
 use Rattle.std.proofs.lemmas.Bool.{cases_lt}
 use Rattle.gl_bits.proofs.Bools.{and_left, and_right, not_both, not_true}
 use Rattle.gl_groups.specs.Ahead.{Ahead, Finds, GoesOn, sought_in}
-use Rattle.gl_groups.specs.Seeking.{asks, is_next, kept}
+use Rattle.gl_slots.specs.Seeking.{asks, is_next, kept}
 
 module _ (n : ℕ) (a : Ahead) (g : GoesOn n a) (f : Finds n a) where
   -- slots fill in order, so all before the next one are kept

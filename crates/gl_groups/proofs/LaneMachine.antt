@@ -4,7 +4,7 @@ use Rattle.std.specs.Prelude.{is_some, ◌&&◌, ◌||◌, if◌then◌else◌, 
 use Rattle.gl_values.specs.Results.{Row}
 use Rattle.gl_bits.proofs.Bools.{and_parts, or_cases}
 use Rattle.gl_wire.specs.Wire.{Carried}
-use Rattle.gl_groups.specs.Slots.{keys_at, slot_at, slot_ends_at, slot_takes, slots_at}
+use Rattle.gl_slots.specs.Slots.{keys_at, slot_at, slot_ends_at, slot_takes, slots_at}
 use Rattle.gl_groups.proofs.EventLemmas.{apart_keys, takes_turn, takes_where}
 
 -- ---- no two slots have an event in one cycle

@@ -12,13 +12,13 @@ use Rattle.gl_wire_registers.specs.Lines.{any_to, held_of, line_of}
 use Rattle.gl_wire_registers.proofs.LineLemmas.{any_same}
 use Rattle.gl_groups.specs.declared.lane.LaneLines.{LaneLines}
 use Rattle.gl_groups.specs.Ahead.{sought_in}
-use Rattle.gl_groups.specs.Seeking.{is_next}
+use Rattle.gl_slots.specs.Seeking.{is_next}
 use Rattle.gl_groups.specs.Firsts.{TellsNew, ends_at, is_begun, takes_row_at}
-use Rattle.gl_groups.specs.Fronts.{KeysCome, column_of}
-use Rattle.gl_groups.specs.Groupings.{AreKeys, AwaitsTurns}
+use Rattle.gl_slots.specs.Fronts.{KeysCome, column_of}
+use Rattle.gl_slots.specs.Keys.{AreKeys, AwaitsTurns}
 use Rattle.gl_groups.specs.Lanes.{IsLane}
-use Rattle.gl_groups.specs.SlotLines.{TakeKeys}
-use Rattle.gl_groups.specs.Slots.{AreSlots, freed, further_line, is_further, keys_at, slot_at, slot_ends_at, slot_takes, slots_at}
+use Rattle.gl_slots.specs.SlotLines.{TakeKeys}
+use Rattle.gl_slots.specs.Slots.{AreSlots, freed, further_line, is_further, keys_at, slot_at, slot_ends_at, slot_takes, slots_at}
 use Rattle.gl_groups.proofs.EventLemmas.{IsOne, TellsFirst, begins_are, share_end, share_row, within}
 use Rattle.gl_groups.proofs.FirstLemmas.{first_awaited}
 use Rattle.gl_groups.proofs.LaneKeys.{one_next, same_words}

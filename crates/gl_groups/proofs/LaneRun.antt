@@ -19,18 +19,18 @@ use Rattle.gl_groups.specs.declared.lane.HeldEnd.{HeldEnd}
 use Rattle.gl_groups.specs.declared.lane.Over.{Over}
 use Rattle.gl_groups.specs.declared.lane.Told.{Told}
 use Rattle.gl_groups.specs.declared.lane.Turns.{Turns}
-use Rattle.gl_groups.specs.declared.parts.Flush.{Flush}
+use Rattle.gl_slots.specs.declared.parts.Flush.{Flush}
 use Rattle.gl_groups.specs.Ahead.{Ahead, Finds, head_in, sought_in}
 use Rattle.gl_groups.specs.Finding.{AreFound, ahead_in}
-use Rattle.gl_groups.specs.Fronts.{column_of}
+use Rattle.gl_slots.specs.Fronts.{column_of}
 use Rattle.gl_groups.specs.Lanes.{IsLate, IsTold, end_line, row_line, slot_number}
-use Rattle.gl_groups.specs.Parts.{IsFlush}
-use Rattle.gl_groups.specs.Seeking.{found, has, is_next, kept}
-use Rattle.gl_groups.specs.Slots.{Slots, is_further, keys_at, no_slots, slot_at, slot_ends_at, slot_takes, slots_at}
+use Rattle.gl_slots.specs.Parts.{IsFlush}
+use Rattle.gl_slots.specs.Seeking.{found, has, is_next, kept}
+use Rattle.gl_slots.specs.Slots.{Slots, is_further, keys_at, no_slots, slot_at, slot_ends_at, slot_takes, slots_at}
 use Rattle.gl_groups.specs.Telling.{passes_in, row_told, slot_told, turn_of}
-use Rattle.gl_groups.specs.Values.{Cycle, Mirrors, Steps, Values, due_of, end_of, sought_of, valid_of}
+use Rattle.gl_slots.specs.Values.{Cycle, Mirrors, Steps, Values, due_of, end_of, sought_of, valid_of}
 use Rattle.gl_groups.proofs.AheadLemmas.{ahead_finds}
-use Rattle.gl_groups.proofs.MachineLemmas.{end_is, further_is, mirrors_next, one_is, taken_is}
+use Rattle.gl_slots.proofs.MachineLemmas.{end_is, further_is, mirrors_next, one_is, taken_is}
 use Rattle.gl_groups.proofs.TellLemmas.{home_within}
 use Rattle.gl_groups.proofs.TellLemmas.{end_is as end_told_is, passes_is as passes_told, row_is as row_told_is, slot_is as slot_told_is}
 

@@ -6,7 +6,7 @@ use Rattle.gl_algebra.specs.declared.figures.Figures.{Figures}
 use Rattle.gl_algebra.specs.FigureTable.{IsSound, delayed, group_gap, input_figures}
 use Rattle.gl_wire.specs.Bodies.{OfBody}
 use Rattle.gl_wire.specs.Lift.{tuple_of_any}
-use Rattle.gl_groups.specs.Groupings.{in_front, with_keys}
+use Rattle.gl_slots.specs.Keys.{in_front, with_keys}
 use Rattle.gl_groups.proofs.GroupLemmas.{flush_awaited, groups_served}
 use Rattle.gl_groups.specs.LaneLaws.{Laned, LanesServe, direct_figures}
 use Rattle.gl_groups.proofs.LaneShares.{share_steady, tuple_of_all}

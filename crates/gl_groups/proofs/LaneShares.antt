@@ -4,7 +4,7 @@ use Rattle.std.specs.Prelude.{◌&&◌, if◌then◌else◌, nat_eq, option_and_
 use Rattle.std.proofs.lemmas.Bool.{cases_lt}
 use Rattle.gl_values.specs.Results.{Row}
 use Rattle.gl_wire.specs.Lift.{first_of, tuple_of_any}
-use Rattle.gl_groups.specs.Groupings.{in_front, with_keys}
+use Rattle.gl_slots.specs.Keys.{in_front, with_keys}
 use Rattle.gl_wire_lanes.specs.Shares.{share}
 use Rattle.gl_wire.specs.Shapes.{Steady}
 use Rattle.gl_wire.specs.Wire.{Carried}

@@ -25,14 +25,15 @@ use Rattle.gl_wire_registers.proofs.LineLemmas.{bits_kept, gates_some}
 use Rattle.gl_groups.specs.declared.grouping.Grouping.{Grouping}
 use Rattle.gl_groups.specs.declared.lane.LaneLines.{LaneLines}
 use Rattle.gl_groups.specs.declared.laning.Lane.{Lane}
-use Rattle.gl_groups.specs.Groupings.{IsGrouping, close_cycles, close_delay, in_front}
-use Rattle.gl_groups.specs.Joins.{AreKeyBuses, width_of_keys}
+use Rattle.gl_slots.specs.Keys.{in_front}
+use Rattle.gl_groups.specs.Groupings.{IsGrouping, close_cycles, close_delay}
+use Rattle.gl_slots.specs.Joins.{AreKeyBuses, width_of_keys}
 use Rattle.gl_groups.specs.Laned.{AddsKey, IsGathered, IsLaned, words_of_keys}
 use Rattle.gl_groups.specs.Lanes.{AddsLane, IsLane}
-use Rattle.gl_groups.specs.Picks.{AddsNumbers, AreAlike, PicksOne, bits_of_slots}
-use Rattle.gl_groups.specs.SlotLines.{OneAtMost, TakeKeys, same_to}
-use Rattle.gl_groups.proofs.EventLemmas.{any_here, any_there}
-use Rattle.gl_groups.proofs.FurtherLemmas.{further_came}
+use Rattle.gl_slots.specs.Picks.{AddsNumbers, AreAlike, PicksOne, bits_of_slots}
+use Rattle.gl_slots.specs.SlotLines.{OneAtMost, TakeKeys, same_to}
+use Rattle.gl_slots.proofs.OneLemmas.{any_here, any_there}
+use Rattle.gl_slots.proofs.FurtherLemmas.{further_came}
 use Rattle.gl_groups.proofs.GroupedNet.{setting_of}
 
 -- ---- the lane

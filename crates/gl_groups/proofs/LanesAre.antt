@@ -14,14 +14,14 @@ use Rattle.gl_groups.specs.declared.lane.HeldEnd.{HeldEnd}
 use Rattle.gl_groups.specs.declared.lane.LaneLines.{LaneLines}
 use Rattle.gl_groups.specs.declared.lane.Over.{Over}
 use Rattle.gl_groups.specs.declared.lane.Told.{Told}
-use Rattle.gl_groups.specs.declared.parts.Flush.{Flush}
+use Rattle.gl_slots.specs.declared.parts.Flush.{Flush}
 use Rattle.gl_groups.specs.Finding.{AddsSlotsFound}
 use Rattle.gl_groups.specs.Lanes.{AddsHeldEnd, AddsLane, AddsLate, AddsOver, AddsTold}
-use Rattle.gl_groups.specs.Parts.{AddsFlush}
+use Rattle.gl_slots.specs.Parts.{AddsFlush}
 use Rattle.gl_groups.proofs.LaneNet.{lane_is}
 use Rattle.gl_groups.proofs.LaneRun.{Running, asking_of, turns_of}
 use Rattle.gl_groups.proofs.AskedNet.{asked_is}
-use Rattle.gl_groups.proofs.PartLemmas.{width_there}
+use Rattle.gl_slots.proofs.PartLemmas.{width_there}
 
 -- as many columns, by their widths
 pub columns_as_many : (xs ys : List Bus) (k : ℕ) → widths ys ≡ widths xs → k < length xs → k < length ys

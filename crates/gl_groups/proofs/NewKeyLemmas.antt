@@ -6,8 +6,8 @@ use Rattle.std.proofs.lemmas.Bool.{lt-ltb, ltb-false, ltb-true}
 use Rattle.gl_values.specs.Tables.{with_key}
 use Rattle.gl_bits.proofs.AllLists.{get_below, get_front, get_last, get_there}
 use Rattle.gl_bits.proofs.Bools.{and_both, and_parts, by_cases, not_both, not_false, not_true, or_cases, or_left, or_right, same_when}
-use Rattle.gl_groups.specs.Slots.{same_key}
-use Rattle.gl_groups.proofs.EventLemmas.{not_listed}
+use Rattle.gl_slots.specs.Slots.{same_key}
+use Rattle.gl_slots.proofs.OneLemmas.{not_listed}
 
 same_some : (o : Option ℕ) (x : ℕ) → same_key o x ≡ true → o ≡ Some x
 same_some None x h = absurd (cc)

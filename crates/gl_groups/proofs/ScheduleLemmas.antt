@@ -6,8 +6,8 @@ use Rattle.gl_values.specs.Results.{Row}
 use Rattle.gl_algebra.specs.declared.figures.Figures.{Figures}
 use Rattle.gl_wire.specs.Apart.{Carries, a_tuple, an_end}
 use Rattle.gl_wire.specs.Lift.{Visits, Schedules}
-use Rattle.gl_groups.specs.Slots.{Slots, same_key, of_slot, slot_now, slot_ends, slot_takes, slots_at, keys_at, slot_ends_at, slot_at, who_slots}
-use Rattle.gl_groups.proofs.Setting.{Setting}
+use Rattle.gl_slots.specs.Slots.{Slots, same_key, of_slot, slot_now, slot_ends, slot_takes, slots_at, keys_at, slot_ends_at, slot_at, who_slots}
+use Rattle.gl_slots.proofs.Setting.{Setting}
 use Rattle.gl_wire.proofs.NumberLemmas.{mul_below}
 use Rattle.gl_wire.proofs.TurnLemmas.{turns_schedule}
 use Rattle.gl_groups.proofs.TurnLemmas.{Turn, turn, visit_turn}

@@ -19,7 +19,7 @@ use Rattle.gl_groups.specs.declared.finding.One.{One}
 use Rattle.gl_groups.specs.declared.finding.Place.{Place}
 use Rattle.gl_groups.specs.declared.finding.Sought.{Sought}
 use Rattle.gl_groups.specs.Finding.{AddsAsked, AddsKeysTaken, AddsMany, AddsMet, AddsMoved, AddsOne, AddsPlaceOf, AddsSought, AreSought, IsSought}
-use Rattle.gl_groups.specs.SlotLines.{asked_of}
+use Rattle.gl_slots.specs.SlotLines.{asked_of}
 use Rattle.gl_groups.proofs.FindingNet.{either_new}
 
 module _ (n0 n1 n2 n3 n4 n5 n6 n7 n8 n9 n10 : Net) (a : Asking) (used : List Bit) (n width : ℕ) (many_used : length used ≡ n) (kept hits : List Bit) (q : Asked) (keys : List Bus) (moved : Bit) (one : One)

@@ -6,11 +6,11 @@ use Rattle.gl_bits.proofs.Bools.{and_both, and_left, and_parts, and_right, by_ca
 use Rattle.gl_wire_registers.specs.Lines.{any_to}
 use Rattle.gl_wire_registers.proofs.LineLemmas.{any_same}
 use Rattle.gl_groups.specs.Ahead.{Ahead, Finds, GoesOn, head_in, many_kept, sought_in}
-use Rattle.gl_groups.specs.Seeking.{Sought, asked, found, has, is_new, kept, matches, takes}
-use Rattle.gl_groups.specs.Slots.{Slots}
+use Rattle.gl_slots.specs.Seeking.{Sought, asked, found, has, is_new, kept, matches, takes}
+use Rattle.gl_slots.specs.Slots.{Slots}
 use Rattle.gl_groups.specs.Telling.{end_told, passes_in, row_told, slot_told, turn_of}
-use Rattle.gl_groups.specs.Values.{Cycle, Mirrors, Values, at_of, due_of, end_of, sought_of, tail_of, valid_of}
-use Rattle.gl_groups.proofs.EventLemmas.{any_here, any_there}
+use Rattle.gl_slots.specs.Values.{Cycle, Mirrors, Values, at_of, due_of, end_of, sought_of, tail_of, valid_of}
+use Rattle.gl_slots.proofs.OneLemmas.{any_here, any_there}
 
 -- ---- numbers and truth values
 

@@ -7,14 +7,14 @@ use Rattle.gl_wire.specs.Apart.{Carries, an_end}
 use Rattle.gl_wire.specs.Wire.{stream}
 use Rattle.gl_wire.specs.Lift.{Visits, visits, with_visit}
 use Rattle.gl_wire.specs.Timed.{NoEnd, Rested}
-use Rattle.gl_groups.specs.Slots.{Slots, keys_now, slot_ends, slots_at, keys_at, slot_now, slot_ends_at, slot_at, who_slots}
-use Rattle.gl_groups.proofs.Setting.{Setting}
+use Rattle.gl_slots.specs.Slots.{Slots, keys_now, slot_ends, slots_at, keys_at, slot_now, slot_ends_at, slot_at, who_slots}
+use Rattle.gl_slots.proofs.Setting.{Setting}
 use Rattle.gl_wire.proofs.NumberLemmas.{mul_below}
-use Rattle.gl_groups.proofs.KeyLemmas.{key_below}
+use Rattle.gl_slots.proofs.KeyLemmas.{key_below}
 use Rattle.gl_wire.proofs.VisitLemmas.{visits_none}
 use Rattle.gl_wire.proofs.TurnLemmas.{turn_of}
-use Rattle.gl_groups.proofs.SlotLemmas.{Step, step_at, few_keys, of_group}
-use Rattle.gl_groups.proofs.PhaseLemmas.{Phase, flows, flushes, phase}
+use Rattle.gl_slots.proofs.SlotLemmas.{Step, step_at, few_keys, of_group}
+use Rattle.gl_slots.proofs.PhaseLemmas.{Phase, flows, flushes, phase}
 
 module _ (front : Setting) where
   open front use {count, key, stride, a, ins}

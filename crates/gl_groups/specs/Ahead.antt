@@ -2,7 +2,7 @@
 -- before it did with the slots since is known from that row alone.
 use Rattle.std.specs.Prelude.{◌≡◌, ℕ, suc, ◌+◌, ◌-◌, ◌<◌, ◌≤◌, Bool, true, false, not, ◌&&◌, ◌||◌, if◌then◌else◌, nat_eq, nat_lt}
 use Rattle.gl_wire_registers.specs.Lines.{any_to}
-use Rattle.gl_groups.specs.Seeking.{Sought, found, has, is_next, kept, matches, takes}
+use Rattle.gl_slots.specs.Seeking.{Sought, found, has, is_next, kept, matches, takes}
 
 -- what n slots are, slot by slot and cycle by cycle
 pub record Ahead : Type 0 where

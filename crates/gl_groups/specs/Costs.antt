@@ -1,10 +1,11 @@
 -- What groups cost: their front with the line of ends, and their back.
-use Rattle.std.specs.Prelude.{◌≡◌, ℕ, ◌+◌, ◌*◌, ◌≤◌, List, length, slice_index}
+use Rattle.std.specs.Prelude.{ℕ, ◌+◌, ◌*◌, List, length, slice_index}
 use Rattle.std.specs.List.{sum}
 use Rattle.gl_algebra.specs.Weights.{weight_of_copies}
 use Rattle.gl_wire.specs.Costs.{Cost}
 use Rattle.gl_wire.specs.Counted.{AreNarrow}
-use Rattle.gl_groups.specs.Picks.{bits_of_slots}
+use Rattle.gl_slots.specs.Costs.{IsCounted, cost_of_back}
+use Rattle.gl_slots.specs.Picks.{bits_of_slots}
 
 -- a front of so many slots over a source of these columns, with the key in one of them, and the line of ends behind a
 -- timer
@@ -15,15 +16,7 @@ cost_of_front slots key source = record {
   memories = 0;
 }
 
--- a back of so many copies, which give these columns, the key among them, and all lines
-abbrev pub cost_of_back : ℕ → List ℕ → Cost
-cost_of_back copies own = record {
-  nodes = copies * 2 + copies * (length own + 1) + length own + 5;
-  registers = sum own + 2;
-  memories = 0;
-}
-
--- both
+-- both, with the back of so many copies
 abbrev pub cost_of_grouping : ℕ → ℕ → List ℕ → List ℕ → Cost
 cost_of_grouping slots key source own =
     let front = cost_of_front slots key source in
@@ -33,12 +26,6 @@ cost_of_grouping slots key source own =
       registers = front.registers + back.registers;
       memories = front.memories + back.memories;
     }
-
--- a node for each of the weight, 64 bits of registers for each of it, and no memory
-pub record IsCounted (cost : Cost) (weight : ℕ) : Type 0 where
-  pub nodes : cost.nodes ≤ weight
-  pub registers : cost.registers ≤ 64 * weight
-  pub memories : cost.memories ≡ 0
 
 -- what a plan counts for what stands before and behind the copies of a body, bodies and spacer aside
 abbrev pub counted_for : ℕ → List ℕ → List ℕ → ℕ

@@ -16,10 +16,10 @@ use Rattle.gl_groups.specs.declared.finding.Place.{Place}
 use Rattle.gl_groups.specs.declared.finding.SlotsFound.{SlotsFound}
 use Rattle.gl_groups.specs.declared.finding.Sought.{Sought}
 use Rattle.gl_groups.specs.Ahead.{Ahead, GoesOn, sought_in}
-use Rattle.gl_groups.specs.Picks.{AddsNumbers, IsPicked}
-use Rattle.gl_groups.specs.Seeking.{is_next, kept}
+use Rattle.gl_slots.specs.Picks.{AddsNumbers, IsPicked}
+use Rattle.gl_slots.specs.Seeking.{is_next, kept}
 use Rattle.gl_groups.specs.Telling.{passes_in}
-use Rattle.gl_groups.specs.SlotLines.{AreKeysOf, asked_of, same_to}
+use Rattle.gl_slots.specs.SlotLines.{AreKeysOf, asked_of, same_to}
 
 -- the lines that ask are in the netlist
 pub record AreAsking (net : Net) (a : Asking) : Type 0 where

@@ -3,7 +3,7 @@ use Rattle.std.specs.Prelude.{◌≡◌, ℕ, zero, suc, Some, None, Bool, false
 use Rattle.std.specs.List.{list_any}
 use Rattle.gl_values.specs.Results.{Row}
 use Rattle.gl_wire.specs.Wire.{Carried}
-use Rattle.gl_groups.specs.Slots.{freed, keys_at, slot_at, slot_ends_at, slot_takes, slots_at}
+use Rattle.gl_slots.specs.Slots.{freed, keys_at, slot_at, slot_ends_at, slot_takes, slots_at}
 
 -- whether a slot takes a row in a cycle, and whether it ends
 abbrev pub takes_row_at : ℕ → (Row → ℕ) → ℕ → Carried → ℕ → ℕ → Bool

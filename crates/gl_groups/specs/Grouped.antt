@@ -1,17 +1,16 @@
 -- Groups as a machine over copies of a body: the law of its front, and what front and back promise.
-use Rattle.std.specs.Prelude.{◌≡◌, ℕ, List, Some, None}
+use Rattle.std.specs.Prelude.{◌≡◌, ℕ}
 use Rattle.gl_algebra.specs.declared.figures.Figures.{Figures}
 use Rattle.gl_algebra.specs.FigureTable.{IsSound, stride_of}
-use Rattle.gl_wire.specs.Costs.{Cost}
-use Rattle.gl_wire.specs.Spills.{both_lines}
 use Rattle.gl_wire.specs.Wire.{Carried}
-use Rattle.gl_wire.specs.Rotates.{lines_of_all}
-use Rattle.gl_wire_registers.specs.Fronts.{Fed, Feeding, Giving, Machine}
+use Rattle.gl_wire_registers.specs.Fronts.{Fed, Machine}
 use Rattle.gl_wire_registers.specs.Timers.{IsClose}
 use Rattle.gl_groups.specs.declared.grouping.Grouping.{Grouping}
-use Rattle.gl_groups.specs.Costs.{cost_of_back, cost_of_front}
-use Rattle.gl_groups.specs.Groupings.{AreKeys, AwaitsFlush, ServesGroups, close_cycles, close_delay, key_of, line_of_further}
-use Rattle.gl_groups.specs.Slots.{AreSlots, came_further}
+use Rattle.gl_groups.specs.Costs.{cost_of_front}
+use Rattle.gl_slots.specs.Keyed.{keyed_machine}
+use Rattle.gl_slots.specs.Keys.{AreKeys}
+use Rattle.gl_groups.specs.Groupings.{AwaitsFlush, ServesGroups, close_cycles, close_delay, key_of}
+use Rattle.gl_slots.specs.Slots.{AreSlots, came_further}
 
 -- the law of the front: for each slot a wire and its key, the line of further keys, and that of ends
 pub record FeedsGroups (r : Grouping) (a : Carried) (g : Fed) : Type 0 where
@@ -21,19 +20,6 @@ pub record FeedsGroups (r : Grouping) (a : Carried) (g : Fed) : Type 0 where
   -- keys
   pub told : AwaitsFlush r a → (c : ℕ) → g.further c ≡ came_further r.slots (key_of r) a c
   pub closes : IsClose (close_cycles r) (close_delay r) a.ends g.close
-
--- the machine of so many copies with the key in a column, with this cost and law of the front, and what the whole gives
-abbrev pub keyed_machine : ℕ → ℕ → (List ℕ → Cost) → Feeding → Giving → Machine
-keyed_machine count key front_cost feeds serves = record {
-  count = count;
-  key = Some key;
-  tick = None;
-  front_cost = front_cost;
-  back_cost = cost_of_back count;
-  feeds = feeds;
-  lines = λ lines g. both_lines (lines_of_all lines count) (line_of_further g.further);
-  serves = serves;
-}
 
 -- what the front and the back of groups promise
 abbrev pub grouping_machine : Grouping → Machine

@@ -1,21 +1,20 @@
--- Groups over copies of a body: their numbers, what the back reads of the copies, and what the whole serves.
-use Rattle.std.specs.Prelude.{◌≡◌, ℕ, ◌+◌, ◌*◌, ◌^◌, ◌<◌, ◌≤◌, ◌||◌, List, ◌∷◌, Option, Some, None, Bool, false, slice_get, slice_index}
+-- Groups over copies of a body: their numbers, and what the whole serves.
+use Rattle.std.specs.Prelude.{◌≡◌, ℕ, ◌+◌, ◌^◌, ◌<◌, ◌≤◌, ◌||◌, List, Bool, slice_index}
 use Rattle.gl_algebra.specs.declared.figures.Figures.{Figures}
 use Rattle.gl_algebra.specs.declared.node.PlanNode.{PlanNode}
 use Rattle.gl_algebra.specs.FigureTable.{IsSound, group_gap, groups_over, stride_of}
 use Rattle.gl_values.specs.Lists.{groups, has_further}
 use Rattle.gl_values.specs.Results.{Row, Results, AreJoined, IsOfGroup}
-use Rattle.gl_wire.specs.Apart.{Carries, CarriesApart}
+use Rattle.gl_wire.specs.Apart.{CarriesApart}
 use Rattle.gl_wire.specs.Beats.{Beats, Spaced, beats_of}
 use Rattle.gl_wire.specs.Serves.{Fits}
 use Rattle.gl_wire.specs.Serving.{Serving}
 use Rattle.gl_wire.specs.Spills.{Lines, Relation, ServedWithLines, both_lines}
 use Rattle.gl_wire.specs.Wire.{Carried, stream}
 use Rattle.gl_wire.specs.Rotates.{lines_of_all, turns_of}
-use Rattle.gl_wire.specs.Timed.{Rested}
 use Rattle.gl_wire.specs.Bodies.{OfBody}
 use Rattle.gl_groups.specs.declared.grouping.Grouping.{Grouping}
-use Rattle.gl_groups.specs.Slots.{slots_at}
+use Rattle.gl_slots.specs.Keys.{AwaitsTurns, line_of_further}
 
 -- the key of a row
 abbrev pub key_of : Grouping → Row → ℕ
@@ -37,33 +36,8 @@ pub record IsGrouping (r : Grouping) : Type 0 where
   pub timed : r.body.le + turns_of r.slots r.body + 3 < 2 ^ 32
 
 -- whatever comes finds the flush of each end before it over: in so many cycles each slot has its turn
-abbrev pub AwaitsTurns : ℕ → ℕ → Carried → Type 0
-AwaitsTurns count stride a = (c : ℕ) → Carries a c → Rested (count * stride) a c
-
 abbrev pub AwaitsFlush : Grouping → Carried → Type 0
 AwaitsFlush r a = AwaitsTurns r.slots (stride_of r.body) a
-
--- numbers, for each slot and cycle, that are the keys of the slots that are used, so many cycles late
-pub record AreKeys (count : ℕ) (key : Row → ℕ) (stride late : ℕ) (a : Carried) (keys : ℕ → ℕ → ℕ) : Type 0 where
-  pub shown : (k c d x : ℕ) → k < count → c + late ≡ d → slice_get (slots_at count key stride a c).keys k ≡ Some x
-      → keys k d ≡ x
-
--- a number in front of a tuple
-abbrev pub in_front : ℕ → Option Row → Option Row
-in_front x None = None
-in_front x (Some r) = Some (x ∷ r)
-
--- a wire with the number of the cycle in front of each tuple
-abbrev pub keyed : (ℕ → ℕ) → Carried → Carried
-keyed key_at b = record { tuple = λ c. in_front (key_at c) (b.tuple c); ends = b.ends }
-
--- what copies give, with the key of the slot in front
-abbrev pub with_keys : (ℕ → ℕ → ℕ) → (ℕ → Carried) → ℕ → Carried
-with_keys keys outs k = keyed (keys k) (outs k)
-
--- a line that tells of rows of further keys, and no queue
-abbrev pub line_of_further : (ℕ → Bool) → Lines
-line_of_further further = record { passed = λ c. false; further = further }
 
 -- what a body makes of each group, joined; the spill is a body's, or that of rows whose keys are further ones
 abbrev pub OfGroups : ℕ → (Row → ℕ) → (List Row → Results) → Relation

@@ -13,8 +13,9 @@ use Rattle.gl_wire.specs.Bodies.{OfBody}
 use Rattle.gl_wire.specs.Rotates.{lines_of_all, turns_of}
 use Rattle.gl_wire_lanes.specs.Shares.{share}
 use Rattle.gl_wire_registers.specs.Timers.{IsClose}
-use Rattle.gl_groups.specs.Groupings.{AreKeys, AwaitsTurns, OfGroups, in_front, line_of_further}
-use Rattle.gl_groups.specs.Slots.{AreSlots, came_further}
+use Rattle.gl_slots.specs.Keys.{AreKeys, AwaitsTurns, in_front, line_of_further}
+use Rattle.gl_groups.specs.Groupings.{OfGroups}
+use Rattle.gl_slots.specs.Slots.{AreSlots, came_further}
 
 -- the figures of a body that is so many cycles of row operators, and a total
 abbrev pub direct_figures : ℕ → ℕ → Figures

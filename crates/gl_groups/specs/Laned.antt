@@ -16,12 +16,13 @@ use Rattle.gl_wire_registers.specs.Lines.{AreBits, held_of}
 use Rattle.gl_wire_registers.specs.Timers.{IsClose}
 use Rattle.gl_groups.specs.declared.grouping.Grouping.{Grouping}
 use Rattle.gl_groups.specs.declared.laning.Lane.{Lane}
-use Rattle.gl_groups.specs.Fronts.{KeysCome}
-use Rattle.gl_groups.specs.Groupings.{AreKeys, AwaitsFlush, close_cycles, close_delay, in_front, key_of}
-use Rattle.gl_groups.specs.Joins.{width_of_keys}
-use Rattle.gl_groups.specs.Picks.{bits_of_slots}
-use Rattle.gl_groups.specs.SlotLines.{OneAtMost, TakeKeys}
-use Rattle.gl_groups.specs.Slots.{AreSlots, came_further}
+use Rattle.gl_slots.specs.Fronts.{KeysCome}
+use Rattle.gl_slots.specs.Keys.{AreKeys, in_front}
+use Rattle.gl_groups.specs.Groupings.{AwaitsFlush, close_cycles, close_delay, key_of}
+use Rattle.gl_slots.specs.Joins.{width_of_keys}
+use Rattle.gl_slots.specs.Picks.{bits_of_slots}
+use Rattle.gl_slots.specs.SlotLines.{OneAtMost, TakeKeys}
+use Rattle.gl_slots.specs.Slots.{AreSlots, came_further}
 
 -- a lane of so many slots over a source of these columns, with the key in one of them, and the line of ends
 abbrev pub cost_of_lane : ℕ → ℕ → List ℕ → Cost

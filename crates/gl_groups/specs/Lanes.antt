@@ -18,9 +18,9 @@ use Rattle.gl_groups.specs.declared.lane.NewKey.{NewKey}
 use Rattle.gl_groups.specs.declared.lane.Over.{Over}
 use Rattle.gl_groups.specs.declared.lane.Told.{Told}
 use Rattle.gl_groups.specs.declared.lane.Turns.{Turns}
-use Rattle.gl_groups.specs.Fronts.{KeysCome, column_of}
-use Rattle.gl_groups.specs.Groupings.{AreKeys, AwaitsTurns}
-use Rattle.gl_groups.specs.Slots.{AreSlots, further_line}
+use Rattle.gl_slots.specs.Fronts.{KeysCome, column_of}
+use Rattle.gl_slots.specs.Keys.{AreKeys, AwaitsTurns}
+use Rattle.gl_slots.specs.Slots.{AreSlots, further_line}
 
 -- a wire one cycle behind another, with the columns of the row that came last
 pub record IsLate (run : Run) (source late : Wire) : Type 0 where

@@ -1,15 +1,5 @@
-pub mod Slots
-pub mod Seeking
-pub mod SlotLines
-pub mod Parts
-pub mod Values
 pub mod Groupings
-pub mod Fronts
 pub mod Costs
-pub mod Joins
-pub mod Picks
-pub mod Homes
-pub mod Choices
 pub mod Lanes
 pub mod Ahead
 pub mod Telling

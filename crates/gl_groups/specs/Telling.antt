@@ -1,8 +1,8 @@
 -- What a lane tells in a cycle, from what is found and from the turns of a flush.
 use Rattle.std.specs.Prelude.{ℕ, ◌-◌, Bool, not, ◌&&◌, ◌||◌, if◌then◌else◌, nat_eq, nat_lt}
 use Rattle.gl_groups.specs.Ahead.{Ahead, head_in, sought_in}
-use Rattle.gl_groups.specs.Seeking.{kept}
-use Rattle.gl_groups.specs.Values.{Cycle, Values, due_of}
+use Rattle.gl_slots.specs.Seeking.{kept}
+use Rattle.gl_slots.specs.Values.{Cycle, Values, due_of}
 
 -- the slot whose turn is next: the turns that are over
 abbrev pub turn_of : ℕ → Values → ℕ

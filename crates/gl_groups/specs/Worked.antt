@@ -3,7 +3,7 @@ use Rattle.std.specs.Prelude.{◌≡◌, ℕ, zero, suc, List, [], ◌∷◌, ma
 use Rattle.gl_values.specs.Results.{Row}
 use Rattle.gl_wire.specs.Wire.{Carried}
 use Rattle.gl_wire.specs.Lift.{visits}
-use Rattle.gl_groups.specs.Slots.{further_line, key_or, keys_at, slot_at, slot_ends_at, slot_or, slot_takes, slots_at, who_slots}
+use Rattle.gl_slots.specs.Slots.{further_line, key_or, keys_at, slot_at, slot_ends_at, slot_or, slot_takes, slots_at, who_slots}
 
 -- the tuples of these cycles, from cycle 0 on
 abbrev pub tuples_in : List (Option Row) → ℕ → Option Row

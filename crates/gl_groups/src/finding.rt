@@ -6,15 +6,15 @@ ghost use Rattle.gl_bits.specs.Words.{IsWidth};
 ghost use Rattle.gl_net.specs.Net.{IsBit, IsBus};
 ghost use Rattle.gl_wire_registers.specs.Lines.{AreBits};
 ghost use Rattle.gl_groups.specs.Finding.{AddsAsked, AddsHeld, AddsKeysTaken, AddsLater, AddsMany, AddsMet, AddsMoved, AddsOne, AddsPlace, AddsPlaceOf, AddsSlotsFound, AddsSought, AreAsking};
-ghost use Rattle.gl_groups.specs.Picks.{AreAlike};
-ghost use Rattle.gl_groups.specs.SlotLines.{AreKeysOf};
+ghost use Rattle.gl_slots.specs.Picks.{AreAlike};
+ghost use Rattle.gl_slots.specs.SlotLines.{AreKeysOf};
 
-use crate::choices::choose_bit;
 use crate::notes::note_found;
-use crate::pick::{numbers, pick};
-use crate::slots::{ask_each, key_each, same_each};
 use gl_bits::Memory;
 use gl_net::{BinaryOp, Bit, Bus, Buses, NetBuilder};
+use gl_slots::choices::choose_bit;
+use gl_slots::pick::{numbers, pick};
+use gl_slots::slots::{ask_each, key_each, same_each};
 use gl_wire::{but_not, either, later_bit, same};
 use gl_wire_registers::numbers::with_one;
 use gl_wire_registers::{

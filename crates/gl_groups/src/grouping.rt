@@ -4,13 +4,13 @@ ghost use Rattle.std.specs.Prelude.{◌≡◌};
 ghost use Rattle.gl_groups.specs.Grouped.{grouping_machine};
 ghost use Rattle.gl_groups.specs.Groupings.{IsGrouping, close_cycles};
 
-use crate::front::{Numbers, put_front};
-use crate::homes::mark_bits;
-use crate::joins::join_all;
 use crate::laws::groupings_serve;
 use gl_algebra::Figures;
 use gl_bits::Memory;
 use gl_net::NetBuilder;
+use gl_slots::front::{Numbers, put_front};
+use gl_slots::homes::mark_bits;
+use gl_slots::joins::join_all;
 use gl_wire::Emitted;
 use gl_wire_registers::{Front, OverCopies, close_line, stride};
 use std::alloc::Global;

@@ -9,14 +9,14 @@ ghost use Rattle.gl_wire_registers.specs.Lines.{AddsLine};
 ghost use Rattle.gl_groups.specs.Finding.{HasSought};
 ghost use Rattle.gl_groups.specs.Lanes.{AddsHeldEnd, AddsLane, AddsLaneLines, AddsLate, AddsNew, AddsOver, AddsSlot, AddsTold, AreTurns, end_line, less_at, row_line};
 
-use crate::choices::choose_bit;
 use crate::finding::{Asking, Sought, find_slots};
-use crate::front::Numbers;
 use crate::notes::{note_end, note_over, note_told};
-use crate::parts::count_flush;
-use crate::pick::number;
 use gl_bits::Memory;
 use gl_net::{BinaryOp, Bit, Bus, Buses, NetBuilder};
+use gl_slots::choices::choose_bit;
+use gl_slots::front::Numbers;
+use gl_slots::parts::count_flush;
+use gl_slots::pick::number;
 use gl_wire::{Wire, both, but_not, either, later_bit, note_stage, same};
 use gl_wire_registers::{Bits, Counter, count_down, hold_all, latch, number_or, when_equal};
 use std::alloc::Global;

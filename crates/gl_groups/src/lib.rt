@@ -3,19 +3,12 @@
 //! a group's rows does not, nor the laws that windows and groups share.
 #![tactic(auto)]
 
-pub mod choices;
 pub mod finding;
-pub mod front;
 pub mod grouping;
-pub mod homes;
-pub mod joins;
 pub mod lane;
 pub mod laning;
 pub mod laws;
 mod notes;
-pub mod parts;
-pub mod pick;
-pub mod slots;
 
 pub use grouping::Grouping;
 pub use laning::Lane;

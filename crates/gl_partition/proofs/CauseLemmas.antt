@@ -8,7 +8,7 @@ use Rattle.gl_bits.proofs.Bools.{else_false}
 use Rattle.gl_values.proofs.Grouping.{AreDistinct, distinct_once, distinct_take}
 use Rattle.gl_wire.specs.Apart.{a_tuple}
 use Rattle.gl_wire.specs.Wire.{stream}
-use Rattle.gl_groups.specs.Slots.{Slots, freed, keys_now, of_slot, rows_of_key, same_key, with_tuple}
+use Rattle.gl_slots.specs.Slots.{Slots, freed, keys_now, of_slot, rows_of_key, same_key, with_tuple}
 use Rattle.gl_partition.specs.Machine.{Windows, closes, closing, comes, copy_of, counted, closed_by, due, is_due, mid, oldest, one_opened, opening, windows_at}
 use Rattle.gl_partition.proofs.Setting.{Setting}
 use Rattle.gl_partition.proofs.OwnFlow.{own_mid}

@@ -11,7 +11,7 @@ use Rattle.gl_wire.specs.Wire.{rows, stream}
 use Rattle.gl_wire.proofs.RowsLemmas.{rows-quiet, rows-split}
 use Rattle.gl_wire.specs.Lift.{visits, with_visit}
 use Rattle.gl_wire.specs.Timed.{NoEnd, Rested}
-use Rattle.gl_groups.specs.Slots.{of_slot}
+use Rattle.gl_slots.specs.Slots.{of_slot}
 use Rattle.gl_partition.specs.Machine.{Windows, closes, comes, copy_of, ending, mid, oldest, one_opened, opening, windows_at}
 use Rattle.gl_partition.proofs.Setting.{Setting}
 use Rattle.gl_partition.proofs.EndingLemmas.{ending_none, keys, who}

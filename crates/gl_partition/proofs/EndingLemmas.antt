@@ -6,7 +6,7 @@ use Rattle.std.proofs.lemmas.Nat.{div-mul-add, mod_below}
 use Rattle.gl_values.specs.Lists.{Group}
 use Rattle.gl_values.specs.Results.{Row}
 use Rattle.gl_wire.specs.Lift.{Visits}
-use Rattle.gl_groups.specs.Slots.{Slots, key_or, keys_at, slot_or, slots_at, slots_next}
+use Rattle.gl_slots.specs.Slots.{Slots, key_or, keys_at, slot_or, slots_at, slots_next}
 use Rattle.gl_partition.specs.Machine.{closes, copy_of, ending, oldest, who_ends}
 use Rattle.gl_partition.proofs.Setting.{Setting}
 

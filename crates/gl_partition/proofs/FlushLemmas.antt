@@ -8,8 +8,8 @@ use Rattle.gl_values.specs.Results.{Row}
 use Rattle.gl_wire.specs.Apart.{Carries}
 use Rattle.gl_wire.specs.Wire.{pending, stream}
 use Rattle.gl_wire.proofs.VisitLemmas.{did, did_none}
-use Rattle.gl_groups.specs.Slots.{freed, with_tuple, of_slot, rows_of_key}
-use Rattle.gl_groups.proofs.KeyLemmas.{rows-push}
+use Rattle.gl_slots.specs.Slots.{freed, with_tuple, of_slot, rows_of_key}
+use Rattle.gl_slots.proofs.KeyLemmas.{rows-push}
 use Rattle.gl_partition.specs.Machine.{Windows, closes, closing, comes, due, mid, next, opening, windows_at}
 use Rattle.gl_partition.proofs.Setting.{Setting, all_of_slots}
 use Rattle.gl_partition.proofs.OwnCopies.{Step, step_at}

@@ -19,8 +19,8 @@ use Rattle.gl_wire_registers.specs.Lines.{held_of, line_of}
 use Rattle.gl_wire_registers.specs.Rows.{AddsWires}
 use Rattle.gl_wire_registers.proofs.LineLemmas.{any_same, line_of-get}
 use Rattle.gl_windows.proofs.MachineLemmas.{tuple_of}
-use Rattle.gl_groups.specs.Fronts.{column_of}
-use Rattle.gl_groups.specs.Slots.{Slots, further_line, keys_at, of_slot, same_key, slots_at, slots_next}
+use Rattle.gl_slots.specs.Fronts.{column_of}
+use Rattle.gl_slots.specs.Slots.{Slots, further_line, keys_at, of_slot, same_key, slots_at, slots_next}
 use Rattle.gl_partition.specs.declared.front.Look.{Look}
 use Rattle.gl_partition.specs.declared.slot.Chosen.{Chosen}
 use Rattle.gl_partition.specs.declared.slot.SlotWindows.{SlotWindows}

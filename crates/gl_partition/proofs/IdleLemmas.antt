@@ -13,8 +13,8 @@ use Rattle.gl_wire.specs.Apart.{Carries, a_tuple, an_end}
 use Rattle.gl_wire.specs.Wire.{stream}
 use Rattle.gl_wire.proofs.NumberLemmas.{mul_below}
 use Rattle.gl_wire.proofs.VisitLemmas.{did, did_none, did_one, visits_none}
-use Rattle.gl_groups.specs.Slots.{freed, of_slot, rows_of_key}
-use Rattle.gl_groups.proofs.KeyLemmas.{rows-push}
+use Rattle.gl_slots.specs.Slots.{freed, of_slot, rows_of_key}
+use Rattle.gl_slots.proofs.KeyLemmas.{rows-push}
 use Rattle.gl_partition.specs.Machine.{Windows, closes, closing, comes, copy_of, due, kept, next, oldest, opening, windows_at}
 use Rattle.gl_partition.proofs.Setting.{Setting, all_of_slots}
 use Rattle.gl_partition.proofs.OwnCopies.{Step, step_at, wire}

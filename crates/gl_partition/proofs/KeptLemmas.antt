@@ -7,7 +7,7 @@ use Rattle.gl_values.specs.Results.{Row}
 use Rattle.gl_values.specs.Tables.{with_key}
 use Rattle.gl_bits.proofs.AllLists.{get_front}
 use Rattle.gl_wire.specs.Apart.{Carries, a_tuple, an_end}
-use Rattle.gl_groups.specs.Slots.{Slots, freed, keys_now}
+use Rattle.gl_slots.specs.Slots.{Slots, freed, keys_now}
 use Rattle.gl_partition.proofs.Setting.{Setting, Spacing}
 use Rattle.gl_partition.proofs.EndingLemmas.{keys_stay, slots}
 use Rattle.gl_partition.proofs.FlushLemmas.{Flush}

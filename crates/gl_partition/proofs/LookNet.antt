@@ -13,19 +13,19 @@ use Rattle.gl_wire_registers.specs.Held.{counted_down, held_at}
 use Rattle.gl_wire_registers.specs.declared.lines.LineOp.TheVariants.{Either}
 use Rattle.gl_wire_registers.specs.Lines.{AddsLines, held_of, line_of, pairs}
 use Rattle.gl_wire_registers.proofs.LineLemmas.{bits_kept, gates_some, line_of-first}
-use Rattle.gl_groups.specs.declared.front.Lookup.{Lookup}
-use Rattle.gl_groups.specs.declared.parts.Flush.{Flush}
-use Rattle.gl_groups.specs.declared.parts.Tail.{Tail}
-use Rattle.gl_groups.specs.declared.slots.SlotLines.{SlotLines}
-use Rattle.gl_groups.specs.Fronts.{AddsLookup, IsLookup, column_of}
-use Rattle.gl_groups.specs.Parts.{AddsFlush, AddsTail, IsFlush, IsTail, turned_to}
-use Rattle.gl_groups.specs.Seeking.{Sought, asked, found, has, is_next, kept, matches}
-use Rattle.gl_groups.specs.SlotLines.{AddsSlots, AreSlotLines, sought_at}
-use Rattle.gl_groups.specs.Slots.{Slots, is_further, keys_at, keys_now, no_slots, same_key, slots_at}
-use Rattle.gl_groups.specs.Values.{Cycle, Mirrors, Steps, Values, due_of, sought_of, tail_of}
-use Rattle.gl_groups.proofs.FrontNet.{latest_is, latest_key}
-use Rattle.gl_groups.proofs.MachineLemmas.{base, further_is, keys_are, mirrors_next, tuple_of}
-use Rattle.gl_groups.proofs.SeekLemmas.{joined, matches_is}
+use Rattle.gl_slots.specs.declared.front.Lookup.{Lookup}
+use Rattle.gl_slots.specs.declared.parts.Flush.{Flush}
+use Rattle.gl_slots.specs.declared.parts.Tail.{Tail}
+use Rattle.gl_slots.specs.declared.slots.SlotLines.{SlotLines}
+use Rattle.gl_slots.specs.Fronts.{AddsLookup, IsLookup, column_of}
+use Rattle.gl_slots.specs.Parts.{AddsFlush, AddsTail, IsFlush, IsTail, turned_to}
+use Rattle.gl_slots.specs.Seeking.{Sought, asked, found, has, is_next, kept, matches}
+use Rattle.gl_slots.specs.SlotLines.{AddsSlots, AreSlotLines, sought_at}
+use Rattle.gl_slots.specs.Slots.{Slots, is_further, keys_at, keys_now, no_slots, same_key, slots_at}
+use Rattle.gl_slots.specs.Values.{Cycle, Mirrors, Steps, Values, due_of, sought_of, tail_of}
+use Rattle.gl_slots.proofs.FrontNet.{latest_is, latest_key}
+use Rattle.gl_slots.proofs.MachineLemmas.{base, further_is, keys_are, mirrors_next, tuple_of}
+use Rattle.gl_slots.proofs.SeekLemmas.{joined, matches_is}
 use Rattle.gl_partition.specs.declared.parts.Turns.{Turns}
 use Rattle.gl_partition.specs.Fronts.{AddsLook, IsLook}
 use Rattle.gl_partition.specs.Machine.{is_due}

@@ -16,7 +16,7 @@ use Rattle.gl_values.proofs.Grouping.{AreDistinct}
 use Rattle.gl_wire.proofs.NumberLemmas.{mul_below}
 use Rattle.gl_windows.specs.Firsts.{firsts}
 use Rattle.gl_windows.proofs.SliceLemmas.{firsts-slices}
-use Rattle.gl_groups.proofs.EventLemmas.{not_listed}
+use Rattle.gl_slots.proofs.OneLemmas.{not_listed}
 
 -- ---- the window that a row completes
 

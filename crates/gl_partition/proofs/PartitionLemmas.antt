@@ -28,11 +28,11 @@ use Rattle.gl_wire.proofs.TimeLemmas.{next_stream}
 use Rattle.gl_wire.proofs.VisitLemmas.{beat_of}
 use Rattle.gl_wire.proofs.WholeServes.{whole_lines}
 use Rattle.gl_wire_registers.specs.Timers.{IsClose}
-use Rattle.gl_groups.specs.Groupings.{line_of_further, with_keys}
-use Rattle.gl_groups.specs.Slots.{came_further, key_or, slot_or}
-use Rattle.gl_groups.proofs.FurtherLemmas.{further_carries, further_so, further_told}
-use Rattle.gl_groups.proofs.GroupLemmas.{end_of}
-use Rattle.gl_groups.proofs.KeyedLemmas.{keyed_serving}
+use Rattle.gl_slots.specs.Keys.{line_of_further, with_keys}
+use Rattle.gl_slots.specs.Slots.{came_further, key_or, slot_or}
+use Rattle.gl_slots.proofs.FurtherLemmas.{further_carries, further_so, further_told}
+use Rattle.gl_slots.proofs.KeyedLemmas.{end_of}
+use Rattle.gl_slots.proofs.KeyedLemmas.{keyed_serving}
 use Rattle.gl_partition.specs.declared.partitioning.Partitioning.{Partitioning}
 use Rattle.gl_partition.specs.Laws.{PartitioningsServe}
 use Rattle.gl_partition.specs.Machine.{ArePartitions, copy_of, oldest, who_ends}

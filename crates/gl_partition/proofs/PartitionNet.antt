@@ -19,15 +19,15 @@ use Rattle.gl_wire.proofs.NumberLemmas as numbers
 use Rattle.gl_wire_registers.specs.Lines.{carried_of, held_of}
 use Rattle.gl_wire_registers.specs.Joins.{gives_of, told_of}
 use Rattle.gl_wire_registers.specs.Timers.{IsClose, IsCloseLine}
-use Rattle.gl_groups.specs.Groupings.{with_keys}
-use Rattle.gl_groups.specs.Joins.{JoinsAll}
-use Rattle.gl_groups.specs.Picks.{bits_of_slots}
-use Rattle.gl_groups.specs.Slots.{keys_at, slot_at, slot_ends_at, slot_takes, slots_at}
-use Rattle.gl_groups.proofs.Setting.{Setting}
-use Rattle.gl_groups.proofs.FurtherLemmas.{further_came}
+use Rattle.gl_slots.specs.Keys.{with_keys}
+use Rattle.gl_slots.specs.Joins.{JoinsAll}
+use Rattle.gl_slots.specs.Picks.{bits_of_slots}
+use Rattle.gl_slots.specs.Slots.{keys_at, slot_at, slot_ends_at, slot_takes, slots_at}
+use Rattle.gl_slots.proofs.Setting.{Setting}
+use Rattle.gl_slots.proofs.FurtherLemmas.{further_came}
 use Rattle.gl_wire_registers.specs.declared.front.Front.{Front}
 use Rattle.gl_wire_registers.specs.Fronts.{Fronts, IsBacked, IsFronted}
-use Rattle.gl_groups.proofs.GroupedNet.{keyed_backed}
+use Rattle.gl_slots.proofs.BackNet.{keyed_backed}
 use Rattle.gl_partition.specs.declared.front.Front.{Front as Given}
 use Rattle.gl_partition.specs.declared.partitioning.Partitioning.{Partitioning}
 use Rattle.gl_partition.specs.Fronts.{AddsFront, IsFront}

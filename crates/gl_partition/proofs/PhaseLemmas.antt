@@ -12,7 +12,7 @@ use Rattle.gl_wire.specs.Lift.{visits}
 use Rattle.gl_wire.specs.Timed.{Begins, at_first, after_end}
 use Rattle.gl_wire.proofs.NumberLemmas.{mul_below}
 use Rattle.gl_wire.proofs.VisitLemmas.{begins_more}
-use Rattle.gl_groups.specs.Slots.{rows_of_key}
+use Rattle.gl_slots.specs.Slots.{rows_of_key}
 use Rattle.gl_windows.proofs.SliceLemmas.{mod_hits}
 use Rattle.gl_partition.specs.Machine.{copy_of, windows_at}
 use Rattle.gl_partition.proofs.Setting.{Setting, all_of_slots}

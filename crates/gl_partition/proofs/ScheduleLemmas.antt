@@ -10,7 +10,7 @@ use Rattle.gl_wire.specs.Apart.{Carries, a_tuple, an_end}
 use Rattle.gl_wire.specs.Lift.{Schedules}
 use Rattle.gl_wire.proofs.NumberLemmas.{mul_below}
 use Rattle.gl_wire.proofs.TurnLemmas.{turns_schedule}
-use Rattle.gl_groups.specs.Slots.{slot_or}
+use Rattle.gl_slots.specs.Slots.{slot_or}
 use Rattle.gl_windows.proofs.SliceLemmas.{mod_apart}
 use Rattle.gl_partition.specs.Machine.{closes, closing, comes, copy_of, due, ending, kept, mid, oldest, taken, Windows, windows_at}
 use Rattle.gl_partition.proofs.Setting.{Setting, Spacing}

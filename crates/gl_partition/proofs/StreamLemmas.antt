@@ -13,9 +13,9 @@ use Rattle.gl_values.proofs.Grouping.{AreDistinct, distinct_once, distinct_take}
 use Rattle.gl_values.proofs.Parting.{fulls-push}
 use Rattle.gl_wire.specs.Wire.{pending, stream}
 use Rattle.gl_wire.proofs.VisitLemmas.{did, did_none, did_one}
-use Rattle.gl_groups.specs.Slots.{freed, with_tuple, of_slot, rows_of_key, same_key}
-use Rattle.gl_groups.proofs.EventLemmas.{not_listed}
-use Rattle.gl_groups.proofs.KeyLemmas.{keys-push, rows-push, rows_kept}
+use Rattle.gl_slots.specs.Slots.{freed, with_tuple, of_slot, rows_of_key, same_key}
+use Rattle.gl_slots.proofs.OneLemmas.{not_listed}
+use Rattle.gl_slots.proofs.KeyLemmas.{keys-push, rows-push, rows_kept}
 use Rattle.gl_partition.specs.Machine.{Windows, closes, closing, comes, copy_of, due, mid, next, oldest, opening, windows_at}
 use Rattle.gl_partition.proofs.Setting.{Setting}
 use Rattle.gl_partition.proofs.OwnCopies.{Step, step_at, wire}

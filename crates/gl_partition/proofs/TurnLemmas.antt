@@ -11,8 +11,8 @@ use Rattle.gl_net.specs.Net.{Run}
 use Rattle.gl_wire.specs.Wire.{line_at}
 use Rattle.gl_wire_registers.specs.Held.{counted_down, held_at}
 use Rattle.gl_wire.proofs.NumberLemmas.{mul_below}
-use Rattle.gl_groups.specs.Slots.{Slots, slots_next}
-use Rattle.gl_groups.proofs.MachineLemmas.{tuple_of}
+use Rattle.gl_slots.specs.Slots.{Slots, slots_next}
+use Rattle.gl_slots.proofs.MachineLemmas.{tuple_of}
 use Rattle.gl_partition.specs.Machine.{is_due}
 
 -- ---- the slot that has its turn

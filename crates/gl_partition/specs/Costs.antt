@@ -4,8 +4,8 @@ use Rattle.std.specs.List.{sum}
 use Rattle.gl_algebra.specs.Weights.{weight_of_copies}
 use Rattle.gl_wire.specs.Costs.{Cost}
 use Rattle.gl_wire.specs.Counted.{AreNarrow}
-use Rattle.gl_groups.specs.Costs.{IsCounted, cost_of_back}
-use Rattle.gl_groups.specs.Picks.{bits_of_slots}
+use Rattle.gl_slots.specs.Costs.{IsCounted, cost_of_back}
+use Rattle.gl_slots.specs.Picks.{bits_of_slots}
 
 -- a front of so many slots with so many copies each, over a source of these columns, with the key in one of them, and the
 -- line of ends behind a timer

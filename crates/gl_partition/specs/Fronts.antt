@@ -10,8 +10,8 @@ use Rattle.gl_wire.specs.Costs.{CostsAtMost}
 use Rattle.gl_wire.specs.Wire.{AreBuses, IsWire, carried, line_at, row_at, widths}
 use Rattle.gl_wire_registers.specs.Held.{with_registers}
 use Rattle.gl_wire_registers.specs.Lines.{AreBits, carried_of, held_of, line_of}
-use Rattle.gl_groups.specs.Slots.{further_line, is_further, keys_at, same_key, slots_at}
-use Rattle.gl_groups.specs.Fronts.{column_of}
+use Rattle.gl_slots.specs.Slots.{further_line, is_further, keys_at, same_key, slots_at}
+use Rattle.gl_slots.specs.Fronts.{column_of}
 use Rattle.gl_partition.specs.declared.front.Front.{Front}
 use Rattle.gl_partition.specs.declared.front.Look.{Look}
 use Rattle.gl_partition.specs.declared.slot.Chosen.{Chosen}

@@ -9,8 +9,8 @@ use Rattle.gl_wire.specs.Spills.{Lines}
 use Rattle.gl_wire.specs.Wire.{Carried}
 use Rattle.gl_wire.specs.Lift.{tuple_of_any}
 use Rattle.gl_wire_registers.specs.Timers.{IsClose}
-use Rattle.gl_groups.specs.Groupings.{with_keys}
-use Rattle.gl_groups.specs.Slots.{came_further}
+use Rattle.gl_slots.specs.Keys.{with_keys}
+use Rattle.gl_slots.specs.Slots.{came_further}
 use Rattle.gl_partition.specs.declared.partitioning.Partitioning.{Partitioning}
 use Rattle.gl_partition.specs.Machine.{ArePartitions}
 use Rattle.gl_partition.specs.Partitionings.{AreKeys, AwaitsFlush, IsPartitioning, ServesPartitions, all_copies, close_cycles, close_delay, key_of, numbers_of}

@@ -5,7 +5,7 @@ use Rattle.std.specs.Prelude.{◌≡◌, ℕ, zero, suc, ◌+◌, ◌-◌, ◌*�
 use Rattle.gl_values.specs.Results.{Row}
 use Rattle.gl_wire.specs.Wire.{Carried}
 use Rattle.gl_wire.specs.Lift.{Visits}
-use Rattle.gl_groups.specs.Slots.{Slots, keys_at, of_slot, slots_at}
+use Rattle.gl_slots.specs.Slots.{Slots, keys_at, of_slot, slots_at}
 
 -- the slots, and the key of a tuple; windows of `size` rows, one from each `advance`-th row of a key on; the copies of
 -- each slot; and the cycles from one turn to the next

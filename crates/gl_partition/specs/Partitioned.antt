@@ -5,8 +5,8 @@ use Rattle.gl_algebra.specs.FigureTable.{IsSound}
 use Rattle.gl_wire.specs.Wire.{Carried}
 use Rattle.gl_wire_registers.specs.Fronts.{Fed, Machine}
 use Rattle.gl_wire_registers.specs.Timers.{IsClose}
-use Rattle.gl_groups.specs.Grouped.{keyed_machine}
-use Rattle.gl_groups.specs.Slots.{came_further}
+use Rattle.gl_slots.specs.Keyed.{keyed_machine}
+use Rattle.gl_slots.specs.Slots.{came_further}
 use Rattle.gl_partition.specs.declared.partitioning.Partitioning.{Partitioning}
 use Rattle.gl_partition.specs.Costs.{cost_of_front}
 use Rattle.gl_partition.specs.Machine.{ArePartitions}

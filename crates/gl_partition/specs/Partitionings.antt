@@ -15,8 +15,8 @@ use Rattle.gl_wire.specs.Wire.{Carried, stream}
 use Rattle.gl_wire.specs.Bodies.{OfBody}
 use Rattle.gl_wire.specs.Rotates.{lines_of_all}
 use Rattle.gl_wire.specs.Timed.{Rested}
-use Rattle.gl_groups.specs.Groupings.{line_of_further}
-use Rattle.gl_groups.specs.Slots.{slots_at}
+use Rattle.gl_slots.specs.Keys.{line_of_further}
+use Rattle.gl_slots.specs.Slots.{slots_at}
 use Rattle.gl_partition.specs.declared.partitioning.Partitioning.{Partitioning}
 use Rattle.gl_partition.specs.Machine.{Numbers, copy_of}
 

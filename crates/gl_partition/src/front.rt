@@ -10,11 +10,11 @@ ghost use Rattle.gl_partition.specs.Fronts.{AddsFront, AddsLook, ChoosesSlots, r
 use crate::parts::count_turns;
 use crate::slot::{Chosen, Sizes, put_windows};
 use gl_bits::Memory;
-use gl_groups::front::look_up;
-use gl_groups::homes::put_slots;
-use gl_groups::parts::{count_flush, keep_tail, turn_lines};
-use gl_groups::slots::Wanted;
 use gl_net::{Bit, Bus, Buses, NetBuilder};
+use gl_slots::front::look_up;
+use gl_slots::homes::put_slots;
+use gl_slots::parts::{count_flush, keep_tail, turn_lines};
+use gl_slots::slots::Wanted;
 use gl_wire::{Wire, later_bit, note_bit, note_bits};
 use gl_wire_registers::{Arrival, Bits, LineOp, Wires, copy_wires, pairwise};
 use std::alloc::Global;

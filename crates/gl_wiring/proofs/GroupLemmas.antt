@@ -21,9 +21,10 @@ use Rattle.gl_net.specs.Net.{Net}
 use Rattle.gl_rows.proofs.MadeLemmas.{as_many}
 use Rattle.gl_wire.specs.Bodies.{OfBody, alone}
 use Rattle.gl_wire.specs.Rotates.{lines_of_all}
-use Rattle.gl_groups.specs.Costs.{cost_of_back}
+use Rattle.gl_slots.specs.Costs.{cost_of_back}
 use Rattle.gl_groups.specs.Grouped.{grouping_machine}
-use Rattle.gl_groups.specs.Groupings.{IsGrouping, key_of, line_of_further}
+use Rattle.gl_slots.specs.Keys.{line_of_further}
+use Rattle.gl_groups.specs.Groupings.{IsGrouping, key_of}
 use Rattle.gl_groups.proofs.GroupLemmas.{groups_then}
 use Rattle.gl_wire_registers.specs.Fronts.{columns_over}
 use Rattle.gl_wire_registers.specs.Joins.{columns_of, told_of}

@@ -25,9 +25,9 @@ use Rattle.gl_net.specs.Net.{Net}
 use Rattle.gl_figures.specs.Reach.{keys_part, lean_part, store_part, weight_part}
 use Rattle.gl_figures.proofs.PartLemmas.{HasParts, parts_at}
 use Rattle.gl_groups.specs.declared.laning.Lane.{Lane}
-use Rattle.gl_groups.specs.Joins.{width_of_keys}
+use Rattle.gl_slots.specs.Joins.{width_of_keys}
 use Rattle.gl_groups.specs.Laned.{words_of_keys}
-use Rattle.gl_groups.specs.Picks.{bits_of_slots}
+use Rattle.gl_slots.specs.Picks.{bits_of_slots}
 use Rattle.gl_totals.proofs.TableLemmas.{agg_kept, table_words}
 use Rattle.gl_totals.specs.Costs.{kept_of_agg}
 use Rattle.gl_wire.specs.Costs.{Cost, CostsAtMost, nodes_alone}

@@ -26,15 +26,16 @@ use Rattle.gl_net.specs.declared.node.Bus.{Bus}
 use Rattle.gl_net.specs.Net.{Net, Run, IsRun, Keeps}
 use Rattle.gl_net.proofs.Determined.{keeps_then}
 use Rattle.gl_groups.specs.declared.laning.Lane.{Lane}
-use Rattle.gl_groups.specs.Fronts.{KeysCome}
-use Rattle.gl_groups.specs.Groupings.{AreKeys, AwaitsFlush, AwaitsTurns, OfGroups, key_of, line_of_further}
-use Rattle.gl_groups.specs.Joins.{width_of_keys}
+use Rattle.gl_slots.specs.Fronts.{KeysCome}
+use Rattle.gl_slots.specs.Keys.{AreKeys, AwaitsTurns, line_of_further}
+use Rattle.gl_groups.specs.Groupings.{AwaitsFlush, OfGroups, key_of}
+use Rattle.gl_slots.specs.Joins.{width_of_keys}
 use Rattle.gl_groups.specs.Laned.{IsGathered, IsLaned, cost_of_lane, words_of_keys}
 use Rattle.gl_groups.specs.LaneLaws as lane_laws
-use Rattle.gl_groups.specs.Picks.{bits_of_slots}
-use Rattle.gl_groups.specs.Slots.{AreSlots}
+use Rattle.gl_slots.specs.Picks.{bits_of_slots}
+use Rattle.gl_slots.specs.Slots.{AreSlots}
 use Rattle.gl_groups.proofs.GroupLemmas.{groups_then}
-use Rattle.gl_groups.proofs.GroupedNet.{width_first}
+use Rattle.gl_slots.proofs.BackNet.{width_first}
 use Rattle.gl_wire.specs.declared.emitted.Emitted.{Emitted}
 use Rattle.gl_wire.specs.declared.emitted.Faults.{Faults}
 use Rattle.gl_wire.specs.declared.wire.Wire.{Wire}

@@ -16,7 +16,7 @@ use Rattle.gl_algebra.specs.Weights.{weight_of, weight_of_copies}
 use Rattle.gl_net.specs.Net.{Net}
 use Rattle.gl_figures.specs.Reach.{keys_part, lean_part, store_part, weight_part}
 use Rattle.gl_figures.proofs.PartLemmas.{HasParts, parts_at}
-use Rattle.gl_groups.specs.Costs.{IsCounted, cost_of_back}
+use Rattle.gl_slots.specs.Costs.{IsCounted, cost_of_back}
 use Rattle.gl_partition.specs.Costs.{cost_of_front, cost_of_partitioning, counted_for}
 use Rattle.gl_wire.specs.Costs.{Cost, CostsAtMost}
 use Rattle.gl_wire.proofs.CountLemmas.{narrow_kinds}

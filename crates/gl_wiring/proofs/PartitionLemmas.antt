@@ -25,8 +25,8 @@ use Rattle.gl_net.specs.declared.node.Bit.{Bit}
 use Rattle.gl_net.specs.Net.{Net}
 use Rattle.gl_wire.specs.Bodies.{OfBody, alone}
 use Rattle.gl_wire.specs.Rotates.{lines_of_all}
-use Rattle.gl_groups.specs.Costs.{cost_of_back}
-use Rattle.gl_groups.specs.Groupings.{line_of_further}
+use Rattle.gl_slots.specs.Costs.{cost_of_back}
+use Rattle.gl_slots.specs.Keys.{line_of_further}
 use Rattle.gl_partition.specs.declared.partitioning.Partitioning.{Partitioning}
 use Rattle.gl_partition.specs.Partitioned.{partitioning_machine}
 use Rattle.gl_partition.specs.Partitionings.{IsPartitioning, OfPartitions, key_of}

@@ -7,7 +7,7 @@ use Rattle.gl_algebra.specs.Results.{IsPlanResult}
 use Rattle.gl_algebra.specs.Shapes.{kinds_of, shape_of}
 use Rattle.gl_net.specs.declared.node.Bit.{Bit}
 use Rattle.gl_net.specs.Net.{Net, Run, IsRun, IsBit, IsBus, Keeps}
-use Rattle.gl_groups.specs.Joins.{AreKeyBuses, width_of_keys}
+use Rattle.gl_slots.specs.Joins.{AreKeyBuses, width_of_keys}
 use Rattle.gl_groups.specs.Laned.{IsLaneOf, cost_of_lane}
 use Rattle.gl_wire.specs.declared.wire.Wire.{Wire}
 use Rattle.gl_wire.specs.Apart.{CarriesApart}

@@ -6,7 +6,7 @@ ghost use Rattle.gl_algebra.specs.declared.node.PlanAgg.{PlanAgg as PlanAggOf};
 ghost use Rattle.gl_algebra.specs.declared.node.PlanNode.TheVariants.{Aggregate};
 ghost use Rattle.gl_algebra.specs.Direct.{form_of, is_direct};
 ghost use Rattle.gl_algebra.specs.Shapes.{kinds_of, shape_of};
-ghost use Rattle.gl_groups.specs.Picks.{bits_of_slots};
+ghost use Rattle.gl_slots.specs.Picks.{bits_of_slots};
 ghost use Rattle.gl_net.specs.declared.node.Bit.{Bit as BitOf};
 ghost use Rattle.gl_net.specs.Net.{Net, IsBit, IsBus};
 ghost use Rattle.gl_values.specs.Kinds.{IsKind, width_of};

@@ -1,6 +1,6 @@
 use Rattle.std.proofs.Common.{List, length, subst}
 use Rattle.gl_net.specs.declared.node.Bit.{Bit}
-use Rattle.gl_groups.specs.SlotLines.{AddsAsks}
+use Rattle.gl_slots.specs.SlotLines.{AddsAsks}
 use Rattle.gl_groups.proofs.FindingNet.{asked_are}
 use Rattle.gl_groups.proofs.finding.ask_slots.Goals as goal
 

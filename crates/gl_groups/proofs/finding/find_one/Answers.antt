@@ -7,9 +7,9 @@ use Rattle.gl_wire.proofs.GateLemmas.{bit_of}
 use Rattle.gl_wire.proofs.StageLemmas.{line_later}
 use Rattle.gl_wire_registers.specs.Lines.{any_line, any_to, line_of}
 use Rattle.gl_wire_registers.proofs.CounterLemmas.{same_node}
-use Rattle.gl_groups.specs.Choices.{chosen}
-use Rattle.gl_groups.proofs.SeenNet.{bit_opened}
-use Rattle.gl_groups.proofs.SlotNet.{bits_opened}
+use Rattle.gl_slots.specs.Choices.{chosen}
+use Rattle.gl_slots.proofs.SeenNet.{bit_opened}
+use Rattle.gl_slots.proofs.SlotNet.{bits_opened}
 use Rattle.gl_groups.proofs.finding.find_one.Goals as goal
 
 pub any-requires : goal.any-requires

@@ -4,7 +4,7 @@ use Rattle.gl_wire_registers.specs.Held.{held_at}
 use Rattle.gl_wire_registers.proofs.RegisterLemmas.{grown_bus}
 use Rattle.gl_groups.proofs.CountLemmas.{home_at, number_at}
 use Rattle.gl_groups.proofs.FindingNet.{alike_opened}
-use Rattle.gl_groups.proofs.SlotNet.{bits_opened}
+use Rattle.gl_slots.proofs.SlotNet.{bits_opened}
 use Rattle.gl_groups.proofs.finding.find_place.Goals as goal
 
 pub pick-requires-clause-lines : goal.pick-requires-clause-lines

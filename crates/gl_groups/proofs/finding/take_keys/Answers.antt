@@ -3,9 +3,9 @@ use Rattle.gl_net.specs.declared.node.Bus.{Bus}
 use Rattle.gl_net.specs.declared.node.Bit.{Bit}
 use Rattle.gl_wire_registers.specs.Lines.{AreBits}
 use Rattle.gl_wire_registers.specs.Registers.{DrivesAll, MayDrive, Opens}
-use Rattle.gl_groups.specs.SlotLines.{AddsNexts, AreKeysOf}
+use Rattle.gl_slots.specs.SlotLines.{AddsNexts, AreKeysOf}
 use Rattle.gl_groups.proofs.FindingKeys.{keys_taken, regs_taken, taken_count, taken_may}
-use Rattle.gl_groups.proofs.SlotNet.{bits_opened}
+use Rattle.gl_slots.proofs.SlotNet.{bits_opened}
 use Rattle.gl_groups.proofs.finding.take_keys.Goals as goal
 
 pub key_each-requires-clause-nexts : goal.key_each-requires-clause-nexts

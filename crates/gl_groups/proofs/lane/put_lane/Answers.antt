@@ -5,7 +5,7 @@ use Rattle.gl_net.proofs.Determined.{keeps_then}
 use Rattle.gl_wire.proofs.ColumnLemmas.{bit_kept, bus_kept, wire_kept}
 use Rattle.gl_groups.specs.Lanes.{AddsLane}
 use Rattle.gl_groups.proofs.LanesAre.{columns_as_many, lanes_are}
-use Rattle.gl_groups.proofs.PartLemmas.{column_is, column_there, width_there}
+use Rattle.gl_slots.proofs.PartLemmas.{column_is, column_there, width_there}
 use Rattle.gl_groups.proofs.lane.put_lane.Goals as goal
 
 pub find_slots-requires-clause-asking : goal.find_slots-requires-clause-asking

@@ -5,7 +5,7 @@ use Rattle.gl_net.proofs.Determined.{keeps_then}
 use Rattle.gl_wire.specs.Wire.{line_at}
 use Rattle.gl_wire.proofs.ColumnLemmas.{bit_kept}
 use Rattle.gl_wire_registers.specs.Lines.{line_of}
-use Rattle.gl_groups.specs.Choices.{chosen}
+use Rattle.gl_slots.specs.Choices.{chosen}
 use Rattle.gl_groups.specs.Lanes.{head_line, row_line}
 use Rattle.gl_groups.proofs.ToldNet.{first_bit, first_line, same_where}
 use Rattle.gl_groups.proofs.lane.tell_row.Goals as goal

@@ -4,10 +4,10 @@ use Rattle.gl_net.specs.declared.node.Bit.{Bit}
 use Rattle.gl_net.specs.declared.node.Bus.{Bus}
 use Rattle.gl_net.proofs.Determined.{keeps_then}
 use Rattle.gl_wire_registers.specs.Lines.{AddsLines}
-use Rattle.gl_groups.specs.Picks.{PicksOne}
-use Rattle.gl_groups.specs.SlotLines.{same_to}
+use Rattle.gl_slots.specs.Picks.{PicksOne}
+use Rattle.gl_slots.specs.SlotLines.{same_to}
 use Rattle.gl_groups.proofs.LanedNet.{alike_keys, first_width, picked_is}
-use Rattle.gl_groups.proofs.PickLemmas.{alike_kept}
+use Rattle.gl_slots.proofs.PickLemmas.{alike_kept}
 use Rattle.gl_groups.proofs.laning.picked_key.Goals as goal
 
 pub pick-requires-clause-buses : goal.pick-requires-clause-buses

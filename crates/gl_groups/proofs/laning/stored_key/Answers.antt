@@ -5,9 +5,9 @@ use Rattle.gl_net.proofs.Determined.{keeps_then}
 use Rattle.gl_wire.proofs.ColumnLemmas.{bit_kept, bus_kept}
 use Rattle.gl_wire_registers.specs.Lines.{AreBits}
 use Rattle.gl_wire_registers.proofs.LineLemmas.{bits_kept}
-use Rattle.gl_groups.specs.Picks.{AreAlike, PicksOne}
+use Rattle.gl_slots.specs.Picks.{AreAlike, PicksOne}
 use Rattle.gl_groups.proofs.LanedNet.{stored_is}
-use Rattle.gl_groups.proofs.PickLemmas.{alike_kept}
+use Rattle.gl_slots.proofs.PickLemmas.{alike_kept}
 use Rattle.gl_groups.proofs.laning.stored_key.Goals as goal
 
 pub any-requires : goal.any-requires

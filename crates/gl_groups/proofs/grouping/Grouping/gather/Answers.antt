@@ -2,7 +2,7 @@ use Rattle.std.proofs.Common.{◌≡◌, ◌∷◌, List, subst, sym, ap, ◌∙
 use Rattle.gl_net.specs.declared.node.Bus.{Bus}
 use Rattle.gl_wire.specs.Wire.{AreBuses}
 use Rattle.gl_wire.proofs.ColumnLemmas.{bit_kept, buses_kept}
-use Rattle.gl_groups.proofs.JoinLemmas.{first_then}
+use Rattle.gl_slots.proofs.JoinLemmas.{first_then}
 use Rattle.gl_groups.proofs.LanedNet.{is_gathered}
 use Rattle.gl_groups.proofs.grouping.Grouping.gather.Goals as goal
 

@@ -1,5 +1,6 @@
 use Rattle.std.proofs.Common.{◌∙◌, sym}
-use Rattle.gl_groups.proofs.GroupedNet.{is_backed, keys_are}
+use Rattle.gl_slots.proofs.BackNet.{keys_are}
+use Rattle.gl_groups.proofs.GroupedNet.{is_backed}
 use Rattle.gl_groups.proofs.grouping.GroupingOverCopies.back.Goals as goal
 
 pub join_all-requires-clause-keys : goal.join_all-requires-clause-keys

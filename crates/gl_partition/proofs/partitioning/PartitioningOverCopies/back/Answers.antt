@@ -1,5 +1,5 @@
 use Rattle.std.proofs.Common.{ℕ, ◌*◌, ◌≤◌, ◌∙◌, subst, sym}
-use Rattle.gl_groups.proofs.GroupedNet.{keys_are}
+use Rattle.gl_slots.proofs.BackNet.{keys_are}
 use Rattle.gl_partition.proofs.PartitionNet.{is_backed, some_copies}
 use Rattle.gl_partition.proofs.partitioning.PartitioningOverCopies.back.Goals as goal
 

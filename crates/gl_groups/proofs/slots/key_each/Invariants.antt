@@ -1,5 +1,0 @@
-use Rattle.gl_groups.specs.SlotLines.{AddsNexts}
-use Rattle.gl_groups.proofs.slots.key_each.Given as goal
-
-abbrev pub invariant-loop-i : goal.invariant-loop-i
-invariant-loop-i l = AddsNexts l.initial.net l.net l.nexts l.value l.keys l.i l.all

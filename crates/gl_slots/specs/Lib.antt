@@ -1,0 +1,13 @@
+pub mod Slots
+pub mod Seeking
+pub mod SlotLines
+pub mod Parts
+pub mod Values
+pub mod Keys
+pub mod Fronts
+pub mod Costs
+pub mod Joins
+pub mod Keyed
+pub mod Picks
+pub mod Homes
+pub mod Choices
