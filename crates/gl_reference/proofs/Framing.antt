@@ -1,7 +1,7 @@
 -- With a row more a select of frames has one row more.
 use Rattle.std.proofs.Common.{◌≡◌, ℕ, zero, suc, ◌+◌, ◌<◌, List, [], ◌∷◌, ◌++◌, length, take, refl, sym, ap, ◌∙◌, arith, append_assoc}
 use Rattle.gl_frames.specs.Frames.{each_of, framed}
-use Rattle.std.specs.Prelude.{Option, Some}
+use Rattle.std.specs.Prelude.{Some}
 use Rattle.gl_values.specs.Results.{Row}
 
 each_next : (f : List Row → Row) (seen rows : List Row) (n : ℕ) → n < length rows

@@ -1,12 +1,8 @@
-use Rattle.std.proofs.Common.{◌≡◌, ◌∙◌, ◌∷◌, [], ◌++◌, List, refl, sym, ap, subst, map, take, ◌+◌}
-use Rattle.std.proofs.lemmas.List.{take_all}
-use Rattle.std.specs.List.{AllByRecursion}
-use Rattle.gl_schema.specs.Schemas.{IsRowOf}
+use Rattle.std.proofs.Common.{◌∙◌, ◌∷◌, [], ◌++◌, List, sym, ap, map, take}
 use Rattle.gl_values.specs.Results.{Row}
 use Rattle.gl_frames.specs.Frames.{framed}
 use Rattle.gl_query.specs.Shapes.{frame_item_shape}
 use Rattle.gl_query.specs.Results.{frame_row}
-use Rattle.gl_query.proofs.Holding.{all_take}
 use Rattle.gl_reference.proofs.Framing.{framed_next}
 use Rattle.gl_reference.proofs.frames.framed_rows.Goals as goal
 
