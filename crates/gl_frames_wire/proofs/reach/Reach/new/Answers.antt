@@ -1,4 +1,4 @@
-use Rattle.std.proofs.Common.{◌≡◌, ℕ, ◌+◌, ◌^◌, ◌≤◌, arith, ap, sym, subst, ◌∙◌}
+use Rattle.std.proofs.Common.{◌≡◌, ℕ, ◌+◌, ◌^◌, ◌<◌, ◌≤◌, arith, ap, sym, subst, ◌∙◌}
 use Rattle.gl_algebra.proofs.ExponentLemmas.{exponent_covers}
 use Rattle.gl_frames_wire.proofs.ReachLemmas.{few_exponents}
 use Rattle.gl_frames_wire.specs.Reaches.{place_bits}
@@ -7,7 +7,7 @@ use Rattle.gl_frames_wire.proofs.reach.Reach.new.Goals as goal
 pub returns-clause-fits : goal.returns-clause-fits
 returns-clause-fits c =
     let back = c.args.back in
-    let same : c.from.result ≡ back = c.from.ensures in
+    let same : c.from-depth.result ≡ back = c.from-depth.ensures in
     let is : c.least_exponent-bits.result ≡ place_bits back = c.least_exponent-bits.ensures.value ∙ ap (λ (n : ℕ). place_bits n) same in
     let covers = exponent_covers (back + 1) 1 (back + 1) (omega arith) in
     let most = c.requires.most in
