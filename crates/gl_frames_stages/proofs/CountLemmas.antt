@@ -15,6 +15,7 @@ use Rattle.gl_algebra.specs.declared.node.PlanFrame.{PlanFrame}
 use Rattle.gl_algebra.specs.declared.node.PlanFrame.TheVariants.{Lag, Over, Own}
 use Rattle.gl_algebra.specs.declared.node.PlanFrameAgg.{PlanFrameAgg}
 use Rattle.gl_algebra.specs.declared.node.PlanFrameAgg.TheVariants.{Avg, Count, LastValue, Max, Min, Sum}
+use Rattle.gl_frames_wire.proofs.ReachLemmas.{few_exponents}
 use Rattle.gl_frames_wire.specs.Reaches.{place_bits}
 use Rattle.gl_totals.proofs.KindLemmas.{operand_width}
 use Rattle.gl_values.specs.Kinds.{IsKind, width_of}
@@ -24,8 +25,8 @@ use Rattle.gl_wire.specs.Costs.{Cost}
 use Rattle.gl_frames_stages.specs.Counted.{FramesAreCounted}
 use Rattle.gl_frames_stages.specs.DoublingNets.{cost_of_doublings, doublings}
 use Rattle.gl_frames_stages.specs.ItemCosts.{cost_of_extreme_by, cost_of_frames, cost_of_item, cost_of_item_late}
-use Rattle.gl_frames_stages.proofs.CycleLemmas.{doublings_bits, few_digits, few_exponents, items_few}
-use Rattle.gl_frames_stages.proofs.LevelCosts.{few_places, place_words, ring_bits, late_nodes, late_registers, late_memories, line_nodes, line_registers, line_memories, level_nodes, level_registers, level_memories, words_many}
+use Rattle.gl_frames_stages.proofs.CycleLemmas.{doublings_bits, few_digits, items_few}
+use Rattle.gl_frames_stages.proofs.LevelCosts.{few_places, frame_words, place_words, ring_bits, late_nodes, late_registers, late_memories, line_nodes, line_registers, line_memories, level_nodes, level_registers, level_memories, words_many}
 
 -- ---- items
 
@@ -53,7 +54,7 @@ extreme_within gates w back nodes registers small narrow lt few_nodes few_regist
     let cost = level_nodes gates back 1 (back + 1) w in
     let gates_of = mul-le-mul_right n (let z : 28 + gates ≤ 40 = omega (arith, small) in z) in
     let bits = level_registers gates back 1 (back + 1) w (omega (arith, lt)) in
-    let bits_of = mul-le-mul_right n (let z : 23 + 4 * w ≤ 283 = omega (arith, narrow) in z) in
+    let bits_of = mul-le-mul_right n (let z : 24 + 4 * w ≤ 284 = omega (arith, narrow) in z) in
     let stored : (cost_of_doublings gates back 1 (back + 1) w).memories ≡ w * words_of_doublings n 0 back = level_memories gates back 0 back w in
     let same = ap (λ k. w * words_of_doublings k 0 back) are in
     let wide = mul-le-mul_right words narrow in
@@ -100,12 +101,14 @@ module _ (kinds : List Kind) (all : All IsKind kinds) where
       record { nodes = omega arith; registers = omega (arith, bits); memories = omega arith }
   over_within Count (Some column) (Some back) fits rows =
       let bits = few_places (back + 1) (omega (arith, rows)) in
-      let words = place_words (back + 1) in
+      let words = frame_words back in
       record { nodes = omega arith; registers = omega (arith, bits); memories = omega (arith, words) }
   over_within (Sum x) by (Some back) fits rows =
       let w = operand_width kinds x all fits.0 in
       let bits = few_places (back + 1) (omega (arith, rows)) in
-      record { nodes = omega arith; registers = omega (arith, bits, w); memories = ring_bits (back + 1) (width x) (omega (arith, w)) }
+      let stored = ring_bits (2 ^ place_bits (back + 1)) (width x) (omega (arith, w)) in
+      let words = frame_words back in
+      record { nodes = omega arith; registers = omega (arith, bits, w); memories = omega (arith, stored, words) }
   over_within (Min x) by (Some back) fits rows = extreme_by x by back fits (omega (arith, rows))
   over_within (Max x) by (Some back) fits rows = extreme_by x by back fits (omega (arith, rows))
   over_within (Avg x) by (Some back) fits rows =
@@ -113,9 +116,10 @@ module _ (kinds : List Kind) (all : All IsKind kinds) where
       let bits = few_places (back + 1) (omega (arith, rows)) in
       let few = few_digits back (omega (arith, rows)) in
       let m = divider_within (width x + digits (back + 1)) (omega (arith, w, few)) in
-      let words = ring_bits (back + 1) (width x + 1) (omega (arith, w)) in
+      let stored = ring_bits (2 ^ place_bits (back + 1)) (width x + 1) (omega (arith, w)) in
+      let words = frame_words back in
       let spread : 2 ^ place_bits (back + 1) * (width x + 1) ≡ 2 ^ place_bits (back + 1) * width x + 2 ^ place_bits (back + 1) = omega arith in
-      record { nodes = omega arith; registers = omega (arith, bits, w, m, few); memories = omega (arith, words, spread) }
+      record { nodes = omega arith; registers = omega (arith, bits, w, m, few); memories = omega (arith, stored, words, spread) }
   over_within (LastValue x) by (Some back) fits rows =
       let w = operand_width kinds x all fits in
       let bits = few_places (back + 1) (omega (arith, rows)) in
@@ -127,7 +131,9 @@ module _ (kinds : List Kind) (all : All IsKind kinds) where
       let w = operand_width kinds x all fits.0 in
       let lt = fits.2 in
       let bits = few_places back (omega (arith, lt)) in
-      record { nodes = omega arith; registers = omega (arith, bits, w); memories = ring_bits back (width x) (omega (arith, w)) }
+      let stored = ring_bits (2 ^ place_bits back) (width x) (omega (arith, w)) in
+      let words = place_words back in
+      record { nodes = omega arith; registers = omega (arith, bits, w); memories = omega (arith, stored, words) }
   one_within (Over agg by back) fits = over_within agg by back fits.0 fits.2
 
   -- no column is wide, and no item is at once

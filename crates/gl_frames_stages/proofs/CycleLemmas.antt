@@ -12,6 +12,7 @@ use Rattle.gl_algebra.specs.declared.node.PlanFrame.{PlanFrame}
 use Rattle.gl_algebra.specs.declared.node.PlanFrame.TheVariants.{Lag, Over, Own}
 use Rattle.gl_algebra.specs.declared.node.PlanFrameAgg.{PlanFrameAgg}
 use Rattle.gl_algebra.specs.declared.node.PlanFrameAgg.TheVariants.{Avg, Count, LastValue, Max, Min, Sum}
+use Rattle.gl_frames_wire.proofs.ReachLemmas.{few_exponents}
 use Rattle.gl_totals.proofs.KindLemmas.{operand_width}
 use Rattle.gl_values.specs.Kinds.{IsKind}
 use Rattle.gl_values.specs.declared.kind.Kind.{Kind}
@@ -28,17 +29,6 @@ item_within kinds (item ∷ items) (suc i) d lt =
     omega (arith, rest, more)
 
 -- ---- few
-
-pub few_exponents : (n more exponent depth : ℕ) → exponent ≤ n → depth ≤ 2 ^ n → least_exponent more exponent depth ≤ n
-few_exponents n zero e depth l h = l
-few_exponents n (suc more) e depth l h = by (nat_le depth (2 ^ e)) refl (few_exponents n more (suc e) depth)
-  where
-    by : (b : Bool) → nat_le depth (2 ^ e) ≡ b → (suc e ≤ n → depth ≤ 2 ^ n → least_exponent more (suc e) depth ≤ n) → (if b then e else least_exponent more (suc e) depth) ≤ n
-    by true p rest = l
-    by false p rest = rest (omega (arith, l, apart)) h
-      where
-        apart : e ≡ n → ⊥
-        apart same = let over = leb-false depth (2 ^ e) p in let at : 2 ^ e ≡ 2 ^ n = ap (λ (k : ℕ). 2 ^ k) same in omega (arith, over, at, h)
 
 pub few_digits : (back : ℕ) → back < 2 ^ 16 → digits (back + 1) ≤ 17
 few_digits back lt = few_exponents 17 (back + 1 + 1) 0 (back + 1 + 1) (omega arith) (omega (arith, lt))

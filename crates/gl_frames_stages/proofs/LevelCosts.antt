@@ -1,58 +1,47 @@
 -- What rings, late items and levels of doubling cost at most, and the words of an extreme's rings.
-use Rattle.std.proofs.Common.{◌≡◌, ℕ, zero, suc, ◌+◌, ◌-◌, ◌*◌, ◌^◌, ◌<◌, ◌≤◌, min, Bool, true, false, refl, ap, subst, arith, ◌⊎◌, inl, inr}
+use Rattle.std.proofs.Common.{◌≡◌, ℕ, zero, suc, ◌+◌, ◌-◌, ◌*◌, ◌^◌, ◌<◌, ◌≤◌, min, Bool, true, false, refl, ap, ◌∙◌, subst, arith, ◌⊎◌, inl, inr}
 use Rattle.std.specs.Prelude.{if◌then◌else◌, nat_le}
-use Rattle.std.proofs.Math.Nat.{mul-le-mul_left, mul-le-mul_right, pow-suc}
-use Rattle.std.proofs.Math.Pow.{pow-lt}
+use Rattle.std.proofs.Math.Nat.{mul-le-mul_left, mul-le-mul_right, pow-le-pow_right, pow-suc}
 use Rattle.std.proofs.lemmas.Bool.{cases_lt, le-leb, leb-false, leb-true}
 use Rattle.gl_algebra.proofs.ExponentLemmas.{exponent_covers}
 use Rattle.gl_algebra.specs.Frames.{words_of_doublings}
 use Rattle.gl_algebra.specs.Rings.{digits, least_exponent, ring}
+use Rattle.gl_frames_wire.proofs.ReachLemmas.{few_exponents, from_exponent}
 use Rattle.gl_frames_wire.specs.Reaches.{place_bits}
 use Rattle.gl_wire.specs.Costs.{Cost}
 use Rattle.gl_frames_stages.specs.DelayNets.{cost_of_far, cost_of_far_line, cost_of_late, cost_of_late_line, near_cost}
 use Rattle.gl_frames_stages.specs.DoublingNets.{cost_of_doublings, doublings, gap_of, with_level}
-use Rattle.gl_frames_stages.proofs.CycleLemmas.{few_exponents}
 use Rattle.gl_frames_stages.proofs.DoublingNet.{doublings_done}
 
 -- ---- exponents and rings
 
-from_exponent : (more e depth : ℕ) → e ≤ least_exponent more e depth
-from_exponent zero e depth = omega arith
-from_exponent (suc more) e depth = by (nat_le depth (2 ^ e)) (from_exponent more (suc e) depth)
-  where
-    by : (b : Bool) → suc e ≤ least_exponent more (suc e) depth → e ≤ (if b then e else least_exponent more (suc e) depth)
-    by true rest = omega arith
-    by false rest = omega (arith, rest)
+pub few_places : (back : ℕ) → back ≤ 2 ^ 16 → place_bits back ≤ 17
+few_places back le = few_exponents 17 (back + 1) 1 (back + 1) (omega arith) (omega (arith, le))
 
-pow_grows : (m n : ℕ) → m ≤ n → 2 ^ m ≤ 2 ^ n
-pow_grows m n le = elim (cases_lt m n) [
-  | inl lt ↦ (let p = pow-lt {i = m} {j = n} lt in omega (arith, p))
-  | inr ge ↦ (let e : m ≡ n = omega (arith, le, ge) in let p : 2 ^ m ≡ 2 ^ n = ap (λ (k : ℕ). 2 ^ k) e in omega (arith, p))
-]
-
-pub few_places : (back : ℕ) → back ≤ 2 ^ 16 → place_bits back ≤ 16
-few_places back le = few_exponents 16 back 1 back (omega arith) le
-
-pub place_words : (back : ℕ) → 2 ^ place_bits back ≡ ring back
+-- a ring has more words than the distance that it is read at
+pub place_words : (back : ℕ) → 2 ^ place_bits back ≡ ring (back + 1)
 unfolding ring
 place_words back = refl
 
+-- that of a sum is read at the row which leaves the frame
+pub frame_words : (back : ℕ) → 2 ^ place_bits (back + 1) ≡ ring (back + 2)
+frame_words back = let e : back + 1 + 1 ≡ back + 2 = omega arith in place_words (back + 1) ∙ ap ring e
+
 ring_covers : (depth : ℕ) → depth ≤ ring depth
-ring_covers depth = subst (λ n. depth ≤ n) (place_words depth) (exponent_covers depth 1 depth (omega arith))
+unfolding ring
+ring_covers depth = exponent_covers depth 1 depth (omega arith)
 
 -- a ring has no more words than one that holds more
-words_grow : (x m : ℕ) → x ≤ m → 2 ^ place_bits x ≤ ring m
+words_grow : (x m : ℕ) → x + 1 ≤ m → 2 ^ place_bits x ≤ ring m
+unfolding ring
 words_grow x m le =
     let covers = exponent_covers m 1 m (omega arith) in
-    let few : place_bits x ≤ place_bits m = few_exponents (place_bits m) x 1 x (from_exponent m 1 m) (omega (arith, le, covers)) in
-    subst (λ n. 2 ^ place_bits x ≤ n) (place_words m) (pow_grows (place_bits x) (place_bits m) few)
+    let most : ℕ = least_exponent m 1 m in
+    pow-le-pow_right {n = 2} (omega arith) (few_exponents most (x + 1) 1 (x + 1) (from_exponent m 1 m) (omega (arith, le, covers)))
 
--- the bits of a ring of words that are not wide
-pub ring_bits : (back w : ℕ) → w ≤ 65 → 2 ^ place_bits back * w ≤ 65 * ring back
-ring_bits back w le =
-    let e = ap (λ n. n * w) (place_words back) in
-    let m = mul-le-mul_left (ring back) le in
-    omega (arith, e, m)
+-- the bits of words that are not wide
+pub ring_bits : (words w : ℕ) → w ≤ 65 → words * w ≤ 65 * words
+ring_bits words w le = let m = mul-le-mul_left words le in omega (arith, m)
 
 -- the power of two below the least exponent is below the depth
 exponent_least : (more e depth : ℕ) → e < least_exponent more e depth → 2 ^ (least_exponent more e depth - 1) < depth
@@ -110,11 +99,11 @@ line_registers m few = by (nat_le m 23) refl
     by false p = let bits = few_places (m - 1) (omega (arith, few)) in omega (arith, bits)
 
 pub line_memories : (m : ℕ) → (cost_of_late_line m).memories ≤ ring m
-line_memories m = by (nat_le m 23)
+line_memories m = by (nat_le m 23) refl
   where
-    by : (b : Bool) → (if b then record { nodes = m; registers = m; memories = 0 } else cost_of_far_line m).memories ≤ ring m
-    by true = omega arith
-    by false = words_grow (m - 1) m (omega arith)
+    by : (b : Bool) → nat_le m 23 ≡ b → (if b then record { nodes = m; registers = m; memories = 0 } else cost_of_far_line m).memories ≤ ring m
+    by true p = omega arith
+    by false p = let gt = leb-false m 23 p in words_grow (m - 1) m (omega (arith, gt))
 
 -- ---- levels of doubling
 
@@ -129,14 +118,14 @@ level_nodes gates (suc more) rows all w =
     by true rest n h = omega arith
     by false rest n h = omega (arith, h)
 
-pub level_registers : (gates more rows all w : ℕ) → all ≤ 2 ^ 16 → (cost_of_doublings gates more rows all w).registers ≤ (23 + 4 * w) * doublings more rows all
+pub level_registers : (gates more rows all w : ℕ) → all ≤ 2 ^ 16 → (cost_of_doublings gates more rows all w).registers ≤ (24 + 4 * w) * doublings more rows all
 level_registers gates zero rows all w few = omega arith
 level_registers gates (suc more) rows all w few =
     by (nat_le all rows) (cost_of_doublings gates more (rows + gap_of rows all) all w) (doublings more (rows + gap_of rows all) all)
     (level_registers gates more (rows + gap_of rows all) all w few)
   where
-    by : (b : Bool) (rest : Cost) (n : ℕ) → rest.registers ≤ (23 + 4 * w) * n
-        → (if b then record { nodes = 0; registers = 0; memories = 0 } else with_level gates (gap_of rows all) w rest).registers ≤ (23 + 4 * w) * (if b then 0 else suc n)
+    by : (b : Bool) (rest : Cost) (n : ℕ) → rest.registers ≤ (24 + 4 * w) * n
+        → (if b then record { nodes = 0; registers = 0; memories = 0 } else with_level gates (gap_of rows all) w rest).registers ≤ (24 + 4 * w) * (if b then 0 else suc n)
     by true rest n h = omega arith
     by false rest n h = let bits = few_places (gap_of rows all) (omega (arith, few)) in omega (arith, h, bits)
 
@@ -198,7 +187,7 @@ words_least zero e back le =
 words_least (suc more) e back le =
     let place : suc more + e ≡ more + (e + 1) = omega arith in
     let rest = words_least more (e + 1) back (subst (λ n. back + 1 ≤ 2 ^ n) place le) in
-    let least = ring_covers (min (2 ^ e) (back + 1 - 2 ^ e)) in
+    let least = ring_covers (min (2 ^ e) (back + 1 - 2 ^ e) + 1) in
     let double : 2 ^ (e + 1) ≡ 2 ^ e + 2 ^ e = (let p = pow-suc 2 e in let q : 2 ^ (e + 1) ≡ 2 ^ suc e = ap (λ (k : ℕ). 2 ^ k) (let z : e + 1 ≡ suc e = omega arith in z) in omega (arith, p, q)) in
     omega (arith, rest, least, double)
 
@@ -209,7 +198,6 @@ words_many back many =
     let place : digits back ≡ digits back + 0 = omega arith in
     let words = words_least (digits back) 0 back (subst (λ n. back + 1 ≤ 2 ^ n) place covers) in
     let below = exponent_least (back + 1) 0 (back + 1) (omega (arith, many)) in
-    let grown = pow_grows 10 (digits back - 1) (omega (arith, many)) in
     let one : back + 1 - 1 ≤ words_of_doublings (digits back) 0 back = words in
-    let ten : 1024 ≤ 2 ^ (digits back - 1) = grown in
+    let ten : 2 ^ 10 ≤ 2 ^ (digits back - 1) = pow-le-pow_right {n = 2} (omega arith) (omega (arith, many)) in
     omega (arith, one, below, ten)

@@ -1,8 +1,7 @@
 -- A memory that is written at a place and read before it is a ring; so is one whose addresses are a slot above a place.
-use Rattle.std.proofs.Common.{◌≡◌, ℕ, suc, ◌+◌, ◌-◌, ◌*◌, ◌%◌, ◌^◌, ◌<◌, ◌≤◌, Bool, true, false, refl, sym, ap, ◌∙◌, arith, inl, inr}
+use Rattle.std.proofs.Common.{◌≡◌, ℕ, suc, ◌+◌, ◌*◌, ◌^◌, ◌<◌, Bool, true, false, refl, sym, ap, ◌∙◌, arith}
 use Rattle.std.specs.Prelude.{◌&&◌, if◌then◌else◌, nat_eq}
-use Rattle.std.proofs.Math.Nat.{add-mod_right, mod-eq_of_lt, mod_self}
-use Rattle.std.proofs.lemmas.Bool.{cases_lt, eq-eqb, eqb-true, ne_eqb}
+use Rattle.std.proofs.lemmas.Bool.{eq-eqb, eqb-true, ne_eqb}
 use Rattle.std.proofs.lemmas.Nat.{same_from_place}
 use Rattle.gl_bits.specs.Words.{difference_of, join_of}
 use Rattle.gl_net.specs.declared.node.Bus.{Bus}
@@ -13,20 +12,10 @@ use Rattle.gl_wire_lanes.specs.Memories.{IsHeld}
 use Rattle.gl_frames_wire.specs.RingNets.{lane_with}
 use Rattle.gl_frames_wire.specs.Rings.{IsRing, place_before}
 
--- the place before, also once round
-pub before_is : (w k n : ℕ) → k ≤ 2 ^ w → difference_of w n (k % 2 ^ w) ≡ place_before (2 ^ w) k n
+-- the place before is a difference in its width
+pub before_is : (w k n : ℕ) → difference_of w n k ≡ place_before (2 ^ w) k n
 unfolding difference_of
-before_is w k n le = elim (cases_lt k (2 ^ w)) [
-  | inl lt ↦ ap (λ (j : ℕ). (n + (2 ^ w - j)) % 2 ^ w) (mod-eq_of_lt lt)
-  | inr far ↦ (
-      let whole : k ≡ 2 ^ w = omega (arith, le, far) in
-      let none : k % 2 ^ w ≡ 0 = ap (λ (j : ℕ). j % 2 ^ w) whole ∙ mod_self (2 ^ w) in
-      let all : n + (2 ^ w - 0) ≡ n + 2 ^ w = omega arith in
-      let one : n ≡ n + (2 ^ w - k) = omega (arith, whole) in
-      ap (λ (j : ℕ). (n + (2 ^ w - j)) % 2 ^ w) none ∙ ap (λ (j : ℕ). j % 2 ^ w) all ∙ add-mod_right n (2 ^ w)
-      ∙ ap (λ (j : ℕ). j % 2 ^ w) one
-      )
-]
+before_is w k n = refl
 
 -- two addresses are one where their slots and places are
 same_join : (w a b s p : ℕ) → b < 2 ^ w → p < 2 ^ w → nat_eq (join_of w a b) (join_of w s p) ≡ (nat_eq a s && nat_eq b p)

@@ -1,5 +1,5 @@
 -- How far back rings reach.
-use Rattle.std.specs.Prelude.{ℕ, ◌+◌, ◌≤◌, ◌^◌}
+use Rattle.std.specs.Prelude.{ℕ, ◌+◌, ◌<◌, ◌≤◌, ◌^◌}
 use Rattle.gl_algebra.specs.Cost.{least_exponent}
 use Rattle.gl_frames_wire.specs.declared.reach.Reach.{Reach}
 
@@ -13,8 +13,8 @@ pub record IsPlaceWidth (bits : ℕ) : Type 0 where
   pub some' : 1 ≤ bits
   pub most : bits ≤ 17
 
--- a ring reaches back by at least one row, and at most once round
+-- a ring reaches back by at least one row, and has more words than that
 pub record IsReach (reach : Reach) : Type 0 where
   pub width : IsPlaceWidth reach.bits
   pub some' : 1 ≤ reach.back
-  pub round : reach.back ≤ 2 ^ reach.bits
+  pub inside : reach.back < 2 ^ reach.bits

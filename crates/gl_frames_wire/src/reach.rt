@@ -1,6 +1,6 @@
 //! How far back a ring reaches, and the words that this takes.
 
-ghost use Rattle.std.specs.Prelude.{◌≡◌, ◌+◌, ◌%◌, ◌<◌, ◌≤◌, ◌^◌};
+ghost use Rattle.std.specs.Prelude.{◌≡◌, ◌+◌, ◌<◌, ◌≤◌, ◌^◌};
 ghost use Rattle.gl_bits.specs.Words.{IsWidth};
 ghost use Rattle.gl_frames_wire.specs.Reaches.{IsPlaceWidth, IsReach, place_bits};
 
@@ -17,7 +17,7 @@ pub struct Reach {
 }
 
 impl Reach {
-    /// That of the smallest ring that reaches so many rows back.
+    /// That of the smallest ring that has more words than so many rows.
     pub fn new(back: u32) -> Reach
         requires some { 1 ≤ back }
         requires most { back ≤ 2 ^ 16 }
@@ -60,14 +60,13 @@ pub(crate) fn last_word(bits: u8) -> Word
     word(size + (size - 1), bits + 1)
 }
 
-/// How far back a ring reaches, in the bits of a place: 0 where that is once round.
+/// How far back a ring reaches, in the bits of a place.
 pub(crate) fn back_word(reach: Reach) -> Word
     requires { IsReach reach }
-    ensures bits { result.bits ≡ reach.back % 2 ^ reach.bits }
+    ensures bits { result.bits ≡ reach.back }
     ensures width { result.width ≡ reach.bits }
 {
-    let size = 1u128 << reach.bits;
-    word(u128::from(reach.back) % size, reach.bits)
+    word(u128::from(reach.back), reach.bits)
 }
 
 /// How far back a ring reaches, in the bits of its count.

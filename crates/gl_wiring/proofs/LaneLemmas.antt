@@ -1,8 +1,8 @@
 -- The circuits of groups over direct bodies.
-use Rattle.std.proofs.Common.{◌≡◌, ℕ, zero, suc, ◌+◌, ◌-◌, ◌*◌, ◌<◌, ◌≤◌, ◌^◌, inl, inr, List, [], ◌∷◌, length, Option, Some, None, Bool, true, false, ◌||◌, refl, sym, ap, ◌∙◌, subst, arith, eq-eqb}
-use Rattle.std.specs.Prelude.{◌&&◌, if◌then◌else◌, nat_eq, nat_le, slice_get, slice_index}
+use Rattle.std.proofs.Common.{◌≡◌, ℕ, zero, suc, ◌+◌, ◌-◌, ◌*◌, ◌<◌, ◌≤◌, inl, inr, List, [], ◌∷◌, length, Option, Some, None, Bool, true, false, ◌||◌, refl, sym, ap, ◌∙◌, subst, arith, eq-eqb}
+use Rattle.std.specs.Prelude.{◌&&◌, if◌then◌else◌, nat_eq, slice_get, slice_index}
 use Rattle.std.specs.List.{All, sum}
-use Rattle.std.proofs.lemmas.Bool.{cases_lt, eqb-true, le-leb}
+use Rattle.std.proofs.lemmas.Bool.{cases_lt, eqb-true}
 use Rattle.std.proofs.lemmas.List.{length-map}
 use Rattle.std.proofs.lemmas.List.Sums.{sum_by-cons}
 use Rattle.std.proofs.lemmas.Option.{slice_get_within}
@@ -14,13 +14,13 @@ use Rattle.gl_algebra.specs.declared.figures.Figures.{Figures}
 use Rattle.gl_algebra.specs.declared.node.PlanNode.{PlanNode}
 use Rattle.gl_algebra.specs.declared.node.PlanNode.TheVariants.{Aggregate}
 use Rattle.gl_algebra.specs.Columns.{kind_of_agg, kind_of_column}
-use Rattle.gl_algebra.specs.Cost.{least_exponent}
 use Rattle.gl_algebra.specs.Direct.{form_of, is_direct}
 use Rattle.gl_algebra.specs.FigureTable.{delay_of_aggs, figures_of, group_gap, groups_over, stride_of}
 use Rattle.gl_algebra.specs.Fits.{IsPlan}
 use Rattle.gl_algebra.specs.Laws.{FollowsTables}
 use Rattle.gl_algebra.specs.Results.{Inputs, IsPlanResult, given}
 use Rattle.gl_algebra.specs.Shapes.{Shape, kinds_of, shape_of}
+use Rattle.gl_frames_wire.proofs.ReachLemmas.{few_exponents, from_exponent}
 use Rattle.gl_net.specs.declared.node.Bit.{Bit}
 use Rattle.gl_net.specs.declared.node.Bus.{Bus}
 use Rattle.gl_net.specs.Net.{Net, Run, IsRun, Keeps}
@@ -78,33 +78,11 @@ use Rattle.gl_wiring.proofs.TotalCosts.{delay_some, delays_within}
 
 -- ---- the bits of a slot's number
 
-exponent_within : (more exponent slots : ℕ) → exponent ≤ 8 → slots ≤ 256 → least_exponent more exponent slots ≤ 8
-exponent_within zero e slots low few = low
-exponent_within (suc more) e slots low few = elim (cases_lt e 8) [
-  | inl l ↦ by (nat_le slots (2 ^ e)) (exponent_within more (suc e) slots (omega (arith, l)) few)
-  | inr l ↦
-      (let last : e ≡ 8 = omega (arith, l, low) in
-      let covers : nat_le slots (2 ^ e) ≡ true = ap (λ x. nat_le slots (2 ^ x)) last ∙ le-leb slots 256 few in
-      subst (λ (x : Bool). (if x then e else least_exponent more (suc e) slots) ≤ 8) (sym covers) low)
-]
-  where
-    by : (b : Bool) → least_exponent more (suc e) slots ≤ 8 → (if b then e else least_exponent more (suc e) slots) ≤ 8
-    by true rest = low
-    by false rest = rest
-
-exponent_some : (more exponent slots : ℕ) → exponent ≤ least_exponent more exponent slots
-exponent_some zero e slots = omega arith
-exponent_some (suc more) e slots = by (nat_le slots (2 ^ e)) (exponent_some more (suc e) slots)
-  where
-    by : (b : Bool) → suc e ≤ least_exponent more (suc e) slots → e ≤ (if b then e else least_exponent more (suc e) slots)
-    by true rest = omega arith
-    by false rest = omega (arith, rest)
-
 pub some_bits : (slots : ℕ) → 1 ≤ bits_of_slots slots
-some_bits slots = exponent_some slots 1 slots
+some_bits slots = from_exponent slots 1 slots
 
 pub few_bits : (slots : ℕ) → slots ≤ 256 → bits_of_slots slots ≤ 8
-few_bits slots few = exponent_within slots 1 slots (omega arith) few
+few_bits slots few = few_exponents 8 slots 1 slots (omega arith) few
 
 -- ---- keys of one width
 

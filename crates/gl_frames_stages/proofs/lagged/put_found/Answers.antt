@@ -25,6 +25,7 @@ returns c =
     let lines = c.args.lines in
     let value = c.args.value in
     let fits = c.requires.reach in
+    let inside = fits.inside in
     let count = c.in_ok-count.ensures in
     let cut = c.in_ok-place.ensures in
     let ring = c.in_ok-word.ensures in
@@ -50,7 +51,7 @@ returns c =
           ∙ sym (lags_given (2 ^ reach.bits) reach.back (own_ends (streams_by run lines.valid lines.eos)) (streams_by run lines.valid lines.eos)
           (λ t. run.at t value.node) (λ t. run.at t w.node) (λ t. nat_le reach.back (run.at t b.node))
           (gives run lines.valid lines.eos p b (λ t. run.at t value.node) (λ t. run.at t w.node) (2 ^ reach.bits) reach.back
-          (pow_pos reach.bits) fits.some' fits.round (ring.ring run at_ring)
+          (pow_pos reach.bits) fits.some' (omega (arith, inside)) (ring.ring run at_ring)
           (count.counts run at_count (λ t. run.at t value.node))
           (λ t. cut.value run at_cut t ∙ cut_low reach.bits (run.at t b.node) fits.width.some')) d v);
     }

@@ -19,9 +19,9 @@ pub put_at_most-requires-clause-fits : goal.put_at_most-requires-clause-fits
 put_at_most-requires-clause-fits c =
     let bits : ℕ = c.new-reach.result.bits in
     let w : 2 ^ c.in_ok-count.count.width ≡ 2 ^ (bits + 1) = ap (λ (n : ℕ). 2 ^ n) c.in_ok-count.ensures.width in
-    let round = c.new-reach.ensures.fits.round in
+    let inside = c.new-reach.ensures.fits.inside in
     let back = c.new-reach.ensures.back in
-    omega (arith, w, twice bits, round, back)
+    omega (arith, w, twice bits, inside, back)
 
 pub returns : goal.returns
 returns c =
@@ -32,10 +32,10 @@ returns c =
     let count = c.in_ok-count.ensures in
     let rows = c.in_ok-rows.ensures in
     let out = c.in_ok-out.ensures in
-    let round = reach.fits.round in
+    let inside = reach.fits.inside in
     let is = reach.back in
     let place = reach.bits in
-    let few : back ≤ 2 ^ bits = omega (arith, round, is) in
+    let few : back ≤ 2 ^ bits = omega (arith, inside, is) in
     record {
       keeps = keeps_then _ c.put_count.new.net _ count.keeps (keeps_then _ c.put_at_most.new.net _ rows.keeps out.keeps);
       cost = record {

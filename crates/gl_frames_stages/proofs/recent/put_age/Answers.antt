@@ -13,9 +13,9 @@ use Rattle.gl_frames_stages.proofs.recent.put_age.Goals as goal
 pub number_word-requires-clause-fits : goal.number_word-requires-clause-fits
 number_word-requires-clause-fits c =
     let bits : ℕ = c.new-reach.result.bits in
-    let round = c.new-reach.ensures.fits.round in
+    let inside = c.new-reach.ensures.fits.inside in
     let back = c.new-reach.ensures.back in
-    omega (arith, twice bits, round, back)
+    omega (arith, twice bits, inside, back)
 
 pub binary-requires-clause-widths : goal.binary-requires-clause-widths
 binary-requires-clause-widths c = c.in_ok-least.ensures.width ∙ c.number_word.ensures.width ∙ sym c.in_ok-count.ensures.width
@@ -32,7 +32,7 @@ returns c =
     let gate = c.in_ok-old.ensures in
     let b = c.in_ok-count.count in
     let place = reach.bits in
-    let few : back ≤ 2 ^ bits = (let round = reach.fits.round in let is = reach.back in omega (arith, round, is)) in
+    let few : back ≤ 2 ^ bits = (let inside = reach.fits.inside in let is = reach.back in omega (arith, inside, is)) in
     record {
       keeps = keeps_then _ c.either.new.net _ fresh.keeps (keeps_then _ c.put_count.new.net _ count.keeps (keeps_then _ c.constant.new.self _ least.keeps gate.keeps));
       cost = record {

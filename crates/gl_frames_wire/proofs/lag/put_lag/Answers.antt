@@ -18,6 +18,7 @@ pub returns : goal.returns
 returns c = rw c.note_bus.ensures (
     let reach = c.args.reach in
     let fits = c.requires.reach in
+    let inside = fits.inside in
     let count = c.in_ok-count.ensures in
     let cut = c.in_ok-place.ensures in
     let lag = c.in_ok-lag.ensures in
@@ -37,7 +38,7 @@ returns c = rw c.note_bus.ensures (
           let at_count = cut.keeps.runs run at_cut in
           lagged run c.args.valid c.args.eos b c.args.value lag.given c.in_ok-lag.lag (2 ^ reach.bits) reach.back
           (gives run c.args.valid c.args.eos p b (λ t. run.at t c.args.value.node) (λ t. run.at t lag.given.node) (2 ^ reach.bits) reach.back
-          (pow_pos reach.bits) fits.some' fits.round (lag.ring run r)
+          (pow_pos reach.bits) fits.some' (omega (arith, inside)) (lag.ring run r)
           (count.counts run at_count (λ t. run.at t c.args.value.node))
           (λ t. cut.value run at_cut t ∙ cut_low reach.bits (run.at t b.node) fits.width.some'))
           (lag.told run r) d v;

@@ -26,5 +26,5 @@ returns c =
           before.value run r t
           ∙ ap (λ w. difference_of w (run.at t place.node) (run.at t c.in_ok-back.back.node)) c.requires.width
           ∙ ap (difference_of reach.bits (run.at t place.node)) (back.value run (before.keeps.runs run r) t ∙ c.back_word.ensures.bits)
-          ∙ before_is reach.bits reach.back (run.at t place.node) c.requires.reach.round;
+          ∙ before_is reach.bits reach.back (run.at t place.node);
     }
