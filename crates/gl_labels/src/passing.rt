@@ -16,6 +16,22 @@ fn beside(table: &Table, left: usize, right: usize, column: usize) -> (usize, us
     }
 }
 
+// The column that an operand is.
+fn column_in(operand: &Operand) -> Option<usize> {
+    match operand {
+        Operand::Column(at) => Some(*at as usize),
+        Operand::Literal(_, _) => None,
+    }
+}
+
+// The column that an item of a node of frames is as it stands.
+fn own_column(item: &PlanFrame) -> Option<usize> {
+    match item {
+        PlanFrame::Own(operand) => column_in(operand),
+        PlanFrame::Lag(_, _) | PlanFrame::Over { .. } => None,
+    }
+}
+
 // The node below, and the place there, of a node's column, where it is that column as it stands.
 fn column_below(table: &Table, node: &PlanNode, column: usize) -> Option<(usize, usize)> {
     match node {
@@ -23,14 +39,14 @@ fn column_below(table: &Table, node: &PlanNode, column: usize) -> Option<(usize,
         PlanNode::Compute { child, .. } | PlanNode::Select { child, .. } => {
             Some((child.number(), column))
         }
-        PlanNode::Project { child, items } => match items.as_slice().get(column)? {
-            Operand::Column(at) => Some((child.number(), *at as usize)),
-            Operand::Literal(_, _) => None,
-        },
-        PlanNode::Frames { child, items } => match items.as_slice().get(column)? {
-            PlanFrame::Own(Operand::Column(at)) => Some((child.number(), *at as usize)),
-            _ => None,
-        },
+        PlanNode::Project { child, items } => {
+            let at = column_in(items.as_slice().get(column)?)?;
+            Some((child.number(), at))
+        }
+        PlanNode::Frames { child, items } => {
+            let at = own_column(items.as_slice().get(column)?)?;
+            Some((child.number(), at))
+        }
         PlanNode::Union { left, .. } => Some((left.number(), column)),
         PlanNode::Beside { left, right } => {
             Some(beside(table, left.number(), right.number(), column))
