@@ -199,5 +199,5 @@ words_many back many =
     let words = words_least (digits back) 0 back (subst (λ n. back + 1 ≤ 2 ^ n) place covers) in
     let below = exponent_least (back + 1) 0 (back + 1) (omega (arith, many)) in
     let one : back + 1 - 1 ≤ words_of_doublings (digits back) 0 back = words in
-    let ten : 2 ^ 10 ≤ 2 ^ (digits back - 1) = pow-le-pow_right {n = 2} (omega arith) (omega (arith, many)) in
+    let ten : 2 ^ 10 ≤ 2 ^ (digits back - 1) = pow-le-pow_right {n = 2} (omega arith) {i = 10} {j = digits back - 1} (omega (arith, many)) in
     omega (arith, one, below, ten)

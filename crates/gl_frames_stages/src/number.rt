@@ -19,7 +19,7 @@ use gl_wire::later;
 // One more than a count, in 32 bits.
 fn put_one_more(net: &mut NetBuilder, count: Bus) -> Result<Bus, Memory>
     requires count { IsBus net.old count }
-    requires width { count.width ≤ 17 }
+    requires width { count.width ≤ 18 }
     ensures { IfOk result (IsOneMoreIn net.old net.new count) }
 {
     let high = net.constant(number_word(0, 32 - count.width))?;
@@ -32,7 +32,7 @@ fn put_one_more(net: &mut NetBuilder, count: Bus) -> Result<Bus, Memory>
 // One more than a count, or one more than so many where the count is at least so many.
 fn put_at_most(net: &mut NetBuilder, count: Bus, back: u32) -> Result<Bus, Memory>
     requires count { IsBus net.old count }
-    requires width { count.width ≤ 17 }
+    requires width { count.width ≤ 18 }
     requires fits { back < 2 ^ count.width }
     requires back { back < 2 ^ 16 }
     ensures { IfOk result (IsAtMostIn net.old net.new count back) }
