@@ -14,7 +14,8 @@ use Rattle.gl_algebra.specs.declared.node.PlanAgg.{PlanAgg}
 use Rattle.gl_algebra.specs.declared.node.PlanNode.{PlanNode}
 use Rattle.gl_algebra.specs.declared.node.PlanNode.TheVariants.{Aggregate, Group}
 use Rattle.gl_algebra.specs.Columns.{AggFits, kind_of_agg, kind_of_column}
-use Rattle.gl_algebra.specs.Cost.{lean_of, lean_of_spacer, ring}
+use Rattle.gl_algebra.specs.Cost.{lean_of, lean_of_spacer}
+use Rattle.gl_algebra.specs.Rings.{ring}
 use Rattle.gl_algebra.specs.Direct.{totalling, form_of}
 use Rattle.gl_algebra.specs.FigureTable.{delay_of_aggs, figures_of, group_gap}
 use Rattle.gl_algebra.specs.Fits.{IsPlan}

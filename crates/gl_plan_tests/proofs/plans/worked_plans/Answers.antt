@@ -1,7 +1,8 @@
 use Rattle.std.proofs.Common.{refl}
-use Rattle.gl_algebra.specs.Cost.{keys_of, lean_of, ring, store_of}
+use Rattle.gl_algebra.specs.Cost.{keys_of, lean_of, store_of}
 use Rattle.gl_algebra.specs.Direct.{form_of}
 use Rattle.gl_algebra.specs.FigureTable.{figures_of}
+use Rattle.gl_algebra.specs.Rings.{ring}
 use Rattle.gl_algebra.specs.Roots.{of_further, root_figures, spare_at}
 use Rattle.gl_algebra.specs.Nodewise.{nodewise, value_to_depth}
 use Rattle.gl_algebra.specs.Shapes.{shape_of}
