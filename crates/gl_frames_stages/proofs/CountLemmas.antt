@@ -81,9 +81,9 @@ module _ (kinds : List Kind) (all : All IsKind kinds) where
       let most = extreme_within 12 (width x + 1) back 9 (width x + 1) (omega arith) (omega (arith, w)) lt (omega arith) (omega (arith, w)) in
       record { nodes = most.nodes; registers = (let m = most.registers in omega (arith, m)); memories = most.memories }
 
-  -- a divider of so many digits
-  divider_within : (n : ℕ) → n ≤ 96 → n * (n + 2 * 32 + 1) ≤ 161 * n
-  divider_within n few = let m = mul-le-mul_left n (let z : n + 2 * 32 + 1 ≤ 161 = omega (arith, few) in z) in omega (arith, m)
+  -- a divider of so many digits by a number of so many bits
+  divider_within : (n b : ℕ) → n ≤ 96 → b ≤ 32 → n * (n + 2 * b + 1) ≤ 161 * n
+  divider_within n b few narrow = let m = mul-le-mul_left n (let z : n + 2 * b + 1 ≤ 161 = omega (arith, few, narrow) in z) in omega (arith, m)
 
   over_within : (agg : PlanFrameAgg) (by back : Option ℕ) → FrameAggFits kinds agg → BackFits back
       → IsItemWithin (cost_of_item kinds (Over agg by back)) (weight_of_frame kinds (Over agg by back)) (words_over agg by back)
@@ -93,7 +93,7 @@ module _ (kinds : List Kind) (all : All IsKind kinds) where
   over_within (Max x) by None fits rows = let w = operand_width kinds x all fits in record { nodes = omega arith; registers = omega (arith, w); memories = omega arith }
   over_within (Avg x) by None fits rows =
       let w = operand_width kinds x all fits.0 in
-      let m = divider_within (width x + 32) (omega (arith, w)) in
+      let m = divider_within (width x + 32) 32 (omega (arith, w)) (omega arith) in
       record { nodes = omega arith; registers = omega (arith, w, m); memories = omega arith }
   over_within (LastValue x) by None fits rows = let w = operand_width kinds x all fits in record { nodes = omega arith; registers = omega (arith, w); memories = omega arith }
   over_within Count None (Some back) fits rows =
@@ -115,7 +115,7 @@ module _ (kinds : List Kind) (all : All IsKind kinds) where
       let w = operand_width kinds x all fits.0 in
       let bits = few_places (back + 1) (omega (arith, rows)) in
       let few = few_digits back (omega (arith, rows)) in
-      let m = divider_within (width x + digits (back + 1)) (omega (arith, w, few)) in
+      let m = divider_within (width x + digits (back + 1)) (digits (back + 1)) (omega (arith, w, few)) (omega (arith, few)) in
       let stored = ring_bits (2 ^ place_bits (back + 1)) (width x + 1) (omega (arith, w)) in
       let words = frame_words back in
       let spread : 2 ^ place_bits (back + 1) * (width x + 1) ≡ 2 ^ place_bits (back + 1) * width x + 2 ^ place_bits (back + 1) = omega arith in

@@ -1,6 +1,7 @@
 -- The average of the last rows, from a sum and a count of its own width.
 use Rattle.std.proofs.Common.{◌≡◌, ℕ, suc, ◌+◌, ◌-◌, ◌%◌, ◌^◌, ◌<◌, ◌≤◌, List, [], ◌∷◌, map, length, Some, Bool, true, false, refl, sym, ap, ◌∙◌, arith}
 use Rattle.std.specs.Prelude.{ℤ, pos, ◌+ℤ◌, filter, fold, if◌then◌else◌}
+use Rattle.std.proofs.Math.Nat.{mod-eq_of_lt, mod-le}
 use Rattle.std.proofs.lemmas.Int.{ints}
 use Rattle.std.proofs.lemmas.List.{length-drop, length-map}
 use Rattle.gl_values.proofs.Totalling.{words_sum}
@@ -49,6 +50,16 @@ module _ {B : Type 0} (kind : Kind) (v : B → ℕ) (p : B → Bool) where
 
   few_rows : (n : ℕ) (rows : List B) → length (last_ones n rows) ≤ n
   few_rows n rows = let e = length-drop (length rows - n) rows in omega (arith, e)
+
+  -- a number of as many bits as that of all rows of a frame has room for that of those that pass
+  pub few_counted : (b k : ℕ) (rows : List B) → suc k < 2 ^ b → count_of (frame_of (Some k) p rows) % 2 ^ b ≡ count_of (frame_of (Some k) p rows)
+  unfolding count_of
+  few_counted b k rows fits =
+      let a = fewer_pass (last_ones (suc k) rows) in
+      let c = few_rows (suc k) rows in
+      let n : ℕ = length (filter p (last_ones (suc k) rows)) in
+      let m : n % 2 ^ 32 ≤ n = mod-le n (2 ^ 32) in
+      mod-eq_of_lt (omega (arith, a, c, m, fits))
 
   pub average_from : (b k : ℕ) (rows : List B) → 1 ≤ width_of kind → 1 ≤ b → suc k < 2 ^ b → suc k < 2 ^ 32 → map (λ r. v r % 2 ^ width_of kind) rows ≡ map v rows
       → word_of (width_of kind) (quotient_of (wrapped kind (width_of kind + b) (sum_of_numbers kind (map v (frame_of (Some k) p rows)))) (count_of (frame_of (Some k) p rows)))

@@ -26,10 +26,10 @@ cost_of_frame_number back = record {
   memories = 2 ^ place_bits (back + 1);
 }
 
--- an operand, its word where the row passes, and the sum of its numbers, beside the number of rows
+-- an operand, its word where the row passes, and the sum of its numbers, beside the number of rows and a cut of it
 abbrev pub cost_of_frame_fraction : ℕ → ℕ → Cost
 cost_of_frame_fraction width back = record {
-  nodes = 93;
+  nodes = 95;
   registers = 2 * place_bits (back + 1) + 110 + 2 * width + 3 * (width + digits (back + 1));
   memories = 2 ^ place_bits (back + 1) * width + 2 ^ place_bits (back + 1);
 }
@@ -37,9 +37,9 @@ cost_of_frame_fraction width back = record {
 -- the fraction, its division, and a cut
 abbrev pub cost_of_frame_average : ℕ → ℕ → Cost
 cost_of_frame_average width back = record {
-  nodes = (cost_of_frame_fraction width back).nodes + (cost_of_quotient (width + digits (back + 1)) 32).nodes + 2;
+  nodes = (cost_of_frame_fraction width back).nodes + (cost_of_quotient (width + digits (back + 1)) (digits (back + 1))).nodes + 2;
   registers = (cost_of_frame_fraction width back).registers
-      + (cost_of_quotient (width + digits (back + 1)) 32).registers;
+      + (cost_of_quotient (width + digits (back + 1)) (digits (back + 1))).registers;
   memories = (cost_of_frame_fraction width back).memories;
 }
 
@@ -56,7 +56,7 @@ pub record IsFrameFraction (old new : Net) (input : Input) (by : Option ℕ) (op
   pub top : IsBus new f.top
   pub top_width : f.top.width ≡ width_of (kind_of_operand input.source.kinds.now operand) + digits (back + 1)
   pub bottom : IsBus new f.bottom
-  pub bottom_width : f.bottom.width ≡ 32
+  pub bottom_width : f.bottom.width ≡ digits (back + 1)
   pub values : (run : Run) → IsRun new run → (t : ℕ)
       → value_in operand (rows_by run input (suc t)) % 2 ^ width_of (kind_of_operand input.source.kinds.now operand)
       ≡ value_in operand (rows_by run input (suc t))

@@ -59,8 +59,8 @@ fn put_frame_number(
     }
 }
 
-// The sum of the numbers of the rows of a frame that pass, in the bits that it may take, and how
-// many there are.
+// The sum of the numbers of the rows of a frame that pass, and how many there are, each in the bits
+// that it may take.
 fn put_frame_fraction(
     net: &mut NetBuilder,
     input: Input,
@@ -78,9 +78,11 @@ fn put_frame_fraction(
     let kind = kind_of_operand(input.source.kinds, &operand);
     let value = put_operand(net, input.source, operand)?;
     let masked = put_masked(net, input, filter, value)?;
-    let width = value.width + digits_of_rows(back);
+    let bits = digits_of_rows(back);
+    let width = value.width + bits;
     let top = put_wide_sum(net, input.lines, Reach::new(back + 1), masked, kind, width)?;
-    let bottom = put_frame_number(net, input, filter, back)?;
+    let number = put_frame_number(net, input, filter, back)?;
+    let bottom = low_bits(net, number, bits)?;
     Ok(Fraction { top, bottom })
 }
 

@@ -66,7 +66,7 @@ returns c =
     let wide : f.top.width ≡ w + b = fraction.top_width in
     let low : f.top.width - c.digits_of_rows.result ≡ w = omega (arith, wide, bits) in
     let some : 1 ≤ w = kind_some _ (operand_kind input.source.kinds.now c.args.operand c.requires.kinds c.requires.fits) in
-    let divider : CostsAtMost mid divided (cost_of_quotient (w + b) 32) =
+    let divider : CostsAtMost mid divided (cost_of_quotient (w + b) b) =
     subst (λ (m : ℕ). CostsAtMost mid divided (cost_of_quotient (w + b) m)) fraction.bottom_width
     (subst (λ (n : ℕ). CostsAtMost mid divided (cost_of_quotient n f.bottom.width)) wide quotient.cost) in
     record {
