@@ -46,9 +46,9 @@ pub struct KeptTexts {
 impl KeptTexts {
     /// No text, and no gap.
     pub fn new(alloc: Global) -> KeptTexts
-        ensures schema { result.schema ≡ [] }
-        ensures query { result.query ≡ [] }
-        ensures tuples { result.tuples ≡ [] }
+        ensures schema { result.schema.items ≡ [] }
+        ensures query { result.query.items ≡ [] }
+        ensures tuples { result.tuples.items ≡ [] }
         ensures gap { result.gap ≡ 0 }
     {
         KeptTexts {
