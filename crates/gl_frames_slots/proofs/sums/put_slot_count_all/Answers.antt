@@ -1,0 +1,53 @@
+use Rattle.std.proofs.Common.{◌≡◌, suc, ◌*◌, ◌^◌, None, map, ap, arith, sym, ◌∙◌}
+use Rattle.std.specs.Prelude.{if◌then◌else◌}
+use Rattle.gl_algebra.specs.Results.{counts_in}
+use Rattle.gl_values.specs.Results.{Row}
+use Rattle.gl_values.specs.Totals.{count_of, sum_total}
+use Rattle.gl_frames.specs.Frames.{frame_of}
+use Rattle.gl_frames.specs.Laws.{masked}
+use Rattle.gl_frames.proofs.SumLemmas.{counts_sum, filters_mask}
+use Rattle.gl_net.proofs.Determined.{keeps_then}
+use Rattle.gl_frames_stages.specs.Columns.{carried_by}
+use Rattle.gl_frames_slots.specs.Items.{rows_in}
+use Rattle.gl_frames_slots.proofs.ItemsNet.{has_lines, rows_kept, tells_as, tells_made}
+use Rattle.gl_frames_slots.proofs.sums.put_slot_count_all.Goals as goal
+
+pub put_masked-requires-clause-input : goal.put_masked-requires-clause-input
+put_masked-requires-clause-input c = has_lines c.args.net.now c.constant.new.self c.args.input c.in_ok-one.ensures.keeps c.requires.input
+
+pub put_slot_summed-requires-clause-rows : goal.put_slot_summed-requires-clause-rows
+put_slot_summed-requires-clause-rows c =
+    rows_kept _ _ c.args.input.rows (keeps_then _ c.constant.new.self _ c.in_ok-one.ensures.keeps c.in_ok-masked.ensures.keeps) c.requires.input.rows
+
+pub returns : goal.returns
+returns c =
+    let input = c.args.input in
+    let slot = input.rows.slot.width in
+    let p = counts_in c.args.filter in
+    let m = c.in_ok-masked.masked in
+    let one = c.in_ok-one.ensures in
+    let masks = c.in_ok-masked.ensures in
+    let sum = c.in_ok-sum.ensures in
+    let wide : m.width ≡ 32 = masks.same_width ∙ one.width ∙ c.small_word.ensures.width in
+    let own = ap (λ n. 2 ^ slot * n) wide in
+    record {
+      keeps = keeps_then _ c.constant.new.self _ one.keeps (keeps_then _ c.put_masked.new.net _ masks.keeps sum.keeps);
+      cost = record {
+        nodes = omega (arith, one.size, masks.cost.nodes, sum.cost.nodes);
+        registers = omega (arith, one.register_bits, masks.cost.registers, sum.cost.registers, wide);
+        memories = omega (arith, one.memory_bits, masks.cost.memories, sum.cost.memories, own);
+      };
+      bus = sum.bus;
+      same_width = sum.same_width ∙ wide;
+      tells = λ run r ends told counts.
+          let at_masks = sum.keeps.runs run r in
+          let at_one = masks.keeps.runs run at_masks in
+          tells_as run input.rows ends 1 (λ rows. sum_total m.width (map (masked (λ (row : Row). 1) p) rows)) (λ rows. count_of (frame_of None p rows)) (rows_in run input)
+          (carried_by run c.in_ok-sum.sum)
+          (λ rows.
+          ap (λ n. sum_total n (map (masked (λ (row : Row). 1) p) rows)) wide ∙ sym (filters_mask 32 None (λ (row : Row). 1) p rows)
+          ∙ sym (counts_sum (frame_of None p rows)))
+          (tells_made run input.rows ends 1 (masked (λ (row : Row). 1) p) (sum_total m.width) (rows_in run input) (carried_by run m) (carried_by run c.in_ok-sum.sum)
+          (λ t. masks.masks run at_masks t ∙ ap (λ n. if p (rows_in run input (suc t)) then n else 0) (one.value run at_one (suc t) ∙ c.small_word.ensures.bits))
+          (sum.tells run r ends told));
+    }

@@ -1,0 +1,116 @@
+-- What items over the rows of each slot cost at most, for slots of so many bits.
+use Rattle.std.specs.Prelude.{ℕ, ◌+◌, ◌-◌, ◌*◌, ◌^◌, List, Option, Some, None, sum_by}
+use Rattle.gl_algebra.specs.Columns.{kind_of_frame, kind_of_operand}
+use Rattle.gl_algebra.specs.Frames.{delay_of_frame}
+use Rattle.gl_algebra.specs.Rings.{digits}
+use Rattle.gl_algebra.specs.declared.node.PlanFrame.{PlanFrame}
+use Rattle.gl_algebra.specs.declared.node.PlanFrame.TheVariants.{Lag, Over, Own}
+use Rattle.gl_algebra.specs.declared.node.PlanFrameAgg.{PlanFrameAgg}
+use Rattle.gl_algebra.specs.declared.node.PlanFrameAgg.TheVariants.{Avg, Count, LastValue, Max, Min, Sum}
+use Rattle.gl_values.specs.Kinds.{width_of}
+use Rattle.gl_values.specs.declared.kind.Kind.{Kind}
+use Rattle.gl_frames_stages.specs.DelayNets.{cost_of_late}
+use Rattle.gl_frames_stages.specs.Framing.{cost_of_own}
+use Rattle.gl_frames_wire.specs.Reaches.{place_bits}
+use Rattle.gl_totals.specs.Costs.{cost_of_quotient}
+use Rattle.gl_wire.specs.Costs.{Cost, nodes_alone}
+
+-- an operand, a lag by slots of so many bits, and a choice of its word
+abbrev pub cost_of_slot_lag : ℕ → ℕ → ℕ → Cost
+cost_of_slot_lag slot width back = record {
+  nodes = 14;
+  registers = 1 + width;
+  memories = 2 ^ (slot + place_bits back) * width;
+}
+
+-- an operand, its word where the row passes, and the sum of a frame
+abbrev pub cost_of_slot_sum : ℕ → ℕ → ℕ → Cost
+cost_of_slot_sum slot width back = record {
+  nodes = 38;
+  registers = 5 + 2 * slot + 5 * width;
+  memories = 2 ^ (slot + place_bits (back + 1)) * width + 2 ^ slot * width;
+}
+
+-- an operand, its word where the row passes, and a sum of all
+abbrev pub cost_of_slot_all : ℕ → ℕ → Cost
+cost_of_slot_all slot width = record { nodes = 16; registers = 2 * width; memories = 2 ^ slot * width }
+
+-- what is made of a count, at most so many rows
+abbrev pub cost_of_slot_number : Cost
+cost_of_slot_number = record { nodes = 9; registers = 32; memories = 0 }
+
+-- the sum of the bits of a frame, in 32 bits
+abbrev pub cost_of_slot_passing : ℕ → ℕ → Cost
+cost_of_slot_passing slot back = record {
+  nodes = 45;
+  registers = 103 + 2 * slot;
+  memories = 2 ^ (slot + place_bits (back + 1)) + 2 ^ slot * 32;
+}
+
+-- an operand, its word where the row passes, and the sum of its numbers, beside the number of rows and a cut of it
+abbrev pub cost_of_slot_fraction : ℕ → ℕ → ℕ → Cost
+cost_of_slot_fraction slot width back = record {
+  nodes = 95;
+  registers = 108 + 4 * slot + 2 * width + 3 * (width + digits (back + 1));
+  memories = 2 ^ (slot + place_bits (back + 1)) * width + 2 ^ slot * (width + digits (back + 1))
+      + (cost_of_slot_passing slot back).memories;
+}
+
+-- the fraction, its division, and a cut
+abbrev pub cost_of_slot_average : ℕ → ℕ → ℕ → Cost
+cost_of_slot_average slot width back =
+    let division = cost_of_quotient (width + digits (back + 1)) (digits (back + 1)) in
+    record {
+      nodes = (cost_of_slot_fraction slot width back).nodes + division.nodes + 2;
+      registers = (cost_of_slot_fraction slot width back).registers + division.registers;
+      memories = (cost_of_slot_fraction slot width back).memories;
+    }
+
+-- two operands, a gate, the last value and a register
+abbrev pub cost_of_slot_last : ℕ → ℕ → Cost
+cost_of_slot_last slot width = record { nodes = 14; registers = 2 * width; memories = 2 ^ slot * width }
+
+-- a count of the last rows, of all of them or of those that pass
+abbrev pub cost_of_slot_count : ℕ → Option ℕ → ℕ → Cost
+cost_of_slot_count slot None back = cost_of_slot_number
+cost_of_slot_count slot (Some column) back = cost_of_slot_passing slot back
+
+-- a sum, a number of rows in 32 bits, an average, or a last value
+abbrev pub cost_of_slot_over : ℕ → List Kind → PlanFrameAgg → Option ℕ → Option ℕ → Cost
+cost_of_slot_over slot kinds (Sum operand) by (Some back) =
+    cost_of_slot_sum slot (width_of (kind_of_operand kinds operand)) back
+cost_of_slot_over slot kinds (Sum operand) by None = cost_of_slot_all slot (width_of (kind_of_operand kinds operand))
+cost_of_slot_over slot kinds Count by (Some back) = cost_of_slot_count slot by back
+cost_of_slot_over slot kinds Count by None = cost_of_slot_all slot 32
+cost_of_slot_over slot kinds (Avg operand) by (Some back) =
+    cost_of_slot_average slot (width_of (kind_of_operand kinds operand)) back
+cost_of_slot_over slot kinds (Avg operand) by None = nodes_alone 0
+cost_of_slot_over slot kinds (Min operand) by back = nodes_alone 0
+cost_of_slot_over slot kinds (Max operand) by back = nodes_alone 0
+cost_of_slot_over slot kinds (LastValue operand) None back = cost_of_own (width_of (kind_of_operand kinds operand))
+cost_of_slot_over slot kinds (LastValue operand) (Some column) None =
+    cost_of_slot_last slot (width_of (kind_of_operand kinds operand))
+cost_of_slot_over slot kinds (LastValue operand) (Some column) (Some back) = nodes_alone 0
+
+-- what an item costs at most, as late as it is
+abbrev pub cost_of_slot_item : ℕ → List Kind → PlanFrame → Cost
+cost_of_slot_item slot kinds (Own operand) = cost_of_own (width_of (kind_of_operand kinds operand))
+cost_of_slot_item slot kinds (Lag operand back) = cost_of_slot_lag slot (width_of (kind_of_operand kinds operand)) back
+cost_of_slot_item slot kinds (Over agg by back) = cost_of_slot_over slot kinds agg by back
+
+-- so many cycles behind each row
+abbrev pub cost_of_slot_item_late : ℕ → List Kind → ℕ → PlanFrame → Cost
+cost_of_slot_item_late slot kinds cycles item =
+    let late = cost_of_late (cycles - delay_of_frame kinds item) (width_of (kind_of_frame kinds item)) in
+    record {
+      nodes = (cost_of_slot_item slot kinds item).nodes + late.nodes;
+      registers = (cost_of_slot_item slot kinds item).registers + late.registers;
+      memories = (cost_of_slot_item slot kinds item).memories + late.memories;
+    }
+
+abbrev pub cost_of_slot_items : ℕ → List Kind → ℕ → List PlanFrame → Cost
+cost_of_slot_items slot kinds cycles items = record {
+  nodes = sum_by (λ item. (cost_of_slot_item_late slot kinds cycles item).nodes) items;
+  registers = sum_by (λ item. (cost_of_slot_item_late slot kinds cycles item).registers) items;
+  memories = sum_by (λ item. (cost_of_slot_item_late slot kinds cycles item).memories) items;
+}

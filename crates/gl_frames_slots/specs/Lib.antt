@@ -1,0 +1,10 @@
+pub mod Rows
+pub mod CountNets
+pub mod LagNets
+pub mod Stages
+pub mod SumNets
+pub mod LastNets
+pub mod ItemCosts
+pub mod Items
+pub mod Averages
+pub mod KeyNets

@@ -1,0 +1,150 @@
+//! Frames of each key: from the wire that comes to the wire that leaves.
+
+ghost use Rattle.std.specs.Prelude.{◌≡◌, ◌+◌, ◌<◌, ◌≤◌, ◌^◌, All, IfOk, length, map};
+ghost use Rattle.gl_algebra.specs.Columns.{FrameFits};
+ghost use Rattle.gl_values.specs.Kinds.{IsKind, width_of};
+ghost use Rattle.gl_bits.specs.Words.{IsWidth};
+ghost use Rattle.gl_net.specs.Net.{IsAddressWidth, IsBit, IsBus};
+ghost use Rattle.gl_frames_wire.specs.Reaches.{IsPlaceWidth};
+ghost use Rattle.gl_wire.specs.Wire.{IsWire, widths};
+ghost use Rattle.gl_frames_slots.specs.Items.{IsSlotItem};
+ghost use Rattle.gl_frames_slots.specs.KeyNets.{AreKeyFramesIn, AreKeyItemsIn, AreKeyRowsIn};
+ghost use Rattle.gl_frames_slots.specs.Rows.{HasSlotRows};
+
+use crate::count::put_slot_count;
+use crate::items::{SlotInput, put_slot_items};
+use crate::rows::SlotRows;
+use gl_algebra::PlanFrame;
+use gl_algebra::frames::delay_of_frames;
+use gl_bits::Memory;
+use gl_frames_lanes::{KeyLane, Keys, put_key_lane};
+use gl_frames_stages::Lines;
+use gl_frames_stages::delay::put_late_lines;
+use gl_net::{Bit, NetBuilder};
+use gl_rows::Source;
+use gl_values::Kind;
+use gl_wire::{Wire, later, later_bit, later_wire};
+use std::alloc::Global;
+
+/// How rows are parted by a key, and how far back lags of a key reach.
+#[derive(Clone, Copy)]
+pub struct Partition {
+    /// Which keys of a stream have a slot.
+    pub keys: Keys,
+    /// The bits of a place of the greatest ring.
+    pub bits: u8,
+}
+
+/// The rows of the first keys beside their slots.
+#[derive(Drop)]
+pub struct KeyRows {
+    /// The rows and the ends.
+    pub wire: Wire,
+    /// Their slots, and those of the next cycle.
+    pub rows: SlotRows,
+}
+
+/// Frames of each key.
+#[derive(Drop)]
+pub struct KeyFrames {
+    /// The row of all items for each row of the first keys, and the ends.
+    pub wire: Wire,
+    /// 1 where a row of a further key would stand, two cycles behind it.
+    pub further: Bit,
+}
+
+// The rows of a lane one cycle later, in which the slot of the next cycle is known.
+fn put_key_rows(alloc: Global, net: &mut NetBuilder, lane: &KeyLane) -> Result<KeyRows, Memory>
+    requires wire { IsWire net.old lane.now.wire }
+    requires slot { IsBus net.old lane.now.slot }
+    requires bits { IsAddressWidth lane.now.slot.width }
+    requires first { IsBit net.old lane.now.first }
+    ensures { IfOk result (AreKeyRowsIn net.old net.new lane.now) }
+{
+    let first = later_bit(net, lane.first)?;
+    let slot = later(net, lane.slot)?;
+    let wire = later_wire(alloc, net, &lane.wire)?;
+    let rows = SlotRows {
+        valid: wire.valid,
+        first,
+        slot,
+        begins: lane.first,
+        next: lane.slot,
+    };
+    Ok(KeyRows { wire, rows })
+}
+
+// The items of such rows, as many cycles later as the slowest takes.
+fn put_key_items(
+    alloc: Global,
+    net: &mut NetBuilder,
+    late: &KeyRows,
+    bits: u8,
+    kinds: &[Kind],
+    items: &[PlanFrame],
+) -> Result<Wire, Memory>
+    requires wire { IsWire net.old late.now.wire }
+    requires kinds { widths late.now.wire.columns ≡ map width_of kinds.now }
+    requires are_kinds { All IsKind kinds.now }
+    requires rows { HasSlotRows net.old late.now.rows }
+    requires bits { IsPlaceWidth bits }
+    requires address { late.now.rows.slot.width + bits ≤ 32 }
+    requires fit { All (FrameFits kinds.now) items.now }
+    requires slot_items { All (IsSlotItem bits) items.now }
+    ensures { IfOk result
+        (AreKeyItemsIn net.old net.new late.now bits kinds.now items.now) }
+{
+    let cycles = delay_of_frames(kinds, items);
+    let count = put_slot_count(net, late.rows, bits)?;
+    let lines = Lines {
+        valid: late.wire.valid,
+        eos: late.wire.eos,
+    };
+    let out = put_late_lines(net, lines, cycles)?;
+    let input = SlotInput {
+        rows: late.rows,
+        source: Source {
+            columns: late.wire.columns.as_slice(),
+            kinds,
+        },
+    };
+    let columns = put_slot_items(alloc, net, input, count, items, cycles)?;
+    Ok(Wire {
+        valid: out.valid,
+        eos: out.eos,
+        columns,
+    })
+}
+
+/// Behind each row of the first keys of its stream, what these items make of the rows of its key up
+/// to it: three cycles more than the slowest item takes. Which items are made is `IsSlotItem`.
+pub fn put_key_frames(
+    alloc: Global,
+    net: &mut NetBuilder,
+    wire: &Wire,
+    partition: Partition,
+    kinds: &[Kind],
+    items: &[PlanFrame],
+) -> Result<KeyFrames, Memory>
+    requires wire { IsWire net.old wire.now }
+    requires kinds { widths wire.now.columns ≡ map width_of kinds.now }
+    requires are_kinds { All IsKind kinds.now }
+    requires column { partition.keys.column < length wire.now.columns }
+    requires some { 1 ≤ partition.keys.groups }
+    requires width { IsWidth partition.keys.width }
+    requires fits { partition.keys.groups ≤ 2 ^ partition.keys.width }
+    requires bits { IsPlaceWidth partition.bits }
+    requires address { partition.keys.width + partition.bits ≤ 32 }
+    requires fit { All (FrameFits kinds.now) items.now }
+    requires slot_items { All (IsSlotItem partition.bits) items.now }
+    ensures { IfOk result
+        (AreKeyFramesIn net.old net.new partition kinds.now items.now wire.now) }
+{
+    let lane = put_key_lane(alloc, net, wire, partition.keys)?;
+    let late = put_key_rows(alloc, net, &lane)?;
+    let out = put_key_items(alloc, net, &late, partition.bits, kinds, items)?;
+    Ok(KeyFrames {
+        wire: out,
+        further: lane.further,
+    })
+}
