@@ -376,10 +376,10 @@ class Maker:
             'closing': left['closing'] and right['closing'],
         }
 
-    def tuples(self, gap, most):
+    def tuples(self, gap, most, ticks=None):
         """Beats, a list of (cycle, [(stream, words)]), where a tick is a stream without words, and the cycle of the
-        end, None where no record says it."""
-        beats, at, near = [], self.draw.randint(0, 3), self.often(0.6)
+        end, None where no record says it. Ticks, and the end behind them, may have a gap of their own."""
+        beats, at, near, free = [], self.draw.randint(0, 3), self.often(0.6), 0
         for _ in range(self.draw.choice([0, 1, 2, 3, 5, 8, 12, 20, 30])):
             streams = [name for name in self.schema if self.often(0.6)] or [self.draw.choice(list(self.schema))]
             most -= len(streams)
@@ -389,10 +389,13 @@ class Maker:
                 (name, tuple(self.word(kind) for _, kind in self.schema[name]))
                 for name in self.draw.sample(streams, len(streams))
             ]
-            if self.ticks and self.often(0.5):
+            if self.ticks and self.often(0.5) and at >= free:
                 rows = rows if self.often(0.6) else []
                 rows.insert(self.draw.randint(0, len(rows)), ('tick', ()))
+                free = at + (ticks or gap)
             beats.append((at, rows))
             at += gap + (0 if near or self.often(0.5) else self.draw.randint(0, 2 * gap))
-        ends = [None, beats[-1][0] if beats else 0, at]
+        if beats and ('tick', ()) not in beats[-1][1]:
+            beats[-1] = (max(beats[-1][0], free), beats[-1][1])
+        ends = [None, beats[-1][0] if beats else 0, max(at, free)]
         return beats, self.draw.choice(ends if at <= 10**7 else ends[:2])

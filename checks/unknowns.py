@@ -71,10 +71,10 @@ def drawn(program, seed, room, number):
         return LIMIT
     if status:
         return f'case {number}: {figures}: status {status}, {notes}\n{schema_text(maker.schema)}{text}'
-    gap = int(re.search(r'^gap (\d+)$', out, re.M).group(1))
+    gap, *ticks = (int(it) for it in re.findall(r'^(?:gap|ticks) (\d+)$', out, re.M))
     compiled, design, more = called(program, room, compiles, 'schema.txt', 'query.txt')
     cycles = min(CYCLES[1], max(CYCLES[0], WORK // max(1, len(design))))
-    beats, end = maker.tuples(gap, max(1, min(40, cycles // gap)))
+    beats, end = maker.tuples(gap, max(1, min(40, cycles // gap)), *ticks)
     written(f'{room}/tuples.csv', tuples_text(maker.schema, beats, end))
     status, want, notes = called(program, room, runs, 'schema.txt', 'query.txt', 'tuples.csv')
     if status or compiled:

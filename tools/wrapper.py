@@ -137,7 +137,7 @@ def plan_of(program, files, depth=None, room=None):
         refused(text, command, files)
     schema, statements = schema_of(text_of(files[0])), statements_of(text_of(files[1]))
     said = ended([program, 'figures' if command == 'compile' else 'manyfigures', *files]).stdout
-    gap = int(re.search(r'^gap (\d+)$', said, re.M)[1])
+    gap = max(int(it) for it in re.findall(r'^(?:gap|ticks) (\d+)$', said, re.M))  # a tick is a beat like any other
     results = [
         Result('m_axis' + f'_{front[:-2]}' * bool(front), front, columns, *it, 0, 0)
         for (front, columns), it in zip(results_of(text), figures_of(program, files[0], statements))

@@ -8,6 +8,7 @@ use Rattle.gl_values.specs.Kinds.{IsKind}
 use Rattle.gl_bits.specs.Limits.{most_ports}
 use Rattle.gl_bits.specs.Words.{IsWidth}
 use Rattle.gl_schema.specs.declared.schema.Column.{Column}
+use Rattle.gl_gaps.specs.declared.Gaps.{Gaps}
 use Rattle.gl_schema.specs.declared.schema.Schema.{Schema}
 use Rattle.gl_schema.specs.Schemas.{IsSchema, kinds_of}
 use Rattle.gl_schema.specs.Profile.{ProfilePort, clk, input, input_ports, output_ports, profile}
@@ -25,6 +26,7 @@ use Rattle.gl_vcd.specs.Dumped.{Port}
 use Rattle.gl_vcd.specs.RoundTrip.{AreApart, is_named, names_of, signals_from}
 use Rattle.gl_vcd.specs.Signals.{show_none}
 use Rattle.gl_vcd.specs.Written.{port_declared, ports_among, ports_of}
+use Rattle.gl_compiler.specs.Built.{printed_gaps}
 use Rattle.gl_compiler.specs.declared.compiling.Compiled.{Compiled}
 use Rattle.gl_compiler.specs.Meets.{Meets, result_columns}
 use Rattle.gl_compiler.proofs.KnownOf.{all_kinds}
@@ -106,8 +108,8 @@ dumpable_text ticks text m schema columns has face fine few kinds =
     }
 
 -- a dump can tell the module of a text that meets a statement
-pub dumpable_where_met : AcceptedHaveRealColumns → OneModule → (schema : Schema) (statement : Statement) (latency gap : ℕ) (text : List ℕ) (m : Module) → IsSchema schema → Meets schema statement latency gap text → HasModule text m → IsDumpable m
-dumpable_where_met real_columns one_module schema statement latency gap text m fine meets has =
+pub dumpable_where_met : AcceptedHaveRealColumns → OneModule → (schema : Schema) (statement : Statement) (latency : ℕ) (gaps : Gaps) (text : List ℕ) (m : Module) → IsSchema schema → Meets schema statement latency gaps text → HasModule text m → IsDumpable m
+dumpable_where_met real_columns one_module schema statement latency gaps text m fine meets has =
     let real = real_columns schema (query_shape statement.query) fine meets.accepted in
     let columns = result_columns schema statement in
     let same : meets.design ≡ m = one_module text meets.design m meets.has has in
@@ -115,4 +117,4 @@ dumpable_where_met real_columns one_module schema statement latency gap text m f
 
 -- so of that of a compiled query
 pub dumpable : AcceptedHaveRealColumns → OneModule → (c : Compiled) (m : Module) → IsRunnable c → HasModule c.text.items m → IsDumpable m
-dumpable real_columns one_module c m is has = dumpable_where_met real_columns one_module c.schema c.statement c.printed.latency c.printed.gap c.text.items m is.fine is.meets has
+dumpable real_columns one_module c m is has = dumpable_where_met real_columns one_module c.schema c.statement c.printed.latency (printed_gaps c.printed) c.text.items m is.fine is.meets has

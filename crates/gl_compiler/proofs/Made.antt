@@ -16,7 +16,7 @@ use Rattle.gl_algebra.specs.Small.{AreFigures}
 use Rattle.gl_elaborate.specs.Plans.{plan_of}
 use Rattle.gl_compiler.specs.Compiles.{HasCost, IsCompiled}
 use Rattle.gl_compiler.specs.Meets.{Meets, result_columns}
-use Rattle.gl_compiler.specs.Built.{IsNoFarther, copies_of, gap_of, latency_of}
+use Rattle.gl_compiler.specs.Built.{IsNoFarther, copies_of, gaps_of, latency_of, printed_gaps}
 use Rattle.gl_compiler.specs.Queries.{IsQuery}
 use Rattle.gl_compiler.proofs.KnownOf.{all_kinds}
 
@@ -28,14 +28,14 @@ pub record IsMade (schema : Schema) (text : List ℕ) (c : Compiled) : Type 0 wh
   pub kinds' : AllByRecursion IsKind c.kinds
   pub columns : c.kinds ≡ kinds_of (result_columns schema c.statement)
   pub latency : c.printed.latency ≡ latency_of schema c.statement
-  pub gap : c.printed.gap ≡ gap_of schema c.statement
-  pub closer : IsNoFarther schema c.statement c.printed.gap
+  pub gaps : printed_gaps c.printed ≡ gaps_of schema c.statement
+  pub closer : IsNoFarther schema c.statement (printed_gaps c.printed)
   pub copies : c.printed.copies ≡ copies_of schema c.statement
   pub short : c.printed.latency ≤ 2 ^ 32
   pub plan : placed_at c.plan c.root ≡ plan_of schema c.statement
   pub figures : AreFigures c.plan c.figures.items
   pub cost : HasCost schema c.statement c.text.items c.cost
-  pub meets : Meets schema c.statement c.printed.latency c.printed.gap c.text.items
+  pub meets : Meets schema c.statement c.printed.latency (printed_gaps c.printed) c.text.items
 
 over : AcceptedHaveRealColumns → (schema : Schema) (text : List ℕ) (statement : Statement) (c : Compiled) → IsSchema schema → IsAcceptedText schema text statement → IsCompiled schema statement c → IsMade schema text c
 over columns schema text statement c fine a m =
@@ -49,14 +49,14 @@ over columns schema text statement c fine a m =
       kinds' = subst (AllByRecursion IsKind) (sym m.kinds) (all_kinds (result_columns schema statement) real.kinds);
       columns = subst (λ (s : Statement). c.kinds ≡ kinds_of (result_columns schema s)) back m.kinds;
       latency = subst (λ (s : Statement). c.printed.latency ≡ latency_of schema s) back m.latency;
-      gap = subst (λ (s : Statement). c.printed.gap ≡ gap_of schema s) back m.gap;
-      closer = subst (λ (s : Statement). IsNoFarther schema s c.printed.gap) back m.closer;
+      gaps = subst (λ (s : Statement). printed_gaps c.printed ≡ gaps_of schema s) back m.gaps;
+      closer = subst (λ (s : Statement). IsNoFarther schema s (printed_gaps c.printed)) back m.closer;
       copies = subst (λ (s : Statement). c.printed.copies ≡ copies_of schema s) back m.copies;
       short = m.short;
       plan = subst (λ (s : Statement). placed_at c.plan c.root ≡ plan_of schema s) back m.plan;
       figures = m.figures;
       cost = subst (λ (s : Statement). HasCost schema s c.text.items c.cost) back m.cost;
-      meets = subst (λ (s : Statement). Meets schema s c.printed.latency c.printed.gap c.text.items) back m.meets;
+      meets = subst (λ (s : Statement). Meets schema s c.printed.latency (printed_gaps c.printed) c.text.items) back m.meets;
     }
 
 pub made : AcceptedHaveRealColumns → (schema own : Schema) (text : List ℕ) (statement : Statement) (c : Compiled) → IsSchema schema → own ≡ schema → IsAcceptedText schema text statement → IsCompiled own statement c → IsMade schema text c

@@ -13,7 +13,7 @@ use Rattle.gl_verilog.specs.Module.{Module}
 use Rattle.gl_verilog.specs.Text.{HasModule}
 use Rattle.gl_compiler.specs.declared.compiling.Compiled.{Compiled}
 use Rattle.gl_compiler.specs.Meets.{Meets, result_columns}
-use Rattle.gl_compiler.specs.Built.{IsBuilt, IsNoFarther, copies_of, gap_of, latency_of}
+use Rattle.gl_compiler.specs.Built.{IsBuilt, IsNoFarther, copies_of, gaps_of, latency_of, printed_gaps}
 
 -- the bits of registers and of memories that the text's module declares, which are no more than the statement's plan
 -- counts
@@ -32,11 +32,11 @@ pub record IsCompiled (schema : Schema) (statement : Statement) (c : Compiled) :
   pub built : IsBuilt schema statement
   pub kinds : c.kinds ≡ kinds_of (result_columns schema statement)
   pub latency : c.printed.latency ≡ latency_of schema statement
-  pub gap : c.printed.gap ≡ gap_of schema statement
-  pub closer : IsNoFarther schema statement c.printed.gap
+  pub gaps : printed_gaps c.printed ≡ gaps_of schema statement
+  pub closer : IsNoFarther schema statement (printed_gaps c.printed)
   pub copies : c.printed.copies ≡ copies_of schema statement
   pub short : c.printed.latency ≤ 2 ^ 32
   pub plan : placed_at c.plan c.root ≡ plan_of schema statement
   pub figures : AreFigures c.plan c.figures.items
   pub cost : HasCost schema statement c.text.items c.cost
-  pub meets : Meets schema statement c.printed.latency c.printed.gap c.text.items
+  pub meets : Meets schema statement c.printed.latency (printed_gaps c.printed) c.text.items

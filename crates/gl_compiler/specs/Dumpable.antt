@@ -4,8 +4,10 @@ use Rattle.std.specs.List.{AllByRecursion}
 use Rattle.gl_values.specs.declared.kind.Kind.TheVariants.{Unsigned}
 use Rattle.gl_bits.specs.Limits.{latest_time, most_ports}
 use Rattle.gl_bits.specs.Words.{IsWidth}
+use Rattle.gl_gaps.specs.declared.Gaps.{Gaps}
 use Rattle.gl_schema.specs.declared.schema.Schema.{Schema}
-use Rattle.gl_schema.specs.Beats.{Beat, AreBeats, KeepsGap, last_cycle}
+use Rattle.gl_schema.specs.Beats.{Beat, AreBeats, last_cycle}
+use Rattle.gl_gaps.specs.Keeps.{KeepsGaps}
 use Rattle.gl_schema.specs.Schemas.{IsSchema}
 use Rattle.gl_schema.specs.Ports.{PortValues}
 use Rattle.gl_schema.specs.Seen.{lines, seen}
@@ -44,9 +46,10 @@ DumpTells latency schema beats start text =
     → OfEachPorts text schema beats start
     (λ m port. (bytes : List ℕ) (dump : IsDumpOf m beats port bytes) → TellsRun m port dump.ended bytes)
 
--- this is so of each text that meets a statement, over beats that keep its gap
+-- this is so of each text that meets a statement, over beats that keep its gaps
 abbrev pub DumpsTell : Type 0
 DumpsTell =
-    (schema : Schema) (statement : Statement) (latency gap : ℕ) (text : List ℕ) (beats : List Beat) (start : Start)
-    → IsSchema schema → Meets schema statement latency gap text → AreBeats schema beats → KeepsGap gap beats
+    (schema : Schema) (statement : Statement) (latency : ℕ) (gaps : Gaps) (text : List ℕ) (beats : List Beat)
+    (start : Start)
+    → IsSchema schema → Meets schema statement latency gaps text → AreBeats schema beats → KeepsGaps gaps beats
     → DumpTells latency schema beats start text

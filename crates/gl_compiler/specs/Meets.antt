@@ -1,9 +1,10 @@
--- What a compiled text is: a module of the statement's name with the ports of the schema and of the result. Every run of
--- it is right for the statement: in any order of events, over any beats that keep the gap, from any start. Its overflow
--- line says what has come by each cycle.
+-- What a compiled text is: a module of the statement's name with the ports of the schema and of the result. Every run
+-- of it is right for the statement: in any order of events, over any beats that keep the gaps, from any start. Its
+-- overflow line says what has come by each cycle.
 use Rattle.std.specs.Prelude.{◌≡◌, ◌≤◌, ℕ, ◌++◌, Bool, List, codes, length}
 use Rattle.gl_outside.specs.declared.shelf.TheConstants.{TEXT_LIMIT}
 use Rattle.gl_schema.specs.declared.schema.Column.{Column}
+use Rattle.gl_gaps.specs.declared.Gaps.{Gaps}
 use Rattle.gl_schema.specs.declared.schema.Schema.{Schema}
 use Rattle.gl_schema.specs.Beats.{Beat}
 use Rattle.gl_schema.specs.Ports.{PortValues}
@@ -31,16 +32,16 @@ abbrev pub takes_ticks : Statement → Bool
 takes_ticks statement = has_time (query_shape statement.query)
 
 -- a fact holds of the beats and of what is seen on the result's columns, whatever drives the module
-abbrev pub WhereDriven : Module → Schema → ℕ → (List Beat → List (List ℕ) → PortValues → Type 0) → Type 0
-WhereDriven m schema gap P = (beats : List Beat) (value : ℕ → Nets) (word : ℕ → Memories)
-    → Drives m schema gap beats value word → P beats (result_names m) (port_of m value)
+abbrev pub WhereDriven : Module → Schema → Gaps → (List Beat → List (List ℕ) → PortValues → Type 0) → Type 0
+WhereDriven m schema gaps P = (beats : List Beat) (value : ℕ → Nets) (word : ℕ → Memories)
+    → Drives m schema gaps beats value word → P beats (result_names m) (port_of m value)
 
 -- the text has a module of the statement's name, whose ports are in order the clock, the inputs of the schema, the tick
 -- where the statement has a window of time, and the outputs of the result; there is a run of it from any start over any
 -- beats of the schema, and whatever drives it, what is seen is right for the statement, within the latency, and the
 -- overflow line never falls, and is 1 only where what has come has a result that spills; it is no longer than a text that
 -- is read may be
-pub record Meets (schema : Schema) (statement : Statement) (latency gap : ℕ) (text : List ℕ) : Type 0 where
+pub record Meets (schema : Schema) (statement : Statement) (latency : ℕ) (gaps : Gaps) (text : List ℕ) : Type 0 where
   pub accepted : IsAccepted schema statement
   pub design : Module
   pub has : HasModule text design
@@ -48,5 +49,5 @@ pub record Meets (schema : Schema) (statement : Statement) (latency gap : ℕ) (
   pub name : design.name ≡ codes "q__" ++ statement.name.text
   pub face : HasProfile (takes_ticks statement) design schema (result_columns schema statement)
   pub runs : HasRunsOver design schema
-  pub right : WhereDriven design schema gap (IsRight (IsResult schema statement) latency)
-  pub group : WhereDriven design schema gap (TellsGroup (IsResult schema statement))
+  pub right : WhereDriven design schema gaps (IsRight (IsResult schema statement) latency)
+  pub group : WhereDriven design schema gaps (TellsGroup (IsResult schema statement))

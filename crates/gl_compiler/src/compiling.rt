@@ -8,7 +8,7 @@ ghost use Rattle.gl_query.specs.Shapes.{statement_shape};
 ghost use Rattle.gl_elaborate.specs.Plans.{plan_of};
 ghost use Rattle.gl_plan.specs.Planned.{IsPlanned, PassesOr};
 ghost use Rattle.gl_compiler.specs.Meets.{Meets, result_columns};
-ghost use Rattle.gl_compiler.specs.Built.{latency_of, gap_of};
+ghost use Rattle.gl_compiler.specs.Built.{latency_of, gaps_of, printed_gaps};
 ghost use Rattle.gl_compiler.specs.Compiles.{HasCost, IsCompiled};
 
 use crate::naming::{result_columns, result_names};
@@ -17,6 +17,7 @@ use gl_algebra::{Figures, Plan, PlanId};
 use gl_bits::{Listed, Memory};
 use gl_elaborate::laws::{plans_are_right, plans_tell_time, roots_are_right};
 use gl_figures::Printed;
+use gl_gaps::Gaps;
 use gl_labels::{Figured, Subject, labels_of};
 use gl_net::{Cost, Netlist};
 use gl_plan::{PlanFault, Planned, plan_statement};
@@ -62,6 +63,13 @@ impl Compiled {
         ensures { result ≡ self.now.printed }
     {
         self.printed
+    }
+
+    /// How far apart beats are to be.
+    pub fn gaps(&self) -> Gaps
+        ensures { result ≡ printed_gaps self.now.printed }
+    {
+        Gaps::new(self.printed.gap, self.printed.ticks)
     }
 
     /// The bits of registers and of memories that the text declares.
@@ -144,7 +152,7 @@ fn text_of(
     requires columns { columns.now
         ≡ result_columns checked.now.schema checked.now.statement }
     ensures meets { let s = checked.now.schema in let q = checked.now.statement in
-        IfOk result (λ made. Meets s q (latency_of s q) (gap_of s q) made.text.items) }
+        IfOk result (λ made. Meets s q (latency_of s q) (gaps_of s q) made.text.items) }
     ensures cost { IfOk result (λ made. HasCost checked.now.schema checked.now.statement
         made.text.items made.cost) }
 {
@@ -184,7 +192,7 @@ fn built(
     requires names { StatementHasNames (statement_shape checked.now.statement) }
     requires planned { IsPlanned checked.now.schema checked.now.statement planned.now }
     ensures meets { let s = checked.now.schema in let q = checked.now.statement in
-        IfOk result (λ made. Meets s q (latency_of s q) (gap_of s q) made.0.text.items) }
+        IfOk result (λ made. Meets s q (latency_of s q) (gaps_of s q) made.0.text.items) }
     ensures cost { IfOk result (λ made. HasCost checked.now.schema checked.now.statement
         made.0.text.items made.0.cost) }
     ensures kinds { IfOk result (λ made.

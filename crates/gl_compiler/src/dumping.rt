@@ -3,9 +3,11 @@
 ghost use Rattle.std.specs.Prelude.{◌≤◌, length};
 ghost use Rattle.std.specs.List.{AllByRecursion};
 ghost use Rattle.gl_values.specs.Kinds.{IsKind};
-ghost use Rattle.gl_schema.specs.Beats.{AreBeats, KeepsGap};
+ghost use Rattle.gl_schema.specs.Beats.{AreBeats};
+ghost use Rattle.gl_gaps.specs.Keeps.{KeepsGaps};
 ghost use Rattle.gl_schema.specs.Schemas.{IsSchema};
 ghost use Rattle.gl_tuples.specs.Gaps.{plain_beats};
+ghost use Rattle.gl_compiler.specs.Built.{printed_gaps};
 ghost use Rattle.gl_compiler.specs.Runnable.{IsRunnable};
 ghost use Rattle.gl_runner.specs.Dumps.{Dumped, HasFewPorts, OfEachPorts};
 ghost use Rattle.gl_runner.specs.Prints.{CanRun};
@@ -50,7 +52,7 @@ pub fn dump<K: Sink>(alloc: Global, text: &[u8], run: Run<'_>, out: &mut K) -> O
     dump_module(alloc, design, run.kinds, task, out)
 }
 
-/// Runs the text of a compiled query over beats of its schema that keep its gap, in cycles, and writes
+/// Runs the text of a compiled query over beats of its schema that keep its gaps, in cycles, and writes
 /// the dump of the module's ports but the clock.
 pub fn dump_compiled<K: Sink>(
     alloc: Global,
@@ -61,7 +63,7 @@ pub fn dump_compiled<K: Sink>(
 ) -> Outcome
     requires compiled { IsRunnable compiled.now }
     requires beats { AreBeats compiled.now.schema (plain_beats beats.now) }
-    requires gap { KeepsGap compiled.now.printed.gap (plain_beats beats.now) }
+    requires gaps { KeepsGaps (printed_gaps compiled.now.printed) (plain_beats beats.now) }
     ensures { let c = compiled.now in
         Dumped (OfEachPorts c.text.items c.schema (plain_beats beats.now) start)
         (plain_beats beats.now) (K.state out.old) (K.state out.new) result }

@@ -9,7 +9,7 @@ ghost use Rattle.gl_algebra.specs.Added.{placed_at};
 ghost use Rattle.gl_algebra.specs.Small.{AreFigures};
 ghost use Rattle.gl_elaborate.specs.Plans.{plan_of};
 ghost use Rattle.gl_compiler.specs.Meets.{Meets, result_columns};
-ghost use Rattle.gl_compiler.specs.Built.{latency_of, gap_of, copies_of, IsNoFarther};
+ghost use Rattle.gl_compiler.specs.Built.{latency_of, gaps_of, printed_gaps, copies_of, IsNoFarther};
 ghost use Rattle.gl_compiler.specs.Compiles.{HasCost};
 ghost use Rattle.gl_compiler.specs.Queries.{IsQuery, IsQueryRefused, IfRefused, TellsCauses};
 ghost use Rattle.gl_compiler.specs.Texts.{IsCompiledText, IsTextRefused, TellsTextCauses};
@@ -36,15 +36,15 @@ pub fn compile_query(alloc: Global, schema: Schema, query: &[u8]) -> Result<Comp
     ensures kinds { IfOk result (λ c. AllByRecursion IsKind c.kinds) }
     ensures columns { IfOk result (λ c. c.kinds ≡ kinds_of (result_columns schema c.statement)) }
     ensures latency { IfOk result (λ c. c.printed.latency ≡ latency_of schema c.statement) }
-    ensures gap { IfOk result (λ c. c.printed.gap ≡ gap_of schema c.statement) }
-    ensures closer { IfOk result (λ c. IsNoFarther schema c.statement c.printed.gap) }
+    ensures gaps { IfOk result (λ c. printed_gaps c.printed ≡ gaps_of schema c.statement) }
+    ensures closer { IfOk result (λ c. IsNoFarther schema c.statement (printed_gaps c.printed)) }
     ensures copies { IfOk result (λ c. c.printed.copies ≡ copies_of schema c.statement) }
     ensures short { IfOk result (λ c. c.printed.latency ≤ 2 ^ 32) }
     ensures plan { IfOk result (λ c. placed_at c.plan c.root ≡ plan_of schema c.statement) }
     ensures figures { IfOk result (λ c. AreFigures c.plan c.figures.items) }
     ensures cost { IfOk result (λ c. HasCost schema c.statement c.text.items c.cost) }
-    ensures meets { IfOk result (λ c. Meets schema c.statement c.printed.latency c.printed.gap
-        c.text.items) }
+    ensures meets { IfOk result (λ c. Meets schema c.statement c.printed.latency
+        (printed_gaps c.printed) c.text.items) }
     ensures cause { IfErr result (IsQueryRefused schema query.now) }
     ensures refused { IfErr result (λ fault. IfRefused fault ((statement : Stated)
         → IsQuery schema query.now statement → ⊥)) }

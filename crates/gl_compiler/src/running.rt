@@ -1,8 +1,10 @@
 //! Running a compiled query.
 
-ghost use Rattle.gl_schema.specs.Beats.{AreBeats, KeepsGap};
+ghost use Rattle.gl_schema.specs.Beats.{AreBeats};
+ghost use Rattle.gl_gaps.specs.Keeps.{KeepsGaps};
 ghost use Rattle.gl_schema.specs.Schemas.{kinds_of};
 ghost use Rattle.gl_tuples.specs.Gaps.{plain_beats};
+ghost use Rattle.gl_compiler.specs.Built.{printed_gaps};
 ghost use Rattle.gl_compiler.specs.Meets.{result_columns};
 ghost use Rattle.gl_runner.specs.Prints.{OfEachRun, Ran};
 ghost use Rattle.gl_compiler.specs.Runnable.{IsRunnable};
@@ -16,7 +18,7 @@ use gl_tuples::Beats;
 use gl_verilog::Start;
 use std::alloc::Global;
 
-/// Runs the text of a compiled query over beats of its schema that keep its gap, in cycles, and writes
+/// Runs the text of a compiled query over beats of its schema that keep its gaps, in cycles, and writes
 /// the lines of the result.
 pub fn run_compiled<K: Sink>(
     alloc: Global,
@@ -27,7 +29,7 @@ pub fn run_compiled<K: Sink>(
 ) -> Outcome
     requires compiled { IsRunnable compiled.now }
     requires beats { AreBeats compiled.now.schema (plain_beats beats.now) }
-    requires gap { KeepsGap compiled.now.printed.gap (plain_beats beats.now) }
+    requires gaps { KeepsGaps (printed_gaps compiled.now.printed) (plain_beats beats.now) }
     ensures { let c = compiled.now in
         Ran (OfEachRun c.text.items c.schema (plain_beats beats.now) start)
         (kinds_of (result_columns c.schema c.statement)) (plain_beats beats.now)

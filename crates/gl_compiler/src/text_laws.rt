@@ -1,4 +1,4 @@
-//! A law about the gap of a statement.
+//! A law about the gaps of a statement.
 
 ghost use Rattle.gl_compiler.specs.Built.{GapsAreNoFarther};
 
@@ -6,7 +6,7 @@ use gl_elaborate::laws::{plans_are_right, roots_are_right};
 use gl_figures::laws::roots_come_closer;
 
 /// Beats of a statement may come as close as the figures of its query say, form by form, and closer
-/// where it has spare copies.
+/// where it has spare copies, or where its ticks are farther apart.
 pub fn gaps_are_no_farther()
     ensures { GapsAreNoFarther }
 {

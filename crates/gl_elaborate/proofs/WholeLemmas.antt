@@ -1,4 +1,4 @@
--- The root of a statement's plan has the spare copies and the figures of the statement.
+-- The root of a statement's plan has the spare copies, the figures and the gaps of ticks of the statement.
 use Rattle.std.proofs.Common.{◌≡◌, ℕ, ◌<◌, Bool, true, false, List, [], length, Option, Some, None, slice_get, refl, sym, ap, ◌∙◌}
 use Rattle.std.specs.Prelude.{if◌then◌else◌}
 use Rattle.gl_schema.specs.declared.schema.Schema.{Schema}
@@ -19,13 +19,15 @@ use Rattle.gl_algebra.specs.Fits.{IsPlan}
 use Rattle.gl_algebra.specs.Nodewise.{value_at_node}
 use Rattle.gl_algebra.specs.Roots as roots
 use Rattle.gl_algebra.specs.Roots.{is_light, is_light_at, root_figures, spare_at, spare_in, where_light}
+use Rattle.gl_root_gaps.specs.Roots.{tick_gaps_at, tick_gaps_in}
 use Rattle.gl_algebra.specs.Spares.{spare_of, spare_over}
+use Rattle.gl_root_gaps.specs.TickGaps.{tick_gaps_of}
 use Rattle.gl_algebra.specs.Views.{copies_of_window}
 use Rattle.gl_algebra.proofs.FigureLemmas.{figures-kept}
 use Rattle.gl_algebra.proofs.PlanLemmas.{in_order, node_inserted}
 use Rattle.gl_elaborate.specs.Figures.{query_figures}
 use Rattle.gl_elaborate.specs.Plans.{placed, stream_node}
-use Rattle.gl_elaborate.specs.Whole.{RootsAreRight, figures_with, if_light, query_spare}
+use Rattle.gl_elaborate.specs.Whole.{RootsAreRight, figures_with, if_light, query_spare, query_ticks}
 use Rattle.gl_elaborate.proofs.FigureLemmas.{figures-right}
 use Rattle.gl_elaborate.proofs.PlacedLemmas.{IsOver, is_added, over-then}
 use Rattle.gl_elaborate.proofs.QueryLemmas.{columns-are, right}
@@ -51,6 +53,10 @@ module _ (nodes : List PlanNode) (root : ℕ) (n : PlanNode) (at : slice_get nod
       ap (value_at_node (roots.figures_with nodes root (spare_at nodes root)) (figures_of nodes root)) at
       ∙ ap (λ (s : Option Spare). roots.figures_with nodes root s n) e
 
+  ticks_by : tick_gaps_at nodes root ≡ tick_gaps_in (figures_of nodes) n
+  unfolding tick_gaps_at
+  ticks_by = ap (value_at_node (tick_gaps_in (figures_of nodes)) None) at
+
   light_by : (o : Option Spare) → where_light nodes root n o ≡ if_light (record { nodes = nodes; root = root }) o
   unfolding is_light_at
   light_by None = refl
@@ -65,6 +71,7 @@ record IsWhole (schema : Schema) (q : QueryShape) : Type 0 where
   spare : spare_at (plan_at schema q).nodes (plan_at schema q).root ≡ if_light (plan_at schema q) (query_spare schema.streams q)
   figures : root_figures (plan_at schema q).nodes (plan_at schema q).root
       ≡ figures_with schema.streams (if_light (plan_at schema q) (query_spare schema.streams q)) q
+  ticks : tick_gaps_at (plan_at schema q).nodes (plan_at schema q).root ≡ query_ticks schema.streams q
 
 -- a root that is no windows of tuples has no spare copies, and the figures of its node
 record IsPlain (at : Placed) : Type 0 where
@@ -76,6 +83,10 @@ plain nodes n e =
     let new = added nodes n in
     let none = spare_by new.nodes new.root n (there nodes n) None e in
     record { none = none; own = figures_by new.nodes new.root n (there nodes n) None none }
+
+-- and one that is no windows of time has no gaps of ticks
+untimed : (nodes : List PlanNode) (n : PlanNode) → tick_gaps_in (figures_of (added nodes n).nodes) n ≡ None → tick_gaps_at (added nodes n).nodes (added nodes n).root ≡ None
+untimed nodes n e = ticks_by (added nodes n).nodes (added nodes n).root n (there nodes n) ∙ e
 
 -- the figures of a node stay where a plan grows
 stay : (l r : Placed) → IsPlan l.nodes → IsOver l.nodes r → l.root < length l.nodes → figures_of r.nodes l.root ≡ figures_of l.nodes l.root
@@ -116,19 +127,39 @@ module _ (lengths : ResultsAreLong) (schema : Schema) (fine : IsSchema schema) w
   whole : (q : QueryShape) → IsAcceptedOver (schema_scope schema) q → IsWhole schema q
   whole (shape.Read name) a =
       let p = plain [] (stream_node schema.streams name) refl in
-      record { spare = p.none; figures = p.own ∙ own_figures (shape.Read name) a }
+      record { spare = p.none; figures = p.own ∙ own_figures (shape.Read name) a; ticks = untimed [] (stream_node schema.streams name) refl }
   whole (shape.Rows pick filter source) a =
       let p = plain _ (node.Project _ _) refl in
-      record { spare = p.none; figures = p.own ∙ own_figures (shape.Rows pick filter source) a }
+      record { spare = p.none; figures = p.own ∙ own_figures (shape.Rows pick filter source) a; ticks = untimed _ (node.Project _ _) refl }
   whole (shape.Total aggs source) a =
       let p = plain _ (node.Aggregate _ _) refl in
-      record { spare = p.none; figures = p.own ∙ own_figures (shape.Total aggs source) a }
+      record { spare = p.none; figures = p.own ∙ own_figures (shape.Total aggs source) a; ticks = untimed _ (node.Aggregate _ _) refl }
   whole (shape.Frames items filter source) a =
       let p = plain _ (node.Frames _ _) refl in
-      record { spare = p.none; figures = p.own ∙ own_figures (shape.Frames items filter source) a }
+      record { spare = p.none; figures = p.own ∙ own_figures (shape.Frames items filter source) a; ticks = untimed _ (node.Frames _ _) refl }
   whole (shape.Each Time var source size advance body) a =
-      let p = plain _ (node.TimeWindow _ _ size advance) refl in
-      record { spare = p.none; figures = p.own ∙ own_figures (shape.Each Time var source size advance body) a }
+      let streams = schema.streams in
+      let columns = columns_of streams source in
+      let inner : List ℕ → PlanNode = λ name. node.Body (kinds_of columns) in
+      let q = shape.Each Time var source size advance body in
+      let reader = schema-reader schema fine in
+      let done = right lengths q (stream_node streams) streams true [] reader a empty in
+      let below = right lengths source (stream_node streams) streams true [] reader a.0 empty in
+      let from = placed (stream_node streams) streams source [] in
+      let kinds = body-reader var columns (columns-are source (stream_node streams) streams true reader a.0) in
+      let inside = right lengths body inner (variable var columns) false from.nodes kinds a.2 below.1.over.plan in
+      let into = placed inner (variable var columns) body from.nodes in
+      let windows = node.TimeWindow from.root into.root size advance in
+      let top = (is_added into.nodes windows inside.1.over.plan done.0.2).over in
+      let new = added into.nodes windows in
+      let of_body = stay into new inside.1.over.plan top inside.1.over.within
+      ∙ (figures-right lengths body inner (variable var columns) false from.nodes kinds a.2 below.1.over.plan).is in
+      let p = plain into.nodes windows refl in
+      record {
+        spare = p.none;
+        figures = p.own ∙ own_figures q a;
+        ticks = ticks_by new.nodes new.root windows (there into.nodes windows) ∙ ap (tick_gaps_of size advance) of_body;
+      }
   whole (shape.Each Tuples var source size advance body) a =
       let streams = schema.streams in
       let reader = schema-reader schema fine in
@@ -154,21 +185,22 @@ module _ (lengths : ResultsAreLong) (schema : Schema) (fine : IsSchema schema) w
       record {
         spare = windows_spare into.nodes from.root into.root size advance f s own of_source of_body of_root (λ it. refl);
         figures = windows_figures into.nodes from.root into.root size advance f s own of_source of_body of_root (λ it. refl);
+        ticks = untimed into.nodes (node.Window from.root into.root size advance) refl;
       }
   whole (shape.PerGroup var source key count body) a =
       let p = plain _ (node.Group _ _ _ count) refl in
-      record { spare = p.none; figures = p.own ∙ own_figures (shape.PerGroup var source key count body) a }
+      record { spare = p.none; figures = p.own ∙ own_figures (shape.PerGroup var source key count body) a; ticks = untimed _ (node.Group _ _ _ count) refl }
   whole (shape.Partition var source key count size advance body) a =
       let p = plain _ (node.Partition _ _ _ count size advance) refl in
-      record { spare = p.none; figures = p.own ∙ own_figures (shape.Partition var source key count size advance body) a }
+      record { spare = p.none; figures = p.own ∙ own_figures (shape.Partition var source key count size advance body) a; ticks = untimed _ (node.Partition _ _ _ count size advance) refl }
   whole (shape.Union l r) a =
       let p = plain _ (node.Union _ _) refl in
-      record { spare = p.none; figures = p.own ∙ own_figures (shape.Union l r) a }
+      record { spare = p.none; figures = p.own ∙ own_figures (shape.Union l r) a; ticks = untimed _ (node.Union _ _) refl }
   whole (shape.Concat l r) a =
       let p = plain _ (node.Beside _ _) refl in
-      record { spare = p.none; figures = p.own ∙ own_figures (shape.Concat l r) a }
+      record { spare = p.none; figures = p.own ∙ own_figures (shape.Concat l r) a; ticks = untimed _ (node.Beside _ _) refl }
 
 pub roots-right : ResultsAreLong → RootsAreRight
 roots-right lengths schema statement checked =
     let w = whole lengths schema checked.of_schema (query_shape statement.query) checked.accepted in
-    record { spare = w.spare; figures = w.figures }
+    record { spare = w.spare; figures = w.figures; ticks = w.ticks }

@@ -27,8 +27,8 @@ pub fn plans_tell_time()
     ensures { PlansTellTime }
 {}
 
-/// The root of a statement's plan has the spare copies and the figures that the statement has by the form of
-/// its query.
+/// The root of a statement's plan has the spare copies, the figures and the gaps of ticks that the statement has
+/// by the form of its query.
 pub fn roots_are_right()
     ensures { RootsAreRight }
 {

@@ -1,4 +1,4 @@
--- A plan as text: a line for each node, with its words and its figures, and a line for the root.
+-- A plan as text: a line for each node, with its words and its figures, and lines for the root.
 use Rattle.std.specs.Prelude.{ℕ, ◌≡◌, ◌+◌, List, [], ◌∷◌, ◌++◌, codes, decimal, length, slice_get, Option, Some, None}
 use Rattle.gl_schema.specs.declared.schema.Stream.{Stream}
 use Rattle.gl_schema.specs.declared.schema.Schema.{Schema}
@@ -19,7 +19,9 @@ use Rattle.gl_algebra.specs.declared.node.PlanNode.TheVariants as node
 use Rattle.gl_algebra.specs.Added.{Placed}
 use Rattle.gl_algebra.specs.FigureTable.{figures_of}
 use Rattle.gl_algebra.specs.Roots.{spare_at}
+use Rattle.gl_root_gaps.specs.Roots.{tick_gaps_at}
 use Rattle.gl_algebra.specs.declared.figures.Spare.{Spare}
+use Rattle.gl_root_gaps.specs.declared.TickGaps.{TickGaps}
 
 -- a number behind a word or a sign
 unfoldable pub numbered : List ℕ → ℕ → List ℕ
@@ -150,8 +152,15 @@ spare_text (Some it) =
     codes "spare" ++ numbered (codes " ") it.copies ++ numbered (codes " ") it.gap ++ numbered (codes " ") it.shift
     ++ codes "\n"
 
--- a statement and its plan: the canonical text, the lines of the nodes, the root, and its spare copies
+-- the line of a root's ticks, where they are farther apart than tuples: their gap, and that of beats
+unfoldable pub ticks_text : Option TickGaps → List ℕ
+ticks_text None = []
+ticks_text (Some it) =
+    codes "ticks" ++ numbered (codes " ") it.ticks ++ numbered (codes " ") it.gap ++ codes "\n"
+
+-- a statement and its plan: the canonical text, the lines of the nodes, the root, its spare copies and the gaps of its
+-- ticks
 abbrev pub plan_text : Schema → Statement → Placed → List ℕ
 plan_text schema statement at =
     canonical_text (statement_shape statement) ++ codes "\n" ++ lines_of schema at.nodes ++ root_text at.root
-    ++ spare_text (spare_at at.nodes at.root)
+    ++ spare_text (spare_at at.nodes at.root) ++ ticks_text (tick_gaps_at at.nodes at.root)

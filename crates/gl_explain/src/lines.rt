@@ -9,6 +9,7 @@ use gl_algebra::{
     Figures, Operand, Plan, PlanAgg, PlanFrame, PlanFrameAgg, PlanId, PlanNode, Spare,
 };
 use gl_bits::Memory;
+use gl_root_gaps::TickGaps;
 use gl_schema::Schema;
 use itoa::Buffer;
 
@@ -341,5 +342,19 @@ pub fn put_spare(text: &mut Vec<u8>, spare: Option<Spare>) -> Result<(), Memory>
     put_number(text, b" ", u128::from(it.copies))?;
     put_number(text, b" ", u128::from(it.gap))?;
     put_number(text, b" ", u128::from(it.shift))?;
+    put(text, b"\n")
+}
+
+/// Appends the line of a root's ticks, where they are farther apart than tuples.
+#[tactic(auto, unfolding(crate::specs::Lines::ticks_text))]
+pub fn put_ticks(text: &mut Vec<u8>, ticks: Option<TickGaps>) -> Result<(), Memory>
+    ensures { OnOk result (text.new.items ≡ text.old.items ++ spec.ticks_text ticks) }
+{
+    let Some(it) = ticks else {
+        return Ok(());
+    };
+    put(text, b"ticks")?;
+    put_number(text, b" ", u128::from(it.ticks))?;
+    put_number(text, b" ", u128::from(it.gap))?;
     put(text, b"\n")
 }

@@ -4,6 +4,7 @@ pub mod CapLemmas
 pub mod WeighedLemmas
 pub mod TradeLemmas
 pub mod SpareLemmas
+pub mod TickLemmas
 pub mod RootLemmas
 pub mod PrintedLemmas
 pub mod SumLemmas

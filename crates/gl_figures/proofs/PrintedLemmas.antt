@@ -5,6 +5,7 @@ use Rattle.gl_bits.proofs.AllLists.{get_there}
 use Rattle.gl_bits.specs.Limits.{most_weight}
 use Rattle.gl_algebra.specs.declared.figures.Figures.{Figures}
 use Rattle.gl_algebra.specs.declared.figures.Spare.{Spare}
+use Rattle.gl_root_gaps.specs.declared.TickGaps.{TickGaps}
 use Rattle.gl_algebra.specs.declared.node.PlanNode.{PlanNode}
 use Rattle.gl_algebra.specs.declared.node.PlanNode.TheVariants.{Stream, Body, Compute, Select, Project, Frames, Aggregate, Union, Beside, Window, TimeWindow, Group, Partition}
 use Rattle.gl_algebra.specs.FigureTable.{AreSmall, figures_of, stride_of}
@@ -12,6 +13,7 @@ use Rattle.gl_algebra.specs.Fits.{IsPlan}
 use Rattle.gl_algebra.specs.Laws.{NodesFollowTables}
 use Rattle.gl_algebra.specs.Nodewise.{value_at_node}
 use Rattle.gl_algebra.specs.Roots.{figures_with, part_of_copy, root_figures, spare_at}
+use Rattle.gl_root_gaps.specs.Roots.{gap_with, tick_gaps_at, ticks_with}
 use Rattle.gl_algebra.specs.Shapes.{shape_of}
 use Rattle.gl_algebra.specs.Spares.{spare_over}
 use Rattle.gl_algebra.specs.Views.{copies_of_window, of_body}
@@ -20,7 +22,7 @@ use Rattle.std.proofs.lemmas.Option.{slice_get_within}
 use Rattle.gl_figures.specs.Answered.{capped, IsPrinted}
 use Rattle.gl_figures.specs.Known.{copies_in_body, copies_inside, weight_alone}
 use Rattle.gl_figures.proofs.CapLemmas.{copies_light, further-capped}
-use Rattle.gl_figures.proofs.RootLemmas.{IsSpareRoot, body_within, figures_there, further_there, none_further, spare_there}
+use Rattle.gl_figures.proofs.RootLemmas.{IsSpareRoot, body_within, figures_there, further_there, none_further, spare_there, ticks_there}
 use Rattle.gl_figures.proofs.SpareLemmas.{spare_is}
 
 -- the copies in the body of a root, whichever node it is
@@ -49,10 +51,11 @@ none_inside nodes root node at not = sym (inside_there nodes root node at ∙ by
     by (Partition source body key groups size advance) not = refl
 
 -- without spare copies
-pub printed_alone : NodesFollowTables → (nodes : List PlanNode) (root : ℕ) (own : Figures) (copies : ℕ) → IsPlan nodes → root < length nodes → own ≡ figures_of nodes root
+pub printed_alone : NodesFollowTables → (nodes : List PlanNode) (root : ℕ) (own : Figures) (gap : ℕ) (ticks : Option ℕ) (it : Option TickGaps) (copies : ℕ) → IsPlan nodes → root < length nodes
+    → own ≡ figures_of nodes root → it ≡ tick_gaps_at nodes root → gap ≡ gap_with it own.gt → ticks ≡ ticks_with it
     → copies ≡ capped (copies_of nodes root) → weight_alone nodes root ≤ most_weight → spare_at nodes root ≡ None
-    → IsPrinted nodes root (record { latency = own.le + 1; gap = own.gt; copies = copies })
-printed_alone follow nodes root own copies plan within figured copied light h =
+    → IsPrinted nodes root (record { latency = own.le + 1; gap = gap; ticks = ticks; copies = copies })
+printed_alone follow nodes root own gap ticks it copies plan within figured timed gap_is ticks_are copied light h =
     let here = get_there nodes root within in
     let same : root_figures nodes root ≡ figures_of nodes root = figures_there nodes root here.0 None here.1 h in
     let no_copies = none_further (λ node. 1 + of_body (copies_of nodes) node) nodes root within h in
@@ -60,7 +63,8 @@ printed_alone follow nodes root own copies plan within figured copied light h =
     let fewer = copies_light follow nodes root plan within in
     record {
       latency = ap (λ (f : Figures). f.le + 1) (figured ∙ sym same);
-      gap = ap (λ (f : Figures). f.gt) (figured ∙ sym same);
+      gap = gap_is ∙ ap (λ (o : Option TickGaps). gap_with o own.gt) timed ∙ ap (λ (f : Figures). gap_with (tick_gaps_at nodes root) f.gt) (figured ∙ sym same);
+      ticks = ticks_are ∙ ap ticks_with timed;
       copies = omega (arith, copied, no_copies, fewer, light);
       light = omega (arith, no_weight, light);
     }
@@ -94,10 +98,11 @@ module _ (nodes : List PlanNode) (root : ℕ) {source body size advance : ℕ} (
 
   pub printed_with : NodesFollowTables → (last copies inside : ℕ) → last ≡ f.le + s.le + it.shift + (turns - 1) * stride_of s + 3 → copies ≡ capped (copies_of nodes root)
       → inside ≡ copies_inside nodes root
-      → IsPrinted nodes root (record { latency = capped (last + 1); gap = it.gap; copies = capped (copies + (it.copies - turns) * (1 + inside)) })
+      → IsPrinted nodes root (record { latency = capped (last + 1); gap = it.gap; ticks = None; copies = capped (copies + (it.copies - turns) * (1 + inside)) })
   printed_with follow last copies inside ended copied within =
       let figures : root_figures nodes root ≡ spare_over turns it.gap it.shift f s = figures_there nodes root (Window source body size advance) (Some it) at h in
       let le = ap (λ (y : Figures). y.le) figures in
+      let none : tick_gaps_at nodes root ≡ None = ticks_there nodes root (Window source body size advance) at in
       let part = part_of_copy (shape_of nodes) (weight_of nodes) (lines_of (shape_of nodes root)) in
       let weight = further_there part nodes root (Window source body size advance) (Some it) at h in
       let more = further_there (λ node. 1 + of_body (copies_of nodes) node) nodes root (Window source body size advance) (Some it) at h in
@@ -112,7 +117,8 @@ module _ (nodes : List PlanNode) (root : ℕ) {source body size advance : ℕ} (
       further-capped (copies_of nodes root) (copies_of nodes body) 1 (it.copies - turns) 0 in
       record {
         latency = omega (arith, ended, le, soon);
-        gap = sym (ap (λ (y : Figures). y.gt) figures);
+        gap = sym (ap (λ (y : Figures). y.gt) figures) ∙ sym (ap (λ (o : Option TickGaps). gap_with o (root_figures nodes root).gt) none);
+        ticks = sym (ap ticks_with none);
         copies = rw (copied, inside_is) (omega (arith, exact, more, each, light, fewer));
         light = omega (arith, weight, light);
       }

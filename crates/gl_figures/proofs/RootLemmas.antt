@@ -1,4 +1,4 @@
--- The spare copies of a root: what they are, which plans have them, and that beats come closer with them.
+-- The spare copies of a root, and the gaps of its ticks: what they are, which plans have them, and that beats come closer with them.
 use Rattle.std.proofs.Common.{◌≡◌, ℕ, ◌+◌, ◌*◌, ◌<◌, ◌≤◌, List, length, Option, Some, None, Bool, slice_get, refl, sym, ap, ◌∙◌, subst, arith, lit<}
 use Rattle.std.specs.Prelude.{if◌then◌else◌, nat_le}
 use Rattle.std.proofs.lemmas.Bool.{leb-false, leb-true}
@@ -8,13 +8,16 @@ use Rattle.gl_bits.proofs.Bools.{by_cases}
 use Rattle.gl_bits.specs.Limits.{most_rows, most_weight}
 use Rattle.gl_algebra.specs.declared.figures.Figures.{Figures}
 use Rattle.gl_algebra.specs.declared.figures.Spare.{Spare}
+use Rattle.gl_root_gaps.specs.declared.TickGaps.{TickGaps}
 use Rattle.gl_algebra.specs.declared.node.PlanNode.{PlanNode}
 use Rattle.gl_algebra.specs.declared.node.PlanNode.TheVariants.{Stream, Body, Compute, Select, Project, Frames, Aggregate, Union, Beside, Window, TimeWindow, Group, Partition}
-use Rattle.gl_algebra.specs.FigureTable.{IsSound, figures_of}
+use Rattle.gl_algebra.specs.FigureTable.{IsSound, figures_of, spaced, window_gap}
 use Rattle.gl_algebra.specs.Fits.{IsPlan, IsWithin}
+use Rattle.gl_algebra.specs.Views.{copies_of_time}
 use Rattle.gl_algebra.specs.Laws.{FiguresAreSound, NodesFollowTables}
 use Rattle.gl_algebra.specs.Nodewise.{value_at_node}
-use Rattle.gl_algebra.specs.Roots.{RootsComeCloser, figures_with, further_copies, gap_of, of_further, output_part, part_of_copy, root_figures, spare_at, spare_in, weight_with_further, weight_with_output, where_light}
+use Rattle.gl_algebra.specs.Roots.{figures_with, further_copies, of_further, output_part, part_of_copy, root_figures, spare_at, spare_in, weight_with_further, weight_with_output, where_light}
+use Rattle.gl_root_gaps.specs.Roots.{RootsComeCloser, gap_of, gap_with, tick_gaps_at, tick_gaps_in, ticks_of, ticks_with}
 use Rattle.gl_algebra.specs.Shapes.{shape_of}
 use Rattle.gl_algebra.specs.Weights.{lines_of, weight_of}
 use Rattle.gl_figures.specs.Answered.{capped, IsHeavy}
@@ -22,6 +25,7 @@ use Rattle.gl_figures.specs.declared.Limit.TheVariants.{Nodes}
 use Rattle.gl_figures.specs.Known.{weight_alone}
 use Rattle.gl_figures.proofs.CapLemmas.{further-capped}
 use Rattle.gl_figures.proofs.SpareLemmas.{spare_is}
+use Rattle.gl_figures.proofs.TickLemmas.{no_farther, over_gap, tick_gaps_are}
 
 -- a root has the spare copies of its windows, and is light enough with them
 pub record IsSpareRoot (nodes : List PlanNode) (root : ℕ) (node : PlanNode) (it : Spare) : Type 0 where
@@ -55,6 +59,11 @@ unfolding root_figures
 figures_there nodes root node o at h =
     ap (value_at_node (figures_with nodes root (spare_at nodes root)) (figures_of nodes root)) at
     ∙ ap (λ (s : Option Spare). figures_with nodes root s node) h
+
+-- the gaps of its ticks, whichever node it is
+pub ticks_there : (nodes : List PlanNode) (root : ℕ) (node : PlanNode) → slice_get nodes root ≡ Some node → tick_gaps_at nodes root ≡ tick_gaps_in (figures_of nodes) node
+unfolding tick_gaps_at
+ticks_there nodes root node at = ap (value_at_node (tick_gaps_in (figures_of nodes)) None) at
 
 -- what the further copies add, whichever node the root is
 pub further_there : (each : PlanNode → ℕ) (nodes : List PlanNode) (root : ℕ) (node : PlanNode) (o : Option Spare) → slice_get nodes root ≡ Some node
@@ -118,6 +127,25 @@ module _ (nodes : List PlanNode) (root : ℕ) (node : PlanNode) (at : slice_get 
       by (Group source body key groups) not = refl
       by (Partition source body key groups size advance) not = refl
 
+  -- and one that is no windows of time has no gaps of ticks
+  pub no_time_windows : ((source body size advance : ℕ) → node ≡ TimeWindow source body size advance → ⊥) → None ≡ tick_gaps_at nodes root
+  no_time_windows not = sym (ticks_there nodes root node at ∙ by node not)
+    where
+      by : (n : PlanNode) → ((source body size advance : ℕ) → n ≡ TimeWindow source body size advance → ⊥) → tick_gaps_in (figures_of nodes) n ≡ None
+      by (TimeWindow source body size advance) not = absurd (not source body size advance refl)
+      by (Stream number kinds) not = refl
+      by (Body kinds) not = refl
+      by (Compute child ops) not = refl
+      by (Select child column) not = refl
+      by (Project child items) not = refl
+      by (Frames child items) not = refl
+      by (Aggregate child aggs) not = refl
+      by (Union left right) not = refl
+      by (Beside left right) not = refl
+      by (Window source body size advance) not = refl
+      by (Group source body key groups) not = refl
+      by (Partition source body key groups size advance) not = refl
+
   pub is_light : (it : Spare) (weight : ℕ) → spare_in (figures_of nodes) node ≡ Some it
       → weight ≡ capped (weight_with_further nodes root node (further_copies (Some it) node)) → weight ≤ most_weight → Some it ≡ spare_at nodes root
   is_light it weight h is light =
@@ -166,14 +194,20 @@ module _ (nodes : List PlanNode) (root : ℕ) {source body size advance : ℕ} (
   pub step : IsWithin most_rows advance
   step = (plan.fits root (Window source body size advance) at).suits.2
 
-module _ (follow : NodesFollowTables) (nodes : List PlanNode) (root : ℕ) (plan : IsPlan nodes) (within : root < length nodes) where
+-- windows of time at a root: their body is there
+pub time_body_within : (nodes : List PlanNode) (root : ℕ) {source body size advance : ℕ} → IsPlan nodes → slice_get nodes root ≡ Some (TimeWindow source body size advance) → body < length nodes
+time_body_within nodes root {source} {body} {size} {advance} plan at =
+    let before = (plan.fits root (TimeWindow source body size advance) at).before 1 0 (lit< tt) in
+    omega (arith, before, slice_get_within nodes root _ at)
+
+module _ (follow : NodesFollowTables) (sound : FiguresAreSound) (nodes : List PlanNode) (root : ℕ) (plan : IsPlan nodes) (within : root < length nodes) where
   closer : (node : PlanNode) (it : Spare) → slice_get nodes root ≡ Some node → spare_in (figures_of nodes) node ≡ Some it
-      → (figures_with nodes root (Some it) node).gt < (figures_of nodes root).gt
+      → (tick_gaps_in (figures_of nodes) node ≡ None) × ((figures_with nodes root (Some it) node).gt < (figures_of nodes root).gt)
   closer (Window source body size advance) it at h =
       let x = spare_is size advance (figures_of nodes source) (figures_of nodes body) it h in
       let own = ap (λ (f : Figures). f.gt) (follow nodes root (Window source body size advance) plan at).figures in
       let gap = ap (λ (s : Spare). s.gap) x.0 in
-      omega (arith, x.1.closer, own, gap)
+      (refl, omega (arith, x.1.closer, own, gap))
   closer (Stream number kinds) it at h = absurd (cc (h))
   closer (Body kinds) it at h = absurd (cc (h))
   closer (Compute child ops) it at h = absurd (cc (h))
@@ -187,24 +221,84 @@ module _ (follow : NodesFollowTables) (nodes : List PlanNode) (root : ℕ) (plan
   closer (Group source body key groups) it at h = absurd (cc (h))
   closer (Partition source body key groups size advance) it at h = absurd (cc (h))
 
+  ticks_closer : (node : PlanNode) (it : TickGaps) → slice_get nodes root ≡ Some node → tick_gaps_in (figures_of nodes) node ≡ Some it
+      → (it.gap < (figures_of nodes root).gt) × (it.ticks ≤ (figures_of nodes root).gt)
+  ticks_closer (TimeWindow source body size advance) it at h =
+      let s = figures_of nodes body in
+      let x = tick_gaps_are size advance s it h in
+      let own = ap (λ (f : Figures). f.gt) (follow nodes root (TimeWindow source body size advance) plan at).figures in
+      let over = over_gap (copies_of_time size advance) (spaced (window_gap s) (figures_of nodes source)) s in
+      let few = no_farther size advance s (sound nodes body plan (time_body_within nodes root plan at)) in
+      let gap = ap (λ (t : TickGaps). t.gap) x.0 in
+      let ticks = ap (λ (t : TickGaps). t.ticks) x.0 in
+      (omega (arith, own, over, gap, x.1), omega (arith, own, over, few, ticks))
+  ticks_closer (Stream number kinds) it at h = absurd (cc (h))
+  ticks_closer (Body kinds) it at h = absurd (cc (h))
+  ticks_closer (Compute child ops) it at h = absurd (cc (h))
+  ticks_closer (Select child column) it at h = absurd (cc (h))
+  ticks_closer (Project child items) it at h = absurd (cc (h))
+  ticks_closer (Frames child items) it at h = absurd (cc (h))
+  ticks_closer (Aggregate child aggs) it at h = absurd (cc (h))
+  ticks_closer (Union left right) it at h = absurd (cc (h))
+  ticks_closer (Beside left right) it at h = absurd (cc (h))
+  ticks_closer (Window source body size advance) it at h = absurd (cc (h))
+  ticks_closer (Group source body key groups) it at h = absurd (cc (h))
+  ticks_closer (Partition source body key groups size advance) it at h = absurd (cc (h))
+
   with_spare : (it : Spare) → spare_at nodes root ≡ Some it → gap_of nodes root < (figures_of nodes root).gt
   with_spare it h =
       let here = get_there nodes root within in
       let x = spare_there nodes root here.0 it here.1 h in
       let f = ap (λ (f : Figures). f.gt) (figures_there nodes root here.0 (Some it) here.1 h) in
       let z = closer here.0 it here.1 x.of_node in
-      omega (arith, z, f)
+      let none = ticks_there nodes root here.0 here.1 ∙ z.0 in
+      let own : gap_of nodes root ≡ (root_figures nodes root).gt = ap (λ (o : Option TickGaps). gap_with o (root_figures nodes root).gt) none in
+      let less = z.1 in
+      omega (arith, less, f, own)
 
-  never_farther : gap_of nodes root ≤ (figures_of nodes root).gt
-  never_farther = by (spare_at nodes root) refl
+  figures_closer : (root_figures nodes root).gt ≤ (figures_of nodes root).gt
+  figures_closer = by (spare_at nodes root) refl
     where
-      by : (o : Option Spare) → spare_at nodes root ≡ o → gap_of nodes root ≤ (figures_of nodes root).gt
+      by : (o : Option Spare) → spare_at nodes root ≡ o → (root_figures nodes root).gt ≤ (figures_of nodes root).gt
       by None h =
           let here = get_there nodes root within in
           let f = ap (λ (f : Figures). f.gt) (figures_there nodes root here.0 None here.1 h) in
           omega (arith, f)
-      by (Some it) h = let z = with_spare it h in omega (arith, z)
+      by (Some it) h =
+          let here = get_there nodes root within in
+          let x = spare_there nodes root here.0 it here.1 h in
+          let f = ap (λ (f : Figures). f.gt) (figures_there nodes root here.0 (Some it) here.1 h) in
+          let less = (closer here.0 it here.1 x.of_node).1 in
+          omega (arith, f, less)
 
-pub roots_come_closer : NodesFollowTables → RootsComeCloser
-roots_come_closer follow nodes root plan within =
-    record { never_farther = never_farther follow nodes root plan within; with_spare = with_spare follow nodes root plan within }
+  with_gaps : (it : TickGaps) → tick_gaps_at nodes root ≡ Some it → (it.gap < (figures_of nodes root).gt) × (it.ticks ≤ (figures_of nodes root).gt)
+  with_gaps it h = let here = get_there nodes root within in ticks_closer here.0 it here.1 (sym (ticks_there nodes root here.0 here.1) ∙ h)
+
+  never_farther : gap_of nodes root ≤ (figures_of nodes root).gt
+  never_farther = by (tick_gaps_at nodes root) refl
+    where
+      by : (o : Option TickGaps) → tick_gaps_at nodes root ≡ o → gap_of nodes root ≤ (figures_of nodes root).gt
+      by None h = let own : gap_of nodes root ≡ (root_figures nodes root).gt = ap (λ (o : Option TickGaps). gap_with o (root_figures nodes root).gt) h in omega (arith, own, figures_closer)
+      by (Some it) h =
+          let own : gap_of nodes root ≡ it.gap = ap (λ (o : Option TickGaps). gap_with o (root_figures nodes root).gt) h in
+          let less = (with_gaps it h).0 in
+          omega (arith, own, less)
+
+  with_ticks : (n : ℕ) → ticks_of nodes root ≡ Some n → (gap_of nodes root < (figures_of nodes root).gt) × (n ≤ (figures_of nodes root).gt)
+  with_ticks n e = by (tick_gaps_at nodes root) refl
+    where
+      by : (o : Option TickGaps) → tick_gaps_at nodes root ≡ o → (gap_of nodes root < (figures_of nodes root).gt) × (n ≤ (figures_of nodes root).gt)
+      by None h = absurd (let z : None ≡ Some n = sym (ap ticks_with h) ∙ e in cc (z))
+      by (Some it) h =
+          let same : Some it.ticks ≡ Some n = sym (ap ticks_with h) ∙ e in
+          let is : it.ticks ≡ n = cc (same) in
+          let own : gap_of nodes root ≡ it.gap = ap (λ (o : Option TickGaps). gap_with o (root_figures nodes root).gt) h in
+          let both = with_gaps it h in
+          (let less = both.0 in omega (arith, own, less), let few = both.1 in omega (arith, is, few))
+
+pub roots_come_closer : NodesFollowTables → FiguresAreSound → RootsComeCloser
+roots_come_closer follow sound nodes root plan within = record {
+  never_farther = never_farther follow sound nodes root plan within;
+  with_spare = with_spare follow sound nodes root plan within;
+  with_ticks = with_ticks follow sound nodes root plan within;
+}

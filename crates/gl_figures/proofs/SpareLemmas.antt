@@ -14,11 +14,11 @@ use Rattle.gl_algebra.specs.declared.figures.Spare.{Spare}
 use Rattle.gl_algebra.specs.Spares.{AreSpareNumbers, Suffices, SparesSuffice, has_spare, spare_copies, spare_figures, spare_gap, spare_of, spare_shift}
 
 -- a product that covers
-covers : (a b : ℕ) → 1 ≤ b → a ≤ div_ceil a b * b
+pub covers : (a b : ℕ) → 1 ≤ b → a ≤ div_ceil a b * b
 covers a b some = (div_ceil_times a b some).0
 
 -- and no fewer do
-fewest : (a b c : ℕ) → 1 ≤ b → a ≤ c * b → div_ceil a b ≤ c
+pub fewest : (a b c : ℕ) → 1 ≤ b → a ≤ c * b → div_ceil a b ≤ c
 fewest a b c some l = elim (cases_lt c (div_ceil a b)) [
   | inl more ↦ absurd (
       let past : suc c * b ≤ div_ceil a b * b = mul-le-mul_right b more in

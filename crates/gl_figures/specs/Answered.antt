@@ -5,7 +5,8 @@ use Rattle.gl_algebra.specs.declared.figures.Figures.{Figures}
 use Rattle.gl_algebra.specs.declared.node.PlanNode.{PlanNode}
 use Rattle.gl_algebra.specs.FigureTable.{AreSmall, figures_of}
 use Rattle.gl_algebra.specs.Weights.{weight_of}
-use Rattle.gl_algebra.specs.Roots.{copies_with_spare, gap_of, latency_of, weight_with_output}
+use Rattle.gl_algebra.specs.Roots.{copies_with_spare, latency_of, weight_with_output}
+use Rattle.gl_root_gaps.specs.Roots.{gap_of, ticks_of}
 use Rattle.gl_figures.specs.declared.Limit.{Limit}
 use Rattle.gl_figures.specs.declared.Limit.TheVariants.{Latency, Nodes}
 use Rattle.gl_figures.specs.declared.Printed.{Printed}
@@ -33,6 +34,7 @@ pub record IsLate (nodes : List PlanNode) (old new : List Figures) (limit : Limi
 pub record IsPrinted (nodes : List PlanNode) (root : ℕ) (printed : Printed) : Type 0 where
   pub latency : printed.latency ≡ latency_of nodes root
   pub gap : printed.gap ≡ gap_of nodes root
+  pub ticks : printed.ticks ≡ ticks_of nodes root
   pub copies : printed.copies ≡ copies_with_spare nodes root
   pub light : weight_with_output nodes root ≤ most_weight
 

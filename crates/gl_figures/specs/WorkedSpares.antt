@@ -1,9 +1,12 @@
--- Windows over a body, with the spare copies and the latencies that follow from the definitions by hand.
+-- Windows over a body, with the spare copies, the latencies and the gaps of ticks that follow from the definitions by
+-- hand.
 use Rattle.std.specs.Prelude.{ℕ, ◌≡◌, ◌+◌, Option, Some, None}
 use Rattle.gl_algebra.specs.declared.figures.Figures.{Figures}
 use Rattle.gl_algebra.specs.FigureTable.{input_figures, union_figures, window_figures, aggregate_figures, group_figures}
 use Rattle.gl_algebra.specs.declared.figures.Spare.{Spare}
+use Rattle.gl_root_gaps.specs.declared.TickGaps.{TickGaps}
 use Rattle.gl_algebra.specs.Spares.{spare_figures, spare_of}
+use Rattle.gl_root_gaps.specs.TickGaps.{tick_gaps_of}
 
 -- the greatest sum of so many neighbours
 abbrev pub greatest_of : ℕ → Figures
@@ -26,7 +29,15 @@ over_stream size advance body = spare_of size advance input_figures body
 abbrev pub latency : ℕ → ℕ → Figures → ℕ
 latency size advance body = (spare_figures size advance input_figures body).le + 1
 
--- spare copies and latencies of worked windows, from the definitions by hand
+-- a count of each of so many groups
+abbrev pub counts_of : ℕ → Figures
+counts_of groups = group_figures groups input_figures (aggregate_figures 1 input_figures)
+
+-- gaps of 1 where ticks are so many cycles apart
+abbrev pub apart_by : ℕ → Option TickGaps
+apart_by ticks = Some (record { gap = 1; ticks = ticks })
+
+-- spare copies, latencies and gaps of ticks of worked windows, from the definitions by hand
 pub record WorkedSpares : Type 0 where
   -- the body's ends are 3 cycles apart, so windows of 4 rows each fill up late enough
   pub each : over_stream 4 4 (greatest_of 2) ≡ spares 2 1 2
@@ -48,3 +59,11 @@ pub record WorkedSpares : Type 0 where
   -- a body that can take the next rows at once needs none, and of a source that merges two a beat's rows come in turn
   pub quick : over_stream 4 2 (aggregate_figures 1 input_figures) ≡ None
   pub merged : spare_of 4 4 (union_figures input_figures input_figures) (greatest_of 2) ≡ None
+  -- ticks: counts of 64 groups end 65 cycles apart and are ready again after 67, in windows of each tick and of 60
+  pub each_tick : tick_gaps_of 1 1 (counts_of 64) ≡ apart_by 67
+  pub each_minute : tick_gaps_of 60 60 (counts_of 64) ≡ apart_by 65
+  -- of 4 groups, with ticks between windows, and of 2 in windows of which 3 are open at once
+  pub every_fourth : tick_gaps_of 1 4 (counts_of 4) ≡ apart_by 3
+  pub three_open : tick_gaps_of 3 1 (counts_of 2) ≡ apart_by 5
+  -- a body that can take the next rows at once needs ticks no farther apart
+  pub quick_tick : tick_gaps_of 1 1 (aggregate_figures 1 input_figures) ≡ None

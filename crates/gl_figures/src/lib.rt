@@ -11,15 +11,18 @@ pub mod marks;
 pub mod reach_laws;
 pub mod roots;
 pub mod spares;
+pub mod ticks;
 pub mod weighed;
 mod weights;
 
 pub use copied::cap;
 pub use figured::{figures, places};
 pub use gl_algebra::Spare;
+pub use gl_root_gaps::TickGaps;
 pub use marks::marks_of;
 pub use roots::{figures_at, root_spare};
 use thiserror::Error;
+pub use ticks::root_ticks;
 pub use weighed::{weigh, zeros};
 
 /// What is printed of a query's circuit.
@@ -29,6 +32,8 @@ pub struct Printed {
     pub latency: u64,
     /// The fewest cycles from one beat to the next.
     pub gap: u32,
+    /// The fewest cycles from a tick to the next one and to the end, where they are others.
+    pub ticks: Option<u32>,
     /// The copies of bodies of windows and groups.
     pub copies: u64,
 }

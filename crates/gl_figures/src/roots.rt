@@ -12,6 +12,7 @@ ghost use Rattle.gl_bits.specs.Limits.{most_weight};
 use crate::Printed;
 use crate::copied::{cap, copies_at, times};
 use crate::spares::{last_with_spare, spare};
+use crate::ticks::{gap_with, root_ticks, ticks_with};
 use crate::weights::lines_of;
 use gl_algebra::laws::{figures_are_sound, nodes_follow_tables};
 use gl_algebra::table::copies_of_window;
@@ -110,9 +111,11 @@ pub(crate) fn printed_alone(plan: &Plan, root: PlanId, figures: &[Figures], copi
     // What `len` ensures of it is what the goals below ask for.
     let _ = plan.len();
     let own = figures_at(plan, figures, root);
+    let ticks = root_ticks(plan, root, figures);
     Printed {
         latency: own.le as u64 + 1,
-        gap: own.gt,
+        gap: gap_with(ticks, own.gt),
+        ticks: ticks_with(ticks),
         copies,
     }
 }
@@ -149,6 +152,7 @@ pub(crate) fn printed_with(
             Printed {
                 latency: cap(last + 1),
                 gap: it.gap,
+                ticks: None,
                 copies: cap(copies as u128 + further),
             }
         }

@@ -126,6 +126,9 @@ fn push_figures(
         Figured::Alone(_, printed, _) => {
             put_number(&mut line, b"latency ", u128::from(printed.latency))?;
             put_number(&mut line, b", gap ", u128::from(printed.gap))?;
+            if let Some(ticks) = printed.ticks {
+                put_number(&mut line, b", ticks ", u128::from(ticks))?;
+            }
             put_number(&mut line, b", copies ", u128::from(printed.copies))?;
         }
         Figured::Together(latencies, gap) => {

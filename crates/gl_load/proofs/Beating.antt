@@ -9,6 +9,8 @@ use Rattle.gl_schema.specs.Schemas.{IsRowOf, text_word}
 use Rattle.gl_tuples.specs.declared.beats.Beat as files
 use Rattle.gl_tuples.specs.Gaps.{plain_beat, plain_beats}
 use Rattle.gl_schema.specs.Beats.{Beat, AreBeats, AreInOrder, IsBeat, KeepsGap}
+use Rattle.gl_gaps.specs.Keeps.{KeepsGaps, even_gaps}
+use Rattle.gl_gaps.proofs.EvenGaps.{keeps_even}
 use Rattle.gl_load.specs.Query.{load_columns, load_schema}
 use Rattle.gl_load.specs.Tuples.{load_beat, load_beats, load_row, symbol_at}
 
@@ -52,5 +54,5 @@ pub are_beats : (n : ℕ) → 1 ≤ n → AreBeats load_schema (load_beats n)
 are_beats zero some = absurd (omega arith)
 are_beats (suc k) some = record { each = each (suc k) 0 (suc k); order = order (suc k) 0 k (omega arith) }
 
-pub keep_gap : (n : ℕ) → KeepsGap 1 (load_beats n)
-keep_gap n = keeps n 0 n
+pub keep_gaps : (n : ℕ) → KeepsGaps (even_gaps 1) (load_beats n)
+keep_gaps n = keeps_even 1 (load_beats n) (keeps n 0 n)

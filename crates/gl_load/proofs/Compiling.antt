@@ -1,6 +1,8 @@
 -- Nothing but want of memory keeps the query of the load from being compiled.
 use Rattle.std.proofs.Common.{◌≡◌, ◌⊎◌, ℕ, [], Some, None, refl, sym, ap, subst, ◌∙◌, inl, inr}
+use Rattle.gl_gaps.specs.declared.Gaps.{Gaps}
 use Rattle.gl_schema.specs.declared.schema.Schema.{Schema}
+use Rattle.gl_gaps.specs.Keeps.{even_gaps}
 use Rattle.gl_schema.specs.SchemaText.{IsSchemaText}
 use Rattle.gl_schema.proofs.Readings.{not_both, one_schema}
 use Rattle.gl_query.specs.declared.tree.Statement.{Statement}
@@ -15,12 +17,12 @@ use Rattle.gl_query_texts.specs.Judged.{BreaksRule, HasNoStatement}
 use Rattle.gl_query_texts.proofs.Judged.{one_meaning}
 use Rattle.gl_query_texts.specs.Limits.{IsOverLimit}
 use Rattle.gl_figures.specs.declared.Limit.{Limit}
-use Rattle.gl_compiler.proofs.Planning.{gap_at}
+use Rattle.gl_compiler.proofs.Planning.{gaps_at}
 use Rattle.gl_elaborate.specs.Plans.{placed, plan_of, stream_node}
 use Rattle.gl_plan.specs.Planned.{IsWithinLimits}
 use Rattle.gl_compiler.specs.declared.compiling.Compiled.{Compiled}
 use Rattle.gl_compiler.specs.Below.{LawsBelow}
-use Rattle.gl_compiler.specs.Built.{gap_of, latency_of}
+use Rattle.gl_compiler.specs.Built.{gaps_of, latency_of}
 use Rattle.gl_compiler.specs.Meets.{Meets}
 use Rattle.gl_compiler.specs.declared.fault.CompileFault.{CompileFault}
 use Rattle.gl_compiler.specs.declared.fault.CompileFault.TheVariants as compile
@@ -29,7 +31,7 @@ use Rattle.gl_compiler.specs.Texts.{IsCompiledText, IsTextRefused, OfSchema}
 use Rattle.gl_load.specs.Query.{load_schema, query_text, schema_text}
 use Rattle.gl_load.specs.Steps.{IsCompiledLoad}
 use Rattle.gl_load.proofs.Constants.{load_tree, query_faultless, query_has, schema_spelled}
-use Rattle.gl_load.proofs.Planning.{load_gap, load_plan, plan_within}
+use Rattle.gl_load.proofs.Planning.{load_gaps, load_plan, plan_within}
 
 -- each statement of the query's text has the query and the plan of the load, and takes a tuple in each cycle
 pub query_is : LawsBelow → (s : Statement) → HasStatement query_text (statement_tree s) → query_shape s.query ≡ query_alike load_tree.query
@@ -38,8 +40,8 @@ query_is laws s has = sym (query_same s.query) ∙ ap (λ (x : StatementTree). q
 plan_is : LawsBelow → (s : Statement) → HasStatement query_text (statement_tree s) → plan_of load_schema s ≡ load_plan
 plan_is laws s has = ap (λ (q : QueryShape). placed (stream_node load_schema.streams) load_schema.streams q []) (query_is laws s has)
 
-pub gap_is : LawsBelow → (s : Statement) → HasStatement query_text (statement_tree s) → gap_of load_schema s ≡ 1
-gap_is laws s has = ap (λ (q : QueryShape). gap_at load_schema q) (query_is laws s has) ∙ load_gap
+pub gaps_are : LawsBelow → (s : Statement) → HasStatement query_text (statement_tree s) → gaps_of load_schema s ≡ even_gaps 1
+gaps_are laws s has = ap (λ (q : QueryShape). gaps_at load_schema q) (query_is laws s has) ∙ load_gaps
 
 faultless : LawsBelow → (f : QueryFault) → HasNoStatement query_text f ⊎ BreaksRule load_schema query_text f → ⊥
 faultless laws f (inl h) = h.none load_tree query_has
@@ -70,12 +72,12 @@ uncompiled laws compile.Memory h = refl
 pub compiled_load : LawsBelow → (c : Compiled) → IsCompiledText schema_text query_text c → IsCompiledLoad c
 compiled_load laws c made =
     let schema : c.schema ≡ load_schema = schema_is c.schema made.schema in
-    record { made = made; schema = schema; gap = made.compiled.gap ∙ ap (λ (s : Schema). gap_of s c.statement) schema ∙ gap_is laws c.statement made.query'.has }
+    record { made = made; schema = schema; gaps = made.compiled.gaps ∙ ap (λ (s : Schema). gaps_of s c.statement) schema ∙ gaps_are laws c.statement made.query'.has }
 
 -- its text meets the statement over the schema of the load
-pub meets_load : (c : Compiled) → IsCompiledLoad c → Meets load_schema c.statement (latency_of load_schema c.statement) (gap_of load_schema c.statement) c.text.items
+pub meets_load : (c : Compiled) → IsCompiledLoad c → Meets load_schema c.statement (latency_of load_schema c.statement) (gaps_of load_schema c.statement) c.text.items
 meets_load c is =
     let made = is.made.compiled in
-    subst (λ (s : Schema). Meets s c.statement (latency_of s c.statement) (gap_of s c.statement) c.text.items) is.schema (
-    subst (λ (n : ℕ). Meets c.schema c.statement n (gap_of c.schema c.statement) c.text.items) made.latency (
-    subst (λ (n : ℕ). Meets c.schema c.statement c.printed.latency n c.text.items) made.gap made.meets))
+    subst (λ (s : Schema). Meets s c.statement (latency_of s c.statement) (gaps_of s c.statement) c.text.items) is.schema (
+    subst (λ (n : ℕ). Meets c.schema c.statement n (gaps_of c.schema c.statement) c.text.items) made.latency (
+    subst (λ (g : Gaps). Meets c.schema c.statement c.printed.latency g c.text.items) made.gaps made.meets))

@@ -5,6 +5,7 @@ use Rattle.std.proofs.Math.Dec.{leb}
 use Rattle.std.proofs.lemmas.Bool.{eqb-true, eqb-false, leb-true}
 use Rattle.gl_bits.proofs.Bools.{and_left, and_right}
 use Rattle.gl_bits.proofs.Options.{some_there}
+use Rattle.gl_gaps.specs.Keeps.{even_gaps}
 use Rattle.gl_query.specs.Alike.{query_alike}
 use Rattle.gl_algebra.specs.declared.node.PlanNode.{PlanNode}
 use Rattle.gl_algebra.specs.Added.{Placed, added}
@@ -15,7 +16,7 @@ use Rattle.gl_algebra.specs.Small.{are_small, small_of}
 use Rattle.gl_algebra.proofs.SmallLemmas.{small-is}
 use Rattle.gl_algebra.specs.Weights.{weight_of}
 use Rattle.gl_algebra.specs.Roots.{of_further, spare_at, weight_with_output}
-use Rattle.gl_compiler.proofs.Planning.{gap_at}
+use Rattle.gl_compiler.proofs.Planning.{gaps_at}
 use Rattle.gl_figures.specs.Answered.{AreSmallBefore}
 use Rattle.gl_bits.specs.Limits.{most_weight}
 use Rattle.gl_elaborate.specs.Levels.{level_of}
@@ -52,5 +53,5 @@ pub plan_within : IsWithinLimits load_plan
 plan_within = record { small = small_before load_plan.nodes (length load_plan.nodes) plan_small; light = leb-true _ _ plan_light }
 
 -- it takes a tuple in each cycle, and has no spare copies, since its windows do so without any
-pub load_gap : gap_at load_schema (query_alike load_tree.query) ≡ 1
-load_gap = refl
+pub load_gaps : gaps_at load_schema (query_alike load_tree.query) ≡ even_gaps 1
+load_gaps = refl

@@ -3,9 +3,11 @@ use Rattle.std.proofs.Common.{◌≡◌, ◌↔◌, ℕ, ◌≤◌, List, [], �
 use Rattle.std.specs.Prelude.{IfOk, IsOk}
 use Rattle.gl_values.specs.declared.kind.Kind.{Kind}
 use Rattle.gl_values.specs.declared.kind.Kind.TheVariants.{Unsigned}
+use Rattle.gl_gaps.specs.declared.Gaps.{Gaps}
 use Rattle.gl_schema.specs.declared.schema.Schema.{Schema}
 use Rattle.gl_schema.specs.Schemas.{kinds_of}
-use Rattle.gl_schema.specs.Beats.{Beat, KeepsGap, inputs_of}
+use Rattle.gl_schema.specs.Beats.{Beat, inputs_of}
+use Rattle.gl_gaps.specs.Keeps.{KeepsGaps}
 use Rattle.gl_schema.specs.Ports.{PortValues}
 use Rattle.gl_schema.specs.Right.{IsRight}
 use Rattle.gl_schema.specs.Seen.{lines, rows_of, seen, shown}
@@ -21,7 +23,7 @@ use Rattle.gl_verilog_ports.specs.Profile.{result_names}
 use Rattle.gl_compiler.specs.declared.compiling.Compiled.{Compiled}
 use Rattle.gl_runner.specs.declared.executing.Outcome.TheVariants.{Done}
 use Rattle.gl_compiler.specs.Below.{LawsBelow}
-use Rattle.gl_compiler.specs.Built.{gap_of, latency_of}
+use Rattle.gl_compiler.specs.Built.{gaps_of, latency_of}
 use Rattle.gl_compiler.specs.Meets.{result_columns}
 use Rattle.gl_compiler.specs.Queries.{IsQuery}
 use Rattle.gl_runner.specs.Prints.{AreLinesOf, IsRunOver, OfEachRun, Ran, Writes}
@@ -31,8 +33,8 @@ use Rattle.gl_load.specs.Steps.{AreRunLines, IsCompiledLoad, Kept, kept_state}
 use Rattle.gl_load.specs.Told as spec
 use Rattle.gl_load.specs.Tuples.{load_beats}
 use Rattle.gl_load.specs.Tallies.{summary_of}
-use Rattle.gl_load.proofs.Beating.{are_beats, keep_gap}
-use Rattle.gl_load.proofs.Compiling.{gap_is, meets_load, query_is}
+use Rattle.gl_load.proofs.Beating.{are_beats, keep_gaps}
+use Rattle.gl_load.proofs.Compiling.{gaps_are, meets_load, query_is}
 use Rattle.gl_load.proofs.Constants.{load_tree}
 use Rattle.gl_load.proofs.Counting.{are_counted, are_numbers}
 use Rattle.gl_load.proofs.Telling.{told_seen}
@@ -69,7 +71,7 @@ right_of laws count c some one is m value word has over =
     let meets = meets_load c is in
     let same : m ≡ meets.design = one m meets.design has meets.has in
     let run : IsRunOver meets.design load_schema beats Zero value word = subst (λ (x : Module). IsRunOver x load_schema beats Zero value word) same over in
-    let near : KeepsGap (gap_of load_schema c.statement) beats = subst (λ (n : ℕ). KeepsGap n beats) (sym (gap_is laws c.statement is.made.query'.has)) (keep_gap count) in
+    let near : KeepsGaps (gaps_of load_schema c.statement) beats = subst (λ (g : Gaps). KeepsGaps g beats) (sym (gaps_are laws c.statement is.made.query'.has)) (keep_gaps count) in
     subst (λ (x : Module). IsRight (IsResult load_schema c.statement) (latency_of load_schema c.statement) beats (result_names x) (port_of x value)) (sym same)
     (meets.right beats value word (record { are = are_beats count some; keep = near; run = run.run; stimulus = run.stimulus }))
 

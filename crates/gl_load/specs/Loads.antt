@@ -7,7 +7,7 @@ use Rattle.gl_schema.specs.Seen.{rows_of, seen, shown}
 use Rattle.gl_query.specs.declared.tree.Statement.{Statement}
 use Rattle.gl_query.specs.Results.{IsResult}
 use Rattle.gl_verilog.specs.declared.start.Start.TheVariants.{Zero}
-use Rattle.gl_compiler.specs.Built.{gap_of, latency_of}
+use Rattle.gl_compiler.specs.Built.{gaps_of, latency_of}
 use Rattle.gl_compiler.specs.Queries.{IsQuery}
 use Rattle.gl_compiler.specs.Meets.{Meets, result_columns}
 use Rattle.gl_runner.specs.Prints.{IsEnd, OfEachRun}
@@ -30,5 +30,5 @@ pub record TellsRun (statement : Statement) (n : ℕ) (summary : List ℕ) (outs
 pub record IsLoad (n : ℕ) (summary text : List ℕ) : Type 0 where
   pub statement : Statement
   pub query' : IsQuery load_schema query_text statement
-  pub meets : Meets load_schema statement (latency_of load_schema statement) (gap_of load_schema statement) text
+  pub meets : Meets load_schema statement (latency_of load_schema statement) (gaps_of load_schema statement) text
   pub told : OfEachRun text load_schema (load_beats n) Zero (TellsRun statement n summary)

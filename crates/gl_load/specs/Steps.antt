@@ -3,8 +3,10 @@
 use Rattle.std.specs.Prelude.{◌≡◌, ℕ, ◌*◌, ◌≤◌, List, Some}
 use Rattle.gl_schema.specs.Schemas.{kinds_of}
 use Rattle.gl_schema.specs.Beats.{Beat}
+use Rattle.gl_gaps.specs.Keeps.{even_gaps}
 use Rattle.gl_verilog.specs.declared.start.Start.TheVariants.{Zero}
 use Rattle.gl_compiler.specs.declared.compiling.Compiled.{Compiled}
+use Rattle.gl_compiler.specs.Built.{printed_gaps}
 use Rattle.gl_compiler.specs.Meets.{result_columns}
 use Rattle.gl_compiler.specs.Texts.{IsCompiledText}
 use Rattle.gl_runner.specs.Prints.{AreLinesOf, OfEachRun}
@@ -34,7 +36,7 @@ kept_state s = record { taken = Some s.bytes; faults = s.faults }
 pub record IsCompiledLoad (c : Compiled) : Type 0 where
   pub made : IsCompiledText schema_text query_text c
   pub schema : c.schema ≡ load_schema
-  pub gap : c.printed.gap ≡ 1
+  pub gaps : printed_gaps c.printed ≡ even_gaps 1
 
 -- the bytes are the lines of each run of its text over these beats, from registers and words of 0
 abbrev pub AreRunLines : Compiled → List Beat → List ℕ → Type 0

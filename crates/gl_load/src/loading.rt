@@ -1,7 +1,8 @@
 //! The load: compiled, run and told.
 
 ghost use Rattle.std.specs.Prelude.{◌≡◌, ◌↔◌, ◌≤◌, IfOk, IsOk};
-ghost use Rattle.gl_schema.specs.Beats.{AreBeats, KeepsGap};
+ghost use Rattle.gl_schema.specs.Beats.{AreBeats};
+ghost use Rattle.gl_gaps.specs.Keeps.{KeepsGaps, even_gaps};
 ghost use Rattle.gl_tuples.specs.Gaps.{plain_beats};
 ghost use Rattle.gl_load.specs.Query.{load_schema};
 ghost use Rattle.gl_load.specs.Loads.{IsLoad};
@@ -64,7 +65,7 @@ fn ended(outcome: Outcome, sink: TextSink) -> Result<TextSink, Memory>
 fn run(alloc: Global, compiled: &Compiled, beats: &Beats) -> Result<TextSink, Memory>
     requires compiled { IsCompiledLoad compiled.now }
     requires beats { AreBeats load_schema (plain_beats beats.now) }
-    requires gap { KeepsGap 1 (plain_beats beats.now) }
+    requires gaps { KeepsGaps (even_gaps 1) (plain_beats beats.now) }
     ensures { IfOk result (λ sink. AreRunLines compiled.now (plain_beats beats.now) sink.bytes) }
 {
     accepted_have_real_columns();

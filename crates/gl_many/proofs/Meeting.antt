@@ -4,8 +4,10 @@ use Rattle.std.specs.List.{AllByRecursion, flat_map}
 use Rattle.gl_bits.proofs.AllLists.{map_map}
 use Rattle.gl_bits.proofs.Options.{some_same}
 use Rattle.gl_schema.specs.declared.schema.Column.{Column}
+use Rattle.gl_gaps.specs.declared.Gaps.{Gaps}
 use Rattle.gl_schema.specs.declared.schema.Schema.{Schema}
 use Rattle.gl_schema.specs.Schemas.{column_names}
+use Rattle.gl_gaps.specs.Keeps.{even_gaps}
 use Rattle.gl_schema.specs.Ports.{PortValues, out_column}
 use Rattle.gl_schema.specs.Profile.{ProfilePort, clk, input}
 use Rattle.gl_schema.specs.Right.{IsRight, Meaning}
@@ -44,8 +46,8 @@ use Rattle.gl_many.proofs.Standing.{AllStand, Laws, StandsAt, all_accepted, figu
 
 -- ---- one of them
 
-module _ (runs : RunLaws) (schema : Schema) (nodes : List PlanNode) (gap : ℕ) (net : Net) (text : List ℕ) (e : IsEmission net schema text) where
-  module _ (s : Statement) (id : ℕ) (at : StandsAt nodes schema s id) (wired : IsRightFor schema nodes gap net (root_of schema s id)) where
+module _ (runs : RunLaws) (schema : Schema) (nodes : List PlanNode) (gaps : Gaps) (net : Net) (text : List ℕ) (e : IsEmission net schema text) where
+  module _ (s : Statement) (id : ℕ) (at : StandsAt nodes schema s id) (wired : IsRightFor schema nodes gaps net (root_of schema s id)) where
     abbrev outs : List (List ℕ)
     outs = map out_column (column_names (result_columns schema s))
 
@@ -62,35 +64,35 @@ module _ (runs : RunLaws) (schema : Schema) (nodes : List PlanNode) (gap : ℕ) 
     none = outs_other (column_names (result_columns schema s))
 
     -- what holds of the netlist, seen as this result, holds of the text: that it is right
-    text_right : OverRuns e.design schema gap (λ beats port. IsRight (IsResult schema s) latency beats outs (view port))
+    text_right : OverRuns e.design schema gaps (λ beats port. IsRight (IsResult schema s) latency beats outs (view port))
     text_right = λ beats value word driven.
         right_wider means (IsResult schema s) latency beats outs (root_result nodes schema s id beats driven.are at.right) (view (port_of e.design value))
-        (holds_of_runs net schema text e gap (λ all port. IsRight means latency all outs (view port))
+        (holds_of_runs net schema text e gaps (λ all port. IsRight means latency all outs (view port))
         (past_within s.name.text (λ all port. IsRight means latency all outs port) (right_past means latency outs none)) wired.right beats value word driven)
 
     -- and that its overflow line is kept
-    text_keeps : OverRuns e.design schema gap (λ beats port. KeepsLine outs (view port))
+    text_keeps : OverRuns e.design schema gaps (λ beats port. KeepsLine outs (view port))
     text_keeps =
-        holds_of_runs net schema text e gap (λ all port. KeepsLine outs (view port)) (past_within s.name.text (λ all port. KeepsLine outs port) (keeps_past outs none))
-        (λ run all trace are gaps stimulus. let h = wired.group run all trace are gaps stimulus in record { lasts = h.lasts; stays = h.stays })
+        holds_of_runs net schema text e gaps (λ all port. KeepsLine outs (view port)) (past_within s.name.text (λ all port. KeepsLine outs port) (keeps_past outs none))
+        (λ run all trace are keep stimulus. let h = wired.group run all trace are keep stimulus in record { lasts = h.lasts; stays = h.stays })
 
-    one_right : IsRightAmong schema gap e.design s
+    one_right : IsRightAmong schema gaps e.design s
     one_right =
         let named : outs ≡ outs_of schema s = map_map out_column (λ (c : Column). c.name) (result_columns schema s) in
         let soon : latency ≡ own_latency schema s = ap (λ (f : Figures). f.le + 1) (figures_own nodes schema s id at) in
         record {
           right =
-              subst (λ (n : ℕ). OverRuns e.design schema gap (λ beats port. IsRight (IsResult schema s) n beats (outs_of schema s) (view port))) soon
-              (subst (λ (names : List (List ℕ)). OverRuns e.design schema gap (λ beats port. IsRight (IsResult schema s) latency beats names (view port))) named text_right);
+              subst (λ (n : ℕ). OverRuns e.design schema gaps (λ beats port. IsRight (IsResult schema s) n beats (outs_of schema s) (view port))) soon
+              (subst (λ (names : List (List ℕ)). OverRuns e.design schema gaps (λ beats port. IsRight (IsResult schema s) latency beats names (view port))) named text_right);
           group =
-              subst (λ (names : List (List ℕ)). OverRuns e.design schema gap (λ beats port. TellsGroup (IsResult schema s) beats names (view port))) named
-              (tells_group runs net schema text e view (view_steady s.name.text) outs none (IsResult schema s) latency gap text_right text_keeps);
+              subst (λ (names : List (List ℕ)). OverRuns e.design schema gaps (λ beats port. TellsGroup (IsResult schema s) beats names (view port))) named
+              (tells_group runs net schema text e view (view_steady s.name.text) outs none (IsResult schema s) latency gaps text_right text_keeps);
         }
 
   -- ---- all of them
 
-  all_right : (ss : List Statement) (ids : List ℕ) → AllStand nodes schema ss ids → AllByRecursion (IsRightFor schema nodes gap net) (roots_of schema ss ids)
-      → AllByRecursion (IsRightAmong schema gap e.design) ss
+  all_right : (ss : List Statement) (ids : List ℕ) → AllStand nodes schema ss ids → AllByRecursion (IsRightFor schema nodes gaps net) (roots_of schema ss ids)
+      → AllByRecursion (IsRightAmong schema gaps e.design) ss
   all_right [] ids all wired = tt
   all_right (s ∷ ss) [] all wired = absurd all
   all_right (s ∷ ss) (id ∷ ids) all wired = (one_right s id all.0 wired.0, all_right ss ids all.1 wired.1)
@@ -132,6 +134,6 @@ module _ (laws : Laws) (schema : Schema) (ss : List Statement) (p : PlannedSever
         few_registers = subst (λ (n : ℕ). n ≤ most_registers_of_all (plans_of [] schema ss)) (sym text.registers) (few_registers schema ss p is net wired own);
         few_memories = subst (λ (n : ℕ). n ≤ most_memory_of_all (plans_of [] schema ss)) (sym text.memories) (few_memories schema ss p is net wired own);
         runs = text.runs;
-        each = all_right runs schema p.plan (shared_gap schema ss) net made.text.items text ss ids all
-            (subst (λ (g : ℕ). AllByRecursion (IsRightFor schema p.plan g net) (roots_of schema ss ids)) gap wired.each);
+        each = all_right runs schema p.plan (even_gaps (shared_gap schema ss)) net made.text.items text ss ids all
+            (subst (λ (g : ℕ). AllByRecursion (IsRightFor schema p.plan (even_gaps g) net) (roots_of schema ss ids)) gap wired.each);
       }

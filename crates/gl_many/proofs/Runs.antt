@@ -2,8 +2,10 @@
 use Rattle.std.proofs.Common.{◌≡◌, ℕ, ◌≤◌, ◌^◌, List, [], ◌∷◌, map, max, sym, subst, arith}
 use Rattle.std.specs.List.{AllByRecursion}
 use Rattle.gl_bits.proofs.AllLists.{all_of_mapped, all_weaker}
+use Rattle.gl_gaps.specs.declared.Gaps.{Gaps}
 use Rattle.gl_schema.specs.declared.schema.Schema.{Schema}
-use Rattle.gl_schema.specs.Beats.{Beat, AreBeats, KeepsGap}
+use Rattle.gl_schema.specs.Beats.{Beat, AreBeats}
+use Rattle.gl_gaps.specs.Keeps.{KeepsGaps, even_gaps}
 use Rattle.gl_schema.specs.Schemas.{IsSchema}
 use Rattle.gl_query.specs.declared.tree.Statement.{Statement}
 use Rattle.gl_query.specs.Laws.{AcceptedHaveRealColumns}
@@ -39,25 +41,25 @@ greatest_within (n ∷ ns) most h = omega (arith, h.0, greatest_within ns most h
 
 -- ---- the ends
 
-all_end : (schema : Schema) (statements : List Statement) (gap latency : ℕ) (design : Module) (beats : List Beat) (value : ℕ → Nets) (word : ℕ → Memories)
-    → AllByRecursion (IsRightAmong schema gap design) statements → AllByRecursion (λ s. own_latency schema s ≤ latency) statements → Drives design schema gap beats value word
+all_end : (schema : Schema) (statements : List Statement) (gaps : Gaps) (latency : ℕ) (design : Module) (beats : List Beat) (value : ℕ → Nets) (word : ℕ → Memories)
+    → AllByRecursion (IsRightAmong schema gaps design) statements → AllByRecursion (λ s. own_latency schema s ≤ latency) statements → Drives design schema gaps beats value word
     → AllEndWithin latency beats (faces_of schema statements) (port_of design value)
-all_end schema [] gap latency design beats value word each long driven = tt
-all_end schema (s ∷ ss) gap latency design beats value word each long driven =
+all_end schema [] gaps latency design beats value word each long driven = tt
+all_end schema (s ∷ ss) gaps latency design beats value word each long driven =
     let right = each.0.right beats value word driven in
     let first : EndsWithin latency beats (outs_of (face_of schema s)) (seen_as s.name.text (port_of design value)) =
     record { ended = right.ended; soonest = right.soonest; in_time = omega (arith, right.in_time, long.0); ends = right.ends } in
-    (first, all_end schema ss gap latency design beats value word each.1 long.1 driven)
+    (first, all_end schema ss gaps latency design beats value word each.1 long.1 driven)
 
 -- by the law of ports
-can_run : AcceptedHaveRealColumns → (are_ports : (text : List ℕ) (m : Module) → HasModule text m → HasInputPorts m) (m : Many) (beats : List Beat) (start : Start) → AreRunnable m → AreBeats m.schema beats → KeepsGap m.planned.gap beats
+can_run : AcceptedHaveRealColumns → (are_ports : (text : List ℕ) (m : Module) → HasModule text m → HasInputPorts m) (m : Many) (beats : List Beat) (start : Start) → AreRunnable m → AreBeats m.schema beats → KeepsGaps (even_gaps m.planned.gap) beats
     → CanRunAll m.text.items m.schema (faces_of m.schema (statements_in m)) beats (greatest m.planned.latencies.items) start
 can_run real_columns are_ports m beats start is are keep =
     let meets = is.meets in
     let design = meets.design in
     let latency = greatest m.planned.latencies.items in
     let shared = shared_gap m.schema (statements_in m) in
-    let keeps : KeepsGap shared beats = subst (λ (n : ℕ). KeepsGap n beats) is.gap keep in
+    let keeps : KeepsGaps (even_gaps shared) beats = subst (λ (n : ℕ). KeepsGaps (even_gaps n) beats) is.gap keep in
     let long : AllByRecursion (λ s. own_latency m.schema s ≤ latency) (statements_in m) =
     all_of_mapped (λ n. n ≤ latency) (own_latency m.schema) (statements_in m) (subst (AllByRecursion (λ n. n ≤ latency)) is.latencies (none_longer m.planned.latencies.items)) in
     record {
@@ -72,11 +74,11 @@ can_run real_columns are_ports m beats start is are keep =
       faces' = have_faces design m.schema (statements_in m) meets.has.valid.names meets.face real_columns is.fine meets.accepted;
       short = greatest_within m.planned.latencies.items (2 ^ 32) is.short;
       end = λ value word over.
-          all_end m.schema (statements_in m) shared latency design beats value word meets.each long (record { are = are; keep = keeps; run = over.run; stimulus = over.stimulus });
+          all_end m.schema (statements_in m) (even_gaps shared) latency design beats value word meets.each long (record { are = are; keep = keeps; run = over.run; stimulus = over.stimulus });
     }
 
 -- the text of several compiled queries, with their schema, their faces and the longest of their latencies
-pub can_run_many : AcceptedHaveRealColumns → (are_ports : (text : List ℕ) (m : Module) → HasModule text m → HasInputPorts m) (m : Many) (beats : List Beat) (text : List ℕ) (schema : Schema) (faces : List Face) (latency : ℕ) (start : Start) → AreRunnable m → AreBeats m.schema beats → KeepsGap m.planned.gap beats
+pub can_run_many : AcceptedHaveRealColumns → (are_ports : (text : List ℕ) (m : Module) → HasModule text m → HasInputPorts m) (m : Many) (beats : List Beat) (text : List ℕ) (schema : Schema) (faces : List Face) (latency : ℕ) (start : Start) → AreRunnable m → AreBeats m.schema beats → KeepsGaps (even_gaps m.planned.gap) beats
     → text ≡ m.text.items → schema ≡ m.schema → faces ≡ faces_of m.schema (statements_in m) → latency ≡ greatest m.planned.latencies.items
     → CanRunAll text schema faces beats latency start
 can_run_many real_columns are_ports m beats text schema faces latency start is are keep a b d e =

@@ -5,7 +5,9 @@ use Rattle.std.specs.Prelude.{◌≡◌, ℕ, ◌+◌, ◌*◌, ◌≤◌, ◌�
 use Rattle.std.specs.List.{AllByRecursion, flat_map, list_any, sum_by}
 use Rattle.gl_outside.specs.declared.shelf.TheConstants.{TEXT_LIMIT}
 use Rattle.gl_schema.specs.declared.schema.Column.{Column}
+use Rattle.gl_gaps.specs.declared.Gaps.{Gaps}
 use Rattle.gl_schema.specs.declared.schema.Schema.{Schema}
+use Rattle.gl_gaps.specs.Keeps.{even_gaps}
 use Rattle.gl_schema.specs.Ports.{out_column}
 use Rattle.gl_schema.specs.Profile.{ProfilePort, clk, input, input_ports, output_ports}
 use Rattle.gl_schema.specs.Right.{IsRight}
@@ -85,14 +87,14 @@ profile_of_all schema statements =
 
 -- ---- the text
 
--- over beats that keep the gap, and whatever drives the module, what is seen on the ports of a statement is right for
+-- over beats that keep the gaps, and whatever drives the module, what is seen on the ports of a statement is right for
 -- it, within its own latency, and its overflow line never falls, and is 1 only where what has come has a result of this
 -- statement that spills
-pub record IsRightAmong (schema : Schema) (gap : ℕ) (design : Module) (statement : Statement) : Type 0 where
-  pub right : OverRuns design schema gap (λ beats port.
+pub record IsRightAmong (schema : Schema) (gaps : Gaps) (design : Module) (statement : Statement) : Type 0 where
+  pub right : OverRuns design schema gaps (λ beats port.
       IsRight (IsResult schema statement) (own_latency schema statement) beats (outs_of schema statement)
       (seen_as statement.name.text port))
-  pub group : OverRuns design schema gap (λ beats port.
+  pub group : OverRuns design schema gaps (λ beats port.
       TellsGroup (IsResult schema statement) beats (outs_of schema statement) (seen_as statement.name.text port))
 
 -- the text has one module, whose ports are in order the clock, the inputs of the schema and the outputs of each
@@ -108,4 +110,4 @@ pub record MeetTogether (schema : Schema) (statements : List Statement) (gap : �
   pub few_registers : register_bits design ≤ most_registers_of_all (plans_of [] schema statements)
   pub few_memories : memory_bits design ≤ most_memory_of_all (plans_of [] schema statements)
   pub runs : HasRunsOver design schema
-  pub each : AllByRecursion (IsRightAmong schema gap design) statements
+  pub each : AllByRecursion (IsRightAmong schema (even_gaps gap) design) statements

@@ -1,7 +1,8 @@
 //! Running several queries that were compiled.
 
 ghost use Rattle.std.specs.Prelude.{◌≡◌};
-ghost use Rattle.gl_schema.specs.Beats.{AreBeats, KeepsGap};
+ghost use Rattle.gl_schema.specs.Beats.{AreBeats};
+ghost use Rattle.gl_gaps.specs.Keeps.{KeepsGaps, even_gaps};
 ghost use Rattle.gl_tuples.specs.Gaps.{plain_beats};
 ghost use Rattle.gl_runner.specs.Several.{RanAll};
 ghost use Rattle.gl_many.specs.Compiles.{statements_in};
@@ -39,7 +40,7 @@ pub fn run_many<K: Sink>(
 ) -> Outcome
     requires many { AreRunnable many.now }
     requires beats { AreBeats many.now.schema (plain_beats beats.now) }
-    requires gap { KeepsGap many.now.planned.gap (plain_beats beats.now) }
+    requires gap { KeepsGaps (even_gaps many.now.planned.gap) (plain_beats beats.now) }
     ensures { let m = many.now in let beats' = plain_beats beats.now in
         RanAll (OfAllRuns m.text.items m.schema beats' start)
         (faces_of m.schema (statements_in m)) beats' (K.state out.old) (K.state out.new) result }

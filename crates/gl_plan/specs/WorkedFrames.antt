@@ -14,7 +14,8 @@ use Rattle.gl_algebra.specs.declared.node.PlanFrame.TheVariants.{Own, Lag, Over}
 use Rattle.gl_algebra.specs.declared.node.PlanFrameAgg.TheVariants as over
 use Rattle.gl_algebra.specs.declared.node.PlanNode.TheVariants.{Compute, Frames, Select, Stream}
 use Rattle.gl_algebra.specs.Added.{Placed}
-use Rattle.gl_algebra.specs.Roots.{gap_of, latency_of}
+use Rattle.gl_algebra.specs.Roots.{latency_of}
+use Rattle.gl_root_gaps.specs.Roots.{gap_of}
 use Rattle.gl_elaborate.specs.Plans.{placed, stream_node}
 use Rattle.gl_plan.specs.Worked.{column, trade_columns}
 

@@ -1,6 +1,7 @@
 -- The text of a netlist that takes beats of a schema, and what holds of its runs.
 use Rattle.std.proofs.Common.{◌≡◌, ℕ, Bool, List, ◌∷◌, ◌++◌, map, Some, ap, sym, ◌∙◌}
 use Rattle.std.specs.Prelude.{slice_get}
+use Rattle.gl_gaps.specs.declared.Gaps.{Gaps}
 use Rattle.gl_schema.specs.declared.schema.Schema.{Schema}
 use Rattle.gl_schema.specs.Profile.{ProfilePort, clk, input, input_ports}
 use Rattle.gl_schema.specs.Schemas.{IsSchema}
@@ -39,8 +40,8 @@ module _ (two_phase : (m : Module) → IsValid m → EventRunsAreRuns m) (event_
   asked = inputs_asked ticks t.design schema outputs takes.out t.has.valid.names shaped
 
   -- a run of the module is one of the netlist, with the same beats on its inputs
-  traced : (gap : ℕ) → OverRuns t.design schema gap (IsTraced net schema)
-  traced gap = λ beats value word driven.
+  traced : (gaps : Gaps) → OverRuns t.design schema gaps (IsTraced net schema)
+  traced gaps = λ beats value word driven.
       let r = t.runs value word (two_phase t.design t.has.valid value word driven.run) in
       record {
         run = r.run;
@@ -70,8 +71,8 @@ module _ (two_phase : (m : Module) → IsValid m → EventRunsAreRuns m) (event_
 module _ (net : Net) (schema : Schema) (text : List ℕ) (e : IsEmission net schema text) where
   -- what does not look at the clock, and holds of all traces of the netlist, holds of all runs of the module
   pub holds_of_runs : HoldsOfRuns net schema e.design
-  holds_of_runs = λ gap P past over beats value word driven.
-      let r = e.traced gap beats value word driven in
+  holds_of_runs = λ gaps P past over beats value word driven.
+      let r = e.traced gaps beats value word driven in
       past beats (port_values net r.run) (port_of e.design value) r.ports (over r.run beats r.trace driven.are driven.keep r.stimulus)
 
   pub inputs_are_asked : AreAsked e.design schema

@@ -1,14 +1,16 @@
 -- Beats that are cut behind a cycle: those up to it, and the end alone behind them where there are more.
 use mathlib.Core.Path.{fun_ext}
 use Rattle.std.proofs.Common.{◌≡◌, ℕ, zero, suc, ◌+◌, ◌<◌, ◌≤◌, inl, inr, true, false, cond, List, [], ◌∷◌, Option, None, Bool, refl, sym, ap, ◌∙◌, subst, arith, unwrap_or}
-use Rattle.std.specs.Prelude.{option_map, slice_get, nat_le, IsTrue}
+use Rattle.std.specs.Prelude.{option_map, slice_get, nat_le, IsTrue, if◌then◌else◌}
 use Rattle.std.specs.List.{AllByRecursion, cons_option}
 use Rattle.std.proofs.lemmas.Bool.{cases_lt}
 use Rattle.std.proofs.lemmas.Bool.Decides.{eqb_tells, leb_tells}
 use Rattle.gl_bits.specs.Words.{bit}
+use Rattle.gl_gaps.specs.declared.Gaps.{Gaps}
 use Rattle.gl_schema.specs.declared.schema.Stream.{Stream}
 use Rattle.gl_schema.specs.declared.schema.Schema.{Schema}
 use Rattle.gl_schema.specs.Beats.{Beat, Inputs, IsBeat, AreBeats, AreInOrder, AreRowsOf, KeepsGap, beat_at, inputs_of, input_of, row_in, ticks_of, times_from}
+use Rattle.gl_gaps.specs.Keeps.{KeepsGaps, KeepsTicks}
 use Rattle.gl_testbench.specs.Dues.{AreFrom}
 use Rattle.gl_testbench.specs.Overflow.{beats_to}
 use Rattle.gl_testbench.proofs.Due.{other_beat, this_beat, none_before, from_first}
@@ -83,6 +85,17 @@ module _ (c : ℕ) (e : Beat) where
     ])
   ]
 
+  cut_timed : (gap from : ℕ) (bs : List Beat) → from ≤ e.cycle → c + gap ≤ e.cycle → KeepsTicks gap from bs → KeepsTicks gap from (cut_at c e bs)
+  cut_timed gap from [] low far h = tt
+  cut_timed gap from (b ∷ bs) low far h = elim (cases_lt c b.cycle) [
+    | inl lt ↦ subst (KeepsTicks gap from) (sym (cut_here c e b bs lt)) (λ t. low, tt)
+    | inr le ↦ subst (KeepsTicks gap from) (sym (cut_later c e b bs le)) (h.0, cut_timed gap (if b.tick then b.cycle + gap else from) bs (still b.tick le) far h.1)
+  ]
+    where
+      still : (t : Bool) → b.cycle ≤ c → (if t then b.cycle + gap else from) ≤ e.cycle
+      still true le = omega (arith, le, far)
+      still false le = low
+
   -- up to the cycle the same comes
   cut_same : (bs : List Beat) (k n : ℕ) → n ≤ c → c < e.cycle → AreFrom k bs → beat_at (cut_at c e bs) n ≡ beat_at bs n
   cut_same [] k n le far h = refl
@@ -145,26 +158,30 @@ inputs_same : (rows rows' : ℕ → List (List ℕ)) (times times' : ℕ → Lis
     → ◌≡◌ {A = Inputs} (record { rows = rows; times = times; ticks = ticks }) (record { rows = rows'; times = times'; ticks = ticks' })
 inputs_same rows rows' times times' ticks ticks' r t n = cc
 
--- beats that keep the gap, and agree with these up to a cycle, of which they bring what has come by then
-pub record IsCut (schema : Schema) (gap c : ℕ) (beats cut : List Beat) : Type 0 where
+-- beats that keep the gaps, and agree with these up to a cycle, of which they bring what has come by then
+pub record IsCut (schema : Schema) (gaps : Gaps) (c : ℕ) (beats cut : List Beat) : Type 0 where
   pub are : AreBeats schema cut
-  pub gaps : KeepsGap gap cut
+  pub keeps : KeepsGaps gaps cut
   pub same : (n : ℕ) → n ≤ c → beat_at cut n ≡ beat_at beats n
   pub brings : inputs_of cut ≡ inputs_of (beats_to c beats)
 
-abbrev pub cut_of : Schema → ℕ → ℕ → List Beat → List Beat
-cut_of schema gap c beats = cut_at c (end_alone schema (suc (c + gap))) beats
+-- the end comes behind both gaps
+abbrev pub cut_of : Schema → Gaps → ℕ → List Beat → List Beat
+cut_of schema gaps c beats = cut_at c (end_alone schema (suc (c + (gaps.of_beats + gaps.of_ticks)))) beats
 
-pub is_cut : (schema : Schema) (gap c : ℕ) (beats : List Beat) → AreBeats schema beats → KeepsGap gap beats → IsCut schema gap c beats (cut_of schema gap c beats)
-is_cut schema gap c beats are gaps =
-    let e : Beat = end_alone schema (suc (c + gap)) in
+pub is_cut : (schema : Schema) (gaps : Gaps) (c : ℕ) (beats : List Beat) → AreBeats schema beats → KeepsGaps gaps beats → IsCut schema gaps c beats (cut_of schema gaps c beats)
+is_cut schema gaps c beats are keeps =
+    let e : Beat = end_alone schema (suc (c + (gaps.of_beats + gaps.of_ticks))) in
     let from : AreFrom 0 beats = from_first beats are.order in
     record {
       are = record {
-        each = cut_each c e (IsBeat schema) beats (end_is_beat schema (suc (c + gap))) are.each;
+        each = cut_each c e (IsBeat schema) beats (end_is_beat schema (suc (c + (gaps.of_beats + gaps.of_ticks)))) are.each;
         order = cut_order c e beats refl (omega arith) are.order;
       };
-      gaps = cut_gap c e gap beats (omega arith) gaps;
+      keeps = record {
+        each = cut_gap c e gaps.of_beats beats (omega arith) keeps.each;
+        ticks = cut_timed c e gaps.of_ticks 0 beats (omega arith) (omega arith) keeps.ticks;
+      };
       same = λ n le. cut_same c e beats 0 n le (omega arith) from;
       brings =
           inputs_same _ _ _ _ _ _ (fun_ext (λ j. cut_input c e j beats 0 (no_row schema.streams j) from))

@@ -5,6 +5,7 @@ use Rattle.std.specs.Prelude.{IsTrue, bytes_eq}
 use Rattle.std.specs.Option.{option_map}
 use Rattle.std.proofs.lemmas.Bool.{cases_lt}
 use Rattle.gl_bits.proofs.Bools.{bytes_same}
+use Rattle.gl_gaps.specs.declared.Gaps.{Gaps}
 use Rattle.gl_schema.specs.declared.schema.Schema.{Schema}
 use Rattle.gl_schema.specs.Beats.{Beat, Inputs, AreBeats, beat_at, inputs_of}
 use Rattle.gl_schema.specs.Ports.{PortValues, IsStimulus}
@@ -100,13 +101,13 @@ module _ (laws : RunLaws) (net : Net) (schema : Schema) (text : List ℕ) (e : I
   -- ---- the line, as it is seen through a view of the ports
 
   module _ (view : PortValues → PortValues) (steady : (t : ℕ) (port port' : PortValues) → SameAt t port port' → SameAt t (view port) (view port'))
-      (outs : List (List ℕ)) (none : NoClock outs) (means : Meaning) (latency gap : ℕ)
-      (right : OverRuns m schema gap (λ beats port. IsRight means latency beats outs (view port)))
-      (keeps : OverRuns m schema gap (λ beats port. KeepsLine outs (view port))) where
-    spilled : (c : ℕ) → OverRuns m schema gap (λ beats port. IsTrue (shown (view port) outs c).group → HasSpill means (inputs_of (beats_to c beats)))
+      (outs : List (List ℕ)) (none : NoClock outs) (means : Meaning) (latency : ℕ) (gaps : Gaps)
+      (right : OverRuns m schema gaps (λ beats port. IsRight means latency beats outs (view port)))
+      (keeps : OverRuns m schema gaps (λ beats port. KeepsLine outs (view port))) where
+    spilled : (c : ℕ) → OverRuns m schema gaps (λ beats port. IsTrue (shown (view port) outs c).group → HasSpill means (inputs_of (beats_to c beats)))
     spilled c = λ beats value word driven h.
-        let cut : List Beat = cut_of schema gap c beats in
-        let is : IsCut schema gap c beats cut = is_cut schema gap c beats driven.are driven.keep in
+        let cut : List Beat = cut_of schema gaps c beats in
+        let is : IsCut schema gaps c beats cut = is_cut schema gaps c beats driven.are driven.keep in
         let first = laws.event_runs_are_runs m e.has.valid value word driven.run in
         let r : RunsOver m schema cut (value 0) (word 0) = e.runs cut (value 0) (word 0) is.are (first.fits 0) in
         let port : PortValues = view (port_of m r.value) in
@@ -114,7 +115,7 @@ module _ (laws : RunLaws) (net : Net) (schema : Schema) (text : List ℕ) (e : I
         (inputs_same beats cut value r.value c driven.are is.are driven.stimulus r.stimulus is.same) (suc c) (omega arith) in
         let same = steady (suc c) (port_of m value) (port_of m r.value) (nets_carry value r.value (suc c) both.0) in
         let here : IsTrue (shown port outs c).group = subst (λ (s : Shown). IsTrue s.group) (shown_same (view (port_of m value)) port outs c same none) h in
-        let again : Drives m schema gap cut r.value r.word = record { are = is.are; keep = is.gaps; run = r.run; stimulus = r.stimulus } in
+        let again : Drives m schema gaps cut r.value r.word = record { are = is.are; keep = is.keeps; run = r.run; stimulus = r.stimulus } in
         let w : IsRight means latency cut outs port = right cut r.value r.word again in
         let spill : IsTrue (shown port outs w.ended).group = line_at_end outs port (keeps cut r.value r.word again) c here w.ended w.ends in
         let rows : List (List ℕ) = rows_of (seen port outs w.ended) in
@@ -123,7 +124,7 @@ module _ (laws : RunLaws) (net : Net) (schema : Schema) (text : List ℕ) (e : I
           spills = subst (λ (i : Inputs). means i rows true) is.brings (subst (λ (b : Bool). means (inputs_of cut) rows b) spill w.meets);
         }
 
-    pub tells_group : OverRuns m schema gap (λ beats port. TellsGroup means beats outs (view port))
+    pub tells_group : OverRuns m schema gaps (λ beats port. TellsGroup means beats outs (view port))
     tells_group = λ beats value word driven. record {
       lasts = (keeps beats value word driven).lasts;
       so = λ n. spilled n beats value word driven;

@@ -2,8 +2,10 @@
 -- shows what a trace of the netlist over these beats does.
 use Rattle.std.specs.Prelude.{◌≡◌, ℕ, Bool, false, List, ◌∷◌, ◌++◌, map, Some, bytes_eq, codes, slice_get}
 use Rattle.std.specs.List.{AllByRecursion}
+use Rattle.gl_gaps.specs.declared.Gaps.{Gaps}
 use Rattle.gl_schema.specs.declared.schema.Schema.{Schema}
-use Rattle.gl_schema.specs.Beats.{Beat, AreBeats, KeepsGap}
+use Rattle.gl_schema.specs.Beats.{Beat, AreBeats}
+use Rattle.gl_gaps.specs.Keeps.{KeepsGaps}
 use Rattle.gl_schema.specs.Ports.{IsStimulus, PortValues}
 use Rattle.gl_schema.specs.Profile.{Direction, In, Out, ProfilePort, clk, input, input_ports}
 use Rattle.gl_net.specs.declared.node.Direction as circuit
@@ -30,17 +32,17 @@ abbrev pub IsPastClock : Property → Type 0
 IsPastClock P =
     (beats : List Beat) (port port' : PortValues) → SameButClock port port' → P beats port → P beats port'
 
--- a property holds of each trace of the netlist over beats of the schema that keep the gap
-abbrev pub OverTraces : Net → Schema → ℕ → Property → Type 0
-OverTraces net schema gap P =
-    (run : Run) (beats : List Beat) → IsTrace net run → AreBeats schema beats → KeepsGap gap beats
+-- a property holds of each trace of the netlist over beats of the schema that keep the gaps
+abbrev pub OverTraces : Net → Schema → Gaps → Property → Type 0
+OverTraces net schema gaps P =
+    (run : Run) (beats : List Beat) → IsTrace net run → AreBeats schema beats → KeepsGaps gaps beats
     → IsStimulus schema beats (input_values net run) → P beats (port_values net run)
 
--- the law: what does not look at the clock, and holds of all traces of the netlist over beats that keep a gap, holds of
--- all runs of the module that such beats drive, in any order of events
+-- the law: what does not look at the clock, and holds of all traces of the netlist over beats that keep these gaps,
+-- holds of all runs of the module that such beats drive, in any order of events
 abbrev pub HoldsOfRuns : Net → Schema → Module → Type 1
 HoldsOfRuns net schema m =
-    (gap : ℕ) (P : Property) → IsPastClock P → OverTraces net schema gap P → OverRuns m schema gap P
+    (gaps : Gaps) (P : Property) → IsPastClock P → OverTraces net schema gaps P → OverRuns m schema gaps P
 
 -- some trace of the netlist over these beats has ports that carry this, the clock aside
 pub record IsTraced (net : Net) (schema : Schema) (beats : List Beat) (port : PortValues) : Type 0 where
@@ -91,4 +93,4 @@ pub record IsEmission (net : Net) (schema : Schema) (text : List ℕ) : Type 0 w
   pub registers : register_bits design ≡ register_bits_of net
   pub memories : memory_bits design ≡ memory_bits_of net
   pub runs : HasRunsOver design schema
-  pub traced : (gap : ℕ) → OverRuns design schema gap (IsTraced net schema)
+  pub traced : (gaps : Gaps) → OverRuns design schema gaps (IsTraced net schema)

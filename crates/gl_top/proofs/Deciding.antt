@@ -17,7 +17,7 @@ use Rattle.gl_top.specs.Verdicts.{IsTelling}
 use Rattle.gl_top.proofs.Dumps.{DumpFails, dump_once, no_dump}
 use Rattle.gl_top.proofs.Failing.{fails_once}
 use Rattle.gl_top.proofs.Stopping.{AtDump, AtFile, AtModule, AtQuery, AtSchema, AtSecond, AtThird, AtTuples, AtWords, ModuleFails, QueryFails, SchemaFails, SecondStops, Stops, ThirdStops, TuplesFail, filed, module_once, query_once, schema_once, stops, tuples_once}
-use Rattle.gl_top.proofs.Passed.{asks_no_sim, not_both_named, one_schema, other_file, other_gap, schema_goes, third_second}
+use Rattle.gl_top.proofs.Passed.{asks_no_sim, not_both_named, one_schema, other_file, other_gaps, schema_goes, third_second}
 
 -- words where something stops are of no form, or they name a schema
 pub formed : (told : List ℕ → Told) (words : List (List ℕ)) (a : Refusal) → Stops told words a → (a ≡ refusal.Usage) ⊎ IsForm words
@@ -46,7 +46,7 @@ second_once laws told words s a b tells fine (AtModule sims f) (AtModule sims' g
 
 third_once : LawsBelow → (told : List ℕ → Told) (words : List (List ℕ)) (s t : Schema) (a b : Refusal) → IsTelling told words → ThirdStops told words s a → ThirdStops told words t b → a ≡ b
 third_once laws told words s t a b tells (AtTuples m p f) (AtTuples n q g) =
-    fails_once (told (name_of words part.Tuples)) part.Tuples (TuplesFail (kept_beats s m)) a b (tells part.Tuples (asks_named told words s m p)) (tuples_once (kept_beats s m) a b) f (other_gap laws told words s t m n tells p q b g)
+    fails_once (told (name_of words part.Tuples)) part.Tuples (TuplesFail (kept_beats s m)) a b (tells part.Tuples (asks_named told words s m p)) (tuples_once (kept_beats s m) a b) f (other_gaps laws told words s t m n tells p q b g)
 third_once laws told words s t a b tells (AtTuples m p f) (AtFile n q g) = asks_no_sim told words s m p q.sims
 third_once laws told words s t a b tells (AtFile m p f) (AtTuples n q g) = asks_no_sim told words t n q p.sims
 third_once laws told words s t a b tells (AtFile m p f) (AtFile n q g) =

@@ -1,9 +1,11 @@
 -- What passes does not stop a command, where the texts are told.
-use Rattle.std.proofs.Common.{◌≡◌, ◌≢◌, ℕ, List, Result, Ok, inl, inr, refl, sym, subst, ◌∙◌}
+use Rattle.std.proofs.Common.{◌≡◌, ◌≢◌, ℕ, List, Result, Ok, inl, inr, refl, sym, ap, subst, ◌∙◌}
 use Rattle.gl_outside.specs.Told.{Told, Untold}
 use Rattle.gl_vcd.specs.Dumped.{OfLines}
 use Rattle.gl_vcd.specs.Reading.{dump_of}
+use Rattle.gl_gaps.specs.declared.Gaps.{Gaps}
 use Rattle.gl_schema.specs.declared.schema.Schema.{Schema}
+use Rattle.gl_gaps.specs.Keeps.{even_gaps}
 use Rattle.gl_schema.specs.declared.fault.SchemaFault.{SchemaFault}
 use Rattle.gl_schema.specs.SchemaFaults.{schema_of}
 use Rattle.gl_schema.specs.SchemaText.{IsSchemaText}
@@ -11,9 +13,9 @@ use Rattle.gl_schema.proofs.Complete.{read_again}
 use Rattle.gl_query.specs.declared.tree.Statement.{Statement}
 use Rattle.gl_query.specs.Trees.{statement_tree}
 use Rattle.gl_query_texts.proofs.Judged.{one_meaning}
-use Rattle.gl_compiler.proofs.Planning.{gap_by_shape}
+use Rattle.gl_compiler.proofs.Planning.{gaps_by_shape}
 use Rattle.gl_compiler.proofs.Shaped.{shapes_alike}
-use Rattle.gl_compiler.specs.Built.{gap_of}
+use Rattle.gl_compiler.specs.Built.{gaps_of}
 use Rattle.gl_compiler.specs.Queries.{IsQuery}
 use Rattle.gl_tuples.specs.declared.beats.Beat.{Beat}
 use Rattle.gl_tuples.specs.declared.fault.TupleFault.{TupleFault}
@@ -29,7 +31,7 @@ use Rattle.gl_top_forms.proofs.Named.{form_of, one_command, help_form, help_name
 use Rattle.gl_top_status.specs.declared.refusal.Refusal.{Refusal}
 use Rattle.gl_top_status.specs.Texts.{HasText, SchemaPasses}
 use Rattle.gl_top_inputs.specs.Below.{LawsBelow}
-use Rattle.gl_top_inputs.specs.Passing.{AsksGap, FilePasses, ModulePasses, OfAll, OfOne, QueriesPass, QueryPasses, kept_beats}
+use Rattle.gl_top_inputs.specs.Passing.{AsksGaps, FilePasses, ModulePasses, OfAll, OfOne, QueriesPass, QueryPasses, kept_beats}
 use Rattle.gl_top_inputs.specs.Readings.{One, Several}
 use Rattle.gl_top_inputs.proofs.Modules.{module_goes}
 use Rattle.gl_top_inputs.proofs.Texts.{asks_named, asks_schema, run_names_query, sim_names_module, sim_names_tuples}
@@ -38,7 +40,7 @@ use Rattle.gl_top.proofs.Dumps.{DumpFails, no_dump, undump_names}
 use Rattle.gl_top.proofs.Failing.{Failing, FailsAt, Fine, no_error, not_both, weaker, with_both}
 use Rattle.gl_top.proofs.Stopping.{AtDump, AtFile, AtModule, AtQuery, AtSchema, AtSecond, AtThird, AtTuples, AtWords, ModuleFails, QueryFails, SchemaFails, SecondStops, Stops, ThirdStops, TuplesFail, filed, queries_out, query_out}
 
--- ---- one schema, one gap
+-- ---- one schema, the same gaps
 
 same_schema : (s t : Schema) (text : List ℕ) → IsSchemaText text s → IsSchemaText text t → s ≡ t
 same_schema s t text a b = let e : ◌≡◌ {A = Result Schema SchemaFault} (Ok s) (Ok t) = sym (read_again text s a) ∙ read_again text t b in cc
@@ -46,29 +48,29 @@ same_schema s t text a b = let e : ◌≡◌ {A = Result Schema SchemaFault} (Ok
 pub one_schema : (told : List ℕ → Told) (words : List (List ℕ)) (s t : Schema) → IsTelling told words → SchemaPasses told words s → SchemaPasses told words t → s ≡ t
 one_schema told words s t tells a b = with_both (told (name_of words part.Schema)) (λ text. IsSchemaText text s) (λ text. IsSchemaText text t) (tells part.Schema a.named) a.text b.text (same_schema s t)
 
--- its statements have one gap
-same_gap : LawsBelow → (s : Schema) (st st' : Statement) (text : List ℕ) → IsQuery s text st → IsQuery s text st' → gap_of s st ≡ gap_of s st'
-same_gap laws s st st' text p q =
-    gap_by_shape s st st' (shapes_alike st st' (one_meaning laws.one.texts_have_one_verdict text (statement_tree st) (statement_tree st') p.has q.has))
+-- its statements have the same gaps
+same_gaps : LawsBelow → (s : Schema) (st st' : Statement) (text : List ℕ) → IsQuery s text st → IsQuery s text st' → gaps_of s st ≡ gaps_of s st'
+same_gaps laws s st st' text p q =
+    gaps_by_shape s st st' (shapes_alike st st' (one_meaning laws.one.texts_have_one_verdict text (statement_tree st) (statement_tree st') p.has q.has))
 
-one_gap : LawsBelow → (told : List ℕ → Told) (words : List (List ℕ)) (s : Schema) (st st' : Statement) → IsTelling told words → QueryPasses told words s st → QueryPasses told words s st' → gap_of s st ≡ gap_of s st'
-one_gap laws told words s st st' tells p q =
-    with_both (told (name_of words part.Query)) (λ text. IsQuery s text st) (λ text. IsQuery s text st') (tells part.Query p.named) p.text q.text (same_gap laws s st st')
+same_for_one : LawsBelow → (told : List ℕ → Told) (words : List (List ℕ)) (s : Schema) (st st' : Statement) → IsTelling told words → QueryPasses told words s st → QueryPasses told words s st' → gaps_of s st ≡ gaps_of s st'
+same_for_one laws told words s st st' tells p q =
+    with_both (told (name_of words part.Query)) (λ text. IsQuery s text st) (λ text. IsQuery s text st') (tells part.Query p.named) p.text q.text (same_gaps laws s st st')
 
-one_gap_for_all : LawsBelow → (told : List ℕ → Told) (words : List (List ℕ)) (s : Schema) (sts sts' : List Statement) → IsTelling told words → QueriesPass told words s sts → QueriesPass told words s sts' → shared_gap s sts ≡ shared_gap s sts'
-one_gap_for_all laws told words s sts sts' tells p q =
+same_for_all : LawsBelow → (told : List ℕ → Told) (words : List (List ℕ)) (s : Schema) (sts sts' : List Statement) → IsTelling told words → QueriesPass told words s sts → QueriesPass told words s sts' → shared_gap s sts ≡ shared_gap s sts'
+same_for_all laws told words s sts sts' tells p q =
     with_both (told (name_of words part.Queries)) (λ text. AreQueries s text sts) (λ text. AreQueries s text sts') (tells part.Queries p.named) p.text q.text (λ text. one_gap_of_all laws.several s text sts sts')
 
 -- words name one query, or several
 pub not_both_named : (words : List (List ℕ)) {A : Type 0} → IsNamed words part.Query → IsNamed words part.Queries → A
 not_both_named words one several = absurd (one_query_part words one several)
 
--- so a tuple file is asked for one gap
-asked_gap : LawsBelow → (told : List ℕ → Told) (words : List (List ℕ)) (s : Schema) (m n : ℕ) → IsTelling told words → AsksGap told words s m → AsksGap told words s n → m ≡ n
-asked_gap laws told words s m n tells (OfOne runs st p e) (OfOne runs' st' q h) = e ∙ one_gap laws told words s st st' tells p q ∙ sym h
-asked_gap laws told words s m n tells (OfOne runs st p e) (OfAll runs' sts q h) = not_both_named words p.named q.named
-asked_gap laws told words s m n tells (OfAll runs sts p e) (OfOne runs' st q h) = not_both_named words q.named p.named
-asked_gap laws told words s m n tells (OfAll runs sts p e) (OfAll runs' sts' q h) = e ∙ one_gap_for_all laws told words s sts sts' tells p q ∙ sym h
+-- so a tuple file is asked for the same gaps
+asked_gaps : LawsBelow → (told : List ℕ → Told) (words : List (List ℕ)) (s : Schema) (m n : Gaps) → IsTelling told words → AsksGaps told words s m → AsksGaps told words s n → m ≡ n
+asked_gaps laws told words s m n tells (OfOne runs st p e) (OfOne runs' st' q h) = e ∙ same_for_one laws told words s st st' tells p q ∙ sym h
+asked_gaps laws told words s m n tells (OfOne runs st p e) (OfAll runs' sts q h) = not_both_named words p.named q.named
+asked_gaps laws told words s m n tells (OfAll runs sts p e) (OfOne runs' st q h) = not_both_named words q.named p.named
+asked_gaps laws told words s m n tells (OfAll runs sts p e) (OfAll runs' sts' q h) = e ∙ ap even_gaps (same_for_all laws told words s sts sts' tells p q) ∙ sym h
 
 -- ---- what passes does not stop
 
@@ -77,9 +79,9 @@ pub data Passed (told : List ℕ → Told) (words : List (List ℕ)) (s : Schema
   PassedOne : (st : Statement) (passes : QueryPasses told words s st) → Passed told words s
   PassedAll : (sts : List Statement) (passes : QueriesPass told words s sts) → Passed told words s
 
-asked_passed : (told : List ℕ → Told) (words : List (List ℕ)) (s : Schema) (gap : ℕ) → AsksGap told words s gap → Passed told words s
-asked_passed told words s gap (OfOne runs st passes is) = PassedOne st passes
-asked_passed told words s gap (OfAll runs sts passes is) = PassedAll sts passes
+asked_passed : (told : List ℕ → Told) (words : List (List ℕ)) (s : Schema) (gaps : Gaps) → AsksGaps told words s gaps → Passed told words s
+asked_passed told words s gaps (OfOne runs st passes is) = PassedOne st passes
+asked_passed told words s gaps (OfAll runs sts passes is) = PassedAll sts passes
 
 passed_schema : (told : List ℕ → Told) (words : List (List ℕ)) (s : Schema) → Passed told words s → SchemaPasses told words s
 passed_schema told words s (PassedOne st p) = p.before
@@ -121,8 +123,8 @@ passed_no_sim : (told : List ℕ → Told) (words : List (List ℕ)) (s : Schema
 passed_no_sim told words s (PassedOne st p) sims = absurd (sim_names_no_query words sims p.named)
 passed_no_sim told words s (PassedAll sts p) sims = absurd (queries_and_no_module words p.named (sim_names_module words sims))
 
-pub asks_no_sim : (told : List ℕ → Told) (words : List (List ℕ)) (s : Schema) (gap : ℕ) {A : Type 0} → AsksGap told words s gap → IsCommand words command.Sim → A
-asks_no_sim told words s gap asks sims = passed_no_sim told words s (asked_passed told words s gap asks) sims
+pub asks_no_sim : (told : List ℕ → Told) (words : List (List ℕ)) (s : Schema) (gaps : Gaps) {A : Type 0} → AsksGaps told words s gaps → IsCommand words command.Sim → A
+asks_no_sim told words s gaps asks sims = passed_no_sim told words s (asked_passed told words s gaps asks) sims
 
 passed_no_dump : (told : List ℕ → Told) (words : List (List ℕ)) (s : Schema) → Passed told words s → IsNamed words part.Dump → ⊥
 passed_no_dump told words s p named = no_dump words part.Schema refl (passed_schema told words s p).named named
@@ -141,16 +143,16 @@ module_second laws told words s t m a tells p q (AtQuery Several named f) = absu
 module_second laws told words s t m a tells p q (AtModule sims f) = module_passed laws told words s t m a tells p q f
 
 pub third_second : LawsBelow → (told : List ℕ → Told) (words : List (List ℕ)) (s t : Schema) (a b : Refusal) {A : Type 0} → IsTelling told words → ThirdStops told words s a → SchemaPasses told words t → SecondStops told words t b → A
-third_second laws told words s t a b tells (AtTuples gap asks f) q h = query_second laws told words s t b tells (asked_passed told words s gap asks) q h
+third_second laws told words s t a b tells (AtTuples gaps asks f) q h = query_second laws told words s t b tells (asked_passed told words s gaps asks) q h
 third_second laws told words s t a b tells (AtFile m p f) q h = module_second laws told words s t m b tells p q h
 
--- the gap of other statements of the texts
-pub other_gap : LawsBelow → (told : List ℕ → Told) (words : List (List ℕ)) (s t : Schema) (m n : ℕ) → IsTelling told words → AsksGap told words s m → AsksGap told words t n
+-- the gaps of other statements of the texts
+pub other_gaps : LawsBelow → (told : List ℕ → Told) (words : List (List ℕ)) (s t : Schema) (m n : Gaps) → IsTelling told words → AsksGaps told words s m → AsksGaps told words t n
     → (a : Refusal) → FailsAt told words part.Tuples (TuplesFail (kept_beats t n)) a → FailsAt told words part.Tuples (TuplesFail (kept_beats s m)) a
-other_gap laws told words s t m n tells p q a f =
+other_gaps laws told words s t m n tells p q a f =
     let e : t ≡ s = one_schema told words t s tells (asks_schema told words t n q) (asks_schema told words s m p) in
-    let q' : AsksGap told words s n = subst (λ (x : Schema). AsksGap told words x n) e q in
-    subst (λ (gap : ℕ). FailsAt told words part.Tuples (TuplesFail (kept_beats s gap)) a) (asked_gap laws told words s n m tells q' p)
+    let q' : AsksGaps told words s n = subst (λ (x : Schema). AsksGaps told words x n) e q in
+    subst (λ (gaps : Gaps). FailsAt told words part.Tuples (TuplesFail (kept_beats s gaps)) a) (asked_gaps laws told words s n m tells q' p)
     (subst (λ (x : Schema). FailsAt told words part.Tuples (TuplesFail (kept_beats x n)) a) e f)
 
 -- the same file over another schema of the texts
@@ -169,21 +171,21 @@ beats_go t read beats a told fine f =
     not_both t part.Tuples (AreTuples read) (TuplesFail read) a told (λ text is fails. no_error (read text) is.0 fails.fault is.1 fails.found)
     (weaker t (λ text. read text ≡ Ok beats) (AreTuples read) (λ text h. (beats, h)) fine) f
 
-tuples_third : LawsBelow → (told : List ℕ → Told) (words : List (List ℕ)) (s t : Schema) (gap : ℕ) (beats : List Beat) (a : Refusal) → IsTelling told words → AsksGap told words s gap → HasText told words part.Tuples (λ text. kept_beats s gap text ≡ Ok beats)
+tuples_third : LawsBelow → (told : List ℕ → Told) (words : List (List ℕ)) (s t : Schema) (gaps : Gaps) (beats : List Beat) (a : Refusal) → IsTelling told words → AsksGaps told words s gaps → HasText told words part.Tuples (λ text. kept_beats s gaps text ≡ Ok beats)
     → ThirdStops told words t a → ⊥
-tuples_third laws told words s t gap beats a tells asks fine (AtTuples n q f) =
-    beats_go (told (name_of words part.Tuples)) (kept_beats s gap) beats a (tells part.Tuples (asks_named told words s gap asks)) fine (other_gap laws told words s t gap n tells asks q a f)
-tuples_third laws told words s t gap beats a tells asks fine (AtFile m q f) = asks_no_sim told words s gap asks q.sims
+tuples_third laws told words s t gaps beats a tells asks fine (AtTuples n q f) =
+    beats_go (told (name_of words part.Tuples)) (kept_beats s gaps) beats a (tells part.Tuples (asks_named told words s gaps asks)) fine (other_gaps laws told words s t gaps n tells asks q a f)
+tuples_third laws told words s t gaps beats a tells asks fine (AtFile m q f) = asks_no_sim told words s gaps asks q.sims
 
 file_third : (told : List ℕ → Told) (words : List (List ℕ)) (s t : Schema) (m : Module) (beats : List Beat) (a : Refusal) → IsTelling told words → FilePasses told words s m beats → ThirdStops told words t a → ⊥
-file_third told words s t m beats a tells p (AtTuples gap asks f) = asks_no_sim told words t gap asks p.before.sims
+file_third told words s t m beats a tells p (AtTuples gaps asks f) = asks_no_sim told words t gaps asks p.before.sims
 file_third told words s t m beats a tells p (AtFile n q f) =
     beats_go (told (name_of words part.Tuples)) (filed s) beats a (tells part.Tuples (sim_names_tuples words q.sims)) p.text (other_file told words s t tells p.before.before q.before a f)
 
 -- queries pass, and the words run nothing
 no_third : (told : List ℕ → Told) (words : List (List ℕ)) (s t : Schema) (a : Refusal) → Passed told words s → (IsOfRun words → ⊥) → (IsCommand words command.ManyRun → ⊥) → ThirdStops told words t a → ⊥
-no_third told words s t a p one several (AtTuples gap (OfOne runs st q is) f) = one runs
-no_third told words s t a p one several (AtTuples gap (OfAll runs sts q is) f) = several runs
+no_third told words s t a p one several (AtTuples gaps (OfOne runs st q is) f) = one runs
+no_third told words s t a p one several (AtTuples gaps (OfAll runs sts q is) f) = several runs
 no_third told words s t a p one several (AtFile m q f) = passed_no_sim told words s p q.sims
 
 two_go : LawsBelow → (told : List ℕ → Told) (words : List (List ℕ)) (s : Schema) (a : Refusal) → IsTelling told words → Passed told words s → (IsOfRun words → ⊥) → (IsCommand words command.ManyRun → ⊥) → Stops told words a → ⊥
@@ -193,12 +195,12 @@ two_go laws told words s a tells p one several (AtSecond t q h) = query_second l
 two_go laws told words s a tells p one several (AtThird t q h) = no_third told words s t a p one several h
 two_go laws told words s a tells p one several (AtDump named f) = passed_no_dump told words s p named
 
-three_go : LawsBelow → (told : List ℕ → Told) (words : List (List ℕ)) (s : Schema) (gap : ℕ) (beats : List Beat) (a : Refusal) → IsTelling told words → AsksGap told words s gap → HasText told words part.Tuples (λ text. kept_beats s gap text ≡ Ok beats) → Stops told words a → ⊥
-three_go laws told words s gap beats a tells asks fine (AtWords n e) = n (named_form words part.Tuples (asks_named told words s gap asks))
-three_go laws told words s gap beats a tells asks fine (AtSchema named f) = schema_goes told words s a tells (asks_schema told words s gap asks) f
-three_go laws told words s gap beats a tells asks fine (AtSecond t q h) = query_second laws told words s t a tells (asked_passed told words s gap asks) q h
-three_go laws told words s gap beats a tells asks fine (AtThird t q h) = tuples_third laws told words s t gap beats a tells asks fine h
-three_go laws told words s gap beats a tells asks fine (AtDump named f) = passed_no_dump told words s (asked_passed told words s gap asks) named
+three_go : LawsBelow → (told : List ℕ → Told) (words : List (List ℕ)) (s : Schema) (gaps : Gaps) (beats : List Beat) (a : Refusal) → IsTelling told words → AsksGaps told words s gaps → HasText told words part.Tuples (λ text. kept_beats s gaps text ≡ Ok beats) → Stops told words a → ⊥
+three_go laws told words s gaps beats a tells asks fine (AtWords n e) = n (named_form words part.Tuples (asks_named told words s gaps asks))
+three_go laws told words s gaps beats a tells asks fine (AtSchema named f) = schema_goes told words s a tells (asks_schema told words s gaps asks) f
+three_go laws told words s gaps beats a tells asks fine (AtSecond t q h) = query_second laws told words s t a tells (asked_passed told words s gaps asks) q h
+three_go laws told words s gaps beats a tells asks fine (AtThird t q h) = tuples_third laws told words s t gaps beats a tells asks fine h
+three_go laws told words s gaps beats a tells asks fine (AtDump named f) = passed_no_dump told words s (asked_passed told words s gaps asks) named
 
 file_goes : LawsBelow → (told : List ℕ → Told) (words : List (List ℕ)) (s : Schema) (m : Module) (beats : List Beat) (a : Refusal) → IsTelling told words → FilePasses told words s m beats → Stops told words a → ⊥
 file_goes laws told words s m beats a tells p (AtWords n e) = n (form_of words command.Sim p.before.sims)
@@ -243,9 +245,9 @@ dump_goes told words bytes a tells d (AtDump named f) =
 
 pub passes_goes : LawsBelow → (told : List ℕ → Told) (words : List (List ℕ)) (a : Refusal) → IsTelling told words → AllPass told words → Stops told words a → ⊥
 passes_goes laws told words a tells (Two s st p other) h = two_go laws told words s a tells (PassedOne st p) other (λ runs. one_query_part words p.named (many_run_names_queries words runs)) h
-passes_goes laws told words a tells (Three s st beats p) h = three_go laws told words s (gap_of s st) beats a tells (OfOne p.runs st p.before refl) p.text h
+passes_goes laws told words a tells (Three s st beats p) h = three_go laws told words s (gaps_of s st) beats a tells (OfOne p.runs st p.before refl) p.text h
 passes_goes laws told words a tells (TwoOfAll s sts p other) h = two_go laws told words s a tells (PassedAll sts p) (λ runs. one_query_part words (run_names_query words runs) p.named) other h
-passes_goes laws told words a tells (ThreeOfAll s sts beats p) h = three_go laws told words s (shared_gap s sts) beats a tells (OfAll p.runs sts p.before refl) p.text h
+passes_goes laws told words a tells (ThreeOfAll s sts beats p) h = three_go laws told words s (even_gaps (shared_gap s sts)) beats a tells (OfAll p.runs sts p.before refl) p.text h
 passes_goes laws told words a tells (OfFile s m beats p) h = file_goes laws told words s m beats a tells p h
 passes_goes laws told words a tells (Loads count is) h = load_goes told words count a is h
 passes_goes laws told words a tells (Undumps bytes d) h = dump_goes told words bytes a tells d h

@@ -1,7 +1,8 @@
 -- What is compiled for the program can be run.
 use Rattle.std.proofs.Common.{ℕ, sym, subst}
+use Rattle.gl_gaps.specs.declared.Gaps.{Gaps}
 use Rattle.gl_compiler.specs.declared.compiling.Compiled.{Compiled}
-use Rattle.gl_compiler.specs.Built.{gap_of}
+use Rattle.gl_compiler.specs.Built.{gaps_of}
 use Rattle.gl_compiler.specs.Meets.{Meets}
 use Rattle.gl_compiler.specs.Runnable.{IsRunnable}
 use Rattle.gl_many.specs.declared.compiling.Many.{Many}
@@ -11,7 +12,7 @@ use Rattle.gl_top_inputs.specs.Passing.{AreCompiledTogether, IsCompiled}
 pub runnable_of : (c : Compiled) → IsCompiled c → IsRunnable c
 runnable_of c is = record {
   fine = is.fine;
-  meets = subst (λ (n : ℕ). Meets c.schema c.statement c.printed.latency n c.text.items) (sym is.gap) (subst (λ (n : ℕ). Meets c.schema c.statement n (gap_of c.schema c.statement) c.text.items) (sym is.latency) is.meets);
+  meets = subst (λ (g : Gaps). Meets c.schema c.statement c.printed.latency g c.text.items) (sym is.gaps) (subst (λ (n : ℕ). Meets c.schema c.statement n (gaps_of c.schema c.statement) c.text.items) (sym is.latency) is.meets);
   columns = is.columns;
   many = is.many;
   kinds = is.kinds;

@@ -2,7 +2,9 @@
 use Rattle.std.proofs.Common.{◌≡◌, ℕ, List, Result, Err, inl, inr, refl, sym, ap, ◌∙◌}
 use Rattle.gl_outside.specs.Told.{Told}
 use Rattle.gl_vcd.specs.Reading.{dump_of}
+use Rattle.gl_gaps.specs.declared.Gaps.{Gaps}
 use Rattle.gl_schema.specs.declared.schema.Schema.{Schema}
+use Rattle.gl_gaps.specs.Keeps.{even_gaps}
 use Rattle.gl_schema.specs.declared.fault.SchemaFault.{SchemaFault}
 use Rattle.gl_schema.specs.SchemaFaults.{schema_of}
 use Rattle.gl_schema.specs.Schemas.{IsSchema}
@@ -16,7 +18,7 @@ use Rattle.gl_tuple_reader.specs.Filing.{beats_of, records_of}
 use Rattle.gl_verilog.specs.Module.{Module}
 use Rattle.gl_verilog_tokens.specs.declared.fault.VerilogFault.{VerilogFault}
 use Rattle.gl_compiler.specs.declared.compiling.Compiled.{Compiled}
-use Rattle.gl_compiler.specs.Built.{gap_of}
+use Rattle.gl_compiler.specs.Built.{gaps_of}
 use Rattle.gl_compiler.specs.Queries.{IsQuery}
 use Rattle.gl_compiler.specs.declared.fault.CompileFault.{CompileFault}
 use Rattle.gl_compiler.specs.declared.fault.CompileFault.TheVariants as compile
@@ -31,7 +33,7 @@ use Rattle.gl_top_status.specs.declared.refusal.Refusal.TheVariants as refusal
 use Rattle.gl_top_forms.specs.Forms.{IsCommand, IsForm, IsNamed, name_of}
 use Rattle.gl_top_status.specs.Texts.{SchemaPasses}
 use Rattle.gl_top_inputs.specs.Below.{LawsBelow}
-use Rattle.gl_top_inputs.specs.Passing.{AsksGap, ModulePasses, OfAll, OfOne, kept_beats}
+use Rattle.gl_top_inputs.specs.Passing.{AsksGaps, ModulePasses, OfAll, OfOne, kept_beats}
 use Rattle.gl_top_inputs.specs.Readings.{IsFaultBy, IsOverBy, One, Reading, Several, part_read}
 use Rattle.gl_top_inputs.specs.Causes.{PassBeforeTuples, OfRun, OfRunAll, OfSim, ToRun, ToRunAll, ToSim, IsModuleFault, IsRefused}
 use Rattle.gl_top_inputs.proofs.Modules.{one_module_fault}
@@ -119,7 +121,7 @@ pub data SecondStops (told : List ℕ → Told) (words : List (List ℕ)) (s : S
 
 -- and behind the text that comes next
 pub data ThirdStops (told : List ℕ → Told) (words : List (List ℕ)) (s : Schema) (r : Refusal) : Type 0 where
-  AtTuples : (gap : ℕ) (asks : AsksGap told words s gap) (fails : FailsAt told words part.Tuples (TuplesFail (kept_beats s gap)) r) → ThirdStops told words s r
+  AtTuples : (gaps : Gaps) (asks : AsksGaps told words s gaps) (fails : FailsAt told words part.Tuples (TuplesFail (kept_beats s gaps)) r) → ThirdStops told words s r
   AtFile : (m : Module) (before : ModulePasses told words s m) (fails : FailsAt told words part.Tuples (TuplesFail (filed s)) r) → ThirdStops told words s r
 
 -- the first that is refused
@@ -130,8 +132,8 @@ pub data Stops (told : List ℕ → Told) (words : List (List ℕ)) (r : Refusal
   AtThird : (s : Schema) (before : SchemaPasses told words s) (stops' : ThirdStops told words s r) → Stops told words r
   AtDump : (named : IsNamed words part.Dump) (fails : FailsAt told words part.Dump DumpFails r) → Stops told words r
 
-at_tuples : (told : List ℕ → Told) (words : List (List ℕ)) (s : Schema) (gap : ℕ) (r : Refusal) → AsksGap told words s gap → FailsAt told words part.Tuples (TuplesFail (kept_beats s gap)) r → Stops told words r
-at_tuples told words s gap r asks f = AtThird s (asks_schema told words s gap asks) (AtTuples gap asks f)
+at_tuples : (told : List ℕ → Told) (words : List (List ℕ)) (s : Schema) (gaps : Gaps) (r : Refusal) → AsksGaps told words s gaps → FailsAt told words part.Tuples (TuplesFail (kept_beats s gaps)) r → Stops told words r
+at_tuples told words s gaps r asks f = AtThird s (asks_schema told words s gaps asks) (AtTuples gaps asks f)
 
 at_file : (told : List ℕ → Told) (words : List (List ℕ)) (s : Schema) (m : Module) (r : Refusal) → ModulePasses told words s m → FailsAt told words part.Tuples (TuplesFail (filed s)) r → Stops told words r
 at_file told words s m r before f = AtThird s before.before (AtFile m before f)
@@ -141,8 +143,8 @@ bad_tuples t read fault h = bad t part.Tuples (λ text. read text ≡ Err fault)
 
 -- what stops a command at the tuple file, whatever else a file may fail at
 by_file : (told : List ℕ → Told) (words : List (List ℕ)) (r : Refusal) → PassBeforeTuples told words → ((F : List ℕ → Refusal → Type 0) → FailsAt told words part.Tuples F r) → Stops told words r
-by_file told words r (OfRun runs s st passes) f = at_tuples told words s (gap_of s st) r (OfOne runs st passes refl) (f (TuplesFail (kept_beats s (gap_of s st))))
-by_file told words r (OfRunAll runs s sts passes) f = at_tuples told words s (shared_gap s sts) r (OfAll runs sts passes refl) (f (TuplesFail (kept_beats s (shared_gap s sts))))
+by_file told words r (OfRun runs s st passes) f = at_tuples told words s (gaps_of s st) r (OfOne runs st passes refl) (f (TuplesFail (kept_beats s (gaps_of s st))))
+by_file told words r (OfRunAll runs s sts passes) f = at_tuples told words s (even_gaps (shared_gap s sts)) r (OfAll runs sts passes refl) (f (TuplesFail (kept_beats s (even_gaps (shared_gap s sts)))))
 by_file told words r (OfSim s m passes) f = at_file told words s m r passes (f (TuplesFail (filed s)))
 
 -- what stops it at the text of a query, or of several
@@ -180,9 +182,9 @@ stops told words (refusal.Verilog fault) h =
     (AtModule h.sims
     (bad (told (name_of words part.Module)) part.Module (λ text. IsModuleFault h.schema text fault) (ModuleFails h.schema) (refusal.Verilog fault) (λ text i. record { fault = fault; found = i; is = refl }) h.text))
 stops told words (refusal.Tuples fault) (ToRun runs s st before text) =
-    at_tuples told words s (gap_of s st) (refusal.Tuples fault) (OfOne runs st before refl) (bad_tuples (told (name_of words part.Tuples)) (kept_beats s (gap_of s st)) fault text)
+    at_tuples told words s (gaps_of s st) (refusal.Tuples fault) (OfOne runs st before refl) (bad_tuples (told (name_of words part.Tuples)) (kept_beats s (gaps_of s st)) fault text)
 stops told words (refusal.Tuples fault) (ToRunAll runs s sts before text) =
-    at_tuples told words s (shared_gap s sts) (refusal.Tuples fault) (OfAll runs sts before refl) (bad_tuples (told (name_of words part.Tuples)) (kept_beats s (shared_gap s sts)) fault text)
+    at_tuples told words s (even_gaps (shared_gap s sts)) (refusal.Tuples fault) (OfAll runs sts before refl) (bad_tuples (told (name_of words part.Tuples)) (kept_beats s (even_gaps (shared_gap s sts))) fault text)
 stops told words (refusal.Tuples fault) (ToSim s m before text) =
     at_file told words s m (refusal.Tuples fault) before (bad_tuples (told (name_of words part.Tuples)) (filed s) fault text)
 stops told words (refusal.Dump fault) h =

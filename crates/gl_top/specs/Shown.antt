@@ -5,7 +5,7 @@ use Rattle.gl_schema.specs.declared.schema.Schema.{Schema}
 use Rattle.gl_query.specs.declared.tree.Statement.{Statement}
 use Rattle.gl_elaborate.specs.Plans.{plan_of}
 use Rattle.gl_explain.specs.Lines.{plan_text}
-use Rattle.gl_compiler.specs.Built.{latency_of, gap_of}
+use Rattle.gl_compiler.specs.Built.{latency_of, gaps_of}
 use Rattle.gl_compiler.specs.Meets.{Meets}
 use Rattle.gl_many.specs.Meets.{MeetTogether, shared_gap}
 use Rattle.gl_top_forms.specs.declared.command.Command.{Command}
@@ -26,10 +26,10 @@ fine_line = codes "nothing is refused\n"
 -- the figures that are printed for it and what it costs; or the statement and its plan
 abbrev pub Shows : Command → Schema → Statement → List ℕ → List ℕ → Type 0
 Shows Compile schema statement bytes text =
-    (bytes ≡ text) × Meets schema statement (latency_of schema statement) (gap_of schema statement) text
+    (bytes ≡ text) × Meets schema statement (latency_of schema statement) (gaps_of schema statement) text
 Shows Figures schema statement bytes text =
     IsFigured schema statement bytes text × Meets schema statement (latency_of schema statement)
-    (gap_of schema statement) text
+    (gaps_of schema statement) text
 Shows Explain schema statement bytes text =
     (bytes ≡ plan_text schema statement (plan_of schema statement)) × (text ≡ [])
 Shows command schema statement bytes text = ⊥

@@ -11,7 +11,7 @@ use Rattle.gl_verilog.specs.declared.start.Start.{Start}
 use Rattle.gl_verilog.specs.declared.start.Start.TheVariants.{Zero}
 use Rattle.gl_tuples.specs.declared.beats.Beat.{Beat}
 use Rattle.gl_tuples.specs.Gaps.{plain_beats}
-use Rattle.gl_compiler.specs.Built.{latency_of, gap_of}
+use Rattle.gl_compiler.specs.Built.{latency_of, gaps_of}
 use Rattle.gl_compiler.specs.Meets.{Meets, result_columns}
 use Rattle.gl_runner.specs.declared.executing.Outcome.{Outcome}
 use Rattle.gl_runner.specs.Prints.{HasRunOver, OfEachRun}
@@ -82,7 +82,7 @@ RanLinesOfAll schema statements beats start text old new outcome =
 pub record IsEmitted (told : List ℕ → Told) (words : List (List ℕ)) (schema : Schema) (statement : Statement)
     (beats : List Beat) (text : List ℕ) : Type 0 where
   pub passes : TuplesPass told words schema statement beats
-  pub meets : Meets schema statement (latency_of schema statement) (gap_of schema statement) text
+  pub meets : Meets schema statement (latency_of schema statement) (gaps_of schema statement) text
 
 -- the tuples pass over several statements, and the text meets all of these together
 pub record AreEmitted (told : List ℕ → Told) (words : List (List ℕ)) (schema : Schema) (statements : List Statement)

@@ -48,7 +48,7 @@ fn tell_why<S: Shelf, K: Sink, N: Sink>(
         schema: &texts.schema,
         query: &texts.query,
         tuples: &texts.tuples,
-        gap: texts.gap,
+        gaps: texts.gaps,
     };
     let rest = match explanation(alloc, &refused) {
         Ok(text) => text,

@@ -7,7 +7,7 @@ use Rattle.gl_top_forms.specs.declared.command.Command.TheVariants.{Compile, Fig
 -- the two lines of a command
 unfoldable pub help_lines : Command → List ℕ
 help_lines Compile = codes "compile S Q\n    the Verilog text of the query Q over the schema S\n"
-help_lines Figures = codes "figures S Q\n    latency and gap in cycles, copies, bits of registers and of memories\n"
+help_lines Figures = codes "figures S Q\n    latency and gaps in cycles, copies, bits of registers and of memories\n"
 help_lines Explain = codes "explain S Q\n    the query in its canonical form, and its plan\n"
 help_lines Run = codes "run S Q T [--start N]\n    what the Verilog text does over the tuple file T, line by line\n"
 help_lines Sim = codes "sim S V T --extra N\n    what the Verilog text V does over T, up to N cycles behind it\n"

@@ -8,7 +8,7 @@ ghost use Rattle.gl_top_forms.specs.Forms as forms;
 pub enum Command {
     /// `compile S Q`: the Verilog text of a query.
     Compile,
-    /// `figures S Q`: latency, gap, copies, and bits of registers and memories.
+    /// `figures S Q`: latency, gaps, copies, and bits of registers and memories.
     Figures,
     /// `explain S Q`: the query and its plan.
     Explain,

@@ -42,7 +42,7 @@ fn help_lines(command: Command) -> &'static [u8]
     match command {
         Command::Compile => b"compile S Q\n    the Verilog text of the query Q over the schema S\n",
         Command::Figures => {
-            b"figures S Q\n    latency and gap in cycles, copies, bits of registers and of memories\n"
+            b"figures S Q\n    latency and gaps in cycles, copies, bits of registers and of memories\n"
         }
         Command::Explain => b"explain S Q\n    the query in its canonical form, and its plan\n",
         Command::Run => {

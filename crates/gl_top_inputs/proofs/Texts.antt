@@ -4,9 +4,10 @@ use Rattle.std.specs.Prelude.{is_some}
 use Rattle.gl_top_forms.proofs.Named as forms
 use Rattle.gl_outside.specs.States.{IsCalm}
 use Rattle.gl_outside.specs.Told.{Told}
+use Rattle.gl_gaps.specs.declared.Gaps.{Gaps}
 use Rattle.gl_schema.specs.declared.schema.Schema.{Schema}
 use Rattle.gl_schema.specs.Schemas.{IsSchema}
-use Rattle.gl_schema.specs.Beats.{KeepsGap}
+use Rattle.gl_gaps.specs.Keeps.{KeepsGaps, even_gaps}
 use Rattle.gl_query.specs.declared.tree.Statement.{Statement}
 use Rattle.gl_query.specs.declared.fault.QueryFault.{QueryFault}
 use Rattle.gl_tuples.specs.declared.beats.Beat.{Beat}
@@ -21,7 +22,7 @@ use Rattle.gl_compiler.specs.declared.fault.CompileFault.{CompileFault}
 use Rattle.gl_compiler.specs.declared.fault.CompileFault.TheVariants as compile
 use Rattle.gl_figures.specs.declared.Limit.{Limit}
 use Rattle.gl_compiler.specs.declared.compiling.Compiled.{Compiled}
-use Rattle.gl_compiler.specs.Built.{gap_of}
+use Rattle.gl_compiler.specs.Built.{gaps_of, printed_gaps}
 use Rattle.gl_compiler.specs.Queries.{IsQuery, IsQueryRefused}
 use Rattle.gl_many.specs.declared.compiling.Many.{Many}
 use Rattle.gl_many.specs.Compiles.{AreCompiled, statements_in}
@@ -38,7 +39,7 @@ use Rattle.gl_top_status.specs.declared.refusal.Refusal.TheVariants as refusal
 use Rattle.gl_top_status.specs.Refusals.{tuples_refusal}
 use Rattle.gl_top_status.specs.Texts.{HasText, SchemaPasses, IsUnfetched, HasNoSchema}
 use Rattle.gl_top_status.proofs.Fetched.{has_text}
-use Rattle.gl_top_inputs.specs.Passing.{AreCompiledTogether, AsksGap, IsCompiled, OfAll, OfOne, QueriesPass, QueryPasses, TuplesPass, TuplesPassAll, ModulePasses, FilePasses, kept_beats}
+use Rattle.gl_top_inputs.specs.Passing.{AreCompiledTogether, AsksGaps, IsCompiled, OfAll, OfOne, QueriesPass, QueryPasses, TuplesPass, TuplesPassAll, ModulePasses, FilePasses, kept_beats}
 use Rattle.gl_top_inputs.specs.Readings.{One, Reading, Several, IsFaultBy, IsOverBy, part_read}
 use Rattle.gl_top_inputs.specs.Causes.{OfRun, OfRunAll, OfSim, PassBeforeTuples, IsNext, AreBadTuples, ToRun, ToRunAll, ToSim, Change, HasCause, compile_refusal}
 
@@ -149,56 +150,56 @@ compiled_together s v m fine is = record {
   short = is.short;
 }
 
--- ---- the gap that a tuple file is asked for
+-- ---- the gaps that a tuple file is asked for
 
-pub asks_before : (told : List ℕ → Told) (words : List (List ℕ)) (s : Schema) (gap : ℕ) → AsksGap told words s gap → PassBeforeTuples told words
-asks_before told words s gap (OfOne runs st passes is) = OfRun runs s st passes
-asks_before told words s gap (OfAll runs sts passes is) = OfRunAll runs s sts passes
+pub asks_before : (told : List ℕ → Told) (words : List (List ℕ)) (s : Schema) (gaps : Gaps) → AsksGaps told words s gaps → PassBeforeTuples told words
+asks_before told words s gaps (OfOne runs st passes is) = OfRun runs s st passes
+asks_before told words s gaps (OfAll runs sts passes is) = OfRunAll runs s sts passes
 
-pub asks_named : (told : List ℕ → Told) (words : List (List ℕ)) (s : Schema) (gap : ℕ) → AsksGap told words s gap → IsNamed words part.Tuples
-asks_named told words s gap asks = next_named told words part.Tuples (asks_before told words s gap asks)
+pub asks_named : (told : List ℕ → Told) (words : List (List ℕ)) (s : Schema) (gaps : Gaps) → AsksGaps told words s gaps → IsNamed words part.Tuples
+asks_named told words s gaps asks = next_named told words part.Tuples (asks_before told words s gaps asks)
 
-pub asks_schema : (told : List ℕ → Told) (words : List (List ℕ)) (s : Schema) (gap : ℕ) → AsksGap told words s gap → SchemaPasses told words s
-asks_schema told words s gap (OfOne runs st passes is) = passes.before
-asks_schema told words s gap (OfAll runs sts passes is) = passes.before
+pub asks_schema : (told : List ℕ → Told) (words : List (List ℕ)) (s : Schema) (gaps : Gaps) → AsksGaps told words s gaps → SchemaPasses told words s
+asks_schema told words s gaps (OfOne runs st passes is) = passes.before
+asks_schema told words s gaps (OfAll runs sts passes is) = passes.before
 
-pub asks_fine : (told : List ℕ → Told) (words : List (List ℕ)) (s : Schema) (gap : ℕ) → AsksGap told words s gap → IsSchema s
-asks_fine told words s gap asks = (asks_schema told words s gap asks).fine
+pub asks_fine : (told : List ℕ → Told) (words : List (List ℕ)) (s : Schema) (gaps : Gaps) → AsksGaps told words s gaps → IsSchema s
+asks_fine told words s gaps asks = (asks_schema told words s gaps asks).fine
 
 -- that of what was compiled
-pub one_asks : (told : List ℕ → Told) (words : List (List ℕ)) (c : Compiled) (s : Schema) (gap : ℕ) → IsOfRun words → QueryPasses told words c.schema c.statement → IsCompiled c → s ≡ c.schema → gap ≡ c.printed.gap → AsksGap told words s gap
-one_asks told words c s gap runs passes is e g = subst (λ (x : Schema). AsksGap told words x gap) (sym e) (OfOne runs c.statement passes (g ∙ is.gap))
+pub one_asks : (told : List ℕ → Told) (words : List (List ℕ)) (c : Compiled) (s : Schema) (gaps : Gaps) → IsOfRun words → QueryPasses told words c.schema c.statement → IsCompiled c → s ≡ c.schema → gaps ≡ printed_gaps c.printed → AsksGaps told words s gaps
+one_asks told words c s gaps runs passes is e g = subst (λ (x : Schema). AsksGaps told words x gaps) (sym e) (OfOne runs c.statement passes (g ∙ is.gaps))
 
-pub all_ask : (told : List ℕ → Told) (words : List (List ℕ)) (m : Many) (s : Schema) (gap : ℕ) → IsCommand words ManyRun → QueriesPass told words m.schema (statements_in m) → AreCompiledTogether m → s ≡ m.schema → gap ≡ m.planned.gap → AsksGap told words s gap
-all_ask told words m s gap runs passes is e g = subst (λ (x : Schema). AsksGap told words x gap) (sym e) (OfAll runs (statements_in m) passes (g ∙ is.gap))
+pub all_ask : (told : List ℕ → Told) (words : List (List ℕ)) (m : Many) (s : Schema) (gaps : Gaps) → IsCommand words ManyRun → QueriesPass told words m.schema (statements_in m) → AreCompiledTogether m → s ≡ m.schema → gaps ≡ even_gaps m.planned.gap → AsksGaps told words s gaps
+all_ask told words m s gaps runs passes is e g = subst (λ (x : Schema). AsksGaps told words x gaps) (sym e) (OfAll runs (statements_in m) passes (g ∙ ap even_gaps is.gap))
 
--- beats that keep a gap keep it as it is said elsewhere
-abbrev pub FileKeeps : (List ℕ → Told) → List (List ℕ) → Schema → ℕ → List Beat → Type 0
-FileKeeps told words s gap beats = AreFileBeats s beats × KeepsGap gap (plain_beats beats) × HasText told words part.Tuples (λ text. kept_beats s gap text ≡ Ok beats)
+-- beats that keep gaps keep them as they are said elsewhere
+abbrev pub FileKeeps : (List ℕ → Told) → List (List ℕ) → Schema → Gaps → List Beat → Type 0
+FileKeeps told words s gaps beats = AreFileBeats s beats × KeepsGaps gaps (plain_beats beats) × HasText told words part.Tuples (λ text. kept_beats s gaps text ≡ Ok beats)
 
-keeps_as : (told : List ℕ → Told) (words : List (List ℕ)) (s t : Schema) (gap n : ℕ) (beats : List Beat) → s ≡ t → gap ≡ n → FileKeeps told words s gap beats → FileKeeps told words t n beats
-keeps_as told words s t gap n beats e g f =
-    subst (λ (x : Schema). FileKeeps told words x n beats) e (subst (λ (k : ℕ). FileKeeps told words s k beats) g f)
+keeps_as : (told : List ℕ → Told) (words : List (List ℕ)) (s t : Schema) (gaps others : Gaps) (beats : List Beat) → s ≡ t → gaps ≡ others → FileKeeps told words s gaps beats → FileKeeps told words t others beats
+keeps_as told words s t gaps others beats e g f =
+    subst (λ (x : Schema). FileKeeps told words x others beats) e (subst (λ (k : Gaps). FileKeeps told words s k beats) g f)
 
-pub tuples_pass : (told : List ℕ → Told) (words : List (List ℕ)) (c : Compiled) (s : Schema) (gap : ℕ) (beats : List Beat) → IsOfRun words → QueryPasses told words c.schema c.statement → IsCompiled c → s ≡ c.schema → gap ≡ c.printed.gap
-    → FileKeeps told words s gap beats → TuplesPass told words c.schema c.statement beats
-tuples_pass told words c s gap beats runs passes is e g f =
-    let k = keeps_as told words s c.schema gap (gap_of c.schema c.statement) beats e (g ∙ is.gap) f in
-    record { runs = runs; before = passes; fine = k.0; gap = k.1; text = k.2 }
+pub tuples_pass : (told : List ℕ → Told) (words : List (List ℕ)) (c : Compiled) (s : Schema) (gaps : Gaps) (beats : List Beat) → IsOfRun words → QueryPasses told words c.schema c.statement → IsCompiled c → s ≡ c.schema → gaps ≡ printed_gaps c.printed
+    → FileKeeps told words s gaps beats → TuplesPass told words c.schema c.statement beats
+tuples_pass told words c s gaps beats runs passes is e g f =
+    let k = keeps_as told words s c.schema gaps (gaps_of c.schema c.statement) beats e (g ∙ is.gaps) f in
+    record { runs = runs; before = passes; fine = k.0; gaps = k.1; text = k.2 }
 
-pub tuples_pass_all : (told : List ℕ → Told) (words : List (List ℕ)) (m : Many) (s : Schema) (gap : ℕ) (beats : List Beat) → IsCommand words ManyRun → QueriesPass told words m.schema (statements_in m) → AreCompiledTogether m → s ≡ m.schema → gap ≡ m.planned.gap
-    → FileKeeps told words s gap beats → TuplesPassAll told words m.schema (statements_in m) beats
-tuples_pass_all told words m s gap beats runs passes is e g f =
-    let k = keeps_as told words s m.schema gap (shared_gap m.schema (statements_in m)) beats e (g ∙ is.gap) f in
-    record { runs = runs; before = passes; fine = k.0; gap = k.1; text = k.2 }
+pub tuples_pass_all : (told : List ℕ → Told) (words : List (List ℕ)) (m : Many) (s : Schema) (gaps : Gaps) (beats : List Beat) → IsCommand words ManyRun → QueriesPass told words m.schema (statements_in m) → AreCompiledTogether m → s ≡ m.schema → gaps ≡ even_gaps m.planned.gap
+    → FileKeeps told words s gaps beats → TuplesPassAll told words m.schema (statements_in m) beats
+tuples_pass_all told words m s gaps beats runs passes is e g f =
+    let k = keeps_as told words s m.schema gaps (even_gaps (shared_gap m.schema (statements_in m))) beats e (g ∙ ap even_gaps is.gap) f in
+    record { runs = runs; before = passes; fine = k.0; gaps = k.1; text = k.2 }
 
 -- of a tuple file that is refused
-are_bad : (words : List (List ℕ)) (c : Change) (v : List ℕ) (s : Schema) (gap : ℕ) (fault : TupleFault) → AsksGap c.old.told words s gap → HasText c.old.told words part.Tuples (λ text. v ≡ text)
-    → kept_beats s gap v ≡ Err fault → AreBadTuples c.old.told words fault
-are_bad words c v s gap fault (OfOne runs st before is) h f =
-    ToRun runs s st before (has_text c.old.told words part.Tuples (λ text. kept_beats s (gap_of s st) text ≡ Err fault) v h (subst (λ (n : ℕ). kept_beats s n v ≡ Err fault) is f))
-are_bad words c v s gap fault (OfAll runs sts before is) h f =
-    ToRunAll runs s sts before (has_text c.old.told words part.Tuples (λ text. kept_beats s (shared_gap s sts) text ≡ Err fault) v h (subst (λ (n : ℕ). kept_beats s n v ≡ Err fault) is f))
+are_bad : (words : List (List ℕ)) (c : Change) (v : List ℕ) (s : Schema) (gaps : Gaps) (fault : TupleFault) → AsksGaps c.old.told words s gaps → HasText c.old.told words part.Tuples (λ text. v ≡ text)
+    → kept_beats s gaps v ≡ Err fault → AreBadTuples c.old.told words fault
+are_bad words c v s gaps fault (OfOne runs st before is) h f =
+    ToRun runs s st before (has_text c.old.told words part.Tuples (λ text. kept_beats s (gaps_of s st) text ≡ Err fault) v h (subst (λ (n : Gaps). kept_beats s n v ≡ Err fault) is f))
+are_bad words c v s gaps fault (OfAll runs sts before is) h f =
+    ToRunAll runs s sts before (has_text c.old.told words part.Tuples (λ text. kept_beats s (even_gaps (shared_gap s sts)) text ≡ Err fault) v h (subst (λ (n : Gaps). kept_beats s n v ≡ Err fault) is f))
 
 -- a fault is told as it is, unless memory ran out
 tuples_told : (fault : TupleFault) (read : Result (List Beat) TupleFault) → Fails fault read → (tuples_refusal fault ≡ refusal.Memory) ⊎ ((tuples_refusal fault ≡ refusal.Tuples fault) × (read ≡ Err fault))
@@ -221,9 +222,9 @@ bad_cause words c fault read calm bad f = elim (tuples_told fault read f) [
   | inr h ↦ rw h.0 (bad h.1, calm)
 ]
 
-pub tuples_cause : (words : List (List ℕ)) (c : Change) (v : List ℕ) (s : Schema) (gap : ℕ) (fault : TupleFault) → AsksGap c.old.told words s gap → IsCalm c.old c.new → HasText c.old.told words part.Tuples (λ text. v ≡ text)
-    → Fails fault (kept_beats s gap v) → HasCause words c (tuples_refusal fault)
-tuples_cause words c v s gap fault asks calm h f = bad_cause words c fault (kept_beats s gap v) calm (are_bad words c v s gap fault asks h) f
+pub tuples_cause : (words : List (List ℕ)) (c : Change) (v : List ℕ) (s : Schema) (gaps : Gaps) (fault : TupleFault) → AsksGaps c.old.told words s gaps → IsCalm c.old c.new → HasText c.old.told words part.Tuples (λ text. v ≡ text)
+    → Fails fault (kept_beats s gaps v) → HasCause words c (tuples_refusal fault)
+tuples_cause words c v s gaps fault asks calm h f = bad_cause words c fault (kept_beats s gaps v) calm (are_bad words c v s gaps fault asks h) f
 
 -- of one that is to be simulated
 are_bad_file : (words : List (List ℕ)) (c : Change) (v : List ℕ) (s : Schema) (m : Module) (fault : TupleFault) → ModulePasses c.old.told words s m → HasText c.old.told words part.Tuples (λ text. v ≡ text)
@@ -242,40 +243,40 @@ file_passes told words v s m beats before h are read = record {
   text = has_text told words part.Tuples (λ text. beats_of s (records_of text) ≡ Ok beats) v h read;
 }
 
--- beats that keep the gap
-pub kept_ok : (s : Schema) (gap : ℕ) (v : List ℕ) (beats : List Beat) → beats_of s (records_of v) ≡ Ok beats → Ok tt ≡ close_answer (first_close gap beats) → kept_beats s gap v ≡ Ok beats
+-- beats that keep the gaps
+pub kept_ok : (s : Schema) (gaps : Gaps) (v : List ℕ) (beats : List Beat) → beats_of s (records_of v) ≡ Ok beats → Ok tt ≡ close_answer (first_close gaps 0 0 beats) → kept_beats s gaps v ≡ Ok beats
 unfolding kept_beats
-kept_ok s gap v beats read close = rw (read, ← close) refl
+kept_ok s gaps v beats read close = rw (read, ← close) refl
 
 -- beats that do not
 close_fault : (o : Option ℕ) (fault : TupleFault) → Err fault ≡ close_answer o → (number : ℕ) × (o ≡ Some number) × (fault ≡ tuples.TooClose number)
 close_fault None fault e = absurd cc
 close_fault (Some n) fault e = (n, refl, cc)
 
-close_is : (s : Schema) (gap : ℕ) (v : List ℕ) (beats : List Beat) (n : ℕ) → beats_of s (records_of v) ≡ Ok beats → first_close gap beats ≡ Some n → kept_beats s gap v ≡ Err (tuples.TooClose n)
+close_is : (s : Schema) (gaps : Gaps) (v : List ℕ) (beats : List Beat) (n : ℕ) → beats_of s (records_of v) ≡ Ok beats → first_close gaps 0 0 beats ≡ Some n → kept_beats s gaps v ≡ Err (tuples.TooClose n)
 unfolding kept_beats
-close_is s gap v beats n read close = rw (read, close) refl
+close_is s gaps v beats n read close = rw (read, close) refl
 
-pub kept_close : (s : Schema) (gap : ℕ) (v : List ℕ) (beats : List Beat) (fault : TupleFault) → beats_of s (records_of v) ≡ Ok beats → Err fault ≡ close_answer (first_close gap beats) → Fails fault (kept_beats s gap v)
-kept_close s gap v beats fault read close =
-    let p = close_fault (first_close gap beats) fault close in
-    subst (λ (f : TupleFault). Fails f (kept_beats s gap v)) (sym p.2) (close_is s gap v beats p.0 read p.1)
+pub kept_close : (s : Schema) (gaps : Gaps) (v : List ℕ) (beats : List Beat) (fault : TupleFault) → beats_of s (records_of v) ≡ Ok beats → Err fault ≡ close_answer (first_close gaps 0 0 beats) → Fails fault (kept_beats s gaps v)
+kept_close s gaps v beats fault read close =
+    let p = close_fault (first_close gaps 0 0 beats) fault close in
+    subst (λ (f : TupleFault). Fails f (kept_beats s gaps v)) (sym p.2) (close_is s gaps v beats p.0 read p.1)
 
 -- no beats at all
-unkept : (s : Schema) (gap : ℕ) (v : List ℕ) (fault : TupleFault) → beats_of s (records_of v) ≡ Err fault → kept_beats s gap v ≡ Err fault
+unkept : (s : Schema) (gaps : Gaps) (v : List ℕ) (fault : TupleFault) → beats_of s (records_of v) ≡ Err fault → kept_beats s gaps v ≡ Err fault
 unfolding kept_beats
-unkept s gap v fault e = rw e refl
+unkept s gaps v fault e = rw e refl
 
-pub kept_bad : (s : Schema) (gap : ℕ) (v : List ℕ) (fault : TupleFault) → Fails fault (beats_of s (records_of v)) → Fails fault (kept_beats s gap v)
-kept_bad s gap v tuples.Memory f = tt
-kept_bad s gap v (tuples.NotUtf8 n) f = unkept s gap v (tuples.NotUtf8 n) f
-kept_bad s gap v (tuples.BadCycle n) f = unkept s gap v (tuples.BadCycle n) f
-kept_bad s gap v (tuples.CycleFalls n) f = unkept s gap v (tuples.CycleFalls n) f
-kept_bad s gap v (tuples.CycleTooLarge n) f = unkept s gap v (tuples.CycleTooLarge n) f
-kept_bad s gap v (tuples.UnknownStream n) f = unkept s gap v (tuples.UnknownStream n) f
-kept_bad s gap v (tuples.FieldCount n) f = unkept s gap v (tuples.FieldCount n) f
-kept_bad s gap v (tuples.BadValue n) f = unkept s gap v (tuples.BadValue n) f
-kept_bad s gap v (tuples.StreamTwice n) f = unkept s gap v (tuples.StreamTwice n) f
-kept_bad s gap v (tuples.TickTwice n) f = unkept s gap v (tuples.TickTwice n) f
-kept_bad s gap v (tuples.AfterEnd n) f = unkept s gap v (tuples.AfterEnd n) f
-kept_bad s gap v (tuples.TooClose n) f = unkept s gap v (tuples.TooClose n) f
+pub kept_bad : (s : Schema) (gaps : Gaps) (v : List ℕ) (fault : TupleFault) → Fails fault (beats_of s (records_of v)) → Fails fault (kept_beats s gaps v)
+kept_bad s gaps v tuples.Memory f = tt
+kept_bad s gaps v (tuples.NotUtf8 n) f = unkept s gaps v (tuples.NotUtf8 n) f
+kept_bad s gaps v (tuples.BadCycle n) f = unkept s gaps v (tuples.BadCycle n) f
+kept_bad s gaps v (tuples.CycleFalls n) f = unkept s gaps v (tuples.CycleFalls n) f
+kept_bad s gaps v (tuples.CycleTooLarge n) f = unkept s gaps v (tuples.CycleTooLarge n) f
+kept_bad s gaps v (tuples.UnknownStream n) f = unkept s gaps v (tuples.UnknownStream n) f
+kept_bad s gaps v (tuples.FieldCount n) f = unkept s gaps v (tuples.FieldCount n) f
+kept_bad s gaps v (tuples.BadValue n) f = unkept s gaps v (tuples.BadValue n) f
+kept_bad s gaps v (tuples.StreamTwice n) f = unkept s gaps v (tuples.StreamTwice n) f
+kept_bad s gaps v (tuples.TickTwice n) f = unkept s gaps v (tuples.TickTwice n) f
+kept_bad s gaps v (tuples.AfterEnd n) f = unkept s gaps v (tuples.AfterEnd n) f
+kept_bad s gaps v (tuples.TooClose n) f = unkept s gaps v (tuples.TooClose n) f

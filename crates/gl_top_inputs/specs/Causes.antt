@@ -3,6 +3,7 @@ use Rattle.std.specs.Prelude.{◌≡◌, ◌⊎◌, ℕ, ◌<◌, List, length, 
 use Rattle.gl_outside.specs.States.{ShelfState, IsCalm, Missed, Faulted}
 use Rattle.gl_outside.specs.Told.{Told, IsLacking, IfTold}
 use Rattle.gl_schema.specs.declared.schema.Schema.{Schema}
+use Rattle.gl_gaps.specs.Keeps.{even_gaps}
 use Rattle.gl_schema.specs.declared.fault.SchemaFault as faults
 use Rattle.gl_schema.specs.SchemaFaults.{schema_of}
 use Rattle.gl_query.specs.declared.fault.QueryFault.{QueryFault}
@@ -13,7 +14,7 @@ use Rattle.gl_compiler.specs.declared.fault.CompileFault.TheVariants as compile
 use Rattle.gl_vcd.specs.declared.fault.VcdFault.{VcdFault}
 use Rattle.gl_vcd.specs.Reading.{dump_of}
 use Rattle.gl_figures.specs.declared.Limit.{Limit}
-use Rattle.gl_compiler.specs.Built.{gap_of}
+use Rattle.gl_compiler.specs.Built.{gaps_of}
 use Rattle.gl_many.specs.Meets.{shared_gap}
 use Rattle.gl_verilog.specs.Module.{Module}
 use Rattle.gl_verilog_tokens.specs.declared.fault.VerilogFault.{VerilogFault}
@@ -97,16 +98,16 @@ pub record IsBadVerilog (told : List ℕ → Told) (words : List (List ℕ)) (fa
   pub before : SchemaPasses told words schema
   pub text : HasText told words part.Module (λ text. IsModuleFault schema text fault)
 
--- the tuple file is none of the schema, or its beats do not keep the gap of a run, and this is its first fault
+-- the tuple file is none of the schema, or its beats do not keep the gaps of a run, and this is its first fault
 pub data AreBadTuples (told : List ℕ → Told) (words : List (List ℕ)) (fault : TupleFault) : Type 0 where
   ToRun : (runs : IsOfRun words) (schema : Schema) (statement : Statement)
       (before : QueryPasses told words schema statement)
-      (text : HasText told words part.Tuples (λ text. kept_beats schema (gap_of schema statement) text ≡ Err fault))
+      (text : HasText told words part.Tuples (λ text. kept_beats schema (gaps_of schema statement) text ≡ Err fault))
       → AreBadTuples told words fault
   ToRunAll : (runs : IsCommand words ManyRun) (schema : Schema) (statements : List Statement)
       (before : QueriesPass told words schema statements)
       (text : HasText told words part.Tuples
-      (λ text. kept_beats schema (shared_gap schema statements) text ≡ Err fault))
+      (λ text. kept_beats schema (even_gaps (shared_gap schema statements)) text ≡ Err fault))
       → AreBadTuples told words fault
   ToSim : (schema : Schema) (m : Module) (before : ModulePasses told words schema m)
       (text : HasText told words part.Tuples (λ text. beats_of schema (records_of text) ≡ Err fault))

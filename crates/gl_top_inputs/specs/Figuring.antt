@@ -1,23 +1,29 @@
--- What is written of the figures of a compiled query: five lines of a name and a number. And of several queries.
-use Rattle.std.specs.Prelude.{◌≡◌, ℕ, List, ◌++◌, codes, decimal}
+-- What is written of the figures of a compiled query: lines of a name and a number. And of several queries.
+use Rattle.std.specs.Prelude.{◌≡◌, ℕ, List, [], ◌++◌, codes, decimal, Option, Some, None}
 use Rattle.std.specs.List.{flat_map}
 use Rattle.gl_schema.specs.declared.schema.Schema.{Schema}
 use Rattle.gl_query.specs.declared.tree.Statement.{Statement}
 use Rattle.gl_figures.specs.declared.Printed.{Printed}
 use Rattle.gl_net.specs.declared.counting.Cost.{Cost}
 use Rattle.gl_compiler.specs.Compiles.{HasCost}
-use Rattle.gl_compiler.specs.Built.{IsNoFarther, copies_of, gap_of, latency_of}
+use Rattle.gl_compiler.specs.Built.{IsNoFarther, copies_of, gaps_of, latency_of, printed_gaps}
 use Rattle.gl_many.specs.Meets.{own_latency, shared_gap}
 
 -- one figure on a line: its name and its number
 unfoldable pub figure_line : List ℕ → ℕ → List ℕ
 figure_line name number = name ++ decimal number ++ codes "\n"
 
--- latency and gap in cycles, copies of bodies, and the bits of registers and of memories
+-- and one of the ticks' gap, where it is another one
+abbrev pub ticks_line : Option ℕ → List ℕ
+ticks_line None = []
+ticks_line (Some ticks) = figure_line (codes "ticks ") ticks
+
+-- latency and gaps in cycles, copies of bodies, and the bits of registers and of memories
 abbrev pub figure_lines : Printed → Cost → List ℕ
 figure_lines p cost =
     figure_line (codes "latency ") p.latency
     ++ figure_line (codes "gap ") p.gap
+    ++ ticks_line p.ticks
     ++ figure_line (codes "copies ") p.copies
     ++ figure_line (codes "registers ") cost.registers
     ++ figure_line (codes "memories ") cost.memories
@@ -27,8 +33,8 @@ pub record IsFigured (schema : Schema) (statement : Statement) (bytes text : Lis
   pub printed : Printed
   pub cost : Cost
   pub latency : printed.latency ≡ latency_of schema statement
-  pub gap : printed.gap ≡ gap_of schema statement
-  pub closer : IsNoFarther schema statement printed.gap
+  pub gaps : printed_gaps printed ≡ gaps_of schema statement
+  pub closer : IsNoFarther schema statement (printed_gaps printed)
   pub copies : printed.copies ≡ copies_of schema statement
   pub has : HasCost schema statement text cost
   pub shown : bytes ≡ figure_lines printed cost

@@ -3,9 +3,11 @@ use Rattle.std.specs.Prelude.{◌≡◌, ℕ, ◌≤◌, ◌^◌, List, length, 
 use Rattle.std.specs.List.{AllByRecursion}
 use Rattle.gl_values.specs.Kinds.{IsKind}
 use Rattle.gl_outside.specs.Told.{Told}
+use Rattle.gl_gaps.specs.declared.Gaps.{Gaps}
 use Rattle.gl_schema.specs.declared.schema.Schema.{Schema}
 use Rattle.gl_schema.specs.Schemas.{IsSchema, kinds_of}
-use Rattle.gl_schema.specs.Beats.{AreBeats, KeepsGap}
+use Rattle.gl_schema.specs.Beats.{AreBeats}
+use Rattle.gl_gaps.specs.Keeps.{KeepsGaps, even_gaps}
 use Rattle.gl_query.specs.declared.tree.Statement.{Statement}
 use Rattle.gl_tuples.specs.declared.beats.Beat.{Beat}
 use Rattle.gl_tuples.specs.declared.fault.TupleFault.{TupleFault}
@@ -19,7 +21,7 @@ use Rattle.gl_verilog_ports.specs.declared.fitting.Ports.{Ports}
 use Rattle.gl_verilog_ports.specs.Fit.{fit_of}
 use Rattle.gl_compiler.specs.declared.compiling.Compiled.{Compiled}
 use Rattle.gl_compiler.specs.Compiles.{HasCost}
-use Rattle.gl_compiler.specs.Built.{IsNoFarther, copies_of, gap_of, latency_of}
+use Rattle.gl_compiler.specs.Built.{IsNoFarther, copies_of, gaps_of, latency_of, printed_gaps}
 use Rattle.gl_compiler.specs.Queries.{IsQuery}
 use Rattle.gl_compiler.specs.Meets.{Meets, result_columns}
 use Rattle.gl_many.specs.declared.compiling.Many.{Many}
@@ -51,19 +53,19 @@ pub record QueriesPass (told : List ℕ → Told) (words : List (List ℕ)) (sch
   pub before : SchemaPasses told words schema
   pub text : HasText told words part.Queries (λ text. AreQueries schema text statements)
 
--- the beats of a text, where they keep the gap; else the first fault
-unfoldable pub kept_beats : Schema → ℕ → List ℕ → Result (List Beat) TupleFault
-kept_beats schema gap text =
-    beats_of schema (records_of text) >>= λ beats. (close_answer (first_close gap beats) >>= λ _. Ok beats)
+-- the beats of a text, where they keep the gaps; else the first fault
+unfoldable pub kept_beats : Schema → Gaps → List ℕ → Result (List Beat) TupleFault
+kept_beats schema gaps text =
+    beats_of schema (records_of text) >>= λ beats. (close_answer (first_close gaps 0 0 beats) >>= λ _. Ok beats)
 
--- the words are of `run` or of `vcd`, and the tuple file is that of these beats, which keep the statement's gap
+-- the words are of `run` or of `vcd`, and the tuple file is that of these beats, which keep the statement's gaps
 pub record TuplesPass (told : List ℕ → Told) (words : List (List ℕ)) (schema : Schema) (statement : Statement)
     (beats : List Beat) : Type 0 where
   pub runs : IsOfRun words
   pub before : QueryPasses told words schema statement
   pub fine : AreFileBeats schema beats
-  pub gap : KeepsGap (gap_of schema statement) (plain_beats beats)
-  pub text : HasText told words part.Tuples (λ text. kept_beats schema (gap_of schema statement) text ≡ Ok beats)
+  pub gaps : KeepsGaps (gaps_of schema statement) (plain_beats beats)
+  pub text : HasText told words part.Tuples (λ text. kept_beats schema (gaps_of schema statement) text ≡ Ok beats)
 
 -- the words are of `manyrun`, and the tuple file is that of these beats, which keep the gap of all statements
 pub record TuplesPassAll (told : List ℕ → Told) (words : List (List ℕ)) (schema : Schema) (statements : List Statement)
@@ -71,17 +73,18 @@ pub record TuplesPassAll (told : List ℕ → Told) (words : List (List ℕ)) (s
   pub runs : IsCommand words ManyRun
   pub before : QueriesPass told words schema statements
   pub fine : AreFileBeats schema beats
-  pub gap : KeepsGap (shared_gap schema statements) (plain_beats beats)
-  pub text : HasText told words part.Tuples (λ text. kept_beats schema (shared_gap schema statements) text ≡ Ok beats)
+  pub gaps : KeepsGaps (even_gaps (shared_gap schema statements)) (plain_beats beats)
+  pub text : HasText told words part.Tuples
+      (λ text. kept_beats schema (even_gaps (shared_gap schema statements)) text ≡ Ok beats)
 
--- the texts before the tuple file of a run pass, and this is the gap that its beats are to keep: that of the statement,
--- or that of all of several
-pub data AsksGap (told : List ℕ → Told) (words : List (List ℕ)) (schema : Schema) (gap : ℕ) : Type 0 where
+-- the texts before the tuple file of a run pass, and these are the gaps that its beats are to keep: those of the
+-- statement, or the one of all of several
+pub data AsksGaps (told : List ℕ → Told) (words : List (List ℕ)) (schema : Schema) (gaps : Gaps) : Type 0 where
   OfOne : (runs : IsOfRun words) (statement : Statement) (passes : QueryPasses told words schema statement)
-      (is : gap ≡ gap_of schema statement) → AsksGap told words schema gap
+      (is : gaps ≡ gaps_of schema statement) → AsksGaps told words schema gaps
   OfAll : (runs : IsCommand words ManyRun) (statements : List Statement)
-      (passes : QueriesPass told words schema statements) (is : gap ≡ shared_gap schema statements)
-      → AsksGap told words schema gap
+      (passes : QueriesPass told words schema statements) (is : gaps ≡ even_gaps (shared_gap schema statements))
+      → AsksGaps told words schema gaps
 
 -- the words are of `sim`, and the Verilog text is that of this module, whose ports are those of the schema and of a
 -- result
@@ -103,13 +106,13 @@ pub record FilePasses (told : List ℕ → Told) (words : List (List ℕ)) (sche
 -- the compiled query: its text meets the statement, and its kinds are those of the result
 pub record IsCompiled (c : Compiled) : Type 0 where
   pub fine : IsSchema c.schema
-  pub meets : Meets c.schema c.statement (latency_of c.schema c.statement) (gap_of c.schema c.statement) c.text.items
+  pub meets : Meets c.schema c.statement (latency_of c.schema c.statement) (gaps_of c.schema c.statement) c.text.items
   pub columns : c.kinds ≡ kinds_of (result_columns c.schema c.statement)
   pub many : length c.kinds ≤ 32
   pub kinds : AllByRecursion IsKind c.kinds
   pub latency : c.printed.latency ≡ latency_of c.schema c.statement
-  pub gap : c.printed.gap ≡ gap_of c.schema c.statement
-  pub closer : IsNoFarther c.schema c.statement c.printed.gap
+  pub gaps : printed_gaps c.printed ≡ gaps_of c.schema c.statement
+  pub closer : IsNoFarther c.schema c.statement (printed_gaps c.printed)
   pub short : c.printed.latency ≤ 2 ^ 32
   pub copies : c.printed.copies ≡ copies_of c.schema c.statement
   pub cost : HasCost c.schema c.statement c.text.items c.cost

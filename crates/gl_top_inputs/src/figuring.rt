@@ -38,7 +38,17 @@ fn put_line(text: &mut Vec<u8>, name: &[u8], number: u128) -> Result<(), Memory>
     put(text, b"\n")
 }
 
-/// The five lines of a compiled query: latency and gap in cycles, copies, and bits of registers and memories.
+// Appends the line of the ticks' gap, where it is another one.
+fn put_ticks(text: &mut Vec<u8>, ticks: Option<u32>) -> Result<(), Memory>
+    ensures { OnOk result (text.new.items ≡ text.old.items ++ spec.ticks_line ticks) }
+{
+    let Some(ticks) = ticks else {
+        return Ok(());
+    };
+    put_line(text, b"ticks ", u128::from(ticks))
+}
+
+/// The lines of a compiled query: latency and gaps in cycles, copies, and bits of registers and memories.
 pub fn figures_text(alloc: Global, compiled: &Compiled) -> Result<Vec<u8>, Memory>
     ensures { IfOk result (λ v. v.items
         ≡ spec.figure_lines compiled.now.printed compiled.now.cost) }
@@ -48,6 +58,7 @@ pub fn figures_text(alloc: Global, compiled: &Compiled) -> Result<Vec<u8>, Memor
     let mut text = Vec::new(alloc);
     put_line(&mut text, b"latency ", u128::from(printed.latency))?;
     put_line(&mut text, b"gap ", u128::from(printed.gap))?;
+    put_ticks(&mut text, printed.ticks)?;
     put_line(&mut text, b"copies ", u128::from(printed.copies))?;
     put_line(&mut text, b"registers ", cost.registers)?;
     put_line(&mut text, b"memories ", cost.memories)?;

@@ -2,17 +2,18 @@
 
 ghost use Rattle.std.specs.Prelude.{◌≡◌, [], IfOk, Ok};
 ghost use Rattle.gl_schema.specs.Schemas.{IsSchema};
-ghost use Rattle.gl_schema.specs.Beats.{KeepsGap};
+ghost use Rattle.gl_gaps.specs.Keeps.{KeepsGaps, even_gaps};
 ghost use Rattle.gl_tuple_reader.specs.Entries.{Gives};
 ghost use Rattle.gl_tuples.specs.Gaps.{AreFileBeats, plain_beats};
 ghost use Rattle.gl_top_forms.specs.Forms.{IsNamed, IsOfRun};
 ghost use Rattle.gl_top_inputs.specs.Causes as causes;
 ghost use Rattle.gl_top_inputs.specs.Causes.{Leaves};
 ghost use Rattle.gl_outside.specs.States.{Stays};
-ghost use Rattle.gl_top_inputs.specs.Passing.{AsksGap, QueryPasses, IsCompiled, IsReady, kept_beats};
+ghost use Rattle.gl_top_inputs.specs.Passing.{AsksGaps, QueryPasses, IsCompiled, IsReady, kept_beats};
 ghost use Rattle.gl_top_status.specs.Texts.{HasText, SchemaPasses};
 
 use gl_compiler::{CompileFault, Compiled, compile_query};
+use gl_gaps::Gaps;
 use gl_outside::Shelf;
 use gl_schema::Schema;
 use gl_top_forms::{Part, Taken};
@@ -30,7 +31,7 @@ pub struct Job {
     pub beats: Beats,
 }
 
-/// The texts that were fetched, and the gap that their beats are to keep: none before they were.
+/// The texts that were fetched, and the gaps that their beats are to keep: none before they were.
 #[derive(Drop)]
 pub struct KeptTexts {
     /// The text of the schema.
@@ -39,23 +40,26 @@ pub struct KeptTexts {
     pub query: Vec<u8>,
     /// The tuple file.
     pub tuples: Vec<u8>,
-    /// The gap of the query.
-    pub gap: u32,
+    /// The gaps of the query.
+    pub gaps: Gaps,
 }
 
 impl KeptTexts {
-    /// No text, and no gap.
+    /// No text, and no gaps.
     pub fn new(alloc: Global) -> KeptTexts
         ensures schema { result.schema.items ≡ [] }
         ensures query { result.query.items ≡ [] }
         ensures tuples { result.tuples.items ≡ [] }
-        ensures gap { result.gap ≡ 0 }
+        ensures gaps { result.gaps ≡ even_gaps 0 }
     {
         KeptTexts {
             schema: Vec::new(alloc),
             query: Vec::new(alloc),
             tuples: Vec::new(alloc),
-            gap: 0,
+            gaps: Gaps {
+                of_beats: 0,
+                of_ticks: 0,
+            },
         }
     }
 }
@@ -103,37 +107,37 @@ fn judge_query<S: Shelf>(
     }
 }
 
-// The beats of a text, if they keep the gap.
-fn beats_of(alloc: Global, schema: &Schema, gap: u32, text: &[u8]) -> Result<Beats, TupleFault>
+// The beats of a text, if they keep the gaps.
+fn beats_of(alloc: Global, schema: &Schema, gaps: Gaps, text: &[u8]) -> Result<Beats, TupleFault>
     requires { IsSchema schema.now }
-    ensures exact { Gives result (kept_beats schema.now gap text.now) }
+    ensures exact { Gives result (kept_beats schema.now gaps text.now) }
     ensures fine { IfOk result (λ beats. AreFileBeats schema.now beats) }
-    ensures gap { IfOk result (λ beats. KeepsGap gap (plain_beats beats)) }
+    ensures gaps { IfOk result (λ beats. KeepsGaps gaps (plain_beats beats)) }
 {
     let beats = read_tuples(alloc, schema, text)?;
-    beats.keep(gap)?;
+    beats.keep(gaps)?;
     Ok(beats)
 }
 
-// Reads and judges the tuple file, whose beats are to keep this gap, and keeps its text.
+// Reads and judges the tuple file, whose beats are to keep these gaps, and keeps its text.
 pub(crate) fn judge_tuples<S: Shelf>(
     alloc: Global,
     shelf: &mut S,
     words: &Taken<'_>,
     schema: &Schema,
-    gap: u32,
+    gaps: Gaps,
     kept: &mut Vec<u8>,
 ) -> Result<Beats, Refusal>
-    requires asks { AsksGap (S.state shelf.old).told words.now schema.now gap }
+    requires asks { AsksGaps (S.state shelf.old).told words.now schema.now gaps }
     requires names { (S.state shelf.old).names ≡ words.now }
     ensures fine { IfOk result (λ beats. AreFileBeats schema.now beats) }
-    ensures gap { IfOk result (λ beats. KeepsGap gap (plain_beats beats)) }
+    ensures gaps { IfOk result (λ beats. KeepsGaps gaps (plain_beats beats)) }
     ensures text { IfOk result (λ beats. HasText (S.state shelf.old).told words.now Part.Tuples
-        (λ text. kept_beats schema.now gap text ≡ Ok beats)) }
+        (λ text. kept_beats schema.now gaps text ≡ Ok beats)) }
     ensures leaves { Leaves words.now (S.state shelf.old) (S.state shelf.new) result }
 {
     let text = fetch(alloc, shelf, words, Part::Tuples)?;
-    match beats_of(alloc, schema, gap, &text) {
+    match beats_of(alloc, schema, gaps, &text) {
         Ok(beats) => {
             *kept = text;
             Ok(beats)
@@ -161,14 +165,14 @@ fn judge_file<S: Shelf>(
     ensures ready { IfOk result (λ job. IsReady (S.state shelf.old).told words.now job) }
     ensures leaves { Leaves words.now (S.state shelf.old) (S.state shelf.new) result }
 {
-    let gap = compiled.printed().gap;
-    kept.gap = gap;
+    let gaps = compiled.gaps();
+    kept.gaps = gaps;
     let beats = judge_tuples(
         alloc,
         shelf,
         words,
         compiled.schema(),
-        gap,
+        gaps,
         &mut kept.tuples,
     )?;
     Ok(Job { compiled, beats })

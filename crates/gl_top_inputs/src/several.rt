@@ -10,6 +10,7 @@ ghost use Rattle.gl_top_inputs.specs.Passing.{AreCompiledTogether, AreReady, Que
 ghost use Rattle.gl_top_status.specs.Texts.{SchemaPasses};
 
 use crate::judging::{compile_refusal, judge_tuples};
+use gl_gaps::Gaps;
 use gl_many::{Many, compile_many};
 use gl_outside::Shelf;
 use gl_schema::Schema;
@@ -66,8 +67,12 @@ fn judge_behind_queries<S: Shelf>(
     ensures leaves { Leaves words.now (S.state shelf.old) (S.state shelf.new) result }
 {
     let gap = many.planned().gap;
+    let gaps = Gaps {
+        of_beats: gap,
+        of_ticks: gap,
+    };
     let mut kept = Vec::new(alloc);
-    let beats = judge_tuples(alloc, shelf, words, many.schema(), gap, &mut kept)?;
+    let beats = judge_tuples(alloc, shelf, words, many.schema(), gaps, &mut kept)?;
     Ok(ManyJob { many, beats })
 }
 

@@ -9,6 +9,7 @@ use crate::schemas::put_schema;
 use crate::texts::{Sort, put_other};
 use gl_bits::Memory;
 use gl_figures::Limit;
+use gl_gaps::Gaps;
 use gl_query::QueryFault;
 use gl_schema::{Schema, SchemaFault, read_schema};
 use gl_top_forms::{Part, Taken};
@@ -29,8 +30,8 @@ pub struct Refused<'a> {
     pub query: &'a [u8],
     /// The tuple file.
     pub tuples: &'a [u8],
-    /// The gap of the query.
-    pub gap: u32,
+    /// The gaps of the query.
+    pub gaps: Gaps,
 }
 
 // Of a schema.
@@ -99,7 +100,7 @@ fn put_tuples_fault(
             return Ok(());
         }
     }
-    put_record(out, fault, record, schema, refused.gap)
+    put_record(out, fault, record, schema, refused.gaps)
 }
 
 // Of a limit.

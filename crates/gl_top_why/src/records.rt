@@ -4,6 +4,7 @@ use crate::fields::{Record, field, field_begins};
 use crate::lines::put_bytes;
 use crate::names::{put_columns, put_kind, put_streams, stream_named};
 use crate::words::{is_number, number_of};
+use gl_gaps::Gaps;
 use gl_schema::{Column, Schema, Stream, kind_size};
 use gl_tuples::TupleFault;
 use gl_values::Kind;
@@ -157,14 +158,24 @@ fn put_unknown(out: &mut String, record: &[u8], schema: &Schema) -> Result<(), A
     out.push_str(", and tick and end are records too.")
 }
 
-// A beat that comes too soon.
-fn put_close(out: &mut String, record: Record<'_>, gap: u32) -> Result<(), AllocError> {
+// A beat that comes too soon behind the one before, or with a tick or the end behind the tick before.
+fn put_close(out: &mut String, record: Record<'_>, gaps: Gaps) -> Result<(), AllocError> {
+    let own = number_of(field(record.bytes, 0).unwrap_or(b"")).unwrap_or(0);
     let first = number_of(field(record.before, 0).unwrap_or(b"")).unwrap_or(0);
+    let gap = gaps.of_beats;
+    let ticks = gaps.of_ticks;
     let next = first.saturating_add(u64::from(gap));
-    write!(
-        out,
-        "The query has the gap {gap}, and the beat before is in cycle {first}, so the next may come in cycle {next}. Ticks and the end are beats too. tools/beats keeps the gap, or take a query with a smaller one."
-    )
+    if next <= own {
+        write!(
+            out,
+            "The query asks for {ticks} cycles from a tick to the next one, and to the end. Without an end record the end stands at the last record."
+        )
+    } else {
+        write!(
+            out,
+            "The query has the gap {gap}, and the beat before is in cycle {first}, so the next may come in cycle {next}. Ticks and the end are beats too. tools/beats keeps the gap, or take a query with a smaller one."
+        )
+    }
 }
 
 // What the first field may not be.
@@ -212,14 +223,14 @@ pub(crate) fn put_record(
     fault: &TupleFault,
     record: Record<'_>,
     schema: &Schema,
-    gap: u32,
+    gaps: Gaps,
 ) -> Result<(), AllocError> {
     match fault {
         TupleFault::BadCycle { .. } => put_cycle(out, record.bytes),
         TupleFault::UnknownStream { .. } => put_unknown(out, record.bytes, schema),
         TupleFault::FieldCount { .. } => put_shape(out, record.bytes, schema),
         TupleFault::BadValue { .. } => put_bad_value(out, record.bytes, schema),
-        TupleFault::TooClose { .. } => put_close(out, record, gap),
+        TupleFault::TooClose { .. } => put_close(out, record, gaps),
         _ => out.push_str(sentence_of(fault)),
     }
 }

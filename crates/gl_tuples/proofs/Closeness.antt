@@ -1,89 +1,70 @@
--- The first beat that is too close, and that there is none.
-use Rattle.std.proofs.Common.{◌≡◌, ℕ, zero, suc, ◌+◌, ◌-◌, ◌<◌, ◌≤◌, true, false, cond, List, [], ◌∷◌, length, drop, get_or, Option, Some, None, refl, sym, ap, ◌∙◌, arith, ◌↔◌, inl, inr}
-use Rattle.std.specs.Prelude.{IsOk, nat_lt}
-use Rattle.std.proofs.lemmas.List.{get_or-map}
-use Rattle.std.proofs.lemmas.Bool.{cases_Bool, ltb-false, le-ltb, false≢true}
+-- The first beat that comes too early, and that there is none.
+use Rattle.std.proofs.Common.{◌≡◌, ℕ, ◌+◌, ◌≤◌, Bool, true, false, List, [], ◌∷◌, Option, Some, refl, ap, arith, ◌↔◌, inl, inr}
+use Rattle.std.specs.Prelude.{IsOk, nat_lt, ◌&&◌, ◌||◌, if◌then◌else◌}
+use Rattle.std.proofs.lemmas.Bool.{cases_Bool, ltb-false, le-ltb, or_parts, or_from, false≢true}
+use Rattle.gl_bits.proofs.Bools.{and_no}
+use Rattle.gl_gaps.specs.declared.Gaps.{Gaps}
 use Rattle.gl_schema.specs.Beats.{KeepsGap}
+use Rattle.gl_gaps.specs.Keeps.{KeepsGaps, KeepsTicks}
+use Rattle.gl_schema.specs.Beats as plain
 use Rattle.gl_tuples.specs.declared.beats.Beat.{Beat}
 use Rattle.gl_tuples.specs.declared.beats.Head.{Head}
-use Rattle.gl_tuples.specs.Flat.{beat_in, beats_in}
-use Rattle.gl_bits.proofs.AllLists.{length_map}
+use Rattle.gl_tuples.specs.Flat.{beats_in, close_head}
 use Rattle.gl_tuples.specs.Gaps.{first_close, close_answer, plain_beats}
 
-close_next : (gap : ℕ) (bs : List Beat) (i : ℕ) (x y : Beat) → suc i < length bs → x ≡ get_or bs i x → y ≡ get_or bs (suc i) y
-    → first_close gap (drop i bs) ≡ cond (nat_lt y.cycle (x.cycle + gap)) (Some y.number) (first_close gap (drop (suc i) bs))
-close_next gap [] i x y lt e f = absurd (omega arith)
-close_next gap (b ∷ []) i x y lt e f = absurd (omega arith)
-close_next gap (b ∷ c ∷ bs) zero x y lt e f = rw (e, f) refl
-close_next gap (b ∷ c ∷ bs) (suc i) x y lt e f = close_next gap (c ∷ bs) i x y (omega arith) e f
+-- of beats in flat lists their heads tell
+pub heads_tell : (gaps : Gaps) (next tick : ℕ) (shape : List (List ℕ)) (numbers : List ℕ) (hs : List Head) → close_head gaps next tick hs ≡ first_close gaps next tick (beats_in shape numbers hs)
+heads_tell gaps next tick shape numbers [] = refl
+heads_tell gaps next tick shape numbers (h ∷ hs) =
+    ap (λ (o : Option ℕ). if nat_lt h.cycle next || ((h.tick || h.end) && nat_lt h.cycle tick) then Some h.number else o)
+    (heads_tell gaps (h.cycle + gaps.of_beats) (if h.tick then h.cycle + gaps.of_ticks else tick) shape numbers hs)
 
--- a beat that is far enough
-far_next : (gap : ℕ) (bs : List Beat) (at : ℕ) (x y : Beat) (whole : Option ℕ) → 1 ≤ at → at < length bs → x ≡ get_or bs (at - 1) x → y ≡ get_or bs at y → nat_lt y.cycle (x.cycle + gap) ≡ false
-    → first_close gap (drop (at - 1) bs) ≡ whole → first_close gap (drop (at + 1 - 1) bs) ≡ whole
-far_next gap bs zero x y whole low lt e f far so_far = absurd (omega arith)
-far_next gap bs (suc i) x y whole low lt e f far so_far =
-    let p : suc i - 1 ≡ i = omega arith in
-    let q : suc i + 1 - 1 ≡ suc i = omega arith in
-    rw q (sym (close_next gap bs i x y lt (rw p at e) f ∙ rw far refl) ∙ rw p at so_far)
+-- ---- none is too close
 
--- and one that is too close
-close_found : (gap : ℕ) (bs : List Beat) (at : ℕ) (x y : Beat) (whole : Option ℕ) → 1 ≤ at → at < length bs → x ≡ get_or bs (at - 1) x → y ≡ get_or bs at y → nat_lt y.cycle (x.cycle + gap) ≡ true
-    → first_close gap (drop (at - 1) bs) ≡ whole → whole ≡ Some y.number
-close_found gap bs zero x y whole low lt e f close so_far = absurd (omega arith)
-close_found gap bs (suc i) x y whole low lt e f close so_far =
-    let p : suc i - 1 ≡ i = omega arith in
-    sym (rw p at so_far) ∙ close_next gap bs i x y lt (rw p at e) f ∙ rw close refl
+-- from a cycle on, each so far behind the one before
+abbrev KeepsFrom : ℕ → ℕ → List plain.Beat → Type 0
+KeepsFrom gap next [] = Unit {0}
+KeepsFrom gap next (b ∷ bs) = (next ≤ b.cycle) × KeepsFrom gap (b.cycle + gap) bs
 
--- ---- the same of beats in flat lists
+pairs : (gap next : ℕ) (bs : List plain.Beat) → KeepsFrom gap next bs → KeepsGap gap bs
+pairs gap next [] h = tt
+pairs gap next (b ∷ []) h = tt
+pairs gap next (b ∷ c ∷ bs) h = (h.1.0, pairs gap (b.cycle + gap) (c ∷ bs) h.1)
 
-abbrev at_head : List (List ℕ) → List ℕ → Head → Beat
-at_head shape numbers h = beat_in shape (drop h.first numbers) h
+from_pairs : (gap next : ℕ) (b : plain.Beat) (bs : List plain.Beat) → next ≤ b.cycle → KeepsGap gap (b ∷ bs) → KeepsFrom gap next (b ∷ bs)
+from_pairs gap next b [] low h = (low, tt)
+from_pairs gap next b (c ∷ bs) low h = (low, from_pairs gap (b.cycle + gap) c bs h.0 h.1)
 
-beat_here : (shape : List (List ℕ)) (numbers : List ℕ) (hs : List Head) (i : ℕ) (x d : Head) → i < length hs → x ≡ get_or hs i d → at_head shape numbers x ≡ get_or (beats_in shape numbers hs) i (at_head shape numbers x)
-beat_here shape numbers hs i x d lt e = ap (at_head shape numbers) e ∙ sym (get_or-map (at_head shape numbers) hs i d (at_head shape numbers x) lt)
+from_first : (gap : ℕ) (bs : List plain.Beat) → KeepsGap gap bs → KeepsFrom gap 0 bs
+from_first gap [] h = tt
+from_first gap (b ∷ bs) h = from_pairs gap 0 b bs (omega arith) h
 
-pub far_head : (gap : ℕ) (shape : List (List ℕ)) (numbers : List ℕ) (hs : List Head) (at : ℕ) (x y d k : Head) (whole : Option ℕ) → 1 ≤ at → at < length hs → x ≡ get_or hs (at - 1) d → y ≡ get_or hs at k → nat_lt y.cycle (x.cycle + gap) ≡ false
-    → first_close gap (drop (at - 1) (beats_in shape numbers hs)) ≡ whole → first_close gap (drop (at + 1 - 1) (beats_in shape numbers hs)) ≡ whole
-far_head gap shape numbers hs at x y d k whole low lt e f far so_far =
-    far_next gap (beats_in shape numbers hs) at (at_head shape numbers x) (at_head shape numbers y) whole low (let n = length_map (at_head shape numbers) hs in omega (arith, lt, n)) (beat_here shape numbers hs (at - 1) x d (omega arith) e) (beat_here shape numbers hs at y k lt f) far so_far
-
-pub close_head : (gap : ℕ) (shape : List (List ℕ)) (numbers : List ℕ) (hs : List Head) (at : ℕ) (x y d k : Head) (whole : Option ℕ) → 1 ≤ at → at < length hs → x ≡ get_or hs (at - 1) d → y ≡ get_or hs at k → nat_lt y.cycle (x.cycle + gap) ≡ true
-    → first_close gap (drop (at - 1) (beats_in shape numbers hs)) ≡ whole → whole ≡ Some y.number
-close_head gap shape numbers hs at x y d k whole low lt e f close so_far =
-    close_found gap (beats_in shape numbers hs) at (at_head shape numbers x) (at_head shape numbers y) whole low (let n = length_map (at_head shape numbers) hs in omega (arith, lt, n)) (beat_here shape numbers hs (at - 1) x d (omega arith) e) (beat_here shape numbers hs at y k lt f) close so_far
-
-drop_none : (gap n : ℕ) → first_close gap (drop n []) ≡ None
-drop_none gap zero = refl
-drop_none gap (suc n) = refl
-
-drop_one : (gap : ℕ) (b : Beat) (n : ℕ) → first_close gap (drop n (b ∷ [])) ≡ None
-drop_one gap b zero = refl
-drop_one gap b (suc n) = drop_none gap n
-
-drop_most : (gap : ℕ) (bs : List Beat) (n : ℕ) → length bs ≤ suc n → first_close gap (drop n bs) ≡ None
-drop_most gap [] n le = drop_none gap n
-drop_most gap (b ∷ []) n le = drop_one gap b n
-drop_most gap (b ∷ c ∷ bs) zero le = absurd (omega arith)
-drop_most gap (b ∷ c ∷ bs) (suc n) le = drop_most gap (c ∷ bs) n (omega arith)
-
-none_close : (gap : ℕ) (bs : List Beat) (at : ℕ) → length bs ≤ at → first_close gap (drop (at - 1) bs) ≡ None
-none_close gap bs at le = drop_most gap bs (at - 1) (omega arith)
-
-pub no_close : (gap : ℕ) (shape : List (List ℕ)) (numbers : List ℕ) (hs : List Head) (at : ℕ) → length hs ≤ at → first_close gap (drop (at - 1) (beats_in shape numbers hs)) ≡ None
-no_close gap shape numbers hs at le = none_close gap (beats_in shape numbers hs) at (let n = length_map (at_head shape numbers) hs in omega (arith, le, n))
-
-keeps_from : (gap : ℕ) (bs : List Beat) → IsOk (close_answer (first_close gap bs)) → KeepsGap gap (plain_beats bs)
-keeps_from gap [] h = tt
-keeps_from gap (b ∷ []) h = tt
-keeps_from gap (b ∷ c ∷ bs) h = elim (cases_Bool (nat_lt c.cycle (b.cycle + gap))) [
+keeps_both : (gaps : Gaps) (next tick : ℕ) (bs : List Beat) → IsOk (close_answer (first_close gaps next tick bs))
+    → KeepsFrom gaps.of_beats next (plain_beats bs) × KeepsTicks gaps.of_ticks tick (plain_beats bs)
+keeps_both gaps next tick [] h = (tt, tt)
+keeps_both gaps next tick (b ∷ bs) h = elim (cases_Bool (nat_lt b.cycle next || ((b.tick || b.end) && nat_lt b.cycle tick))) [
   | inl t ↦ absurd (false≢true (rw t at h))
-  | inr f ↦ (ltb-false c.cycle (b.cycle + gap) f, keeps_from gap (c ∷ bs) (rw f at h))
+  | inr f ↦
+      let p = or_parts (nat_lt b.cycle next) ((b.tick || b.end) && nat_lt b.cycle tick) f in
+      let k = keeps_both gaps (b.cycle + gaps.of_beats) (if b.tick then b.cycle + gaps.of_ticks else tick) bs (rw f at h) in
+      ((ltb-false b.cycle next p.0, k.0), (λ t. ltb-false b.cycle tick (and_no (b.tick || b.end) (nat_lt b.cycle tick) p.1 t), k.1))
 ]
 
-ok_from : (gap : ℕ) (bs : List Beat) → KeepsGap gap (plain_beats bs) → IsOk (close_answer (first_close gap bs))
-ok_from gap [] h = refl
-ok_from gap (b ∷ []) h = refl
-ok_from gap (b ∷ c ∷ bs) h = rw (le-ltb c.cycle (b.cycle + gap) h.0) (ok_from gap (c ∷ bs) h.1)
+-- a beat with neither a tick nor the end is asked for the gap of all alone
+in_time : (timed : Bool) (cycle tick : ℕ) → (timed ≡ true → tick ≤ cycle) → (timed && nat_lt cycle tick) ≡ false
+in_time true cycle tick h = le-ltb cycle tick (h refl)
+in_time false cycle tick h = refl
 
-pub keeps_is : (gap : ℕ) (bs : List Beat) → IsOk (close_answer (first_close gap bs)) ↔ KeepsGap gap (plain_beats bs)
-keeps_is gap bs = (keeps_from gap bs, ok_from gap bs)
+ok_both : (gaps : Gaps) (next tick : ℕ) (bs : List Beat) → KeepsFrom gaps.of_beats next (plain_beats bs) → KeepsTicks gaps.of_ticks tick (plain_beats bs)
+    → IsOk (close_answer (first_close gaps next tick bs))
+ok_both gaps next tick [] h k = refl
+ok_both gaps next tick (b ∷ bs) h k =
+    let none : (nat_lt b.cycle next || ((b.tick || b.end) && nat_lt b.cycle tick)) ≡ false =
+    or_from (nat_lt b.cycle next) ((b.tick || b.end) && nat_lt b.cycle tick) (le-ltb b.cycle next h.0) (in_time (b.tick || b.end) b.cycle tick k.0) in
+    rw none (ok_both gaps (b.cycle + gaps.of_beats) (if b.tick then b.cycle + gaps.of_ticks else tick) bs h.1 k.1)
+
+pub keeps_is : (gaps : Gaps) (bs : List Beat) → IsOk (close_answer (first_close gaps 0 0 bs)) ↔ KeepsGaps gaps (plain_beats bs)
+keeps_is gaps bs = (
+  λ h. (let k = keeps_both gaps 0 0 bs h in record { each = pairs gaps.of_beats 0 (plain_beats bs) k.0; ticks = k.1 }),
+  λ k. ok_both gaps 0 0 bs (from_first gaps.of_beats (plain_beats bs) k.each) k.ticks,
+)

@@ -1,6 +1,7 @@
 -- Beats in flat lists: what each has beside its rows in one, the numbers of all rows in another.
-use Rattle.std.specs.Prelude.{◌≡◌, ℕ, ◌+◌, ◌/◌, ◌%◌, ◌≤◌, Bool, true, false, List, [], ◌∷◌, ◌++◌, map, length, drop, Option, Some, None, ◌==◌}
+use Rattle.std.specs.Prelude.{◌≡◌, ℕ, ◌+◌, ◌/◌, ◌%◌, ◌≤◌, Bool, true, false, List, [], ◌∷◌, ◌++◌, map, length, drop, Option, Some, None, ◌==◌, nat_lt, ◌&&◌, ◌||◌, if◌then◌else◌}
 use Rattle.gl_bits.specs.Words.{Word}
+use Rattle.gl_gaps.specs.declared.Gaps.{Gaps}
 use Rattle.gl_tuples.specs.declared.beats.Beat.{Beat}
 use Rattle.gl_tuples.specs.declared.beats.Head.{Head}
 
@@ -46,6 +47,13 @@ beats_in shape numbers heads = map (λ h. beat_in shape (drop h.first numbers) h
 -- the list has the numbers of a beat
 abbrev pub IsInside : List (List ℕ) → List ℕ → Head → Type 0
 IsInside shape numbers h = h.first + rows_size shape h.present ≤ length numbers
+
+-- the number of the first of these that comes too early, as `first_close` says it of beats
+abbrev pub close_head : Gaps → ℕ → ℕ → List Head → Option ℕ
+close_head gaps next tick [] = None
+close_head gaps next tick (h ∷ hs) =
+    if nat_lt h.cycle next || ((h.tick || h.end) && nat_lt h.cycle tick) then Some h.number
+    else close_head gaps (h.cycle + gaps.of_beats) (if h.tick then h.cycle + gaps.of_ticks else tick) hs
 
 -- ---- numbers that are added
 

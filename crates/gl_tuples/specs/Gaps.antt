@@ -1,6 +1,7 @@
--- Beats as plain data, and the gap between them.
-use Rattle.std.specs.Prelude.{ℕ, ◌+◌, ◌≤◌, List, [], ◌∷◌, map, Option, Some, None, Result, Ok, Err, option_map, nat_lt, if◌then◌else◌}
+-- Beats as plain data, and how far apart they are.
+use Rattle.std.specs.Prelude.{ℕ, ◌+◌, ◌≤◌, List, [], ◌∷◌, map, Option, Some, None, Result, Ok, Err, option_map, nat_lt, ◌&&◌, ◌||◌, if◌then◌else◌}
 use Rattle.gl_bits.specs.Words.{bits_of}
+use Rattle.gl_gaps.specs.declared.Gaps.{Gaps}
 use Rattle.gl_schema.specs.declared.schema.Schema.{Schema}
 use Rattle.gl_schema.specs.Beats as plain
 use Rattle.gl_schema.specs.Beats.{AreBeats, last_cycle}
@@ -16,11 +17,13 @@ plain_beat b = record { cycle = b.cycle; rows = map (λ r. option_map bits_of r)
 abbrev pub plain_beats : List Beat → List plain.Beat
 plain_beats beats = map plain_beat beats
 
--- the number of the first beat that is nearer than the gap to the one before
-abbrev pub first_close : ℕ → List Beat → Option ℕ
-first_close gap [] = None
-first_close gap (b ∷ []) = None
-first_close gap (b ∷ c ∷ bs) = if nat_lt c.cycle (b.cycle + gap) then Some c.number else first_close gap (c ∷ bs)
+-- the number of the first beat that comes too early: one may come from the first of these cycles on, and one with a
+-- tick or the end from the second on too
+abbrev pub first_close : Gaps → ℕ → ℕ → List Beat → Option ℕ
+first_close gaps next tick [] = None
+first_close gaps next tick (b ∷ bs) =
+    if nat_lt b.cycle next || ((b.tick || b.end) && nat_lt b.cycle tick) then Some b.number
+    else first_close gaps (b.cycle + gaps.of_beats) (if b.tick then b.cycle + gaps.of_ticks else tick) bs
 
 -- nothing is too close, or that beat is
 abbrev pub close_answer : Option ℕ → Result (Unit {0}) TupleFault

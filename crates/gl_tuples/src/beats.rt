@@ -1,16 +1,18 @@
 //! Beats: the cycles in which tuples come, ticks of the clock, and the end.
 
-ghost use Rattle.std.specs.Prelude.{◌≡◌, ◌+◌, ◌^◌, ◌≤◌, ◌↔◌, ℕ, List, length, map, nat_lt, option_map, slice_get, IfOk, IsOk, OnOk, MatchResult};
+ghost use Rattle.std.specs.Prelude.{◌≡◌, ◌+◌, ◌^◌, ◌≤◌, ◌↔◌, ◌&&◌, ◌||◌, Some, length, map, nat_lt, option_map, slice_get, IfOk, IsOk, OnOk, MatchResult};
 ghost use Rattle.gl_values.specs.Kinds.{width_of};
-ghost use Rattle.gl_schema.specs.Beats.{KeepsGap, row_in};
+ghost use Rattle.gl_schema.specs.Beats.{row_in};
+ghost use Rattle.gl_gaps.specs.Keeps.{KeepsGaps};
 ghost use Rattle.gl_schema.specs.Schemas.{IsSchema};
-ghost use Rattle.gl_tuples.specs.Flat.{beats_in};
+ghost use Rattle.gl_tuples.specs.Flat.{beats_in, close_head};
 ghost use Rattle.gl_tuples.specs.Gaps.{close_answer, first_close, plain_beat, plain_beats};
 ghost use Rattle.gl_tuples.specs.Growing.{Fit, columns_of, grown_by, no_beats};
 
 use crate::fault::TupleFault;
 use crate::flat::{Columns, push_rows, row_of};
 use gl_bits::{Listed, Memory, Row};
+use gl_gaps::Gaps;
 use gl_schema::{Column, Schema, Stream};
 use std::alloc::Global;
 use std::marker::Model;
@@ -159,13 +161,13 @@ impl Beats {
         })
     }
 
-    /// Whether each beat is at least `gap` cycles after the one before; else `TooClose` with the
-    /// number of the first that is not. Takes no memory.
-    pub fn keep(&self, gap: u32) -> Result<(), TupleFault>
-        ensures exact { result ≡ close_answer (first_close gap self.now) }
-        ensures keeps { IsOk result ↔ KeepsGap gap (plain_beats self.now) }
+    /// Whether beats are so far apart; else `TooClose` with the number of the first that is not.
+    /// Takes no memory.
+    pub fn keep(&self, gaps: Gaps) -> Result<(), TupleFault>
+        ensures exact { result ≡ close_answer (first_close gaps 0 0 self.now) }
+        ensures keeps { IsOk result ↔ KeepsGaps gaps (plain_beats self.now) }
     {
-        kept(self.heads.as_slice(), gap)
+        kept(self.heads.as_slice(), gaps)
     }
 }
 
@@ -259,25 +261,45 @@ fn short_of(number: u64) -> Result<u32, Memory>
     }
 }
 
-// Whether each is at least the gap after the one before.
-fn kept(beats: &[Head], gap: u32) -> Result<(), TupleFault>
-    ensures { (shape : List (List ℕ)) (numbers : List ℕ)
-        → result ≡ close_answer (first_close gap (beats_in shape numbers beats.now)) }
+// Whether they are so far apart.
+fn kept(beats: &[Head], gaps: Gaps) -> Result<(), TupleFault>
+    ensures { result ≡ close_answer (close_head gaps 0 0 beats.now) }
 {
-    for at in 1..beats.len() {
-        let beat = &beats[at];
-        if is_close(&beats[at - 1], beat, gap) {
-            return Err(TupleFault::TooClose {
-                number: u64::from(beat.number),
-            });
+    let mut next = 0u64;
+    let mut tick = 0u64;
+    for beat in beats {
+        if is_close(beat, next, tick) {
+            return too_close(beat);
+        }
+        next = cycles_on(beat, gaps.of_beats);
+        if beat.tick {
+            tick = cycles_on(beat, gaps.of_ticks);
         }
     }
     Ok(())
 }
 
-// Whether a beat is nearer than the gap to the one before.
-fn is_close(before: &Head, beat: &Head, gap: u32) -> bool
-    ensures { result ≡ nat_lt beat.now.cycle (before.now.cycle + gap) }
+// Whether a beat comes before the first of these cycles, or with a tick or the end before the second.
+fn is_close(beat: &Head, next: u64, tick: u64) -> bool
+    ensures { let b = beat.now in
+        result ≡ (nat_lt b.cycle next || ((b.tick || b.end) && nat_lt b.cycle tick)) }
 {
-    u64::from(beat.cycle) < u64::from(before.cycle) + u64::from(gap)
+    let cycle = u64::from(beat.cycle);
+    cycle < next || ((beat.tick || beat.end) && cycle < tick)
+}
+
+// The cycle that comes so many behind a beat.
+fn cycles_on(beat: &Head, gap: u32) -> u64
+    ensures { result ≡ beat.now.cycle + gap }
+{
+    u64::from(beat.cycle) + u64::from(gap)
+}
+
+// The answer at a beat that is too close.
+fn too_close(beat: &Head) -> Result<(), TupleFault>
+    ensures { result ≡ close_answer (Some beat.now.number) }
+{
+    Err(TupleFault::TooClose {
+        number: u64::from(beat.number),
+    })
 }

@@ -1,15 +1,17 @@
 //! Rows of texts.
 //!
 //! A row `schema TEXT` prints the streams of a schema or its fault, a row `tuples TEXT` the beats of a
-//! tuple file or its fault, a row `gap NUMBER TEXT` whether its beats keep a gap, and a row `line
-//! NUMBER NUMBER` the line of a result. A row `behind NUMBER TEXT` has so many records with a tick in
-//! front of the text, one in each cycle, and prints how many beats the file has, or its fault.
+//! tuple file or its fault, a row `gap NUMBER NUMBER TEXT` whether its beats keep a gap, and ticks
+//! another one, and a row `line NUMBER NUMBER` the line of a result. A row `behind NUMBER TEXT` has so
+//! many records with a tick in front of the text, one in each cycle, and prints how many beats the
+//! file has, or its fault.
 
 ghost use Rattle.std.specs.Prelude.{◌≡◌, [], ◌∷◌, IfOk, IfSome};
 ghost use Rattle.gl_bits.specs.Words.{widths_of};
 
 use crate::pieces::{bytes_of, number_before};
 use gl_bits::{Memory, Row, Word};
+use gl_gaps::Gaps;
 use gl_schema::{Schema, read_schema};
 use gl_tuple_reader::read_tuples;
 use gl_tuples::{BeatView, Beats, TupleFault, line_into};
@@ -90,10 +92,23 @@ fn print_row(rt: &HostRuntime, row: &[u64]) -> io::Result<()> {
     Ok(())
 }
 
-// Prints whether a tuple file keeps a gap.
-fn print_gap(rt: &HostRuntime, gap: u32, text: &[u8]) -> io::Result<()> {
-    let kept = match beats_of(rt.alloc(), text) {
-        Ok(beats) => beats.keep(gap),
+// A number as a gap.
+fn short(number: u64) -> u32 {
+    u32::try_from(number).unwrap_or(u32::MAX)
+}
+
+// Prints whether a tuple file keeps a gap, and the one of ticks that stands in front of it.
+fn print_gap(rt: &HostRuntime, of_beats: u64, text: &str) -> io::Result<()> {
+    let (of_ticks, rest) = number_before(text);
+    let gaps = Gaps {
+        of_beats: short(of_beats),
+        of_ticks: short(of_ticks),
+    };
+    let Ok(bytes) = bytes_of(rt.alloc(), rest) else {
+        return println!(rt; "out of memory");
+    };
+    let kept = match beats_of(rt.alloc(), bytes.as_slice()) {
+        Ok(beats) => beats.keep(gaps),
         Err(fault) => Err(fault),
     };
     match kept {
@@ -153,18 +168,15 @@ pub(crate) fn print_text(rt: &HostRuntime, kind: &str, text: &str) -> io::Result
     if kind == "line" {
         return print_line(rt, number.into(), number_before(rest).0.into());
     }
-    let own = matches!(kind, "gap" | "behind");
-    let Ok(bytes) = bytes_of(rt.alloc(), if own { rest } else { text }) else {
+    if kind == "gap" {
+        return print_gap(rt, number, rest);
+    }
+    let Ok(bytes) = bytes_of(rt.alloc(), if kind == "behind" { rest } else { text }) else {
         return println!(rt; "out of memory");
     };
     match kind {
         "schema" => print_schema(rt, bytes.as_slice()),
         "tuples" => print_tuples(rt, bytes.as_slice()),
-        "behind" => print_behind(rt, number, bytes.as_slice()),
-        _ => print_gap(
-            rt,
-            u32::try_from(number).unwrap_or(u32::MAX),
-            bytes.as_slice(),
-        ),
+        _ => print_behind(rt, number, bytes.as_slice()),
     }
 }

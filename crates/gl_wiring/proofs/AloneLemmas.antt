@@ -1,4 +1,4 @@
--- The circuit of a root that has no spare copies: its node's own.
+-- The circuit of a root that has no spare copies and is no windows of time: its node's own.
 use Rattle.std.proofs.Common.{◌≡◌, ℕ, ◌+◌, ◌*◌, ◌<◌, ◌≤◌, List, length, None, sym, subst, arith, Option}
 use Rattle.gl_bits.proofs.AllLists.{get_there}
 use Rattle.gl_algebra.specs.declared.figures.Figures.{Figures}
@@ -7,6 +7,7 @@ use Rattle.gl_algebra.specs.FigureTable.{figures_of}
 use Rattle.gl_algebra.specs.Fits.{IsPlan}
 use Rattle.gl_algebra.specs.Results.{IsPlanResult}
 use Rattle.gl_algebra.specs.Roots.{root_figures, spare_at}
+use Rattle.gl_root_gaps.specs.Roots.{tick_gaps_at}
 use Rattle.gl_figures.proofs.RootLemmas.{figures_there}
 use Rattle.gl_net.specs.declared.node.Bit.{Bit}
 use Rattle.gl_net.specs.Net.{Net, Run, IsRun}
@@ -21,7 +22,7 @@ use Rattle.gl_wire.proofs.OnceLemmas.{serving_once}
 use Rattle.gl_wiring.specs.Below.{LawsBelow}
 use Rattle.gl_wiring.specs.Leaves.{leaf}
 use Rattle.gl_wiring.specs.Put.{Gives, IsPut}
-use Rattle.gl_wiring.specs.Roots.{IsRootPut, ServesOnceBy, ServesOnceIn}
+use Rattle.gl_wiring.specs.Roots.{IsRootPut, ServesOnceBy, ServesOnceIn, gapped, once_figures, once_ticks}
 use Rattle.gl_wiring.proofs.CanLemmas.{put_columns}
 
 -- what a plan counts for a root is no less than for its node
@@ -31,16 +32,16 @@ behind new old own further h = omega (arith, h)
 bits_behind : (new old own further keys more : ℕ) → new ≤ old + (64 * own + keys) → new ≤ old + (64 * (own + further) + (keys + more))
 bits_behind new old own further keys more h = omega (arith, h)
 
--- what gives a node's results over all beats does so over one stream
-pub once_by : LawsBelow → (nodes : List PlanNode) (id : ℕ) (net : Net) (tick : Option Bit) (leaves : List Wire) (e : Emitted) → IsPlan nodes → id < length nodes
-    → Gives nodes id net tick leaves e → (run : Run) → IsRun net run → ServesOnceBy (figures_of nodes id) nodes id tick leaves e run
-once_by laws nodes id net tick leaves e plan within gives run is beats last one spaced has =
+-- what gives a node's results over all beats does so over one stream, however far apart ticks are
+pub once_by : LawsBelow → (nodes : List PlanNode) (id ticks : ℕ) (net : Net) (tick : Option Bit) (leaves : List Wire) (e : Emitted) → IsPlan nodes → id < length nodes
+    → Gives nodes id net tick leaves e → (run : Run) → IsRun net run → ServesOnceBy (figures_of nodes id) ticks nodes id tick leaves e run
+once_by laws nodes id ticks net tick leaves e plan within gives run is beats last one spaced has apart =
     serving_once (figures_of nodes id) (λ t. IsPlanResult nodes id (inputs_at (line_of run tick) (leaf run leaves) (leaf run leaves 0) t)) (lines_of run e.faults)
     beats (carried run e.wire) last (laws.figures_are_sound nodes id plan within) spaced one (gives.serving run is beats spaced has)
 
 pub root_alone : LawsBelow → (nodes : List PlanNode) (root : ℕ) (old new : Net) (tick : Option Bit) (leaves : List Wire) (e : Emitted) → IsPlan nodes → root < length nodes
-    → spare_at nodes root ≡ None → IsPut nodes root old new tick leaves e → IsRootPut nodes root old new tick leaves e
-root_alone laws nodes root old new tick leaves e plan within none put =
+    → spare_at nodes root ≡ None → tick_gaps_at nodes root ≡ None → IsPut nodes root old new tick leaves e → IsRootPut nodes root old new tick leaves e
+root_alone laws nodes root old new tick leaves e plan within none even put =
     record {
       keeps = put.keeps;
       cost = record {
@@ -55,6 +56,10 @@ root_alone laws nodes root old new tick leaves e plan within none put =
     same : root_figures nodes root ≡ figures_of nodes root
     same = let here = get_there nodes root within in figures_there nodes root here.0 None here.1 none
 
+    alike : once_figures nodes root ≡ figures_of nodes root
+    alike = λ i. gapped (even i) (same i)
+
     once : (run : Run) → IsRun new run → ServesOnceIn nodes root tick leaves e run
     once run is =
-        subst (λ (g : Figures). ServesOnceBy g nodes root tick leaves e run) (sym same) (once_by laws nodes root new tick leaves e plan within put.gives run is)
+        subst (λ (g : Figures). ServesOnceBy g (once_ticks nodes root) nodes root tick leaves e run) (sym alike)
+        (once_by laws nodes root (once_ticks nodes root) new tick leaves e plan within put.gives run is)

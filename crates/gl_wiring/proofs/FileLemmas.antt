@@ -1,6 +1,6 @@
 -- The leaves of a plan over the beats of a file.
-use Rattle.std.proofs.Common.{◌≡◌, ℕ, zero, suc, ◌+◌, ◌-◌, ◌<◌, ◌≤◌, Bool, true, false, List, [], ◌∷◌, ◌++◌, length, Option, Some, None, inl, inr, refl, sym, ap, ◌∙◌, arith}
-use Rattle.std.specs.Prelude.{option_map, option_to_list}
+use Rattle.std.proofs.Common.{◌≡◌, ℕ, zero, suc, ◌+◌, ◌-◌, ◌<◌, ◌≤◌, Bool, true, false, List, [], ◌∷◌, ◌++◌, length, Option, Some, None, ◌⊎◌, inl, inr, refl, sym, ap, ◌∙◌, subst, arith, eq-eqb}
+use Rattle.std.specs.Prelude.{IsTrue, option_map, option_to_list, ◌||◌, if◌then◌else◌}
 use Rattle.std.proofs.lemmas.Bool.{ne_eqb, cases_eq, cases_lt}
 use Rattle.gl_algebra.specs.declared.figures.Figures.{Figures}
 use Rattle.gl_algebra.specs.FigureTable.{input_figures}
@@ -10,6 +10,8 @@ use Rattle.gl_wire.specs.Once.{OneStream}
 use Rattle.gl_wire.specs.Serves.{Fits, Caused}
 use Rattle.gl_wire.specs.Wire.{Carried, stream, rows}
 use Rattle.gl_schema.specs.Beats.{Beat, AreInOrder, KeepsGap, input_of, last_cycle, beat_at, ends_at, ticks_at}
+use Rattle.gl_gaps.specs.Keeps.{KeepsTicks}
+use Rattle.gl_ticks.specs.Apart.{TicksApart}
 use Rattle.gl_wire.specs.Ticks.{TicksFit}
 use Rattle.gl_wiring.specs.Bringing.{Brings, BringsTicks, beats_in}
 use Rattle.gl_wiring.proofs.RootLemmas.{first_stream}
@@ -65,6 +67,45 @@ far gap (x ∷ y ∷ bs) n m b d h k p q l = elim (cases_eq x.cycle n) [
   ]
 ]
 
+-- with a tick or the end a beat comes from a cycle on, and behind each tick so far later
+back : (gap : ℕ) (tick end : Bool) (from at m : ℕ) → (IsTrue (tick || end) → from ≤ at) → (if tick then at + gap else from) ≤ m → from ≤ m
+back gap true end from at m near h = let low = near refl in let far : at + gap ≤ m = h in omega (arith, low, far)
+back gap false end from at m near h = h
+
+behind : (gap from : ℕ) (beats : List Beat) (m : ℕ) (d : Beat) → KeepsTicks gap from beats → beat_at beats m ≡ Some d → IsTrue (d.tick || d.end) → from ≤ m
+behind gap from [] m d k q h = absurd (cc)
+behind gap from (x ∷ bs) m d k q h = elim (cases_eq x.cycle m) [
+  | inl e ↦ (let same : Some x ≡ Some d = rw (eq-eqb x.cycle m e) at q in
+      let is : x ≡ d = cc (same) in
+      let near = k.0 (subst (λ (b : Beat). IsTrue (b.tick || b.end)) (sym is) h) in omega (arith, near, e))
+  | inr e ↦ back gap x.tick x.end from x.cycle m k.0 (behind gap (if x.tick then x.cycle + gap else from) bs m d k.1 (rw (ne_eqb x.cycle m e) at q) h)
+]
+
+tick_far : (gap from : ℕ) (beats : List Beat) (n m : ℕ) (b d : Beat) → AreInOrder beats → KeepsTicks gap from beats
+    → beat_at beats n ≡ Some b → b.tick ≡ true → beat_at beats m ≡ Some d → IsTrue (d.tick || d.end) → n < m → n + gap ≤ m
+tick_far gap from [] n m b d o k p t q h l = absurd (cc)
+tick_far gap from (x ∷ []) n m b d o k p t q h l = elim (cases_eq x.cycle n) [
+  | inl e ↦ absurd (let z = rw (ne_eqb x.cycle m (λ w. omega arith)) at q in cc)
+  | inr e ↦ absurd (let z = rw (ne_eqb x.cycle n e) at p in cc)
+]
+tick_far gap from (x ∷ y ∷ bs) n m b d o k p t q h l = elim (cases_eq x.cycle n) [
+  | inl e ↦ (let same : Some x ≡ Some b = rw (eq-eqb x.cycle n e) at p in
+      let is : x ≡ b = cc (same) in
+      let ticks : x.tick ≡ true = ap (λ (z : Beat). z.tick) is ∙ t in
+      let later : KeepsTicks gap (x.cycle + gap) (y ∷ bs) = rw ticks at k.1 in
+      let far = behind gap (x.cycle + gap) (y ∷ bs) m d later (rw (ne_eqb x.cycle m (λ w. omega arith)) at q) h in omega (arith, far, e))
+  | inr e ↦ elim (cases_eq x.cycle m) [
+    | inl f ↦ absurd (let z = rw (ne_eqb x.cycle n e, before_none y bs n o.2 (let g = o.1 in omega arith)) at p in cc)
+    | inr f ↦ tick_far gap (if x.tick then x.cycle + gap else from) (y ∷ bs) n m b d o.2 k.1 (rw (ne_eqb x.cycle n e) at p) t (rw (ne_eqb x.cycle m f) at q) h l
+  ]
+]
+
+either : (a b : Bool) → ((a ≡ true) ⊎ (b ≡ true)) → IsTrue (a || b)
+either true b h = refl
+either false true h = refl
+either false false (inl h) = absurd (cc)
+either false false (inr h) = absurd (cc)
+
 module _ (beats : List Beat) (order : AreInOrder beats) where
   pub file_one : OneStream (beats_in beats) (suc (last_cycle beats))
   file_one = record { is = flag_end beats (last_cycle beats) (ends_last beats order); only = only; until = until }
@@ -90,6 +131,34 @@ module _ (beats : List Beat) (order : AreInOrder beats) where
       apart (suc t) (suc u) false d h k m =
           let x = flag_of beats t false h in let y = flag_of beats u d k in
           let g = far n beats t u x.0 y.0 order keeps x.1 y.1 (omega arith) in omega arith
+
+  -- ticks, and the end, are so far behind each tick before
+  pub file_apart : (line : ℕ → Bool) (reads : Bool) (ticks n : ℕ) → BringsTicks reads beats line → ticks ≤ n → KeepsTicks n 0 beats → TicksApart ticks line (beats_in beats)
+  file_apart line false ticks n b l keeps = record { apart = λ t u h k m. absurd (let z = b.none refl t in cc) }
+  file_apart line true ticks n b l keeps = record { apart = apart }
+    where
+      tick_of : (c : ℕ) → line (suc c) ≡ true → (x : Beat) × (beat_at beats c ≡ Some x) × (x.tick ≡ true)
+      tick_of c h = by (beat_at beats c) refl
+        where
+          here : ticks_at beats c ≡ true
+          here = sym (b.ticks refl c) ∙ h
+
+          by : (o : Option Beat) → beat_at beats c ≡ o → (x : Beat) × (beat_at beats c ≡ Some x) × (x.tick ≡ true)
+          by None p = absurd (let z : false ≡ true = rw p at here in cc)
+          by (Some x) p = (x, p, (let z : x.tick ≡ true = rw p at here in z))
+
+      asked : (c : ℕ) → ((line (suc c) ≡ true) ⊎ (beats_in beats (suc c) ≡ Some true)) → (x : Beat) × (beat_at beats c ≡ Some x) × IsTrue (x.tick || x.end)
+      asked c (inl h) = let x = tick_of c h in (x.0, x.1, either x.0.tick x.0.end (inl x.2))
+      asked c (inr h) = let x = flag_of beats c true h in (x.0, x.1, either x.0.tick x.0.end (inr x.2))
+
+      apart : (t u : ℕ) → line t ≡ true → ((line u ≡ true) ⊎ (beats_in beats u ≡ Some true)) → t < u → t + ticks ≤ u
+      apart zero u h k m = absurd (let z = b.first in cc)
+      apart (suc t) zero h k m = absurd (omega arith)
+      apart (suc t) (suc u) h k m =
+          let x = tick_of t h in
+          let y = asked u k in
+          let far = tick_far n 0 beats t u x.0 y.0 order keeps x.1 x.2 y.1 y.2 (omega (arith, m)) in
+          omega (arith, far, l)
 
   module _ (k : ℕ) (s : Carried) (b : Brings k beats s) where
     pub file_fits : Fits input_figures (beats_in beats) s

@@ -48,6 +48,7 @@ pub mod WindowLemmas
 pub mod TickLemmas
 pub mod TimeWindowCosts
 pub mod TimeWindowLemmas
+pub mod TickedLemmas
 pub mod AloneLemmas
 pub mod SpareCosts
 pub mod SpareLemmas

@@ -22,6 +22,7 @@ use Rattle.gl_net.specs.declared.node.Bit.{Bit}
 use Rattle.gl_net.specs.declared.node.Direction.TheVariants.{Out}
 use Rattle.gl_figures.specs.Reach.{keys_of_reached, lean_of_reached, store_of_reached, weight_of_reached}
 use Rattle.gl_schema.specs.Ports.{rst, eos, out_valid, out_eos, fault_group, fault_queue}
+use Rattle.gl_gaps.specs.declared.Gaps.{Gaps}
 use Rattle.gl_schema.specs.declared.schema.Schema.{Schema}
 use Rattle.gl_wire.specs.Costs.{CostsAtMost}
 use Rattle.gl_wire.specs.Faults.{IsLine}
@@ -275,7 +276,7 @@ all_can schema nodes net tick leaves table (r ∷ rs) all have = (
 module _ (laws : LawsBelow) (schema : Schema) (nodes : List PlanNode) (plan : IsPlan nodes) (tick : Option Bit) (leaves : List Wire) (table : List (Option Emitted)) (mid net : Net)
     (x : Extends mid net) (wires : AreStreamWires net schema.streams leaves) (line : IsTickLine net (reads_time nodes) tick) (reset : HasReset net) where
   one_net : (r : Root) → r.id < length nodes → HasCircuit nodes mid tick leaves table r.id → IsShown net table r
-      → IsRootNet schema nodes r.id (figures_of nodes r.id) (naming_at r) r.names.columns net
+      → IsRootNet schema nodes r.id (figures_of nodes r.id) 0 (naming_at r) r.names.columns net
   one_net r within has shown = record {
     plan = plan;
     within = within;
@@ -284,14 +285,14 @@ module _ (laws : LawsBelow) (schema : Schema) (nodes : List PlanNode) (plan : Is
     e = shown.e;
     wires = wires;
     line = line;
-    serves = λ run is. once_by laws nodes r.id mid tick leaves shown.e plan within (taken_gives has shown.there) run (x.runs run is);
+    serves = λ run is. once_by laws nodes r.id 0 mid tick leaves shown.e plan within (taken_gives has shown.there) run (x.runs run is);
     output = shown.output;
     reset = reset;
   }
 
   pub all_nets : (roots : List Root) → AllByRecursion (λ (r : Root). r.id < length nodes) roots
       → AllByRecursion (λ (r : Root). HasCircuit nodes mid tick leaves table r.id) roots → AllByRecursion (IsShown net table) roots
-      → AllByRecursion (λ (r : Root). IsRootNet schema nodes r.id (figures_of nodes r.id) (naming_at r) r.names.columns net) roots
+      → AllByRecursion (λ (r : Root). IsRootNet schema nodes r.id (figures_of nodes r.id) 0 (naming_at r) r.names.columns net) roots
   all_nets [] within has shown = tt
   all_nets (r ∷ rs) within has shown = (one_net r within.0 has.0 shown.0, all_nets rs within.1 has.1 shown.1)
 
@@ -312,14 +313,14 @@ all_close nodes (r ∷ rs) gap h =
     let rest = widest_gap nodes (ids_of rs) in
     (max_left own rest gap h, all_close nodes rs gap (max_right own rest gap h))
 
-pub all_right : LawsBelow → (schema : Schema) (nodes : List PlanNode) (gap : ℕ) (net : Net) → AreApart net → (roots : List Root)
-    → AllByRecursion (λ (r : Root). IsRootNet schema nodes r.id (figures_of nodes r.id) (naming_at r) r.names.columns net) roots
-    → AllByRecursion (λ (r : Root). (figures_of nodes r.id).gt ≤ gap) roots → AllByRecursion (IsRightFor schema nodes gap net) roots
-all_right laws schema nodes gap net apart [] all close = tt
-all_right laws schema nodes gap net apart (r ∷ rs) all close = (
+pub all_right : LawsBelow → (schema : Schema) (nodes : List PlanNode) (gaps : Gaps) (net : Net) → AreApart net → (roots : List Root)
+    → AllByRecursion (λ (r : Root). IsRootNet schema nodes r.id (figures_of nodes r.id) 0 (naming_at r) r.names.columns net) roots
+    → AllByRecursion (λ (r : Root). (figures_of nodes r.id).gt ≤ gaps.of_beats) roots → AllByRecursion (IsRightFor schema nodes gaps net) roots
+all_right laws schema nodes gaps net apart [] all close = tt
+all_right laws schema nodes gaps net apart (r ∷ rs) all close = (
   record {
-    right = root_runs_right laws schema nodes r.id (figures_of nodes r.id) (naming_at r) r.names.columns net all.0 apart gap close.0;
-    group = root_group_kept laws schema nodes r.id (figures_of nodes r.id) (naming_at r) r.names.columns net all.0 apart gap close.0;
+    right = root_runs_right laws schema nodes r.id (figures_of nodes r.id) 0 (naming_at r) r.names.columns net all.0 apart gaps close.0 (omega arith);
+    group = root_group_kept laws schema nodes r.id (figures_of nodes r.id) 0 (naming_at r) r.names.columns net all.0 apart gaps close.0 (omega arith);
   },
-  all_right laws schema nodes gap net apart rs all.1 close.1,
+  all_right laws schema nodes gaps net apart rs all.1 close.1,
 )

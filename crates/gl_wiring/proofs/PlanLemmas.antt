@@ -19,9 +19,11 @@ use Rattle.gl_wiring.specs.Below.{LawsBelow}
 use Rattle.gl_wiring.specs.Leaves.{widths_of}
 use Rattle.gl_wiring.specs.Roots.{root_cost}
 use Rattle.gl_wiring.proofs.CostLemmas.{bits_within}
-use Rattle.gl_schema.specs.Beats.{Beat, AreBeats, KeepsGap, inputs_of, last_cycle}
+use Rattle.gl_schema.specs.Beats.{Beat, AreBeats, inputs_of, last_cycle}
+use Rattle.gl_gaps.specs.Keeps.{KeepsGaps}
 use Rattle.gl_schema.specs.Ports.{IsStimulus, rst, eos, tick, out_valid, out_column, out_eos, fault_group, fault_queue}
 use Rattle.gl_schema.specs.Right.{IsRight}
+use Rattle.gl_gaps.specs.declared.Gaps.{Gaps}
 use Rattle.gl_schema.specs.declared.schema.Schema.{Schema}
 use Rattle.gl_wire.specs.Costs.{CostsAtMost}
 use Rattle.gl_wire.specs.Wire.{carried, line_at}
@@ -120,9 +122,9 @@ costs_within laws nodes root n0 n1 n2 n3 columns plan within empty none put out 
 
 -- ---- right runs
 
-module _ (laws : LawsBelow) (schema : Schema) (nodes : List PlanNode) (root : ℕ) (f : Figures) (naming : Naming) (names : List (List ℕ)) (net : Net)
-    (is : IsRootNet schema nodes root f naming names net) (apart : AreApart net) (gap : ℕ) (close : f.gt ≤ gap) where
-  module _ (run : Run) (beats : List Beat) (trace : IsTrace net run) (are : AreBeats schema beats) (keeps : KeepsGap gap beats)
+module _ (laws : LawsBelow) (schema : Schema) (nodes : List PlanNode) (root : ℕ) (f : Figures) (ticks : ℕ) (naming : Naming) (names : List (List ℕ)) (net : Net)
+    (is : IsRootNet schema nodes root f ticks naming names net) (apart : AreApart net) (gaps : Gaps) (close : f.gt ≤ gaps.of_beats) (near : ticks ≤ gaps.of_ticks) where
+  module _ (run : Run) (beats : List Beat) (trace : IsTrace net run) (are : AreBeats schema beats) (keeps : KeepsGaps gaps beats)
       (stimulus : IsStimulus schema beats (input_values net run)) where
     runs : IsRun net run
     runs = record { trace = trace; reset = is_reset schema beats net run apart is.reset trace stimulus }
@@ -139,18 +141,18 @@ module _ (laws : LawsBelow) (schema : Schema) (nodes : List PlanNode) (root : �
     shows = plan_right laws run is.leaves beats are.order leaf_brings
         (λ k e. no_input schema beats k are.each (no_stream net schema.streams is.leaves k is.wires e))
         nodes root is.tick is.plan is.within (ticks_come schema beats net run apart stimulus (reads_time nodes) is.tick is.line)
-        f gap is.e (carried run is.output.wire) (line_at run is.output.group) (line_at run is.output.queue)
-        close (is.serves run runs) keeps (is.output.delayed run runs) (is.output.group_line run runs) (is.output.queue_line run runs)
+        f ticks gaps is.e (carried run is.output.wire) (line_at run is.output.group) (line_at run is.output.queue)
+        close near (is.serves run runs) keeps (is.output.delayed run runs) (is.output.group_line run runs) (is.output.queue_line run runs)
 
     first : (carried run is.output.wire).tuple 0 ≡ None
     first = tuple_by run is.output.wire.valid is.output.wire.columns 0 ∙ rw (line_first run is.output.wire.valid) refl
 
-  pub root_runs_right : OverBeats schema gap (λ all port. IsRight (plan_means nodes root) (f.le + 1) all (map out_column names) (seen_as naming port)) net
+  pub root_runs_right : OverBeats schema gaps (λ all port. IsRight (plan_means nodes root) (f.le + 1) all (map out_column names) (seen_as naming port)) net
   root_runs_right run beats trace are keeps stimulus =
       shown_right naming net run names is.output.wire is.output.group is.output.queue apart is.output.shows f nodes root beats
       (first run beats trace are keeps stimulus) (shows run beats trace are keeps stimulus)
 
-  pub root_group_kept : OverBeats schema gap (λ all port. KeepsGroup (map out_column names) (seen_as naming port)) net
+  pub root_group_kept : OverBeats schema gaps (λ all port. KeepsGroup (map out_column names) (seen_as naming port)) net
   root_group_kept run beats trace are keeps stimulus =
       shown_group naming net run names is.output.wire is.output.group is.output.queue apart is.output.shows f nodes root beats
       (first run beats trace are keeps stimulus) (shows run beats trace are keeps stimulus)

@@ -1,5 +1,5 @@
 -- The circuit of windows with spare copies at the root of a plan.
-use Rattle.std.proofs.Common.{◌≡◌, ℕ, ◌<◌, List, [], ◌∷◌, length, Bool, false, refl, sym, ap, ◌∙◌, subst, Option}
+use Rattle.std.proofs.Common.{◌≡◌, ℕ, ◌<◌, List, [], ◌∷◌, length, Bool, false, None, refl, sym, ap, ◌∙◌, subst, Option}
 use Rattle.gl_values.specs.Lists.{slices}
 use Rattle.gl_values.specs.Results.{IsOfParts, Row}
 use Rattle.gl_algebra.specs.declared.figures.Figures.{Figures}
@@ -10,9 +10,10 @@ use Rattle.gl_algebra.specs.Fits.{Fits as FitsPlan, IsPlan}
 use Rattle.gl_algebra.specs.Laws.{FollowsTables}
 use Rattle.gl_algebra.specs.Results.{Inputs, IsPlanResult, given}
 use Rattle.gl_algebra.specs.Roots.{root_figures}
+use Rattle.gl_root_gaps.specs.Roots.{tick_gaps_at}
 use Rattle.gl_algebra.specs.Shapes.{Shape, kinds_of}
 use Rattle.std.specs.Prelude.{Some}
-use Rattle.gl_figures.proofs.RootLemmas.{figures_there, spare_there}
+use Rattle.gl_figures.proofs.RootLemmas.{figures_there, spare_there, ticks_there}
 use Rattle.gl_net.specs.declared.node.Bit.{Bit}
 use Rattle.gl_net.specs.Net.{Net}
 use Rattle.gl_net.proofs.Determined.{keeps_then}
@@ -37,7 +38,7 @@ use Rattle.gl_wiring.specs.Below.{LawsBelow}
 use Rattle.gl_wiring.specs.Copies.{CanStandBehind, IsPutOver}
 use Rattle.gl_wiring.specs.Leaves.{leaf, widths_of}
 use Rattle.gl_wiring.specs.Put.{CanPut, Gives, IsPut}
-use Rattle.gl_wiring.specs.Roots.{IsRootPut}
+use Rattle.gl_wiring.specs.Roots.{IsRootPut, gapped, once_figures}
 use Rattle.gl_wiring.specs.SpareWindows.{IsSpareWindow, rotation_with}
 use Rattle.gl_wiring.proofs.BodyLemmas.{copies_serve}
 use Rattle.gl_wiring.proofs.CanLemmas.{first_within, second_within}
@@ -94,6 +95,13 @@ module _ (laws : LawsBelow) (nodes : List PlanNode) (w : SpareWindowOf) (plan : 
   figures_are : root_figures nodes id ≡ figures_over r f
   figures_are = figures_there nodes id node (Some w.spare) is.window' is.spare'
 
+  -- windows of tuples have no ticks
+  even : tick_gaps_at nodes id ≡ None
+  even = ticks_there nodes id node is.window'
+
+  once_are : once_figures nodes id ≡ figures_over r f
+  once_are = λ i. gapped (even i) (figures_are i)
+
   -- behind a wire with the source's columns the body can be put
   pub spare_stands : (figures : List Figures) (net : Net) (tick : Option Bit) (leaves : List Wire) (columns : List ℕ) → CanPut nodes figures id net tick leaves
       → columns ≡ widths_of (kinds_of nodes of_source) → CanStandBehind nodes figures of_body columns
@@ -139,16 +147,16 @@ module _ (laws : LawsBelow) (nodes : List PlanNode) (w : SpareWindowOf) (plan : 
           same_widths = b.same_widths ∙ columns ∙ ap (λ (s : Shape). widths_of s.kinds) (sym follows.shape);
           lines = b.lines;
         };
-        once = λ run run_new beats last one spaced has.
+        once = λ run run_new beats last one spaced has apart.
             let run_behind = b.keeps.runs run run_new in
             let run_mid = o.bodies.keeps.runs run run_behind in
             let ins : ℕ → Inputs = inputs_at (line_of run tick) (leaf run leaves) (leaf run leaves 0) in
-            let here : Spaced (figures_over r f) beats = subst (λ (g : Figures). Spaced g beats) figures_are spaced in
+            let here : Spaced (figures_over r f) beats = subst (λ (g : Figures). Spaced g beats) once_are spaced in
             let source = given.serving run run_mid beats (spaced_once f (figures_over r f) beats last rotates.1.source_gap one here) has in
             let whole = b.serves run run_new f sound_source rotates.1 nodes of_source of_body ins (lines_of run o.front.source.faults) beats last one here source
             (λ k l own. copies_serve laws nodes of_source of_body plan in_body fits.suits.0 o.mid o.behind run o.front.wires w.spare.copies o.copies run_behind o.bodies o.fronted.fronts.as_many k l own) in
             let lines : Lines = both_lines (lines_of run o.front.source.faults) (lines_of_all (told_of run o.copies) w.spare.copies) in
-            subst (λ (g : Figures). ServingOnce g (IsPlanResult nodes id (ins last)) (lines_of run e.faults) last (carried run e.wire)) (sym figures_are)
+            subst (λ (g : Figures). ServingOnce g (IsPlanResult nodes id (ins last)) (lines_of run e.faults) last (carried run e.wire)) (sym once_are)
             (once_lines (figures_over r f) (IsPlanResult nodes id (ins last)) (lines_of run e.faults) lines last (carried run e.wire) (b.told run run_new)
             (once_as (figures_over r f) (parts_of (ins last)) (IsPlanResult nodes id (ins last)) lines last (carried run e.wire) (of_root (ins last)) whole));
       }

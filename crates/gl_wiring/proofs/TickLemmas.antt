@@ -6,7 +6,8 @@ use Rattle.gl_bits.proofs.Bools.{same_when}
 use Rattle.gl_values.specs.Results.{Row, Results}
 use Rattle.gl_algebra.specs.declared.figures.Figures.{Figures}
 use Rattle.gl_algebra.specs.FigureTable.{input_figures}
-use Rattle.gl_wire.specs.Beats.{Beats}
+use Rattle.gl_wire.specs.Beats.{Beats, Ends}
+use Rattle.gl_wire.specs.Once.{ServingOnce}
 use Rattle.gl_wire.specs.Serves.{Fits}
 use Rattle.gl_wire.specs.Serving.{Serving}
 use Rattle.gl_wire.specs.Spills.{Lines, both_lines}
@@ -76,5 +77,30 @@ serving_beside f g m n o la lb beats a b s still w h = record {
   late = λ en c q. elim (or_cases (la.further c) (lb.further c) q) [
     | inl p ↦ absurd (let t = s.so en c p in let x = still t.0 t.1 in let y = t.2 in cc)
     | inr p ↦ w.late en c p
+  ];
+}
+
+-- and over one stream
+pub once_beside : (f g : Figures) (m : ℕ → Results) (n o : Results) (la lb : Lines) (beats : Beats) (last : ℕ) (a b : Carried) → (s : Serving f m la beats a)
+    → ((t : ℕ) → beats t ≡ Some true → s.spill t ≡ false) → Ends beats → ServingOnce g n lb last b → ((ys : List Row) (p : Bool) → n ys p → o ys p)
+    → ServingOnce g o (both_lines la lb) last b
+once_beside f g m n o la lb beats last a b s still en w h = record {
+  ended = w.ended;
+  low = w.low;
+  high = w.high;
+  ends = w.ends;
+  once = w.once;
+  none_later = w.none_later;
+  spill = w.spill;
+  right = h (stream b w.ended) w.spill w.right;
+  unpassed = λ c. or_from (la.passed c) (lb.passed c) (s.low c) (w.unpassed c);
+  told = λ q. let x = w.told q in (x.0, or_right (la.further x.0) (lb.further x.0) x.1);
+  so = λ c q. elim (or_cases (la.further c) (lb.further c) q) [
+    | inl p ↦ absurd (let t = s.so en c p in let x = still t.0 t.1 in let y = t.2 in cc)
+    | inr p ↦ w.so c p
+  ];
+  late = λ c q. elim (or_cases (la.further c) (lb.further c) q) [
+    | inl p ↦ absurd (let t = s.so en c p in let x = still t.0 t.1 in let y = t.2 in cc)
+    | inr p ↦ w.late c p
   ];
 }

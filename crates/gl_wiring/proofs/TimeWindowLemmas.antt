@@ -67,7 +67,7 @@ module _ (laws : LawsBelow) (nodes : List PlanNode) (w : TimeWindowOf) (plan : I
   abbrev node : PlanNode
   node = TimeWindow w.source w.body w.size w.advance
 
-  fits : FitsPlan nodes w.id node
+  pub fits : FitsPlan nodes w.id node
   fits = plan.fits w.id node at
 
   pub in_source : w.source < length nodes
@@ -76,14 +76,14 @@ module _ (laws : LawsBelow) (nodes : List PlanNode) (w : TimeWindowOf) (plan : I
   pub in_body : w.body < length nodes
   in_body = second_within nodes w.id node plan at w.source w.body refl
 
-  follows : FollowsTables nodes w.id node
+  pub follows : FollowsTables nodes w.id node
   follows = laws.nodes_follow_tables nodes w.id node plan at
 
   -- the stream
-  abbrev number : ℕ
+  abbrev pub number : ℕ
   number = fits.timed.0
 
-  abbrev kinds : List Kind
+  abbrev pub kinds : List Kind
   kinds = fits.timed.1
 
   of_stream : FollowsTables nodes w.source (Stream number kinds)
@@ -92,7 +92,7 @@ module _ (laws : LawsBelow) (nodes : List PlanNode) (w : TimeWindowOf) (plan : I
   abbrev stream_shape : Shape
   stream_shape = shape_from (shape_of nodes) (Stream number kinds)
 
-  only_leaf : (shape_of nodes w.id).leaves ≡ Stream number kinds ∷ []
+  pub only_leaf : (shape_of nodes w.id).leaves ≡ Stream number kinds ∷ []
   only_leaf = ap (λ (s : Shape). s.leaves) follows.shape ∙ ap (λ (s : Shape). s.leaves) of_stream.shape
 
   abbrev s : Figures
@@ -104,12 +104,12 @@ module _ (laws : LawsBelow) (nodes : List PlanNode) (w : TimeWindowOf) (plan : I
   abbrev c : ℕ
   c = copies_of_time w.size w.advance
 
-  whole : figures_of nodes w.id ≡ time_figures r
+  pub whole : figures_of nodes w.id ≡ time_figures r
   whole =
       follows.figures ∙ ap (λ (f : Figures). window_figures c f s) of_stream.figures
       ∙ ap (λ (f : Figures). windows_over c f s) (unspaced (window_gap s))
 
-  sound_body : IsSound s
+  pub sound_body : IsSound s
   sound_body = laws.figures_are_sound nodes w.body plan in_body
 
   -- the numbers of its rotation
@@ -130,8 +130,11 @@ module _ (laws : LawsBelow) (nodes : List PlanNode) (w : TimeWindowOf) (plan : I
   time_stands figures net tick leaves columns can same =
       can_stand laws nodes figures w.id w.source w.body node net tick leaves columns plan at refl fits.suits.0 can same
 
+  closer : NoCloser input_figures (time_figures r)
+  closer = record { gt = omega arith; ge = omega arith }
+
   module _ (net : Net) (run : Run) (is : IsRun net run) (tick : Bit) (leaves : List Wire) (e : Emitted) (gives : Gives nodes w.source net (Some tick) leaves e)
-      (has : HasLeaf net leaves (Stream number kinds)) (beats : Beats) (spaced_beats : Spaced (time_figures r) beats) (fit : LeavesFit run (Some tick) leaves beats) where
+      (has : HasLeaf net leaves (Stream number kinds)) (beats : Beats) (spaced_beats : Spaced input_figures beats) (fit : LeavesFit run (Some tick) leaves beats) where
     abbrev line : ℕ → Bool
     line = line_of run (Some tick)
 
@@ -144,11 +147,8 @@ module _ (laws : LawsBelow) (nodes : List PlanNode) (w : TimeWindowOf) (plan : I
     of_source : GivesAs stream_shape input_figures (IsPlanResult nodes w.source) net (Some tick) leaves e
     of_source = rw (of_stream.shape, of_stream.figures) at gives
 
-    closer : NoCloser input_figures (time_figures r)
-    closer = record { gt = omega arith; ge = omega arith }
-
-    source : Serving input_figures (λ t. IsPlanResult nodes w.source (ins t)) (lines_of run e.faults) beats a
-    source = of_source.serving run is beats (spaced_closer input_figures (time_figures r) beats closer spaced_beats) fit
+    pub source : Serving input_figures (λ t. IsPlanResult nodes w.source (ins t)) (lines_of run e.faults) beats a
+    source = of_source.serving run is beats spaced_beats fit
 
     -- the leaf of the stream, and the first one
     leaf_fits : Fits input_figures beats (leaf run leaves number)
@@ -165,7 +165,7 @@ module _ (laws : LawsBelow) (nodes : List PlanNode) (w : TimeWindowOf) (plan : I
         let ends = end_of_beat beats a source.fits t p in
         source.right t t p (record { is = ends; low = omega arith; high = omega arith })
 
-    no_spill : (t : ℕ) → beats t ≡ Some true → source.spill t ≡ false
+    pub no_spill : (t : ℕ) → beats t ≡ Some true → source.spill t ≡ false
     no_spill t p = ((of_stream.results (ins t) (stream a t) (source.spill t)).0 (rows_of t p)).kept
 
     in_step : (u : ℕ) → is_some (a.tuple u) ≡ is_some ((leaf run leaves number).tuple u)
@@ -180,7 +180,7 @@ module _ (laws : LawsBelow) (nodes : List PlanNode) (w : TimeWindowOf) (plan : I
     ticks_are t = same_ticks line a (leaf run leaves 0) (same_ends beats a (leaf run leaves 0) source.fits first_fits) t
 
     -- results of all windows of time are results of the node
-    joined : (t : ℕ) (ys : List Row) (p : Bool) → beats t ≡ Some true
+    pub joined : (t : ℕ) (ys : List Row) (p : Bool) → beats t ≡ Some true
         → AreJoined (OfBody nodes w.body) (tslices w.size w.advance (times_at line a t) (ticks_at line a t) (stream a t)) ys p
         → IsPlanResult nodes w.id (ins t) ys p
     joined t ys p q v =
@@ -233,7 +233,8 @@ module _ (laws : LawsBelow) (nodes : List PlanNode) (w : TimeWindowOf) (plan : I
                 is = wire_kept old o.mid has.wire o.fronted.keeps has.is;
                 same_widths = has.same_widths;
               } in
-              let of_stream = source o.mid run run_mid tick leaves o.front.source given here beats spaced_beats fit in
+              let near = spaced_closer input_figures (time_figures r) beats closer spaced_beats in
+              let of_stream = source o.mid run run_mid tick leaves o.front.source given here beats near fit in
               let all = b.serves run is nodes w.body beats spaced_beats of_stream.fits fit.ticks
               (λ k l own. copies_serve laws nodes w.source w.body plan in_body fits.suits.0 o.mid o.behind run o.front.wires c o.copies run_behind o.bodies o.fronted.fronts.as_many k l own) in
               let ins : ℕ → Inputs = inputs_at (line_of run (Some tick)) (leaf run leaves) (leaf run leaves 0) in
@@ -242,7 +243,7 @@ module _ (laws : LawsBelow) (nodes : List PlanNode) (w : TimeWindowOf) (plan : I
               serving_lines (time_figures r) (λ t. IsPlanResult nodes w.id (ins t)) (lines_of run e.faults) lines beats (carried run e.wire) (b.told run is)
               (serving_beside input_figures (time_figures r) (λ t. IsPlanResult nodes w.source (ins t)) _ (λ t. IsPlanResult nodes w.id (ins t))
               (lines_of run o.front.source.faults) own beats (carried run o.front.source.wire) (carried run e.wire) of_stream
-              (no_spill o.mid run run_mid tick leaves o.front.source given here beats spaced_beats fit) all
-              (joined o.mid run run_mid tick leaves o.front.source given here beats spaced_beats fit));
+              (no_spill o.mid run run_mid tick leaves o.front.source given here beats near fit) all
+              (joined o.mid run run_mid tick leaves o.front.source given here beats near fit));
         });
       }

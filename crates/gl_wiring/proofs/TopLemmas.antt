@@ -11,7 +11,9 @@ use Rattle.gl_net.specs.declared.node.Bit.{Bit}
 use Rattle.gl_net.specs.Net.{Run}
 use Rattle.gl_wiring.specs.Below.{LawsBelow}
 use Rattle.gl_wiring.specs.Leaves.{LeavesFit, carried_by, leaf, silent}
-use Rattle.gl_schema.specs.Beats.{Beat, AreInOrder, KeepsGap, input_of, inputs_of, last_cycle, ticks_of, times_of}
+use Rattle.gl_gaps.specs.declared.Gaps.{Gaps}
+use Rattle.gl_schema.specs.Beats.{Beat, AreInOrder, input_of, inputs_of, last_cycle, ticks_of, times_of}
+use Rattle.gl_gaps.specs.Keeps.{KeepsGaps}
 use Rattle.gl_wire.specs.Faults.{line_of, lines_of}
 use Rattle.gl_wire.specs.Serving.{inputs_at}
 use Rattle.gl_wire.specs.Shapes.{IsDelayed}
@@ -23,7 +25,7 @@ use Rattle.gl_wiring.specs.Bringing.{Brings, BringsTicks, beats_in}
 use Rattle.gl_wiring.specs.Roots.{ServesOnceBy}
 use Rattle.gl_wiring.specs.Root.{IsSticky, ShowsRight, later_line}
 use Rattle.gl_wiring.specs.Wired.{plan_inputs}
-use Rattle.gl_wiring.proofs.FileLemmas.{file_one, file_spaced, file_fits, file_stream, ticks_fit}
+use Rattle.gl_wiring.proofs.FileLemmas.{file_apart, file_one, file_spaced, file_fits, file_stream, ticks_fit}
 use Rattle.gl_wiring.proofs.ClockLemmas.{file_ticks, file_times, no_ticks, no_times}
 use Rattle.gl_wiring.proofs.RootLemmas.{once_shows}
 
@@ -96,16 +98,17 @@ module _ (laws : LawsBelow) (run : Run) (leaves : List Wire) (beats : List Beat)
         by false reads = laws.results_are_untimed nodes root plan within reads at_last (plan_inputs (inputs_of beats))
             (record { streams = leaf_stream; body = leaf_stream 0 }) out spill r
 
-    pub plan_right : (f : Figures) (gap : ℕ) (e : Emitted) (o : Carried) (group queue : ℕ → Bool)
-        → f.gt ≤ gap → ServesOnceBy f nodes root tick leaves e run → KeepsGap gap beats → IsDelayed 1 (carried run e.wire) o
+    pub plan_right : (f : Figures) (ticks : ℕ) (gaps : Gaps) (e : Emitted) (o : Carried) (group queue : ℕ → Bool)
+        → f.gt ≤ gaps.of_beats → ticks ≤ gaps.of_ticks → ServesOnceBy f ticks nodes root tick leaves e run → KeepsGaps gaps beats → IsDelayed 1 (carried run e.wire) o
         → IsSticky (lines_of run e.faults).further group → IsSticky (later_line (lines_of run e.faults).passed) queue
         → ShowsRight f (IsPlanResult nodes root (plan_inputs (inputs_of beats))) (suc (last_cycle beats)) o group queue
-    plan_right f gap e o group queue close serves keeps later sticky sticky' =
-        let spaced = file_spaced beats order f gap close keeps in
+    plan_right f ticks gaps e o group queue close near serves keeps later sticky sticky' =
+        let spaced = file_spaced beats order f gaps.of_beats close keeps.each in
         let fits : LeavesFit run tick leaves (beats_in beats) = record {
           each = λ k w p. file_fits beats order k (carried run w) (brings k w p);
           ticks = ticks_fit beats line (reads_time nodes) come;
         } in
-        let serving = serves (beats_in beats) (suc (last_cycle beats)) (file_one beats order) spaced fits in
+        let serving = serves (beats_in beats) (suc (last_cycle beats)) (file_one beats order) spaced fits
+        (file_apart beats order line (reads_time nodes) ticks gaps.of_ticks come near keeps.ticks) in
         shows_as f (IsPlanResult nodes root at_last) (IsPlanResult nodes root (plan_inputs (inputs_of beats))) (suc (last_cycle beats)) o group queue same_results
         (once_shows f (IsPlanResult nodes root at_last) (lines_of run e.faults) (carried run e.wire) o group queue (suc (last_cycle beats)) serving later sticky sticky')

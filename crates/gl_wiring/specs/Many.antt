@@ -1,4 +1,4 @@
--- The netlist of several results of one plan: every run of it over beats that keep the gap is right for each.
+-- The netlist of several results of one plan: every run of it over beats that keep the gaps is right for each.
 use Rattle.std.specs.Prelude.{◌≡◌, ℕ, ◌+◌, ◌*◌, ◌<◌, ◌≤◌, List, [], ◌∷◌, ◌++◌, length, map, max, Bool, Some, codes, bytes_eq}
 use Rattle.std.specs.List.{AllByRecursion, IsDistinct, flat_map, sum_by}
 use Rattle.gl_algebra.specs.FigureTable.{figures_of}
@@ -11,9 +11,11 @@ use Rattle.gl_algebra.specs.Roots.{output_part}
 use Rattle.gl_net.specs.Net.{Net, memory_bits_of, register_bits_of, size_of}
 use Rattle.gl_net.specs.PortValues.{PortShape, port_shapes}
 use Rattle.gl_figures.specs.Reach.{keys_of_reached, lean_of_reached, store_of_reached, weight_of_reached}
+use Rattle.gl_gaps.specs.Keeps.{even_gaps}
 use Rattle.gl_schema.specs.Ports.{out_column}
 use Rattle.gl_schema.specs.Right.{IsRight}
 use Rattle.gl_schema.specs.Schemas.{IsSchema}
+use Rattle.gl_gaps.specs.declared.Gaps.{Gaps}
 use Rattle.gl_schema.specs.declared.schema.Schema.{Schema}
 use Rattle.gl_wiring.specs.Leaves.{widths_of}
 use Rattle.gl_wiring.specs.Naming.{Naming, beside_others, seen_as}
@@ -64,13 +66,13 @@ pub record CanWireAll (schema : Schema) (nodes : List PlanNode) (figures : List 
   pub each : AllByRecursion (CanWireRoot schema nodes) roots
   pub distinct : IsDistinct bytes_eq (intos (result_names roots))
 
--- over beats that keep the gap a root's result is right, within the latency of its own node, and its group line never
+-- over beats that keep the gaps a root's result is right, within the latency of its own node, and its group line never
 -- falls
-pub record IsRightFor (schema : Schema) (nodes : List PlanNode) (gap : ℕ) (net : Net) (r : Root) : Type 0 where
-  pub right : OverBeats schema gap (λ all port.
+pub record IsRightFor (schema : Schema) (nodes : List PlanNode) (gaps : Gaps) (net : Net) (r : Root) : Type 0 where
+  pub right : OverBeats schema gaps (λ all port.
       IsRight (plan_means nodes r.id) ((figures_of nodes r.id).le + 1) all (map out_column r.names.columns)
       (seen_as (naming_at r) port)) net
-  pub group : OverBeats schema gap (λ all port.
+  pub group : OverBeats schema gaps (λ all port.
       KeepsGroup (map out_column r.names.columns) (seen_as (naming_at r) port)) net
 
 -- the netlist of roots: the ports of the schema, with the tick where the plan reads the time, and of each result, at most
@@ -84,4 +86,4 @@ pub record AreWired (schema : Schema) (nodes : List PlanNode) (roots : List Root
       ≤ 64 * (lean_of_reached nodes (ids_of roots) + sum_by (output_part nodes) (ids_of roots))
       + keys_of_reached nodes (ids_of roots)
   pub memories : memory_bits_of net ≤ store_of_reached nodes (ids_of roots)
-  pub each : AllByRecursion (IsRightFor schema nodes (widest_gap nodes (ids_of roots)) net) roots
+  pub each : AllByRecursion (IsRightFor schema nodes (even_gaps (widest_gap nodes (ids_of roots))) net) roots

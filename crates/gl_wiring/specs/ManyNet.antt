@@ -52,7 +52,7 @@ pub record AreShownBy (nodes : List PlanNode) (table : List (Option Emitted)) (o
 -- the circuits of all roots between the wires of the streams, and an output for each
 pub record IsManyNet (schema : Schema) (nodes : List PlanNode) (roots : List Root) (net : Net) : Type 0 where
   pub each : AllByRecursion (λ (r : Root).
-      IsRootNet schema nodes r.id (figures_of nodes r.id) (naming_at r) r.names.columns net) roots
+      IsRootNet schema nodes r.id (figures_of nodes r.id) 0 (naming_at r) r.names.columns net) roots
   pub reset : HasReset net
   pub ports : port_shapes net ≡ many_ports (reads_time nodes) schema nodes roots
   pub size : size_of net ≤ weight_of_reached nodes (ids_of roots) + sum_by (output_part nodes) (ids_of roots)

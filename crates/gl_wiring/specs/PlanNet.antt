@@ -5,7 +5,7 @@ use Rattle.gl_algebra.specs.Shapes.{kinds_of}
 use Rattle.gl_algebra.specs.Views.{reads_time}
 use Rattle.gl_algebra.specs.declared.figures.Figures.{Figures}
 use Rattle.gl_algebra.specs.declared.node.PlanNode.{PlanNode}
-use Rattle.gl_algebra.specs.Roots.{most_memory, most_registers, root_figures, weight_with_output}
+use Rattle.gl_algebra.specs.Roots.{most_memory, most_registers, weight_with_output}
 use Rattle.gl_net.specs.declared.node.Bit.{Bit}
 use Rattle.gl_net.specs.Finished.{HasReset}
 use Rattle.gl_net.specs.Net.{Net, Run, IsRun, memory_bits_of, register_bits_of, size_of}
@@ -15,7 +15,7 @@ use Rattle.gl_wire.specs.declared.emitted.Emitted.{Emitted}
 use Rattle.gl_wire.specs.declared.wire.Wire.{Wire}
 use Rattle.gl_wiring.specs.Naming.{Naming, plain}
 use Rattle.gl_wiring.specs.Output.{IsOutput, plan_ports}
-use Rattle.gl_wiring.specs.Roots.{ServesOnceBy}
+use Rattle.gl_wiring.specs.Roots.{ServesOnceBy, once_figures, once_ticks}
 use Rattle.gl_wiring.specs.StreamWires.{AreStreamWires, IsTickLine}
 
 -- no port, no node and no bit
@@ -25,9 +25,9 @@ pub record IsEmpty (net : Net) : Type 0 where
   pub registers : register_bits_of net ≡ 0
   pub memories : memory_bits_of net ≡ 0
 
--- the circuit of a root, with these figures, between the wires of the streams, with the line of ticks, and an output whose
--- ports are called so
-pub record IsRootNet (schema : Schema) (nodes : List PlanNode) (root : ℕ) (f : Figures) (naming : Naming)
+-- the circuit of a root, with these figures, over ticks so far apart, between the wires of the streams, with the line
+-- of ticks, and an output whose ports are called so
+pub record IsRootNet (schema : Schema) (nodes : List PlanNode) (root : ℕ) (f : Figures) (ticks : ℕ) (naming : Naming)
     (names : List (List ℕ)) (net : Net) : Type 0 where
   pub plan : IsPlan nodes
   pub within : root < length nodes
@@ -36,14 +36,14 @@ pub record IsRootNet (schema : Schema) (nodes : List PlanNode) (root : ℕ) (f :
   pub e : Emitted
   pub wires : AreStreamWires net schema.streams leaves
   pub line : IsTickLine net (reads_time nodes) tick
-  pub serves : (run : Run) → IsRun net run → ServesOnceBy f nodes root tick leaves e run
+  pub serves : (run : Run) → IsRun net run → ServesOnceBy f ticks nodes root tick leaves e run
   pub output : IsOutput naming net names e
   pub reset : HasReset net
 
 -- that of a plan's root, and all ports and costs
 pub record IsPlanNet (schema : Schema) (nodes : List PlanNode) (root : ℕ) (names : List (List ℕ)) (net : Net)
     : Type 0 where
-  pub shown : IsRootNet schema nodes root (root_figures nodes root) plain names net
+  pub shown : IsRootNet schema nodes root (once_figures nodes root) (once_ticks nodes root) plain names net
   pub ports : port_shapes net ≡ plan_ports (reads_time nodes) schema (kinds_of nodes root) names
   pub size : size_of net ≤ weight_with_output nodes root
   pub registers : register_bits_of net ≤ most_registers nodes root

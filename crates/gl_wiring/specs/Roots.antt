@@ -1,10 +1,13 @@
--- What the circuit of a plan's root is: over one stream its wire gives the root's results, with the root's spare copies.
-use Rattle.std.specs.Prelude.{ℕ, ◌+◌, ◌*◌, List, Option}
+-- What the circuit of a plan's root is: over one stream its wire gives the root's results, with the root's spare
+-- copies, and where its ticks are farther apart than tuples.
+use Rattle.std.specs.Prelude.{ℕ, ◌+◌, ◌*◌, List, Option, unwrap_or}
 use Rattle.gl_algebra.specs.declared.figures.Figures.{Figures}
+use Rattle.gl_root_gaps.specs.declared.TickGaps.{TickGaps}
 use Rattle.gl_algebra.specs.declared.node.PlanNode.{PlanNode}
 use Rattle.gl_algebra.specs.Cost.{keys_of, lean_of, store_of}
 use Rattle.gl_algebra.specs.Results.{IsPlanResult}
 use Rattle.gl_algebra.specs.Roots.{further_keys, further_lean, further_store, further_weight, root_figures}
+use Rattle.gl_root_gaps.specs.Roots.{gap_of, gap_with, tick_gaps_at, ticks_of}
 use Rattle.gl_algebra.specs.Weights.{weight_of}
 use Rattle.gl_net.specs.declared.node.Bit.{Bit}
 use Rattle.gl_net.specs.Net.{Net, Run, IsRun, Keeps}
@@ -16,20 +19,33 @@ use Rattle.gl_wire.specs.Faults.{line_of, lines_of}
 use Rattle.gl_wire.specs.Once.{OneStream, ServingOnce}
 use Rattle.gl_wire.specs.Serving.{inputs_at}
 use Rattle.gl_wire.specs.Wire.{carried}
+use Rattle.gl_ticks.specs.Apart.{TicksApart}
 use Rattle.gl_wiring.specs.Leaves.{LeavesFit, leaf}
 use Rattle.gl_wiring.specs.Put.{HasColumns}
 
 -- in a run a circuit behind these leaves gives a root's results over each one stream whose beats are spaced by these
--- figures
-abbrev pub ServesOnceBy : Figures → List PlanNode → ℕ → Option Bit → List Wire → Emitted → Run → Type 0
-ServesOnceBy f nodes root tick leaves e run =
+-- figures, and whose ticks are so far apart
+abbrev pub ServesOnceBy : Figures → ℕ → List PlanNode → ℕ → Option Bit → List Wire → Emitted → Run → Type 0
+ServesOnceBy f ticks nodes root tick leaves e run =
     (beats : Beats) (last : ℕ) → OneStream beats last → Spaced f beats → LeavesFit run tick leaves beats
+    → TicksApart ticks (line_of run tick) beats
     → ServingOnce f (IsPlanResult nodes root (inputs_at (line_of run tick) (leaf run leaves) (leaf run leaves 0) last))
     (lines_of run e.faults) last (carried run e.wire)
 
+-- these figures, with the gap of ticks that are farther apart
+abbrev pub gapped : Option TickGaps → Figures → Figures
+gapped it f = record f { gt = gap_with it f.gt }
+
+-- the figures of the root, and how far apart ticks are
+abbrev pub once_figures : List PlanNode → ℕ → Figures
+once_figures nodes root = gapped (tick_gaps_at nodes root) (root_figures nodes root)
+
+abbrev pub once_ticks : List PlanNode → ℕ → ℕ
+once_ticks nodes root = unwrap_or (ticks_of nodes root) (gap_of nodes root)
+
 -- by those of the root
 abbrev pub ServesOnceIn : List PlanNode → ℕ → Option Bit → List Wire → Emitted → Run → Type 0
-ServesOnceIn nodes root = ServesOnceBy (root_figures nodes root) nodes root
+ServesOnceIn nodes root = ServesOnceBy (once_figures nodes root) (once_ticks nodes root) nodes root
 
 -- what a plan counts for the circuit of its root: nodes, bits of registers, bits of memories
 abbrev pub root_cost : List PlanNode → ℕ → Cost

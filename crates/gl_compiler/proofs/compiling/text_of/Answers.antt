@@ -15,6 +15,7 @@ use Rattle.gl_algebra.specs.Roots.{most_memory, most_registers, weight_with_outp
 use Rattle.gl_testbench.proofs.OverflowRuns.{RunLaws}
 use Rattle.gl_wiring.specs.Output.{plan_ports}
 use Rattle.gl_wiring.specs.StreamWires.{AreStreamLeaves}
+use Rattle.gl_wiring.specs.Wired as wired
 use Rattle.gl_wiring.specs.Wired.{KeepsGroup, OverBeats, plan_means}
 use Rattle.gl_compiler.specs.Meets.{result_columns}
 use Rattle.gl_compiler.proofs.KnownOf.{known}
@@ -53,11 +54,11 @@ returns-clause-meets c =
     let columns = c.in_ok-names.ensures.columns ∙ ap column_names c.requires.columns in
     let called = w.name ∙ ap (λ (n : List ℕ). Some (codes "q__" ++ n)) c.in_ok-names.ensures.into in
     let ports = subst (λ (ns : List (List ℕ)). port_shapes net ≡ plan_ports (reads_time c.args.planned.now.plan) schema (shapes.kinds_of c.args.planned.now.plan c.args.planned.now.root) ns) columns w.ports in
-    let right = subst (λ (ns : List (List ℕ)). OverBeats schema (roots.gap_of c.args.planned.now.plan c.args.planned.now.root) (λ all port. IsRight (plan_means c.args.planned.now.plan c.args.planned.now.root) (roots.latency_of c.args.planned.now.plan c.args.planned.now.root) all (map out_column ns) port) net) columns w.right in
-    let group = subst (λ (ns : List (List ℕ)). OverBeats schema (roots.gap_of c.args.planned.now.plan c.args.planned.now.root) (λ all port. KeepsGroup (map out_column ns) port) net) columns w.group in
+    let right = subst (λ (ns : List (List ℕ)). OverBeats schema (wired.gaps_of c.args.planned.now.plan c.args.planned.now.root) (λ all port. IsRight (plan_means c.args.planned.now.plan c.args.planned.now.root) (roots.latency_of c.args.planned.now.plan c.args.planned.now.root) all (map out_column ns) port) net) columns w.right in
+    let group = subst (λ (ns : List (List ℕ)). OverBeats schema (wired.gaps_of c.args.planned.now.plan c.args.planned.now.root) (λ all port. KeepsGroup (map out_column ns) port) net) columns w.group in
     let ports' = subst (λ (x : Placed). port_shapes net ≡ plan_ports (reads_time x.nodes) schema (shapes.kinds_of x.nodes x.root) (column_names (result_columns schema statement))) is.at ports in
-    let right' = subst (λ (x : Placed). OverBeats schema (roots.gap_of x.nodes x.root) (λ all port. IsRight (plan_means x.nodes x.root) (roots.latency_of x.nodes x.root) all (map out_column (column_names (result_columns schema statement))) port) net) is.at right in
-    let group' = subst (λ (x : Placed). OverBeats schema (roots.gap_of x.nodes x.root) (λ all port. KeepsGroup (map out_column (column_names (result_columns schema statement))) port) net) is.at group in
+    let right' = subst (λ (x : Placed). OverBeats schema (wired.gaps_of x.nodes x.root) (λ all port. IsRight (plan_means x.nodes x.root) (roots.latency_of x.nodes x.root) all (map out_column (column_names (result_columns schema statement))) port) net) is.at right in
+    let group' = subst (λ (x : Placed). OverBeats schema (wired.gaps_of x.nodes x.root) (λ all port. KeepsGroup (map out_column (column_names (result_columns schema statement))) port) net) is.at group in
     let light = le_trans (subst (λ (x : Placed). size_of net ≤ weight_with_output x.nodes x.root) is.at w.size) is.limits.light in
     let laws : RunLaws = record {
       event_runs_are_runs = c.event_runs_are_runs.ensures.runs;

@@ -26,7 +26,7 @@ dump-requires-clause-kinds g c = subst (AllByRecursion IsKind) (sym c.kinds.ensu
 
 pub dump-requires-clause-runs : goal.dump-requires-clause-runs
 dump-requires-clause-runs g c =
-    can_run_compiled c.accepted_have_real_columns.ensures c.args.compiled.now (plain_beats c.args.beats.now) c.text.result.now c.schema.result.now c.kinds.result.now c.printed.result c.args.start c.requires.compiled c.requires.beats c.requires.gap c.text.ensures c.schema.ensures c.kinds.ensures c.printed.ensures
+    can_run_compiled c.accepted_have_real_columns.ensures c.args.compiled.now (plain_beats c.args.beats.now) c.text.result.now c.schema.result.now c.kinds.result.now c.printed.result c.args.start c.requires.compiled c.requires.beats c.requires.gaps c.text.ensures c.schema.ensures c.kinds.ensures c.printed.ensures
 
 pub dump-requires-clause-few : goal.dump-requires-clause-few
 dump-requires-clause-few g c =

@@ -53,9 +53,9 @@ pub returns-clause-latency : goal.returns-clause-latency
 returns-clause-latency c =
     (made c.accepted_have_real_columns.ensures c.args.schema c.in_ok-checked.checked.schema c.args.query.now c.in_ok-checked.checked.statement c.in_ok-compile_checked.field-0 c.requires c.in_ok-checked.ensures.schema c.in_ok-checked.ensures.accepted c.in_ok-compile_checked.ensures).latency
 
-pub returns-clause-gap : goal.returns-clause-gap
-returns-clause-gap c =
-    (made c.accepted_have_real_columns.ensures c.args.schema c.in_ok-checked.checked.schema c.args.query.now c.in_ok-checked.checked.statement c.in_ok-compile_checked.field-0 c.requires c.in_ok-checked.ensures.schema c.in_ok-checked.ensures.accepted c.in_ok-compile_checked.ensures).gap
+pub returns-clause-gaps : goal.returns-clause-gaps
+returns-clause-gaps c =
+    (made c.accepted_have_real_columns.ensures c.args.schema c.in_ok-checked.checked.schema c.args.query.now c.in_ok-checked.checked.statement c.in_ok-compile_checked.field-0 c.requires c.in_ok-checked.ensures.schema c.in_ok-checked.ensures.accepted c.in_ok-compile_checked.ensures).gaps
 
 pub returns-clause-closer : goal.returns-clause-closer
 returns-clause-closer c =

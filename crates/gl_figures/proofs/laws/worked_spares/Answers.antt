@@ -17,4 +17,9 @@ returns c = record {
   spilling = refl;
   quick = refl;
   merged = refl;
+  each_tick = refl;
+  each_minute = refl;
+  every_fourth = refl;
+  three_open = refl;
+  quick_tick = refl;
 }

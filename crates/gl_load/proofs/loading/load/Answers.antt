@@ -1,16 +1,17 @@
 use Rattle.std.proofs.Common.{List, sym, subst}
-use Rattle.gl_schema.specs.Beats.{Beat, AreBeats, KeepsGap}
+use Rattle.gl_schema.specs.Beats.{Beat, AreBeats}
+use Rattle.gl_gaps.specs.Keeps.{KeepsGaps, even_gaps}
 use Rattle.gl_load.specs.Query.{load_schema}
 use Rattle.gl_load.specs.Steps.{AreRunLines}
-use Rattle.gl_load.proofs.Beating.{are_beats, keep_gap}
+use Rattle.gl_load.proofs.Beating.{are_beats, keep_gaps}
 use Rattle.gl_load.proofs.Running.{loaded}
 use Rattle.gl_load.proofs.loading.load.Goals as goal
 
 pub run-requires-clause-beats : goal.run-requires-clause-beats
 run-requires-clause-beats c = subst (AreBeats load_schema) (sym c.in_ok-beats.ensures) (are_beats c.args.count c.requires.some)
 
-pub run-requires-clause-gap : goal.run-requires-clause-gap
-run-requires-clause-gap c = subst (KeepsGap 1) (sym c.in_ok-beats.ensures) (keep_gap c.args.count)
+pub run-requires-clause-gaps : goal.run-requires-clause-gaps
+run-requires-clause-gaps c = subst (KeepsGaps (even_gaps 1)) (sym c.in_ok-beats.ensures) (keep_gaps c.args.count)
 
 pub returns : goal.returns
 returns c = loaded c.laws_below.ensures c.args.count c.in_ok-compiled.compiled c.bytes.result.now c.in_ok-lines.lines.bytes c.in_ok-summary.summary.items

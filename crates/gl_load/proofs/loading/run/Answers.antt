@@ -1,7 +1,9 @@
-use Rattle.std.proofs.Common.{ℕ, ap, sym, subst}
+use Rattle.std.proofs.Common.{ap, sym, subst}
+use Rattle.gl_gaps.specs.declared.Gaps.{Gaps}
 use Rattle.gl_schema.specs.declared.schema.Schema.{Schema}
 use Rattle.gl_schema.specs.Schemas.{kinds_of}
-use Rattle.gl_schema.specs.Beats.{AreBeats, KeepsGap}
+use Rattle.gl_schema.specs.Beats.{AreBeats}
+use Rattle.gl_gaps.specs.Keeps.{KeepsGaps}
 use Rattle.gl_tuples.specs.Gaps.{plain_beats}
 use Rattle.gl_verilog.specs.declared.start.Start.TheVariants.{Zero}
 use Rattle.gl_compiler.specs.Meets.{result_columns}
@@ -19,8 +21,8 @@ run_compiled-outcome-requires-clause-compiled c = runnable c.accepted_have_real_
 pub run_compiled-outcome-requires-clause-beats : goal.run_compiled-outcome-requires-clause-beats
 run_compiled-outcome-requires-clause-beats c = subst (λ (s : Schema). AreBeats s (plain_beats c.args.beats.now)) (sym c.requires.compiled.schema) c.requires.beats
 
-pub run_compiled-outcome-requires-clause-gap : goal.run_compiled-outcome-requires-clause-gap
-run_compiled-outcome-requires-clause-gap c = subst (λ (n : ℕ). KeepsGap n (plain_beats c.args.beats.now)) (sym c.requires.compiled.gap) c.requires.gap
+pub run_compiled-outcome-requires-clause-gaps : goal.run_compiled-outcome-requires-clause-gaps
+run_compiled-outcome-requires-clause-gaps c = subst (λ (g : Gaps). KeepsGaps g (plain_beats c.args.beats.now)) (sym c.requires.compiled.gaps) c.requires.gaps
 
 pub returns : goal.returns
 returns c =

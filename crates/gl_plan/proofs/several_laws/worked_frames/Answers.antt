@@ -4,13 +4,14 @@ use Rattle.gl_algebra.specs.Added.{added}
 use Rattle.gl_algebra.specs.FigureTable.{figures_of}
 use Rattle.gl_algebra.specs.Nodewise.{nodewise, value_to_depth}
 use Rattle.gl_algebra.specs.Roots.{root_figures, spare_at}
+use Rattle.gl_root_gaps.specs.Roots.{tick_gaps_at}
 use Rattle.gl_algebra.specs.Shapes.{shape_of}
 use Rattle.gl_algebra.specs.Weights.{weight_of}
 use Rattle.gl_elaborate.specs.Levels.{level_of}
 use Rattle.gl_plan.proofs.several_laws.worked_frames.Goals as goal
 
 pub returns : goal.returns
-unfolding added level_of text_word nodewise value_to_depth figures_of shape_of weight_of spare_at root_figures
+unfolding added level_of text_word nodewise value_to_depth figures_of shape_of weight_of spare_at root_figures tick_gaps_at
 returns c = record {
   before = refl;
   dear_before = refl;

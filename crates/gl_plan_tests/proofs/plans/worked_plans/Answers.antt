@@ -4,13 +4,14 @@ use Rattle.gl_algebra.specs.Direct.{form_of}
 use Rattle.gl_algebra.specs.FigureTable.{figures_of}
 use Rattle.gl_algebra.specs.Rings.{ring}
 use Rattle.gl_algebra.specs.Roots.{of_further, root_figures, spare_at}
+use Rattle.gl_root_gaps.specs.Roots.{tick_gaps_at}
 use Rattle.gl_algebra.specs.Nodewise.{nodewise, value_to_depth}
 use Rattle.gl_algebra.specs.Shapes.{shape_of}
 use Rattle.gl_algebra.specs.Weights.{weight_of, copies_of}
 use Rattle.gl_plan_tests.proofs.plans.worked_plans.Goals as goal
 
 pub returns-clause-figures : goal.returns-clause-figures
-unfolding figures_of shape_of weight_of copies_of spare_at root_figures of_further nodewise value_to_depth
+unfolding figures_of shape_of weight_of copies_of spare_at root_figures tick_gaps_at of_further nodewise value_to_depth
 returns-clause-figures c = record {
   counts = refl;
   counts_in_windows = record { is_late = refl; is_apart = refl; is_copied = refl };

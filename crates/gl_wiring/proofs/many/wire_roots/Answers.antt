@@ -1,6 +1,7 @@
 use Rattle.std.proofs.Common.{◌≤◌, ◌∙◌, codes, ℕ, sym, subst, refl, arith}
 use Rattle.gl_algebra.specs.Views.{reads_time}
 use Rattle.gl_net.specs.Finished.{IsName}
+use Rattle.gl_gaps.specs.Keeps.{even_gaps}
 use Rattle.gl_wiring.specs.Many.{AreWired, ids_of, result_names, widest_gap}
 use Rattle.gl_wiring.specs.PortNames.{module_names, results_ports}
 use Rattle.gl_wiring.proofs.Finishing.{apart_in, finished_in}
@@ -48,6 +49,6 @@ returns c =
       size = is.size;
       registers = is.registers;
       memories = is.memories;
-      each = all_right c.laws_below.ensures s nodes gap net unlike roots is.each (all_close nodes roots gap self);
+      each = all_right c.laws_below.ensures s nodes (even_gaps gap) net unlike roots is.each (all_close nodes roots gap self);
     } in
     subst (AreWired s nodes roots) (sym c.finish.ensures) wired

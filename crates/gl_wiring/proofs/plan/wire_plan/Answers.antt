@@ -1,11 +1,11 @@
-use Rattle.std.proofs.Common.{◌≡◌, ◌++◌, ap, subst, sym, ◌∙◌, codes, Some, ℕ, List, arith}
+use Rattle.std.proofs.Common.{◌≡◌, ◌++◌, ◌≤◌, ap, subst, sym, ◌∙◌, codes, Some, ℕ, List, arith}
 use Rattle.gl_algebra.specs.declared.figures.Figures.{Figures}
-use Rattle.gl_algebra.specs.Roots.{root_figures}
 use Rattle.gl_algebra.specs.Views.{reads_time}
 use Rattle.gl_wiring.specs.Emitted.{names_of}
 use Rattle.gl_wiring.specs.Naming.{plain}
 use Rattle.gl_wiring.specs.PortNames.{port_names}
-use Rattle.gl_wiring.specs.Wired.{IsWired}
+use Rattle.gl_wiring.specs.Roots.{once_figures, once_ticks}
+use Rattle.gl_wiring.specs.Wired.{IsWired, gaps_of}
 use Rattle.gl_wiring.proofs.Finishing.{apart, finished}
 use Rattle.gl_wiring.proofs.PlanLemmas.{plan_names, root_group_kept, root_runs_right}
 use Rattle.gl_wiring.proofs.plan.wire_plan.Goals as goal
@@ -36,17 +36,20 @@ returns c =
     let is = e.plan in
     let named : net.name ≡ Some (codes "q__" ++ names.into) =
     e.extends.module_name ∙ c.in_ok-module.ensures.module_name ∙ ap (λ (n : List ℕ). Some n) (cc (c.deref.ensures.value, c.in_ok-name.ensures, c.as_slice.ensures)) in
-    let f : Figures = root_figures nodes root in
+    let f : Figures = once_figures nodes root in
+    let far : ℕ = once_ticks nodes root in
     let ticks = reads_time c.args.plan.now in
     let ports : names_of net ≡ port_names ticks s names.columns = plan_names ticks net s nodes root names.columns can.named.many' is.ports in
     let unlike = apart ticks s names.columns net can.schema' can.named.columns can.named.distinct ports in
+    let close : f.gt ≤ f.gt = omega arith in
+    let near : far ≤ far = omega arith in
     let wired : IsWired s nodes root names net = record {
       name = named;
       ports = is.ports;
       size = is.size;
       registers = is.registers;
       memories = is.memories;
-      right = root_runs_right c.laws_below.ensures s nodes root f plain names.columns net is.shown unlike f.gt (omega arith);
-      group = root_group_kept c.laws_below.ensures s nodes root f plain names.columns net is.shown unlike f.gt (omega arith);
+      right = root_runs_right c.laws_below.ensures s nodes root f far plain names.columns net is.shown unlike (gaps_of nodes root) close near;
+      group = root_group_kept c.laws_below.ensures s nodes root f far plain names.columns net is.shown unlike (gaps_of nodes root) close near;
     } in
     subst (IsWired s nodes root names) (sym c.finish.ensures) wired

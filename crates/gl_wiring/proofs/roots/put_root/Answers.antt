@@ -1,12 +1,9 @@
 use Rattle.std.proofs.Common.{◌≡◌, ◌∙◌, None, Some, ap, refl, sym}
 use Rattle.gl_figures.proofs.RootLemmas.{no_windows}
-use Rattle.gl_wiring.proofs.AloneLemmas.{root_alone}
 use Rattle.gl_wiring.proofs.roots.put_root.Goals as goal
 
-pub returns-in_default : goal.returns-in_default
-returns-in_default c =
-    root_alone c.laws_below.ensures c.args.site.plan.now c.args.root c.args.net.now c.put_circuit.new.net c.args.site.tick c.args.site.leaves.now c.in_ok-e.e c.args.site.planned c.requires.can.within
-    (sym c.requires.spare ∙ c.in_default.is) c.in_ok-e.ensures
+pub put_unspared-requires : goal.put_unspared-requires
+put_unspared-requires c = record { can = c.requires.can; none = sym c.requires.spare ∙ c.in_default.is }
 
 pub at-window-requires : goal.at-window-requires
 at-window-requires c = (

@@ -1,5 +1,6 @@
-use Rattle.std.proofs.Common.{ℕ, sym, subst}
-use Rattle.gl_schema.specs.Beats.{KeepsGap}
+use Rattle.std.proofs.Common.{sym, subst}
+use Rattle.gl_gaps.specs.declared.Gaps.{Gaps}
+use Rattle.gl_gaps.specs.Keeps.{KeepsGaps}
 use Rattle.gl_tuples.specs.Gaps.{plain_beats}
 use Rattle.gl_verilog.specs.declared.start.Start.{Start}
 use Rattle.gl_top.specs.Verdicts.{OfResult, RanLines}
@@ -12,10 +13,10 @@ run_compiled-requires-clause-compiled g c = runnable_of c.args.self.now.job.comp
 pub run_compiled-requires-clause-beats : goal.run_compiled-requires-clause-beats
 run_compiled-requires-clause-beats g c = c.requires.passes.1.passes.fine.beats'
 
-pub run_compiled-requires-clause-gap : goal.run_compiled-requires-clause-gap
-run_compiled-requires-clause-gap g c =
+pub run_compiled-requires-clause-gaps : goal.run_compiled-requires-clause-gaps
+run_compiled-requires-clause-gaps g c =
     let job = c.args.self.now.job in
-    subst (λ (n : ℕ). KeepsGap n (plain_beats job.beats)) (sym c.requires.passes.1.compiled.gap) c.requires.passes.1.passes.gap
+    subst (λ (n : Gaps). KeepsGaps n (plain_beats job.beats)) (sym c.requires.passes.1.compiled.gaps) c.requires.passes.1.passes.gaps
 
 pub returns : goal.returns
 returns g c = λ told ready.

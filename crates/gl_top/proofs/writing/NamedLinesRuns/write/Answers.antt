@@ -1,5 +1,5 @@
 use Rattle.std.proofs.Common.{ℕ, sym, subst}
-use Rattle.gl_schema.specs.Beats.{KeepsGap}
+use Rattle.gl_gaps.specs.Keeps.{KeepsGaps, even_gaps}
 use Rattle.gl_tuples.specs.Gaps.{plain_beats}
 use Rattle.gl_many.specs.Compiles.{statements_in}
 use Rattle.gl_verilog.specs.declared.start.Start.{Start}
@@ -16,7 +16,7 @@ run_many-requires-clause-beats g c = c.requires.passes.1.passes.fine.beats'
 pub run_many-requires-clause-gap : goal.run_many-requires-clause-gap
 run_many-requires-clause-gap g c =
     let job = c.args.self.now.job in
-    subst (λ (n : ℕ). KeepsGap n (plain_beats job.beats)) (sym c.requires.passes.1.compiled.gap) c.requires.passes.1.passes.gap
+    subst (λ (n : ℕ). KeepsGaps (even_gaps n) (plain_beats job.beats)) (sym c.requires.passes.1.compiled.gap) c.requires.passes.1.passes.gaps
 
 pub returns : goal.returns
 returns g c = λ told ready.

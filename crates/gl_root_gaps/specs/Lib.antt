@@ -1,0 +1,2 @@
+pub mod TickGaps
+pub mod Roots

@@ -1,0 +1,5 @@
+pub mod CountLemmas
+pub mod ScheduleLemmas
+pub mod StreamLemmas
+pub mod ServeLemmas
+pub mod RotationNet
