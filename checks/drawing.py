@@ -397,5 +397,6 @@ class Maker:
             at += gap + (0 if near or self.often(0.5) else self.draw.randint(0, 2 * gap))
         if beats and ('tick', ()) not in beats[-1][1]:
             beats[-1] = (max(beats[-1][0], free), beats[-1][1])
+            at = max(at, beats[-1][0] + gap)
         ends = [None, beats[-1][0] if beats else 0, max(at, free)]
         return beats, self.draw.choice(ends if at <= 10**7 else ends[:2])
