@@ -4,6 +4,7 @@ pub mod CastNet
 pub mod ComputeBehind
 pub mod GateLemmas
 pub mod MadeLemmas
+pub mod MultipleLemmas
 pub mod OperatorNet
 pub mod RowLemmas
 pub mod CountLemmas

@@ -1,4 +1,5 @@
 pub mod Costs
 pub mod Gates
 pub mod Made
+pub mod Multiples
 pub mod Counted

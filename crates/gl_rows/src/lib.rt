@@ -6,6 +6,7 @@ pub mod cast;
 pub mod compute;
 pub mod figures;
 pub mod laws;
+pub mod multiple;
 pub mod operand;
 pub mod operation;
 pub mod project;

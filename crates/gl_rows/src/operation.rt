@@ -1,7 +1,7 @@
 //! What operations carry.
 
 ghost use Rattle.std.specs.Prelude.{◌≡◌, ◌-◌, ◌^◌, All, IfOk};
-ghost use Rattle.gl_algebra.specs.Columns.{OpFits, SortFits};
+ghost use Rattle.gl_algebra.specs.Columns.{OpFits, OperandFits, SortFits, kind_of_operand};
 ghost use Rattle.gl_values.specs.Kinds.{width_of};
 ghost use Rattle.gl_values.specs.Operators.{sort_of};
 ghost use Rattle.gl_net.specs.Net.{IsBus};
@@ -9,9 +9,12 @@ ghost use Rattle.gl_algebra.specs.declared.node.ColOp.TheVariants.{Binary, Cast,
 ghost use Rattle.gl_bits.specs.Words.{IsWidth};
 ghost use Rattle.gl_values.specs.declared.kind.Kind.TheVariants.{Signed};
 ghost use Rattle.gl_rows.specs.Gates.{gate_of, is_order, is_turned};
+ghost use Rattle.gl_rows.specs.Multiples.{IsScaled};
+ghost use Rattle.gl_values.specs.declared.op.Op.TheVariants.{Mul};
 ghost use Rattle.gl_rows.specs.Made.{AreOperations, IsGated, IsGatedTurned, IsOperated, IsOperation, IsSource};
 
 use crate::cast::put_cast;
+use crate::multiple::{put_multiple, terms_of};
 use crate::operand::{Source, put_operand};
 use gl_algebra::columns::kind_of_operand;
 use gl_algebra::{ColOp, Operand};
@@ -177,6 +180,45 @@ fn put_binary(
     Ok(bus)
 }
 
+// The product of an operand and a literal of its kind.
+fn put_scaled(
+    net: &mut NetBuilder,
+    source: Source,
+    operand: Operand,
+    literal: Word,
+) -> Result<Bus, Memory>
+    requires source { IsSource net.old source.columns.now source.kinds.now }
+    requires fits { OperandFits source.kinds.now operand }
+    requires width { literal.width ≡ width_of (kind_of_operand source.kinds.now operand) }
+    ensures { IfOk result (IsScaled net.old net.new
+        source.entry.columns.now source.entry.kinds.now operand literal.bits) }
+{
+    let arg = put_operand(net, source, operand)?;
+    let bus = put_multiple(net, arg, terms_of(literal))?;
+    Ok(bus)
+}
+
+// The product of two operands: by a literal without a multiplier, where one or two shifts do.
+fn put_product(
+    net: &mut NetBuilder,
+    source: Source,
+    left: Operand,
+    right: Operand,
+) -> Result<Bus, Memory>
+    requires source { IsSource net.old source.columns.now source.kinds.now }
+    requires fits { OpFits source.kinds.now (Binary Mul left right) }
+    ensures { IfOk result (IsOperation net.old net.new
+        source.entry.columns.now source.entry.kinds.now (Binary Mul left right)) }
+{
+    match right {
+        Operand::Literal(literal, _) => put_scaled(net, source, left, literal),
+        Operand::Column(_) => match left {
+            Operand::Literal(literal, _) => put_scaled(net, source, right, literal),
+            Operand::Column(_) => put_binary(net, source, Op::Mul, left, right),
+        },
+    }
+}
+
 /// The bus of an operation.
 pub fn put_operation(net: &mut NetBuilder, source: Source, op: ColOp) -> Result<Bus, Memory>
     requires source { IsSource net.old source.columns.now source.kinds.now }
@@ -187,6 +229,7 @@ pub fn put_operation(net: &mut NetBuilder, source: Source, op: ColOp) -> Result<
     match op {
         ColOp::Not(operand) => put_not(net, source, operand),
         ColOp::Cast(operand, kind) => put_as(net, source, operand, kind),
+        ColOp::Binary(Op::Mul, left, right) => put_product(net, source, left, right),
         ColOp::Binary(op, left, right) => put_binary(net, source, op, left, right),
     }
 }

@@ -1,14 +1,14 @@
 -- The weights of values in order, picked by a bit that moves up.
-use Rattle.std.proofs.Common.{◌≡◌, ℕ, zero, suc, ◌+◌, ◌-◌, ◌*◌, ◌/◌, ◌%◌, ◌^◌, ◌<◌, ◌≤◌, inl, inr, List, [], ◌∷◌, length, drop, get_or, false, refl, sym, ap, ◌∙◌, arith}
-use Rattle.std.specs.Prelude.{fold}
+use Rattle.std.proofs.Common.{◌≡◌, ℕ, zero, suc, ◌+◌, ◌-◌, ◌*◌, ◌/◌, ◌%◌, ◌^◌, ◌<◌, ◌≤◌, inl, inr, List, [], ◌∷◌, length, drop, get_or, Bool, true, false, refl, sym, ap, ◌∙◌, arith}
+use Rattle.std.specs.Prelude.{◌||◌, fold, if◌then◌else◌, nat_eq}
 use Rattle.std.proofs.Math.Nat.{add-mod-mod, div-eq_of_eq-mul_left, mod-add-mod, mod-eq_of_lt, mul-mod_left, two-pow-succ, zero-div, zero-mod}
 use Rattle.std.proofs.Math.Pow.{pow-lt}
-use Rattle.std.proofs.lemmas.Bool.{cases_lt}
+use Rattle.std.proofs.lemmas.Bool.{cases_lt, eq-eqb, eqb-true}
 use Rattle.std.proofs.lemmas.Nat.{mul-mod_first, pow-add}
 use Rattle.gl_values.specs.Totals.{weighted, weighted_sum}
-use Rattle.gl_bits.specs.Words.{product_of, sum_of}
+use Rattle.gl_bits.specs.Words.{Word, bit, bits_of, choose_of, eq_of, product_of, sum_of}
 use Rattle.gl_divide.specs.Division.{with_bit}
-use Rattle.gl_totals.specs.Weighing.{picked}
+use Rattle.gl_totals.specs.Weighing.{among, is_among, is_told, picked}
 
 -- ---- the place
 
@@ -114,3 +114,72 @@ pub weighted_nothing : (w : ℕ) (ws xs : List ℕ) → length ws ≡ 0 → weig
 unfolding weighted_sum
 weighted_nothing w [] xs e = zero-mod (2 ^ w)
 weighted_nothing w (n ∷ ws) xs e = absurd (omega arith)
+
+-- ---- a weight among the others
+
+or_right : (a b : Bool) → (a || b) ≡ true → a ≡ false → b ≡ true
+or_right true b both none = absurd cc
+or_right false b both none = both
+
+among_none : (ws : List ℕ) → among ws 0 ≡ 0
+among_none [] = refl
+among_none (n ∷ ws) = by (nat_eq 0 n) refl (among_none ws)
+  where
+    by : (b : Bool) → nat_eq 0 n ≡ b → among ws 0 ≡ 0 → (if b then n else among ws 0) ≡ 0
+    by true e h = sym (eqb-true 0 n e)
+    by false e h = h
+
+among_there : (k : ℕ) (ws : List ℕ) → is_among k ws ≡ true → among ws k ≡ k
+among_there k [] is = absurd cc
+among_there k (n ∷ ws) is = by (nat_eq k n) refl (among_there k ws)
+  where
+    by : (b : Bool) → nat_eq k n ≡ b → (is_among k ws ≡ true → among ws k ≡ k) → (if b then n else among ws k) ≡ k
+    by true e h = sym (eqb-true k n e)
+    by false e h = h (or_right (nat_eq k n) (is_among k ws) is e)
+
+told_there : (n : ℕ) (ws : List ℕ) → is_told n ws ≡ true → among ws n ≡ n
+told_there n ws is = by (nat_eq n 0) refl
+  where
+    by : (b : Bool) → nat_eq n 0 ≡ b → among ws n ≡ n
+    by true e = ap (among ws) (eqb-true n 0 e) ∙ among_none ws ∙ sym (eqb-true n 0 e)
+    by false e = among_there n ws (or_right (nat_eq n 0) (is_among n ws) is e)
+
+-- a weight of 0, or one that comes again, adds nothing
+pub among_told : (n : ℕ) (ws : List ℕ) (k : ℕ) → is_told n ws ≡ true → among ws k ≡ among (n ∷ ws) k
+among_told n ws k is = by (nat_eq k n) refl
+  where
+    by : (b : Bool) → nat_eq k n ≡ b → among ws k ≡ (if b then n else among ws k)
+    by true e = ap (among ws) (eqb-true k n e) ∙ told_there n ws is
+    by false e = refl
+
+-- a weight that is picked is among them, or 0
+pub picked_among : (ws : List ℕ) (p : ℕ) → among ws (picked ws p) ≡ picked ws p
+picked_among [] p = refl
+picked_among (n ∷ ws) p = by (nat_eq (p % 2) 1) (picked_among ws (p / 2))
+  where
+    other : (k : ℕ) (b : Bool) → nat_eq k n ≡ b → among ws k ≡ k → (if b then n else among ws k) ≡ k
+    other k true e h = sym (eqb-true k n e)
+    other k false e h = h
+
+    by : (b : Bool) → among ws (picked ws (p / 2)) ≡ picked ws (p / 2)
+        → among (n ∷ ws) (if b then n else picked ws (p / 2)) ≡ (if b then n else picked ws (p / 2))
+    by true h = ap (λ (b : Bool). if b then n else among ws n) (eq-eqb n n refl)
+    by false h = other (picked ws (p / 2)) (nat_eq (picked ws (p / 2)) n) refl h
+
+-- the choice of one weight's product before the others
+pub among_more : (w v n k : ℕ) (ws : List ℕ)
+    → choose_of (eq_of k n) (product_of w v n) (product_of w v (among ws k)) ≡ product_of w v (among (n ∷ ws) k)
+unfolding choose_of eq_of
+among_more w v n k ws = by (nat_eq k n)
+  where
+    by : (b : Bool) → (if nat_eq (bit b) 1 then product_of w v n else product_of w v (among ws k)) ≡ product_of w v (if b then n else among ws k)
+    by true = refl
+    by false = refl
+
+pub product_none : (w v : ℕ) → 0 ≡ product_of w v 0
+unfolding product_of
+product_none w v = let e : v * 0 ≡ 0 = omega arith in sym (ap (λ (n : ℕ). n % 2 ^ w) e ∙ zero-mod (2 ^ w))
+
+pub among_empty : (words : List Word) (k : ℕ) → 0 ≡ length words → 0 ≡ among (bits_of words) k
+among_empty [] k e = refl
+among_empty (x ∷ words) k e = absurd (omega (arith, e))

@@ -69,10 +69,10 @@ cost_of_average keep width =
       memories = slot_words keep * (width + 64);
     }
 
--- a fold of values, one of places, a product, and three nodes a weight
+-- a fold of values, one of places, and eight nodes a weight: three pick it, and five multiply by it without a multiplier
 abbrev pub cost_of_weighted : Keep → ℕ → ℕ → Cost
 cost_of_weighted keep width weights = record {
-  nodes = 14 + 12 * lag_of keep + 3 * weights;
+  nodes = 16 + 12 * lag_of keep + 8 * weights;
   registers = width + weights;
   memories = slot_words keep * (width + weights);
 }

@@ -1,13 +1,11 @@
 use Rattle.std.proofs.Common.{◌≡◌, ◌≢◌, ℕ, suc, ◌+◌, ◌*◌, ◌≤◌, length, ap, arith, sym, subst, ◌∙◌}
-use Rattle.std.proofs.Math.Nat.{div-one}
 use Rattle.std.proofs.lemmas.Bool.{eqb-false, eqb-true}
 use Rattle.std.proofs.lemmas.List.{length-map}
-use Rattle.gl_bits.specs.Words.{Word, bits_of, product_of}
+use Rattle.gl_bits.specs.Words.{Word, bits_of}
 use Rattle.gl_net.proofs.Determined.{keeps_then}
 use Rattle.gl_totals.specs.Costs.{slot_words}
 use Rattle.gl_totals.specs.Folds.{IsFolded}
 use Rattle.gl_totals.specs.Open.{values_at}
-use Rattle.gl_totals.specs.Weighing.{picked}
 use Rattle.gl_totals.specs.declared.fold.Step.TheVariants.{Add, Shift}
 use Rattle.gl_totals.proofs.KeepLemmas.{keep_kept}
 use Rattle.gl_totals.proofs.WeighLemmas.{weighted_nothing}
@@ -33,7 +31,7 @@ returns-then-is_empty c =
 pub put_state-requires-2-clause-keep : goal.put_state-requires-2-clause-keep
 put_state-requires-2-clause-keep c =
     let keep = c.args.rows.keep in
-    keep_kept _ _ keep c.in_ok-part.ensures.keeps (keep_kept _ _ keep c.in_ok-weight.ensures.keeps (keep_kept _ _ keep c.in_ok-place.ensures.keeps c.requires.keep))
+    keep_kept _ _ keep c.in_ok-part.ensures.keeps (keep_kept _ _ keep c.in_ok-place.ensures.keeps c.requires.keep)
 
 pub returns : goal.returns
 returns c =
@@ -42,7 +40,6 @@ returns c =
     let rows = c.args.rows in
     let width = value.width in
     let place = c.in_ok-place.ensures in
-    let weight = c.in_ok-weight.ensures in
     let part = c.in_ok-part.ensures in
     let sum = c.in_ok-sum.ensures in
     let p = c.in_ok-place.place in
@@ -54,29 +51,24 @@ returns c =
     let words = slot_words rows.keep in
     let places : words * c.small_word-first.result.width ≡ words * length ws = ap (λ (w : ℕ). words * w) c.small_word-first.ensures.width in
     let sums : words * c.small_word-2.result.width ≡ words * width = ap (λ (w : ℕ). words * w) c.small_word-2.ensures.width in
-    let behind = keeps_then _ c.binary.new.self c.put_state-2.new.net part.keeps sum.keeps in
     record {
-      keeps = keeps_then c.args.net.now c.put_state.new.net _ place.keeps (keeps_then _ c.put_picked.new.net _ weight.keeps behind);
+      keeps = keeps_then c.args.net.now c.put_state.new.net _ place.keeps (keeps_then _ c.put_part.new.net _ part.keeps sum.keeps);
       cost = record {
-        nodes = omega (arith, place.cost.nodes, weight.cost.nodes, part.size, sum.cost.nodes, many);
-        registers = omega (arith, place.cost.registers, weight.cost.registers, part.register_bits, sum.cost.registers, c.small_word-first.ensures.width, c.small_word-2.ensures.width);
-        memories = omega (arith, place.cost.memories, weight.cost.memories, part.memory_bits, sum.cost.memories, places, sums);
+        nodes = omega (arith, place.cost.nodes, part.cost.nodes, sum.cost.nodes);
+        registers = omega (arith, place.cost.registers, part.cost.registers, sum.cost.registers, c.small_word-first.ensures.width, c.small_word-2.ensures.width);
+        memories = omega (arith, place.cost.memories, part.cost.memories, sum.cost.memories, places, sums);
       };
       bus = sum.now;
       same_width = sum.now_width ∙ c.small_word-2.ensures.width;
       carries = λ run r told t fresh.
           let at_part = sum.keeps.runs run r in
-          let at_weight = part.keeps.runs run at_part in
-          let at_place = weight.keeps.runs run at_weight in
+          let at_place = part.keeps.runs run at_part in
           let e : suc t + 0 ≡ suc t = omega arith in
           ap (λ (n : ℕ). run.at n f.now.node) e
           ∙ sum_first run rows width (bits_of ws) bits value x p.before p.now f.before f.now
           (subst (λ (w : ℕ). IsFolded run w 1 Shift rows p.before p.now) (c.small_word-first.ensures.width ∙ sym many)
           (subst (λ (b : ℕ). IsFolded run c.small_word-first.result.width b Shift rows p.before p.now) c.small_word-first.ensures.bits (place.folded run at_place told.led)))
-          (λ u. part.value run at_part (suc u)
-          ∙ ap (λ (w : ℕ). product_of w (run.at (suc u) c.in_ok-weight.weight.node) (run.at (suc u) value.node)) weight.same_width
-          ∙ ap (λ (n : ℕ). product_of width n (run.at (suc u) value.node)) (weight.carries run at_weight (suc u))
-          ∙ ap (λ (n : ℕ). product_of width (picked (bits_of ws) n) (run.at (suc u) value.node)) (div-one (run.at (suc u) p.before.node)))
+          (λ u. part.carries run at_part (suc u))
           (subst (λ (w : ℕ). IsFolded run w 0 (Add x) rows f.before f.now) c.small_word-2.ensures.width
           (subst (λ (b : ℕ). IsFolded run c.small_word-2.result.width b (Add x) rows f.before f.now) c.small_word-2.ensures.bits (sum.folded run r told.led))) told.begins t fresh;
     }
