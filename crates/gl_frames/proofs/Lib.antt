@@ -3,3 +3,4 @@ pub mod LastLemmas
 pub mod SumLemmas
 pub mod BestLemmas
 pub mod PartitionLemmas
+pub mod ResultLemmas

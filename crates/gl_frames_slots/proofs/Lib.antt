@@ -4,5 +4,9 @@ pub mod NumberNet
 pub mod MeetLemmas
 pub mod ItemsNet
 pub mod SumNet
+pub mod BestNet
+pub mod ExtremeNet
+pub mod WholeNet
+pub mod RecentNet
 pub mod LastNet
 pub mod KeyNet

@@ -1,16 +1,19 @@
 -- Rows of slots some cycles later, and a stage behind a stage.
-use Rattle.std.proofs.Common.{◌≡◌, ℕ, zero, suc, ◌+◌, ◌-◌, ◌<◌, ◌≤◌, List, [], ◌∷◌, ◌++◌, Bool, true, false, append-nil, refl, sym, ap, ◌∙◌, arith, inl, inr, ◌⊎◌}
+use Rattle.std.proofs.Common.{◌≡◌, ℕ, zero, suc, ◌+◌, ◌-◌, ◌^◌, ◌<◌, ◌≤◌, List, [], ◌∷◌, ◌++◌, Bool, true, false, length, append-nil, refl, sym, ap, ◌∙◌, arith, inl, inr, ◌⊎◌}
 use Rattle.std.specs.Prelude.{not, ◌||◌, if◌then◌else◌, nat_eq}
 use Rattle.std.proofs.lemmas.Bool.{cases_lt, le-ltb}
 use Rattle.gl_bits.proofs.Bools.{not_both}
 use Rattle.gl_divide.specs.Divider.{IsLineBehind}
+use Rattle.gl_net.specs.declared.node.Bus.{Bus}
 use Rattle.gl_net.specs.Net.{Run}
-use Rattle.gl_frames_wire.specs.Since.{all_ends, has_begun, rows_here, rows_since}
+use Rattle.gl_frames_wire.specs.Rings.{wound}
+use Rattle.gl_frames_wire.specs.Since.{all_ends, has_begun, rows_here, rows_past, rows_since}
 use Rattle.gl_frames_wire.proofs.ColumnLemmas.{framed_here}
 use Rattle.gl_wire.specs.Wire.{line_at}
 use Rattle.gl_wire.proofs.StageLemmas.{line_first}
 use Rattle.gl_wire_lanes.specs.Lanes.{Lane, row_in}
-use Rattle.gl_frames_slots.specs.Rows.{AreTold, TellsBySlot, lane_at, slot_here}
+use Rattle.gl_frames_slots.specs.CountNets.{Counts}
+use Rattle.gl_frames_slots.specs.Rows.{AreTold, TellsBySlot, lane_at, slot_here, slot_past}
 use Rattle.gl_frames_slots.specs.Stages.{AreRowsBehind, RowsToldLate, SlotStagesMeet, ends_late}
 use Rattle.gl_frames_slots.specs.declared.rows.SlotRows.{SlotRows}
 
@@ -146,7 +149,11 @@ module _ (run : Run) (m : ℕ) (rows later : SlotRows) (ends : ℕ → Bool) (be
         side zero = inr (ap (λ (b : Bool). if b then mid (0 + m) ∷ [] else []) (line_first run rows.valid))
         side (suc c) = inl (same_slot c k)
 
-    here_late : (c : ℕ) → rows_here (all_ends d) d mid (suc c + m) ≡ rows_here (all_ends l) l (λ t. mid (t + m)) (suc c)
+    -- and before this cycle's row
+    past_late : (c : ℕ) → rows_past (all_ends d) d mid (suc c + m) ≡ rows_past (all_ends l) l (λ t. mid (t + m)) (suc c)
+    past_late c = ap (λ k. rows_since (all_ends d) d mid k (suc c + m)) (behind.slots c) ∙ since_late (l.slot (suc c)) (suc c)
+
+    pub here_late : (c : ℕ) → rows_here (all_ends d) d mid (suc c + m) ≡ rows_here (all_ends l) l (λ t. mid (t + m)) (suc c)
     here_late c =
         ap (λ k. rows_since (all_ends d) d mid k (suc c + m) ++ row_in d mid (suc c + m)) (behind.slots c)
         ∙ ap (λ xs. xs ++ row_in d mid (suc c + m)) (since_late (l.slot (suc c)) (suc c))
@@ -154,6 +161,23 @@ module _ (run : Run) (m : ℕ) (rows later : SlotRows) (ends : ℕ → Bool) (be
 
 pub rows_told : RowsToldLate
 rows_told run m rows later ends behind told = told_late run m rows later ends behind told
+
+-- a count as late counts the later rows
+pub counts_late : (run : Run) (m : ℕ) (rows later : SlotRows) (ends : ℕ → Bool) (count late : Bus) → AreRowsBehind run m rows later → late.width ≡ count.width
+    → ((t : ℕ) → run.at (suc t + m) late.node ≡ run.at (suc t) count.node) → Counts run rows ends count → Counts run later (ends_late m ends) late
+counts_late run m rows later ends count late behind wide same counts column c v = elim (cases_lt (suc c) m) [
+  | inl lt ↦ absurd (not_both (line_at run later.valid (suc c)) v (behind.valids.before (suc c) lt))
+  | inr le ↦ found (suc c - m) (omega (arith, le))
+]
+  where
+    found : (i : ℕ) → suc c ≡ i + m → run.at (suc c) late.node ≡ wound (2 ^ (late.width - 1)) (length (slot_past run later (ends_late m ends) column (suc c)))
+    found zero e = absurd (not_both (line_at run later.valid (suc c)) v (ap (line_at run later.valid) e ∙ behind.valids.line zero ∙ line_first run rows.valid))
+    found (suc i) e =
+        let there : line_at run rows.valid (suc i) ≡ true = sym (behind.valids.line (suc i)) ∙ ap (line_at run later.valid) (sym e) ∙ v in
+        ap (λ t. run.at t late.node) e ∙ same i ∙ counts (λ t. column (t + m)) i there
+        ∙ ap (λ w. wound (2 ^ (w - 1)) (length (slot_past run rows ends (λ t. column (t + m)) (suc i)))) (sym wide)
+        ∙ ap (λ xs. wound (2 ^ (late.width - 1)) (length xs)) (sym (past_late run m rows later ends behind column i))
+        ∙ ap (λ t. wound (2 ^ (late.width - 1)) (length (slot_past run later (ends_late m ends) column t))) (sym e)
 
 pub stages_meet : {A B C : Type 0} → SlotStagesMeet A B C
 stages_meet run m n rows later ends f g row mid made behind one two c v =

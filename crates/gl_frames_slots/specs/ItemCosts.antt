@@ -13,7 +13,8 @@ use Rattle.gl_frames_stages.specs.DelayNets.{cost_of_late}
 use Rattle.gl_frames_stages.specs.Framing.{cost_of_own}
 use Rattle.gl_frames_wire.specs.Reaches.{place_bits}
 use Rattle.gl_totals.specs.Costs.{cost_of_quotient}
-use Rattle.gl_wire.specs.Costs.{Cost, nodes_alone}
+use Rattle.gl_wire.specs.Costs.{Cost}
+use Rattle.gl_frames_slots.specs.BestNets.{cost_of_slot_doublings}
 
 -- an operand, a lag by slots of so many bits, and a choice of its word
 abbrev pub cost_of_slot_lag : ℕ → ℕ → ℕ → Cost
@@ -66,16 +67,68 @@ cost_of_slot_average slot width back =
       memories = (cost_of_slot_fraction slot width back).memories;
     }
 
+-- an operand, its word where the row passes, the sum of its numbers, and a count of those that pass
+abbrev pub cost_of_slot_whole_fraction : ℕ → ℕ → Cost
+cost_of_slot_whole_fraction slot width = record {
+  nodes = 37;
+  registers = 2 * (width + 32) + 64;
+  memories = 2 ^ slot * (width + 32) + 2 ^ slot * 32;
+}
+
+-- the fraction, its division, and a cut
+abbrev pub cost_of_slot_whole_average : ℕ → ℕ → Cost
+cost_of_slot_whole_average slot width =
+    let division = cost_of_quotient (width + 32) 32 in
+    record {
+      nodes = 39 + division.nodes;
+      registers = 2 * (width + 32) + 64 + division.registers;
+      memories = 2 ^ slot * (width + 32) + 2 ^ slot * 32;
+    }
+
 -- two operands, a gate, the last value and a register
 abbrev pub cost_of_slot_last : ℕ → ℕ → Cost
 cost_of_slot_last slot width = record { nodes = 14; registers = 2 * width; memories = 2 ^ slot * width }
+
+-- two operands, the last value, its age, and a register
+abbrev pub cost_of_slot_recent : ℕ → ℕ → ℕ → Cost
+cost_of_slot_recent slot width back = record {
+  nodes = 36;
+  registers = place_bits (back + 1) + 1 + 2 * width;
+  memories = 2 ^ slot * width + 2 ^ slot * (place_bits (back + 1) + 1);
+}
 
 -- a count of the last rows, of all of them or of those that pass
 abbrev pub cost_of_slot_count : ℕ → Option ℕ → ℕ → Cost
 cost_of_slot_count slot None back = cost_of_slot_number
 cost_of_slot_count slot (Some column) back = cost_of_slot_passing slot back
 
--- a sum, a number of rows in 32 bits, an average, or a last value
+-- an operand, all levels of doubling by slots, and a register
+abbrev pub cost_of_slot_extreme : ℕ → ℕ → ℕ → Cost
+cost_of_slot_extreme slot width back =
+    let levels = cost_of_slot_doublings slot 5 back 1 (back + 1) width in
+    record { nodes = levels.nodes + 2; registers = levels.registers + width; memories = levels.memories }
+
+-- words with a bit above the value, all levels of doubling of them, and a cut
+abbrev pub cost_of_slot_filtered : ℕ → ℕ → ℕ → Cost
+cost_of_slot_filtered slot width back =
+    let levels = cost_of_slot_doublings slot 12 back 1 (back + 1) (width + 1) in
+    record { nodes = levels.nodes + 9; registers = levels.registers + width + 1; memories = levels.memories }
+
+-- an extreme of the last rows, of all of them or of those that pass
+abbrev pub cost_of_slot_extreme_by : ℕ → Option ℕ → ℕ → ℕ → Cost
+cost_of_slot_extreme_by slot None width back = cost_of_slot_extreme slot width back
+cost_of_slot_extreme_by slot (Some column) width back = cost_of_slot_filtered slot width back
+
+-- such words, the best so far, a cut and a register
+abbrev pub cost_of_slot_best : ℕ → ℕ → Cost
+cost_of_slot_best slot width = record { nodes = 32; registers = 2 * width + 1; memories = 2 ^ slot * (width + 1) }
+
+-- an extreme of a frame
+abbrev pub cost_of_slot_extreme_over : ℕ → Option ℕ → ℕ → Option ℕ → Cost
+cost_of_slot_extreme_over slot by width None = cost_of_slot_best slot width
+cost_of_slot_extreme_over slot by width (Some back) = cost_of_slot_extreme_by slot by width back
+
+-- a sum, a number of rows in 32 bits, an average, an extreme, or a last value
 abbrev pub cost_of_slot_over : ℕ → List Kind → PlanFrameAgg → Option ℕ → Option ℕ → Cost
 cost_of_slot_over slot kinds (Sum operand) by (Some back) =
     cost_of_slot_sum slot (width_of (kind_of_operand kinds operand)) back
@@ -84,13 +137,17 @@ cost_of_slot_over slot kinds Count by (Some back) = cost_of_slot_count slot by b
 cost_of_slot_over slot kinds Count by None = cost_of_slot_all slot 32
 cost_of_slot_over slot kinds (Avg operand) by (Some back) =
     cost_of_slot_average slot (width_of (kind_of_operand kinds operand)) back
-cost_of_slot_over slot kinds (Avg operand) by None = nodes_alone 0
-cost_of_slot_over slot kinds (Min operand) by back = nodes_alone 0
-cost_of_slot_over slot kinds (Max operand) by back = nodes_alone 0
+cost_of_slot_over slot kinds (Avg operand) by None =
+    cost_of_slot_whole_average slot (width_of (kind_of_operand kinds operand))
+cost_of_slot_over slot kinds (Min operand) by back =
+    cost_of_slot_extreme_over slot by (width_of (kind_of_operand kinds operand)) back
+cost_of_slot_over slot kinds (Max operand) by back =
+    cost_of_slot_extreme_over slot by (width_of (kind_of_operand kinds operand)) back
 cost_of_slot_over slot kinds (LastValue operand) None back = cost_of_own (width_of (kind_of_operand kinds operand))
 cost_of_slot_over slot kinds (LastValue operand) (Some column) None =
     cost_of_slot_last slot (width_of (kind_of_operand kinds operand))
-cost_of_slot_over slot kinds (LastValue operand) (Some column) (Some back) = nodes_alone 0
+cost_of_slot_over slot kinds (LastValue operand) (Some column) (Some back) =
+    cost_of_slot_recent slot (width_of (kind_of_operand kinds operand)) back
 
 -- what an item costs at most, as late as it is
 abbrev pub cost_of_slot_item : ℕ → List Kind → PlanFrame → Cost

@@ -20,21 +20,21 @@ use Rattle.gl_frames_slots.specs.ItemCosts.{cost_of_slot_items}
 use Rattle.gl_frames_slots.specs.Rows.{AreTold, HasSlotRows, TellsBySlot}
 use Rattle.gl_frames_slots.specs.declared.items.SlotInput.{SlotInput}
 
--- a sum or a number of rows, an average of the last ones, or the last value of all that pass
-abbrev pub IsSlotOver : ℕ → PlanFrameAgg → Option ℕ → Option ℕ → Type 0
-IsSlotOver bits (Sum operand) by (Some back) = place_bits (back + 1) ≤ bits
-IsSlotOver bits (Sum operand) by None = ⊤
-IsSlotOver bits Count by (Some back) = place_bits (back + 1) ≤ bits
-IsSlotOver bits Count by None = ⊤
-IsSlotOver bits (Avg operand) by (Some back) = place_bits (back + 1) ≤ bits
-IsSlotOver bits (Avg operand) by None = ⊥
-IsSlotOver bits (LastValue operand) None back = ⊤
-IsSlotOver bits (LastValue operand) (Some column) None = ⊤
-IsSlotOver bits (LastValue operand) (Some column) (Some back) = ⊥
-IsSlotOver bits (Min operand) by back = ⊥
-IsSlotOver bits (Max operand) by back = ⊥
+-- a ring that reaches to what leaves a frame of so many rows has a place of at most so many bits; one of all has no ring
+abbrev pub ReachFits : ℕ → Option ℕ → Type 0
+ReachFits bits None = ⊤
+ReachFits bits (Some back) = place_bits (back + 1) ≤ bits
 
--- an item that is made by slots, whose ring has a place of at most so many bits
+-- a function over a frame: the ring of its last rows, where it has one
+abbrev pub IsSlotOver : ℕ → PlanFrameAgg → Option ℕ → Option ℕ → Type 0
+IsSlotOver bits (Sum operand) by back = ReachFits bits back
+IsSlotOver bits Count by back = ReachFits bits back
+IsSlotOver bits (Avg operand) by back = ReachFits bits back
+IsSlotOver bits (Min operand) by back = ReachFits bits back
+IsSlotOver bits (Max operand) by back = ReachFits bits back
+IsSlotOver bits (LastValue operand) by back = ⊤
+
+-- an item whose rings by slots have places of at most so many bits
 abbrev pub IsSlotItem : ℕ → PlanFrame → Type 0
 IsSlotItem bits (Own operand) = ⊤
 IsSlotItem bits (Lag operand back) = place_bits back ≤ bits

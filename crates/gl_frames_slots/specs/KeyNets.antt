@@ -14,7 +14,7 @@ use Rattle.gl_frames_keys.specs.Laws.{OfKeys}
 use Rattle.gl_frames_lanes.specs.LaneNets.{key_in}
 use Rattle.gl_frames_lanes.specs.declared.lane.KeyLane.{KeyLane}
 use Rattle.gl_frames_lanes.specs.declared.lane.Keys.{Keys}
-use Rattle.gl_frames_stages.specs.DelayNets.{cost_of_late_lines}
+use Rattle.gl_frames_stages.specs.DelayNets.{cost_of_late_line, cost_of_late_lines}
 use Rattle.gl_frames_stages.specs.FramesNets.{frames_widths}
 use Rattle.gl_frames_wire.specs.Running.{Runs}
 use Rattle.gl_wire.specs.declared.wire.Wire.{Wire}
@@ -68,51 +68,58 @@ pub record AreItemsOn (run : Run) (late : KeyRows) (kinds : List Kind) (cycles :
   pub tells : TellsBySlot run late.rows ends cycles (row_of_frames kinds items) (λ t. row_at run t late.wire.columns)
       (λ t. row_at run t wire.columns)
 
-pub record AreKeyItemsIn (old new : Net) (late : KeyRows) (bits : ℕ) (kinds : List Kind) (items : List PlanFrame)
-    (out : Wire) : Type 0 where
+-- as many cycles behind such rows as they wait, and the slowest item takes
+abbrev pub items_delay : ℕ → List Kind → List PlanFrame → ℕ
+items_delay wait kinds items = wait + delay_of_frames kinds items
+
+pub record AreKeyItemsIn (old new : Net) (late : KeyRows) (partition : Partition) (kinds : List Kind)
+    (items : List PlanFrame) (out : Wire) : Type 0 where
   pub keeps : Keeps old new
-  pub cost : CostsAtMost old new
-      (cost_of_key_items late.rows.slot.width bits kinds (delay_of_frames kinds items) items)
+  pub cost : CostsAtMost old new (cost_of_key_items late.rows.slot.width partition.bits kinds
+      (items_delay partition.wait kinds items) items)
   pub wire : IsWire new out
   pub same_widths : widths out.columns ≡ frames_widths kinds items
   pub law : (run : Run) → IsRun new run → (ends : ℕ → Bool) → AreTold run late.rows ends
-      → AreItemsOn run late kinds (delay_of_frames kinds items) items out ends
+      → AreItemsOn run late kinds (items_delay partition.wait kinds items) items out ends
 
--- as many cycles behind each row as the slowest item takes, and three
-abbrev pub key_delay : List Kind → List PlanFrame → ℕ
-key_delay kinds items = 3 + delay_of_frames kinds items
+-- as many cycles behind each row as it waits, and the slowest item takes, and three
+abbrev pub key_delay : ℕ → List Kind → List PlanFrame → ℕ
+key_delay wait kinds items = 3 + wait + delay_of_frames kinds items
 
 -- in a run: so many cycles behind each row of the first keys of its stream what the items make of its key's rows up to
--- it, and two cycles behind each row of a further key a line. So it serves that, with no flush
-pub record AreKeyFrames (run : Run) (keys : Keys) (kinds : List Kind) (items : List PlanFrame) (source : Wire)
-    (r : KeyFrames) : Type 0 where
-  pub runs : Runs (key_delay kinds items) (by_key keys.groups (key_in keys.column) (row_of_frames kinds items))
+-- it. Behind each row of a further key a line, as many cycles as rows wait, and two. So it serves that, with no flush
+pub record AreKeyFrames (run : Run) (keys : Keys) (wait : ℕ) (kinds : List Kind) (items : List PlanFrame)
+    (source : Wire) (r : KeyFrames) : Type 0 where
+  pub runs : Runs (key_delay wait kinds items) (by_key keys.groups (key_in keys.column) (row_of_frames kinds items))
       (carried run source) (carried run r.wire)
   pub late : Carried
-  pub behind : IsDelayed 2 (carried run source) late
+  pub behind : IsDelayed (2 + wait) (carried run source) late
   pub further : (c : ℕ) → line_at run r.further c ≡ leaves_out keys.groups (key_in keys.column) late c
   pub serves : (f : Figures) → IsSound f
-      → ServesWithLines f (delayed (key_delay kinds items) f)
+      → ServesWithLines f (delayed (key_delay wait kinds items) f)
       (OfKeys keys.groups (key_in keys.column) (row_of_frames kinds items))
       (record { passed = λ c. false; further = line_at run r.further }) (carried run source) (carried run r.wire)
 
--- what all cost at most: the look-up, the rows beside their slots, the count, the items and the lines beside them
-abbrev pub cost_of_key_frames : Keys → ℕ → List ℕ → List Kind → List PlanFrame → Cost
-cost_of_key_frames keys bits columns kinds items =
-    let most = cost_of_key_items keys.width bits kinds (delay_of_frames kinds items) items in
+-- what all cost at most: the look-up, the rows beside their slots, the count, the items and the lines beside them, and
+-- the line of further keys
+abbrev pub cost_of_key_frames : Keys → ℕ → ℕ → List ℕ → List Kind → List PlanFrame → Cost
+cost_of_key_frames keys wait bits columns kinds items =
+    let most = cost_of_key_items keys.width bits kinds (items_delay wait kinds items) items in
+    let line = cost_of_late_line wait in
     record {
-      nodes = keys.groups * 14 + gates_of keys.groups + length columns * 3 + 36 + most.nodes;
+      nodes = keys.groups * 14 + gates_of keys.groups + length columns * 3 + 36 + most.nodes + line.nodes;
       registers = keys.groups * (slice_index columns keys.column + 2) + sum columns * 3
-          + slice_index columns keys.column + keys.width * 4 + 14 + most.registers;
-      memories = most.memories;
+          + slice_index columns keys.column + keys.width * 4 + 14 + most.registers + line.registers;
+      memories = most.memories + line.memories;
     }
 
 -- in every run, from any contents
 pub record AreKeyFramesIn (old new : Net) (partition : Partition) (kinds : List Kind) (items : List PlanFrame)
     (source : Wire) (r : KeyFrames) : Type 0 where
   pub keeps : Keeps old new
-  pub cost : CostsAtMost old new (cost_of_key_frames partition.keys partition.bits (widths source.columns) kinds items)
+  pub cost : CostsAtMost old new
+      (cost_of_key_frames partition.keys partition.wait partition.bits (widths source.columns) kinds items)
   pub wire : IsWire new r.wire
   pub same_widths : widths r.wire.columns ≡ frames_widths kinds items
   pub further : IsBit new r.further
-  pub law : (run : Run) → IsRun new run → AreKeyFrames run partition.keys kinds items source r
+  pub law : (run : Run) → IsRun new run → AreKeyFrames run partition.keys partition.wait kinds items source r

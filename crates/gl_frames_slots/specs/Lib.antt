@@ -4,7 +4,10 @@ pub mod LagNets
 pub mod Stages
 pub mod SumNets
 pub mod LastNets
+pub mod RecentNets
+pub mod BestNets
 pub mod ItemCosts
 pub mod Items
+pub mod Extremes
 pub mod Averages
 pub mod KeyNets

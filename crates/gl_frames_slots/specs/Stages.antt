@@ -2,12 +2,14 @@
 use Rattle.std.specs.Prelude.{◌≡◌, ℕ, suc, ◌+◌, ◌-◌, ◌*◌, Bool, false, List, if◌then◌else◌, nat_lt}
 use Rattle.gl_divide.specs.Divider.{IsLineBehind}
 use Rattle.gl_frames.specs.Frames.{framed}
-use Rattle.gl_net.specs.Net.{Net, Run, IsRun, Keeps}
+use Rattle.gl_net.specs.Net.{Net, Run, IsRun, IsBus, Keeps}
 use Rattle.gl_wire.specs.Costs.{Costs}
 use Rattle.gl_wire.specs.Wire.{line_at}
 use Rattle.gl_wire_registers.specs.Held.{with_registers}
+use Rattle.gl_frames_slots.specs.CountNets.{Counts}
 use Rattle.gl_frames_slots.specs.Rows.{AreTold, HasSlotRows, TellsBySlot}
 use Rattle.gl_frames_slots.specs.declared.rows.SlotRows.{SlotRows}
+use Rattle.gl_frames_slots.specs.declared.stages.CountedRows.{CountedRows}
 
 -- rows so many cycles behind others, which tell of the next cycle too
 pub record AreRowsBehind (run : Run) (m : ℕ) (rows later : SlotRows) : Type 0 where
@@ -43,3 +45,15 @@ pub record AreRowsTwoLateIn (old new : Net) (rows later : SlotRows) : Type 0 whe
   pub has : HasSlotRows new later
   pub same_width : later.slot.width ≡ rows.slot.width
   pub behind : (run : Run) → IsRun new run → AreRowsBehind run 2 rows later
+
+-- the same of rows beside their count, which counts the later rows
+pub record AreCountedTwoLateIn (old new : Net) (counted later : CountedRows) : Type 0 where
+  pub keeps : Keeps old new
+  pub cost : Costs old new (with_registers 8 (4 + 2 * counted.rows.slot.width + 2 * counted.count.width))
+  pub has : HasSlotRows new later.rows
+  pub same_slots : later.rows.slot.width ≡ counted.rows.slot.width
+  pub count : IsBus new later.count
+  pub same_count : later.count.width ≡ counted.count.width
+  pub behind : (run : Run) → IsRun new run → AreRowsBehind run 2 counted.rows later.rows
+  pub counts : (run : Run) → IsRun new run → (ends : ℕ → Bool) → Counts run counted.rows ends counted.count
+      → Counts run later.rows (ends_late 2 ends) later.count

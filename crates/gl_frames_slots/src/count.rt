@@ -35,8 +35,13 @@ fn last_word(bits: u8) -> Word
     word(size + (size - 1), bits + 1)
 }
 
-// One more where a row comes; behind the last number the size again.
-fn put_wound(net: &mut NetBuilder, valid: Bit, count: Bus, bits: u8) -> Result<Bus, Memory>
+/// One more where a row comes; behind the last number the size again.
+pub(crate) fn put_wound(
+    net: &mut NetBuilder,
+    valid: Bit,
+    count: Bus,
+    bits: u8,
+) -> Result<Bus, Memory>
     requires valid { IsBit net.old valid }
     requires count { IsBus net.old count }
     requires bits { IsPlaceWidth bits }

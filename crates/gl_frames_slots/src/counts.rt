@@ -8,7 +8,6 @@ ghost use Rattle.gl_values.specs.Totals.{count_of};
 ghost use Rattle.gl_net.specs.Net.{IsBus};
 ghost use Rattle.gl_frames.specs.Frames.{frame_of};
 ghost use Rattle.gl_frames_stages.specs.Framing.{every};
-ghost use Rattle.gl_frames_stages.specs.NumberNets.{IsAtMostIn, IsOneMoreIn};
 ghost use Rattle.gl_frames_wire.specs.Reaches.{place_bits};
 ghost use Rattle.gl_frames_slots.specs.ItemCosts.{cost_of_slot_count, cost_of_slot_number, cost_of_slot_passing};
 ghost use Rattle.gl_frames_slots.specs.Items.{HasSlotInput, IsSlotItemIn};
@@ -17,41 +16,12 @@ use crate::items::SlotInput;
 use crate::sum::{Wide, put_slot_wide_sum};
 use gl_algebra::Operand;
 use gl_bits::Memory;
+use gl_frames_stages::number::put_at_most;
 use gl_frames_wire::Reach;
-use gl_net::{BinaryOp, Bus, NetBuilder};
+use gl_net::{Bus, NetBuilder};
 use gl_rows::operand::put_operand;
 use gl_values::Kind;
 use gl_wire::later;
-use gl_wire_registers::word;
-
-// One more than a count, in 32 bits.
-fn put_one_more(net: &mut NetBuilder, count: Bus) -> Result<Bus, Memory>
-    requires count { IsBus net.old count }
-    requires width { count.width ≤ 18 }
-    ensures { IfOk result (IsOneMoreIn net.old net.new count) }
-{
-    let high = net.constant(word(0, 32 - count.width))?;
-    let wide = net.join(high, count)?;
-    let one = net.constant(word(1, 32))?;
-    let more = net.binary(BinaryOp::Add, wide, one)?;
-    Ok(more)
-}
-
-// One more than a count, or one more than so many where the count is at least so many.
-fn put_at_most(net: &mut NetBuilder, count: Bus, back: u32) -> Result<Bus, Memory>
-    requires count { IsBus net.old count }
-    requires width { count.width ≤ 18 }
-    requires fits { back < 2 ^ count.width }
-    requires back { back < 2 ^ 16 }
-    ensures { IfOk result (IsAtMostIn net.old net.new count back) }
-{
-    let more = put_one_more(net, count)?;
-    let least = net.constant(word(u128::from(back), count.width))?;
-    let full = net.binary(BinaryOp::Le, least, count)?;
-    let most = net.constant(word(u128::from(back) + 1, 32))?;
-    let rows = net.choose(full.bit(), most, more)?;
-    Ok(rows)
-}
 
 /// The number of rows of a frame without a FILTER, one cycle behind each row.
 pub(crate) fn put_slot_number(

@@ -1,11 +1,11 @@
-//! Items over the rows of each slot: the row's own value, lags, sums, counts, averages,
+//! Items over the rows of each slot: the row's own value, lags, sums, counts, averages, extremes
 //! and last values.
 
 ghost use Rattle.std.specs.Prelude.{◌+◌, ◌-◌, ◌≤◌, ◌^◌, All, IfOk, Some};
 ghost use Rattle.gl_algebra.specs.Columns.{BackFits, ConditionFits, FrameAggFits, FrameFits, OperandFits, kind_of_frame, kind_of_frame_agg, kind_of_operand};
 ghost use Rattle.gl_algebra.specs.Frames.{delay_of_frame, delay_of_frames, delay_over};
 ghost use Rattle.gl_algebra.specs.Results.{value_of_frame, value_over};
-ghost use Rattle.gl_algebra.specs.declared.node.PlanFrameAgg.TheVariants.{Avg, Count, LastValue, Sum};
+ghost use Rattle.gl_algebra.specs.declared.node.PlanFrameAgg.TheVariants.{Count, Sum};
 ghost use Rattle.gl_algebra.specs.declared.node.PlanFrame.TheVariants.{Own};
 ghost use Rattle.gl_values.specs.Kinds.{IsKind, width_of};
 ghost use Rattle.gl_net.specs.Net.{IsBus};
@@ -15,10 +15,11 @@ ghost use Rattle.gl_frames_wire.specs.Reaches.{place_bits};
 ghost use Rattle.gl_frames_slots.specs.ItemCosts.{cost_of_slot_item, cost_of_slot_item_late, cost_of_slot_lag, cost_of_slot_over};
 ghost use Rattle.gl_frames_slots.specs.Items.{AreSlotItemsIn, HasSlotInput, IsSlotItem, IsSlotItemIn, IsSlotOver};
 
-use crate::average::put_slot_average_item;
+use crate::average::put_slot_average_of;
 use crate::counts::put_slot_count_last;
+use crate::extreme::{put_slot_greatest, put_slot_least};
 use crate::lag::put_slot_lagged;
-use crate::last::{put_slot_last_item, put_slot_own_last};
+use crate::last::put_slot_last_of;
 use crate::rows::SlotRows;
 use crate::sums::{put_slot_count_all, put_slot_sum_all, put_slot_sum_item};
 use gl_algebra::frames::delay_of_frame;
@@ -149,91 +150,6 @@ fn put_slot_count_of(
     }
 }
 
-// An average of the last rows.
-fn put_slot_average_of(
-    net: &mut NetBuilder,
-    input: SlotInput,
-    count: Bus,
-    filter: Option<u16>,
-    operand: Operand,
-    back: Option<u32>,
-) -> Result<Bus, Memory>
-    requires input { HasSlotInput net.old input }
-    requires count { IsBus net.old count }
-    requires kinds { All IsKind input.source.kinds.now }
-    requires filter { ConditionFits input.source.kinds.now filter }
-    requires fits { OperandFits input.source.kinds.now operand }
-    requires back { BackFits back }
-    requires slot_item { IsSlotOver (count.width - 1) (Avg operand) filter back }
-    requires some { 1 ≤ count.width }
-    requires few { count.width ≤ 18 }
-    requires address { input.rows.slot.width + count.width ≤ 33 }
-    ensures { IfOk result (
-        let kinds = input.entry.source.kinds.now in
-        IsSlotItemIn net.old net.new (cost_of_slot_over input.entry.rows.slot.width kinds (Avg operand) filter back)
-        (delay_over kinds (Avg operand) filter back) (width_of (kind_of_frame_agg kinds (Avg operand)))
-        (λ rows. value_over kinds filter back rows (Avg operand)) input.entry count) }
-{
-    match back {
-        Some(back) => put_slot_average_item(net, input, count, filter, operand, back),
-        None => unreachable!(),
-    }
-}
-
-// The last value of the rows that pass, of all up to each.
-fn put_slot_last_by(
-    net: &mut NetBuilder,
-    input: SlotInput,
-    count: Bus,
-    column: u16,
-    operand: Operand,
-    back: Option<u32>,
-) -> Result<Bus, Memory>
-    requires input { HasSlotInput net.old input }
-    requires filter { ConditionFits input.source.kinds.now (Some column) }
-    requires fits { OperandFits input.source.kinds.now operand }
-    requires slot_item { IsSlotOver (count.width - 1) (LastValue operand) (Some column) back }
-    ensures { IfOk result (
-        let kinds = input.entry.source.kinds.now in
-        let slot = input.entry.rows.slot.width in
-        IsSlotItemIn net.old net.new (cost_of_slot_over slot kinds (LastValue operand) (Some column) back)
-        (delay_over kinds (LastValue operand) (Some column) back)
-        (width_of (kind_of_frame_agg kinds (LastValue operand)))
-        (λ rows. value_over kinds (Some column) back rows (LastValue operand)) input.entry count) }
-{
-    match back {
-        Some(_) => unreachable!(),
-        None => put_slot_last_item(net, input, count, column, operand),
-    }
-}
-
-// The last value of a frame.
-fn put_slot_last_of(
-    net: &mut NetBuilder,
-    input: SlotInput,
-    count: Bus,
-    filter: Option<u16>,
-    operand: Operand,
-    back: Option<u32>,
-) -> Result<Bus, Memory>
-    requires input { HasSlotInput net.old input }
-    requires filter { ConditionFits input.source.kinds.now filter }
-    requires fits { OperandFits input.source.kinds.now operand }
-    requires slot_item { IsSlotOver (count.width - 1) (LastValue operand) filter back }
-    ensures { IfOk result (
-        let kinds = input.entry.source.kinds.now in
-        let slot = input.entry.rows.slot.width in
-        IsSlotItemIn net.old net.new (cost_of_slot_over slot kinds (LastValue operand) filter back)
-        (delay_over kinds (LastValue operand) filter back)
-        (width_of (kind_of_frame_agg kinds (LastValue operand)))
-        (λ rows. value_over kinds filter back rows (LastValue operand)) input.entry count) }
-{
-    match filter {
-        Some(column) => put_slot_last_by(net, input, count, column, operand, back),
-        None => put_slot_own_last(net, input, count, operand),
-    }
-}
-
 // A function over a frame.
 fn put_slot_over(
     net: &mut NetBuilder,
@@ -262,8 +178,8 @@ fn put_slot_over(
     match agg {
         PlanFrameAgg::Count => put_slot_count_of(net, input, count, filter, back),
         PlanFrameAgg::Sum(operand) => put_slot_sum_of(net, input, count, filter, operand, back),
-        PlanFrameAgg::Min(_) => unreachable!(),
-        PlanFrameAgg::Max(_) => unreachable!(),
+        PlanFrameAgg::Min(operand) => put_slot_least(net, input, count, filter, operand, back),
+        PlanFrameAgg::Max(operand) => put_slot_greatest(net, input, count, filter, operand, back),
         PlanFrameAgg::Avg(operand) => put_slot_average_of(net, input, count, filter, operand, back),
         PlanFrameAgg::LastValue(operand) => put_slot_last_of(
             net, input, count, filter, operand, back,

@@ -19,20 +19,22 @@ use gl_algebra::frames::delay_of_frames;
 use gl_bits::Memory;
 use gl_frames_lanes::{KeyLane, Keys, put_key_lane};
 use gl_frames_stages::Lines;
-use gl_frames_stages::delay::put_late_lines;
+use gl_frames_stages::delay::{put_late_line, put_late_lines};
 use gl_net::{Bit, NetBuilder};
 use gl_rows::Source;
 use gl_values::Kind;
 use gl_wire::{Wire, later, later_bit, later_wire};
 use std::alloc::Global;
 
-/// How rows are parted by a key, and how far back lags of a key reach.
+/// How rows are parted by a key, how far back lags of a key reach, and how long rows wait.
 #[derive(Clone, Copy)]
 pub struct Partition {
     /// Which keys of a stream have a slot.
     pub keys: Keys,
     /// The bits of a place of the greatest ring.
     pub bits: u8,
+    /// The cycles that rows wait beside those of the look-up.
+    pub wait: u32,
 }
 
 /// The rows of the first keys beside their slots.
@@ -49,7 +51,7 @@ pub struct KeyRows {
 pub struct KeyFrames {
     /// The row of all items for each row of the first keys, and the ends.
     pub wire: Wire,
-    /// 1 where a row of a further key would stand, two cycles behind it.
+    /// 1 for each row of a further key, as many cycles behind it as rows wait, and two.
     pub further: Bit,
 }
 
@@ -74,12 +76,12 @@ fn put_key_rows(alloc: Global, net: &mut NetBuilder, lane: &KeyLane) -> Result<K
     Ok(KeyRows { wire, rows })
 }
 
-// The items of such rows, as many cycles later as the slowest takes.
+// The items of such rows, as many cycles later as rows wait, and the slowest takes.
 fn put_key_items(
     alloc: Global,
     net: &mut NetBuilder,
     late: &KeyRows,
-    bits: u8,
+    partition: Partition,
     kinds: &[Kind],
     items: &[PlanFrame],
 ) -> Result<Wire, Memory>
@@ -87,15 +89,15 @@ fn put_key_items(
     requires kinds { widths late.now.wire.columns ≡ map width_of kinds.now }
     requires are_kinds { All IsKind kinds.now }
     requires rows { HasSlotRows net.old late.now.rows }
-    requires bits { IsPlaceWidth bits }
-    requires address { late.now.rows.slot.width + bits ≤ 32 }
+    requires bits { IsPlaceWidth partition.bits }
+    requires address { late.now.rows.slot.width + partition.bits ≤ 32 }
+    requires wait { partition.wait ≤ 100 }
     requires fit { All (FrameFits kinds.now) items.now }
-    requires slot_items { All (IsSlotItem bits) items.now }
-    ensures { IfOk result
-        (AreKeyItemsIn net.old net.new late.now bits kinds.now items.now) }
+    requires slot_items { All (IsSlotItem partition.bits) items.now }
+    ensures { IfOk result (AreKeyItemsIn net.old net.new late.now partition kinds.now items.now) }
 {
-    let cycles = delay_of_frames(kinds, items);
-    let count = put_slot_count(net, late.rows, bits)?;
+    let cycles = partition.wait + delay_of_frames(kinds, items);
+    let count = put_slot_count(net, late.rows, partition.bits)?;
     let lines = Lines {
         valid: late.wire.valid,
         eos: late.wire.eos,
@@ -117,7 +119,8 @@ fn put_key_items(
 }
 
 /// Behind each row of the first keys of its stream, what these items make of the rows of its key up
-/// to it: three cycles more than the slowest item takes. Which items are made is `IsSlotItem`.
+/// to it: three cycles more than they wait and the slowest item takes. All items are made whose rings
+/// fit the partition's bits (`IsSlotItem`).
 pub fn put_key_frames(
     alloc: Global,
     net: &mut NetBuilder,
@@ -135,6 +138,7 @@ pub fn put_key_frames(
     requires fits { partition.keys.groups ≤ 2 ^ partition.keys.width }
     requires bits { IsPlaceWidth partition.bits }
     requires address { partition.keys.width + partition.bits ≤ 32 }
+    requires wait { partition.wait ≤ 100 }
     requires fit { All (FrameFits kinds.now) items.now }
     requires slot_items { All (IsSlotItem partition.bits) items.now }
     ensures { IfOk result
@@ -142,9 +146,7 @@ pub fn put_key_frames(
 {
     let lane = put_key_lane(alloc, net, wire, partition.keys)?;
     let late = put_key_rows(alloc, net, &lane)?;
-    let out = put_key_items(alloc, net, &late, partition.bits, kinds, items)?;
-    Ok(KeyFrames {
-        wire: out,
-        further: lane.further,
-    })
+    let out = put_key_items(alloc, net, &late, partition, kinds, items)?;
+    let further = put_late_line(net, lane.further, partition.wait)?;
+    Ok(KeyFrames { wire: out, further })
 }

@@ -26,8 +26,8 @@ fn back_word(reach: Reach, width: u8) -> Word
     word(u128::from(reach.back), width)
 }
 
-// Whether a count is at least so many.
-fn put_many(net: &mut NetBuilder, count: Bus, reach: Reach) -> Result<Bit, Memory>
+/// Whether a count is at least so many.
+pub(crate) fn put_many(net: &mut NetBuilder, count: Bus, reach: Reach) -> Result<Bit, Memory>
     requires count { IsBus net.old count }
     requires fits { reach.back < 2 ^ count.width }
     ensures { IfOk result (IsManyIn net.old net.new count reach) }

@@ -1,19 +1,22 @@
 //! Last values as items: of all rows of each slot that pass, and of the row itself.
 
 ghost use Rattle.std.specs.Prelude.{IfOk, None, Option, Some, ℕ};
-ghost use Rattle.gl_algebra.specs.Columns.{ConditionFits, OperandFits, kind_of_operand};
-ghost use Rattle.gl_algebra.specs.Results.{counts_in};
+ghost use Rattle.gl_algebra.specs.Columns.{BackFits, ConditionFits, OperandFits, kind_of_frame_agg, kind_of_operand};
+ghost use Rattle.gl_algebra.specs.Frames.{delay_over};
+ghost use Rattle.gl_algebra.specs.Results.{counts_in, value_over};
+ghost use Rattle.gl_algebra.specs.declared.node.PlanFrameAgg.TheVariants.{LastValue};
 ghost use Rattle.gl_net.specs.Net.{IsBit, IsBus};
 ghost use Rattle.gl_values.specs.Kinds.{width_of};
 ghost use Rattle.gl_frames.specs.Frames.{last_value_of};
 ghost use Rattle.gl_frames_stages.specs.Framing.{cost_of_own, every, value_in};
-ghost use Rattle.gl_frames_slots.specs.ItemCosts.{cost_of_slot_last};
+ghost use Rattle.gl_frames_slots.specs.ItemCosts.{cost_of_slot_last, cost_of_slot_over};
 ghost use Rattle.gl_frames_slots.specs.Items.{HasSlotInput, IsSlotItemIn};
 ghost use Rattle.gl_frames_slots.specs.LastNets.{IsSlotLastIn};
 ghost use Rattle.gl_frames_slots.specs.Rows.{HasSlotRows};
 
 use crate::count::put_passing;
 use crate::items::SlotInput;
+use crate::recent::put_slot_recent_item;
 use crate::rows::SlotRows;
 use gl_algebra::Operand;
 use gl_bits::Memory;
@@ -22,9 +25,9 @@ use gl_rows::operand::put_operand;
 use gl_totals::fold::small_word;
 use gl_wire::{both, later, note_bus};
 
-// The value of the last row so far of its slot whose line is 1, and 0 where there is none: a word
-// for each slot.
-fn put_slot_last(
+/// The value of the last row so far of its slot whose line is 1, and 0 where there is none: a word
+/// for each slot.
+pub(crate) fn put_slot_last(
     net: &mut NetBuilder,
     rows: SlotRows,
     takes: Bit,
@@ -93,4 +96,58 @@ pub fn put_slot_own_last(
     // Named, since a goal speaks of the value.
     let out = later(net, value)?;
     Ok(out)
+}
+
+// The last value of the rows that pass.
+fn put_slot_last_by(
+    net: &mut NetBuilder,
+    input: SlotInput,
+    count: Bus,
+    column: u16,
+    operand: Operand,
+    back: Option<u32>,
+) -> Result<Bus, Memory>
+    requires input { HasSlotInput net.old input }
+    requires filter { ConditionFits input.source.kinds.now (Some column) }
+    requires fits { OperandFits input.source.kinds.now operand }
+    requires back { BackFits back }
+    ensures { IfOk result (
+        let kinds = input.entry.source.kinds.now in
+        let slot = input.entry.rows.slot.width in
+        IsSlotItemIn net.old net.new (cost_of_slot_over slot kinds (LastValue operand) (Some column) back)
+        (delay_over kinds (LastValue operand) (Some column) back)
+        (width_of (kind_of_frame_agg kinds (LastValue operand)))
+        (λ rows. value_over kinds (Some column) back rows (LastValue operand)) input.entry count) }
+{
+    match back {
+        Some(back) => put_slot_recent_item(net, input, count, column, operand, back),
+        None => put_slot_last_item(net, input, count, column, operand),
+    }
+}
+
+/// The last value of a frame.
+pub fn put_slot_last_of(
+    net: &mut NetBuilder,
+    input: SlotInput,
+    count: Bus,
+    filter: Option<u16>,
+    operand: Operand,
+    back: Option<u32>,
+) -> Result<Bus, Memory>
+    requires input { HasSlotInput net.old input }
+    requires filter { ConditionFits input.source.kinds.now filter }
+    requires fits { OperandFits input.source.kinds.now operand }
+    requires back { BackFits back }
+    ensures { IfOk result (
+        let kinds = input.entry.source.kinds.now in
+        let slot = input.entry.rows.slot.width in
+        IsSlotItemIn net.old net.new (cost_of_slot_over slot kinds (LastValue operand) filter back)
+        (delay_over kinds (LastValue operand) filter back)
+        (width_of (kind_of_frame_agg kinds (LastValue operand)))
+        (λ rows. value_over kinds filter back rows (LastValue operand)) input.entry count) }
+{
+    match filter {
+        Some(column) => put_slot_last_by(net, input, count, column, operand, back),
+        None => put_slot_own_last(net, input, count, operand),
+    }
 }

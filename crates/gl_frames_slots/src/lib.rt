@@ -1,5 +1,5 @@
-//! What is kept for each slot of a lane whose streams end together: how many rows came, and rings of
-//! earlier rows. Lags of each key stand on them.
+//! What is kept for each slot of a lane whose streams end together: how many rows came, rings of
+//! earlier rows, and states. All frames of each key stand on them.
 //!
 //! Here belongs what frames with PARTITION keep for a slot. What finds the slot of a key does not.
 #![tactic(auto)]
@@ -7,11 +7,14 @@
 pub mod average;
 pub mod count;
 pub mod counts;
+pub mod doubling;
+pub mod extreme;
 pub mod items;
 pub mod keyed;
 pub mod lag;
 pub mod last;
 pub mod laws;
+pub mod recent;
 pub mod rows;
 pub mod stages;
 pub mod sum;

@@ -82,7 +82,7 @@ module _ (kinds : List Kind) (all : All IsKind kinds) where
       record { nodes = most.nodes; registers = (let m = most.registers in omega (arith, m)); memories = most.memories }
 
   -- a divider of so many digits by a number of so many bits
-  divider_within : (n b : ℕ) → n ≤ 96 → b ≤ 32 → n * (n + 2 * b + 1) ≤ 161 * n
+  pub divider_within : (n b : ℕ) → n ≤ 96 → b ≤ 32 → n * (n + 2 * b + 1) ≤ 161 * n
   divider_within n b few narrow = let m = mul-le-mul_left n (let z : n + 2 * b + 1 ≤ 161 = omega (arith, few, narrow) in z) in omega (arith, m)
 
   over_within : (agg : PlanFrameAgg) (by back : Option ℕ) → FrameAggFits kinds agg → BackFits back
@@ -145,7 +145,7 @@ module _ (kinds : List Kind) (all : All IsKind kinds) where
   over_narrow (Avg x) by back fits = operand_width kinds x all fits.0
   over_narrow (LastValue x) by back fits = operand_width kinds x all fits
 
-  narrow_of : (item : PlanFrame) → FrameFits kinds item → width_of (kind_of_frame kinds item) ≤ 64
+  pub narrow_of : (item : PlanFrame) → FrameFits kinds item → width_of (kind_of_frame kinds item) ≤ 64
   narrow_of (Own x) fits = operand_width kinds x all fits
   narrow_of (Lag x back) fits = operand_width kinds x all fits.0
   narrow_of (Over agg by back) fits = over_narrow agg by back fits.0
@@ -165,7 +165,7 @@ module _ (kinds : List Kind) (all : All IsKind kinds) where
   over_some (Avg x) by back = omega arith
   over_some (LastValue x) by back = omega arith
 
-  some_of : (item : PlanFrame) → 1 ≤ delay_of_frame kinds item
+  pub some_of : (item : PlanFrame) → 1 ≤ delay_of_frame kinds item
   some_of (Own x) = omega arith
   some_of (Lag x back) = omega arith
   some_of (Over agg by back) = over_some agg by back
@@ -240,7 +240,7 @@ module _ (kinds : List Kind) (all : All IsKind kinds) where
       → cost + 2 * lines ≤ 64 * (n + 2 + 2 * frames) * r + 32 + stored
   memories_in_all r n frames cost lines stored h l = omega (arith, h, l)
 
-  slowest : (items : List PlanFrame) → 1 ≤ delay_of_frames kinds items
+  pub slowest : (items : List PlanFrame) → 1 ≤ delay_of_frames kinds items
   slowest [] = omega arith
   slowest (item ∷ items) = let rest = slowest items in omega (arith, rest)
 

@@ -26,8 +26,8 @@ use gl_rows::operand::put_operand;
 use gl_totals::average::{Fraction, put_quotient};
 use gl_totals::delay::delay_bus;
 
-// The bits of the number of rows of a frame, this row and so many before it.
-fn digits_of_rows(back: u32) -> u8
+/// The bits of the number of rows of a frame, this row and so many before it.
+pub fn digits_of_rows(back: u32) -> u8
     requires { back < 2 ^ 16 }
     ensures value { result ≡ digits (back + 1) }
     ensures most { result ≤ 40 }

@@ -49,8 +49,9 @@ fn put_far_line(net: &mut NetBuilder, line: Bit, cycles: u32) -> Result<Bit, Mem
     Ok(out.bit())
 }
 
-// The same in registers where the cycles are few.
-fn put_late_line(net: &mut NetBuilder, line: Bit, cycles: u32) -> Result<Bit, Memory>
+/// A line that shows what another does `cycles` cycles later, and 0 before: in registers where they
+/// are few, and else in a ring.
+pub fn put_late_line(net: &mut NetBuilder, line: Bit, cycles: u32) -> Result<Bit, Memory>
     requires line { IsBit net.old line }
     requires most { cycles ≤ 2 ^ 16 }
     ensures { IfOk result (IsLateLineIn net.old net.new cycles line) }

@@ -23,8 +23,8 @@ use gl_rows::cast::low_bits;
 use gl_rows::operand::put_operand;
 use gl_totals::fold::Extreme;
 
-// A value below a bit that is 1 where the row passes, and 0 in all bits where it does not.
-fn put_packed(
+/// A value below a bit that is 1 where the row passes, and 0 in all bits where it does not.
+pub fn put_packed(
     net: &mut NetBuilder,
     input: Input,
     column: u16,

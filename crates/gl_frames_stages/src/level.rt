@@ -102,8 +102,8 @@ fn put_packed_stays(
     Ok(stays)
 }
 
-// Whether an earlier word is there and is kept.
-fn put_stays(net: &mut NetBuilder, found: Maybe, own: Bus, order: Order) -> Result<Bit, Memory>
+/// Whether an earlier word is there and is kept.
+pub fn put_stays(net: &mut NetBuilder, found: Maybe, own: Bus, order: Order) -> Result<Bit, Memory>
     requires some { IsBit net.old found.some }
     requires word { IsBus net.old found.word }
     requires own { IsBus net.old own }
@@ -121,8 +121,8 @@ fn put_stays(net: &mut NetBuilder, found: Maybe, own: Bus, order: Order) -> Resu
     Ok(stays)
 }
 
-// One cycle later one bus where a line is 1, and else another.
-fn put_kept(net: &mut NetBuilder, line: Bit, word: Bus, own: Bus) -> Result<Bus, Memory>
+/// One cycle later one bus where a line is 1, and else another.
+pub fn put_kept(net: &mut NetBuilder, line: Bit, word: Bus, own: Bus) -> Result<Bus, Memory>
     requires line { IsBit net.old line }
     requires word { IsBus net.old word }
     requires own { IsBus net.old own }

@@ -29,8 +29,8 @@ fn put_one_more(net: &mut NetBuilder, count: Bus) -> Result<Bus, Memory>
     Ok(more)
 }
 
-// One more than a count, or one more than so many where the count is at least so many.
-fn put_at_most(net: &mut NetBuilder, count: Bus, back: u32) -> Result<Bus, Memory>
+/// One more than a count, or one more than so many where the count is at least so many.
+pub fn put_at_most(net: &mut NetBuilder, count: Bus, back: u32) -> Result<Bus, Memory>
     requires count { IsBus net.old count }
     requires width { count.width ≤ 18 }
     requires fits { back < 2 ^ count.width }

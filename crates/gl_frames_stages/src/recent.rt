@@ -38,8 +38,8 @@ fn put_age(net: &mut NetBuilder, lines: Lines, takes: Bit, back: u32) -> Result<
     Ok(old.bit())
 }
 
-// The value where the row passes, and else what was there, or 0 where that is too old.
-fn put_young(
+/// The value where the row passes, and else what was there, or 0 where that is too old.
+pub fn put_young(
     net: &mut NetBuilder,
     passes: Bit,
     old: Bit,

@@ -1,8 +1,7 @@
-use Rattle.std.proofs.Common.{◌≡◌, ℕ, ◌-◌, List, arith, sym, subst}
+use Rattle.std.proofs.Common.{◌≡◌, ℕ, ◌+◌, ◌-◌, List, ap, arith, sym, subst}
 use Rattle.std.specs.Prelude.{All}
 use Rattle.gl_net.specs.declared.node.Bus.{Bus}
 use Rattle.gl_net.proofs.Determined.{keeps_then}
-use Rattle.gl_algebra.specs.Frames.{delay_of_frames}
 use Rattle.gl_algebra.specs.Results.{row_of_frames}
 use Rattle.gl_wire.specs.Wire.{row_at}
 use Rattle.gl_wire.proofs.ColumnLemmas.{bit_kept, bus_kept, wire_kept}
@@ -13,6 +12,7 @@ use Rattle.gl_frames_stages.specs.declared.lines.Lines.{Lines}
 use Rattle.gl_frames_stages.proofs.CycleLemmas.{items_few}
 use Rattle.gl_frames_stages.proofs.FramesNet.{frames_delayed}
 use Rattle.gl_frames_slots.specs.Items.{AreSlotItemsIn, IsSlotItem}
+use Rattle.gl_frames_slots.specs.KeyNets.{items_delay}
 use Rattle.gl_frames_slots.specs.declared.items.SlotInput.{SlotInput}
 use Rattle.gl_frames_slots.specs.Rows.{TellsBySlot}
 use Rattle.gl_frames_slots.proofs.ItemsNet.{rows_kept}
@@ -24,20 +24,26 @@ put_late_lines-requires-clause-valid c = bit_kept c.args.net.now c.put_slot_coun
 pub put_late_lines-requires-clause-eos : goal.put_late_lines-requires-clause-eos
 put_late_lines-requires-clause-eos c = bit_kept c.args.net.now c.put_slot_count.new.net c.args.late.now.wire.eos c.in_ok-count.ensures.keeps c.requires.wire.eos
 
+pub overflow_add-cycles : goal.overflow_add-cycles
+overflow_add-cycles c =
+    let few = items_few c.args.kinds.now c.args.items.now c.requires.are_kinds c.requires.fit in
+    let is = c.delay_of_frames.ensures in
+    omega (arith, few, is, c.requires.wait)
+
 pub put_late_lines-requires-clause-most : goal.put_late_lines-requires-clause-most
 put_late_lines-requires-clause-most c =
     let few = items_few c.args.kinds.now c.args.items.now c.requires.are_kinds c.requires.fit in
-    let is = c.delay_of_frames-cycles.ensures in
-    omega (arith, few, is)
+    let is = c.delay_of_frames.ensures in
+    omega (arith, few, is, c.requires.wait)
 
 pub put_slot_items-requires-clause-most : goal.put_slot_items-requires-clause-most
 put_slot_items-requires-clause-most c =
     let few = items_few c.args.kinds.now c.args.items.now c.requires.are_kinds c.requires.fit in
-    let is = c.delay_of_frames-cycles.ensures in
-    omega (arith, few, is)
+    let is = c.delay_of_frames.ensures in
+    omega (arith, few, is, c.requires.wait)
 
 pub put_slot_items-requires-clause-late : goal.put_slot_items-requires-clause-late
-put_slot_items-requires-clause-late c = let is = c.delay_of_frames-cycles.ensures in omega (arith, is)
+put_slot_items-requires-clause-late c = let is = c.delay_of_frames.ensures in omega (arith, is)
 
 pub put_slot_items-requires-clause-input : goal.put_slot_items-requires-clause-input
 put_slot_items-requires-clause-input c =
@@ -55,7 +61,7 @@ put_slot_items-requires-clause-count c = bus_kept c.put_slot_count.new.net c.put
 pub put_slot_items-requires-clause-slot_items : goal.put_slot_items-requires-clause-slot_items
 put_slot_items-requires-clause-slot_items c =
     let w = c.in_ok-count.ensures.width in
-    let low : c.args.bits ≡ c.in_ok-count.count.width - 1 = omega (arith, w) in
+    let low : c.args.partition.bits ≡ c.in_ok-count.count.width - 1 = omega (arith, w) in
     subst (λ (n : ℕ). All (IsSlotItem n) c.args.items.now) low c.requires.slot_items
 
 pub put_slot_items-requires-clause-some : goal.put_slot_items-requires-clause-some
@@ -78,7 +84,7 @@ returns c =
     let source : Source = record { columns = c.as_slice.result; kinds = c.args.kinds } in
     let input : SlotInput = record { rows = late.rows; source = source } in
     let count = c.in_ok-count.ensures in
-    let is = c.delay_of_frames-cycles.ensures in
+    let is = ap (λ n. c.args.partition.wait + n) c.delay_of_frames.ensures in
     let out = subst (λ (m : ℕ). AreLinesLate c.put_slot_count.new.net mid m lines c.in_ok-out.out) is c.in_ok-out.ensures in
     let all = subst (λ (m : ℕ). AreSlotItemsIn mid new input c.in_ok-count.count m items c.in_ok-columns.columns) is c.in_ok-columns.ensures in
     record {
@@ -97,7 +103,7 @@ returns c =
       law = λ run r ends told.
           let in_out = all.keeps.runs run r in
           let in_count = out.keeps.runs run in_out in
-          let m : ℕ = delay_of_frames kinds items in
+          let m : ℕ = items_delay c.args.partition.wait kinds items in
           record {
             delayed = frames_delayed run late.wire c.in_ok-out.out c.in_ok-columns.columns m (out.behind run in_out);
             tells = subst (λ (bs : List Bus). TellsBySlot run late.rows ends m (row_of_frames kinds items) (λ t. row_at run t bs) (λ t. row_at run t c.in_ok-columns.columns)) c.as_slice.ensures

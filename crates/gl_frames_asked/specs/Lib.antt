@@ -1,0 +1,4 @@
+pub mod Asked
+pub mod Among
+pub mod Laws
+pub mod Worked

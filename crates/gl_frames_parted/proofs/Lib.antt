@@ -1,0 +1,9 @@
+pub mod PartedLemmas
+pub mod MadeItems
+pub mod FitLemmas
+pub mod LevelCosts
+pub mod KeyCosts
+pub mod CountedLemmas
+pub mod PickedLemmas
+pub mod CarriedLemmas
+pub mod ServedLemmas

@@ -1,0 +1,84 @@
+-- The slots of a key, the places of rings and the cycles that rows wait are what frames of each key ask for.
+use Rattle.std.proofs.Common.{◌≡◌, ℕ, suc, ◌+◌, ◌-◌, ◌*◌, ◌^◌, ◌<◌, ◌≤◌, List, [], ◌∷◌, Option, Some, None, Bool, true, false, All, refl, arith}
+use Rattle.std.specs.Prelude.{if◌then◌else◌, nat_le}
+use Rattle.std.proofs.lemmas.Bool.{leb-false}
+use Rattle.gl_algebra.proofs.ExponentLemmas.{exponent_covers, few_exponents}
+use Rattle.gl_algebra.specs.Columns.{BackFits, FrameFits}
+use Rattle.gl_algebra.specs.Keys.{by_look_up, cycles_of_look_up, levels_of, weight_of_look_up}
+use Rattle.gl_algebra.specs.Rings.{least_exponent}
+use Rattle.gl_algebra.specs.declared.node.PlanFrame.{PlanFrame}
+use Rattle.gl_algebra.specs.declared.node.PlanFrame.TheVariants.{Lag, Over, Own}
+use Rattle.gl_bits.specs.Words.{IsWidth}
+use Rattle.gl_values.specs.declared.kind.Kind.{Kind}
+use Rattle.gl_frames_stages.proofs.LevelCosts.{few_places}
+use Rattle.gl_frames_wire.proofs.ReachLemmas.{from_exponent}
+use Rattle.gl_frames_wire.specs.Reaches.{IsPlaceWidth, place_bits}
+use Rattle.gl_frames_parted.specs.Parted.{place_of_frame, place_over, places_of_frames}
+
+-- ---- the look-up
+
+-- it is one of three
+of_three : (P : ℕ → Type 0) (width groups of_map of_slots of_tree : ℕ) → P of_map → P of_slots → (10 < width → P of_tree) → P (by_look_up width groups of_map of_slots of_tree)
+of_three P width groups of_map of_slots of_tree map slots tree = by (nat_le width 10) (nat_le groups 64) refl
+  where
+    by : (few small : Bool) → nat_le width 10 ≡ few → P (if few then of_map else (if small then of_slots else of_tree))
+    by true small p = map
+    by false true p = slots
+    by false false p = tree (leb-false width 10 p)
+
+-- that of all slots at once takes no longer than what the plan counts
+pub cycles_some : (width groups : ℕ) → 2 ≤ cycles_of_look_up width groups
+cycles_some width groups = of_three (λ n. 2 ≤ n) width groups 3 2 (levels_of width) (omega arith) (omega arith) (λ wide. omega (arith, wide))
+
+-- and rows do not wait long
+pub wait_few : (width groups : ℕ) → width ≤ 64 → cycles_of_look_up width groups - 2 ≤ 30
+wait_few width groups narrow = of_three (λ n. n - 2 ≤ 30) width groups 3 2 (levels_of width) (omega arith) (omega arith) (λ wide. omega (arith, narrow))
+
+-- nor weighs more
+pub look_up_weighs : (width groups : ℕ) → 16 * groups + 96 ≤ weight_of_look_up width groups
+look_up_weighs width groups =
+    let rest = of_three (λ n. 96 ≤ n) width groups 160 96 (80 * levels_of width) (omega arith) (omega arith) (λ wide. omega (arith, wide)) in
+    omega (arith, rest)
+
+-- ---- the slots
+
+pub slot_few : (groups : ℕ) → groups ≤ 4096 → least_exponent groups 1 groups ≤ 12
+slot_few groups few = few_exponents 12 groups 1 groups (omega arith) (omega (arith, few))
+
+pub slot_width : (groups : ℕ) → groups ≤ 4096 → IsWidth (least_exponent groups 1 groups)
+slot_width groups few = record { some' = from_exponent groups 1 groups; most = (let most = slot_few groups few in omega (arith, most)) }
+
+pub slots_fit : (groups : ℕ) → groups ≤ 2 ^ least_exponent groups 1 groups
+slots_fit groups = exponent_covers groups 1 groups (omega arith)
+
+-- ---- the places of rings
+
+place_some : (back : ℕ) → 1 ≤ place_bits back
+place_some back = from_exponent (back + 1) 1 (back + 1)
+
+over_some : (back : Option ℕ) → 1 ≤ place_over back
+over_some None = omega arith
+over_some (Some back) = place_some (back + 1)
+
+over_few : (back : Option ℕ) → BackFits back → place_over back ≤ 17
+over_few None fits = omega arith
+over_few (Some back) fits = few_places (back + 1) (omega (arith, fits))
+
+frame_few : (kinds : List Kind) (item : PlanFrame) → FrameFits kinds item → place_of_frame item ≤ 17
+frame_few kinds (Own operand) fits = omega arith
+frame_few kinds (Lag operand back) fits = let lt = fits.2 in few_places back (omega (arith, lt))
+frame_few kinds (Over agg filter back) fits = over_few back fits.2
+
+places_some : (items : List PlanFrame) → 1 ≤ places_of_frames items
+places_some [] = omega arith
+places_some (item ∷ items) = let rest = places_some items in omega (arith, rest)
+
+places_few : (kinds : List Kind) (items : List PlanFrame) → All (FrameFits kinds) items → places_of_frames items ≤ 17
+places_few kinds [] fit = omega arith
+places_few kinds (item ∷ items) fit =
+    let first = frame_few kinds item (fit 0 item (omega arith)) in
+    let rest = places_few kinds items (λ k d lt. fit (suc k) d (omega (arith, lt))) in
+    omega (arith, first, rest)
+
+pub places_fit : (kinds : List Kind) (items : List PlanFrame) → All (FrameFits kinds) items → IsPlaceWidth (places_of_frames items)
+places_fit kinds items fit = record { some' = places_some items; most = places_few kinds items fit }

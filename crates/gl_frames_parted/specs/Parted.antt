@@ -1,0 +1,103 @@
+-- Frames of each key over the columns that they ask for, and that their cost is within what a plan counts for them.
+use Rattle.std.specs.Prelude.{◌≡◌, ℕ, ◌+◌, ◌-◌, max, false, All, List, [], ◌∷◌, Option, Some, None, length, map}
+use Rattle.gl_algebra.specs.Columns.{FrameFits}
+use Rattle.gl_algebra.specs.Cost.{store_by_key}
+use Rattle.gl_algebra.specs.FigureTable.{IsSound, delayed}
+use Rattle.gl_algebra.specs.Fits.{KeyFits}
+use Rattle.gl_algebra.specs.Keys.{cycles_of_look_up, delay_by_key, width_of_key}
+use Rattle.gl_algebra.specs.Results.{row_of_frames}
+use Rattle.gl_algebra.specs.Rings.{least_exponent}
+use Rattle.gl_algebra.specs.Weights.{weight_by_key}
+use Rattle.gl_algebra.specs.declared.figures.Figures.{Figures}
+use Rattle.gl_algebra.specs.declared.node.PlanFrame.{PlanFrame}
+use Rattle.gl_algebra.specs.declared.node.PlanFrame.TheVariants.{Lag, Over, Own}
+use Rattle.gl_algebra.specs.declared.node.PlanKey.{PlanKey}
+use Rattle.gl_values.specs.Kinds.{IsKind, width_of}
+use Rattle.gl_values.specs.declared.kind.Kind.{Kind}
+use Rattle.gl_net.specs.Net.{Net, Run, IsRun, IsBit, Keeps}
+use Rattle.gl_frames_asked.specs.Among.{pick_kinds, renumber, renumber_key}
+use Rattle.gl_frames_asked.specs.Asked.{asked_columns}
+use Rattle.gl_frames_keys.specs.Laws.{OfKeys}
+use Rattle.gl_frames_lanes.specs.LaneNets.{key_in}
+use Rattle.gl_frames_slots.specs.KeyNets.{cost_of_key_frames}
+use Rattle.gl_frames_slots.specs.declared.keyed.KeyFrames.{KeyFrames}
+use Rattle.gl_frames_slots.specs.declared.keyed.Partition.{Partition}
+use Rattle.gl_frames_stages.specs.FramesNets.{frames_widths}
+use Rattle.gl_frames_wire.specs.Reaches.{place_bits}
+use Rattle.gl_wire.specs.declared.wire.Wire.{Wire}
+use Rattle.gl_wire.specs.Counted.{IsCounted}
+use Rattle.gl_wire.specs.Costs.{Cost, CostsAtMost}
+use Rattle.gl_wire.specs.Spills.{ServesWithLines}
+use Rattle.gl_wire.specs.Wire.{IsWire, carried, line_at, widths}
+
+-- ---- how rows are parted
+
+-- the bits of a place in a ring that reaches to what leaves a frame, 1 where all rows are in it
+abbrev pub place_over : Option ℕ → ℕ
+place_over None = 1
+place_over (Some back) = place_bits (back + 1)
+
+-- the bits of a place in the rings of an item, 1 where it has none
+abbrev pub place_of_frame : PlanFrame → ℕ
+place_of_frame (Own operand) = 1
+place_of_frame (Lag operand back) = place_bits back
+place_of_frame (Over agg filter back) = place_over back
+
+-- those of the greatest ring of some items
+abbrev pub places_of_frames : List PlanFrame → ℕ
+places_of_frames [] = 1
+places_of_frames (item ∷ items) = max (place_of_frame item) (places_of_frames items)
+
+-- the slots of the groups of a key, how far back the rings of items reach, and the cycles that rows wait: all slots are
+-- looked at in two cycles, whatever the look-up that the plan counts
+abbrev pub partition_by : List Kind → PlanKey → List PlanFrame → Partition
+partition_by kinds by items = record {
+  keys = record { column = by.key; groups = by.groups; width = least_exponent by.groups 1 by.groups };
+  bits = places_of_frames items;
+  wait = cycles_of_look_up (width_of_key kinds by) by.groups - 2;
+}
+
+-- ---- what they cost
+
+-- over all columns of a source
+abbrev pub cost_over_all : List Kind → PlanKey → List PlanFrame → Cost
+cost_over_all kinds by items =
+    let parted = partition_by kinds by items in
+    cost_of_key_frames parted.keys parted.wait parted.bits (map width_of kinds) kinds items
+
+-- over the columns that are asked for
+abbrev pub cost_of_parted : List Kind → PlanKey → List PlanFrame → Cost
+cost_of_parted kinds by items =
+    let asked = asked_columns (length kinds) by.key items in
+    cost_over_all (pick_kinds asked kinds) (renumber_key asked by) (map (renumber asked) items)
+
+-- what frames by a key cost at most, and a gate that joins their line to another
+abbrev pub cost_by_key : List Kind → PlanKey → List PlanFrame → Cost
+cost_by_key kinds by items =
+    let most = cost_of_parted kinds by items in
+    record { nodes = most.nodes + 1; registers = most.registers; memories = most.memories }
+
+-- that is within what a plan counts for their node, which has as many lines as items, and two
+abbrev pub KeyFramesAreCounted : Type 0
+KeyFramesAreCounted =
+    (kinds : List Kind) (by : PlanKey) (items : List PlanFrame) → All IsKind kinds → All (FrameFits kinds) items
+    → KeyFits kinds (Some by)
+    → IsCounted (cost_by_key kinds by items)
+    (weight_by_key kinds (length items + 2) (Some by) items) (weight_by_key kinds (length items + 2) (Some by) items)
+    (store_by_key kinds (length items + 2) (Some by) items)
+
+-- ---- what they do
+
+-- in every run, from any contents: for each row of the first keys of its stream what the items make of its key's rows up
+-- to it, in the cycles that the plan counts, and a line that tells of further keys
+pub record ArePartedIn (old new : Net) (kinds : List Kind) (by : PlanKey) (items : List PlanFrame) (source : Wire)
+    (r : KeyFrames) : Type 0 where
+  pub keeps : Keeps old new
+  pub cost : CostsAtMost old new (cost_of_parted kinds by items)
+  pub wire : IsWire new r.wire
+  pub same_widths : widths r.wire.columns ≡ frames_widths kinds items
+  pub further : IsBit new r.further
+  pub serves : (run : Run) → IsRun new run → (f : Figures) → IsSound f
+      → ServesWithLines f (delayed (delay_by_key kinds (Some by) items) f)
+      (OfKeys by.groups (key_in by.key) (row_of_frames kinds items))
+      (record { passed = λ c. false; further = line_at run r.further }) (carried run source) (carried run r.wire)

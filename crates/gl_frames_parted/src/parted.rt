@@ -1,0 +1,85 @@
+//! Frames of each key over the columns that they ask for.
+
+ghost use Rattle.std.specs.Prelude.{◌≡◌, All, IfOk, Some, map};
+ghost use Rattle.gl_algebra.specs.Columns.{FrameFits};
+ghost use Rattle.gl_algebra.specs.Fits.{KeyFits};
+ghost use Rattle.gl_values.specs.Kinds.{IsKind, width_of};
+ghost use Rattle.gl_frames_asked.specs.Among.{renumber_key};
+ghost use Rattle.gl_frames_slots.specs.KeyNets.{AreKeyFramesIn};
+ghost use Rattle.gl_frames_parted.specs.Parted.{ArePartedIn, partition_by};
+ghost use Rattle.gl_wire.specs.Wire.{IsWire, widths};
+
+use crate::picked::picked_wire;
+use crate::places::partition_by;
+use gl_algebra::{PlanFrame, PlanKey};
+use gl_bits::Memory;
+use gl_frames_asked::laws::{columns_are_asked, nodes_are_same, nodes_make_same};
+use gl_frames_asked::{asked_columns, asked_items, asked_kinds, place_among};
+use gl_frames_slots::{KeyFrames, put_key_frames};
+use gl_net::NetBuilder;
+use gl_values::Kind;
+use gl_wire::Wire;
+use std::alloc::Global;
+
+// A key over the columns that are asked for alone.
+fn renumber_key(asked: &[usize], by: PlanKey) -> PlanKey
+    ensures { result ≡ renumber_key asked.now by }
+{
+    PlanKey {
+        key: place_among(asked, u16::from(by.key)) as u8,
+        groups: by.groups,
+    }
+}
+
+// Frames of each key over all columns of a wire.
+fn put_over_all(
+    alloc: Global,
+    net: &mut NetBuilder,
+    wire: &Wire,
+    kinds: &[Kind],
+    by: PlanKey,
+    items: &[PlanFrame],
+) -> Result<KeyFrames, Memory>
+    requires wire { IsWire net.old wire.now }
+    requires kinds { widths wire.now.columns ≡ map width_of kinds.now }
+    requires are_kinds { All IsKind kinds.now }
+    requires key { KeyFits kinds.now (Some by) }
+    requires fit { All (FrameFits kinds.now) items.now }
+    ensures { IfOk result (AreKeyFramesIn net.old net.new
+        (partition_by kinds.now by items.now) kinds.now items.now wire.now) }
+{
+    let partition = partition_by(kinds, by, items);
+    // Named, since a goal speaks of the value.
+    let frames = put_key_frames(alloc, net, wire, partition, kinds, items)?;
+    Ok(frames)
+}
+
+/// Behind each row of the first keys of its stream, what the items make of its key's rows up to it.
+pub fn put_parted_frames(
+    alloc: Global,
+    net: &mut NetBuilder,
+    wire: &Wire,
+    kinds: &[Kind],
+    by: PlanKey,
+    items: &[PlanFrame],
+) -> Result<KeyFrames, Memory>
+    requires wire { IsWire net.old wire.now }
+    requires kinds { widths wire.now.columns ≡ map width_of kinds.now }
+    requires are_kinds { All IsKind kinds.now }
+    requires key { KeyFits kinds.now (Some by) }
+    requires fit { All (FrameFits kinds.now) items.now }
+    ensures { IfOk result
+        (ArePartedIn net.old net.new kinds.now by items.now wire.now) }
+{
+    columns_are_asked();
+    nodes_are_same();
+    nodes_make_same();
+    let asked = asked_columns(alloc, kinds.len(), usize::from(by.key), items)?;
+    let picked = picked_wire(alloc, &asked, wire)?;
+    let kinds = asked_kinds(alloc, &asked, kinds)?;
+    let items = asked_items(alloc, &asked, items)?;
+    let by = renumber_key(&asked, by);
+    // Named, since a goal speaks of the value.
+    let frames = put_over_all(alloc, net, &picked, &kinds, by, &items)?;
+    Ok(frames)
+}
