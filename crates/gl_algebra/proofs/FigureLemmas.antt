@@ -5,7 +5,7 @@ use Rattle.std.proofs.lemmas.Grind.{div_ceil_times}
 use Rattle.gl_algebra.specs.declared.figures.Figures.{Figures}
 use Rattle.gl_algebra.specs.declared.node.PlanNode.{PlanNode}
 use Rattle.gl_algebra.specs.declared.node.PlanNode.TheVariants.{Stream, Body, Compute, Select, Project, Frames, Aggregate, Union, Beside, Window, TimeWindow, Group, Partition}
-use Rattle.gl_algebra.specs.Frames.{delay_of_frames}
+use Rattle.gl_algebra.specs.Keys.{delay_by_key}
 use Rattle.gl_algebra.specs.Nodewise.{named_by}
 use Rattle.gl_algebra.specs.Shapes.{Shape, shape_from, shape_of, is_closing}
 use Rattle.gl_algebra.specs.Views.{copies_of_time, copies_of_window, copies_of_partition}
@@ -25,7 +25,7 @@ figures_local s t v w (Body kinds) g h = refl
 figures_local s t v w (Compute child ops) g h = ap (λ (x : Figures). settled (delayed 1 x)) h.0
 figures_local s t v w (Select child column) g h = ap (λ (x : Figures). settled (delayed 1 x)) h.0
 figures_local s t v w (Project child items) g h = ap (λ (x : Figures). settled x) h.0
-figures_local s t v w (Frames child items) g h = rw (g.0, h.0)
+figures_local s t v w (Frames child by items) g h = rw (g.0, h.0)
 figures_local s t v w (Aggregate child aggs) g h = rw (g.0, h.0)
 figures_local s t v w (Union left right) g h = rw (h.0, h.1.0)
 figures_local s t v w (Beside left right) g h = rw (h.0, h.1.0)
@@ -79,8 +79,8 @@ rows_keep_sound s f (Body kinds) suits sound = input_sound
 rows_keep_sound s f (Compute child ops) suits sound = settled_sound (delayed 1 (f child)) (delayed_sound 1 (f child) (sound 0 0 (lit< tt)))
 rows_keep_sound s f (Select child column) suits sound = settled_sound (delayed 1 (f child)) (delayed_sound 1 (f child) (sound 0 0 (lit< tt)))
 rows_keep_sound s f (Project child items) suits sound = settled_sound (f child) (sound 0 0 (lit< tt))
-rows_keep_sound s f (Frames child items) suits sound =
-    let delay = delay_of_frames (s child).kinds items in
+rows_keep_sound s f (Frames child by items) suits sound =
+    let delay = delay_by_key (s child).kinds by items in
     settled_sound (delayed delay (f child)) (delayed_sound delay (f child) (sound 0 0 (lit< tt)))
 rows_keep_sound s f (Aggregate child aggs) suits sound = aggregate_sound (delay_of_aggs (s child).kinds aggs) (f child) (sound 0 0 (lit< tt))
 rows_keep_sound s f (Union left right) suits sound =
@@ -159,7 +159,7 @@ rows_wait s f (Body kinds) wait closing = absurd (cc)
 rows_wait s f (Compute child ops) wait closing = wait 0 0 (lit< tt) closing
 rows_wait s f (Select child column) wait closing = wait 0 0 (lit< tt) closing
 rows_wait s f (Project child items) wait closing = wait 0 0 (lit< tt) closing
-rows_wait s f (Frames child items) wait closing = wait 0 0 (lit< tt) closing
+rows_wait s f (Frames child by items) wait closing = wait 0 0 (lit< tt) closing
 rows_wait s f (Aggregate child aggs) wait closing = refl
 rows_wait s f (Union left right) wait closing =
     let sides = and_parts (s left).closing (s right).closing closing in

@@ -72,9 +72,9 @@ row_is s (Select child column) suits are = are 0 0 (lit< tt)
 row_is s (Project child items) suits are =
     let own = are 0 0 (lit< tt) in
     mapped_are (s child).kinds own (kind_of_operand (s child).kinds) (OperandFits (s child).kinds) (operand_is (s child).kinds own) items suits
-row_is s (Frames child items) suits are =
+row_is s (Frames child by items) suits are =
     let own = are 0 0 (lit< tt) in
-    mapped_are (s child).kinds own (kind_of_frame (s child).kinds) (FrameFits (s child).kinds) (frame_is (s child).kinds own) items suits
+    mapped_are (s child).kinds own (kind_of_frame (s child).kinds) (FrameFits (s child).kinds) (frame_is (s child).kinds own) items suits.0
 row_is s (Aggregate child aggs) suits are =
     let own = are 0 0 (lit< tt) in
     mapped_are (s child).kinds own (kind_of_agg (s child).kinds) (AggFits (s child).kinds) (agg_is (s child).kinds own) aggs suits

@@ -35,6 +35,8 @@ use Rattle.gl_algebra.specs.contracts.node.PlanFrameEq.TheImpl.Laws as PlanFrame
 use Rattle.gl_algebra.specs.declared.node.PlanFrameAgg.{PlanFrameAgg}
 use Rattle.gl_algebra.specs.declared.node.PlanFrameAgg.TheVariants as over
 use Rattle.gl_algebra.specs.contracts.node.PlanFrameAggPartialEq.TheImpl as OfPlanFrameAgg
+use Rattle.gl_algebra.specs.declared.node.PlanKey.{PlanKey}
+use Rattle.gl_algebra.specs.contracts.node.PlanKeyPartialEq.TheImpl as OfPlanKey
 use Rattle.gl_algebra.specs.declared.node.PlanNode.{PlanNode}
 use Rattle.gl_algebra.specs.declared.node.PlanNode.TheVariants.{Stream, Body, Compute, Select, Project, Frames, Aggregate, Union, Beside, Window, TimeWindow, Group, Partition}
 use Rattle.gl_algebra.specs.contracts.node.PlanNodeEq.TheImpl.Laws as PlanNodeLaws
@@ -123,11 +125,11 @@ same_frame_agg (over.Avg a) (over.Avg b) h = ap over.Avg (same_operand a b h)
 same_frame_agg (over.LastValue a) (over.LastValue b) h = ap over.LastValue (same_operand a b h)
 same_frame_agg _ _ h = absurd (never h)
 
-same_number : (x y : Option ℕ) → option_eq nat_eq x y ≡ true → x ≡ y
-same_number None None h = refl
-same_number None (Some n) h = absurd (never h)
-same_number (Some m) None h = absurd (never h)
-same_number (Some m) (Some n) h = ap Some (number m n h)
+same_option : {A : Type 0} (E : A → A → Bool) → ((x y : A) → E x y ≡ true → x ≡ y) → (x y : Option A) → option_eq E x y ≡ true → x ≡ y
+same_option E same None None h = refl
+same_option E same None (Some y) h = absurd (never h)
+same_option E same (Some x) None h = absurd (never h)
+same_option E same (Some x) (Some y) h = ap Some (same x y h)
 
 same_frame : (x y : PlanFrame) → OfPlanFrame.ghosts.eq x y ≡ true → x ≡ y
 same_frame (Own a) (Own b) h = ap Own (same_operand a b h)
@@ -137,11 +139,16 @@ same_frame (Lag a m) (Lag b n) h =
 same_frame (Over a f m) (Over b g n) h =
     let first = and_parts (OfPlanFrameAgg.ghosts.eq a b) (option_eq nat_eq f g && option_eq nat_eq m n) h in
     let second = and_parts (option_eq nat_eq f g) (option_eq nat_eq m n) first.1 in
-    λ i. Over (same_frame_agg a b first.0 i) (same_number f g second.0 i) (same_number m n second.1 i)
+    λ i. Over (same_frame_agg a b first.0 i) (same_option nat_eq number f g second.0 i) (same_option nat_eq number m n second.1 i)
 same_frame _ _ h = absurd (never h)
 
 same_frames : (xs ys : List PlanFrame) → pointwise OfPlanFrame.ghosts.eq xs ys ≡ true → xs ≡ ys
 same_frames xs ys = (pointwise_decides (decides_from OfPlanFrame.ghosts.eq PlanFrameLaws.laws-law same_frame) xs ys).0
+
+same_key : (x y : PlanKey) → OfPlanKey.ghosts.eq x y ≡ true → x ≡ y
+same_key x y h =
+    let parts = and_parts (nat_eq x.key y.key) (nat_eq x.groups y.groups) h in
+    λ i. record { key = number x.key y.key parts.0 i; groups = number x.groups y.groups parts.1 i }
 
 -- nodes that pass the test of nodes are one
 pub same_node-is : (x y : PlanNode) → same_node x y ≡ true → x ≡ y
@@ -158,9 +165,10 @@ same_node-is (Select c m) (Select d n) h =
 same_node-is (Project c o) (Project d p) h =
     let parts = and_parts (nat_eq c d) (pointwise OfOperand.ghosts.eq o p) h in
     λ i. Project (number c d parts.0 i) (same_operands o p parts.1 i)
-same_node-is (Frames c o) (Frames d p) h =
-    let parts = and_parts (nat_eq c d) (pointwise OfPlanFrame.ghosts.eq o p) h in
-    λ i. Frames (number c d parts.0 i) (same_frames o p parts.1 i)
+same_node-is (Frames c b o) (Frames d e p) h =
+    let parts = and_parts (nat_eq c d) (option_eq OfPlanKey.ghosts.eq b e && pointwise OfPlanFrame.ghosts.eq o p) h in
+    let behind = and_parts (option_eq OfPlanKey.ghosts.eq b e) (pointwise OfPlanFrame.ghosts.eq o p) parts.1 in
+    λ i. Frames (number c d parts.0 i) (same_option OfPlanKey.ghosts.eq same_key b e behind.0 i) (same_frames o p behind.1 i)
 same_node-is (Aggregate c o) (Aggregate d p) h =
     let parts = and_parts (nat_eq c d) (pointwise OfPlanAgg.ghosts.eq o p) h in
     λ i. Aggregate (number c d parts.0 i) (same_aggs o p parts.1 i)

@@ -1,5 +1,5 @@
 -- A node in step with a leaf comes a fixed time after its beats, one row a beat; one of pace `once` gives one row with the end.
-use Rattle.std.proofs.Common.{◌≡◌, ℕ, zero, suc, true, false, ◌&&◌, cond, All, refl, sym, ◌∙◌, subst, arith, lit<}
+use Rattle.std.proofs.Common.{◌≡◌, ℕ, zero, suc, true, false, ◌&&◌, cond, Some, None, All, refl, sym, ◌∙◌, subst, arith, lit<}
 use Rattle.std.proofs.lemmas.Bool.{eq-eqb}
 use Rattle.gl_algebra.specs.declared.figures.Figures.{Figures}
 use Rattle.gl_algebra.specs.declared.node.PlanNode.{PlanNode}
@@ -91,7 +91,8 @@ row_paced shapes figures (Compute child ops) suits h =
     settled_pace (shapes child).pace (delayed 1 (figures child)) (delayed_pace 1 (shapes child).pace (figures child) (h 0 0 (lit< tt)))
 row_paced shapes figures (Select child column) suits h = tt
 row_paced shapes figures (Project child items) suits h = settled_pace (shapes child).pace (figures child) (h 0 0 (lit< tt))
-row_paced shapes figures (Frames child items) suits h =
+row_paced shapes figures (Frames child (Some by) items) suits h = tt
+row_paced shapes figures (Frames child None items) suits h =
     let delay = delay_of_frames (shapes child).kinds items in
     settled_pace (shapes child).pace (delayed delay (figures child)) (delayed_pace delay (shapes child).pace (figures child) (h 0 0 (lit< tt)))
 row_paced shapes figures (Aggregate child aggs) suits h = record { tuples = refl; end_tuples = refl }

@@ -1,15 +1,17 @@
 -- A node whose leaves are all a body's input reads that input alone, and without a window of time no node reads the time.
-use Rattle.std.proofs.Common.{◌≡◌, ℕ, List, [], ◌∷◌, Bool, true, false, All, Some, slice_get, refl, sym, ap, ◌∙◌, subst, lit<}
+use Rattle.std.proofs.Common.{◌≡◌, ℕ, List, [], ◌∷◌, Bool, true, false, All, Option, Some, None, slice_get, refl, sym, ap, ◌∙◌, subst, lit<}
 use Rattle.std.proofs.lemmas.Bool.{false_from_ne_true}
 use Rattle.gl_values.specs.declared.kind.Kind.{Kind}
 use Rattle.gl_values.specs.Lists.{slices, Group as GroupOf, IsInterleaving}
+use Rattle.gl_frames.specs.Frames.{framed}
+use Rattle.gl_algebra.specs.declared.node.PlanKey.{PlanKey}
 use Rattle.gl_algebra.specs.declared.node.PlanNode.{PlanNode}
 use Rattle.gl_algebra.specs.declared.node.PlanNode.TheVariants.{Stream, Body, Compute, Select, Project, Frames, Aggregate, Union, Beside, Window, TimeWindow, Group, Partition}
 use Rattle.gl_algebra.specs.Fits.{IsOverStream, IsPlan, Suits}
 use Rattle.gl_algebra.specs.Laws.{BodiesReadTheirInput, HaveSameRows, UntimedResults}
 use Rattle.gl_algebra.specs.Nodewise.{named_by}
 use Rattle.gl_values.specs.Results.{Row, Results, IsChanged, IsOfBoth, AreBeside, AreJoined, IsOfParts, IsOfGroup}
-use Rattle.gl_algebra.specs.Results.{Inputs, Meaning, given, meaning_from, IsPlanResult}
+use Rattle.gl_algebra.specs.Results.{Inputs, IsFramed, Meaning, given, meaning_from, row_of_frames, IsPlanResult}
 use Rattle.gl_algebra.specs.Shapes.{Shape, shape_of, shape_from}
 use Rattle.gl_algebra.specs.Views.{is_time, reads_time}
 use Rattle.gl_algebra.proofs.ListLemmas.{all_left, all_right, any_at}
@@ -17,7 +19,7 @@ use Rattle.gl_algebra.proofs.PlanLemmas.{by_nodes}
 use Rattle.gl_algebra.proofs.TableLemmas.{nodes_follow_tables}
 
 -- each of the first results is among the second
-abbrev Within : Results → Results → Type 0
+abbrev pub Within : Results → Results → Type 0
 Within R S = (out : List Row) (spill : Bool) → R out spill → S out spill
 
 changed_within : (R S : Results) (change : List Row → List Row) → Within R S → Within (IsChanged R change) (IsChanged S change)
@@ -57,6 +59,16 @@ parts_within R S parts P Q further source each out spill r = record {
   any = r.any;
 }
 
+pub framed_within : (R S : Results) (by : Option PlanKey) (row : List Row → Row) → Within R S → Within (IsFramed by row R) (IsFramed by row S)
+framed_within R S None row within = changed_within R S (framed row) within
+framed_within R S (Some by) row within = λ out spill r. record {
+  rows = r.rows;
+  source_spill = r.source_spill;
+  of_source = within r.rows r.source_spill r.of_source;
+  changed = r.changed;
+  any = r.any;
+}
+
 -- a node all of whose leaves are a body's input has the same results for inputs that give a body the same rows
 abbrev Reads : (ℕ → Shape) → (ℕ → Meaning) → ℕ → Type 0
 Reads shapes meanings child = (kinds : List Kind) → All (λ leaf. leaf ≡ Body kinds) (shapes child).leaves
@@ -85,8 +97,8 @@ row_reads s m (Select child column) suits timed reads kinds leaves inputs others
     changed_within _ _ _ (reads 0 0 (lit< tt) kinds leaves inputs others same)
 row_reads s m (Project child items) suits timed reads kinds leaves inputs others same =
     changed_within _ _ _ (reads 0 0 (lit< tt) kinds leaves inputs others same)
-row_reads s m (Frames child items) suits timed reads kinds leaves inputs others same =
-    changed_within _ _ _ (reads 0 0 (lit< tt) kinds leaves inputs others same)
+row_reads s m (Frames child by items) suits timed reads kinds leaves inputs others same =
+    framed_within (m child inputs) (m child others) by (row_of_frames (s child).kinds items) (reads 0 0 (lit< tt) kinds leaves inputs others same)
 row_reads s m (Aggregate child aggs) suits timed reads kinds leaves inputs others same =
     changed_within _ _ _ (reads 0 0 (lit< tt) kinds leaves inputs others same)
 row_reads s m (Union left right) suits timed reads kinds leaves inputs others same =
@@ -137,7 +149,8 @@ row_untimed s m (Body kinds) none each inputs others same = λ out spill r. reco
 row_untimed s m (Compute child ops) none each inputs others same = changed_within _ _ _ (each 0 0 (lit< tt) inputs others same)
 row_untimed s m (Select child column) none each inputs others same = changed_within _ _ _ (each 0 0 (lit< tt) inputs others same)
 row_untimed s m (Project child items) none each inputs others same = changed_within _ _ _ (each 0 0 (lit< tt) inputs others same)
-row_untimed s m (Frames child items) none each inputs others same = changed_within _ _ _ (each 0 0 (lit< tt) inputs others same)
+row_untimed s m (Frames child by items) none each inputs others same =
+    framed_within (m child inputs) (m child others) by (row_of_frames (s child).kinds items) (each 0 0 (lit< tt) inputs others same)
 row_untimed s m (Aggregate child aggs) none each inputs others same = changed_within _ _ _ (each 0 0 (lit< tt) inputs others same)
 row_untimed s m (Union left right) none each inputs others same =
     both_within _ _ _ _ IsInterleaving (each 0 0 (lit< tt) inputs others same) (each 1 0 (lit< tt) inputs others same)

@@ -2,14 +2,13 @@
 use Rattle.std.proofs.Common.{◌≡◌, ℕ, ◌<◌, Bool, false, List, map, slice_get, slice_index, refl, subst, arith}
 use Rattle.gl_values.specs.Lists.{slices, groups, has_further, IsInterleaving}
 use Rattle.gl_values.specs.Times.{tslices}
-use Rattle.gl_frames.specs.Frames.{framed}
 use Rattle.gl_algebra.specs.declared.node.PlanNode.{PlanNode}
 use Rattle.gl_algebra.specs.declared.node.PlanNode.TheVariants.{Stream, Body, Compute, Select, Project, Frames, Aggregate, Union, Beside, Window, TimeWindow, Group, Partition}
 use Rattle.gl_values.specs.Partitions.{parts}
 use Rattle.gl_algebra.specs.Nodewise.{named_by}
 use Rattle.gl_algebra.specs.Shapes.{Shape, shape_of}
 use Rattle.gl_values.specs.Results.{Row, IsChanged, IsOfBoth, IsOfParts, IsOfGroup, AreBeside}
-use Rattle.gl_algebra.specs.Results.{Inputs, given, Meaning, NoMeaning, computed, selected, projected, row_of_frames, times_with, totalled, meaning_from, IsPlanResult}
+use Rattle.gl_algebra.specs.Results.{Inputs, given, IsFramed, Meaning, NoMeaning, computed, selected, projected, row_of_frames, times_with, totalled, meaning_from, IsPlanResult}
 use Rattle.gl_algebra.proofs.NodewiseLemmas.{Agree, AreInOrder, SameSteps, agree, agree_self, nodewise-kept, nodewise-node, FollowsRow}
 use Rattle.gl_algebra.proofs.ShapeLemmas.{shape-kept}
 
@@ -21,7 +20,7 @@ meaning_local s t v w (Body kinds) g h = refl
 meaning_local s t v w (Compute child ops) g h = λ i inputs. IsChanged (h.0 i inputs) (map (computed (g.0 i).kinds ops))
 meaning_local s t v w (Select child column) g h = λ i inputs. IsChanged (h.0 i inputs) (selected column)
 meaning_local s t v w (Project child items) g h = λ i inputs. IsChanged (h.0 i inputs) (map (projected items))
-meaning_local s t v w (Frames child items) g h = λ i inputs. IsChanged (h.0 i inputs) (framed (row_of_frames (g.0 i).kinds items))
+meaning_local s t v w (Frames child by items) g h = λ i inputs. IsFramed by (row_of_frames (g.0 i).kinds items) (h.0 i inputs)
 meaning_local s t v w (Aggregate child aggs) g h = λ i inputs. IsChanged (h.0 i inputs) (totalled (g.0 i).kinds aggs)
 meaning_local s t v w (Union left right) g h = λ i inputs. IsOfBoth (h.0 i inputs) (h.1.0 i inputs) IsInterleaving
 meaning_local s t v w (Beside left right) g h = λ i inputs. IsOfBoth (h.0 i inputs) (h.1.0 i inputs) AreBeside

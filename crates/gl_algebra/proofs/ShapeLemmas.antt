@@ -5,7 +5,7 @@ use Rattle.gl_algebra.specs.declared.node.PlanNode.TheVariants.{Stream, Body, Co
 use Rattle.gl_algebra.specs.Columns.{bit_kind, OpFits, OperandFits, AggFits, FrameFits}
 use Rattle.gl_algebra.specs.Nodewise.{named_by}
 use Rattle.gl_algebra.specs.Shapes.{Shape, no_shape, shape_from, shape_of}
-use Rattle.gl_algebra.specs.Fits.{Suits, Fits, IsOverStream}
+use Rattle.gl_algebra.specs.Fits.{KeyFits, Suits, Fits, IsOverStream}
 use Rattle.gl_algebra.proofs.NodewiseLemmas.{Agree, AreInOrder, SameSteps, agree, nodewise-kept, nodewise-node, FollowsRow}
 
 module _ (s t : ℕ → Shape) where
@@ -16,7 +16,7 @@ module _ (s t : ℕ → Shape) where
   shape_local (Compute child ops) h = ap (λ (x : Shape). shape_from (λ _. x) (Compute child ops)) h.0
   shape_local (Select child column) h = ap (λ (x : Shape). shape_from (λ _. x) (Select child column)) h.0
   shape_local (Project child items) h = ap (λ (x : Shape). shape_from (λ _. x) (Project child items)) h.0
-  shape_local (Frames child items) h = ap (λ (x : Shape). shape_from (λ _. x) (Frames child items)) h.0
+  shape_local (Frames child by items) h = ap (λ (x : Shape). shape_from (λ _. x) (Frames child by items)) h.0
   shape_local (Aggregate child aggs) h = ap (λ (x : Shape). shape_from (λ _. x) (Aggregate child aggs)) h.0
   shape_local (Union left right) h = rw (h.0, h.1.0)
   shape_local (Beside left right) h = rw (h.0, h.1.0)
@@ -32,7 +32,7 @@ module _ (s t : ℕ → Shape) where
   suits_local (Compute child ops) h suits = subst (λ (x : Shape). All (OpFits x.kinds) ops) h.0 suits
   suits_local (Select child column) h suits = subst (λ (x : Shape). slice_get x.kinds column ≡ Some bit_kind) h.0 suits
   suits_local (Project child items) h suits = subst (λ (x : Shape). All (OperandFits x.kinds) items) h.0 suits
-  suits_local (Frames child items) h suits = subst (λ (x : Shape). All (FrameFits x.kinds) items) h.0 suits
+  suits_local (Frames child by items) h suits = subst (λ (x : Shape). All (FrameFits x.kinds) items × KeyFits x.kinds by) h.0 suits
   suits_local (Aggregate child aggs) h suits = subst (λ (x : Shape). All (AggFits x.kinds) aggs) h.0 suits
   suits_local (Union left right) h suits = rw (← h.0, ← h.1.0) suits
   suits_local (Beside left right) h suits = rw (← h.0, ← h.1.0) suits

@@ -1,8 +1,9 @@
 -- A node without a union has one result at most.
-use Rattle.std.proofs.Common.{◌≡◌, ℕ, suc, ◌<◌, Bool, false, ◌||◌, ◌∷◌, map, slice_index, All, refl, sym, ◌∙◌, arith, lit<}
+use Rattle.std.proofs.Common.{◌≡◌, ℕ, suc, ◌<◌, Bool, false, ◌||◌, ◌∷◌, Some, None, map, slice_index, All, refl, sym, ◌∙◌, arith, lit<}
 use Rattle.gl_values.specs.Lists.{slices, groups, Group as GroupOf, has_further}
 use Rattle.gl_values.specs.Times.{tslices}
-use Rattle.gl_frames.specs.Frames.{framed}
+use Rattle.gl_frames.specs.Frames.{framed, framed_by_key}
+use Rattle.gl_frames.proofs.ResultLemmas.{one_in_part}
 use Rattle.gl_algebra.specs.declared.node.PlanNode.{PlanNode}
 use Rattle.gl_algebra.specs.declared.node.PlanNode.TheVariants.{Stream, Body, Compute, Select, Project, Frames, Aggregate, Union, Beside, Window, TimeWindow, Group, Partition}
 use Rattle.gl_values.specs.Partitions.{parts}
@@ -34,7 +35,10 @@ rows_one s m u (Select child column) one none inputs =
     one_changed (m child inputs) (selected column) (one 0 0 (lit< tt) (neither_parts (u child) false none).0 inputs)
 rows_one s m u (Project child items) one none inputs =
     one_changed (m child inputs) (map (projected items)) (one 0 0 (lit< tt) (neither_parts (u child) false none).0 inputs)
-rows_one s m u (Frames child items) one none inputs =
+rows_one s m u (Frames child (Some by) items) one none inputs =
+    one_in_part (m child inputs) (framed_by_key by.groups (λ x. slice_index x by.key) (row_of_frames (s child).kinds items))
+    (has_further by.groups (λ x. slice_index x by.key)) (one 0 0 (lit< tt) (neither_parts (u child) false none).0 inputs)
+rows_one s m u (Frames child None items) one none inputs =
     one_changed (m child inputs) (framed (row_of_frames (s child).kinds items)) (one 0 0 (lit< tt) (neither_parts (u child) false none).0 inputs)
 rows_one s m u (Aggregate child aggs) one none inputs =
     one_changed (m child inputs) (totalled (s child).kinds aggs) (one 0 0 (lit< tt) (neither_parts (u child) false none).0 inputs)
@@ -71,7 +75,7 @@ union_local v w (Body kinds) h = refl
 union_local v w (Compute child ops) h = λ i. h.0 i || false
 union_local v w (Select child column) h = λ i. h.0 i || false
 union_local v w (Project child items) h = λ i. h.0 i || false
-union_local v w (Frames child items) h = λ i. h.0 i || false
+union_local v w (Frames child by items) h = λ i. h.0 i || false
 union_local v w (Aggregate child aggs) h = λ i. h.0 i || false
 union_local v w (Union left right) h = refl
 union_local v w (Beside left right) h = λ i. h.0 i || (h.1.0 i || false)

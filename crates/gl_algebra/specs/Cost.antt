@@ -1,16 +1,18 @@
 -- What bounds the register bits and the memory bits of a plan's circuit, where queues are rings in memories, and so are
 -- the states of a group's slots where its body is direct.
-use Rattle.std.specs.Prelude.{ℕ, ◌+◌, ◌*◌, sum_by, List, if◌then◌else◌}
+use Rattle.std.specs.Prelude.{ℕ, ◌+◌, ◌*◌, sum_by, List, Option, Some, None, if◌then◌else◌}
 use Rattle.gl_values.specs.Kinds.{width_of}
 use Rattle.gl_values.specs.declared.kind.Kind.{Kind}
 use Rattle.gl_algebra.specs.declared.figures.Figures.{Figures}
 use Rattle.gl_algebra.specs.declared.node.PlanFrame.{PlanFrame}
+use Rattle.gl_algebra.specs.declared.node.PlanKey.{PlanKey}
 use Rattle.gl_algebra.specs.declared.node.PlanNode.{PlanNode}
 use Rattle.gl_algebra.specs.declared.node.PlanNode.TheVariants.{Union, Group, Frames}
 use Rattle.gl_algebra.specs.Columns.{kind_of_column}
 use Rattle.gl_algebra.specs.Direct.{Form, copied, rowwise, totalling, form_of}
 use Rattle.gl_algebra.specs.FigureTable.{figures_of, needs_spacer}
 use Rattle.gl_algebra.specs.Frames.{delay_of_frames, frames_in, words_of_frame}
+use Rattle.gl_algebra.specs.Keys.{delay_by_key, store_of_look_up, width_of_key}
 use Rattle.gl_algebra.specs.Nodewise.{nodewise}
 use Rattle.gl_algebra.specs.Shapes.{Shape, shape_of, shape_from}
 pub use Rattle.gl_algebra.specs.Rings.{least_exponent, ring}
@@ -85,6 +87,14 @@ store_of_frames kinds lines items =
     64 * (lines + 2 * sum_by frames_in items) * ring (delay_of_frames kinds items)
     + 32 + sum_by (λ item. 128 * frames_in item + 65 * words_of_frame item) items
 
+-- the same by a key, if there is one: each slot has its states and its rings, and the look-up has its memories
+abbrev pub store_by_key : List Kind → ℕ → Option PlanKey → List PlanFrame → ℕ
+store_by_key kinds lines None items = store_of_frames kinds lines items
+store_by_key kinds lines (Some by) items =
+    64 * (lines + 2 * sum_by frames_in items) * ring (delay_by_key kinds (Some by) items)
+    + ring by.groups * (32 + sum_by (λ item. 128 * frames_in item + 65 * words_of_frame item) items)
+    + store_of_look_up (width_of_key kinds by) by.groups
+
 -- a node's own part in memories, from those of bodies
 abbrev pub own_store : (ℕ → Shape) → (ℕ → Figures) → (ℕ → Form) → (ℕ → ℕ) → ℕ → PlanNode → ℕ
 own_store shapes figures forms stores lines (Union left right) =
@@ -92,7 +102,7 @@ own_store shapes figures forms stores lines (Union left right) =
 own_store shapes figures forms stores lines (Group source body key groups) =
     store_of_groups (forms body) groups (stores body)
     + part_of_spacer store_of_spacer shapes figures (Group source body key groups)
-own_store shapes figures forms stores lines (Frames child items) = store_of_frames (shapes child).kinds lines items
+own_store shapes figures forms stores lines (Frames child by items) = store_by_key (shapes child).kinds lines by items
 own_store shapes figures forms stores lines node =
     copies_in node * of_body stores node + part_of_spacer store_of_spacer shapes figures node
 

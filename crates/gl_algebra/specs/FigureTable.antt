@@ -8,7 +8,7 @@ use Rattle.gl_algebra.specs.declared.node.PlanNode.TheVariants.{Stream, Body, Co
 use Rattle.gl_algebra.specs.declared.node.PlanAgg.{PlanAgg}
 use Rattle.gl_algebra.specs.declared.node.PlanAgg.TheVariants.{Count, Sum, Min, Max, Avg, Wsum}
 use Rattle.gl_algebra.specs.Columns.{kind_of_operand}
-use Rattle.gl_algebra.specs.Frames.{delay_of_frames}
+use Rattle.gl_algebra.specs.Keys.{delay_by_key}
 use Rattle.gl_algebra.specs.Nodewise.{nodewise}
 use Rattle.gl_algebra.specs.Shapes.{Shape, shape_of}
 use Rattle.gl_algebra.specs.Views.{copies_of_time, copies_of_window, copies_of_partition}
@@ -250,8 +250,8 @@ figures_from shapes figures (Body kinds) = input_figures
 figures_from shapes figures (Compute child ops) = settled (delayed 1 (figures child))
 figures_from shapes figures (Select child column) = settled (delayed 1 (figures child))
 figures_from shapes figures (Project child items) = settled (figures child)
-figures_from shapes figures (Frames child items) =
-    settled (delayed (delay_of_frames (shapes child).kinds items) (figures child))
+figures_from shapes figures (Frames child by items) =
+    settled (delayed (delay_by_key (shapes child).kinds by items) (figures child))
 figures_from shapes figures (Aggregate child aggs) =
     aggregate_figures (delay_of_aggs (shapes child).kinds aggs) (figures child)
 figures_from shapes figures (Union left right) = union_figures (figures left) (figures right)

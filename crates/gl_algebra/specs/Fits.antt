@@ -1,8 +1,10 @@
 -- When a node fits a plan, and what a plan is.
-use Rattle.std.specs.Prelude.{ℕ, ◌≡◌, ◌≢◌, ◌<◌, ◌≤◌, List, length, slice_get, Some, All, IsTrue}
+use Rattle.std.specs.Prelude.{ℕ, ◌≡◌, ◌≢◌, ◌<◌, ◌≤◌, List, length, slice_get, Option, Some, None, All, IsTrue}
 use Rattle.gl_bits.specs.Limits.{most_copies, most_groups, most_rows, most_windows}
 use Rattle.gl_values.specs.Kinds.{IsKind}
 use Rattle.gl_values.specs.declared.kind.Kind.{Kind}
+use Rattle.gl_frames.specs.Results.{most_slots}
+use Rattle.gl_algebra.specs.declared.node.PlanKey.{PlanKey}
 use Rattle.gl_algebra.specs.declared.node.PlanNode.{PlanNode}
 use Rattle.gl_algebra.specs.declared.node.PlanNode.TheVariants.{Stream, Body, Compute, Select, Project, Frames, Aggregate, Union, Beside, Window, TimeWindow, Group, Partition}
 use Rattle.gl_algebra.specs.Columns.{bit_kind, OperandFits, OpFits, AggFits, FrameFits}
@@ -14,6 +16,11 @@ use Rattle.gl_algebra.specs.Views.{copies_of_time, copies_of_window, copies_of_p
 pub record IsWithin (limit number : ℕ) : Type 0 where
   pub least : 1 ≤ number
   pub most : number ≤ limit
+
+-- a key's column is there, and 1 to 4,096 groups are kept; rows need not be parted
+abbrev pub KeyFits : List Kind → Option PlanKey → Type 0
+KeyFits kinds None = Unit {0}
+KeyFits kinds (Some by) = (by.key < length kinds) × IsWithin most_slots by.groups
 
 -- a body for rows of a source: it waits for the end, and it reads nothing but its input, which has the source's columns
 pub record IsBodyFor (source body : Shape) : Type 0 where
@@ -27,7 +34,8 @@ Suits shapes (Body kinds) = All IsKind kinds
 Suits shapes (Compute child ops) = All (OpFits (shapes child).kinds) ops
 Suits shapes (Select child column) = slice_get (shapes child).kinds column ≡ Some bit_kind
 Suits shapes (Project child items) = All (OperandFits (shapes child).kinds) items
-Suits shapes (Frames child items) = All (FrameFits (shapes child).kinds) items
+Suits shapes (Frames child by items) =
+    All (FrameFits (shapes child).kinds) items × KeyFits (shapes child).kinds by
 Suits shapes (Aggregate child aggs) = All (AggFits (shapes child).kinds) aggs
 Suits shapes (Union left right) = (shapes left).kinds ≡ (shapes right).kinds
 Suits shapes (Beside left right) = ((shapes left).pace ≡ (shapes right).pace) × ((shapes left).pace ≢ unsteady)

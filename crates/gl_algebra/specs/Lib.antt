@@ -6,6 +6,7 @@ pub mod Fits
 pub mod Added
 pub mod Rings
 pub mod Frames
+pub mod Keys
 pub mod FigureTable
 pub mod Small
 pub mod Wides

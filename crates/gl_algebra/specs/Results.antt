@@ -7,7 +7,8 @@ use Rattle.gl_values.specs.Partitions.{parts}
 use Rattle.gl_values.specs.Results.{Row, Results, IsInput, IsChanged, IsOfBoth, AreBeside, IsOfParts, IsOfGroup}
 use Rattle.gl_values.specs.Totals.{count_of, sum_total, least_of, greatest_of, average_of, weighted_sum}
 use Rattle.gl_values.specs.Times.{tslices}
-use Rattle.gl_frames.specs.Frames.{frame_of, framed, lag_of, last_value_of, own_of}
+use Rattle.gl_frames.specs.Frames.{frame_of, framed, framed_by_key, lag_of, last_value_of, own_of}
+use Rattle.gl_frames.specs.Results.{IsChangedInPart}
 use Rattle.gl_bits.specs.Words.{bits_of}
 use Rattle.gl_values.specs.declared.kind.Kind.{Kind}
 use Rattle.gl_algebra.specs.declared.node.ColOp.{ColOp}
@@ -18,6 +19,7 @@ use Rattle.gl_algebra.specs.declared.node.PlanFrame.{PlanFrame}
 use Rattle.gl_algebra.specs.declared.node.PlanFrame.TheVariants.{Own, Lag, Over}
 use Rattle.gl_algebra.specs.declared.node.PlanFrameAgg.{PlanFrameAgg}
 use Rattle.gl_algebra.specs.declared.node.PlanFrameAgg.TheVariants as over
+use Rattle.gl_algebra.specs.declared.node.PlanKey.{PlanKey}
 use Rattle.gl_algebra.specs.declared.node.PlanNode.{PlanNode}
 use Rattle.gl_algebra.specs.declared.node.PlanNode.TheVariants as Node
 use Rattle.gl_algebra.specs.Columns.{kind_of_operand}
@@ -102,6 +104,14 @@ value_of_frame kinds rows (Over agg filter back) = value_over kinds filter back 
 abbrev pub row_of_frames : List Kind → List PlanFrame → List Row → Row
 row_of_frames kinds items rows = map (value_of_frame kinds rows) items
 
+-- what is made of rows up to each: without a key of all rows. By a key each row of the first groups has what is made of
+-- those of its group, and whether rows of further keys came is told
+abbrev pub IsFramed : Option PlanKey → (List Row → Row) → Results → Results
+IsFramed None row source = IsChanged source (framed row)
+IsFramed (Some by) row source =
+    IsChangedInPart source (framed_by_key by.groups (λ x. slice_index x by.key) row)
+    (has_further by.groups (λ x. slice_index x by.key))
+
 -- one row of the items' values, each a column or a literal
 abbrev pub projected : List Operand → Row → Row
 projected items row = map (value_of_operand row) items
@@ -119,8 +129,8 @@ meaning_from shapes meanings (Node.Compute child ops) inputs =
 meaning_from shapes meanings (Node.Select child column) inputs = IsChanged (meanings child inputs) (selected column)
 meaning_from shapes meanings (Node.Project child items) inputs =
     IsChanged (meanings child inputs) (map (projected items))
-meaning_from shapes meanings (Node.Frames child items) inputs =
-    IsChanged (meanings child inputs) (framed (row_of_frames (shapes child).kinds items))
+meaning_from shapes meanings (Node.Frames child by items) inputs =
+    IsFramed by (row_of_frames (shapes child).kinds items) (meanings child inputs)
 meaning_from shapes meanings (Node.Aggregate child aggs) inputs =
     IsChanged (meanings child inputs) (totalled (shapes child).kinds aggs)
 meaning_from shapes meanings (Node.Union left right) inputs =

@@ -1,6 +1,6 @@
 -- The root of a plan, which nothing stands above but the output. Windows there may have spare copies of their body; what
 -- is printed of a plan, and what bounds its hardware, is said with them.
-use Rattle.std.specs.Prelude.{◌≡◌, ℕ, ◌+◌, ◌-◌, ◌*◌, ◌<◌, ◌≤◌, Bool, false, List, length, Option, Some, None, slice_get, nat_le, if◌then◌else◌}
+use Rattle.std.specs.Prelude.{ℕ, ◌+◌, ◌-◌, ◌*◌, Bool, false, List, Option, Some, None, slice_get, nat_le, if◌then◌else◌}
 use Rattle.gl_bits.specs.Limits.{most_weight}
 use Rattle.gl_algebra.specs.declared.figures.Figures.{Figures}
 use Rattle.gl_algebra.specs.declared.figures.Spare.{Spare}
@@ -8,7 +8,6 @@ use Rattle.gl_algebra.specs.declared.node.PlanNode.{PlanNode}
 use Rattle.gl_algebra.specs.declared.node.PlanNode.TheVariants.{Window}
 use Rattle.gl_algebra.specs.Cost.{keys_of, lean_of, store_of}
 use Rattle.gl_algebra.specs.FigureTable.{figures_of}
-use Rattle.gl_algebra.specs.Fits.{IsPlan}
 use Rattle.gl_algebra.specs.Nodewise.{value_at_node}
 use Rattle.gl_algebra.specs.Shapes.{Shape, shape_of}
 use Rattle.gl_algebra.specs.Spares.{spare_of, spare_over}
@@ -80,10 +79,6 @@ of_further each nodes root =
 abbrev pub latency_of : List PlanNode → ℕ → ℕ
 latency_of nodes root = (root_figures nodes root).le + 1
 
--- the cycles from a beat to the next, at least
-abbrev pub gap_of : List PlanNode → ℕ → ℕ
-gap_of nodes root = (root_figures nodes root).gt
-
 -- what the further copies of a root add in weight
 abbrev pub further_weight : List PlanNode → ℕ → ℕ
 further_weight nodes root =
@@ -120,12 +115,3 @@ most_registers nodes root =
 -- the most memory bits of the circuit of a plan, those of the root's further copies among them
 abbrev pub most_memory : List PlanNode → ℕ → ℕ
 most_memory nodes root = store_of nodes root + further_store nodes root
-
--- beats may come as close as the root's own figures say, and closer where it has spare copies
-pub record ComesCloser (nodes : List PlanNode) (root : ℕ) : Type 0 where
-  pub never_farther : gap_of nodes root ≤ (figures_of nodes root).gt
-  pub with_spare : (it : Spare) → spare_at nodes root ≡ Some it → gap_of nodes root < (figures_of nodes root).gt
-
--- a root's gap is at most its node's own, and less where the root has spare copies
-abbrev pub RootsComeCloser : Type 0
-RootsComeCloser = (nodes : List PlanNode) (root : ℕ) → IsPlan nodes → root < length nodes → ComesCloser nodes root

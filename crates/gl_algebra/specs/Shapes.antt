@@ -1,7 +1,8 @@
 -- What other nodes need to know of a node: its columns, whether it waits for the end, how steadily its rows come, and
 -- its leaves.
-use Rattle.std.specs.Prelude.{ℕ, ◌≡◌, ◌<◌, length, Bool, true, false, ◌&&◌, List, [], ◌∷◌, ◌++◌, map}
+use Rattle.std.specs.Prelude.{ℕ, ◌≡◌, ◌<◌, length, Bool, true, false, ◌&&◌, List, [], ◌∷◌, ◌++◌, Option, Some, None, map}
 use Rattle.gl_values.specs.declared.kind.Kind.{Kind}
+use Rattle.gl_algebra.specs.declared.node.PlanKey.{PlanKey}
 use Rattle.gl_algebra.specs.declared.node.PlanNode.{PlanNode}
 use Rattle.gl_algebra.specs.declared.node.PlanNode.TheVariants.{Stream, Body, Compute, Select, Project, Frames, Aggregate, Union, Beside, Window, TimeWindow, Group, Partition}
 use Rattle.gl_algebra.specs.Columns.{kind_of_column, kind_of_operand, kind_of_op, kind_of_agg, kind_of_frame}
@@ -28,6 +29,11 @@ pub record Shape : Type 0 where
 abbrev pub no_shape : Shape
 no_shape = record { kinds = []; closing = false; pace = unsteady; leaves = [] }
 
+-- rows that are parted by a key come at no steady pace
+abbrev pub pace_by_key : Option PlanKey → Pace → Pace
+pace_by_key None pace = pace
+pace_by_key (Some by) pace = unsteady
+
 -- a node's shape, from those of the nodes that it names
 abbrev pub shape_from : (ℕ → Shape) → PlanNode → Shape
 shape_from shapes (Stream number kinds) =
@@ -40,8 +46,9 @@ shape_from shapes (Compute child ops) =
 shape_from shapes (Select child column) = record (shapes child) { pace = unsteady }
 shape_from shapes (Project child items) =
     let of_child = shapes child in record of_child { kinds = map (kind_of_operand of_child.kinds) items }
-shape_from shapes (Frames child items) =
-    let of_child = shapes child in record of_child { kinds = map (kind_of_frame of_child.kinds) items }
+shape_from shapes (Frames child by items) =
+    let of_child = shapes child in
+    record of_child { kinds = map (kind_of_frame of_child.kinds) items; pace = pace_by_key by of_child.pace }
 shape_from shapes (Aggregate child aggs) =
     let of_child = shapes child in
     record of_child { kinds = map (kind_of_agg of_child.kinds) aggs; closing = true; pace = once }

@@ -1,10 +1,11 @@
 -- The weight of a node, which bounds its hardware, and the copies of bodies that it has.
-use Rattle.std.specs.Prelude.{ℕ, ◌+◌, ◌*◌, ◌/◌, min, max, sum_by, List, [], ◌∷◌, length, if◌then◌else◌}
+use Rattle.std.specs.Prelude.{ℕ, ◌+◌, ◌*◌, ◌/◌, min, max, sum_by, List, [], ◌∷◌, length, Option, Some, None, if◌then◌else◌}
 use Rattle.gl_values.specs.Kinds.{width_of}
 use Rattle.gl_values.specs.declared.kind.Kind.{Kind}
 use Rattle.gl_algebra.specs.declared.figures.Figures.{Figures}
 use Rattle.gl_algebra.specs.declared.node.PlanFrame.{PlanFrame}
 use Rattle.gl_algebra.specs.declared.node.PlanFrame.TheVariants.{Own, Lag, Over}
+use Rattle.gl_algebra.specs.declared.node.PlanKey.{PlanKey}
 use Rattle.gl_algebra.specs.declared.node.PlanNode.{PlanNode}
 use Rattle.gl_algebra.specs.declared.node.PlanNode.TheVariants.{Stream, Body, Compute, Select, Project, Frames, Aggregate, Union, Beside, Window, TimeWindow, Group, Partition}
 use Rattle.gl_algebra.specs.declared.node.PlanAgg.{PlanAgg}
@@ -12,7 +13,9 @@ use Rattle.gl_algebra.specs.declared.node.PlanAgg.TheVariants.{Count, Sum, Min, 
 use Rattle.gl_algebra.specs.Columns.{kind_of_operand}
 use Rattle.gl_algebra.specs.FigureTable.{figures_of, delay_of_aggs, gap_in, wait_of, needs_spacer}
 use Rattle.gl_algebra.specs.Frames.{delay_of_frames, digits_of_frame, frames_in, rings_of_frame, words_of_frame}
+use Rattle.gl_algebra.specs.Keys.{delay_by_key, weight_of_look_up, width_of_key, words_of_look_up}
 use Rattle.gl_algebra.specs.Nodewise.{nodewise}
+use Rattle.gl_algebra.specs.Rings.{ring}
 use Rattle.gl_algebra.specs.Shapes.{Shape, shape_of, shape_from}
 use Rattle.gl_algebra.specs.Views.{children_of, copies_in, copies_of_partition, copies_of_time, copies_of_window, of_body}
 
@@ -44,12 +47,24 @@ weight_of_frame kinds (Over agg filter back) =
 abbrev pub words_of_frames : List PlanFrame → ℕ
 words_of_frames items = 1 + sum_by (λ item. 2 * frames_in item + words_of_frame item) items
 
--- the part of items over columns of these kinds, where their node has so many lines: these wait four cycles at most in
--- registers and for the rest in rings, and 16 words of memory count as one
+-- the part of items over columns of these kinds, their words aside, where their node has so many lines: these wait so
+-- many cycles, four at most in registers and the rest in rings
+abbrev pub weight_waiting : List Kind → ℕ → ℕ → List PlanFrame → ℕ
+weight_waiting kinds lines delay items =
+    4 * lines * (min delay 4 + 4) + 32 + sum_by (weight_of_frame kinds) items
+
+-- their part with their words, of which 16 count as one
 abbrev pub weight_of_frames : List Kind → ℕ → List PlanFrame → ℕ
 weight_of_frames kinds lines items =
-    4 * lines * (min (delay_of_frames kinds items) 4 + 4) + 32
-    + sum_by (weight_of_frame kinds) items + words_of_frames items / 16
+    weight_waiting kinds lines (delay_of_frames kinds items) items + words_of_frames items / 16
+
+-- the same by a key, if there is one: each slot has its words, and the look-up has its part and its words
+abbrev pub weight_by_key : List Kind → ℕ → Option PlanKey → List PlanFrame → ℕ
+weight_by_key kinds lines None items = weight_of_frames kinds lines items
+weight_by_key kinds lines (Some by) items =
+    let width = width_of_key kinds by in
+    weight_waiting kinds lines (delay_by_key kinds (Some by) items) items + weight_of_look_up width by.groups
+    + (ring by.groups * words_of_frames items + words_of_look_up width by.groups) / 16
 
 -- the delay that is added to the shorter of two sides
 abbrev pub pad_of : Figures → Figures → ℕ
@@ -85,8 +100,8 @@ own_part spacer shapes figures weights lines (Body kinds) = lines
 own_part spacer shapes figures weights lines (Compute child ops) = 4 * (lines + length ops)
 own_part spacer shapes figures weights lines (Select child column) = 4 * lines
 own_part spacer shapes figures weights lines (Project child items) = 4 * lines
-own_part spacer shapes figures weights lines (Frames child items) =
-    weight_of_frames (shapes child).kinds lines items
+own_part spacer shapes figures weights lines (Frames child by items) =
+    weight_by_key (shapes child).kinds lines by items
 own_part spacer shapes figures weights lines (Aggregate child aggs) =
     let kinds = (shapes child).kinds in
     4 * lines + sum_by (λ agg. 2 * delay_of_aggs kinds aggs + weight_of_agg kinds agg) aggs

@@ -12,7 +12,7 @@ use Rattle.gl_algebra.specs.declared.node.PlanNode.{PlanNode}
 use Rattle.gl_algebra.specs.declared.node.PlanNode.TheVariants.{Stream, Body, Compute, Select, Project, Frames, Aggregate, Union, Beside, Window, TimeWindow, Group, Partition}
 use Rattle.gl_algebra.specs.Cost.{keys_of}
 use Rattle.gl_algebra.specs.FigureTable.{figures_of}
-use Rattle.gl_algebra.specs.Roots.{copies_with_spare, gap_of, latency_of, most_memory, most_registers, weight_with_output}
+use Rattle.gl_algebra.specs.Roots.{copies_with_spare, latency_of, most_memory, most_registers, root_figures, weight_with_output}
 
 -- a symbol, a price and a volume
 abbrev pub trade_kinds : List Kind
@@ -102,13 +102,13 @@ prices_of_both =
 
 -- each price with the one before it
 abbrev pub prices_before : List PlanNode
-prices_before = Stream 0 trade_kinds ∷ Frames 0 (Own (Column 1) ∷ Lag (Column 1) 1 ∷ []) ∷ []
+prices_before = Stream 0 trade_kinds ∷ Frames 0 None (Own (Column 1) ∷ Lag (Column 1) 1 ∷ []) ∷ []
 
 -- each price with the sum of two prices, the least of three and the average of two, its own the last of them
 abbrev pub last_prices : List PlanNode
 last_prices =
     Stream 0 trade_kinds
-    ∷ Frames 0
+    ∷ Frames 0 None
     (Own (Column 1) ∷ Over (over.Sum (Column 1)) None (Some 1) ∷ Over (over.Min (Column 1)) None (Some 2)
     ∷ Over (over.Avg (Column 1)) None (Some 1) ∷ [])
     ∷ []
@@ -117,7 +117,7 @@ last_prices =
 abbrev pub far_prices : List PlanNode
 far_prices =
     Stream 0 trade_kinds
-    ∷ Frames 0
+    ∷ Frames 0 None
     (Own (Column 1) ∷ Over (over.Sum (Column 1)) None (Some 65535) ∷ Lag (Column 1) 65535 ∷ [])
     ∷ []
 
@@ -126,14 +126,32 @@ abbrev pub counted_volumes : List PlanNode
 counted_volumes =
     Stream 0 trade_kinds
     ∷ Compute 0 (Binary Op.Gt (Column 2) (Literal (record { bits = 10; width = 32 }) (Unsigned 32)) ∷ [])
-    ∷ Frames 1
+    ∷ Frames 1 None
     (Over over.Count (Some 3) (Some 2) ∷ Over over.Count None None ∷ Over (over.Sum (Column 2)) None None ∷ [])
     ∷ []
+
+-- each symbol with the price before it of that symbol, of so many symbols
+abbrev pub prices_before_by_symbol : ℕ → List PlanNode
+prices_before_by_symbol symbols =
+    Stream 0 trade_kinds
+    ∷ Frames 0 (Some (record { key = 0; groups = symbols })) (Own (Column 0) ∷ Lag (Column 1) 1 ∷ []) ∷ []
+
+-- the sum of so many prices before each and of its own, by symbol, of 64 symbols
+abbrev pub sums_back_by_symbol : ℕ → List PlanNode
+sums_back_by_symbol back =
+    Stream 0 trade_kinds
+    ∷ Frames 0 (Some (record { key = 0; groups = 64 })) (Over (over.Sum (Column 1)) None (Some back) ∷ []) ∷ []
+
+-- each number of 8 bits with how many of it were among its last two, of two numbers
+abbrev pub counts_by_number : List PlanNode
+counts_by_number =
+    Stream 0 (Unsigned 8 ∷ [])
+    ∷ Frames 0 (Some (record { key = 0; groups = 2 })) (Own (Column 0) ∷ Over over.Count None (Some 1) ∷ []) ∷ []
 
 -- a root's latency, gap and copies
 pub record Has (nodes : List PlanNode) (root latency gap copies : ℕ) : Type 0 where
   pub is_late : latency_of nodes root ≡ latency
-  pub is_apart : gap_of nodes root ≡ gap
+  pub is_apart : (root_figures nodes root).gt ≡ gap
   pub is_copied : copies_with_spare nodes root ≡ copies
 
 -- the figures, weights and copies of the worked plans, computed from the tables
@@ -160,6 +178,9 @@ pub record WorkedFigures : Type 0 where
   pub last_prices : Has last_prices 1 39 1 0
   pub far_prices : Has far_prices 1 4 1 0
   pub counted_volumes : Has counted_volumes 2 5 1 0
+  pub two_symbols : Has (prices_before_by_symbol 2) 1 5 1 0
+  pub many_symbols : Has (prices_before_by_symbol 65) 1 19 1 0
+  pub counts_by_number : Has counts_by_number 1 6 1 0
 
 -- 262,144 is the most
 pub record WorkedWeights : Type 0 where
@@ -169,6 +190,11 @@ pub record WorkedWeights : Type 0 where
   pub one_before : weight_with_output prices_before 1 ≡ 325
   pub last_of_each : weight_with_output last_prices 1 ≡ 1254
   pub far : weight_with_output far_prices 1 ≡ 12793
+  pub two_symbols : weight_with_output (prices_before_by_symbol 2) 1 ≡ 501
+  pub many_symbols : weight_with_output (prices_before_by_symbol 65) 1 ≡ 2861
+  pub counts_by_number : weight_with_output counts_by_number 1 ≡ 547
+  pub far_by_symbol : weight_with_output (sums_back_by_symbol 32766) 1 ≡ 132537
+  pub farthest_by_symbol : weight_with_output (sums_back_by_symbol 65534) 1 ≡ 263609
 
 -- the states of 200 averages stand in a memory, and so do those of 4 sums; windows at the root have a third copy of
 -- groups, and there are three; frames have rings
@@ -180,3 +206,6 @@ pub record WorkedBits : Type 0 where
   pub keys : keys_of counts_by_symbol_in_windows 7 ≡ 272
   pub one_before : most_memory prices_before 1 ≡ 1058
   pub last_of_each : most_memory last_prices 1 ≡ 50348
+  pub two_symbols : most_memory (prices_before_by_symbol 2) 1 ≡ 2116
+  pub many_symbols : most_memory (prices_before_by_symbol 65) 1 ≡ 114944
+  pub counts_by_number : most_memory counts_by_number 1 ≡ 3664

@@ -8,6 +8,7 @@
 pub mod columns;
 pub mod figures;
 pub mod frames;
+pub mod keys;
 pub mod laws;
 pub mod node;
 pub mod number;
@@ -18,7 +19,7 @@ mod wide;
 pub use figures::{Figures, Spare};
 pub use node::{
     ColOp, Kinds, Operand, Operands, Ops, PlanAgg, PlanAggs, PlanFrame, PlanFrameAgg, PlanFrames,
-    PlanNode, Weights,
+    PlanKey, PlanNode, Weights,
 };
 pub use number::PlanId;
 pub use plan::Plan;

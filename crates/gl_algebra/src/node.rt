@@ -95,6 +95,15 @@ pub enum PlanFrame {
     },
 }
 
+/// The key by which the rows of a node of frames are parted.
+#[derive(Clone, Copy, PartialEq, Eq, Hash, Debug)]
+pub struct PlanKey {
+    /// The number of the column.
+    pub key: u8,
+    /// How many groups are kept: the first ones that come.
+    pub groups: u16,
+}
+
 /// A node of a plan. Where it speaks of another node, its child, it does so by that node's number.
 #[derive(Drop, PartialEq, Eq, Hash, Debug)]
 pub enum PlanNode {
@@ -123,10 +132,13 @@ pub enum PlanNode {
         /// The columns and literals that make a row, in order.
         items: Operands,
     },
-    /// Of each row of the child what the items make of it and of the rows before it.
+    /// Of each row of the child what the items make of it and of the rows before it. By a key these are rows of its group, and a row
+    /// of a further group gives none.
     Frames {
         /// The number of the node that is read.
         child: PlanId,
+        /// The key; without one all rows are of one group.
+        by: Option<PlanKey>,
         /// The items, one for each column of the row.
         items: PlanFrames,
     },

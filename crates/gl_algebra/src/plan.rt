@@ -133,7 +133,7 @@ impl Plan {
                 self.kinds(*child),
                 items.as_slice(),
             ),
-            PlanNode::Frames { child, items } => columns_of_frames(
+            PlanNode::Frames { child, items, .. } => columns_of_frames(
                 alloc,
                 self.kinds(*child),
                 items.as_slice(),

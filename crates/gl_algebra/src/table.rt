@@ -45,7 +45,8 @@ pub fn picked_figures(source: &Figures) -> Option<Figures>
 }
 
 /// Frames, the slowest of which has this delay.
-pub fn frame_figures(delay: u32, source: &Figures) -> Option<Figures>
+pub fn frame_figures(delay: u64, source: &Figures) -> Option<Figures>
+    requires { delay < 2 ^ 33 }
     ensures { result ≡ small_of (settled (delayed delay source.now)) }
 {
     narrowed(settled(delayed(delay as u128, widened(source))))

@@ -85,7 +85,7 @@ pub(crate) fn settled(f: Wide) -> Wide
 
 // The figures some cycles later.
 pub(crate) fn delayed(cycles: u128, f: Wide) -> Wide
-    requires cycles { cycles < 2 ^ 32 }
+    requires cycles { cycles < 2 ^ 33 }
     requires narrow { IsNarrow f }
     ensures value { plain result ≡ delayed cycles (plain f) }
     ensures wide { IsWide result }

@@ -10,11 +10,11 @@ use Rattle.gl_schema.specs.declared.schema.Column.{Column as NamedColumn}
 use Rattle.gl_schema.specs.declared.schema.Stream.{Stream}
 use Rattle.gl_schema.specs.declared.schema.Schema.{Schema}
 use Rattle.gl_query.specs.declared.tree.Statement.{Statement}
-use Rattle.gl_query.specs.Shapes.{ExprShape, ItemShape, AggShape, AggItemShape, FrameAggShape, FrameShape, FrameItemShape, PickShape, QueryShape, query_shape}
+use Rattle.gl_query.specs.Shapes.{ExprShape, ItemShape, AggShape, AggItemShape, FrameAggShape, FrameShape, FrameItemShape, PickShape, QueryShape, SlotsShape, query_shape}
 use Rattle.gl_query.specs.Shapes as shape
-use Rattle.gl_query.specs.Values.{kind_alone, operand_place}
+use Rattle.gl_query.specs.Values.{column_number, kind_alone, operand_place}
 use Rattle.gl_query.specs.Columns.{agg_column, agg_kind, columns_of, frame_column, variable, item_column}
-use Rattle.gl_query.specs.Accepted.{IsAcceptedOver, IsFilter, IsFrame, IsPick}
+use Rattle.gl_query.specs.Accepted.{IsAcceptedOver, IsFilter, IsFrame, IsParted, IsPick}
 use Rattle.gl_query.specs.Sizes.{IsSmall, QueryIsSmall, operators_in}
 use Rattle.gl_query.specs.Parts.{InAgg, InAggItem, InFilter, InFrame, InFrameAgg, InFrameItem, InItem, InPick}
 use Rattle.gl_query.specs.Checked.{IsChecked}
@@ -23,7 +23,7 @@ use Rattle.gl_query.proofs.Real.{IsScope, alone_kind, body_is, real}
 use Rattle.gl_bits.proofs.AllLists.{all_of_mapped}
 use Rattle.gl_elaborate.specs.Terms.{Term, Column, Literal, Not, Cast, Binary, ops_in, ops_in_all, term_of}
 use Rattle.gl_elaborate.specs.Plans.{condition_of, filter_of, frame_arguments, frame_terms, frames_terms, picked_terms, arguments_of, arguments_of_all}
-use Rattle.gl_elaborate.specs.Fitting.{CanPlace, FilterTerm, FrameTerms}
+use Rattle.gl_elaborate.specs.Fitting.{CanPlace, CanPlaceSlots, FilterTerm, FrameTerms}
 use Rattle.gl_elaborate.proofs.AcceptedLemmas.{column-fits, term-fits}
 use Rattle.gl_elaborate.proofs.RowsLemmas.{pick-fits}
 use Rattle.gl_elaborate.proofs.TotalsLemmas.{arguments-fit}
@@ -142,6 +142,14 @@ frame-terms : (columns : List NamedColumn) → AreKinds columns → (items : Lis
 frame-terms columns kinds [] h = tt
 frame-terms columns kinds (i ∷ items) h = (frame-term columns kinds i.frame h.0, frame-terms columns kinds items h.1)
 
+slots-can : (columns : List NamedColumn) → AreKinds columns → length columns ≤ 32 → (slots : Option SlotsShape) → IsParted columns slots → CanPlaceSlots columns slots
+slots-can columns kinds few None h = tt
+slots-can columns kinds few (Some s) h =
+    let known = column-fits columns kinds s.key h.known in
+    let same = length-map columns (λ (c : NamedColumn). c.kind) in
+    let below : column_number columns s.key ≤ 255 = omega (arith, few, known, same) in
+    (below, h.most_groups)
+
 items-are : (columns : List NamedColumn) (items : List AggItemShape) → AreKinds (map (agg_column columns) items)
     → AllByRecursion (λ (i : AggItemShape). IsKind (agg_kind columns i.agg)) items
 items-are columns items h = all_of_mapped (λ (c : NamedColumn). IsKind c.kind) (agg_column columns) items h
@@ -180,7 +188,7 @@ can (shape.Total aggs source) sources timed most is a s =
         room = omega arith;
       },
     )
-can (shape.Frames items condition source) sources timed most is a s =
+can (shape.Frames items condition slots source) sources timed most is a s =
     let columns = columns_of sources source in
     let own = real source (record { sources = sources; timed = timed }) is a.0 in
     let narrow = own.result.most in
@@ -197,6 +205,7 @@ can (shape.Frames items condition source) sources timed most is a s =
         filter_term = filter-term columns own.kinds condition a.1.filters;
         room = omega arith;
       },
+      slots-can columns own.kinds narrow slots a.1.parted,
     )
 can (shape.Each measure var source size advance body) sources timed most is a s =
     let columns = columns_of sources source in

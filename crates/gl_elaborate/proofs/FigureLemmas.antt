@@ -9,7 +9,7 @@ use Rattle.gl_schema.specs.declared.schema.Stream.{Stream}
 use Rattle.gl_schema.specs.Schemas.{kinds_of}
 use Rattle.gl_query.specs.declared.tree.Measure.{Measure}
 use Rattle.gl_query.specs.declared.tree.Measure.TheVariants.{Tuples, Time}
-use Rattle.gl_query.specs.Shapes.{ExprShape, ItemShape, AggShape, AggItemShape, FrameAggShape, FrameShape, FrameItemShape, PickShape, QueryShape}
+use Rattle.gl_query.specs.Shapes.{ExprShape, ItemShape, AggShape, AggItemShape, FrameAggShape, FrameShape, FrameItemShape, PickShape, QueryShape, SlotsShape}
 use Rattle.gl_query.specs.Shapes as shape
 use Rattle.gl_query.specs.Values.{kind_alone, operand_place}
 use Rattle.gl_query.specs.Columns.{columns_of, variable}
@@ -28,9 +28,9 @@ use Rattle.gl_algebra.proofs.PlanLemmas.{in_order}
 use Rattle.gl_elaborate.specs.Terms.{Term, Column, depth_of, depth_of_all, term_of}
 use Rattle.gl_elaborate.specs.Levels.{level_of, reduced, operand_of}
 use Rattle.gl_algebra.specs.Added.{Placed, added}
-use Rattle.gl_elaborate.specs.Plans.{levels, levelled, placed, condition_of, filter_of, frame_arguments, frame_terms, frames_of, frames_over, frames_terms, picked_terms, aggs_of, arguments_of, arguments_of_all, selected, rows_over, totals_over, column_under, window_node, with_filter}
+use Rattle.gl_elaborate.specs.Plans.{levels, levelled, placed, condition_of, filter_of, frame_arguments, frame_terms, frames_of, frames_over, frames_terms, key_over, picked_terms, aggs_of, arguments_of, arguments_of_all, selected, rows_over, totals_over, column_under, window_node, with_filter}
 use Rattle.gl_elaborate.specs.Fitting.{FitsNext, FramesFit, LevelsFit, SelectFits, RowsFit, TotalsFit}
-use Rattle.gl_elaborate.specs.Figures.{expr_depth, filter_depth, items_depth, pick_depth, condition_depth, agg_depth, aggs_depth, aggs_delay, frame_agg_depth, frame_depth, frames_depth, frames_delay, computed_figures, filtered_figures, query_figures}
+use Rattle.gl_elaborate.specs.Figures.{expr_depth, filter_depth, items_depth, pick_depth, condition_depth, agg_depth, aggs_depth, aggs_delay, frame_agg_depth, frame_depth, frames_depth, frames_delay, parted_delay, computed_figures, filtered_figures, query_figures}
 use Rattle.gl_elaborate.proofs.PlacedLemmas.{IsOver, is_added}
 use Rattle.gl_elaborate.proofs.DepthLemmas.{depth-both}
 use Rattle.gl_elaborate.proofs.TotalsLemmas.{HasDelay}
@@ -190,11 +190,12 @@ totals-figures columns items p f h fits delay =
       is = new.figures ∙ (λ i. aggregate_figures (delay i) (first.is i));
     }
 
-frames-figures : (columns : List NamedColumn) (items : List FrameItemShape) (condition : Option ExprShape) (p : Placed) (f : Figures) → HasFigures p f → FramesFit columns items condition p
-    → (let over = levelled (length columns) p (frames_terms columns items) (filter_of columns condition) in HasFrameDelay columns items (selected over.at over.filter) over.items)
-    → HasFigures (frames_over columns items condition p)
-    (settled (delayed (frames_delay columns items) (filtered_figures condition (computed_figures (max (frames_depth items) (condition_depth condition)) f))))
-frames-figures columns items condition p f h fits delay =
+frames-figures : (columns : List NamedColumn) (items : List FrameItemShape) (condition : Option ExprShape) (slots : Option SlotsShape) (p : Placed) (f : Figures)
+    → HasFigures p f → FramesFit columns items condition (key_over columns slots) p
+    → (let over = levelled (length columns) p (frames_terms columns items) (filter_of columns condition) in HasFrameDelay columns items slots (selected over.at over.filter) over.items)
+    → HasFigures (frames_over columns items condition (key_over columns slots) p)
+    (settled (delayed (parted_delay columns slots (frames_delay columns items)) (filtered_figures condition (computed_figures (max (frames_depth items) (condition_depth condition)) f))))
+frames-figures columns items condition slots p f h fits delay =
     let terms = frames_terms columns items in
     let left = filter_of columns condition in
     let over = levelled (length columns) p terms left in
@@ -205,7 +206,7 @@ frames-figures columns items condition p f h fits delay =
     (levels-figures (depth_of_all (with_filter terms left)) (length columns) p f terms left h fits.of_levels) in
     let same = same-levels (depth_of_all (with_filter terms left)) (length columns) p terms left condition (same-filter columns condition) in
     let second = select-figures over.at computed condition over.filter first same fits.of_select in
-    let new = is_added kept.nodes (node.Frames kept.root (frames_of items over.items)) second.plan fits.of_frames in
+    let new = is_added kept.nodes (node.Frames kept.root (key_over columns slots) (frames_of items over.items)) second.plan fits.of_frames in
     record {
       plan = new.over.plan;
       is = new.figures ∙ (λ i. settled (delayed (delay i) (second.is i)));
@@ -229,7 +230,7 @@ read-figures (node.Body own) kinds s v h = refl
 read-figures (node.Compute child ops) kinds s v h = absurd h
 read-figures (node.Select child column) kinds s v h = absurd h
 read-figures (node.Project child items) kinds s v h = absurd h
-read-figures (node.Frames child items) kinds s v h = absurd h
+read-figures (node.Frames child by items) kinds s v h = absurd h
 read-figures (node.Aggregate child aggs) kinds s v h = absurd h
 read-figures (node.Union left right) kinds s v h = absurd h
 read-figures (node.Beside left right) kinds s v h = absurd h
@@ -260,11 +261,11 @@ figures-right lengths (shape.Total aggs source) read sources timed nodes reader 
     let done = right lengths (shape.Total aggs source) read sources timed nodes reader a plan in
     totals-figures (columns_of sources source) aggs (placed read sources source nodes) (query_figures sources source)
     (figures-right lengths source read sources timed nodes reader a.0 plan) done.0.1 (total-delay lengths aggs source read sources timed nodes reader a plan)
-figures-right lengths (shape.Frames items condition source) read sources timed nodes reader a plan =
-    let done = right lengths (shape.Frames items condition source) read sources timed nodes reader a plan in
-    frames-figures (columns_of sources source) items condition (placed read sources source nodes) (query_figures sources source)
+figures-right lengths (shape.Frames items condition slots source) read sources timed nodes reader a plan =
+    let done = right lengths (shape.Frames items condition slots source) read sources timed nodes reader a plan in
+    frames-figures (columns_of sources source) items condition slots (placed read sources source nodes) (query_figures sources source)
     (figures-right lengths source read sources timed nodes reader a.0 plan) done.0.1
-    (frames-delay lengths items condition source read sources timed nodes reader a plan)
+    (frames-delay lengths items condition slots source read sources timed nodes reader a plan)
 figures-right lengths (shape.Each measure var source size advance body) read sources timed nodes reader a plan =
     let columns = columns_of sources source in
     let inner : List ℕ → PlanNode = λ name. node.Body (kinds_of columns) in

@@ -1,14 +1,16 @@
 -- What frames make of rows that are widened, where on rows with a property both say the same.
-use Rattle.std.proofs.Common.{◌≡◌, ℕ, suc, ◌-◌, Bool, List, [], ◌∷◌, ◌++◌, length, Option, Some, None, refl, sym, ap, ◌∙◌, map, filter}
-use Rattle.std.specs.Prelude.{IfSome, option_map, reverse, slice_get}
-use Rattle.std.specs.List.{AllByRecursion}
+use Rattle.std.proofs.Common.{◌≡◌, ℕ, suc, ◌-◌, Bool, ◌||◌, List, [], ◌∷◌, ◌++◌, length, Option, Some, None, refl, sym, ap, ◌∙◌, map, filter, take, nat_eq}
+use Rattle.std.specs.Prelude.{IfSome, if◌then◌else◌, not, option_map, reverse, slice_get}
+use Rattle.std.specs.List.{AllByRecursion, cons_option, list_any}
 use Rattle.std.proofs.lemmas.List.{map-append, reverse-append}
 use Rattle.std.proofs.lemmas.Option.{slice_get-map}
 use Rattle.gl_bits.proofs.AllLists.{all_append}
 use Rattle.gl_bits.proofs.Bools.{by_cases}
-use Rattle.gl_frames.specs.Frames.{each_of, frame_of, framed, lag_of, last_value_of, number_or, row_before, rows_preceding}
+use Rattle.gl_values.specs.Lists.{distinct, has_further, rows_with}
+use Rattle.gl_values.specs.Partitions.{has_key}
+use Rattle.gl_frames.specs.Frames.{by_key, each_of, frame_of, framed, framed_by_key, if_has_key, lag_of, last_value_of, number_or, row_before, rows_preceding}
 use Rattle.gl_frames.proofs.SumLemmas.{last_map}
-use Rattle.gl_query.proofs.Holding.{all_before, all_drop, all_in_frame}
+use Rattle.gl_query.proofs.Holding.{all_before, all_drop, all_filter, all_in_frame}
 
 module _ {A B : Type 0} (w : A → B) (P : A → Type 0) where
   backwards : (xs : List A) → reverse (map w xs) ≡ map w (reverse xs)
@@ -56,17 +58,63 @@ module _ {A B : Type 0} (w : A → B) (P : A → Type 0) where
         ap (λ (l : List B). number_or g (row_before 0 l)) (frame_mapped back xs h)
         ∙ lag_mapped g f alike 0 (frame_of back q xs) (all_in_frame P back q xs h)
 
-  -- two makings that are one over such rows
-  module _ {C : Type 0} (g : List B → C) (f : List A → C) (same : (ys : List A) → AllByRecursion P ys → g (map w ys) ≡ f ys) where
+  -- what is made of such rows, or nothing, where both make the same
+  module _ {C : Type 0} (g : List B → Option C) (f : List A → Option C) (same : (ys : List A) → AllByRecursion P ys → g (map w ys) ≡ f ys) where
     each_mapped : (seen xs : List A) → AllByRecursion P seen → AllByRecursion P xs
-        → each_of (λ ys. Some (g ys)) (map w seen) (map w xs) ≡ each_of (λ ys. Some (f ys)) seen xs
+        → each_of g (map w seen) (map w xs) ≡ each_of f seen xs
     each_mapped seen [] h k = refl
     each_mapped seen (x ∷ xs) h k =
         let more : AllByRecursion P (seen ++ x ∷ []) = all_append P seen (x ∷ []) h (k.0, tt) in
         let wider : map w seen ++ w x ∷ [] ≡ map w (seen ++ x ∷ []) = sym (map-append w seen (x ∷ [])) in
         let here = same (seen ++ x ∷ []) more in
         let rest = each_mapped (seen ++ x ∷ []) xs more k.1 in
-        (λ i. g (wider i) ∷ each_of (λ ys. Some (g ys)) (wider i) (map w xs)) ∙ (λ i. here i ∷ rest i)
+        (λ i. cons_option (g (wider i)) (each_of g (wider i) (map w xs))) ∙ (λ i. cons_option (here i) (rest i))
 
+  -- two keys that are one on such rows
+  module _ (k : B → ℕ) (key_of : A → ℕ) (alike : (x : A) → P x → k (w x) ≡ key_of x) where
+    keys_mapped : (xs : List A) → AllByRecursion P xs → map k (map w xs) ≡ map key_of xs
+    keys_mapped [] h = refl
+    keys_mapped (x ∷ xs) h = λ i. alike x h.0 i ∷ keys_mapped xs h.1 i
+
+    key_mapped : (n key : ℕ) (xs : List A) → AllByRecursion P xs → has_key n k (map w xs) key ≡ has_key n key_of xs key
+    key_mapped n key xs h = ap (λ (ks : List ℕ). list_any (nat_eq key) (take n (distinct ks))) (keys_mapped xs h)
+
+    rows_mapped : (key : ℕ) (xs : List A) → AllByRecursion P xs → rows_with k (map w xs) key ≡ map w (rows_with key_of xs key)
+    rows_mapped key xs h =
+        filter_mapped (λ y. nat_eq (k y) key) (λ x. nat_eq (key_of x) key) (λ x q. ap (λ (m : ℕ). nat_eq m key) (alike x q)) xs h
+
+    further_in : (ks : List ℕ) (xs : List A) → AllByRecursion P xs
+        → list_any (λ y. not (list_any (nat_eq (k y)) ks)) (map w xs) ≡ list_any (λ x. not (list_any (nat_eq (key_of x)) ks)) xs
+    further_in ks [] h = refl
+    further_in ks (x ∷ xs) h = λ i. not (list_any (nat_eq (alike x h.0 i)) ks) || further_in ks xs h.1 i
+
+    pub further_mapped : (n : ℕ) (xs : List A) → AllByRecursion P xs → has_further n k (map w xs) ≡ has_further n key_of xs
+    unfolding has_further
+    further_mapped n xs h =
+        ap (λ (ks : List ℕ). list_any (λ y. not (list_any (nat_eq (k y)) (take n (distinct ks)))) (map w xs)) (keys_mapped xs h)
+        ∙ further_in (take n (distinct (map key_of xs))) xs h
+
+  -- two makings that are one over such rows
+  module _ {C : Type 0} (g : List B → C) (f : List A → C) (same : (ys : List A) → AllByRecursion P ys → g (map w ys) ≡ f ys) where
     pub framed_mapped : (xs : List A) → AllByRecursion P xs → framed g (map w xs) ≡ framed f xs
-    framed_mapped xs h = each_mapped [] xs tt h
+    framed_mapped xs h = each_mapped (λ ys. Some (g ys)) (λ ys. Some (f ys)) (λ ys q. ap Some (same ys q)) [] xs tt h
+
+    -- and two keys
+    module _ (n : ℕ) (k : B → ℕ) (key_of : A → ℕ) (alike : (x : A) → P x → k (w x) ≡ key_of x) where
+      of_key : (xs : List A) → AllByRecursion P xs → (o : Option A) → IfSome o P
+          → if_has_key n k g (map w xs) (option_map w o) ≡ if_has_key n key_of f xs o
+      of_key xs h None q = refl
+      of_key xs h (Some x) q =
+          let key = alike x q in
+          let has = key_mapped k key_of alike n (key_of x) xs h in
+          let made = ap g (rows_mapped k key_of alike (key_of x) xs h)
+          ∙ same (rows_with key_of xs (key_of x)) (all_filter P (λ y. nat_eq (key_of y) (key_of x)) xs h) in
+          (λ i. if has_key n k (map w xs) (key i) then Some (g (rows_with k (map w xs) (key i))) else None)
+          ∙ (λ i. if has i then Some (made i) else None)
+
+      by_key_mapped : (xs : List A) → AllByRecursion P xs → by_key n k g (map w xs) ≡ by_key n key_of f xs
+      by_key_mapped xs h =
+          ap (if_has_key n k g (map w xs)) (before_mapped 0 xs) ∙ of_key xs h (row_before 0 xs) (all_before P 0 xs h)
+
+      pub keyed_mapped : (xs : List A) → AllByRecursion P xs → framed_by_key n k g (map w xs) ≡ framed_by_key n key_of f xs
+      keyed_mapped xs h = each_mapped (by_key n k g) (by_key n key_of f) by_key_mapped [] xs tt h

@@ -4,47 +4,51 @@ use Rattle.std.specs.Prelude.{option_to_list}
 use Rattle.std.specs.List.{AllByRecursion, AllZip}
 use Rattle.std.proofs.lemmas.List.{length-map}
 use Rattle.gl_values.specs.Kinds.{width_of}
-use Rattle.gl_values.specs.Results.{Row, Results, IsChanged}
+use Rattle.gl_values.specs.Results.{Row, IsChanged}
 use Rattle.gl_values.specs.Totals.{count_of, sum_total, least_of, greatest_of, average_of}
 use Rattle.gl_values.specs.declared.kind.Kind.{Kind}
 use Rattle.gl_values.specs.declared.kind.Kind.TheVariants.{Unsigned}
 use Rattle.gl_bits.proofs.AllLists.{all_append}
-use Rattle.gl_frames.specs.Frames.{frame_of, framed}
+use Rattle.gl_frames.specs.Frames.{frame_of}
 use Rattle.gl_schema.specs.declared.schema.Column.{Column as NamedColumn}
 use Rattle.gl_schema.specs.Schemas.{kinds_of}
-use Rattle.gl_query.specs.Shapes.{ExprShape, FrameAggShape, FrameShape, FrameItemShape}
+use Rattle.gl_query.specs.Shapes.{ExprShape, FrameAggShape, FrameShape, FrameItemShape, SlotsShape}
 use Rattle.gl_query.specs.Shapes as shape
 use Rattle.gl_query.specs.Values.{kind_alone, kind_of, value_of}
 use Rattle.gl_query.specs.Columns.{frame_agg_kind, frame_column, frame_kind}
-use Rattle.gl_query.specs.Accepted.{IsBack, IsFilter, IsFrame, IsFrameAgg}
-use Rattle.gl_query.specs.Results.{frame_agg_value, frame_row, frame_value, keeps, kept, values_of}
+use Rattle.gl_query.specs.Accepted.{IsBack, IsFilter, IsFrame, IsFrameAgg, IsParted}
+use Rattle.gl_query.specs.Results.{frame_agg_value, frame_row, frame_value, keeps, values_of}
 use Rattle.gl_query.specs.Laws.{AreKinds, IsLongAs}
-use Rattle.gl_query.proofs.Holding.{all_filter, all_in_frame}
+use Rattle.gl_query.proofs.Holding.{all_in_frame}
 use Rattle.gl_query.proofs.Real.{alone_kind}
 use Rattle.gl_algebra.specs.declared.node.Operand.{Operand}
 use Rattle.gl_algebra.specs.declared.node.PlanFrame.{PlanFrame}
 use Rattle.gl_algebra.specs.declared.node.PlanFrameAgg.{PlanFrameAgg}
+use Rattle.gl_algebra.specs.declared.node.PlanKey.{PlanKey}
 use Rattle.gl_algebra.specs.declared.node.PlanNode.{PlanNode}
 use Rattle.gl_algebra.specs.Added.{Placed}
 use Rattle.gl_algebra.specs.Columns.{kind_of_frame, kind_of_frame_agg, kind_of_operand, BackFits, ConditionFits, FrameAggFits, FrameFits}
 use Rattle.gl_algebra.specs.Frames.{delay_of_count, delay_of_frame, delay_of_frames, delay_of_sum, delay_over, digits_of_rows}
+use Rattle.gl_algebra.specs.Keys.{delay_by_key}
 use Rattle.gl_algebra.specs.Results.{Meaning, counts_in, row_of_frames, value_of_frame, value_over, values_in}
-use Rattle.gl_algebra.specs.Shapes.{Shape, Pace, unsteady, shape_of}
+use Rattle.gl_algebra.specs.Results as plan
+use Rattle.gl_algebra.specs.Shapes.{Shape, Pace, unsteady, pace_by_key, shape_of}
 use Rattle.gl_algebra.specs.Values.{value_of_operand}
 use Rattle.gl_elaborate.specs.Terms.{Term, IsTerm, term_of, depth_of_all}
 use Rattle.gl_elaborate.specs.Levels.{operand_of}
-use Rattle.gl_elaborate.specs.Plans.{behind_argument, behind_condition, behind_frame, column_under, condition_of, condition_over, filter_of, frame_agg_over, frame_arguments, frame_over, frame_terms, framed_over, frames_of, frames_over, frames_terms, levelled, selected, with_filter}
+use Rattle.gl_elaborate.specs.Plans.{behind_argument, behind_condition, behind_frame, column_under, condition_of, condition_over, filter_of, frame_agg_over, frame_arguments, frame_over, frame_terms, framed_over, frames_of, frames_over, frames_terms, key_over, levelled, selected, with_filter}
 use Rattle.gl_elaborate.specs.Fitting.{FramedFits, FramesFit, LevelledFit, SelectFits}
-use Rattle.gl_elaborate.specs.Figures.{frame_agg_delay, frame_delay, frames_delay}
+use Rattle.gl_elaborate.specs.Figures.{frame_agg_delay, frame_delay, frames_delay, parted_delay}
 use Rattle.gl_elaborate.proofs.TermLemmas.{term-kind, term-value}
 use Rattle.gl_elaborate.proofs.AcceptedLemmas.{term-fits}
-use Rattle.gl_elaborate.proofs.LevelLemmas.{IsCarried}
+use Rattle.gl_elaborate.proofs.LevelLemmas.{IsCarried, KeepsColumns}
 use Rattle.gl_elaborate.proofs.DepthLemmas.{IsNoLiteral}
 use Rattle.gl_elaborate.proofs.LongLemmas.{AreLong}
 use Rattle.gl_elaborate.proofs.StandsLemmas.{Stands, weaker, frames-fits, frames-stands, select-fits, select-stands, IsLevelled, levels-stand}
 use Rattle.gl_elaborate.proofs.RowsLemmas.{IsCast, condition, flat-column, pace_under, unfiltered}
 use Rattle.gl_elaborate.proofs.TotalsLemmas.{IsArgument, argument, counted, sum_of_kind, summed}
-use Rattle.gl_elaborate.proofs.FramedLemmas.{filter_mapped, frame_mapped, framed_mapped, lag_mapped, last_mapped}
+use Rattle.gl_elaborate.proofs.FramedLemmas.{frame_mapped, lag_mapped, last_mapped}
+use Rattle.gl_elaborate.proofs.KeyedLemmas.{AreFramed, framed-alike, key-stands}
 
 -- a column over wider rows picks the rows that a condition picks
 abbrev PicksAlike : List NamedColumn → (Row → Row) → Option ExprShape → Option ℕ → Type 0
@@ -264,24 +268,24 @@ module _ (columns : List NamedColumn) (areKinds : AreKinds columns) where
   terms-fit (i ∷ items) h =
       all_append (IsTerm (kinds_of columns)) (frame_terms columns i.frame) (frames_terms columns items) (frame-fits i.frame h.0) (terms-fit items h.1)
 
--- made of a result of the source whose rows are long
-pub record IsFramed (columns : List NamedColumn) (items : List FrameItemShape) (condition : Option ExprShape) (source : Results) (out : List Row) (spill : Bool) : Type 0 where
-  pub rows : List Row
-  pub of_source : source rows spill
-  pub made : AreLong columns rows → out ≡ framed (frame_row columns items) (kept columns condition rows)
-
 -- the node of the frames has their delay
-abbrev pub HasFrameDelay : List NamedColumn → List FrameItemShape → Placed → List Term → Type 0
-HasFrameDelay columns items at terms = delay_of_frames (shape_of at.nodes at.root).kinds (frames_of items terms) ≡ frames_delay columns items
+abbrev pub HasFrameDelay : List NamedColumn → List FrameItemShape → Option SlotsShape → Placed → List Term → Type 0
+HasFrameDelay columns items slots at terms =
+    delay_by_key (shape_of at.nodes at.root).kinds (key_over columns slots) (frames_of items terms) ≡ parted_delay columns slots (frames_delay columns items)
 
 module _ (columns : List NamedColumn) (areKinds : AreKinds columns) (old : List PlanNode) (at : Placed) (shape : Shape) (Means : Meaning)
-    (same : shape.kinds ≡ kinds_of columns) (items : List FrameItemShape) (typed : AllByRecursion (λ (i : FrameItemShape). IsFrame columns i.frame) items) where
+    (same : shape.kinds ≡ kinds_of columns) (items : List FrameItemShape) (typed : AllByRecursion (λ (i : FrameItemShape). IsFrame columns i.frame) items)
+    (slots : Option SlotsShape) (parted : IsParted columns slots) where
   abbrev given : Shape
   given = record shape { kinds = kinds_of columns }
 
+  -- the key of the last node
+  abbrev by : Option PlanKey
+  by = key_over columns slots
+
   -- the last node, over what is kept, has this shape
   abbrev last : Pace → Shape
-  last pace = record shape { kinds = kinds_of (map (frame_column columns) items); pace = pace }
+  last pace = record shape { kinds = kinds_of (map (frame_column columns) items); pace = pace_by_key by pace }
 
   open_levels : (left : Option Term)
       → AllByRecursion (IsTerm (kinds_of columns)) (option_to_list left) → AllByRecursion IsNoLiteral (option_to_list left)
@@ -296,53 +300,44 @@ module _ (columns : List NamedColumn) (areKinds : AreKinds columns) (old : List 
   -- the last node, behind a filter
   finish : (o : Option ExprShape) (pace : Pace) (from : Placed) (kinds : List Kind) (widen : Row → Row) (p : Row → Bool) (terms : List Term)
       → Stands old from (record shape { kinds = kinds; pace = pace }) (λ inputs. IsChanged (IsChanged (Means inputs) (map widen)) (filter p))
-      → AllZip (IsCarried (kinds_of columns) kinds widen) (frames_terms columns items) terms → depth_of_all terms ≡ 0
+      → AllZip (IsCarried (kinds_of columns) kinds widen) (frames_terms columns items) terms → depth_of_all terms ≡ 0 → KeepsColumns (kinds_of columns) kinds widen
       → ((row : Row) → IsLongAs columns row → p (widen row) ≡ keeps columns o row)
-      → FramedFits from items terms × HasFrameDelay columns items from terms
-      × Stands old (framed_over from items terms) (last pace) (λ inputs. IsFramed columns items o (Means inputs))
-  finish o pace from kinds widen p terms s zipped flat picks =
+      → FramedFits from by items terms × HasFrameDelay columns items slots from terms
+      × Stands old (framed_over from by items terms) (last pace) (λ inputs. AreFramed columns items o slots (Means inputs))
+  finish o pace from kinds widen p terms s zipped flat wide picks =
       let all = frames columns areKinds kinds widen items terms typed zipped flat in
+      let key = key-stands columns areKinds kinds widen wide slots parted in
       let made = frames_of items terms in
       let below : Shape = record shape { kinds = kinds; pace = pace } in
-      let stood = frames-stands old from below (λ inputs. IsChanged (IsChanged (Means inputs) (map widen)) (filter p)) s made all.0 in
-      let moved = subst (λ (k : List Kind). Stands old (framed_over from items terms) (record shape { kinds = k; pace = pace })
-      (λ inputs. IsChanged (IsChanged (IsChanged (Means inputs) (map widen)) (filter p)) (framed (row_of_frames kinds made)))) all.1 stood in (
-        frames-fits old from below (λ inputs. IsChanged (IsChanged (Means inputs) (map widen)) (filter p)) s made all.0,
-        ap (λ (x : Shape). delay_of_frames x.kinds made) s.is ∙ all.2,
-        weaker old (framed_over from items terms) (last pace)
-            (λ inputs. IsChanged (IsChanged (IsChanged (Means inputs) (map widen)) (filter p)) (framed (row_of_frames kinds made)))
-            (λ inputs. IsFramed columns items o (Means inputs)) moved
-            (λ inputs out spill r. record {
-              rows = r.of_source.of_source.rows;
-              of_source = r.of_source.of_source.of_source;
-              made = λ long.
-                  let rows = r.of_source.of_source.rows in
-                  r.changed
-                  ∙ ap (framed (row_of_frames kinds made)) (r.of_source.changed ∙ ap (filter p) r.of_source.of_source.changed
-                  ∙ filter_mapped widen (IsLongAs columns) p (keeps columns o) picks rows long)
-                  ∙ framed_mapped widen (IsLongAs columns) (row_of_frames kinds made) (frame_row columns items) all.3 (kept columns o rows)
-                  (all_filter (IsLongAs columns) (keeps columns o) rows long);
-            }),
+      let stood = frames-stands old from below (λ inputs. IsChanged (IsChanged (Means inputs) (map widen)) (filter p)) s by made key.fits all.0 in
+      let moved = subst (λ (k : List Kind). Stands old (framed_over from by items terms) (record shape { kinds = k; pace = pace_by_key by pace })
+      (λ inputs. plan.IsFramed by (row_of_frames kinds made) (IsChanged (IsChanged (Means inputs) (map widen)) (filter p)))) all.1 stood in (
+        frames-fits old from below (λ inputs. IsChanged (IsChanged (Means inputs) (map widen)) (filter p)) s by made key.fits all.0,
+        ap (λ (x : Shape). delay_by_key x.kinds by made) s.is ∙ key.delay made (frames_delay columns items) all.2,
+        weaker old (framed_over from by items terms) (last pace)
+            (λ inputs. plan.IsFramed by (row_of_frames kinds made) (IsChanged (IsChanged (Means inputs) (map widen)) (filter p)))
+            (λ inputs. AreFramed columns items o slots (Means inputs)) moved
+            (λ inputs. framed-alike columns areKinds kinds widen wide items o made p picks all.3 slots parted (Means inputs)),
       )
 
   over_none : (from : Placed) (terms : List Term) (left : Option Term) (Fit : Type 0)
       → IsLevelled old given Means (frames_terms columns items) None (record { at = from; items = terms; filter = left }) Fit
-      → SelectFits from left × FramedFits (selected from left) items terms × HasFrameDelay columns items (selected from left) terms
-      × Stands old (framed_over (selected from left) items terms) (last shape.pace) (λ inputs. IsFramed columns items None (Means inputs))
+      → SelectFits from left × FramedFits (selected from left) by items terms × HasFrameDelay columns items slots (selected from left) terms
+      × Stands old (framed_over (selected from left) by items terms) (last shape.pace) (λ inputs. AreFramed columns items None slots (Means inputs))
   over_none from terms None Fit l =
       let done = finish None shape.pace from l.kinds l.widen (λ row. true) terms
       (weaker old from (record shape { kinds = l.kinds }) (λ inputs. IsChanged (Means inputs) (map l.widen))
       (λ inputs. IsChanged (IsChanged (Means inputs) (map l.widen)) (filter (λ row. true))) l.stands
       (λ inputs out spill r. record { rows = out; of_source = r; changed = unfiltered out }))
-      l.of_items l.flat_items (λ row long. refl) in
+      l.of_items l.flat_items l.of_columns (λ row long. refl) in
       (tt, done.0, done.1, done.2)
   over_none from terms (Some t) Fit l = absurd l.of_filter
 
   over_some : (e : ExprShape) (from : Placed) (terms : List Term) (left : Option Term) (Fit : Type 0)
       → IsCast (kinds_of columns) (term_of columns (Unsigned 1) e) (condition_of (term_of columns (Unsigned 1) e))
       → IsLevelled old given Means (frames_terms columns items) (filter_of columns (Some e)) (record { at = from; items = terms; filter = left }) Fit
-      → SelectFits from left × FramedFits (selected from left) items terms × HasFrameDelay columns items (selected from left) terms
-      × Stands old (framed_over (selected from left) items terms) (last unsteady) (λ inputs. IsFramed columns items (Some e) (Means inputs))
+      → SelectFits from left × FramedFits (selected from left) by items terms × HasFrameDelay columns items slots (selected from left) terms
+      × Stands old (framed_over (selected from left) by items terms) (last unsteady) (λ inputs. AreFramed columns items (Some e) slots (Means inputs))
   over_some e from terms None Fit is l = absurd l.of_filter
   over_some e from terms (Some t) Fit is l =
       let carried = l.of_filter.0 in
@@ -350,17 +345,17 @@ module _ (columns : List NamedColumn) (areKinds : AreKinds columns) (old : List 
       let column = column_under (operand_of t) in
       let done = finish (Some e) unsteady (selected from (Some t)) l.kinds l.widen (λ row. nat_eq (slice_index row column) 1) terms
       (select-stands old from (record shape { kinds = l.kinds }) (λ inputs. IsChanged (Means inputs) (map l.widen)) l.stands column bit.is)
-      l.of_items l.flat_items
+      l.of_items l.flat_items l.of_columns
       (λ row long. ap (λ (n : ℕ). nat_eq n 1)
       (bit.value (l.widen row) ∙ carried.value row (long ∙ sym (length-map columns (λ c. c.kind))) ∙ is.value row ∙ term-value columns (Unsigned 1) e row)) in
       (select-fits old from (record shape { kinds = l.kinds }) (λ inputs. IsChanged (Means inputs) (map l.widen)) l.stands column bit.is, done.0, done.1, done.2)
 
   -- a select of frames over a node
   pub frames-stand : (o : Option ExprShape) → IsFilter columns o → Stands old at shape Means
-      → FramesFit columns items o at
+      → FramesFit columns items o by at
       × (let over = levelled (length columns) at (frames_terms columns items) (filter_of columns o) in
-      HasFrameDelay columns items (selected over.at over.filter) over.items)
-      × Stands old (frames_over columns items o at) (last (pace_under o shape.pace)) (λ inputs. IsFramed columns items o (Means inputs))
+      HasFrameDelay columns items slots (selected over.at over.filter) over.items)
+      × Stands old (frames_over columns items o by at) (last (pace_under o shape.pace)) (λ inputs. AreFramed columns items o slots (Means inputs))
   frames-stand None is s =
       let opened = open_levels None tt tt s in
       let done = over_none _ _ _ _ opened in

@@ -173,6 +173,10 @@ pub record IsCarried (kinds kinds' : List Kind) (widen : Row → Row) (t t' : Te
   pub value : (row : Row) → length row ≡ length kinds → term_value kinds' (widen row) t' ≡ term_value kinds row t
   pub still : IsNoLiteral t → IsNoLiteral t'
 
+-- each column stands in wider rows where it stood
+abbrev pub KeepsColumns : List Kind → List Kind → (Row → Row) → Type 0
+KeepsColumns kinds kinds' widen = (n : ℕ) → n < length kinds → IsCarried kinds kinds' widen (Column n) (Column n)
+
 module _ (kinds : List Kind) (level : List ColOp) where
   -- the kinds with those of a level
   abbrev pub wider : List Kind

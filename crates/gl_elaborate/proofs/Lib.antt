@@ -3,6 +3,7 @@ pub mod StandsLemmas
 pub mod RowsLemmas
 pub mod TotalsLemmas
 pub mod FramedLemmas
+pub mod KeyedLemmas
 pub mod FramesLemmas
 pub mod LongLemmas
 pub mod ReadLemmas

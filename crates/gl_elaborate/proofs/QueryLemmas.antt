@@ -7,29 +7,30 @@ use Rattle.gl_values.specs.Lists.{Group, groups, has_further}
 use Rattle.gl_values.specs.Partitions.{parts}
 use Rattle.gl_values.specs.Results.{Row, Results, AreBeside, AreJoined, IsOfBoth, IsOfGroup, IsOfParts}
 use Rattle.gl_values.specs.declared.kind.Kind.{Kind}
+use Rattle.gl_schema.specs.declared.schema.Column.{Column as NamedColumn}
 use Rattle.gl_schema.specs.declared.schema.Stream.{Stream}
 use Rattle.gl_schema.specs.Schemas.{kinds_of}
 use Rattle.gl_query.specs.declared.tree.Measure.{Measure}
 use Rattle.gl_query.specs.declared.tree.Measure.TheVariants.{Tuples, Time}
-use Rattle.gl_query.specs.Shapes.{ExprShape, AggItemShape, FrameItemShape, QueryShape}
+use Rattle.gl_query.specs.Shapes.{ExprShape, AggItemShape, FrameItemShape, QueryShape, SlotsShape}
 use Rattle.gl_query.specs.Shapes as shape
 use Rattle.gl_query.specs.Values.{column_number}
 use Rattle.gl_query.specs.Columns.{columns_of, frame_column, source_columns, variable, is_closing, pace_of, unfiltered, picked_columns}
 use Rattle.gl_query.specs.Columns as query
 use Rattle.gl_query.specs.Accepted.{IsAcceptedOver, can_measure}
 use Rattle.gl_query.specs.Windows.{parts_of}
-use Rattle.gl_query.specs.Results.{Env, IsResultIn, frame_row, only, picked, kept, ticks_in, times_in, total_row}
+use Rattle.gl_query.specs.Results.{Env, IsFramed, IsResultIn, frame_row, only, picked, kept, ticks_in, times_in, total_row}
 use Rattle.gl_query.proofs.Holding.{all_parts}
 use Rattle.gl_query.proofs.Real.{AreReal, real}
 use Rattle.gl_algebra.specs.declared.node.PlanNode.{PlanNode}
 use Rattle.gl_algebra.specs.declared.node.PlanNode.TheVariants as node
 use Rattle.gl_algebra.specs.Fits.{IsPlan, IsOverStream}
-use Rattle.gl_algebra.specs.Shapes.{Pace, unsteady, shape_of}
+use Rattle.gl_algebra.specs.Shapes.{Pace, unsteady, pace_by_key, shape_of}
 use Rattle.gl_algebra.specs.Added.{Placed, added}
 use Rattle.gl_algebra.specs.Results.{Inputs, given, times_with, IsPlanResult}
 use Rattle.gl_elaborate.proofs.TermLemmas.{kind-column}
 use Rattle.gl_elaborate.proofs.AcceptedLemmas.{column-fits}
-use Rattle.gl_elaborate.specs.Plans.{filter_of, frames_over, frames_terms, levelled, placed, rows_over, selected, totals_over, window_node}
+use Rattle.gl_elaborate.specs.Plans.{filter_of, frames_over, frames_terms, key_over, levelled, placed, rows_over, selected, totals_over, window_node}
 use Rattle.gl_elaborate.specs.Fitting.{PlacedFit}
 use Rattle.gl_elaborate.specs.Right.{plan_pace, leaves_of, shape_for}
 use Rattle.gl_elaborate.proofs.LongLemmas.{AreLong, in-groups, in-parts, results-long}
@@ -38,7 +39,8 @@ use Rattle.gl_elaborate.proofs.PlacedLemmas.{IsOver, is_added}
 use Rattle.gl_elaborate.proofs.StandsLemmas.{Stands, weaker}
 use Rattle.gl_elaborate.proofs.RowsLemmas.{IsPicked, pace_under, rows-stand}
 use Rattle.gl_elaborate.proofs.TotalsLemmas.{IsTotalled, HasDelay, totals-stand}
-use Rattle.gl_elaborate.proofs.FramesLemmas.{HasFrameDelay, IsFramed, frames-stand}
+use Rattle.gl_elaborate.proofs.KeyedLemmas.{AreFramed}
+use Rattle.gl_elaborate.proofs.FramesLemmas.{HasFrameDelay, frames-stand}
 use Rattle.gl_elaborate.proofs.TwoLemmas.{behind, left_still, union-stands, beside-stands, window-stands, group-stands, partition-stands}
 use Rattle.gl_query.specs.Laws.{IsLongAs, ResultsAreLong}
 use Rattle.gl_frames.specs.Frames.{framed}
@@ -57,6 +59,13 @@ rows-pace : (read : List ℕ → PlanNode) (condition : Option ExprShape) (pace 
     → pace_under condition (plan_pace read pace) ≡ plan_pace read (unfiltered condition pace)
 rows-pace read None pace = refl
 rows-pace read (Some e) pace = refl
+
+frames-pace : (read : List ℕ → PlanNode) (columns : List NamedColumn) (slots : Option SlotsShape) (condition : Option ExprShape) (pace : Option query.Pace)
+    → pace_by_key (key_over columns slots) (pace_under condition (plan_pace read pace)) ≡ plan_pace read (unfiltered condition (unfiltered slots pace))
+frames-pace read columns None None pace = refl
+frames-pace read columns None (Some e) pace = refl
+frames-pace read columns (Some s) None pace = refl
+frames-pace read columns (Some s) (Some e) pace = refl
 
 some-pace : (read : List ℕ → PlanNode) (sources : List Stream) (timed : Bool) → IsReader read sources timed → (pace : Option query.Pace) → IsSome pace
     → plan_pace read pace ≢ unsteady
@@ -97,6 +106,25 @@ same-parts Tuples source read sources timed env inputs size advance rows a can s
 same-parts Time (shape.Read name) read sources timed env inputs size advance rows a can sees =
     (λ i. parts_of Time size advance (sees.times can name a i) (sees.ticks can name a i) rows)
 same-parts Time source read sources timed env inputs size advance rows a can sees = absurd (cc)
+
+-- what frames make of a result of their source is a result of the query
+framed-means : ResultsAreLong → (items : List FrameItemShape) (condition : Option ExprShape) (slots : Option SlotsShape) (source : QueryShape) (read : List ℕ → PlanNode)
+    (sources : List Stream) (timed : Bool) → IsAcceptedOver (record { sources = sources; timed = timed }) source → (inputs : Inputs) (out : List Row) (spill : Bool)
+    → AreFramed (columns_of sources source) items condition slots (means_for read sources timed source inputs) out spill
+    → means_for read sources timed (shape.Frames items condition slots source) inputs out spill
+framed-means lengths items condition None source read sources timed a inputs out spill r = λ env sees.
+    let result = r.of_source env sees in
+    record {
+      rows = r.rows;
+      of_source = result;
+      changed = subst (λ (s : List Stream). out ≡ framed (frame_row (columns_of s source) items) (kept (columns_of s source) condition r.rows))
+          (sym sees.streams) (r.made (results-long lengths source sources timed env r.rows spill a sees.streams sees.are_long result));
+    }
+framed-means lengths items condition (Some slots) source read sources timed a inputs out spill r = λ env sees.
+    let result = r.of_source env sees in
+    let long = results-long lengths source sources timed env r.rows r.source_spill a sees.streams sees.are_long result in
+    subst (λ (s : List Stream). IsFramed (columns_of s source) items condition (Some slots) (IsResultIn source env) out spill) (sym sees.streams)
+    (record { rows = r.rows; source_spill = r.source_spill; of_source = result; changed = r.made long; any = r.told long })
 
 -- the plan of an accepted query
 pub right : ResultsAreLong → (q : QueryShape) (read : List ℕ → PlanNode) (sources : List Stream) (timed : Bool) (nodes : List PlanNode) → IsReader read sources timed
@@ -155,26 +183,19 @@ right lengths (shape.Total aggs source) read sources timed nodes reader a plan =
                 (sym sees.streams) (r.made (results-long lengths source sources timed env r.rows spill a.0 sees.streams sees.are_long result));
           }),
     )
-right lengths (shape.Frames items condition source) read sources timed nodes reader a plan =
+right lengths (shape.Frames items condition slots source) read sources timed nodes reader a plan =
     let columns = columns_of sources source in
     let below = right lengths source read sources timed nodes reader a.0 plan in
     let are = columns-are source read sources timed reader a.0 in
     let done = frames-stand columns are.kinds nodes (placed read sources source nodes) (shape_for read sources source) (means_for read sources timed source) refl
-    items a.1.typed condition a.1.filters below.1 in
-    let at = frames_over columns items condition (placed read sources source nodes) in
+    items a.1.typed slots a.1.parted condition a.1.filters below.1 in
+    let at = frames_over columns items condition (key_over columns slots) (placed read sources source nodes) in
     let paced = subst (λ (p : Pace). Stands nodes at (record (shape_for read sources source) { kinds = kinds_of (map (frame_column columns) items); pace = p })
-    (λ inputs. IsFramed columns items condition (means_for read sources timed source inputs))) (rows-pace read condition (pace_of source)) done.2 in (
+    (λ inputs. AreFramed columns items condition slots (means_for read sources timed source inputs))) (frames-pace read columns slots condition (pace_of source)) done.2 in (
       (below.0, done.0),
-      weaker nodes at (shape_for read sources (shape.Frames items condition source)) (λ inputs. IsFramed columns items condition (means_for read sources timed source inputs))
-          (means_for read sources timed (shape.Frames items condition source)) paced
-          (λ inputs out spill r env sees.
-          let result = r.of_source env sees in
-          record {
-            rows = r.rows;
-            of_source = result;
-            changed = subst (λ (s : List Stream). out ≡ framed (frame_row (columns_of s source) items) (kept (columns_of s source) condition r.rows))
-                (sym sees.streams) (r.made (results-long lengths source sources timed env r.rows spill a.0 sees.streams sees.are_long result));
-          }),
+      weaker nodes at (shape_for read sources (shape.Frames items condition slots source)) (λ inputs. AreFramed columns items condition slots (means_for read sources timed source inputs))
+          (means_for read sources timed (shape.Frames items condition slots source)) paced
+          (framed-means lengths items condition slots source read sources timed a.0),
     )
 right lengths (shape.Each measure var source size advance body) read sources timed nodes reader a plan =
     let columns = columns_of sources source in
@@ -355,14 +376,15 @@ total-delay lengths aggs source read sources timed nodes reader a plan =
     (totals-stand columns are.kinds nodes (placed read sources source nodes) (shape_for read sources source) (means_for read sources timed source) refl
     aggs a.1.typed below.1).1
 
-pub frames-delay : ResultsAreLong → (items : List FrameItemShape) (condition : Option ExprShape) (source : QueryShape) (read : List ℕ → PlanNode) (sources : List Stream) (timed : Bool)
-    (nodes : List PlanNode) → IsReader read sources timed → IsAcceptedOver (record { sources = sources; timed = timed }) (shape.Frames items condition source) → IsPlan nodes
+pub frames-delay : ResultsAreLong → (items : List FrameItemShape) (condition : Option ExprShape) (slots : Option SlotsShape) (source : QueryShape) (read : List ℕ → PlanNode)
+    (sources : List Stream) (timed : Bool) (nodes : List PlanNode) → IsReader read sources timed
+    → IsAcceptedOver (record { sources = sources; timed = timed }) (shape.Frames items condition slots source) → IsPlan nodes
     → let columns = columns_of sources source in
     let over = levelled (length columns) (placed read sources source nodes) (frames_terms columns items) (filter_of columns condition) in
-    HasFrameDelay columns items (selected over.at over.filter) over.items
-frames-delay lengths items condition source read sources timed nodes reader a plan =
+    HasFrameDelay columns items slots (selected over.at over.filter) over.items
+frames-delay lengths items condition slots source read sources timed nodes reader a plan =
     let columns = columns_of sources source in
     let below = right lengths source read sources timed nodes reader a.0 plan in
     let are = columns-are source read sources timed reader a.0 in
     (frames-stand columns are.kinds nodes (placed read sources source nodes) (shape_for read sources source) (means_for read sources timed source) refl
-    items a.1.typed condition a.1.filters below.1).1
+    items a.1.typed slots a.1.parted condition a.1.filters below.1).1

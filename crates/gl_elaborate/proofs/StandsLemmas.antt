@@ -9,24 +9,25 @@ use Rattle.gl_algebra.specs.declared.node.Operand.{Operand}
 use Rattle.gl_algebra.specs.declared.node.ColOp.{ColOp}
 use Rattle.gl_algebra.specs.declared.node.PlanAgg.{PlanAgg}
 use Rattle.gl_algebra.specs.declared.node.PlanFrame.{PlanFrame}
+use Rattle.gl_algebra.specs.declared.node.PlanKey.{PlanKey}
 use Rattle.gl_algebra.specs.declared.node.PlanNode.{PlanNode}
 use Rattle.gl_algebra.specs.declared.node.PlanNode.TheVariants as node
 use Rattle.gl_algebra.specs.Columns.{bit_kind, kind_of_operand, kind_of_agg, kind_of_frame, OperandFits, OpFits, AggFits, FrameFits}
-use Rattle.gl_algebra.specs.Fits.{Fits}
-use Rattle.gl_algebra.specs.Shapes.{Shape, unsteady, once, shape_from, shape_of}
+use Rattle.gl_algebra.specs.Fits.{Fits, KeyFits}
+use Rattle.gl_algebra.specs.Shapes.{Shape, unsteady, once, pace_by_key, shape_from, shape_of}
 use Rattle.gl_values.specs.Results.{Row, Results, IsChanged}
-use Rattle.gl_frames.specs.Frames.{framed}
 use Rattle.gl_bits.proofs.AllLists.{all_append, all_front, all_back, map_map}
 use Rattle.gl_algebra.specs.Added.{Placed, added}
-use Rattle.gl_algebra.specs.Results.{Inputs, Meaning, IsPlanResult, meaning_from, computed, row_of_frames, selected, projected, totalled}
+use Rattle.gl_algebra.specs.Results.{Inputs, IsFramed, Meaning, IsPlanResult, meaning_from, computed, row_of_frames, selected, projected, totalled}
+use Rattle.gl_algebra.proofs.ReadLemmas.{framed_within}
 use Rattle.gl_algebra.proofs.ResultLemmas.{moved}
-use Rattle.gl_elaborate.specs.Terms.{Term, IsTerm, depth_of_all}
+use Rattle.gl_elaborate.specs.Terms.{Term, Column, IsTerm, depth_of_all}
 use Rattle.gl_elaborate.specs.Levels.{innermost_of_all, level_of, reduced}
 use Rattle.gl_elaborate.specs.Plans.{Levelled, levels, with_filter}
 use Rattle.gl_elaborate.specs.Fitting.{LevelsFit}
 use Rattle.gl_elaborate.proofs.PlacedLemmas.{IsOver, over-then, is_added}
 use Rattle.gl_elaborate.proofs.StepLemmas.{listed}
-use Rattle.gl_elaborate.proofs.LevelLemmas.{Has, IsCarried, wider, all-carried, level-has, level-fits, length-computed}
+use Rattle.gl_elaborate.proofs.LevelLemmas.{Has, IsCarried, KeepsColumns, wider, carried, all-carried, level-has, level-fits, length-computed}
 use Rattle.gl_elaborate.proofs.RoomLemmas.{innermost-both}
 use Rattle.gl_elaborate.proofs.DepthLemmas.{depth-reduced_all, depth-both, IsNoLiteral, all-no-literal}
 
@@ -93,19 +94,30 @@ module _ (old : List PlanNode) (at : Placed) (shape : Shape) (Means : Meaning) (
     timed = tt;
   }
 
-  pub frames-fits : (items : List PlanFrame) → AllByRecursion (FrameFits shape.kinds) items → Fits at.nodes (length at.nodes) (node.Frames at.root items)
-  frames-fits items fits = record {
+  pub frames-fits : (by : Option PlanKey) (items : List PlanFrame) → KeyFits shape.kinds by → AllByRecursion (FrameFits shape.kinds) items
+      → Fits at.nodes (length at.nodes) (node.Frames at.root by items)
+  frames-fits by items key fits = record {
     before = before;
-    suits = subst (λ (x : Shape). All (FrameFits x.kinds) items) (sym s.is) (All-from_recursion (FrameFits shape.kinds) items fits);
+    suits = subst (λ (x : Shape). All (FrameFits x.kinds) items × KeyFits x.kinds by) (sym s.is) (All-from_recursion (FrameFits shape.kinds) items fits, key);
     timed = tt;
   }
 
-  pub frames-stands : (items : List PlanFrame) → AllByRecursion (FrameFits shape.kinds) items
-      → Stands old (added at.nodes (node.Frames at.root items)) (record shape { kinds = map (kind_of_frame shape.kinds) items })
-      (λ inputs. IsChanged (Means inputs) (framed (row_of_frames shape.kinds items)))
-  frames-stands items fits =
-      one-more (node.Frames at.root items) (λ x. framed (row_of_frames x.kinds items)) (frames-fits items fits)
-      (λ x. refl) (λ x m inputs out spill r. r)
+  pub frames-stands : (by : Option PlanKey) (items : List PlanFrame) → KeyFits shape.kinds by → AllByRecursion (FrameFits shape.kinds) items
+      → Stands old (added at.nodes (node.Frames at.root by items))
+      (record shape { kinds = map (kind_of_frame shape.kinds) items; pace = pace_by_key by shape.pace })
+      (λ inputs. IsFramed by (row_of_frames shape.kinds items) (Means inputs))
+  frames-stands by items key fits =
+      let n = node.Frames at.root by items in
+      let new = is_added at.nodes n s.over.plan (frames-fits by items key fits) in
+      record {
+        over = over-then old at (added at.nodes n) s.over new.over;
+        is = new.shape ∙ ap (λ (x : Shape). shape_from (λ _. x) n) s.is;
+        means = λ inputs out spill r.
+            let made = moved (IsPlanResult (added at.nodes n).nodes (added at.nodes n).root) (meaning_from (shape_of at.nodes) (IsPlanResult at.nodes) n)
+            new.means inputs out spill r in
+            framed_within (IsPlanResult at.nodes at.root inputs) (Means inputs) by (row_of_frames shape.kinds items) (s.means inputs) out spill
+            (subst (λ (x : Shape). IsFramed by (row_of_frames x.kinds items) (IsPlanResult at.nodes at.root inputs) out spill) s.is made);
+      }
 
   pub aggregate-fits : (aggs : List PlanAgg) → AllByRecursion (AggFits shape.kinds) aggs → Fits at.nodes (length at.nodes) (node.Aggregate at.root aggs)
   aggregate-fits aggs fits = record {
@@ -200,6 +212,7 @@ pub record IsLevelled (old : List PlanNode) (shape : Shape) (Means : Meaning) (i
   pub flat_items : depth_of_all over.items ≡ 0
   pub flat_filter : depth_of_all (option_to_list over.filter) ≡ 0
   pub columns : AllByRecursion IsNoLiteral (option_to_list over.filter)
+  pub of_columns : KeepsColumns shape.kinds kinds widen
 
 pub levels-stand : (depth base : ℕ) (old : List PlanNode) (at : Placed) (shape : Shape) (Means : Meaning) (items : List Term) (filter : Option Term)
     → base ≡ length shape.kinds → depth_of_all (with_filter items filter) ≤ depth
@@ -219,6 +232,7 @@ levels-stand zero base old at shape Means items filter same deep fits fits' colu
       flat_items = omega arith;
       flat_filter = omega arith;
       columns = columns;
+      of_columns = λ n lt. record { fits = lt; kind = refl; value = λ row same. refl; still = λ no. no };
     }
 levels-stand (suc depth) base old at shape Means items filter same deep fits fits' columns s =
     let conditions = option_to_list filter in
@@ -265,4 +279,8 @@ levels-stand (suc depth) base old at shape Means items filter same deep fits fit
       flat_items = rest.flat_items;
       flat_filter = rest.flat_filter;
       columns = rest.columns;
+      of_columns = λ n lt.
+          let here = carried shape.kinds level (Column n) lt tt in
+          carried-then shape.kinds kinds' rest.kinds w rest.widen (Column n) (Column n) (Column n)
+          (λ row e. length-computed shape.kinds level row e) here (rest.of_columns n here.fits);
     }

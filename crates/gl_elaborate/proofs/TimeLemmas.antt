@@ -14,6 +14,7 @@ use Rattle.gl_query.specs.Columns.{columns_of, variable}
 use Rattle.gl_query.specs.Windows as windows
 use Rattle.gl_query.specs.Windows.{has_time}
 use Rattle.gl_query.specs.Values.{column_number}
+use Rattle.gl_algebra.specs.declared.node.PlanKey.{PlanKey}
 use Rattle.gl_algebra.specs.declared.node.PlanNode.{PlanNode}
 use Rattle.gl_algebra.specs.declared.node.PlanNode.TheVariants as node
 use Rattle.gl_algebra.specs.Added.{Placed, added, place_of}
@@ -22,7 +23,7 @@ use Rattle.gl_algebra.proofs.ListLemmas.{any_at}
 use Rattle.gl_algebra.proofs.PlanLemmas.{node_inserted}
 use Rattle.gl_elaborate.specs.Terms.{Term, depth_of_all}
 use Rattle.gl_elaborate.specs.Levels.{level_of, operand_of, reduced}
-use Rattle.gl_elaborate.specs.Plans.{aggs_of, arguments_of_all, column_under, filter_of, frames_of, frames_over, frames_terms, levelled, levels, picked_terms, placed, rows_over, selected, stream_node, totals_over, window_node, with_filter}
+use Rattle.gl_elaborate.specs.Plans.{aggs_of, arguments_of_all, column_under, filter_of, frames_of, frames_over, frames_terms, key_over, levelled, levels, picked_terms, placed, rows_over, selected, stream_node, totals_over, window_node, with_filter}
 use Rattle.gl_elaborate.specs.Laws.{PlansTellTime}
 
 -- ---- one node more
@@ -75,12 +76,12 @@ totals-quiet columns aggs at =
     quiet over.at.nodes (node.Aggregate over.at.root (aggs_of columns aggs over.items)) refl
     ∙ levels-quiet (depth_of_all (with_filter (arguments_of_all columns aggs) None)) (length columns) at (arguments_of_all columns aggs) None
 
-frames-quiet : (columns : List NamedColumn) (items : List FrameItemShape) (filter : Option ExprShape) (at : Placed)
-    → reads_time (frames_over columns items filter at).nodes ≡ reads_time at.nodes
-frames-quiet columns items filter at =
+frames-quiet : (columns : List NamedColumn) (items : List FrameItemShape) (filter : Option ExprShape) (by : Option PlanKey) (at : Placed)
+    → reads_time (frames_over columns items filter by at).nodes ≡ reads_time at.nodes
+frames-quiet columns items filter by at =
     let over = levelled (length columns) at (frames_terms columns items) (filter_of columns filter) in
     let chosen = selected over.at over.filter in
-    quiet chosen.nodes (node.Frames chosen.root (frames_of items over.items)) refl ∙ select-quiet over.at over.filter
+    quiet chosen.nodes (node.Frames chosen.root by (frames_of items over.items)) refl ∙ select-quiet over.at over.filter
     ∙ levels-quiet (depth_of_all (with_filter (frames_terms columns items) (filter_of columns filter))) (length columns) at (frames_terms columns items)
     (filter_of columns filter)
 
@@ -106,8 +107,9 @@ placed-time (shape.Rows pick filter source) read sources nodes h =
     rows-quiet (columns_of sources source) pick filter (placed read sources source nodes) ∙ placed-time source read sources nodes h
 placed-time (shape.Total aggs source) read sources nodes h =
     totals-quiet (columns_of sources source) aggs (placed read sources source nodes) ∙ placed-time source read sources nodes h
-placed-time (shape.Frames items filter source) read sources nodes h =
-    frames-quiet (columns_of sources source) items filter (placed read sources source nodes) ∙ placed-time source read sources nodes h
+placed-time (shape.Frames items filter slots source) read sources nodes h =
+    let columns = columns_of sources source in
+    frames-quiet columns items filter (key_over columns slots) (placed read sources source nodes) ∙ placed-time source read sources nodes h
 placed-time (shape.Each measure var source size advance body) read sources nodes h =
     let columns = columns_of sources source in
     let inner : List ℕ → PlanNode = λ name. node.Body (kinds_of columns) in

@@ -134,9 +134,9 @@ module _ (lengths : ResultsAreLong) (schema : Schema) (fine : IsSchema schema) w
   whole (shape.Total aggs source) a =
       let p = plain _ (node.Aggregate _ _) refl in
       record { spare = p.none; figures = p.own ∙ own_figures (shape.Total aggs source) a; ticks = untimed _ (node.Aggregate _ _) refl }
-  whole (shape.Frames items filter source) a =
-      let p = plain _ (node.Frames _ _) refl in
-      record { spare = p.none; figures = p.own ∙ own_figures (shape.Frames items filter source) a; ticks = untimed _ (node.Frames _ _) refl }
+  whole (shape.Frames items filter slots source) a =
+      let p = plain _ (node.Frames _ _ _) refl in
+      record { spare = p.none; figures = p.own ∙ own_figures (shape.Frames items filter slots source) a; ticks = untimed _ (node.Frames _ _ _) refl }
   whole (shape.Each Time var source size advance body) a =
       let streams = schema.streams in
       let columns = columns_of streams source in

@@ -3,7 +3,7 @@
 use Rattle.std.specs.Prelude.{◌≡◌, ℕ, zero, suc, ◌+◌, ◌<◌, ◌≤◌, List, map, length, Option, Some, None, option_map}
 use Rattle.gl_values.specs.declared.kind.Kind.TheVariants.{Unsigned}
 use Rattle.gl_schema.specs.declared.schema.Column.{Column as NamedColumn}
-use Rattle.gl_query.specs.Shapes.{ExprShape, PickShape, AggItemShape, FrameShape, FrameItemShape, QueryShape}
+use Rattle.gl_query.specs.Shapes.{ExprShape, PickShape, AggItemShape, FrameShape, FrameItemShape, QueryShape, SlotsShape}
 use Rattle.gl_query.specs.Shapes as shape
 use Rattle.gl_query.specs.Values.{column_number, kind_alone}
 use Rattle.gl_query.specs.Columns.{agg_kind, columns_of, variable}
@@ -12,13 +12,14 @@ use Rattle.gl_values.specs.Kinds.{IsKind}
 use Rattle.std.specs.List.{AllByRecursion}
 use Rattle.gl_schema.specs.declared.schema.Stream.{Stream}
 use Rattle.gl_schema.specs.Schemas.{kinds_of}
+use Rattle.gl_algebra.specs.declared.node.PlanKey.{PlanKey}
 use Rattle.gl_algebra.specs.declared.node.PlanNode.{PlanNode}
 use Rattle.gl_algebra.specs.declared.node.PlanNode.TheVariants as node
 use Rattle.gl_algebra.specs.Fits.{Fits}
 use Rattle.gl_algebra.specs.Added.{Placed, added}
 use Rattle.gl_elaborate.specs.Terms.{Term, depth_of_all, ops_in_all, term_of, IsTerm}
 use Rattle.gl_elaborate.specs.Levels.{level_of, reduced, operand_of}
-use Rattle.gl_elaborate.specs.Plans.{levelled, selected, column_under, picked_terms, filter_of, with_filter, arguments_of_all, aggs_of, frame_arguments, frames_of, frames_terms, placed, window_node}
+use Rattle.gl_elaborate.specs.Plans.{levelled, selected, column_under, picked_terms, filter_of, with_filter, arguments_of_all, aggs_of, frame_arguments, frames_of, frames_terms, key_over, placed, window_node}
 
 -- a node fits behind these
 abbrev pub FitsNext : List PlanNode → PlanNode → Type 0
@@ -73,19 +74,19 @@ pub record TotalsFit (columns : List NamedColumn) (items : List AggItemShape) (a
       FitsNext over.at.nodes (node.Aggregate over.at.root (aggs_of columns items over.items))
 
 -- the node of frames fits
-abbrev pub FramedFits : Placed → List FrameItemShape → List Term → Type 0
-FramedFits at items terms = FitsNext at.nodes (node.Frames at.root (frames_of items terms))
+abbrev pub FramedFits : Placed → Option PlanKey → List FrameItemShape → List Term → Type 0
+FramedFits at by items terms = FitsNext at.nodes (node.Frames at.root by (frames_of items terms))
 
 -- the nodes of a select of frames
 pub record FramesFit (columns : List NamedColumn) (items : List FrameItemShape) (filter : Option ExprShape)
-    (at : Placed) : Type 0 where
+    (by : Option PlanKey) (at : Placed) : Type 0 where
   pub of_levels : LevelledFit (length columns) at (frames_terms columns items) (filter_of columns filter)
   pub of_select :
       let over = levelled (length columns) at (frames_terms columns items) (filter_of columns filter)
       in SelectFits over.at over.filter
   pub of_frames :
       let over = levelled (length columns) at (frames_terms columns items) (filter_of columns filter) in
-      FramedFits (selected over.at over.filter) items over.items
+      FramedFits (selected over.at over.filter) by items over.items
 
 -- the nodes of a query
 abbrev pub PlacedFit : (List ℕ → PlanNode) → List Stream → QueryShape → List PlanNode → Type 0
@@ -95,8 +96,9 @@ PlacedFit read sources (shape.Rows pick filter source) nodes =
     (placed read sources source nodes)
 PlacedFit read sources (shape.Total aggs source) nodes =
     PlacedFit read sources source nodes × TotalsFit (columns_of sources source) aggs (placed read sources source nodes)
-PlacedFit read sources (shape.Frames items filter source) nodes =
-    PlacedFit read sources source nodes × FramesFit (columns_of sources source) items filter
+PlacedFit read sources (shape.Frames items filter slots source) nodes =
+    let columns = columns_of sources source in
+    PlacedFit read sources source nodes × FramesFit columns items filter (key_over columns slots)
     (placed read sources source nodes)
 PlacedFit read sources (shape.Each measure var source size advance body) nodes =
     let columns = columns_of sources source in
@@ -166,14 +168,20 @@ pub record CanPlaceFrames (columns : List NamedColumn) (items : List FrameItemSh
   pub filter_term : FilterTerm columns filter
   pub room : length columns + ops_in_all (with_filter (frames_terms columns items) (filter_of columns filter)) < 65536
 
+-- the column of PARTITION has a number of 8 bits, and its groups one of 16
+abbrev pub CanPlaceSlots : List NamedColumn → Option SlotsShape → Type 0
+CanPlaceSlots columns None = Unit {0}
+CanPlaceSlots columns (Some s) = (column_number columns s.key ≤ 255) × (s.groups ≤ 4096)
+
 -- what code that places a query needs
 abbrev pub CanPlace : List Stream → QueryShape → Type 0
 CanPlace sources (shape.Read name) = length sources ≤ 8
 CanPlace sources (shape.Rows pick filter source) =
     CanPlace sources source × CanPlaceRows (columns_of sources source) pick filter
 CanPlace sources (shape.Total aggs source) = CanPlace sources source × CanPlaceTotal (columns_of sources source) aggs
-CanPlace sources (shape.Frames items filter source) =
+CanPlace sources (shape.Frames items filter slots source) =
     CanPlace sources source × CanPlaceFrames (columns_of sources source) items filter
+    × CanPlaceSlots (columns_of sources source) slots
 CanPlace sources (shape.Each measure var source size advance body) =
     CanPlace sources source × CanPlace (variable var (columns_of sources source)) body × (size ≤ 65536)
     × (advance ≤ 65536)

@@ -12,7 +12,7 @@ use Rattle.gl_schema.specs.Schemas.{kinds_of}
 use Rattle.gl_query.specs.declared.tree.Measure.{Measure}
 use Rattle.gl_query.specs.declared.tree.Measure.TheVariants.{Tuples, Time}
 use Rattle.gl_query.specs.declared.tree.Statement.{Statement}
-use Rattle.gl_query.specs.Shapes.{ExprShape, AggShape, ItemShape, AggItemShape, FrameAggShape, FrameShape, FrameItemShape, PickShape, QueryShape, query_shape}
+use Rattle.gl_query.specs.Shapes.{ExprShape, AggShape, ItemShape, AggItemShape, FrameAggShape, FrameShape, FrameItemShape, PickShape, QueryShape, SlotsShape, query_shape}
 use Rattle.gl_query.specs.Shapes as shape
 use Rattle.gl_query.specs.Values.{column_number, kind_alone, kind_of}
 use Rattle.gl_query.specs.Columns.{columns_of, source_columns, variable}
@@ -24,6 +24,7 @@ use Rattle.gl_algebra.specs.declared.node.PlanFrame.{PlanFrame}
 use Rattle.gl_algebra.specs.declared.node.PlanFrame.TheVariants as frame
 use Rattle.gl_algebra.specs.declared.node.PlanFrameAgg.{PlanFrameAgg}
 use Rattle.gl_algebra.specs.declared.node.PlanFrameAgg.TheVariants as frame_agg
+use Rattle.gl_algebra.specs.declared.node.PlanKey.{PlanKey}
 use Rattle.gl_algebra.specs.declared.node.PlanNode.{PlanNode}
 use Rattle.gl_algebra.specs.declared.node.PlanNode.TheVariants as node
 use Rattle.gl_algebra.specs.Added.{Placed, added, placed_at}
@@ -221,15 +222,21 @@ abbrev pub frames_of : List FrameItemShape → List Term → List PlanFrame
 frames_of [] terms = []
 frames_of (i ∷ items) terms = frame_over i.frame terms ∷ frames_of items (behind_frame i.frame terms)
 
--- a node of these frames, whose terms are columns or literals by now, behind a plan
-abbrev pub framed_over : Placed → List FrameItemShape → List Term → Placed
-framed_over at items terms = added at.nodes (node.Frames at.root (frames_of items terms))
+-- the key of PARTITION: the number of its column, and how many groups are kept
+abbrev pub key_over : List NamedColumn → Option SlotsShape → Option PlanKey
+key_over columns None = None
+key_over columns (Some s) = Some (record { key = column_number columns s.key; groups = s.groups })
 
--- a select of frames: what its frames and its filter compute, then the filter, then the frames over what is kept
-abbrev pub frames_over : List NamedColumn → List FrameItemShape → Option ExprShape → Placed → Placed
-frames_over columns items filter at =
+-- a node of these frames, whose terms are columns or literals by now, behind a plan
+abbrev pub framed_over : Placed → Option PlanKey → List FrameItemShape → List Term → Placed
+framed_over at by items terms = added at.nodes (node.Frames at.root by (frames_of items terms))
+
+-- a select of frames: what its frames and its filter compute, then the filter, then the frames over what is kept, by a
+-- key if there is one
+abbrev pub frames_over : List NamedColumn → List FrameItemShape → Option ExprShape → Option PlanKey → Placed → Placed
+frames_over columns items filter by at =
     let over = levelled (length columns) at (frames_terms columns items) (filter_of columns filter) in
-    framed_over (selected over.at over.filter) items over.items
+    framed_over (selected over.at over.filter) by items over.items
 
 -- ---- queries
 
@@ -245,8 +252,9 @@ placed read sources (shape.Rows pick filter source) nodes =
     rows_over (columns_of sources source) pick filter (placed read sources source nodes)
 placed read sources (shape.Total aggs source) nodes =
     totals_over (columns_of sources source) aggs (placed read sources source nodes)
-placed read sources (shape.Frames items filter source) nodes =
-    frames_over (columns_of sources source) items filter (placed read sources source nodes)
+placed read sources (shape.Frames items filter slots source) nodes =
+    let columns = columns_of sources source in
+    frames_over columns items filter (key_over columns slots) (placed read sources source nodes)
 placed read sources (shape.Each measure var source size advance body) nodes =
     let columns = columns_of sources source in
     let from = placed read sources source nodes in

@@ -17,7 +17,7 @@ pace_at (node.Body kinds) = with_body
 pace_at (node.Compute child ops) = unsteady
 pace_at (node.Select child column) = unsteady
 pace_at (node.Project child items) = unsteady
-pace_at (node.Frames child items) = unsteady
+pace_at (node.Frames child by items) = unsteady
 pace_at (node.Aggregate child aggs) = unsteady
 pace_at (node.Union left right) = unsteady
 pace_at (node.Beside left right) = unsteady
@@ -37,7 +37,7 @@ abbrev pub leaves_of : (List ℕ → PlanNode) → QueryShape → List PlanNode
 leaves_of read (shape.Read name) = read name ∷ []
 leaves_of read (shape.Rows pick filter source) = leaves_of read source
 leaves_of read (shape.Total aggs source) = leaves_of read source
-leaves_of read (shape.Frames items filter source) = leaves_of read source
+leaves_of read (shape.Frames items filter slots source) = leaves_of read source
 leaves_of read (shape.Each measure var source size advance body) = leaves_of read source
 leaves_of read (shape.PerGroup var source key groups body) = leaves_of read source
 leaves_of read (shape.Partition var source key groups size advance body) = leaves_of read source

@@ -12,7 +12,7 @@ ghost use Rattle.gl_elaborate.specs.Fitting.{CanPlace, FitsNext, PlacedFit};
 ghost use Rattle.gl_elaborate.specs.Plans.{placed, plan_behind, plan_of, window_node, Keeps};
 ghost use Rattle.gl_elaborate.specs.Sources.{read_of};
 
-use crate::frames::frames_over;
+use crate::frames::{Parted, frames_over, key_over};
 use crate::levels::put;
 use crate::rows::rows_over;
 use crate::sources::source_node;
@@ -182,16 +182,18 @@ pub fn query_into(
         Query::Frames {
             items,
             filter,
+            slots,
             source,
         } => {
             let (at, columns) = query_into(alloc, sources, source, plan)?;
+            let by = key_over(columns.as_slice(), slots);
             let root = frames_over(
                 alloc,
                 plan,
                 columns.as_slice(),
                 items.as_slice(),
                 filter,
-                at,
+                Parted { at, by },
             )?;
             let own = frame_columns(alloc, columns.as_slice(), items.as_slice())?;
             Ok((root, own))

@@ -1,26 +1,62 @@
 //! The nodes of selects of frames.
 
-ghost use Rattle.std.specs.Prelude.{◌≡◌, ◌<◌, ◌++◌, length, map, option_map, option_to_list, IfOk, OnOk};
+ghost use Rattle.std.specs.Prelude.{◌≡◌, ◌<◌, ◌≤◌, ◌++◌, length, map, option_map, option_to_list, IfOk, OnOk};
 ghost use Rattle.std.specs.List.{AllByRecursion};
 ghost use Rattle.gl_schema.specs.Schemas.{kinds_of};
 ghost use Rattle.gl_query.specs.declared.tree.Num.{Num};
-ghost use Rattle.gl_query.specs.Shapes.{expr_shape, frame_agg_shape, frame_item_shape, frame_shape, FrameItemShape};
+ghost use Rattle.gl_query.specs.Shapes.{expr_shape, frame_agg_shape, frame_item_shape, frame_shape, slots_shape, FrameItemShape};
 ghost use Rattle.gl_query.specs.Accepted.{IsBack, IsFilter, IsFrame, IsFrameAgg};
 ghost use Rattle.gl_algebra.specs.Added.{placed_at};
 ghost use Rattle.gl_elaborate.specs.Terms.{IsTerm};
 ghost use Rattle.gl_elaborate.specs.Trees.{term};
-ghost use Rattle.gl_elaborate.specs.Plans.{behind_argument, behind_condition, behind_frame, condition_over, filter_of, frame_agg_over, frame_arguments, frame_over, frame_terms, frames_of, frames_over, frames_terms, Keeps};
-ghost use Rattle.gl_elaborate.specs.Fitting.{CanPlaceFrames, FilterTerm, FrameTerms, FramesFit};
+ghost use Rattle.gl_elaborate.specs.Plans.{behind_argument, behind_condition, behind_frame, condition_over, filter_of, frame_agg_over, frame_arguments, frame_over, frame_terms, frames_of, frames_over, frames_terms, key_over, Keeps};
+ghost use Rattle.gl_elaborate.specs.Fitting.{CanPlaceFrames, CanPlaceSlots, FilterTerm, FrameTerms, FramesFit};
 
 use crate::Tree;
 use crate::levels::{levelled, put};
 use crate::rows::{column_in, filter_tree, select};
 use crate::totals::{first_of, push_tree, rest_of};
-use gl_algebra::{Operand, Plan, PlanFrame, PlanFrameAgg, PlanFrames, PlanId, PlanNode};
+use gl_algebra::{Operand, Plan, PlanFrame, PlanFrameAgg, PlanFrames, PlanId, PlanKey, PlanNode};
 use gl_bits::{Listed, Memory};
-use gl_query::{Expr, Frame, FrameAgg, FrameItem, Num};
+use gl_query::kinds::column_number;
+use gl_query::{Expr, Frame, FrameAgg, FrameItem, Num, Slots};
 use gl_schema::Column;
 use std::alloc::Global;
+
+/// A node that frames are put over, and the key by which its rows are parted, if there is one.
+#[derive(Clone, Copy)]
+pub struct Parted {
+    /// The number of the node.
+    pub at: PlanId,
+    /// The key.
+    pub by: Option<PlanKey>,
+}
+
+// The column of this number as a key of so many groups.
+fn key_at(column: usize, groups: u128) -> PlanKey
+    requires column { column ≤ 255 }
+    requires groups { groups ≤ 4096 }
+    ensures { result ≡ record { key = column; groups = groups } }
+{
+    PlanKey {
+        key: column as u8,
+        groups: groups as u16,
+    }
+}
+
+/// The key of a node of frames.
+pub fn key_over(columns: &[Column], slots: &Option<Slots>) -> Option<PlanKey>
+    requires { CanPlaceSlots columns.now (option_map slots_shape slots.now) }
+    ensures { result ≡ key_over columns.now (option_map slots_shape slots.now) }
+{
+    match slots {
+        Some(slots) => {
+            let column = column_number(columns, slots.key.text.as_slice());
+            Some(key_at(column, slots.groups.value))
+        }
+        None => None,
+    }
+}
 
 // Adds the tree of the argument of a function over the rows of a frame, where it has one.
 fn push_argument(
@@ -243,23 +279,23 @@ pub fn frames_over(
     columns: &[Column],
     items: &[FrameItem],
     filter: &Option<Expr>,
-    at: PlanId,
+    source: Parted,
 ) -> Result<PlanId, Memory>
     requires can { CanPlaceFrames columns.now
         (map frame_item_shape items.now) (option_map expr_shape filter.now) }
     requires fit { FramesFit columns.now (map frame_item_shape items.now)
-        (option_map expr_shape filter.now) (placed_at plan.old at) }
+        (option_map expr_shape filter.now) source.by (placed_at plan.old source.at) }
     ensures root { IfOk result (λ id.
         placed_at plan.new id
         ≡ frames_over columns.now (map frame_item_shape items.now)
-        (option_map expr_shape filter.now) (placed_at plan.old at)) }
+        (option_map expr_shape filter.now) source.by (placed_at plan.old source.at)) }
     ensures keeps { Keeps plan.old plan.new }
 {
     let mut trees = Vec::new(alloc);
     push_frames(alloc, columns, items, &mut trees)?;
     let mut condition = filter_tree(alloc, columns, filter)?;
     let base = columns.len() as u16;
-    let over = levelled(alloc, plan, at, base, &mut trees, &mut condition)?;
+    let over = levelled(alloc, plan, source.at, base, &mut trees, &mut condition)?;
     let kept = select(plan, over, &condition)?;
     let mut frames = Listed::new(alloc);
     push_items(columns, items, &trees, &mut frames)?;
@@ -267,6 +303,7 @@ pub fn frames_over(
         plan,
         PlanNode::Frames {
             child: kept,
+            by: source.by,
             items: frames,
         },
     )

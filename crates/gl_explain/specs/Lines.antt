@@ -14,6 +14,7 @@ use Rattle.gl_algebra.specs.declared.node.PlanFrame.{PlanFrame}
 use Rattle.gl_algebra.specs.declared.node.PlanFrame.TheVariants.{Own, Lag, Over}
 use Rattle.gl_algebra.specs.declared.node.PlanFrameAgg.{PlanFrameAgg}
 use Rattle.gl_algebra.specs.declared.node.PlanFrameAgg.TheVariants as over
+use Rattle.gl_algebra.specs.declared.node.PlanKey.{PlanKey}
 use Rattle.gl_algebra.specs.declared.node.PlanNode.{PlanNode}
 use Rattle.gl_algebra.specs.declared.node.PlanNode.TheVariants as node
 use Rattle.gl_algebra.specs.Added.{Placed}
@@ -84,6 +85,11 @@ abbrev pub frames_text : List PlanFrame → List ℕ
 frames_text [] = []
 frames_text (f ∷ fs) = frame_text f ++ frames_text fs
 
+-- the key of a node of frames, where it has one: `by`, its column, and how many groups are kept
+unfoldable pub key_text : Option PlanKey → List ℕ
+key_text None = []
+key_text (Some by) = codes " by" ++ column_text by.key ++ numbered (codes " ") by.groups
+
 -- the name of a stream by its number
 abbrev pub name_of : Option Stream → List ℕ
 name_of None = []
@@ -100,7 +106,7 @@ words_of schema (node.Body kinds) = codes "input body"
 words_of schema (node.Compute child ops) = codes "compute" ++ node_text child ++ numbered (codes " ") (length ops)
 words_of schema (node.Select child column) = codes "select" ++ node_text child ++ column_text column
 words_of schema (node.Project child items) = codes "project" ++ node_text child ++ operands_text items
-words_of schema (node.Frames child items) = codes "frames" ++ node_text child ++ frames_text items
+words_of schema (node.Frames child by items) = codes "frames" ++ node_text child ++ key_text by ++ frames_text items
 words_of schema (node.Aggregate child aggs) = codes "aggregate" ++ node_text child ++ aggs_text aggs
 words_of schema (node.Union left right) = codes "union" ++ node_text left ++ node_text right
 words_of schema (node.Beside left right) = codes "beside" ++ node_text left ++ node_text right

@@ -6,7 +6,7 @@ ghost use Rattle.gl_explain.specs.Lines.{HasLine};
 ghost use Rattle.gl_explain.specs.Lines as spec;
 
 use gl_algebra::{
-    Figures, Operand, Plan, PlanAgg, PlanFrame, PlanFrameAgg, PlanId, PlanNode, Spare,
+    Figures, Operand, Plan, PlanAgg, PlanFrame, PlanFrameAgg, PlanId, PlanKey, PlanNode, Spare,
 };
 use gl_bits::Memory;
 use gl_root_gaps::TickGaps;
@@ -147,6 +147,19 @@ fn put_frames(text: &mut Vec<u8>, items: &[PlanFrame]) -> Result<(), Memory>
     put_frames(text, rest)
 }
 
+// Appends the key of a node of frames, where it has one.
+#[tactic(auto, unfolding(crate::specs::Lines::key_text))]
+fn put_key(text: &mut Vec<u8>, by: Option<PlanKey>) -> Result<(), Memory>
+    ensures { OnOk result (text.new.items ≡ text.old.items ++ spec.key_text by) }
+{
+    let Some(by) = by else {
+        return Ok(());
+    };
+    put(text, b" by")?;
+    put_column(text, u128::from(by.key))?;
+    put_number(text, b" ", u128::from(by.groups))
+}
+
 // Appends the words of the leaf of a stream.
 #[tactic(auto, unfolding(crate::specs::Lines::stream_text))]
 fn put_stream(text: &mut Vec<u8>, schema: &Schema, number: u8) -> Result<(), Memory>
@@ -198,8 +211,9 @@ pub fn put_words(text: &mut Vec<u8>, schema: &Schema, node: &PlanNode) -> Result
             put_one(text, b"project", *child)?;
             put_operands(text, items.as_slice())
         }
-        PlanNode::Frames { child, items } => {
+        PlanNode::Frames { child, by, items } => {
             put_one(text, b"frames", *child)?;
+            put_key(text, *by)?;
             put_frames(text, items.as_slice())
         }
         PlanNode::Aggregate { child, aggs } => {

@@ -78,7 +78,7 @@ copies-capped s (Body kinds) v suits = refl
 copies-capped s (Compute child ops) v suits = omega arith
 copies-capped s (Select child column) v suits = omega arith
 copies-capped s (Project child items) v suits = omega arith
-copies-capped s (Frames child items) v suits = omega arith
+copies-capped s (Frames child by items) v suits = omega arith
 copies-capped s (Aggregate child aggs) v suits = omega arith
 copies-capped s (Union left right) v suits = omega arith
 copies-capped s (Beside left right) v suits = omega arith
@@ -100,7 +100,7 @@ weight-capped s f lines (Body kinds) v suits = refl
 weight-capped s f lines (Compute child ops) v suits = sum_alike (v child) _ _ (inl refl)
 weight-capped s f lines (Select child column) v suits = sum_alike (v child) _ _ (inl refl)
 weight-capped s f lines (Project child items) v suits = sum_alike (v child) _ _ (inl refl)
-weight-capped s f lines (Frames child items) v suits = sum_alike (v child) _ _ (inl refl)
+weight-capped s f lines (Frames child by items) v suits = sum_alike (v child) _ _ (inl refl)
 weight-capped s f lines (Aggregate child aggs) v suits = sum_alike (v child) _ _ (inl refl)
 weight-capped s f lines (Union left right) v suits = two_alike (v left) (v right) _
 weight-capped s f lines (Beside left right) v suits = two_alike (v left) (v right) _
@@ -129,7 +129,7 @@ row_light s f v w (Body kinds) light = omega arith
 row_light s f v w (Compute child ops) light = let one = light 0 0 (lit< tt) in omega arith
 row_light s f v w (Select child column) light = let one = light 0 0 (lit< tt) in omega arith
 row_light s f v w (Project child items) light = let one = light 0 0 (lit< tt) in omega arith
-row_light s f v w (Frames child items) light = let one = light 0 0 (lit< tt) in omega arith
+row_light s f v w (Frames child by items) light = let one = light 0 0 (lit< tt) in omega arith
 row_light s f v w (Aggregate child aggs) light = let one = light 0 0 (lit< tt) in omega arith
 row_light s f v w (Union left right) light = let one = light 0 0 (lit< tt) in let two = light 1 0 (lit< tt) in omega arith
 row_light s f v w (Beside left right) light = let one = light 0 0 (lit< tt) in let two = light 1 0 (lit< tt) in omega arith

@@ -42,7 +42,7 @@ none_inside nodes root node at not = sym (inside_there nodes root node at ∙ by
     by (Compute child ops) not = refl
     by (Select child column) not = refl
     by (Project child items) not = refl
-    by (Frames child items) not = refl
+    by (Frames child key items) not = refl
     by (Aggregate child aggs) not = refl
     by (Union left right) not = refl
     by (Beside left right) not = refl
@@ -133,7 +133,7 @@ module _ (nodes : List PlanNode) (root : ℕ) (plan : IsPlan nodes) (small : Are
   by_node (Compute child ops) it at h = small.le
   by_node (Select child column) it at h = small.le
   by_node (Project child items) it at h = small.le
-  by_node (Frames child items) it at h = small.le
+  by_node (Frames child by items) it at h = small.le
   by_node (Aggregate child aggs) it at h = small.le
   by_node (Union left right) it at h = small.le
   by_node (Beside left right) it at h = small.le

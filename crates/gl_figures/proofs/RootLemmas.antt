@@ -119,7 +119,7 @@ module _ (nodes : List PlanNode) (root : ℕ) (node : PlanNode) (at : slice_get 
       by (Compute child ops) not = refl
       by (Select child column) not = refl
       by (Project child items) not = refl
-      by (Frames child items) not = refl
+      by (Frames child key items) not = refl
       by (Aggregate child aggs) not = refl
       by (Union left right) not = refl
       by (Beside left right) not = refl
@@ -138,7 +138,7 @@ module _ (nodes : List PlanNode) (root : ℕ) (node : PlanNode) (at : slice_get 
       by (Compute child ops) not = refl
       by (Select child column) not = refl
       by (Project child items) not = refl
-      by (Frames child items) not = refl
+      by (Frames child key items) not = refl
       by (Aggregate child aggs) not = refl
       by (Union left right) not = refl
       by (Beside left right) not = refl
@@ -213,7 +213,7 @@ module _ (follow : NodesFollowTables) (sound : FiguresAreSound) (nodes : List Pl
   closer (Compute child ops) it at h = absurd (cc (h))
   closer (Select child column) it at h = absurd (cc (h))
   closer (Project child items) it at h = absurd (cc (h))
-  closer (Frames child items) it at h = absurd (cc (h))
+  closer (Frames child by items) it at h = absurd (cc (h))
   closer (Aggregate child aggs) it at h = absurd (cc (h))
   closer (Union left right) it at h = absurd (cc (h))
   closer (Beside left right) it at h = absurd (cc (h))
@@ -237,7 +237,7 @@ module _ (follow : NodesFollowTables) (sound : FiguresAreSound) (nodes : List Pl
   ticks_closer (Compute child ops) it at h = absurd (cc (h))
   ticks_closer (Select child column) it at h = absurd (cc (h))
   ticks_closer (Project child items) it at h = absurd (cc (h))
-  ticks_closer (Frames child items) it at h = absurd (cc (h))
+  ticks_closer (Frames child by items) it at h = absurd (cc (h))
   ticks_closer (Aggregate child aggs) it at h = absurd (cc (h))
   ticks_closer (Union left right) it at h = absurd (cc (h))
   ticks_closer (Beside left right) it at h = absurd (cc (h))

@@ -10,7 +10,7 @@ ghost use Rattle.gl_figures.specs.Answered.{AreSmallBefore, IsLate};
 ghost use Rattle.gl_figures.specs.Known.{small_over, HasFigures};
 
 use crate::Limit;
-use gl_algebra::frames::delay_of_frames;
+use gl_algebra::keys::delay_by_key;
 use gl_algebra::laws::nodes_follow_tables;
 use gl_algebra::table::{
     aggregate_figures, beside_figures, copies_of_partition, copies_of_time, copies_of_window,
@@ -73,8 +73,8 @@ fn figures_over(plan: &Plan, figures: &[Figures], number: usize, node: &PlanNode
         PlanNode::Project { child, .. } => picked_figures(&figures_at(
             plan, figures, number, *child,
         )),
-        PlanNode::Frames { child, items } => {
-            let delay = delay_of_frames(plan.kinds(*child), items.as_slice());
+        PlanNode::Frames { child, by, items } => {
+            let delay = delay_by_key(plan.kinds(*child), *by, items.as_slice());
             frame_figures(delay, &figures_at(plan, figures, number, *child))
         }
         PlanNode::Aggregate { child, aggs } => {

@@ -13,7 +13,7 @@ ghost use Rattle.gl_figures.specs.Known.{capped_at, own_weight_by, weight_by, Ha
 
 use crate::copied::{cap, times};
 use crate::figured::figures_at;
-use crate::frames::weight_of_frames;
+use crate::frames::weight_by_key;
 use gl_algebra::table::{
     copies_of_partition, copies_of_time, copies_of_window, delay_of_agg, delay_of_aggs, wait_of,
 };
@@ -189,7 +189,7 @@ fn own_weight(
     requires known { HasValues (weight_of plan.now) weights.now number }
     requires own { own < 2 ^ 65 }
     ensures value { result ≡ own_weight_by plan.now own node.now }
-    ensures below { result < 2 ^ 113 }
+    ensures below { result < 2 ^ 125 }
 {
     match node {
         PlanNode::Stream(_, _) => own,
@@ -197,10 +197,10 @@ fn own_weight(
         PlanNode::Compute { ops, .. } => 4 * (own + ops.len() as u128),
         PlanNode::Select { .. } => 4 * own,
         PlanNode::Project { .. } => 4 * own,
-        PlanNode::Frames { child, items } => {
+        PlanNode::Frames { child, by, items } => {
             // What `len` ensures of it is what the goals below ask for.
             let _ = items.len();
-            weight_of_frames(plan.kinds(*child), own, items.as_slice())
+            weight_by_key(plan.kinds(*child), own, *by, items.as_slice())
         }
         PlanNode::Aggregate { child, aggs } => {
             // What `len` ensures of it is what the goals below ask for.

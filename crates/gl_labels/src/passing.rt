@@ -43,7 +43,7 @@ fn column_below(table: &Table, node: &PlanNode, column: usize) -> Option<(usize,
             let at = column_in(items.as_slice().get(column)?)?;
             Some((child.number(), at))
         }
-        PlanNode::Frames { child, items } => {
+        PlanNode::Frames { child, items, .. } => {
             let at = own_column(items.as_slice().get(column)?)?;
             Some((child.number(), at))
         }

@@ -75,7 +75,7 @@ pub query_same : (q : Query) → query_alike (query_tree q) ≡ query_shape q
 query_same (query.Read name) = refl
 query_same (query.Rows' p filter b source) = rw (pick_same p, filter_same filter, query_same source) refl
 query_same (query.Total' aggs b source) = rw (aggs_same aggs, query_same source) refl
-query_same (query.Frames' items filter b source) = rw (frames_same items, filter_same filter, query_same source) refl
+query_same (query.Frames' items filter slots b source) = rw (frames_same items, filter_same filter, query_same source) refl
 query_same (query.Each' var b source size advance c body at) = rw (query_same source, query_same body) refl
 query_same (query.EachTime' var b source size advance c body at) = rw (query_same source, query_same body) refl
 query_same (query.PerGroup' var b source key groups c body at) = rw (query_same source, query_same body) refl

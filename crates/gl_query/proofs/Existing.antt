@@ -8,7 +8,7 @@ use Rattle.gl_query.specs.Shapes.{QueryShape}
 use Rattle.gl_query.specs.Shapes as shape
 use Rattle.gl_query.specs.Columns.{Pace, Once, Step, pace_of}
 use Rattle.gl_values.specs.Results.{Row, Results, IsChanged, AreJoined, IsOfParts, IsOfBoth, AreBeside, beside}
-use Rattle.gl_query.specs.Results.{Env, IsResultIn, columns_in, frame_row, rows_of}
+use Rattle.gl_query.specs.Results.{Env, IsChangedInPart, IsResultIn, columns_in, frame_row, rows_of}
 use Rattle.gl_query.specs.Accepted.{IsAcceptedOver}
 use Rattle.gl_query.specs.Laws.{AcceptedHaveResults, scope_of}
 
@@ -45,8 +45,9 @@ paced (shape.Rows pick None source) env out spill r =
     let same = ap length r.changed ∙ length-map _ _ ∙ ap length (all_kept r.rows) in
     paced_alike env (pace_of source) r.rows out same (paced source env r.rows spill r.of_source)
 paced (shape.Total aggs source) env out spill r = ap length r.changed
-paced (shape.Frames items (Some e) source) env out spill r = tt
-paced (shape.Frames items None source) env out spill r =
+paced (shape.Frames items (Some e) slots source) env out spill r = tt
+paced (shape.Frames items None (Some s) source) env out spill r = tt
+paced (shape.Frames items None None source) env out spill r =
     let same = ap length r.changed ∙ each_length (frame_row (columns_in env source) items) [] _ ∙ ap length (all_kept r.rows) in
     paced_alike env (pace_of source) r.rows out same (paced source env r.rows spill r.of_source)
 paced (shape.Each measure var source size advance body) env out spill r = tt
@@ -101,6 +102,14 @@ some_changed : (source : Results) (change : List Row → List Row) → HasSome s
 some_changed source change one =
     record { rows = change one.rows; spill = one.spill; is = record { rows = one.rows; of_source = one.is; changed = refl } }
 
+some_in_part : (source : Results) (change : List Row → List Row) (further : List Row → Bool) → HasSome source
+    → HasSome (IsChangedInPart source change further)
+some_in_part source change further one = record {
+  rows = change one.rows;
+  spill = one.spill || further one.rows;
+  is = record { rows = one.rows; source_spill = one.spill; of_source = one.is; changed = refl; any = refl };
+}
+
 some_of_both : (left right : Results) (Join : List Row → List Row → List Row → Type 0) (x : HasSome left) (y : HasSome right)
     (rows : List Row) → Join x.rows y.rows rows → HasSome (IsOfBoth left right Join)
 some_of_both left right Join x y rows join = record {
@@ -122,7 +131,8 @@ some_result : (q : QueryShape) (env : Env) (timed : Bool) → IsAcceptedOver (sc
 some_result (shape.Read name) env timed a = record { rows = rows_of env name; spill = false; is = record { rows = refl; kept = refl } }
 some_result (shape.Rows pick filter source) env timed a = some_changed (IsResultIn source env) _ (some_result source env timed a.0)
 some_result (shape.Total aggs source) env timed a = some_changed (IsResultIn source env) _ (some_result source env timed a.0)
-some_result (shape.Frames items filter source) env timed a = some_changed (IsResultIn source env) _ (some_result source env timed a.0)
+some_result (shape.Frames items filter None source) env timed a = some_changed (IsResultIn source env) _ (some_result source env timed a.0)
+some_result (shape.Frames items filter (Some s) source) env timed a = some_in_part (IsResultIn source env) _ _ (some_result source env timed a.0)
 some_result (shape.Each measure var source size advance body) env timed a =
     some_of_parts (IsResultIn source env) _ _ _ (some_result source env timed a.0) (λ rows. some_result body _ false a.2)
 some_result (shape.PerGroup var source key n body) env timed a =

@@ -13,15 +13,16 @@ use Rattle.gl_query.specs.declared.tree.Measure.{Measure}
 use Rattle.gl_query.specs.declared.tree.Measure.TheVariants.{Tuples}
 use Rattle.gl_query.specs.declared.tree.Name.{Name}
 use Rattle.gl_query.specs.declared.tree.Num.{Num}
+use Rattle.gl_query.specs.declared.tree.Slots.{Slots}
 use Rattle.gl_query.specs.Trees as tree
 use Rattle.gl_query.specs.Trees.{ExprTree, ItemTree, AggItemTree, FrameItemTree, PickTree, QueryTree}
 use Rattle.gl_query.specs.Alike.{expr_alike, agg_alike, item_alike, agg_item_alike, frame_alike, frame_item_alike, pick_alike, query_alike}
-use Rattle.gl_query.specs.Shapes.{QueryShape}
+use Rattle.gl_query.specs.Shapes.{QueryShape, slots_shape}
 use Rattle.gl_query.specs.Values.{HasKind, kind_alone}
 use Rattle.gl_query.specs.Columns.{Pace, Once, Step, agg_column, frame_column, is_closing, item_column, pace_of}
-use Rattle.gl_query.specs.Accepted.{AreFrames, AreResultColumns, IsAcceptedOver, IsAgg, IsFrame, IsPick, IsTotal, IsWindow, KeepPace, Scope, body_scope, can_measure, columns_under}
+use Rattle.gl_query.specs.Accepted.{AreFrames, AreResultColumns, IsAcceptedOver, IsAgg, IsFrame, IsParted, IsPick, IsTotal, IsWindow, KeepPace, Scope, body_scope, can_measure, columns_under}
 use Rattle.gl_query.specs.Windows.{copies_of}
-use Rattle.gl_query.specs.Faults.{or_else, unless, agg_fault, are_distinct, aggs_fault, beside_fault, filter_fault, frame_fault, frames_fault, is_within, key_fault, pick_fault, query_fault, same_kinds, same_pace, whole_fault, window_fault, windows_fault}
+use Rattle.gl_query.specs.Faults.{or_else, unless, agg_fault, are_distinct, aggs_fault, beside_fault, filter_fault, frame_fault, frames_fault, is_within, key_fault, pick_fault, query_fault, same_kinds, same_pace, slots_fault, whole_fault, window_fault, windows_fault}
 use Rattle.gl_query.specs.Laws.{FirstFaultsAreExact}
 use Rattle.gl_query.proofs.Deciding.{Decides, agg_decides, always, both, change, equal_lists, filter_decides, frame_decides, is_within_of, lists_equal, named_decides, rule, test, whole_decides, within}
 use Rattle.gl_query.proofs.Real.{IsScope, body_is, no_names, real, schema_is}
@@ -132,24 +133,35 @@ total_decides items columns =
     (λ a. let r = columns_named name out items (agg_names columns items) a.columns in
     record { each = aggs_typed columns items a.typed; most = r.0; distinct = r.1 })
 
-frames_decide : (items : List FrameItemTree) (filter : Option ExprTree) (columns : List NamedColumn)
-    → Decides (or_else (frames_fault columns [] items) (filter_fault columns filter))
-    (AreFrames columns (map frame_item_alike items) (option_map expr_alike filter) (map (frame_column columns) (map frame_item_alike items)))
-frames_decide items filter columns =
+slots_decide : (slots : Option Slots) (columns : List NamedColumn) → Decides (slots_fault columns slots) (IsParted columns (option_map slots_shape slots))
+slots_decide None columns = always (Unit {0}) tt
+slots_decide (Some s) columns =
+    let n = s.groups.value in
+    change _
+    (both (unless (has_column columns s.key.text) _) _ (test (has_column columns s.key.text) _)
+    (λ k. rule (is_within n 4096) _ ((1 ≤ n) × (n ≤ 4096)) (within n 4096) (is_within_of n 4096)))
+    (λ h. record { known = h.0; some_groups = h.1.0; most_groups = h.1.1 }) (λ p. (p.known, (p.some_groups, p.most_groups)))
+
+frames_decide : (items : List FrameItemTree) (filter : Option ExprTree) (slots : Option Slots) (columns : List NamedColumn)
+    → Decides (or_else (slots_fault columns slots) (or_else (frames_fault columns [] items) (filter_fault columns filter)))
+    (AreFrames columns (map frame_item_alike items) (option_map expr_alike filter) (option_map slots_shape slots) (map (frame_column columns) (map frame_item_alike items)))
+frames_decide items filter slots columns =
     let name : FrameItemTree → Name = λ i. i.name in
     let Own : FrameItemTree → Type 0 = λ i. IsFrame columns (frame_alike i.frame) in
     let out = map (frame_column columns) (map frame_item_alike items) in
     change _
-    (both (frames_fault columns [] items) _
+    (both (slots_fault columns slots) _ (slots_decide slots columns)
+    (λ p. both (frames_fault columns [] items) _
     (named_decides name (λ (i : FrameItemTree). frame_fault columns i.frame i.name) Own (λ i. frame_decides i.frame columns i.name) [] items (lit≤ tt) no_names)
-    (λ n. filter_decides filter columns))
+    (λ n. filter_decides filter columns)))
     (λ h. record {
-      typed = typed_frames columns items h.0.each;
-      columns = named_columns name out items (frame_names columns items) h.0.most h.0.distinct;
-      filters = h.1;
+      parted = h.0;
+      typed = typed_frames columns items h.1.0.each;
+      columns = named_columns name out items (frame_names columns items) h.1.0.most h.1.0.distinct;
+      filters = h.1.1;
     })
     (λ a. let r = columns_named name out items (frame_names columns items) a.columns in
-    (record { each = frames_typed columns items a.typed; most = r.0; distinct = r.1 }, a.filters))
+    (a.parted, (record { each = frames_typed columns items a.typed; most = r.0; distinct = r.1 }, a.filters)))
 
 -- ---- parts of queries
 
@@ -217,9 +229,9 @@ query_decides (tree.Rows pick filter source) scope s =
 query_decides (tree.Total aggs source) scope s =
     let columns = columns_under scope (query_alike source) in
     both (query_fault scope source) _ (query_decides source scope s) (λ a. total_decides aggs columns)
-query_decides (tree.Frames items filter source) scope s =
+query_decides (tree.Frames items filter slots source) scope s =
     let columns = columns_under scope (query_alike source) in
-    both (query_fault scope source) _ (query_decides source scope s) (λ a. frames_decide items filter columns)
+    both (query_fault scope source) _ (query_decides source scope s) (λ a. frames_decide items filter slots columns)
 query_decides (tree.Each measure var source size advance body at) scope s =
     let columns = columns_under scope (query_alike source) in
     let inside = body_scope var.text columns in

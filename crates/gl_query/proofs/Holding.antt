@@ -1,13 +1,13 @@
 -- A property of rows that each step from the sources to the result of a query keeps holds of the rows of the result.
 use Rattle.std.proofs.Common.{◌≡◌, ℕ, zero, suc, ◌-◌, ◌+◌, ◌*◌, ◌%◌, ◌/◌, Bool, false, List, [], ◌∷◌, ◌++◌, length, refl, sym, subst, map, filter, take, drop, nat_lt, nat_eq}
 use Rattle.std.specs.Prelude.{◌&&◌, IfSome, Option, None, Some, nat_le, IsTrue, bytes_eq, flat_map, not, reverse, slice_get, slice_index}
-use Rattle.std.specs.List.{AllByRecursion, range_with_len}
+use Rattle.std.specs.List.{AllByRecursion, cons_option, range_with_len}
 use Rattle.std.proofs.lemmas.List.{reverse-append}
 use Rattle.gl_values.specs.Lists.{Group, IsInterleaving, nothing, from_first, from_second, distinct, groups, keys_of, part, rows_with, slices}
 use Rattle.gl_values.specs.Partitions.{completed, completed_by, fulls, has_key, keyed, parts, short_slices}
 use Rattle.gl_values.specs.Results.{Row, Results, AreJoined, IsOfGroup, beside}
 use Rattle.gl_values.specs.Times.{tfirsts, tpart}
-use Rattle.gl_frames.specs.Frames.{each_of, frame_of, row_before, rows_preceding}
+use Rattle.gl_frames.specs.Frames.{by_key, each_of, frame_of, if_has_key, row_before, rows_preceding}
 use Rattle.gl_bits.proofs.AllLists.{all_append, all_weaker}
 use Rattle.gl_bits.proofs.Bools.{by_cases}
 use Rattle.gl_schema.specs.declared.schema.Column.{Column}
@@ -105,13 +105,25 @@ all_preceding P (Some k) xs h = all_drop P (length xs - suc k) xs h
 pub all_in_frame : {A : Type 0} (P : A → Type 0) (back : Option ℕ) (passes : A → Bool) (xs : List A) → AllByRecursion P xs → AllByRecursion P (frame_of back passes xs)
 all_in_frame P back passes xs h = all_filter P passes (rows_preceding back xs) (all_preceding P back xs h)
 
--- what is made of the rows up to each
-all_each : {A : Type 0} (P : Row → Type 0) (Q : A → Type 0) (f : List A → Row) → ((ys : List A) → AllByRecursion Q ys → P (f ys)) → (seen xs : List A)
-    → AllByRecursion Q seen → AllByRecursion Q xs → AllByRecursion P (each_of (λ ys. Some (f ys)) seen xs)
+all_more : {A : Type 0} (P : A → Type 0) (o : Option A) (xs : List A) → IfSome o P → AllByRecursion P xs → AllByRecursion P (cons_option o xs)
+all_more P None xs h k = k
+all_more P (Some x) xs h k = (h, k)
+
+-- what is made of the rows up to each, where something is
+all_each : {A : Type 0} (P : Row → Type 0) (Q : A → Type 0) (f : List A → Option Row) → ((ys : List A) → AllByRecursion Q ys → IfSome (f ys) P) → (seen xs : List A)
+    → AllByRecursion Q seen → AllByRecursion Q xs → AllByRecursion P (each_of f seen xs)
 all_each P Q f g seen [] h k = tt
 all_each P Q f g seen (x ∷ xs) h k =
     let more : AllByRecursion Q (seen ++ x ∷ []) = all_append Q seen (x ∷ []) h (k.0, tt) in
-    (g (seen ++ x ∷ []) more, all_each P Q f g (seen ++ x ∷ []) xs more k.1)
+    all_more P (f (seen ++ x ∷ [])) (each_of f (seen ++ x ∷ []) xs) (g (seen ++ x ∷ []) more) (all_each P Q f g (seen ++ x ∷ []) xs more k.1)
+
+-- what is made of those of the last one's key
+all_by_key : (P Q : Row → Type 0) (n : ℕ) (key_of : Row → ℕ) (f : List Row → Row) → ((ys : List Row) → AllByRecursion Q ys → P (f ys)) → (xs : List Row) (o : Option Row)
+    → AllByRecursion Q xs → IfSome (if_has_key n key_of f xs o) P
+all_by_key P Q n key_of f g xs None h = tt
+all_by_key P Q n key_of f g xs (Some row) h =
+    by_cases (has_key n key_of xs (key_of row))
+    (λ e. rw e (g (rows_with key_of xs (key_of row)) (all_filter Q (λ x. nat_eq (key_of x) (key_of row)) xs h))) (λ e. rw e tt)
 
 -- ---- groups
 
@@ -232,11 +244,20 @@ results_hold P k (shape.Total aggs source) env timed out spill a h r =
     let columns = columns_in env source in
     let rows = results_hold P k source env timed r.rows spill a.0 h r.of_source in
     subst (AllByRecursion (P (map (agg_column columns) aggs))) (sym r.changed) (k.totals columns aggs r.rows a.1.typed rows, tt)
-results_hold P k (shape.Frames items condition source) env timed out spill a h r =
+results_hold P k (shape.Frames items condition None source) env timed out spill a h r =
     let columns = columns_in env source in
     let rows = results_hold P k source env timed r.rows spill a.0 h r.of_source in
     subst (AllByRecursion (P (map (frame_column columns) items))) (sym r.changed)
-    (all_each (P (map (frame_column columns) items)) (P columns) (frame_row columns items) (λ ys held. k.frames columns items ys a.1.typed held) []
+    (all_each (P (map (frame_column columns) items)) (P columns) (λ ys. Some (frame_row columns items ys)) (λ ys held. k.frames columns items ys a.1.typed held) []
+    (kept columns condition r.rows) tt (all_filter (P columns) (keeps columns condition) r.rows rows))
+results_hold P k (shape.Frames items condition (Some s) source) env timed out spill a h r =
+    let columns = columns_in env source in
+    let Whole : Row → Type 0 = P (map (frame_column columns) items) in
+    let key_of : Row → ℕ = λ row. slice_index row (column_number columns s.key) in
+    let rows = results_hold P k source env timed r.rows r.source_spill a.0 h r.of_source in
+    subst (AllByRecursion Whole) (sym r.changed)
+    (all_each Whole (P columns) (by_key s.groups key_of (frame_row columns items))
+    (λ ys held. all_by_key Whole (P columns) s.groups key_of (frame_row columns items) (λ zs own. k.frames columns items zs a.1.typed own) ys (row_before 0 ys) held) []
     (kept columns condition r.rows) tt (all_filter (P columns) (keeps columns condition) r.rows rows))
 results_hold P k (shape.Each measure var source size advance body) env timed out spill a h r =
     let columns = columns_in env source in

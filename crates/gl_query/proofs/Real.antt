@@ -162,7 +162,7 @@ real (shape.Rows (shape.Items items) filter source) scope s a =
 real (shape.Total aggs source) scope s a =
     let r = real source scope s a.0 in
     record { result = a.1.columns; kinds = aggs_are aggs (columns_under scope source) r.kinds a.1.typed }
-real (shape.Frames items filter source) scope s a =
+real (shape.Frames items filter slots source) scope s a =
     let r = real source scope s a.0 in
     record { result = a.1.columns; kinds = frames_are items (columns_under scope source) r.kinds a.1.typed }
 real (shape.Each measure var source size advance body) scope s a =
@@ -238,7 +238,7 @@ some (shape.Rows shape.All filter source) scope s i a = some source scope s i.0 
 some (shape.Rows (shape.Items items) filter source) scope s i a =
     subst (λ (k : ℕ). 1 ≤ k) (sym (length_map (item_column (columns_under scope source)) items)) i.1
 some (shape.Total aggs source) scope s i a = subst (λ (k : ℕ). 1 ≤ k) (sym (length_map (agg_column (columns_under scope source)) aggs)) i.1
-some (shape.Frames items filter source) scope s i a = some_frame (columns_under scope source) items i.1
+some (shape.Frames items filter slots source) scope s i a = some_frame (columns_under scope source) items i.1
 some (shape.Each measure var source size advance body) scope s i a =
     some body (body_scope var (columns_under scope source)) (body_some var (columns_under scope source) (some source scope s i.0 a.0)) i.1 a.2
 some (shape.PerGroup var source key groups body) scope s i a = omega arith

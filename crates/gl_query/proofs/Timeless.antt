@@ -3,7 +3,6 @@ use Rattle.std.proofs.Common.{◌≡◌, ℕ, ◌+◌, false, List, [], ◌∷�
 use Rattle.std.specs.Prelude.{bytes_eq, map, slice_index}
 use Rattle.gl_values.specs.Lists.{IsInterleaving, groups, has_further, slices}
 use Rattle.gl_values.specs.Partitions.{parts}
-use Rattle.gl_frames.specs.Frames.{framed}
 use Rattle.gl_values.specs.Results.{Row, Results, AreBeside, IsChanged, IsInput, IsOfBoth, IsOfGroup, IsOfParts}
 use Rattle.gl_bits.proofs.Bools.{by_cases, neither_parts}
 use Rattle.gl_schema.specs.declared.schema.Stream.{Stream}
@@ -11,7 +10,7 @@ use Rattle.gl_schema.specs.Beats.{Inputs}
 use Rattle.gl_query.specs.declared.tree.Measure.TheVariants.{Tuples, Time}
 use Rattle.gl_query.specs.Columns.{columns_of}
 use Rattle.gl_query.specs.Laws.{ResultsGoByRows}
-use Rattle.gl_query.specs.Results.{Env, IsResultIn, env_of, frame_row, kept, numbered, only, picked, rows_of, streams_of, total_row}
+use Rattle.gl_query.specs.Results.{Env, IsFramed, IsResultIn, env_of, kept, numbered, only, picked, rows_of, streams_of, total_row}
 use Rattle.gl_query.specs.Shapes.{QueryShape, query_shape}
 use Rattle.gl_query.specs.Shapes as shape
 use Rattle.gl_query.specs.Values.{column_number}
@@ -31,9 +30,8 @@ same_results (shape.Rows pick filter source) t env other h =
 same_results (shape.Total aggs source) t env other h =
     let step : List Stream → Results → Results = λ s r. IsChanged r (λ rows. total_row (columns_of s source) aggs rows ∷ []) in
     ap (λ (s : List Stream). step s (IsResultIn source env)) h.streams ∙ ap (step (streams_of other)) (same_results source t env other h)
-same_results (shape.Frames items filter source) t env other h =
-    let step : List Stream → Results → Results =
-    λ s r. IsChanged r (λ rows. framed (frame_row (columns_of s source) items) (kept (columns_of s source) filter rows)) in
+same_results (shape.Frames items filter slots source) t env other h =
+    let step : List Stream → Results → Results = λ s r. IsFramed (columns_of s source) items filter slots r in
     ap (λ (s : List Stream). step s (IsResultIn source env)) h.streams ∙ ap (step (streams_of other)) (same_results source t env other h)
 same_results (shape.Each Time var source size advance body) t env other h = absurd (cc)
 same_results (shape.Each Tuples var source size advance body) t env other h =

@@ -1,6 +1,8 @@
 -- A query without UNION has at most one result.
+use Rattle.std.proofs.Common.{Some, None}
 use Rattle.gl_query.specs.Shapes as shape
 use Rattle.gl_values.proofs.Unique.{one_input, one_changed, one_of_parts, one_of_both}
+use Rattle.gl_frames.proofs.ResultLemmas.{one_in_part}
 use Rattle.gl_query.specs.Results.{IsResultIn, rows_of}
 use Rattle.gl_query.specs.Laws.{HasOneResult}
 
@@ -8,7 +10,8 @@ pub unique : HasOneResult
 unique (shape.Read name) none env = one_input (rows_of env name)
 unique (shape.Rows pick filter source) none env = one_changed (IsResultIn source env) _ (unique source none env)
 unique (shape.Total aggs source) none env = one_changed (IsResultIn source env) _ (unique source none env)
-unique (shape.Frames items filter source) none env = one_changed (IsResultIn source env) _ (unique source none env)
+unique (shape.Frames items filter None source) none env = one_changed (IsResultIn source env) _ (unique source none env)
+unique (shape.Frames items filter (Some s) source) none env = one_in_part (IsResultIn source env) _ _ (unique source none env)
 unique (shape.Each measure var source size advance body) none env =
     one_of_parts (IsResultIn source env) _ _ _ (unique source none.0 env) (λ rows. unique body none.1 _)
 unique (shape.PerGroup var source key n body) none env =

@@ -9,10 +9,11 @@ use Rattle.gl_schema.specs.declared.schema.Column.{Column}
 use Rattle.gl_schema.specs.declared.schema.Stream.{Stream}
 use Rattle.gl_schema.specs.declared.schema.Schema.{Schema}
 use Rattle.gl_schema.specs.Schemas.{column_names, has_column, has_stream, kinds_of}
+pub use Rattle.gl_frames.specs.Results.{most_slots}
 use Rattle.gl_query.specs.declared.tree.Measure.{Measure}
 use Rattle.gl_query.specs.declared.tree.Measure.TheVariants.{Tuples, Time}
 use Rattle.gl_query.specs.declared.tree.Statement.{Statement}
-use Rattle.gl_query.specs.Shapes.{ExprShape, AggShape, ItemShape, AggItemShape, FrameAggShape, FrameShape, FrameItemShape, PickShape, QueryShape, query_shape}
+use Rattle.gl_query.specs.Shapes.{ExprShape, AggShape, ItemShape, AggItemShape, FrameAggShape, FrameShape, FrameItemShape, PickShape, QueryShape, SlotsShape, query_shape}
 use Rattle.gl_query.specs.Shapes as shape
 use Rattle.gl_query.specs.Values.{HasKind, IsNumberOf, kind_alone, kind_of}
 use Rattle.gl_query.specs.Columns.{columns_of, picked_columns, is_closing, pace_of, variable}
@@ -115,9 +116,22 @@ pub record IsTotal (source : List Column) (aggs : List AggItemShape) (result : L
   pub typed : AllByRecursion (λ (i : AggItemShape). IsAgg source i.agg) aggs
   pub columns : AreResultColumns result
 
--- a select of frames is accepted where each frame and the filter is, and their names make columns of a result
+-- the key of PARTITION is a column, and GROUPS is 1 to 4,096
+pub record AreSlots (source : List Column) (slots : SlotsShape) : Type 0 where
+  pub known : IsTrue (has_column source slots.key)
+  pub some_groups : 1 ≤ slots.groups
+  pub most_groups : slots.groups ≤ most_slots
+
+-- PARTITION may be absent
+abbrev pub IsParted : List Column → Option SlotsShape → Type 0
+IsParted columns None = Unit {0}
+IsParted columns (Some s) = AreSlots columns s
+
+-- a select of frames is accepted where PARTITION, each frame and the filter is, and the names of its items make columns
+-- of a result
 pub record AreFrames (source : List Column) (items : List FrameItemShape) (filter : Option ExprShape)
-    (result : List Column) : Type 0 where
+    (slots : Option SlotsShape) (result : List Column) : Type 0 where
+  pub parted : IsParted source slots
   pub typed : AllByRecursion (λ (i : FrameItemShape). IsFrame source i.frame) items
   pub columns : AreResultColumns result
   pub filters : IsFilter source filter
@@ -178,9 +192,10 @@ IsAcceptedOver scope (shape.Rows pick filter source) =
 IsAcceptedOver scope (shape.Total aggs source) =
     IsAcceptedOver scope source × IsTotal (columns_under scope source) aggs
     (columns_under scope (shape.Total aggs source))
-IsAcceptedOver scope (shape.Frames items filter source) =
+IsAcceptedOver scope (shape.Frames items filter slots source) =
     IsAcceptedOver scope source
-    × AreFrames (columns_under scope source) items filter (columns_under scope (shape.Frames items filter source))
+    × AreFrames (columns_under scope source) items filter slots
+    (columns_under scope (shape.Frames items filter slots source))
 IsAcceptedOver scope (shape.Each measure var source size advance body) =
     IsAcceptedOver scope source × IsWindow measure size advance
     × IsAcceptedOver (body_scope var (columns_under scope source)) body × IsTrue (is_closing body)

@@ -1,7 +1,7 @@
 -- Trees without their places.
 use Rattle.std.specs.Prelude.{map, option_map}
 use Rattle.gl_query.specs.declared.tree.Num.{Num}
-use Rattle.gl_query.specs.Shapes.{ExprShape, AggShape, ItemShape, AggItemShape, FrameAggShape, FrameShape, FrameItemShape, PickShape, QueryShape, StatementShape}
+use Rattle.gl_query.specs.Shapes.{ExprShape, AggShape, ItemShape, AggItemShape, FrameAggShape, FrameShape, FrameItemShape, PickShape, QueryShape, StatementShape, slots_shape}
 use Rattle.gl_query.specs.Shapes as shape
 use Rattle.gl_query.specs.Trees.{ExprTree, AggTree, ItemTree, AggItemTree, FrameAggTree, FrameTree, FrameItemTree, PickTree, QueryTree, StatementTree}
 use Rattle.gl_query.specs.Trees as tree
@@ -64,8 +64,9 @@ query_alike (tree.Read name) = shape.Read name.text
 query_alike (tree.Rows pick filter source) =
     shape.Rows (pick_alike pick) (option_map expr_alike filter) (query_alike source)
 query_alike (tree.Total aggs source) = shape.Total (map agg_item_alike aggs) (query_alike source)
-query_alike (tree.Frames items filter source) =
-    shape.Frames (map frame_item_alike items) (option_map expr_alike filter) (query_alike source)
+query_alike (tree.Frames items filter slots source) =
+    shape.Frames (map frame_item_alike items) (option_map expr_alike filter) (option_map slots_shape slots)
+    (query_alike source)
 query_alike (tree.Each measure var source size advance body at) =
     shape.Each measure var.text (query_alike source) size.value advance.value (query_alike body)
 query_alike (tree.PerGroup var source key groups body at) =

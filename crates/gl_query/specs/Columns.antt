@@ -63,7 +63,7 @@ abbrev pub columns_of : List Stream → QueryShape → List Column
 columns_of sources (shape.Read name) = source_columns sources name
 columns_of sources (shape.Rows pick filter source) = picked_columns (columns_of sources source) pick
 columns_of sources (shape.Total aggs source) = map (agg_column (columns_of sources source)) aggs
-columns_of sources (shape.Frames items filter source) = map (frame_column (columns_of sources source)) items
+columns_of sources (shape.Frames items filter slots source) = map (frame_column (columns_of sources source)) items
 columns_of sources (shape.Each measure var source size advance body) =
     columns_of (variable var (columns_of sources source)) body
 columns_of sources (shape.PerGroup var source key groups body) =
@@ -80,7 +80,7 @@ abbrev pub is_closing : QueryShape → Bool
 is_closing (shape.Read name) = false
 is_closing (shape.Rows pick filter source) = is_closing source
 is_closing (shape.Total aggs source) = true
-is_closing (shape.Frames items filter source) = is_closing source
+is_closing (shape.Frames items filter slots source) = is_closing source
 is_closing (shape.Each measure var source size advance body) = not (is_time measure) && is_closing source
 is_closing (shape.PerGroup var source key groups body) = true
 is_closing (shape.Partition var source key groups size advance body) = is_closing source
@@ -92,17 +92,18 @@ pub data Pace : Type 0 where
   Once : Pace
   Step : (source : List ℕ) → Pace
 
--- Rows that filter, windows, groups and unions have no pace
+-- what stands in the way of a pace: a filter, or PARTITION
 abbrev pub unfiltered : {A B : Type 0} → Option A → Option B → Option B
 unfiltered None pace = pace
 unfiltered (Some e) pace = None
 
--- the pace of a query, where it has one: filters, windows, groups and UNION have none, and CONCAT has its left side's
+-- the pace of a query, where it has one: filters, PARTITION, windows, groups and UNION have none, and CONCAT has its
+-- left side's
 abbrev pub pace_of : QueryShape → Option Pace
 pace_of (shape.Read name) = Some (Step name)
 pace_of (shape.Rows pick filter source) = unfiltered filter (pace_of source)
 pace_of (shape.Total aggs source) = Some Once
-pace_of (shape.Frames items filter source) = unfiltered filter (pace_of source)
+pace_of (shape.Frames items filter slots source) = unfiltered filter (unfiltered slots (pace_of source))
 pace_of (shape.Each measure var source size advance body) = None
 pace_of (shape.PerGroup var source key groups body) = None
 pace_of (shape.Partition var source key groups size advance body) = None

@@ -19,12 +19,13 @@ use Rattle.gl_query.specs.declared.tree.Measure.{Measure}
 use Rattle.gl_query.specs.declared.tree.Measure.TheVariants.{Tuples}
 use Rattle.gl_query.specs.declared.tree.Name.{Name}
 use Rattle.gl_query.specs.declared.tree.Num.{Num}
+use Rattle.gl_query.specs.declared.tree.Slots.{Slots}
 use Rattle.gl_query.specs.Trees.{ExprTree, AggTree, ItemTree, AggItemTree, FrameAggTree, FrameTree, FrameItemTree, PickTree, QueryTree, StatementTree, Column, Number, Minus, Letters, Not, Cast, Binary, Count, Sum, Min, Max, Avg, Wsum, CountOver, SumOver, MinOver, MaxOver, AvgOver, LastOver, Own, Lag, Over, All, Items, Read, Rows, Total, Frames, Each, PerGroup, Partition, Union, Concat}
 use Rattle.gl_query.specs.Shapes.{QueryShape}
 use Rattle.gl_query.specs.Alike.{expr_alike, query_alike}
 use Rattle.gl_query.specs.Values.{is_loose, kind_alone, kind_of, letters_fit, operand_place}
 use Rattle.gl_query.specs.Columns.{Pace, Once, Step, is_closing, pace_of}
-use Rattle.gl_query.specs.Accepted.{Scope, body_scope, can_measure, columns_under, schema_scope}
+use Rattle.gl_query.specs.Accepted.{Scope, body_scope, can_measure, columns_under, most_slots, schema_scope}
 use Rattle.gl_query.specs.Windows.{copies_of}
 
 -- the first of two faults, where there is one
@@ -236,6 +237,13 @@ frames_fault columns earlier items =
     named_fault (λ (i : FrameItemTree). i.name) (λ (i : FrameItemTree). frame_fault columns i.frame i.name) earlier
     items
 
+-- PARTITION's key and GROUPS, where there is one
+abbrev pub slots_fault : List NamedColumn → Option Slots → Option QueryFault
+slots_fault columns None = None
+slots_fault columns (Some s) =
+    or_else (unless (has_column columns s.key.text) (UnknownColumn s.key.at))
+    (unless (is_within s.groups.value most_slots) (OutOfRange s.groups.at))
+
 -- ---- queries
 
 -- SIZE, ADVANCE, and SIZE again for the windows that are open at once
@@ -272,9 +280,11 @@ query_fault scope (Rows pick filter source) =
     or_else (query_fault scope source) (or_else (pick_fault columns pick) (filter_fault columns filter))
 query_fault scope (Total aggs source) =
     or_else (query_fault scope source) (aggs_fault (columns_under scope (query_alike source)) [] aggs)
-query_fault scope (Frames items filter source) =
+query_fault scope (Frames items filter slots source) =
     let columns = columns_under scope (query_alike source) in
-    or_else (query_fault scope source) (or_else (frames_fault columns [] items) (filter_fault columns filter))
+    or_else (query_fault scope source)
+    (or_else (slots_fault columns slots)
+    (or_else (frames_fault columns [] items) (filter_fault columns filter)))
 query_fault scope (Each measure var source size advance body at) =
     let inside = body_scope var.text (columns_under scope (query_alike source)) in
     or_else (query_fault scope source)

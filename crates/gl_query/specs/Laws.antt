@@ -25,7 +25,7 @@ abbrev pub HasNoUnion : QueryShape → Type 0
 HasNoUnion (shape.Read name) = Unit {0}
 HasNoUnion (shape.Rows pick filter source) = HasNoUnion source
 HasNoUnion (shape.Total aggs source) = HasNoUnion source
-HasNoUnion (shape.Frames items filter source) = HasNoUnion source
+HasNoUnion (shape.Frames items filter slots source) = HasNoUnion source
 HasNoUnion (shape.Each measure var source size advance body) = HasNoUnion source × HasNoUnion body
 HasNoUnion (shape.PerGroup var source key groups body) = HasNoUnion source × HasNoUnion body
 HasNoUnion (shape.Partition var source key groups size advance body) = HasNoUnion source × HasNoUnion body

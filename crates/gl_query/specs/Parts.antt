@@ -1,7 +1,7 @@
 -- What holds of each whole expression and of each name of a query.
 use Rattle.std.specs.Prelude.{ℕ, List, Option, Some, None}
 use Rattle.std.specs.List.{AllByRecursion}
-use Rattle.gl_query.specs.Shapes.{ExprShape, AggShape, ItemShape, AggItemShape, FrameAggShape, FrameShape, FrameItemShape, PickShape, QueryShape}
+use Rattle.gl_query.specs.Shapes.{ExprShape, AggShape, ItemShape, AggItemShape, FrameAggShape, FrameShape, FrameItemShape, PickShape, QueryShape, SlotsShape}
 use Rattle.gl_query.specs.Shapes as shape
 
 -- of the argument of an aggregate
@@ -45,6 +45,11 @@ InFrame E (shape.Over agg filter back) = InFrameAgg E agg × InFilter E filter
 abbrev pub InFrameItem : (ExprShape → Type 0) → (List ℕ → Type 0) → FrameItemShape → Type 0
 InFrameItem E N i = InFrame E i.frame × N i.name
 
+-- a property holds of the key of PARTITION, where there is one
+abbrev pub InSlots : (List ℕ → Type 0) → Option SlotsShape → Type 0
+InSlots N None = Unit {0}
+InSlots N (Some s) = N s.key
+
 -- both properties hold of every item that is picked; the star has none
 abbrev pub InPick : (ExprShape → Type 0) → (List ℕ → Type 0) → PickShape → Type 0
 InPick E N shape.All = Unit {0}
@@ -55,8 +60,8 @@ abbrev pub InQuery : (ExprShape → Type 0) → (List ℕ → Type 0) → QueryS
 InQuery E N (shape.Read name) = N name
 InQuery E N (shape.Rows pick filter source) = InQuery E N source × InPick E N pick × InFilter E filter
 InQuery E N (shape.Total aggs source) = InQuery E N source × AllByRecursion (InAggItem E N) aggs
-InQuery E N (shape.Frames items filter source) =
-    InQuery E N source × AllByRecursion (InFrameItem E N) items × InFilter E filter
+InQuery E N (shape.Frames items filter slots source) =
+    InQuery E N source × AllByRecursion (InFrameItem E N) items × InFilter E filter × InSlots N slots
 InQuery E N (shape.Each measure var source size advance body) = InQuery E N source × InQuery E N body × N var
 InQuery E N (shape.PerGroup var source key groups body) = InQuery E N source × InQuery E N body × N var × N key
 InQuery E N (shape.Partition var source key groups size advance body) =

@@ -4,7 +4,8 @@ use Rattle.std.specs.Prelude.{ℕ, ◌+◌, Bool, true, false, List, [], ◌∷�
 use Rattle.gl_values.specs.declared.kind.Kind.TheVariants.{Unsigned}
 use Rattle.gl_values.specs.Kinds.{width_of}
 use Rattle.gl_values.specs.Lists.{IsInterleaving, groups, has_further}
-use Rattle.gl_frames.specs.Frames.{frame_of, framed, lag_of, own_of, last_value_of}
+use Rattle.gl_frames.specs.Frames.{frame_of, framed, framed_by_key, lag_of, own_of, last_value_of}
+pub use Rattle.gl_frames.specs.Results.{IsChangedInPart}
 use Rattle.gl_values.specs.Partitions.{parts}
 use Rattle.gl_values.specs.Results.{Row, Results, IsInput, IsChanged, IsOfBoth, AreBeside, IsOfParts, IsOfGroup}
 use Rattle.gl_values.specs.Totals.{average_of, count_of, greatest_of, least_of, sum_total, weighted_sum}
@@ -13,7 +14,7 @@ use Rattle.gl_schema.specs.declared.schema.Stream.{Stream}
 use Rattle.gl_schema.specs.declared.schema.Schema.{Schema}
 use Rattle.gl_schema.specs.Beats.{Inputs}
 use Rattle.gl_query.specs.declared.tree.Statement.{Statement}
-use Rattle.gl_query.specs.Shapes.{ExprShape, AggShape, ItemShape, AggItemShape, FrameAggShape, FrameShape, FrameItemShape, PickShape, QueryShape, query_shape}
+use Rattle.gl_query.specs.Shapes.{ExprShape, AggShape, ItemShape, AggItemShape, FrameAggShape, FrameShape, FrameItemShape, PickShape, QueryShape, SlotsShape, query_shape}
 use Rattle.gl_query.specs.Shapes as shape
 use Rattle.gl_query.specs.Values.{column_number, kind_alone, kind_of, value_of}
 use Rattle.gl_query.specs.Columns.{columns_of}
@@ -77,6 +78,17 @@ frame_value columns rows (shape.Over agg filter back) = frame_agg_value columns 
 -- what a select of frames makes of the rows up to a row: a value for each item
 abbrev pub frame_row : List Column → List FrameItemShape → List Row → Row
 frame_row columns items rows = map (λ (i : FrameItemShape). frame_value columns rows i.frame) items
+
+-- a select of frames over the rows that a filter keeps: each of them has a row, made of those up to it. With PARTITION
+-- each of the first keys has one, made of those of its key, and whether rows of further keys came is told
+abbrev pub IsFramed : List Column → List FrameItemShape → Option ExprShape → Option SlotsShape → Results → Results
+IsFramed columns items filter None source =
+    IsChanged source (λ rows. framed (frame_row columns items) (kept columns filter rows))
+IsFramed columns items filter (Some s) source =
+    let key_of : Row → ℕ = λ row. slice_index row (column_number columns s.key) in
+    IsChangedInPart source
+    (λ rows. framed_by_key s.groups key_of (frame_row columns items) (kept columns filter rows))
+    (λ rows. has_further s.groups key_of (kept columns filter rows))
 
 -- ---- what a query sees
 
@@ -144,9 +156,8 @@ IsResultIn (shape.Rows pick filter source) env =
 IsResultIn (shape.Total aggs source) env =
     let columns = columns_in env source in
     IsChanged (IsResultIn source env) (λ rows. total_row columns aggs rows ∷ [])
-IsResultIn (shape.Frames items filter source) env =
-    let columns = columns_in env source in
-    IsChanged (IsResultIn source env) (λ rows. framed (frame_row columns items) (kept columns filter rows))
+IsResultIn (shape.Frames items filter slots source) env =
+    IsFramed (columns_in env source) items filter slots (IsResultIn source env)
 IsResultIn (shape.Each measure var source size advance body) env =
     let columns = columns_in env source in
     IsOfParts (IsResultIn source env) (parts_of measure size advance (times_in env source) (ticks_in env source))

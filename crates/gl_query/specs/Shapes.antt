@@ -16,6 +16,7 @@ use Rattle.gl_query.specs.declared.tree.FrameAgg.TheVariants as frame_agg
 use Rattle.gl_query.specs.declared.tree.Frame.{Frame}
 use Rattle.gl_query.specs.declared.tree.Frame.TheVariants as frame
 use Rattle.gl_query.specs.declared.tree.FrameItem.{FrameItem}
+use Rattle.gl_query.specs.declared.tree.Slots.{Slots}
 use Rattle.gl_query.specs.declared.tree.Pick.{Pick}
 use Rattle.gl_query.specs.declared.tree.Pick.TheVariants as pick
 use Rattle.gl_query.specs.declared.tree.Query.{Query}
@@ -71,6 +72,11 @@ pub record FrameItemShape : Type 0 where
   pub frame : FrameShape
   pub name : List ℕ
 
+-- PARTITION: the key by which rows are parted, and of how many keys they are kept
+pub record SlotsShape : Type 0 where
+  pub key : List ℕ
+  pub groups : ℕ
+
 -- every column, or these items
 pub data PickShape : Type 0 where
   All : PickShape
@@ -81,7 +87,8 @@ pub data QueryShape : Type 0 where
   Read : (name : List ℕ) → QueryShape
   Rows : (pick : PickShape) (filter : Option ExprShape) (source : QueryShape) → QueryShape
   Total : (aggs : List AggItemShape) (source : QueryShape) → QueryShape
-  Frames : (items : List FrameItemShape) (filter : Option ExprShape) (source : QueryShape) → QueryShape
+  Frames : (items : List FrameItemShape) (filter : Option ExprShape) (slots : Option SlotsShape) (source : QueryShape)
+      → QueryShape
   Each : (measure : Measure) (var : List ℕ) (source : QueryShape) (size advance : ℕ) (body : QueryShape) → QueryShape
   PerGroup : (var : List ℕ) (source : QueryShape) (key : List ℕ) (groups : ℕ) (body : QueryShape) → QueryShape
   Partition : (var : List ℕ) (source : QueryShape) (key : List ℕ) (groups size advance : ℕ) (body : QueryShape)
@@ -143,6 +150,10 @@ frame_shape (frame.Over agg filter back at) =
 abbrev pub frame_item_shape : FrameItem → FrameItemShape
 frame_item_shape i = record { frame = frame_shape i.frame; name = i.name.text }
 
+-- the shape of a PARTITION that code holds
+abbrev pub slots_shape : Slots → SlotsShape
+slots_shape s = record { key = s.key.text; groups = s.groups.value }
+
 -- the shape of what a select picks, as code holds it
 abbrev pub pick_shape : Pick → PickShape
 pick_shape pick.All = All
@@ -154,8 +165,9 @@ query_shape (query.Read name) = Read name.text
 query_shape (query.Rows' pick filter p source) =
     Rows (pick_shape pick) (option_map expr_shape filter) (query_shape source)
 query_shape (query.Total' aggs p source) = Total (map agg_item_shape aggs) (query_shape source)
-query_shape (query.Frames' items filter p source) =
-    Frames (map frame_item_shape items) (option_map expr_shape filter) (query_shape source)
+query_shape (query.Frames' items filter slots p source) =
+    Frames (map frame_item_shape items) (option_map expr_shape filter) (option_map slots_shape slots)
+    (query_shape source)
 query_shape (query.Each' var p source size advance q body at) =
     Each Tuples var.text (query_shape source) size.value advance.value (query_shape body)
 query_shape (query.EachTime' var p source size advance q body at) =

@@ -43,7 +43,7 @@ abbrev pub HasItems : QueryShape → Type 0
 HasItems (shape.Read name) = Unit {0}
 HasItems (shape.Rows pick filter source) = HasItems source × PickHasItems pick
 HasItems (shape.Total aggs source) = HasItems source × (1 ≤ length aggs)
-HasItems (shape.Frames items filter source) = HasItems source × HasFrame items
+HasItems (shape.Frames items filter slots source) = HasItems source × HasFrame items
 HasItems (shape.Each measure var source size advance body) = HasItems source × HasItems body
 HasItems (shape.PerGroup var source key groups body) = HasItems source × HasItems body
 HasItems (shape.Partition var source key groups size advance body) = HasItems source × HasItems body

@@ -17,6 +17,7 @@ use Rattle.gl_query.specs.declared.tree.FrameAgg.TheVariants as frame_agg
 use Rattle.gl_query.specs.declared.tree.Frame.{Frame}
 use Rattle.gl_query.specs.declared.tree.Frame.TheVariants as frame
 use Rattle.gl_query.specs.declared.tree.FrameItem.{FrameItem}
+use Rattle.gl_query.specs.declared.tree.Slots.{Slots}
 use Rattle.gl_query.specs.declared.tree.Pick.{Pick}
 use Rattle.gl_query.specs.declared.tree.Pick.TheVariants as pick
 use Rattle.gl_query.specs.declared.tree.Query.{Query}
@@ -82,7 +83,7 @@ pub data QueryTree : Type 0 where
   Read : (name : Name) → QueryTree
   Rows : (pick : PickTree) (filter : Option ExprTree) (source : QueryTree) → QueryTree
   Total : (aggs : List AggItemTree) (source : QueryTree) → QueryTree
-  Frames : (items : List FrameItemTree) (filter : Option ExprTree) (source : QueryTree) → QueryTree
+  Frames : (items : List FrameItemTree) (filter : Option ExprTree) (slots : Option Slots) (source : QueryTree) → QueryTree
   Each : (measure : Measure) (var : Name) (source : QueryTree) (size advance : Num) (body : QueryTree) (at : ℕ) → QueryTree
   PerGroup : (var : Name) (source : QueryTree) (key : Name) (groups : Num) (body : QueryTree) (at : ℕ) → QueryTree
   Partition : (var : Name) (source : QueryTree) (key : Name) (groups size advance : Num) (body : QueryTree) (at : ℕ)
@@ -155,7 +156,8 @@ abbrev pub query_tree : Query → QueryTree
 query_tree (query.Read name) = Read name
 query_tree (query.Rows' pick filter p source) = Rows (pick_tree pick) (filter_tree filter) (query_tree source)
 query_tree (query.Total' aggs p source) = Total (map agg_item_tree aggs) (query_tree source)
-query_tree (query.Frames' items filter p source) = Frames (map frame_item_tree items) (filter_tree filter) (query_tree source)
+query_tree (query.Frames' items filter slots p source) =
+    Frames (map frame_item_tree items) (filter_tree filter) slots (query_tree source)
 query_tree (query.Each' var p source size advance q body at) =
     Each Tuples var (query_tree source) size advance (query_tree body) at
 query_tree (query.EachTime' var p source size advance q body at) =

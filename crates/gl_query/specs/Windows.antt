@@ -31,7 +31,7 @@ abbrev pub has_time : QueryShape → Bool
 has_time (shape.Read name) = false
 has_time (shape.Rows pick filter source) = has_time source
 has_time (shape.Total aggs source) = has_time source
-has_time (shape.Frames items filter source) = has_time source
+has_time (shape.Frames items filter slots source) = has_time source
 has_time (shape.Each measure var source size advance body) = is_time measure || has_time source || has_time body
 has_time (shape.PerGroup var source key groups body) = has_time source || has_time body
 has_time (shape.Partition var source key groups size advance body) = has_time source || has_time body

@@ -12,6 +12,6 @@ pub use columns::Sources;
 pub use fault::QueryFault;
 pub use gl_values::{Op, Sort};
 pub use tree::{
-    Agg, AggItem, AggItems, Expr, Frame, FrameAgg, FrameItem, FrameItems, Item, ItemList, Measure,
-    Name, Num, Nums, Pick, Query, Statement, TextBytes,
+    Agg, AggItem, AggItems, Expr, Frame, FrameAgg, FrameItem, FrameItems, Item, ItemList,
+    MOST_SLOTS, Measure, Name, Num, Nums, Pick, Query, Slots, Statement, TextBytes,
 };

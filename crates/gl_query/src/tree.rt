@@ -171,6 +171,18 @@ pub struct FrameItem {
     pub name: Name,
 }
 
+/// How many keys PARTITION may keep at most: GROUPS.
+pub const MOST_SLOTS: u128 = 4_096;
+
+/// PARTITION: the frames of a row are over the rows of its key alone.
+#[derive(Drop, Debug)]
+pub struct Slots {
+    /// The column of the source that is the key.
+    pub key: Name,
+    /// How many keys are kept: the first ones that come.
+    pub groups: Num,
+}
+
 /// What a select picks of its source's columns.
 #[derive(Drop, Debug)]
 pub enum Pick {
@@ -216,6 +228,8 @@ pub enum Query {
         items: FrameItems,
         /// The condition of the rows that are kept; all are kept without one.
         filter: Option<Expr>,
+        /// By which key the rows are parted, where they are.
+        slots: Option<Slots>,
         /// What the rows are of.
         source: Box<Query>,
     },

@@ -9,9 +9,9 @@ ghost use Rattle.gl_query.specs.Trees.{FrameItemTree, frame_agg_tree, frame_item
 
 use crate::expressions::{filter_fault, judge_whole};
 use crate::items::summed_fault;
-use crate::rules::{or_else, unless};
+use crate::rules::{has_column, is_within, or_else, unless};
 use gl_bits::limits::{MOST_COLUMNS, MOST_ROWS};
-use gl_query::{Frame, FrameAgg, FrameItem, Name, Num, QueryFault};
+use gl_query::{Frame, FrameAgg, FrameItem, MOST_SLOTS, Name, Num, QueryFault, Slots};
 use gl_schema::Column;
 
 // Whether a frame has a name.
@@ -79,6 +79,24 @@ fn frame_fault(columns: &[Column], frame: &Frame, name: &Name) -> Option<QueryFa
         } => {
             let behind = or_else(filter_fault(columns, filter), back_fault(back));
             or_else(frame_agg_fault(columns, agg, name), behind)
+        }
+    }
+}
+
+/// The first fault of PARTITION, where there is one.
+pub fn slots_fault(columns: &[Column], slots: &Option<Slots>) -> Option<QueryFault>
+    ensures { result ≡ faults.slots_fault columns.now slots.now }
+{
+    match slots {
+        None => None,
+        Some(slots) => {
+            let at = slots.groups.at;
+            let known = has_column(columns, slots.key.text.as_slice());
+            let within = is_within(slots.groups.value, MOST_SLOTS);
+            or_else(
+                unless(known, QueryFault::UnknownColumn { at: slots.key.at }),
+                unless(within, QueryFault::OutOfRange { at }),
+            )
         }
     }
 }

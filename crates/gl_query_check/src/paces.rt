@@ -29,8 +29,16 @@ pub fn pace_of(query: &Query) -> Option<Pace<'_>>
             Some(_) => None,
         },
         Query::Total { .. } => Some(Pace::Once),
-        Query::Frames { filter, source, .. } => match filter {
-            None => pace_of(source),
+        Query::Frames {
+            filter,
+            slots,
+            source,
+            ..
+        } => match filter {
+            None => match slots {
+                None => pace_of(source),
+                Some(_) => None,
+            },
             Some(_) => None,
         },
         Query::Each { .. }

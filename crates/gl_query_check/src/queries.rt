@@ -15,7 +15,7 @@ ghost use Rattle.gl_query.specs.Trees.{agg_item_tree, filter_tree, frame_item_tr
 ghost use Rattle.gl_query_check.specs.Answers.{Answers};
 
 use crate::expressions::filter_fault;
-use crate::frames::frames_fault;
+use crate::frames::{frames_fault, slots_fault};
 use crate::items::{aggs_fault, pick_fault};
 use crate::paces::{pace_of, same_pace};
 use crate::rules::{
@@ -28,7 +28,7 @@ use gl_query::columns::{
 };
 use gl_query::{
     AggItem, AggItems, Expr, FrameItem, FrameItems, Measure, Name, Num, Pick, Query, QueryFault,
-    Sources,
+    Slots, Sources,
 };
 use gl_schema::{Column, Columns};
 use std::alloc::Global;
@@ -221,13 +221,16 @@ fn frames_checked(
     columns: Columns,
     items: &FrameItems,
     filter: &Option<Expr>,
+    slots: &Option<Slots>,
 ) -> Result<Columns, QueryFault>
     ensures { let trees = map frame_item_tree items.now in
+        let of_slots = faults.slots_fault columns slots.now in
         let of_items = faults.frames_fault columns [] trees in
         let of_filter = faults.filter_fault columns (filter_tree filter.now) in
         let out = map (frame_column columns) (map frame_item_alike trees) in
-        Answers (faults.or_else of_items of_filter) out result }
+        Answers (faults.or_else of_slots (faults.or_else of_items of_filter)) out result }
 {
+    refuse(slots_fault(columns.as_slice(), slots))?;
     refuse(frames_fault(columns.as_slice(), items.as_slice(), 0))?;
     refuse(filter_fault(columns.as_slice(), filter))?;
     Ok(framed(alloc, columns.as_slice(), items.as_slice())?)
@@ -265,10 +268,11 @@ pub fn columns_checked(
         Query::Frames {
             items,
             filter,
+            slots,
             source,
         } => {
             let columns = columns_checked(alloc, sources, source)?;
-            frames_checked(alloc, columns, items, filter)
+            frames_checked(alloc, columns, items, filter, slots)
         }
         Query::Each {
             var,

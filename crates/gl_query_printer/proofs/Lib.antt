@@ -9,9 +9,9 @@ pub mod Decimals
 pub mod ReadableWords
 pub mod Readable
 pub mod ReadBack
+pub mod ReadBackWindows
 pub mod ReadBackFrames
 pub mod ReadBackSelects
-pub mod ReadBackWindows
 pub mod ReadBackQueries
 pub mod ReadBackStatement
 pub mod RoundTrip

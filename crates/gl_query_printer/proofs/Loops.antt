@@ -1,5 +1,5 @@
 -- What is left to write in a loop.
-use Rattle.std.proofs.Common.{◌≡◌, ℕ, ◌+◌, ◌<◌, List, [], ◌∷◌, ◌++◌, length, drop, get_or, refl, sym, ap, ◌∙◌, append_assoc, add-one, drop-cons, append-nil, ◌≤◌, map}
+use Rattle.std.proofs.Common.{◌≡◌, ℕ, ◌+◌, ◌<◌, List, [], ◌∷◌, ◌++◌, length, drop, get_or, Option, refl, sym, ap, ◌∙◌, append_assoc, add-one, drop-cons, append-nil, ◌≤◌, map}
 use Rattle.std.proofs.lemmas.List.{drop_all}
 use Rattle.gl_query.specs.declared.tree.Num.{Num}
 use Rattle.gl_query.specs.declared.tree.Item.{Item}
@@ -9,6 +9,7 @@ use Rattle.gl_query.specs.Shapes.{item_shape, agg_item_shape, frame_item_shape}
 use Rattle.gl_query_tokens.specs.declared.token.Plain.TheVariants as plain
 use Rattle.gl_query_tokens.specs.declared.token.Token.TheVariants as token
 use Rattle.gl_query_reader.specs.Written.{spell_item, spell_items, spell_numbers}
+use Rattle.gl_query_reader.specs.declared.written.Part.{Part}
 use Rattle.gl_query_printer.specs.Canonical.{num_of, item_of, agg_item_of, frame_item_of}
 use Rattle.gl_query_tokens.specs.declared.token.Token.{Token}
 use Rattle.gl_query_printer.specs.declared.text.Behind.{Behind}
@@ -35,15 +36,15 @@ item_tokens i = spell_item (item_of (item_shape i))
 abbrev pub agg_tokens : AggItem → List Token
 agg_tokens i = spell_item (agg_item_of (agg_item_shape i))
 
-abbrev pub frame_tokens : FrameItem → List Token
-frame_tokens i = spell_item (frame_item_of (frame_item_shape i))
+abbrev pub frame_tokens : Option Part → FrameItem → List Token
+frame_tokens part i = spell_item (frame_item_of part (frame_item_shape i))
 
-pub frames_next : (xs : List FrameItem) (at : ℕ) (d : FrameItem) → at < length xs → behind_commas frame_tokens (drop at xs) ≡ (token.Plain plain.Comma ∷ frame_tokens (get_or xs at d)) ++ behind_commas frame_tokens (drop (at + 1) xs)
-frames_next xs at d lt = commas_next frame_tokens xs at d lt
+pub frames_next : (part : Option Part) (xs : List FrameItem) (at : ℕ) (d : FrameItem) → at < length xs → behind_commas (frame_tokens part) (drop at xs) ≡ (token.Plain plain.Comma ∷ frame_tokens part (get_or xs at d)) ++ behind_commas (frame_tokens part) (drop (at + 1) xs)
+frames_next part xs at d lt = commas_next (frame_tokens part) xs at d lt
 
-pub frames_first : (x : FrameItem) (xs : List FrameItem) → spell_items (map frame_item_of (map frame_item_shape (x ∷ xs))) ≡ frame_tokens x ++ behind_commas frame_tokens xs
-frames_first x [] = sym (append-nil (frame_tokens x))
-frames_first x (y ∷ xs) = ap (λ ts. frame_tokens x ++ token.Plain plain.Comma ∷ ts) (frames_first y xs)
+pub frames_first : (part : Option Part) (x : FrameItem) (xs : List FrameItem) → spell_items (map (frame_item_of part) (map frame_item_shape (x ∷ xs))) ≡ frame_tokens part x ++ behind_commas (frame_tokens part) xs
+frames_first part x [] = sym (append-nil (frame_tokens part x))
+frames_first part x (y ∷ xs) = ap (λ ts. frame_tokens part x ++ token.Plain plain.Comma ∷ ts) (frames_first part y xs)
 
 pub numbers_next : (xs : List Num) (at : ℕ) (d : Num) → at < length xs → behind_commas number_tokens (drop at xs) ≡ (token.Plain plain.Comma ∷ number_tokens (get_or xs at d)) ++ behind_commas number_tokens (drop (at + 1) xs)
 numbers_next xs at d lt = commas_next number_tokens xs at d lt
@@ -88,11 +89,11 @@ aggs_end xs x rest at out start e le h =
     ended AggItem agg_tokens rest at out _ le h ∙ append_assoc start (agg_tokens x) (behind_commas agg_tokens rest)
     ∙ ap (λ (ts : List Token). start ++ ts) (sym (aggs_first x rest) ∙ ap (λ (ys : List AggItem). spell_items (map agg_item_of (map agg_item_shape ys))) (sym e))
 
-pub frames_end : (xs : List FrameItem) (x : FrameItem) (rest : List FrameItem) (at : ℕ) (out start : List Token) → xs ≡ x ∷ rest → length rest ≤ at
-    → out ++ behind_commas frame_tokens (drop at rest) ≡ (start ++ frame_tokens x) ++ behind_commas frame_tokens rest → out ≡ start ++ spell_items (map frame_item_of (map frame_item_shape xs))
-frames_end xs x rest at out start e le h =
-    ended FrameItem frame_tokens rest at out _ le h ∙ append_assoc start (frame_tokens x) (behind_commas frame_tokens rest)
-    ∙ ap (λ (ts : List Token). start ++ ts) (sym (frames_first x rest) ∙ ap (λ (ys : List FrameItem). spell_items (map frame_item_of (map frame_item_shape ys))) (sym e))
+pub frames_end : (part : Option Part) (xs : List FrameItem) (x : FrameItem) (rest : List FrameItem) (at : ℕ) (out start : List Token) → xs ≡ x ∷ rest → length rest ≤ at
+    → out ++ behind_commas (frame_tokens part) (drop at rest) ≡ (start ++ frame_tokens part x) ++ behind_commas (frame_tokens part) rest → out ≡ start ++ spell_items (map (frame_item_of part) (map frame_item_shape xs))
+frames_end part xs x rest at out start e le h =
+    ended FrameItem (frame_tokens part) rest at out _ le h ∙ append_assoc start (frame_tokens part x) (behind_commas (frame_tokens part) rest)
+    ∙ ap (λ (ts : List Token). start ++ ts) (sym (frames_first part x rest) ∙ ap (λ (ys : List FrameItem). spell_items (map (frame_item_of part) (map frame_item_shape ys))) (sym e))
 
 pub ruleset number_steps = (numbers_next, numbers_first)
 

@@ -238,16 +238,17 @@ read_agg (shape.Wsum e (n ∷ ns)) c us h =
 
 -- ---- items
 
--- an item whose part in the result is this one; it has OVER where f says so
-pub record ReadOne {A : Type 0} (g : List written.Item → List A) (f : A → Bool) (b : Bool) (us : List Token) (i : A) : Type 0 where
+-- an item with this property, whose part in the result is this one; it has OVER where f says so
+pub record ReadOne {A : Type 0} (P : written.Item → Type 0) (g : List written.Item → List A) (f : A → Bool) (b : Bool) (us : List Token) (i : A) : Type 0 where
   pub tree : written.Item
   pub spelled : spell_item tree ≡ us
   pub grammar : IsItem tree
   pub total : is_total tree ≡ b
   pub framed : is_framed tree ≡ f i
+  pub own : P tree
   pub alike : g (tree ∷ []) ≡ i ∷ []
 
-pub record ReadList {A : Type 0} (g : List written.Item → List A) (f : A → Bool) (b : Bool) (us : List Token) (i : A) (is : List A) : Type 0 where
+pub record ReadList {A : Type 0} (P : written.Item → Type 0) (g : List written.Item → List A) (f : A → Bool) (b : Bool) (us : List Token) (i : A) (is : List A) : Type 0 where
   pub first' : written.Item
   pub rest : List written.Item
   pub spelled : spell_items (first' ∷ rest) ≡ us
@@ -255,6 +256,7 @@ pub record ReadList {A : Type 0} (g : List written.Item → List A) (f : A → B
   pub total : is_total first' ≡ b
   pub others : first_other b rest ≡ None
   pub over : has_over (first' ∷ rest) ≡ list_any f (i ∷ is)
+  pub own : AllByRecursion P (first' ∷ rest)
   pub alike : g (first' ∷ rest) ≡ i ∷ is
 
 same_refl : (b : Bool) → same b b ≡ true
@@ -267,18 +269,18 @@ others_more b i is e h = rw (e, same_refl b) h
 over_with : {A : Type 0} (o : A → Bool) (t : written.Item) (ts : List written.Item) (i : A) (is : List A) → is_framed t ≡ o i → has_over ts ≡ list_any o is → has_over (t ∷ ts) ≡ list_any o (i ∷ is)
 over_with o t ts i is e h = ap (λ (x : Bool). x || has_over ts) e ∙ ap (λ (x : Bool). o i || x) h
 
-pub read_list : {A : Type 0} (f : A → written.Item) (C : A → Type 0) (g : List written.Item → List A) (o : A → Bool) (b : Bool) → ((x : written.Item) (xs : List written.Item) → g (x ∷ xs) ≡ g (x ∷ []) ++ g xs)
-    → ((i : A) → C i → (us : List Token) → map placeless us ≡ spell_item (f i) → ReadOne g o b us i) → (i : A) (is : List A) → AllByRecursion C (i ∷ is)
-    → (us : List Token) → map placeless us ≡ spell_items (map f (i ∷ is)) → ReadList g o b us i is
-read_list f C g o b parted one i [] c us h =
+pub read_list : {A : Type 0} (P : written.Item → Type 0) (f : A → written.Item) (C : A → Type 0) (g : List written.Item → List A) (o : A → Bool) (b : Bool) → ((x : written.Item) (xs : List written.Item) → g (x ∷ xs) ≡ g (x ∷ []) ++ g xs)
+    → ((i : A) → C i → (us : List Token) → map placeless us ≡ spell_item (f i) → ReadOne P g o b us i) → (i : A) (is : List A) → AllByRecursion C (i ∷ is)
+    → (us : List Token) → map placeless us ≡ spell_items (map f (i ∷ is)) → ReadList P g o b us i is
+read_list P f C g o b parted one i [] c us h =
     let x = one i c.0 us h in
-    record { first' = x.tree; rest = []; spelled = x.spelled; grammar = (x.grammar, tt); total = x.total; others = refl; over = over_with o x.tree [] i [] x.framed refl; alike = x.alike }
-read_list f C g o b parted one i (j ∷ is) c us h =
+    record { first' = x.tree; rest = []; spelled = x.spelled; grammar = (x.grammar, tt); total = x.total; others = refl; over = over_with o x.tree [] i [] x.framed refl; own = (x.own, tt); alike = x.alike }
+read_list P f C g o b parted one i (j ∷ is) c us h =
     let more = spell_items (map f (j ∷ is)) in
     let p = parts us (spell_item (f i)) (token.Plain plain.Comma ∷ more) h in
     let a = first p.back (token.Plain plain.Comma) more p.back_is in
     let x = one i c.0 p.front p.front_is in
-    let r = read_list f C g o b parted one j is c.1 a.rest a.rest_is in
+    let r = read_list P f C g o b parted one j is c.1 a.rest a.rest_is in
     record {
       first' = x.tree;
       rest = r.first' ∷ r.rest;
@@ -287,6 +289,7 @@ read_list f C g o b parted one i (j ∷ is) c us h =
       total = x.total;
       others = others_more b r.first' r.rest r.total r.others;
       over = over_with o x.tree (r.first' ∷ r.rest) i (j ∷ is) x.framed r.over;
+      own = (x.own, r.own);
       alike = parted x.tree (r.first' ∷ r.rest) ∙ ap (λ (ys : List _). ys ++ g (r.first' ∷ r.rest)) x.alike ∙ ap (λ (ys : List _). i ∷ ys) r.alike;
     }
 
@@ -312,6 +315,10 @@ totals_parted (written.Framed o name) xs = refl
 abbrev pub no_over : {A : Type 0} → A → Bool
 no_over x = false
 
+-- of these nothing is said
+abbrev pub AnyItem : written.Item → Type 0
+AnyItem t = Unit {0}
+
 bare_is : (e : ExprShape) (name : List ℕ) → is_bare e name ≡ true → e ≡ shape.Column name
 bare_is (shape.Column column) name h = ap shape.Column ((bytes_eq-Decides column name).0 h)
 bare_is (shape.Number n) name h = absurd (true≢false (sym h))
@@ -328,7 +335,7 @@ abbrev plain_item : ExprShape → List ℕ → ItemShape
 plain_item e name = record { expr = e; name = name }
 
 read_item_by : (b : Bool) (e : ExprShape) (name : List ℕ) → is_bare e name ≡ b → CanBeExpr e → (us : List Token)
-    → map placeless us ≡ spell_item (if b then written.Bare (name_of name) else written.Named (expr_of e) (name_of name)) → ReadOne plains no_over false us (plain_item e name)
+    → map placeless us ≡ spell_item (if b then written.Bare (name_of name) else written.Named (expr_of e) (name_of name)) → ReadOne AnyItem plains no_over false us (plain_item e name)
 read_item_by true e name q c us h =
     let a = alone us (token.Name (name_of name)) h in
     record {
@@ -337,6 +344,7 @@ read_item_by true e name q c us h =
       grammar = tt;
       total = refl;
       framed = refl;
+      own = tt;
       alike = ap (λ (z : ExprShape). plain_item z name ∷ []) (sym (bare_is e name q));
     }
 read_item_by false e name q c us h =
@@ -350,13 +358,14 @@ read_item_by false e name q c us h =
       grammar = x.grammar;
       total = refl;
       framed = refl;
+      own = tt;
       alike = ap (λ (z : ExprShape). plain_item z name ∷ []) x.alike;
     }
 
-pub read_item : (i : ItemShape) → CanBeItem i → (us : List Token) → map placeless us ≡ spell_item (item_of i) → ReadOne plains no_over false us i
+pub read_item : (i : ItemShape) → CanBeItem i → (us : List Token) → map placeless us ≡ spell_item (item_of i) → ReadOne AnyItem plains no_over false us i
 read_item i c us h = read_item_by (is_bare i.expr i.name) i.expr i.name refl c.0 us h
 
-pub read_agg_item : (i : AggItemShape) → CanBeAggItem i → (us : List Token) → map placeless us ≡ spell_item (agg_item_of i) → ReadOne totals no_over true us i
+pub read_agg_item : (i : AggItemShape) → CanBeAggItem i → (us : List Token) → map placeless us ≡ spell_item (agg_item_of i) → ReadOne AnyItem totals no_over true us i
 read_agg_item i c us h =
     let p = parts us (spell_agg (agg_of i.agg)) (token.Plain plain.As ∷ token.Name (name_of i.name) ∷ []) h in
     let x = read_agg i.agg c.0 p.front p.front_is in
@@ -368,5 +377,6 @@ read_agg_item i c us h =
       grammar = x.grammar;
       total = refl;
       framed = refl;
+      own = tt;
       alike = ap (λ (z : AggShape). total_item z i.name ∷ []) x.alike;
     }

@@ -3,7 +3,7 @@ use Rattle.std.proofs.Common.{◌≡◌, ℕ, Bool, true, false, List, [], ◌�
 use Rattle.std.proofs.lemmas.Bool.{true≢false}
 use Rattle.gl_query.specs.declared.tree.Measure.{Measure}
 use Rattle.gl_query.specs.declared.tree.Measure.TheVariants.{Tuples}
-use Rattle.gl_query.specs.Shapes.{ExprShape, FrameItemShape, PickShape, QueryShape}
+use Rattle.gl_query.specs.Shapes.{ExprShape, FrameItemShape, SlotsShape, PickShape, QueryShape}
 use Rattle.gl_query.specs.Shapes as shape
 use Rattle.gl_query_tokens.specs.declared.token.Join.{Join}
 use Rattle.gl_query_tokens.specs.declared.token.Join.TheVariants.{Union, Concat}
@@ -17,7 +17,7 @@ use Rattle.gl_query_reader.specs.Meaning.{expr_meaning, by_pick, query_meaning, 
 use Rattle.gl_query_reader.specs.Mixed.{mixed_pick, mixed_in, least}
 use Rattle.gl_query.specs.Alike.{expr_alike, query_alike}
 use Rattle.gl_query_printer.specs.Brackets.{is_stream, is_term}
-use Rattle.gl_query_printer.specs.Canonical.{name_of, expr_of, agg_item_of, frame_item_of, pick_of, bracketed_unless, source_of, term_of, window_of, grouping_of, query_of}
+use Rattle.gl_query_printer.specs.Canonical.{name_of, expr_of, agg_item_of, frame_item_of, partition_of, pick_of, bracketed_unless, source_of, term_of, window_of, grouping_of, query_of}
 use Rattle.gl_query_printer.proofs.Places.{placeless, parts, first, alone, nothing}
 use Rattle.gl_query_printer.proofs.Writable.{CanBeSource, IsNoStream}
 use Rattle.gl_query_printer.proofs.ReadBackWindows.{read_window, read_row_window, read_grouping}
@@ -57,7 +57,7 @@ no_stream : (q : QueryShape) → is_stream (query_of q) ≡ false → IsNoStream
 no_stream (shape.Read name) h = absurd (true≢false h)
 no_stream (shape.Rows pick filter source) h = tt
 no_stream (shape.Total aggs source) h = tt
-no_stream (shape.Frames items filter source) h = tt
+no_stream (shape.Frames items filter slots source) h = tt
 no_stream (shape.Each measure var source size advance body) h = tt
 no_stream (shape.PerGroup var source key groups body) h = tt
 no_stream (shape.Partition var source key groups size advance body) h = tt
@@ -146,11 +146,11 @@ alike_rows : (p : written.Pick) (f : Option written.Expr) (s : written.Query) (p
 alike_rows p f s pick filter source a b c =
     a (option_map expr_meaning f) (query_meaning s) ∙ ap (λ (o : Option ExprShape). shape.Rows pick o (query_alike (query_meaning s))) b ∙ ap (shape.Rows pick filter) c
 
-alike_frames : (p : written.Pick) (f : Option written.Expr) (s : written.Query) (items : List FrameItemShape) (filter : Option ExprShape) (source : QueryShape)
-    → ((f : Option meant.ExprTree) (s : meant.QueryTree) → query_alike (by_pick p f s) ≡ shape.Frames items (option_map expr_alike f) (query_alike s)) → option_map expr_alike (option_map expr_meaning f) ≡ filter → query_alike (query_meaning s) ≡ source
-    → query_alike (by_pick p (option_map expr_meaning f) (query_meaning s)) ≡ shape.Frames items filter source
-alike_frames p f s items filter source a b c =
-    a (option_map expr_meaning f) (query_meaning s) ∙ ap (λ (o : Option ExprShape). shape.Frames items o (query_alike (query_meaning s))) b ∙ ap (shape.Frames items filter) c
+alike_frames : (p : written.Pick) (f : Option written.Expr) (s : written.Query) (items : List FrameItemShape) (filter : Option ExprShape) (slots : Option SlotsShape) (source : QueryShape)
+    → ((f : Option meant.ExprTree) (s : meant.QueryTree) → query_alike (by_pick p f s) ≡ shape.Frames items (option_map expr_alike f) slots (query_alike s)) → option_map expr_alike (option_map expr_meaning f) ≡ filter → query_alike (query_meaning s) ≡ source
+    → query_alike (by_pick p (option_map expr_meaning f) (query_meaning s)) ≡ shape.Frames items filter slots source
+alike_frames p f s items filter slots source a b c =
+    a (option_map expr_meaning f) (query_meaning s) ∙ ap (λ (o : Option ExprShape). shape.Frames items o slots (query_alike (query_meaning s))) b ∙ ap (shape.Frames items filter slots) c
 
 alike_each : (by measure : Measure) (var : List ℕ) (a b s m : ℕ) (x y source body : QueryShape) → by ≡ measure → x ≡ source → a ≡ s → b ≡ m → y ≡ body
     → shape.Each by var x a b y ≡ shape.Each measure var source s m body
@@ -254,16 +254,16 @@ read_query (shape.Total aggs source) c us h =
       mixed = none_mixed (mixed_pick x.tree None) (mixed_in y.tree) x.mixed y.mixed;
       alike = x.alike (query_meaning y.tree) ∙ ap (shape.Total aggs) y.alike;
     }
-read_query (shape.Frames items filter source) c us h =
+read_query (shape.Frames items filter slots source) c us h =
     let filters = spell_filter (option_map expr_of filter) in
     let inner = spell_query (source_of (query_of source)) in
-    let picks = spell_items (map frame_item_of items) in
+    let picks = spell_items (map (frame_item_of (partition_of slots)) items) in
     let a = first us (token.Plain plain.Select) (picks ++ token.Plain plain.From ∷ (inner ++ (filters ++ []))) h in
     let p = parts a.rest picks (token.Plain plain.From ∷ (inner ++ (filters ++ []))) a.rest_is in
-    let x = read_frames items c.0 c.1 p.front p.front_is in
+    let x = read_frames slots items c.0 c.1 p.front p.front_is in
     let b = first p.back (token.Plain plain.From) (inner ++ (filters ++ [])) p.back_is in
     let d = parts b.rest inner (filters ++ []) b.rest_is in
-    let y = read_source (is_stream (query_of source)) source refl (λ vs k. read_query source c.3 vs k) d.front d.front_is in
+    let y = read_source (is_stream (query_of source)) source refl (λ vs k. read_query source c.4 vs k) d.front d.front_is in
     let f = parts d.back filters [] d.back_is in
     let z = read_filter filter c.2 f.front f.front_is in
     record {
@@ -274,7 +274,7 @@ read_query (shape.Frames items filter source) c us h =
       bare = λ e. absurd (true≢false (sym e));
       term = λ n e. (x.grammar, y.grammar, z.grammar);
       mixed = none_mixed (mixed_pick x.tree None) (mixed_in y.tree) x.mixed y.mixed;
-      alike = alike_frames x.tree z.tree y.tree items filter source x.alike z.alike y.alike;
+      alike = alike_frames x.tree z.tree y.tree items filter slots source x.alike z.alike y.alike;
     }
 read_query (shape.Each measure var source size advance body) c us h =
     let end : List Token = token.Open 0 ∷ (spell_query (query_of body) ++ token.Plain plain.Close ∷ []) in

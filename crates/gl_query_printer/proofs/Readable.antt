@@ -6,7 +6,7 @@ use Rattle.gl_values.specs.declared.op.Op.{Op}
 use Rattle.gl_values.specs.declared.op.Op.TheVariants as op
 use Rattle.gl_query.specs.declared.tree.Measure.{Measure}
 use Rattle.gl_query.specs.declared.tree.Measure.TheVariants.{Tuples, Time}
-use Rattle.gl_query.specs.Shapes.{ExprShape, AggShape, ItemShape, AggItemShape, FrameAggShape, FrameShape, FrameItemShape, PickShape, QueryShape, StatementShape}
+use Rattle.gl_query.specs.Shapes.{ExprShape, AggShape, ItemShape, AggItemShape, FrameAggShape, FrameShape, FrameItemShape, SlotsShape, PickShape, QueryShape, StatementShape}
 use Rattle.gl_query.specs.Shapes as shape
 use Rattle.gl_query_tokens.specs.declared.token.Fold.{Fold}
 use Rattle.gl_query_tokens.specs.declared.token.Fold.TheVariants.{Sum, Min, Max, Avg}
@@ -21,19 +21,19 @@ use Rattle.gl_query_tokens.specs.declared.token.Token.TheVariants as token
 use Rattle.gl_query_tokens.specs.Tokens.{class_of, follow_of, sign_token}
 use Rattle.gl_query_tokens.specs.Words.{is_keyword, word_text, word_token}
 use Rattle.gl_query_reader.specs.Written as written
-use Rattle.gl_query_reader.specs.Written.{measure_word, spell, spell_numbers, spell_agg, spell_over_agg, spell_filtering, spell_bound, spell_head, spell_rows, spell_over, spell_item, spell_items, spell_pick, spell_window, spell_filter, spell_grouping, spell_query}
-use Rattle.gl_query_printer.specs.Canonical.{name_of, num_of, fitted, expr_of, agg_of, is_bare, item_of, agg_item_of, over_agg_of, filtering_of, bound_of, rows_of, frame_by, frame_item_of, pick_of, bracketed_unless, source_of, term_of, window_of, grouping_of, query_of, canonical_tokens}
+use Rattle.gl_query_reader.specs.Written.{measure_word, spell, spell_numbers, spell_agg, spell_over_agg, spell_filtering, spell_bound, spell_head, spell_part, spell_rows, spell_over, spell_item, spell_items, spell_pick, spell_window, spell_filter, spell_grouping, spell_query}
+use Rattle.gl_query_printer.specs.Canonical.{name_of, num_of, fitted, expr_of, agg_of, is_bare, item_of, agg_item_of, over_agg_of, filtering_of, bound_of, rows_of, partition_of, frame_by, frame_item_of, pick_of, bracketed_unless, source_of, term_of, window_of, grouping_of, query_of, canonical_tokens}
 use Rattle.gl_query_printer.specs.declared.text.Behind.{Behind}
 use Rattle.gl_query_printer.specs.declared.text.Behind.TheVariants.{Opening, Named, Operand, Sign, Other}
 use Rattle.gl_query_printer.specs.Spaced.{token_text, plain_text, operator_text, fold_text, join_text, place_behind}
 use Rattle.gl_query_printer.proofs.Lexed.{Readable, ReadAs, Apart, Ends, EndsIn, dash_ends, ends_apart, half_ends, letters_readable, no_number, read_word}
 use Rattle.gl_query_tokens.proofs.Sound.{is_word}
-use Rattle.gl_query_printer.proofs.ReadableWords.{over_readable, filter_word_readable, rows_word_readable, preceding_readable, unbounded_readable, lag_word, last_value_word}
+use Rattle.gl_query_printer.proofs.ReadableWords.{over_readable, filter_word_readable, partition_word_readable, rows_word_readable, preceding_readable, unbounded_readable, lag_word, last_value_word}
 use Rattle.gl_query_printer.proofs.Places.{placeless}
 use Rattle.gl_query_tokens.proofs.Sound.{IsNameWord, IsSmall}
 use Rattle.gl_bits.proofs.AllLists.{all_append}
 use Rattle.gl_query_printer.proofs.Decimals.{number_readable}
-use Rattle.gl_query_printer.proofs.Writable.{CanBeExpr, AreWeights, CanBeAgg, CanBeItem, CanBeAggItem, CanBeFrameAgg, CanBeBack, CanBeFrame, CanBeFrameItem, CanBePick, CanBeFilter, CanBeSource}
+use Rattle.gl_query_printer.proofs.Writable.{CanBeExpr, AreWeights, CanBeAgg, CanBeItem, CanBeAggItem, CanBeFrameAgg, CanBeBack, CanBeFrame, CanBeFrameItem, CanBeSlots, CanBePick, CanBeFilter, CanBeSource}
 use Rattle.gl_query_printer.proofs.WritableQueries.{CanBeStatement}
 
 -- ---- tokens
@@ -247,23 +247,33 @@ bound_readable (Some n) c = number_readable n c
 under_name : (over : written.Over) (name : List ℕ) → AreReadable (spell_over over) → IsNameWord name → AreReadable (spell_item (written.Framed over (name_of name)))
 under_name over name h n = join (spell_over over) (token.Plain plain.As ∷ token.Name (name_of name) ∷ []) h (as_readable, (name_readable name n, tt))
 
-frame_readable : (f : FrameShape) (name : List ℕ) → CanBeFrame f → IsNameWord name → AreReadable (spell_item (frame_by f name))
-frame_readable (shape.Own e) name c n = one_item (is_bare e name) e name c n
-frame_readable (shape.Lag e back) name c n =
-    let head : written.OverHead = written.LagOf (Small 0) 0 (expr_of e) (Some (num_of back)) in
-    under_name (written.OverOf head (Capital 0) 0 None) name
-    (join (spell_head head) (token.Word word.Over 0 ∷ token.Open 0 ∷ token.Plain plain.Close ∷ [])
-    (name_readable (word_text word.Lag) lag_word, (open_readable, join (spell (expr_of e)) (token.Plain plain.Comma ∷ token.Number (num_of back) ∷ token.Plain plain.Close ∷ []) (expr_readable e c.0) (comma_readable, (number_readable back c.1, closed))))
-    (over_readable, (open_readable, closed))) n
-frame_readable (shape.Over agg filter back) name c n =
-    let head : written.OverHead = written.Ranged (over_agg_of agg) (filtering_of filter) in
-    under_name (written.OverOf head (Capital 0) 0 (Some (rows_of back))) name
-    (join (spell_head head) (token.Word word.Over 0 ∷ token.Open 0 ∷ (spell_rows (Some (rows_of back)) ++ token.Plain plain.Close ∷ []))
-    (join (spell_over_agg (over_agg_of agg)) (spell_filtering (filtering_of filter)) (over_agg_readable agg c.0) (filtering_readable filter c.1))
-    (over_readable, (open_readable, (rows_word_readable, (bound_readable back c.2, (preceding_readable, closed)))))) n
+grouping_readable : (key : List ℕ) (groups : ℕ) → IsNameWord key → IsSmall groups → AreReadable (spell_grouping (grouping_of key groups))
+grouping_readable key groups k g = (by_readable, (name_readable key k, (groups_readable, (number_readable groups g, tt))))
 
-frame_item_readable : (i : FrameItemShape) → CanBeFrameItem i → AreReadable (spell_item (frame_item_of i))
-frame_item_readable i c = frame_readable i.frame i.name c.0 c.1
+partition_readable : (slots : Option SlotsShape) → CanBeSlots slots → AreReadable (spell_part (partition_of slots))
+partition_readable None c = tt
+partition_readable (Some s) c = (partition_word_readable, grouping_readable s.key s.groups c.0 c.1)
+
+frame_readable : (slots : Option SlotsShape) (f : FrameShape) (name : List ℕ) → CanBeSlots slots → CanBeFrame f → IsNameWord name → AreReadable (spell_item (frame_by (partition_of slots) f name))
+frame_readable slots (shape.Own e) name k c n = one_item (is_bare e name) e name c n
+frame_readable slots (shape.Lag e back) name k c n =
+    let head : written.OverHead = written.LagOf (Small 0) 0 (expr_of e) (Some (num_of back)) in
+    let part = spell_part (partition_of slots) in
+    under_name (written.OverOf head (Capital 0) 0 (partition_of slots) None) name
+    (join (spell_head head) (token.Word word.Over 0 ∷ token.Open 0 ∷ (part ++ token.Plain plain.Close ∷ []))
+    (name_readable (word_text word.Lag) lag_word, (open_readable, join (spell (expr_of e)) (token.Plain plain.Comma ∷ token.Number (num_of back) ∷ token.Plain plain.Close ∷ []) (expr_readable e c.0) (comma_readable, (number_readable back c.1, closed))))
+    (over_readable, (open_readable, join part (token.Plain plain.Close ∷ []) (partition_readable slots k) closed))) n
+frame_readable slots (shape.Over agg filter back) name k c n =
+    let head : written.OverHead = written.Ranged (over_agg_of agg) (filtering_of filter) in
+    let part = spell_part (partition_of slots) in
+    let last : List Token = spell_rows (Some (rows_of back)) ++ token.Plain plain.Close ∷ [] in
+    under_name (written.OverOf head (Capital 0) 0 (partition_of slots) (Some (rows_of back))) name
+    (join (spell_head head) (token.Word word.Over 0 ∷ token.Open 0 ∷ (part ++ last))
+    (join (spell_over_agg (over_agg_of agg)) (spell_filtering (filtering_of filter)) (over_agg_readable agg c.0) (filtering_readable filter c.1))
+    (over_readable, (open_readable, join part last (partition_readable slots k) (rows_word_readable, (bound_readable back c.2, (preceding_readable, closed)))))) n
+
+frame_item_readable : (slots : Option SlotsShape) → CanBeSlots slots → (i : FrameItemShape) → CanBeFrameItem i → AreReadable (spell_item (frame_item_of (partition_of slots) i))
+frame_item_readable slots k i c = frame_readable slots i.frame i.name k c.0 c.1
 
 items_readable : {A : Type 0} (f : A → written.Item) (C : A → Type 0) → ((i : A) → C i → AreReadable (spell_item (f i))) → (is : List A) → AllByRecursion C is → AreReadable (spell_items (map f is))
 items_readable f C one [] c = tt
@@ -289,9 +299,6 @@ measure_readable Time = time_readable
 window_readable : (measure : Measure) (size advance : ℕ) → IsSmall size → IsSmall advance → AreReadable (spell_window (window_of measure size advance))
 window_readable measure size advance s a = (left_readable, (size_readable, (number_readable size s, (advance_readable, (number_readable advance a, (measure_readable measure, (right_readable, tt)))))))
 
-grouping_readable : (key : List ℕ) (groups : ℕ) → IsNameWord key → IsSmall groups → AreReadable (spell_grouping (grouping_of key groups))
-grouping_readable key groups k g = (by_readable, (name_readable key k, (groups_readable, (number_readable groups g, tt))))
-
 abbrev in_brackets : written.Query → List Token
 in_brackets q = token.Open 0 ∷ (spell_query q ++ token.Plain plain.Close ∷ [])
 
@@ -304,8 +311,8 @@ query_readable (shape.Rows pick filter source) c =
     (select_readable, join (spell_pick (pick_of pick)) _ (pick_readable pick c.0) (from_readable, join (spell_query (source_of (query_of source))) _ (bracketed _ (query_of source) (query_readable source c.2)) (join (spell_filter (option_map expr_of filter)) [] (filter_readable filter c.1) tt)))
 query_readable (shape.Total aggs source) c =
     (select_readable, join (spell_items (map agg_item_of aggs)) _ (items_readable agg_item_of CanBeAggItem agg_item_readable aggs c.1) (from_readable, join (spell_query (source_of (query_of source))) [] (bracketed _ (query_of source) (query_readable source c.2)) tt))
-query_readable (shape.Frames items filter source) c =
-    (select_readable, join (spell_items (map frame_item_of items)) _ (items_readable frame_item_of CanBeFrameItem frame_item_readable items c.1) (from_readable, join (spell_query (source_of (query_of source))) _ (bracketed _ (query_of source) (query_readable source c.3)) (join (spell_filter (option_map expr_of filter)) [] (filter_readable filter c.2) tt)))
+query_readable (shape.Frames items filter slots source) c =
+    (select_readable, join (spell_items (map (frame_item_of (partition_of slots)) items)) _ (items_readable (frame_item_of (partition_of slots)) CanBeFrameItem (frame_item_readable slots c.3) items c.1) (from_readable, join (spell_query (source_of (query_of source))) _ (bracketed _ (query_of source) (query_readable source c.4)) (join (spell_filter (option_map expr_of filter)) [] (filter_readable filter c.2) tt)))
 query_readable (shape.Each measure var source size advance body) c = (
   each_readable,
   (

@@ -19,6 +19,10 @@ pub filter_word_readable : Readable (token.Word word.Filter 0)
 unfolding token_text capitals place_behind class_of word_token is_keyword is_name has_name_bytes begins_with_letter has_loose_underscore is_taken keywords reserved
 filter_word_readable = no_number refl (λ p at bs e. read_word (codes "FILTER") (token.Word word.Filter 0) refl (λ a. refl) at bs e)
 
+pub partition_word_readable : Readable (token.Word word.Partition 0)
+unfolding token_text capitals place_behind class_of word_token is_keyword is_name has_name_bytes begins_with_letter has_loose_underscore is_taken keywords reserved
+partition_word_readable = no_number refl (λ p at bs e. read_word (codes "PARTITION") (token.Word word.Partition 0) refl (λ a. refl) at bs e)
+
 pub rows_word_readable : Readable (token.Word word.Rows 0)
 unfolding token_text capitals place_behind class_of word_token is_keyword is_name has_name_bytes begins_with_letter has_loose_underscore is_taken keywords reserved
 rows_word_readable = no_number refl (λ p at bs e. read_word (codes "ROWS") (token.Word word.Rows 0) refl (λ a. refl) at bs e)

@@ -7,7 +7,7 @@ use Rattle.gl_schema.specs.SchemaText.{kind_text}
 use Rattle.gl_schema.specs.SchemaFaults.{kind_named}
 use Rattle.gl_schema.proofs.KindTable.{kind_named_is}
 use Rattle.gl_query.specs.declared.tree.Num.{Num}
-use Rattle.gl_query.specs.Shapes.{ExprShape, AggShape, ItemShape, AggItemShape, FrameAggShape, FrameShape, FrameItemShape, PickShape, QueryShape}
+use Rattle.gl_query.specs.Shapes.{ExprShape, AggShape, ItemShape, AggItemShape, FrameAggShape, FrameShape, FrameItemShape, SlotsShape, PickShape, QueryShape, slots_shape}
 use Rattle.gl_query.specs.Shapes as shape
 use Rattle.gl_query.specs.Sizes.{looks_back}
 use Rattle.gl_query_tokens.specs.declared.token.Fold.{Fold}
@@ -22,7 +22,7 @@ use Rattle.gl_query_reader.specs.declared.written.FrameRows.{FrameRows}
 use Rattle.gl_query_reader.specs.declared.written.FrameRows.TheVariants as rows
 use Rattle.gl_query_reader.specs.Written as written
 use Rattle.gl_query.specs.Trees as tree
-use Rattle.gl_query_reader.specs.Meaning.{expr_meaning, agg_meaning, fold_meaning, fold_over, over_agg_meaning, filtering_meaning, bound_meaning, rows_meaning, over_meaning, plain_items, agg_items, frame_items, is_total, is_framed}
+use Rattle.gl_query_reader.specs.Meaning.{expr_meaning, agg_meaning, fold_meaning, fold_over, over_agg_meaning, filtering_meaning, bound_meaning, rows_meaning, over_meaning, plain_items, agg_items, frame_items, slots_in, is_total, is_framed}
 use Rattle.gl_query.specs.Alike.{expr_alike, agg_alike, item_alike, agg_item_alike, frame_agg_alike, frame_alike, frame_item_alike}
 use Rattle.gl_query_tokens.proofs.Sound.{IsLetters, IsNameWord, IsSmall, IsSound}
 use Rattle.gl_query_reader.proofs.Regular.{sound_parts, AreSound}
@@ -78,6 +78,10 @@ CanBeFrame (shape.Over agg filter back) = CanBeFrameAgg agg × CanBeFilter filte
 abbrev pub CanBeFrameItem : FrameItemShape → Type 0
 CanBeFrameItem i = CanBeFrame i.frame × IsNameWord i.name
 
+abbrev pub CanBeSlots : Option SlotsShape → Type 0
+CanBeSlots None = Unit {0}
+CanBeSlots (Some s) = IsNameWord s.key × IsSmall s.groups
+
 abbrev pub is_back : FrameItemShape → Bool
 is_back i = looks_back i.frame
 
@@ -95,7 +99,7 @@ abbrev pub IsNoStream : QueryShape → Type 0
 IsNoStream (shape.Read name) = ⊥
 IsNoStream (shape.Rows pick filter source) = Unit {0}
 IsNoStream (shape.Total aggs source) = Unit {0}
-IsNoStream (shape.Frames items filter source) = Unit {0}
+IsNoStream (shape.Frames items filter slots source) = Unit {0}
 IsNoStream (shape.Each measure var source size advance body) = Unit {0}
 IsNoStream (shape.PerGroup var source key groups body) = Unit {0}
 IsNoStream (shape.Partition var source key groups size advance body) = Unit {0}
@@ -106,7 +110,7 @@ abbrev pub CanBeSource : QueryShape → Type 0
 CanBeSource (shape.Read name) = IsNameWord name
 CanBeSource (shape.Rows pick filter source) = CanBePick pick × CanBeFilter filter × CanBeSource source
 CanBeSource (shape.Total aggs source) = Some' aggs × AllByRecursion CanBeAggItem aggs × CanBeSource source
-CanBeSource (shape.Frames items filter source) = (list_any is_back items ≡ true) × AllByRecursion CanBeFrameItem items × CanBeFilter filter × CanBeSource source
+CanBeSource (shape.Frames items filter slots source) = (list_any is_back items ≡ true) × AllByRecursion CanBeFrameItem items × CanBeFilter filter × CanBeSlots slots × CanBeSource source
 CanBeSource (shape.Each measure var source size advance body) = IsNameWord var × CanBeSource source × IsSmall size × IsSmall advance × CanBeSource body × IsNoStream body
 CanBeSource (shape.PerGroup var source key groups body) = IsNameWord var × CanBeSource source × IsNameWord key × IsSmall groups × CanBeSource body × IsNoStream body
 CanBeSource (shape.Partition var source key groups size advance body) = IsNameWord var × CanBeSource source × IsNameWord key × IsSmall groups × IsSmall size × IsSmall advance × CanBeSource body × IsNoStream body
@@ -233,17 +237,19 @@ one_small : IsSmall 1
 one_small = refl
 
 over_can : (o : written.Over) → written.IsOver o → AreSound (written.spell_over o) → CanBeFrame (frame_alike (over_meaning o))
-over_can (written.OverOf (written.LagOf v begin e None) w open' r) g h =
-    let p = sound_parts (written.spell_head (written.LagOf v begin e None)) (written.spell_word word.Over w ∷ token.Open open' ∷ (written.spell_rows r ++ token.Plain plain.Close ∷ [])) h in
+over_can (written.OverOf (written.LagOf v begin e None) w open' k r) g h =
+    let p = sound_parts (written.spell_head (written.LagOf v begin e None)) (written.spell_word word.Over w ∷ token.Open open' ∷ (written.spell_part k ++ (written.spell_rows r ++ token.Plain plain.Close ∷ []))) h in
     (expr_can e g.0 (sound_parts (written.spell e) (token.Plain plain.Close ∷ []) p.0.1.1).0, one_small)
-over_can (written.OverOf (written.LagOf v begin e (Some n)) w open' r) g h =
-    let p = sound_parts (written.spell_head (written.LagOf v begin e (Some n))) (written.spell_word word.Over w ∷ token.Open open' ∷ (written.spell_rows r ++ token.Plain plain.Close ∷ [])) h in
+over_can (written.OverOf (written.LagOf v begin e (Some n)) w open' k r) g h =
+    let p = sound_parts (written.spell_head (written.LagOf v begin e (Some n))) (written.spell_word word.Over w ∷ token.Open open' ∷ (written.spell_part k ++ (written.spell_rows r ++ token.Plain plain.Close ∷ []))) h in
     let q = sound_parts (written.spell e) (token.Plain plain.Comma ∷ token.Number n ∷ token.Plain plain.Close ∷ []) p.0.1.1 in
     (expr_can e g.0 q.0, q.1.1.0)
-over_can (written.OverOf (written.Ranged a f) w open' r) g h =
-    let p = sound_parts (written.spell_head (written.Ranged a f)) (written.spell_word word.Over w ∷ token.Open open' ∷ (written.spell_rows r ++ token.Plain plain.Close ∷ [])) h in
+over_can (written.OverOf (written.Ranged a f) w open' k r) g h =
+    let last : List Token = written.spell_rows r ++ token.Plain plain.Close ∷ [] in
+    let p = sound_parts (written.spell_head (written.Ranged a f)) (written.spell_word word.Over w ∷ token.Open open' ∷ (written.spell_part k ++ last)) h in
     let q = sound_parts (written.spell_over_agg a) (written.spell_filtering f) p.0 in
-    (over_agg_can a g.0.0 q.0, filtering_can f g.0.1 q.1, rows_can r (token.Plain plain.Close ∷ []) p.1.1.1)
+    let d = sound_parts (written.spell_part k) last p.1.1.1 in
+    (over_agg_can a g.0.0 q.0, filtering_can f g.0.1 q.1, rows_can r (token.Plain plain.Close ∷ []) d.1)
 
 pub frames_can : (is : List written.Item) → AllByRecursion IsSoundItem is → AllByRecursion CanBeFrameItem (map frame_item_alike (frame_items is))
 frames_can [] h = tt
@@ -255,3 +261,17 @@ frames_can (written.Total a name ∷ is) h = frames_can is h.1
 frames_can (written.Framed o name ∷ is) h =
     let p = sound_parts (written.spell_over o) (token.Plain plain.As ∷ token.Name name ∷ []) h.0.1 in
     ((over_can o h.0.0 p.0, p.1.1.0), frames_can is h.1)
+
+-- the key and the number of PARTITION
+pub slots_can : (is : List written.Item) → AllByRecursion IsSoundItem is → CanBeSlots (option_map slots_shape (slots_in is))
+slots_can [] h = tt
+slots_can (written.Bare name ∷ is) h = slots_can is h.1
+slots_can (written.Named e name ∷ is) h = slots_can is h.1
+slots_can (written.Total a name ∷ is) h = slots_can is h.1
+slots_can (written.Framed (written.OverOf head w open' None r) name ∷ is) h = tt
+slots_can (written.Framed (written.OverOf head w open' (Some k) r) name ∷ is) h =
+    let last : List Token = written.spell_rows r ++ token.Plain plain.Close ∷ [] in
+    let p = sound_parts (written.spell_over (written.OverOf head w open' (Some k) r)) (token.Plain plain.As ∷ token.Name name ∷ []) h.0.1 in
+    let q = sound_parts (written.spell_head head) (written.spell_word word.Over w ∷ token.Open open' ∷ (written.spell_part (Some k) ++ last)) p.0 in
+    let d = sound_parts (written.spell_part (Some k)) last q.1.1.1 in
+    (d.0.1.1.0, d.0.1.1.1.1.0)

@@ -23,7 +23,7 @@ use Rattle.gl_query_tokens.proofs.Sound.{IsNameWord, IsSmall, is_word}
 use Rattle.gl_bits.proofs.Options.{not_some, some_same}
 use Rattle.gl_query_reader.proofs.Meanings.{back_is_over}
 use Rattle.gl_query_reader.proofs.Regular.{sound_parts, AreSound}
-use Rattle.gl_query_printer.proofs.Writable.{CanBeFilter, CanBeSource, CanBeQuery, Some', IsSoundItem, expr_can, each_sound, plain_can, aggs_can, some_plain, some_aggs, frames_can}
+use Rattle.gl_query_printer.proofs.Writable.{CanBeFilter, CanBeSource, CanBeQuery, Some', IsSoundItem, expr_can, each_sound, plain_can, aggs_can, some_plain, some_aggs, frames_can, slots_can}
 
 -- ---- selects
 
@@ -40,7 +40,7 @@ filtered_can (Some e) source h s = (tt, filter_can (Some e) h, s)
 
 by_over_can : (b : Bool) (i : written.Item) (is : List written.Item) (f : Option written.Expr) (source : tree.QueryTree) → is_total i ≡ false → has_over (i ∷ is) ≡ b → AllByRecursion IsSoundItem (i ∷ is) → IsSoundFilter f → CanBeSource (query_alike source)
     → CanBeQuery (query_alike (by_over b (i ∷ is) (option_map expr_meaning f) source))
-by_over_can true i is f source e o h g s = ((back_is_over (i ∷ is) ∙ o, frames_can (i ∷ is) h, filter_can f g, s), tt)
+by_over_can true i is f source e o h g s = ((back_is_over (i ∷ is) ∙ o, frames_can (i ∷ is) h, filter_can f g, slots_can (i ∷ is) h, s), tt)
 by_over_can false i is f source e o h g s = (((some_plain i is e (or_parts (is_framed i) (has_over is) o).0, plain_can (i ∷ is) h), filter_can f g, s), tt)
 
 by_items_can : (b : Bool) (i : written.Item) (is : List written.Item) (f : Option written.Expr) (source : tree.QueryTree) → is_total i ≡ b → AllByRecursion IsSoundItem (i ∷ is) → IsSoundFilter f → CanBeSource (query_alike source)

@@ -4,7 +4,7 @@ use Rattle.gl_schema.specs.SchemaText.{kind_text}
 use Rattle.gl_query.specs.declared.tree.Measure.{Measure}
 use Rattle.gl_query.specs.declared.tree.Name.{Name}
 use Rattle.gl_query.specs.declared.tree.Num.{Num}
-use Rattle.gl_query.specs.Shapes.{ExprShape, AggShape, ItemShape, AggItemShape, FrameAggShape, FrameShape, FrameItemShape, PickShape, QueryShape, StatementShape}
+use Rattle.gl_query.specs.Shapes.{ExprShape, AggShape, ItemShape, AggItemShape, FrameAggShape, FrameShape, FrameItemShape, SlotsShape, PickShape, QueryShape, StatementShape}
 use Rattle.gl_query.specs.Shapes as shape
 use Rattle.gl_query_tokens.specs.declared.token.Fold.TheVariants.{Sum, Min, Max, Avg}
 use Rattle.gl_query_tokens.specs.declared.token.Join.TheVariants.{Union, Concat}
@@ -17,6 +17,7 @@ use Rattle.gl_query_reader.specs.declared.written.FrameRows.TheVariants as rows
 use Rattle.gl_query_reader.specs.declared.written.RowWindow.{RowWindow}
 use Rattle.gl_query_reader.specs.declared.written.Window.{Window}
 use Rattle.gl_query_reader.specs.declared.written.Grouping.{Grouping}
+use Rattle.gl_query_reader.specs.declared.written.Part.{Part}
 use Rattle.gl_query_reader.specs.Written.{Expr, Column, Number, Minus, Letters, Brackets, Cast, Not, Binary, Agg, Count, Fold', Wsum, OverAgg, CountOf, FoldOf, LastOf, Filtering, FilterOf, LagOf, Ranged, OverOf, Item, Bare, Named, Total, Framed, Pick, All, Items, Query, Stream, InBrackets, Select, Windows, Groups, Join', Statement, level, looseness, left_looseness, spell_statement}
 use Rattle.gl_query_printer.specs.Brackets.{is_stream, is_term}
 
@@ -90,17 +91,28 @@ bound_of (Some n) = bound.Number (num_of n)
 abbrev pub rows_of : Option ℕ → FrameRows
 rows_of back = rows.Short (Capital 0) (bound_of back) (Capital 0)
 
--- a frame under its name: an expression over the row itself as any other, and else a function with OVER
-abbrev pub frame_by : FrameShape → List ℕ → Item
-frame_by (shape.Own e) name = item_by e name
-frame_by (shape.Lag e back) name =
-    Framed (OverOf (LagOf (Small 0) 0 (expr_of e) (Some (num_of back))) (Capital 0) 0 None) (name_of name)
-frame_by (shape.Over agg filter back) name =
-    Framed (OverOf (Ranged (over_agg_of agg) (filtering_of filter)) (Capital 0) 0 (Some (rows_of back))) (name_of name)
+-- a grouping as the canonical text writes it: its key, and how many groups
+abbrev pub grouping_of : List ℕ → ℕ → Grouping
+grouping_of key groups = record { at = 0; key = name_of key; groups = num_of groups }
 
--- a named frame as the canonical text writes it
-abbrev pub frame_item_of : FrameItemShape → Item
-frame_item_of i = frame_by i.frame i.name
+-- PARTITION, where there is one
+abbrev pub partition_of : Option SlotsShape → Option Part
+partition_of None = None
+partition_of (Some s) = Some (record { word = Capital 0; grouping = grouping_of s.key s.groups })
+
+-- a frame under its name, by the PARTITION of its select: an expression over the row itself as any other, and else a
+-- function with OVER
+abbrev pub frame_by : Option Part → FrameShape → List ℕ → Item
+frame_by part (shape.Own e) name = item_by e name
+frame_by part (shape.Lag e back) name =
+    Framed (OverOf (LagOf (Small 0) 0 (expr_of e) (Some (num_of back))) (Capital 0) 0 part None) (name_of name)
+frame_by part (shape.Over agg filter back) name =
+    Framed (OverOf (Ranged (over_agg_of agg) (filtering_of filter)) (Capital 0) 0 part (Some (rows_of back)))
+    (name_of name)
+
+-- a named frame as the canonical text writes it: each function with OVER has the PARTITION of its select
+abbrev pub frame_item_of : Option Part → FrameItemShape → Item
+frame_item_of part i = frame_by part i.frame i.name
 
 -- a named aggregate as the canonical text writes it
 abbrev pub agg_item_of : AggItemShape → Item
@@ -133,18 +145,15 @@ window_of measure size advance =
 abbrev pub row_window_of : ℕ → ℕ → RowWindow
 row_window_of size advance = record { at = 0; size = num_of size; advance = num_of advance }
 
--- a grouping as the canonical text writes it: its key, and how many groups
-abbrev pub grouping_of : List ℕ → ℕ → Grouping
-grouping_of key groups = record { at = 0; key = name_of key; groups = num_of groups }
-
 -- a query as the canonical text writes it, with brackets only around sources and terms that need them
 abbrev pub query_of : QueryShape → Query
 query_of (shape.Read name) = Stream (name_of name)
 query_of (shape.Rows pick filter source) =
     Select (pick_of pick) (source_of (query_of source)) None (option_map expr_of filter) None
 query_of (shape.Total aggs source) = Select (Items (map agg_item_of aggs)) (source_of (query_of source)) None None None
-query_of (shape.Frames items filter source) =
-    Select (Items (map frame_item_of items)) (source_of (query_of source)) None (option_map expr_of filter) None
+query_of (shape.Frames items filter slots source) =
+    Select (Items (map (frame_item_of (partition_of slots)) items)) (source_of (query_of source)) None
+    (option_map expr_of filter) None
 query_of (shape.Each measure var source size advance body) =
     Windows 0 (name_of var) (source_of (query_of source)) (window_of measure size advance) 0 (query_of body)
 query_of (shape.PerGroup var source key groups body) =

@@ -64,6 +64,7 @@ plain_text plain.Semicolon = codes ";"
 unfoldable pub capitals : Word → List ℕ
 capitals word.Over = codes "OVER"
 capitals word.Filter = codes "FILTER"
+capitals word.Partition = codes "PARTITION"
 capitals word.Rows = codes "ROWS"
 capitals word.Preceding = codes "PRECEDING"
 capitals word.Unbounded = codes "UNBOUNDED"

@@ -6,7 +6,7 @@ ghost use Rattle.gl_query_tokens.specs.declared.token.Token.TheVariants as token
 ghost use Rattle.gl_query_tokens.specs.declared.token.Plain.TheVariants as plain;
 ghost use Rattle.gl_query_tokens.specs.declared.token.Fold.TheVariants as fold;
 ghost use Rattle.gl_query_reader.specs.Written as written;
-ghost use Rattle.gl_query_printer.specs.Canonical.{name_of, num_of, expr_of, agg_of, is_bare, item_by, item_of, agg_item_of, pick_of};
+ghost use Rattle.gl_query_printer.specs.Canonical.{name_of, num_of, expr_of, agg_of, is_bare, item_by, item_of, agg_item_of, pick_of, grouping_of};
 
 use crate::expressions::put_expr;
 use crate::tokens::{put, put_name, put_number, put_open, put_plain};
@@ -92,6 +92,22 @@ fn put_agg(alloc: Global, tokens: &mut Vec<Token>, agg: &Agg) -> Result<(), Memo
         Agg::Avg(arg) => put_fold(alloc, tokens, Fold::Avg, arg),
         Agg::Wsum { arg, weights } => put_wsum(alloc, tokens, arg, weights.as_slice()),
     }
+}
+
+/// Puts BY, the key and the number of groups.
+pub(crate) fn put_grouping(
+    alloc: Global,
+    tokens: &mut Vec<Token>,
+    key: &Name,
+    groups: Num,
+) -> Result<(), Memory>
+    ensures { OnOk result (tokens.new.items ≡ tokens.old.items
+        ++ written.spell_grouping (grouping_of key.now.text groups.value)) }
+{
+    put(tokens, Token::By { at: 0 })?;
+    put_name(alloc, tokens, key.text.as_slice())?;
+    put_plain(tokens, Plain::Groups)?;
+    put_number(tokens, groups.value)
 }
 
 /// Puts AS and a name.

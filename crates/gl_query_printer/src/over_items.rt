@@ -1,19 +1,19 @@
 //! Items of a select of frames to tokens.
 
 ghost use Rattle.std.specs.Prelude.{◌≡◌, ◌++◌, ◌∷◌, [], Some, OnOk, map, option_map};
-ghost use Rattle.gl_query.specs.Shapes.{expr_shape, frame_agg_shape, frame_item_shape};
+ghost use Rattle.gl_query.specs.Shapes.{expr_shape, frame_agg_shape, frame_item_shape, slots_shape};
 ghost use Rattle.gl_query_tokens.specs.declared.token.Token.TheVariants as token;
 ghost use Rattle.gl_query_tokens.specs.declared.token.Plain.TheVariants as plain;
 ghost use Rattle.gl_query_tokens.specs.declared.token.Word.TheVariants as words;
 ghost use Rattle.gl_query_tokens.specs.declared.token.Spelling.TheVariants as spelling;
 ghost use Rattle.gl_query_reader.specs.Written as written;
-ghost use Rattle.gl_query_printer.specs.Canonical.{num_of, expr_of, over_agg_of, filtering_of, bound_of, rows_of, frame_item_of};
+ghost use Rattle.gl_query_printer.specs.Canonical.{num_of, expr_of, over_agg_of, filtering_of, bound_of, rows_of, partition_of, frame_item_of};
 
 use crate::expressions::put_expr;
-use crate::items::{put_as, put_count, put_fold, put_named};
+use crate::items::{put_as, put_count, put_fold, put_grouping, put_named};
 use crate::tokens::{put, put_name, put_number, put_open, put_plain};
 use gl_bits::Memory;
-use gl_query::{Expr, Frame, FrameAgg, FrameItem, Num};
+use gl_query::{Expr, Frame, FrameAgg, FrameItem, Num, Slots};
 use gl_query_tokens::words::word_text;
 use gl_query_tokens::{Fold, Plain, Token, Word};
 use std::alloc::Global;
@@ -90,14 +90,36 @@ fn put_bound(tokens: &mut Vec<Token>, back: Option<Num>) -> Result<(), Memory>
     }
 }
 
-// Puts OVER and the rows of its frame.
-fn put_rows(tokens: &mut Vec<Token>, back: Option<Num>) -> Result<(), Memory>
-    ensures { OnOk result (tokens.new.items ≡ tokens.old.items ++ token.Word words.Over 0
-        ∷ token.Open 0 ∷ (written.spell_rows (Some (rows_of (option_map (λ n. n.value) back)))
-        ++ token.Plain plain.Close ∷ [])) }
+// Puts PARTITION, where there is one.
+fn put_part(alloc: Global, tokens: &mut Vec<Token>, slots: &Option<Slots>) -> Result<(), Memory>
+    ensures { OnOk result (tokens.new.items ≡ tokens.old.items
+        ++ written.spell_part (partition_of (option_map slots_shape slots.now))) }
+{
+    match slots {
+        None => Ok(()),
+        Some(slots) => {
+            put_capital(tokens, Word::Partition)?;
+            put_grouping(alloc, tokens, &slots.key, slots.groups)
+        }
+    }
+}
+
+// Puts OVER with PARTITION and the rows of its frame.
+fn put_rows(
+    alloc: Global,
+    tokens: &mut Vec<Token>,
+    slots: &Option<Slots>,
+    back: Option<Num>,
+) -> Result<(), Memory>
+    ensures { let part = partition_of (option_map slots_shape slots.now) in
+        OnOk result (tokens.new.items ≡ tokens.old.items ++ token.Word words.Over 0 ∷ token.Open 0
+        ∷ (written.spell_part part
+        ++ (written.spell_rows (Some (rows_of (option_map (λ n. n.value) back)))
+        ++ token.Plain plain.Close ∷ []))) }
 {
     put_capital(tokens, Word::Over)?;
     put_open(tokens)?;
+    put_part(alloc, tokens, slots)?;
     put_capital(tokens, Word::Rows)?;
     put_bound(tokens, back)?;
     put_capital(tokens, Word::Preceding)?;
@@ -118,13 +140,15 @@ fn put_lag(alloc: Global, tokens: &mut Vec<Token>, arg: &Expr, back: Num) -> Res
     put_plain(tokens, Plain::Close)
 }
 
-// Puts OVER with nothing in its bracket.
-fn put_over(tokens: &mut Vec<Token>) -> Result<(), Memory>
-    ensures { OnOk result (tokens.new.items ≡ tokens.old.items ++ token.Word words.Over 0
-        ∷ token.Open 0 ∷ token.Plain plain.Close ∷ []) }
+// Puts OVER with PARTITION alone.
+fn put_over(alloc: Global, tokens: &mut Vec<Token>, slots: &Option<Slots>) -> Result<(), Memory>
+    ensures { let part = partition_of (option_map slots_shape slots.now) in
+        OnOk result (tokens.new.items ≡ tokens.old.items ++ token.Word words.Over 0 ∷ token.Open 0
+        ∷ (written.spell_part part ++ token.Plain plain.Close ∷ [])) }
 {
     put_capital(tokens, Word::Over)?;
     put_open(tokens)?;
+    put_part(alloc, tokens, slots)?;
     put_plain(tokens, Plain::Close)
 }
 
@@ -144,15 +168,21 @@ fn put_ranged(
 }
 
 // Puts a frame under its name.
-fn put_frame(alloc: Global, tokens: &mut Vec<Token>, item: &FrameItem) -> Result<(), Memory>
-    ensures { OnOk result (tokens.new.items ≡ tokens.old.items
-        ++ written.spell_item (frame_item_of (frame_item_shape item.now))) }
+fn put_frame(
+    alloc: Global,
+    tokens: &mut Vec<Token>,
+    item: &FrameItem,
+    slots: &Option<Slots>,
+) -> Result<(), Memory>
+    ensures { let part = partition_of (option_map slots_shape slots.now) in
+        OnOk result (tokens.new.items ≡ tokens.old.items
+        ++ written.spell_item (frame_item_of part (frame_item_shape item.now))) }
 {
     match &item.frame {
         Frame::Own(expr) => put_named(alloc, tokens, expr, &item.name),
         Frame::Lag { arg, back, .. } => {
             put_lag(alloc, tokens, arg, *back)?;
-            put_over(tokens)?;
+            put_over(alloc, tokens, slots)?;
             put_as(alloc, tokens, &item.name)
         }
         Frame::Over {
@@ -162,7 +192,7 @@ fn put_frame(alloc: Global, tokens: &mut Vec<Token>, item: &FrameItem) -> Result
             ..
         } => {
             put_ranged(alloc, tokens, agg, filter)?;
-            put_rows(tokens, *back)?;
+            put_rows(alloc, tokens, slots, *back)?;
             put_as(alloc, tokens, &item.name)
         }
     }
@@ -174,17 +204,19 @@ pub(crate) fn put_frames(
     alloc: Global,
     tokens: &mut Vec<Token>,
     items: &[FrameItem],
+    slots: &Option<Slots>,
 ) -> Result<(), Memory>
-    ensures { OnOk result (tokens.new.items ≡ tokens.old.items
-        ++ written.spell_items (map frame_item_of (map frame_item_shape items.now))) }
+    ensures { let part = partition_of (option_map slots_shape slots.now) in
+        OnOk result (tokens.new.items ≡ tokens.old.items
+        ++ written.spell_items (map (frame_item_of part) (map frame_item_shape items.now))) }
 {
     let Some((first, rest)) = items.split_first() else {
         return Ok(());
     };
-    put_frame(alloc, tokens, first)?;
+    put_frame(alloc, tokens, first, slots)?;
     for item in rest {
         put_plain(tokens, Plain::Comma)?;
-        put_frame(alloc, tokens, item)?;
+        put_frame(alloc, tokens, item, slots)?;
     }
     Ok(())
 }

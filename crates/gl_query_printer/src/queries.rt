@@ -1,20 +1,20 @@
 //! Queries and statements to tokens.
 
 ghost use Rattle.std.specs.Prelude.{◌≡◌, ◌++◌, ◌∷◌, [], Some, IfOk, OnOk, map, option_map};
-ghost use Rattle.gl_query.specs.Shapes.{expr_shape, agg_item_shape, frame_item_shape, pick_shape, query_shape, statement_shape};
+ghost use Rattle.gl_query.specs.Shapes.{expr_shape, agg_item_shape, frame_item_shape, pick_shape, query_shape, slots_shape, statement_shape};
 ghost use Rattle.gl_query_tokens.specs.declared.token.Token.TheVariants as token;
 ghost use Rattle.gl_query_tokens.specs.declared.token.Plain.TheVariants as plain;
 ghost use Rattle.gl_query_reader.specs.Written as written;
 ghost use Rattle.gl_query_printer.specs.Brackets as brackets;
 ghost use Rattle.gl_query_printer.specs.Brackets.{opening};
-ghost use Rattle.gl_query_printer.specs.Canonical.{name_of, expr_of, agg_item_of, frame_item_of, pick_of, window_of, grouping_of, query_of, canonical_tokens};
+ghost use Rattle.gl_query_printer.specs.Canonical.{name_of, expr_of, agg_item_of, frame_item_of, partition_of, pick_of, window_of, query_of, canonical_tokens};
 
 use crate::expressions::put_expr;
-use crate::items::{put_aggs, put_pick};
+use crate::items::{put_aggs, put_grouping, put_pick};
 use crate::over_items::put_frames;
 use crate::tokens::{close_unless, open_unless, put, put_name, put_number, put_open, put_plain};
 use gl_bits::Memory;
-use gl_query::{AggItem, Expr, FrameItem, Measure, Name, Num, Pick, Query, Statement};
+use gl_query::{AggItem, Expr, FrameItem, Measure, Name, Num, Pick, Query, Slots, Statement};
 use gl_query_tokens::{Join, Plain, Token};
 use std::alloc::Global;
 
@@ -72,14 +72,16 @@ fn begin_frames(
     alloc: Global,
     tokens: &mut Vec<Token>,
     items: &[FrameItem],
+    slots: &Option<Slots>,
     bare: bool,
 ) -> Result<(), Memory>
-    ensures { OnOk result (tokens.new.items ≡ tokens.old.items ++ token.Plain plain.Select
-        ∷ (written.spell_items (map frame_item_of (map frame_item_shape items.now))
+    ensures { let part = partition_of (option_map slots_shape slots.now) in
+        OnOk result (tokens.new.items ≡ tokens.old.items ++ token.Plain plain.Select
+        ∷ (written.spell_items (map (frame_item_of part) (map frame_item_shape items.now))
         ++ token.Plain plain.From ∷ opening bare)) }
 {
     put_plain(tokens, Plain::Select)?;
-    put_frames(alloc, tokens, items)?;
+    put_frames(alloc, tokens, items, slots)?;
     put_plain(tokens, Plain::From)?;
     open_unless(tokens, bare)
 }
@@ -139,22 +141,6 @@ fn put_window(
     put_open(tokens)
 }
 
-// Puts the key and the number of groups.
-fn put_grouping(
-    alloc: Global,
-    tokens: &mut Vec<Token>,
-    key: &Name,
-    groups: Num,
-) -> Result<(), Memory>
-    ensures { OnOk result (tokens.new.items ≡ tokens.old.items
-        ++ written.spell_grouping (grouping_of key.now.text groups.value)) }
-{
-    put(tokens, Token::By { at: 0 })?;
-    put_name(alloc, tokens, key.text.as_slice())?;
-    put_plain(tokens, Plain::Groups)?;
-    put_number(tokens, groups.value)
-}
-
 // Puts UNION or CONCAT, and the bracket of its right side.
 fn put_join(tokens: &mut Vec<Token>, join: Join, bare: bool) -> Result<(), Memory>
     ensures { OnOk result (tokens.new.items ≡ tokens.old.items ++ token.Join join 0
@@ -190,9 +176,10 @@ fn put_query(alloc: Global, tokens: &mut Vec<Token>, query: &Query) -> Result<()
         Query::Frames {
             items,
             filter,
+            slots,
             source,
         } => {
-            begin_frames(alloc, tokens, items.as_slice(), is_stream(source))?;
+            begin_frames(alloc, tokens, items.as_slice(), slots, is_stream(source))?;
             put_query(alloc, tokens, source)?;
             close_unless(tokens, is_stream(source))?;
             put_filter(alloc, tokens, filter)

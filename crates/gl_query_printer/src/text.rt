@@ -113,6 +113,7 @@ fn capitals(word: Word) -> &'static [u8]
     match word {
         Word::Over => b"OVER",
         Word::Filter => b"FILTER",
+        Word::Partition => b"PARTITION",
         Word::Rows => b"ROWS",
         Word::Preceding => b"PRECEDING",
         Word::Unbounded => b"UNBOUNDED",

@@ -12,9 +12,8 @@ use Rattle.gl_query_tokens.specs.Sorts.{plain_eq}
 use Rattle.gl_query_reader.specs.declared.written.Window.{Window}
 use Rattle.gl_query_reader.specs.declared.written.Grouping.{Grouping}
 use Rattle.gl_query_reader.specs.Written.{Expr, Agg, Wsum, Item, Pick, All, Items, Query, Stream, InBrackets, Select, Groups, Join', Statement}
-use Rattle.gl_query_reader.specs.States.{after_window, measured, row_window, State, Frame, Head, WindowHead, BodyHead, GroupsHead, Unnamed, SelectHead, EachHead, SelectWindow, EachWindow, GroupsWindow, WindowsHead, GroupsHead', SelectGroups, EachGroups, UnnamedAgg, JoinOf, InQuery, InSource, InBody, WantWeightsOpen, WantWeight, HaveWeight, WantWsumClose, HaveAgg, WantItemName, HaveItem, WantSource, HaveSource, HaveEachSource, WantSize, WantSizeNumber, WantAdvance, WantAdvanceNumber, WantMeasure, WantWindowClose, WantKey, WantGroups, WantGroupsNumber, WantBody, HaveTerm, WantName, HaveName, WantEnd}
+use Rattle.gl_query_reader.specs.States.{after_window, measured, row_window, State, Frame, Head, WindowHead, BodyHead, Unnamed, SelectHead, EachHead, SelectWindow, EachWindow, GroupsWindow, WindowsHead, GroupsHead', UnnamedAgg, JoinOf, InQuery, InSource, InBody, WantWeightsOpen, WantWeight, HaveWeight, WantWsumClose, HaveAgg, WantItemName, HaveItem, WantSource, HaveSource, HaveEachSource, WantSize, WantSizeNumber, WantAdvance, WantAdvanceNumber, WantMeasure, WantWindowClose, WantBody, HaveTerm, WantName, HaveName, WantEnd}
 use Rattle.gl_query_reader.specs.Machine.{have_term, after_source, body_of, under_name, step, finish}
-use Rattle.gl_query_reader.specs.Windowed.{after_groups}
 use Rattle.gl_query_reader.proofs.Steps.{steps, state, is-machine}
 use Rattle.gl_query_reader.proofs.ReadQueries.{Follows, close-follows, into-follows, have-source, have-whole, term-alone}
 use Rattle.gl_query_reader.proofs.Said.{InTerm, Fits}
@@ -260,31 +259,3 @@ size_step fs head source = refl
 
 pub size_ends : (fs : List Frame) (head : WindowHead) (source : Query) → Fits fs → InTerm fs → Ends (state (WantSize head source) fs)
 size_ends fs head source f i = by_token _ (state (WantSizeNumber head source 0) fs) (token.Size 0) (size_step fs head source) (size_number_ends fs head source 0 f i)
-
-abbrev pub grouping_at : ℕ → Name → Grouping
-grouping_at at key = record { at = at; key = key; groups = some_number }
-
-after_groups_ends : (fs : List Frame) (head : GroupsHead) (g : Grouping) → Fits fs → InTerm fs → Ends (state (after_groups head g) fs)
-after_groups_ends fs (SelectGroups pick source window filter) g f i = have_term_ends fs (Select pick source window filter (Some g)) f i
-after_groups_ends fs (EachGroups at var source) g f i = want_body_ends fs (GroupsHead' at var source g None) f i
-
-groups_number_step : (fs : List Frame) (head : GroupsHead) (at : ℕ) (key : Name) → step (state (WantGroupsNumber head at key) fs) (token.Number some_number) ≡ Some (state (after_groups head (grouping_at at key)) fs)
-unfolding step
-groups_number_step fs head at key = refl
-
-pub groups_number_ends : (fs : List Frame) (head : GroupsHead) (at : ℕ) (key : Name) → Fits fs → InTerm fs → Ends (state (WantGroupsNumber head at key) fs)
-groups_number_ends fs head at key f i = by_token _ (state (after_groups head (grouping_at at key)) fs) (token.Number some_number) (groups_number_step fs head at key) (after_groups_ends fs head (grouping_at at key) f i)
-
-groups_step : (fs : List Frame) (head : GroupsHead) (at : ℕ) (key : Name) → step (state (WantGroups head at key) fs) (token.Plain plain.Groups) ≡ Some (state (WantGroupsNumber head at key) fs)
-unfolding step plain_eq
-groups_step fs head at key = refl
-
-pub groups_ends : (fs : List Frame) (head : GroupsHead) (at : ℕ) (key : Name) → Fits fs → InTerm fs → Ends (state (WantGroups head at key) fs)
-groups_ends fs head at key f i = by_token _ (state (WantGroupsNumber head at key) fs) (token.Plain plain.Groups) (groups_step fs head at key) (groups_number_ends fs head at key f i)
-
-key_step : (fs : List Frame) (head : GroupsHead) (at : ℕ) → step (state (WantKey head at) fs) (token.Name some_name) ≡ Some (state (WantGroups head at some_name) fs)
-unfolding step
-key_step fs head at = refl
-
-pub key_ends : (fs : List Frame) (head : GroupsHead) (at : ℕ) → Fits fs → InTerm fs → Ends (state (WantKey head at) fs)
-key_ends fs head at f i = by_token _ (state (WantGroups head at some_name) fs) (token.Name some_name) (key_step fs head at) (groups_ends fs head at some_name f i)

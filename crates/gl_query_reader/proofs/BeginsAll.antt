@@ -13,15 +13,15 @@ use Rattle.gl_query_tokens.specs.Sorts.{plain_eq}
 use Rattle.gl_query_reader.specs.declared.over_state.Call.{Call}
 use Rattle.gl_query_reader.specs.declared.written.Window.{Window}
 use Rattle.gl_query_reader.specs.Written.{Expr, Column, Minus, Cast, Count, OverAgg, Item, Pick, All, Query, Stream}
-use Rattle.gl_query_reader.specs.States.{State, Control, Frame, SelectHead, EachHead, SelectGroups, InCast, InItem, InFold, InWsum, InCall, InCondition, WantTerm, WantItem, WantOperand, WantMinus, HaveExpr, WantCastOpen, WantKind, WantCastClose, WantCountOpen, WantCountClose, WantFoldOpen, WantWsumOpen, WantWeightsOpen, WantWeight, HaveWeight, WantWsumClose, HaveAgg, WantCallOpen, WantBack, WantLagClose, WantOver, WantFilterOpen, WantFilterWhere, WantOverOpen, InOver, WantOverAs, WantItemName, HaveItem, WantFrom, WantSource, HaveSource, HaveEachSource, WantSize, WantSizeNumber, WantAdvance, WantAdvanceNumber, WantMeasure, WantWindowClose, WantBy, WantKey, WantGroups, WantGroupsNumber, WantVar, WantIn, WantBody, HaveTerm, WantName, HaveName, WantEnd}
+use Rattle.gl_query_reader.specs.States.{State, Control, Frame, SelectHead, EachHead, SelectGroups, InCast, InItem, InFold, InWsum, InCall, InCondition, WantTerm, WantItem, WantOperand, WantMinus, HaveExpr, WantCastOpen, WantKind, WantCastClose, WantCountOpen, WantCountClose, WantFoldOpen, WantWsumOpen, WantWeightsOpen, WantWeight, HaveWeight, WantWsumClose, HaveAgg, WantCallOpen, WantBack, WantLagClose, WantOver, WantFilterOpen, WantFilterWhere, WantOverOpen, WantPart, WantPartBy, InOver, WantOverAs, WantItemName, HaveItem, WantFrom, WantSource, HaveSource, HaveEachSource, WantSize, WantSizeNumber, WantAdvance, WantAdvanceNumber, WantMeasure, WantWindowClose, WantBy, WantKey, WantGroups, WantGroupsNumber, WantVar, WantIn, WantBody, HaveTerm, WantName, HaveName, WantEnd}
 use Rattle.gl_query_reader.specs.Machine.{step}
 use Rattle.gl_query_reader.proofs.Steps.{steps, state}
 use Rattle.gl_query_reader.proofs.ReadExpressions.{wanting, having}
 use Rattle.gl_query_reader.specs.Grammar.{CanBegin}
 use Rattle.gl_query_reader.proofs.Said.{InTerm, Fits, Holds, Read}
 use Rattle.gl_query_reader.proofs.Sound.{sound_steps, sound_finish}
-use Rattle.gl_query_reader.proofs.Begins.{some_name, some_number, Ends, by_token, by_tokens, all_text, named_ends, closed_ends, unnamed_ends, have_term_ends, have_source_ends, want_body_ends, have_each_ends, have_item_ends, item_name_ends, as_ends, wsum_close_ends, have_weight_ends, weight_ends, weights_open_ends, want_source_ends, window_close_ends, measure_ends, advance_number_ends, advance_ends, size_number_ends, size_ends, groups_number_ends, groups_ends, key_ends}
-use Rattle.gl_query_reader.proofs.BeginsFrames.{over_as_ends, in_over_ends, over_open_ends, over_ends, lag_close_ends, back_ends}
+use Rattle.gl_query_reader.proofs.Begins.{some_name, some_number, Ends, by_token, by_tokens, all_text, named_ends, closed_ends, unnamed_ends, have_term_ends, have_source_ends, want_body_ends, have_each_ends, have_item_ends, item_name_ends, as_ends, wsum_close_ends, have_weight_ends, weight_ends, weights_open_ends, want_source_ends, window_close_ends, measure_ends, advance_number_ends, advance_ends, size_number_ends, size_ends}
+use Rattle.gl_query_reader.proofs.BeginsFrames.{over_as_ends, in_over_ends, part_ends, part_by_ends, over_open_ends, over_ends, lag_close_ends, back_ends, groups_number_ends, groups_ends, key_ends}
 use Rattle.gl_query_reader.proofs.BeginsExpressions.{some_word, kind_then, expr_ends, have_expr_ends, operand_ends}
 
 -- ---- single tokens before these
@@ -125,7 +125,9 @@ state_ends (WantOver items head) fs f h = over_ends fs items head f h.0
 state_ends (WantFilterOpen items a w) fs f h = by_token _ (state (WantFilterWhere items a w 0) fs) (token.Open 0) (filter_open_step fs items a w) (filter_where_ends fs items a w 0 f h)
 state_ends (WantFilterWhere items a w open') fs f h = filter_where_ends fs items a w open' f h
 state_ends (WantOverOpen items head w) fs f h = over_open_ends fs items head w f h.0
-state_ends (InOver items head w open' r) fs f h = in_over_ends fs items head w open' r f h.0
+state_ends (WantPart items head w open') fs f h = part_ends fs items head w open' f h.0
+state_ends (WantPartBy items head w open' p) fs f h = part_by_ends fs items head w open' p f h.0
+state_ends (InOver items head w open' p r) fs f h = in_over_ends fs items head w open' p r f h.0
 state_ends (WantOverAs items o) fs f h = over_as_ends fs items o f h.0
 state_ends (WantItemName items u) fs f h = item_name_ends fs items u f h.0
 state_ends (HaveItem items) fs f h = have_item_ends fs items f h.0

@@ -1,6 +1,7 @@
--- What was read of a function with OVER begins a statement.
+-- What was read of a function with OVER, or of what makes groups, begins a statement.
 use Rattle.std.proofs.Common.{◌≡◌, ℕ, List, [], ◌∷◌, Option, Some, None, refl}
 use Rattle.gl_values.specs.declared.op.Op.TheVariants as op
+use Rattle.gl_query.specs.declared.tree.Name.{Name}
 use Rattle.gl_query.specs.declared.tree.Num.{Num}
 use Rattle.gl_query_tokens.specs.declared.token.Plain.TheVariants as plain
 use Rattle.gl_query_tokens.specs.declared.token.Spelling.{Spelling}
@@ -12,15 +13,18 @@ use Rattle.gl_query_tokens.specs.Sorts.{plain_eq, word_eq}
 use Rattle.gl_query_reader.specs.declared.over_state.RowsSoFar.{RowsSoFar}
 use Rattle.gl_query_reader.specs.declared.over_state.RowsSoFar.TheVariants as so_far
 use Rattle.gl_query_reader.specs.declared.written.Bound.TheVariants as bound
+use Rattle.gl_query_reader.specs.declared.written.Grouping.{Grouping}
+use Rattle.gl_query_reader.specs.declared.written.Part.{Part}
 use Rattle.gl_query_reader.specs.declared.written.FrameRows.{FrameRows}
 use Rattle.gl_query_reader.specs.declared.written.FrameRows.TheVariants as rows
-use Rattle.gl_query_reader.specs.Written.{Expr, OverHead, LagOf, Ranged, Over, OverOf, Item}
+use Rattle.gl_query_reader.specs.Written.{Expr, OverHead, LagOf, Ranged, Over, OverOf, Item, Select}
 use Rattle.gl_query_reader.specs.Framing.{front_of, rows_first}
-use Rattle.gl_query_reader.specs.States.{Frame, UnnamedOver, WantBack, WantLagClose, WantOver, WantOverOpen, InOver, WantOverAs, WantItemName}
+use Rattle.gl_query_reader.specs.States.{Frame, GroupsHead, GroupsHead', SelectGroups, EachGroups, OverGroups, UnnamedOver, WantBack, WantLagClose, WantOver, WantOverOpen, WantPart, WantPartBy, InOver, WantOverAs, WantItemName, WantKey, WantGroups, WantGroupsNumber}
+use Rattle.gl_query_reader.specs.Windowed.{after_groups}
 use Rattle.gl_query_reader.specs.Machine.{step}
 use Rattle.gl_query_reader.proofs.Steps.{steps, state}
 use Rattle.gl_query_reader.proofs.Said.{InTerm, Fits}
-use Rattle.gl_query_reader.proofs.Begins.{some_number, Ends, by_token, by_tokens, item_name_ends}
+use Rattle.gl_query_reader.proofs.Begins.{some_name, some_number, Ends, by_token, by_tokens, have_term_ends, item_name_ends, want_body_ends}
 
 over_as_step : (fs : List Frame) (items : List Item) (over : Over) → step (state (WantOverAs items over) fs) (token.Plain plain.As) ≡ Some (state (WantItemName items (UnnamedOver over)) fs)
 unfolding step plain_eq
@@ -61,27 +65,36 @@ rows_end (so_far.WantCurrent f n) = Some (rows.Between f n (Capital 0) (Capital 
 rows_end (so_far.WantRow f n c) = Some (rows.Between f n c (Capital 0))
 rows_end (so_far.WantClose r) = r
 
-rows_steps : (fs : List Frame) (items : List Item) (head : OverHead) (w : Spelling) (open' : ℕ) (r : RowsSoFar) → steps (state (InOver items head w open' r) fs) (left_text r) ≡ Some (state (WantOverAs items (OverOf head w open' (rows_end r))) fs)
+rows_steps : (fs : List Frame) (items : List Item) (head : OverHead) (w : Spelling) (open' : ℕ) (p : Option Part) (r : RowsSoFar) → steps (state (InOver items head w open' p r) fs) (left_text r) ≡ Some (state (WantOverAs items (OverOf head w open' p (rows_end r))) fs)
 unfolding steps step plain_eq word_eq
-rows_steps fs items head w open' so_far.WantRows = refl
-rows_steps fs items head w open' (so_far.WantBound r) = refl
-rows_steps fs items head w open' (so_far.WantPreceding r b) = refl
-rows_steps fs items head w open' (so_far.WantFirst r v) = refl
-rows_steps fs items head w open' (so_far.WantFirstPreceding r v b) = refl
-rows_steps fs items head w open' (so_far.WantAnd f) = refl
-rows_steps fs items head w open' (so_far.WantCurrent f n) = refl
-rows_steps fs items head w open' (so_far.WantRow f n c) = refl
-rows_steps fs items head w open' (so_far.WantClose r) = refl
+rows_steps fs items head w open' p so_far.WantRows = refl
+rows_steps fs items head w open' p (so_far.WantBound r) = refl
+rows_steps fs items head w open' p (so_far.WantPreceding r b) = refl
+rows_steps fs items head w open' p (so_far.WantFirst r v) = refl
+rows_steps fs items head w open' p (so_far.WantFirstPreceding r v b) = refl
+rows_steps fs items head w open' p (so_far.WantAnd f) = refl
+rows_steps fs items head w open' p (so_far.WantCurrent f n) = refl
+rows_steps fs items head w open' p (so_far.WantRow f n c) = refl
+rows_steps fs items head w open' p (so_far.WantClose r) = refl
 
-pub in_over_ends : (fs : List Frame) (items : List Item) (head : OverHead) (w : Spelling) (open' : ℕ) (r : RowsSoFar) → Fits fs → InTerm fs → Ends (state (InOver items head w open' r) fs)
-in_over_ends fs items head w open' r f i = by_tokens _ (state (WantOverAs items (OverOf head w open' (rows_end r))) fs) (left_text r) (rows_steps fs items head w open' r) (over_as_ends fs items (OverOf head w open' (rows_end r)) f i)
+pub in_over_ends : (fs : List Frame) (items : List Item) (head : OverHead) (w : Spelling) (open' : ℕ) (p : Option Part) (r : RowsSoFar) → Fits fs → InTerm fs → Ends (state (InOver items head w open' p r) fs)
+in_over_ends fs items head w open' p r f i = by_tokens _ (state (WantOverAs items (OverOf head w open' p (rows_end r))) fs) (left_text r) (rows_steps fs items head w open' p r) (over_as_ends fs items (OverOf head w open' p (rows_end r)) f i)
 
-over_open_step : (fs : List Frame) (items : List Item) (head : OverHead) (w : Spelling) → step (state (WantOverOpen items head w) fs) (token.Open 0) ≡ Some (state (InOver items head w 0 (rows_first head)) fs)
+-- without PARTITION
+part_steps : (fs : List Frame) (items : List Item) (head : OverHead) (w : Spelling) (open' : ℕ) → steps (state (WantPart items head w open') fs) (left_text (rows_first head)) ≡ Some (state (WantOverAs items (OverOf head w open' None (rows_end (rows_first head)))) fs)
+unfolding steps step plain_eq word_eq
+part_steps fs items (LagOf v begin e b) w open' = refl
+part_steps fs items (Ranged a f) w open' = refl
+
+pub part_ends : (fs : List Frame) (items : List Item) (head : OverHead) (w : Spelling) (open' : ℕ) → Fits fs → InTerm fs → Ends (state (WantPart items head w open') fs)
+part_ends fs items head w open' f i = by_tokens _ (state (WantOverAs items (OverOf head w open' None (rows_end (rows_first head)))) fs) (left_text (rows_first head)) (part_steps fs items head w open') (over_as_ends fs items (OverOf head w open' None (rows_end (rows_first head))) f i)
+
+over_open_step : (fs : List Frame) (items : List Item) (head : OverHead) (w : Spelling) → step (state (WantOverOpen items head w) fs) (token.Open 0) ≡ Some (state (WantPart items head w 0) fs)
 unfolding step
 over_open_step fs items head w = refl
 
 pub over_open_ends : (fs : List Frame) (items : List Item) (head : OverHead) (w : Spelling) → Fits fs → InTerm fs → Ends (state (WantOverOpen items head w) fs)
-over_open_ends fs items head w f i = by_token _ (state (InOver items head w 0 (rows_first head)) fs) (token.Open 0) (over_open_step fs items head w) (in_over_ends fs items head w 0 (rows_first head) f i)
+over_open_ends fs items head w f i = by_token _ (state (WantPart items head w 0) fs) (token.Open 0) (over_open_step fs items head w) (part_ends fs items head w 0 f i)
 
 over_step : (fs : List Frame) (items : List Item) (head : OverHead) → step (state (WantOver items head) fs) (token.Word word.Over 0) ≡ Some (state (WantOverOpen items head (Capital 0)) fs)
 unfolding step word_eq
@@ -105,3 +118,41 @@ back_step fs items w open' e = refl
 
 pub back_ends : (fs : List Frame) (items : List Item) (w : Spelling) (open' : ℕ) (e : Expr) → Fits fs → InTerm fs → Ends (state (WantBack items w open' e) fs)
 back_ends fs items w open' e f i = by_token _ (state (WantLagClose items w open' e some_number) fs) (token.Number some_number) (back_step fs items w open' e) (lag_close_ends fs items w open' e some_number f i)
+
+-- ---- what makes groups
+
+abbrev pub grouping_at : ℕ → Name → Grouping
+grouping_at at key = record { at = at; key = key; groups = some_number }
+
+after_groups_ends : (fs : List Frame) (head : GroupsHead) (g : Grouping) → Fits fs → InTerm fs → Ends (state (after_groups head g) fs)
+after_groups_ends fs (SelectGroups pick source window filter) g f i = have_term_ends fs (Select pick source window filter (Some g)) f i
+after_groups_ends fs (EachGroups at var source) g f i = want_body_ends fs (GroupsHead' at var source g None) f i
+after_groups_ends fs (OverGroups items head w open' p) g f i = in_over_ends fs items head w open' (Some (record { word = p; grouping = g })) (rows_first head) f i
+
+groups_number_step : (fs : List Frame) (head : GroupsHead) (at : ℕ) (key : Name) → step (state (WantGroupsNumber head at key) fs) (token.Number some_number) ≡ Some (state (after_groups head (grouping_at at key)) fs)
+unfolding step
+groups_number_step fs head at key = refl
+
+pub groups_number_ends : (fs : List Frame) (head : GroupsHead) (at : ℕ) (key : Name) → Fits fs → InTerm fs → Ends (state (WantGroupsNumber head at key) fs)
+groups_number_ends fs head at key f i = by_token _ (state (after_groups head (grouping_at at key)) fs) (token.Number some_number) (groups_number_step fs head at key) (after_groups_ends fs head (grouping_at at key) f i)
+
+groups_step : (fs : List Frame) (head : GroupsHead) (at : ℕ) (key : Name) → step (state (WantGroups head at key) fs) (token.Plain plain.Groups) ≡ Some (state (WantGroupsNumber head at key) fs)
+unfolding step plain_eq
+groups_step fs head at key = refl
+
+pub groups_ends : (fs : List Frame) (head : GroupsHead) (at : ℕ) (key : Name) → Fits fs → InTerm fs → Ends (state (WantGroups head at key) fs)
+groups_ends fs head at key f i = by_token _ (state (WantGroupsNumber head at key) fs) (token.Plain plain.Groups) (groups_step fs head at key) (groups_number_ends fs head at key f i)
+
+key_step : (fs : List Frame) (head : GroupsHead) (at : ℕ) → step (state (WantKey head at) fs) (token.Name some_name) ≡ Some (state (WantGroups head at some_name) fs)
+unfolding step
+key_step fs head at = refl
+
+pub key_ends : (fs : List Frame) (head : GroupsHead) (at : ℕ) → Fits fs → InTerm fs → Ends (state (WantKey head at) fs)
+key_ends fs head at f i = by_token _ (state (WantGroups head at some_name) fs) (token.Name some_name) (key_step fs head at) (groups_ends fs head at some_name f i)
+
+part_by_step : (fs : List Frame) (items : List Item) (head : OverHead) (w : Spelling) (open' : ℕ) (p : Spelling) → step (state (WantPartBy items head w open' p) fs) (token.By 0) ≡ Some (state (WantKey (OverGroups items head w open' p) 0) fs)
+unfolding step
+part_by_step fs items head w open' p = refl
+
+pub part_by_ends : (fs : List Frame) (items : List Item) (head : OverHead) (w : Spelling) (open' : ℕ) (p : Spelling) → Fits fs → InTerm fs → Ends (state (WantPartBy items head w open' p) fs)
+part_by_ends fs items head w open' p f i = by_token _ (state (WantKey (OverGroups items head w open' p) 0) fs) (token.By 0) (part_by_step fs items head w open' p) (key_ends fs (OverGroups items head w open' p) 0 f i)

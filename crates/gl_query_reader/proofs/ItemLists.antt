@@ -1,17 +1,18 @@
 -- Items one after the other, as loops go over them.
-use Rattle.std.proofs.Common.{◌≡◌, ℕ, ◌+◌, ◌<◌, ◌≤◌, Bool, true, false, List, [], ◌∷◌, ◌++◌, length, drop, get_or, reverse, Some, None, refl, sym, ap, ◌∙◌, append_assoc, add-one, drop-cons}
+use Rattle.std.proofs.Common.{◌≡◌, ℕ, ◌+◌, ◌<◌, ◌≤◌, Bool, true, false, List, [], ◌∷◌, ◌++◌, length, drop, get_or, reverse, Option, Some, None, refl, sym, ap, ◌∙◌, append_assoc, add-one, drop-cons}
 use Rattle.std.specs.Prelude.{map}
 use Rattle.std.proofs.lemmas.List.{reverse-append, append-nil, drop_all, map-append}
 use Rattle.gl_query.specs.declared.tree.Item.{Item}
 use Rattle.gl_query.specs.declared.tree.AggItem.{AggItem}
 use Rattle.gl_query.specs.declared.tree.FrameItem.{FrameItem}
 use Rattle.gl_query_reader.specs.declared.written.WrittenItem.{WrittenItem}
+use Rattle.gl_query_reader.specs.declared.written.Part.{Part}
 use Rattle.gl_query_reader.specs.Written as written
 use Rattle.gl_query_reader.specs.Written.{Bare, Named, Total, Framed}
 use Rattle.gl_query_reader.specs.Trees.{item_of, items_of}
-use Rattle.gl_query_reader.specs.Meaning.{plain_items, agg_items, frame_items, is_total, is_framed, has_over}
+use Rattle.gl_query_reader.specs.Meaning.{plain_items, agg_items, frame_items, is_total, is_framed, has_over, first_over}
 use Rattle.gl_query.specs.Trees.{ItemTree, AggItemTree, FrameItemTree, item_tree, agg_item_tree, frame_item_tree}
-use Rattle.gl_query_reader.specs.Mixed.{same, first_other, item_at}
+use Rattle.gl_query_reader.specs.Mixed.{same, first_other, item_at, has_part, other_part}
 
 pub items-push : (xs : List WrittenItem) (x : WrittenItem) → items_of (xs ++ x ∷ []) ≡ items_of xs ++ item_of x ∷ []
 items-push xs x = map-append item_of xs (x ∷ [])
@@ -64,6 +65,24 @@ over_here items i d lt e = rw (drop-cons items i d lt, e) refl
 pub over_end : (items : List WrittenItem) (i : ℕ) → length items ≤ i → has_over (items_of (drop i items)) ≡ false
 over_end items i le = rw (drop_all i items le) refl
 
+pub first_step : (items : List WrittenItem) (i : ℕ) (d : WrittenItem) → i < length items → is_framed (item_of (get_or items i d)) ≡ false → first_over (items_of (drop i items)) ≡ first_over (items_of (drop (i + 1) items))
+first_step items i d lt e = rw (drop-cons items i d lt, e, add-one) refl
+
+pub first_here : (items : List WrittenItem) (i : ℕ) (d : WrittenItem) → i < length items → is_framed (item_of (get_or items i d)) ≡ true → first_over (items_of (drop i items)) ≡ Some (item_of (get_or items i d))
+first_here items i d lt e = rw (drop-cons items i d lt, e) refl
+
+pub first_end : (items : List WrittenItem) (i : ℕ) → length items ≤ i → first_over (items_of (drop i items)) ≡ None
+first_end items i le = rw (drop_all i items le) refl
+
+pub part_step : (part : Option Part) (items : List WrittenItem) (i : ℕ) (d : WrittenItem) → i < length items → has_part part (item_of (get_or items i d)) ≡ true → other_part part (items_of (drop i items)) ≡ other_part part (items_of (drop (i + 1) items))
+part_step part items i d lt e = rw (drop-cons items i d lt, e, add-one) refl
+
+pub part_here : (part : Option Part) (items : List WrittenItem) (i : ℕ) (d : WrittenItem) → i < length items → has_part part (item_of (get_or items i d)) ≡ false → other_part part (items_of (drop i items)) ≡ Some (item_at (item_of (get_or items i d)))
+part_here part items i d lt e = rw (drop-cons items i d lt, e) refl
+
+pub part_end : (part : Option Part) (items : List WrittenItem) (i : ℕ) → length items ≤ i → other_part part (items_of (drop i items)) ≡ None
+part_end part items i le = rw (drop_all i items le) refl
+
 pub other_step : (sort : Bool) (items : List WrittenItem) (i : ℕ) (d : WrittenItem) → i < length items → same sort (is_total (item_of (get_or items i d))) ≡ true → first_other sort (items_of (drop i items)) ≡ first_other sort (items_of (drop (i + 1) items))
 other_step sort items i d lt e = rw (drop-cons items i d lt, e, add-one) refl
 
@@ -73,4 +92,4 @@ other_here sort items i d lt e = rw (drop-cons items i d lt, e) refl
 pub other_end : (sort : Bool) (items : List WrittenItem) (i : ℕ) → length items ≤ i → first_other sort (items_of (drop i items)) ≡ None
 other_end sort items i le = rw (drop_all i items le) refl
 
-pub ruleset item_steps = (items-push, items-left, trees-push, agg_trees-push, frame_trees-push, plain_step, agg_step, frame_step, over_step, over_here, over_end, other_step, other_here, other_end, append-nil)
+pub ruleset item_steps = (items-push, items-left, trees-push, agg_trees-push, frame_trees-push, plain_step, agg_step, frame_step, over_step, over_here, over_end, first_step, first_here, first_end, part_step, part_here, part_end, other_step, other_here, other_end, append-nil)

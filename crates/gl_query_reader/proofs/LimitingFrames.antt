@@ -9,11 +9,12 @@ use Rattle.gl_query_tokens.specs.declared.token.Token.{Token}
 use Rattle.gl_query_tokens.specs.declared.token.Token.TheVariants as token
 use Rattle.gl_query_reader.specs.declared.written.Bound.{Bound}
 use Rattle.gl_query_reader.specs.declared.written.Bound.TheVariants as bound
+use Rattle.gl_query_reader.specs.declared.written.Part.{Part}
 use Rattle.gl_query_reader.specs.declared.written.FrameRows.{FrameRows}
 use Rattle.gl_query_reader.specs.declared.written.FrameRows.TheVariants as rows
 use Rattle.gl_query_reader.specs.Limits.{IsSmall}
 use Rattle.gl_query_reader.specs.Sizes.{expr_depth, over_agg_depth, filtering_depth, head_depth, over_depth, operators_of, OverAggIsShort, FilteringIsShort, HeadIsShort, OverIsShort}
-use Rattle.gl_query_reader.specs.Written.{Expr, OverAgg, CountOf, FoldOf, LastOf, Filtering, FilterOf, OverHead, LagOf, Ranged, Over, OverOf, spell, spell_word, spell_over_agg, spell_filtering, spell_head, spell_bound, spell_rows, spell_over}
+use Rattle.gl_query_reader.specs.Written.{Expr, OverAgg, CountOf, FoldOf, LastOf, Filtering, FilterOf, OverHead, LagOf, Ranged, Over, OverOf, spell, spell_word, spell_over_agg, spell_filtering, spell_head, spell_bound, spell_part, spell_rows, spell_over}
 use Rattle.gl_query_reader.proofs.Limiting.{counts, Keeps, over, under, parted, paired, keeps_at, small_at, limited, limits, close, Behind, Any}
 
 -- ---- words and bounds
@@ -188,16 +189,16 @@ record RowsBehind (b j : ℕ) (rest : List Token) : Type 0 where
   small : operators ≤ 256
   rest' : Keeps (counts b operators j operand) rest
 
-rows_to : (x : Option FrameRows) (b j : ℕ) (rest : List Token) → Keeps (counts b 0 j true) (spell_rows x ++ rest) → RowsBehind b j rest
-rows_to None b j rest h = record { operators = 0; operand = true; small = omega arith; rest' = h }
-rows_to (Some (rows.Short r y p)) b j rest h = record {
+rows_to : (x : Option FrameRows) (b j : ℕ) (d : Bool) (rest : List Token) → Keeps (counts b 0 j d) (spell_rows x ++ rest) → RowsBehind b j rest
+rows_to None b j d rest h = record { operators = 0; operand = d; small = omega arith; rest' = h }
+rows_to (Some (rows.Short r y p)) b j d rest h = record {
   operators = 0;
   operand = false;
   small = omega arith;
-  rest' = word_over word.Preceding p b 0 j false rest (bound_over y b 0 j false _ (word_over word.Rows r b 0 j true _ h));
+  rest' = word_over word.Preceding p b 0 j false rest (bound_over y b 0 j false _ (word_over word.Rows r b 0 j d _ h));
 }
-rows_to (Some (rows.Between f n c o)) b j rest h =
-    let front = word_over word.Preceding f.preceding b 0 j false _ (bound_over f.bound b 0 j false _ (word_over word.Between f.between b 0 j false _ (word_over word.Rows f.rows b 0 j true _ h))) in
+rows_to (Some (rows.Between f n c o)) b j d rest h =
+    let front = word_over word.Preceding f.preceding b 0 j false _ (bound_over f.bound b 0 j false _ (word_over word.Between f.between b 0 j false _ (word_over word.Rows f.rows b 0 j d _ h))) in
     record {
       operators = 1;
       operand = false;
@@ -205,27 +206,40 @@ rows_to (Some (rows.Between f n c o)) b j rest h =
       rest' = word_over word.Row o b 1 j false rest (word_over word.Current c b 1 j true _ (over front).1);
     }
 
-rows_from : (x : Option FrameRows) (b j : ℕ) (rest : List Token) → b ≤ 32 → j ≤ 64 → Any b j rest → Keeps (counts b 0 j true) (spell_rows x ++ rest)
-rows_from None b j rest f g h = h 0 true (omega arith)
-rows_from (Some (rows.Short r y p)) b j rest f g h =
+rows_from : (x : Option FrameRows) (b j : ℕ) (d : Bool) (rest : List Token) → b ≤ 32 → j ≤ 64 → Any b j rest → Keeps (counts b 0 j d) (spell_rows x ++ rest)
+rows_from None b j d rest f g h = h 0 d (omega arith)
+rows_from (Some (rows.Short r y p)) b j d rest f g h =
     let s = small_at b 0 j false f (omega arith) g in
-    word_under word.Rows r b 0 j true _ s (bound_under y b 0 j false _ s (word_under word.Preceding p b 0 j false rest s (h 0 false (omega arith))))
-rows_from (Some (rows.Between x n c o)) b j rest f g h =
+    word_under word.Rows r b 0 j d _ s (bound_under y b 0 j false _ s (word_under word.Preceding p b 0 j false rest s (h 0 false (omega arith))))
+rows_from (Some (rows.Between x n c o)) b j d rest f g h =
     let s = small_at b 0 j false f (omega arith) g in
     let z = small_at b 1 j false f (omega arith) g in
     let last = word_under word.Current c b 1 j true _ z (word_under word.Row o b 1 j false rest z (h 1 false (omega arith))) in
-    word_under word.Rows x.rows b 0 j true _ s (word_under word.Between x.between b 0 j false _ s (bound_under x.bound b 0 j false _ s
+    word_under word.Rows x.rows b 0 j d _ s (word_under word.Between x.between b 0 j false _ s (bound_under x.bound b 0 j false _ s
     (word_under word.Preceding x.preceding b 0 j false _ s (under (small_at b 1 j true f (omega arith) g) last))))
+
+-- PARTITION, where there is one
+part_to : (p : Option Part) (b j : ℕ) (rest : List Token) → Keeps (counts b 0 j true) (spell_part p ++ rest) → (d : Bool) × Keeps (counts b 0 j d) rest
+part_to None b j rest h = (true, h)
+part_to (Some p) b j rest h = (false, (over (over (over (over (word_over word.Partition p.word b 0 j true _ h)).1).1).1).1)
+
+part_from : (p : Option Part) (b j : ℕ) (rest : List Token) → b ≤ 32 → j ≤ 64 → ((d : Bool) → Keeps (counts b 0 j d) rest) → Keeps (counts b 0 j true) (spell_part p ++ rest)
+part_from None b j rest f g h = h true
+part_from (Some p) b j rest f g h =
+    let s = small_at b 0 j false f (omega arith) g in
+    word_under word.Partition p.word b 0 j true _ s (under s (under s (under s (under s (h false)))))
 
 -- ---- a function with OVER
 
 pub limited_over : (o : Over) (b j : ℕ) (d : Bool) (rest : List Token) → Keeps (counts b 0 j d) (spell_over o ++ rest) → Behind b j (over_depth o) (OverIsShort o) rest
-limited_over (OverOf head w open' x) b j d rest h =
-    let inner : List Token = spell_rows x ++ close ∷ [] in
+limited_over (OverOf head w open' p x) b j d rest h =
+    let rowed : List Token = spell_rows x ++ close ∷ [] in
+    let inner : List Token = spell_part p ++ rowed in
     let tail : List Token = spell_word word.Over w ∷ token.Open open' ∷ inner in
     let y = limited_head head b j d (tail ++ rest) (parted (spell_head head) tail rest h) in
     let q = over (word_over word.Over w b y.operators j y.operand _ y.rest') in
-    let r = rows_to x (b + 1) j (close ∷ rest) (parted (spell_rows x) (close ∷ []) rest q.1) in
+    let z = part_to p (b + 1) j (rowed ++ rest) (parted (spell_part p) rowed rest q.1) in
+    let r = rows_to x (b + 1) j z.0 (close ∷ rest) (parted (spell_rows x) (close ∷ []) rest z.1) in
     record {
       depth' = (let t : b + head_depth head ≤ 32 = y.depth' in let u : b + 1 ≤ 32 = q.0.brackets in omega arith);
       short' = y.short';
@@ -236,12 +250,14 @@ limited_over (OverOf head w open' x) b j d rest h =
     }
 
 pub limits_over : (o : Over) (b j : ℕ) (d : Bool) (rest : List Token) → j ≤ 64 → b + over_depth o ≤ 32 → OverIsShort o → Any b j rest → Keeps (counts b 0 j d) (spell_over o ++ rest)
-limits_over (OverOf head w open' x) b j d rest g m s h =
+limits_over (OverOf head w open' p x) b j d rest g m s h =
     let t : b + max (head_depth head) 1 ≤ 32 = m in
-    let inner : List Token = spell_rows x ++ close ∷ [] in
+    let rowed : List Token = spell_rows x ++ close ∷ [] in
+    let inner : List Token = spell_part p ++ rowed in
     let tail : List Token = spell_word word.Over w ∷ token.Open open' ∷ inner in
     let e : b + 1 ≤ 32 = omega arith in
     let last : Any (b + 1) j (close ∷ rest) = λ o d' v. under (small_at (b + 1 - 1) o j false (omega arith) v g) (keeps_at {b = b} (b + 1 - 1) o j (omega arith) refl refl (h o false v)) in
-    let opened : Keeps (counts (b + 1) 0 j true) (inner ++ rest) = paired (spell_rows x) (close ∷ []) rest (rows_from x (b + 1) j (close ∷ rest) e g last) in
+    let opened : Keeps (counts (b + 1) 0 j true) (inner ++ rest) = paired (spell_part p) rowed rest (part_from p (b + 1) j (rowed ++ rest) e g
+    (λ d2. paired (spell_rows x) (close ∷ []) rest (rows_from x (b + 1) j d2 (close ∷ rest) e g last))) in
     paired (spell_head head) tail rest (limits_head head b j d (tail ++ rest) g (omega arith) s
     (λ o d' v. word_under word.Over w b o j d' _ (small_at b o j false (omega arith) v g) (under (small_at (b + 1) 0 j true e (omega arith) g) opened)))

@@ -6,16 +6,17 @@ use Rattle.gl_query_tokens.specs.declared.token.Fold.{Fold}
 use Rattle.gl_query_tokens.specs.declared.token.Fold.TheVariants as fold
 use Rattle.gl_query_tokens.specs.declared.token.Join.{Join}
 use Rattle.gl_query_tokens.specs.declared.token.Join.TheVariants as join
-use Rattle.gl_query.specs.Shapes.{ExprShape, FrameItemShape}
+use Rattle.gl_query.specs.Shapes.{ExprShape, FrameItemShape, slots_shape}
 use Rattle.gl_query.specs.Sizes.{looks_back}
 use Rattle.gl_query.specs.Trees.{ExprTree, QueryTree, Read}
 use Rattle.gl_query.specs.Alike.{expr_alike, agg_alike, item_alike, agg_item_alike, frame_agg_alike, frame_alike, frame_item_alike, query_alike}
-use Rattle.gl_query.specs.Parts.{InAgg, InItem, InAggItem, InFrameAgg, InFrame, InFrameItem, InFilter, InQuery}
+use Rattle.gl_query.specs.Parts.{InAgg, InItem, InAggItem, InFrameAgg, InFrame, InFrameItem, InFilter, InSlots, InQuery}
 use Rattle.gl_query_reader.specs.declared.written.FrameRows.{FrameRows}
+use Rattle.gl_query_reader.specs.declared.written.Part.{Part}
 use Rattle.gl_query_reader.specs.declared.written.Window.{Window}
 use Rattle.gl_query_reader.specs.declared.written.Grouping.{Grouping}
 use Rattle.gl_query_reader.specs.Written as written
-use Rattle.gl_query_reader.specs.Meaning.{expr_meaning, fold_meaning, agg_meaning, fold_over, over_agg_meaning, filtering_meaning, frame_meaning, over_meaning, plain_items, agg_items, frame_items, has_over, it, filtered, by_over, by_items, begins_total, by_pick, items_in, grouped, select_meaning, join_meaning, query_meaning}
+use Rattle.gl_query_reader.specs.Meaning.{expr_meaning, fold_meaning, agg_meaning, fold_over, over_agg_meaning, filtering_meaning, frame_meaning, over_meaning, plain_items, agg_items, frame_items, has_over, slots_in, it, filtered, by_over, by_items, begins_total, by_pick, items_in, grouped, select_meaning, join_meaning, query_meaning}
 
 -- E of each whole expression that is written, and N of each name
 abbrev pub ExprHolds : (ExprShape → Type 0) → written.Expr → Type 0
@@ -39,14 +40,18 @@ abbrev pub HeadHolds : (ExprShape → Type 0) → written.OverHead → Type 0
 HeadHolds E (written.LagOf w open' e back) = ExprHolds E e
 HeadHolds E (written.Ranged a f) = OverAggHolds E a × FilteringHolds E f
 
-abbrev pub OverHolds : (ExprShape → Type 0) → written.Over → Type 0
-OverHolds E (written.OverOf head w open' r) = HeadHolds E head
+abbrev pub PartHolds : (List ℕ → Type 0) → Option Part → Type 0
+PartHolds N None = Unit {0}
+PartHolds N (Some p) = N p.grouping.key.text
+
+abbrev pub OverHolds : (ExprShape → Type 0) → (List ℕ → Type 0) → written.Over → Type 0
+OverHolds E N (written.OverOf head w open' p r) = HeadHolds E head × PartHolds N p
 
 abbrev pub ItemHolds : (ExprShape → Type 0) → (List ℕ → Type 0) → written.Item → Type 0
 ItemHolds E N (written.Bare name) = ExprHolds E (written.Column name) × N name.text
 ItemHolds E N (written.Named e name) = ExprHolds E e × N name.text
 ItemHolds E N (written.Total a name) = AggHolds E a × N name.text
-ItemHolds E N (written.Framed o name) = OverHolds E o × N name.text
+ItemHolds E N (written.Framed o name) = OverHolds E N o × N name.text
 
 abbrev pub PickHolds : (ExprShape → Type 0) → (List ℕ → Type 0) → written.Pick → Type 0
 PickHolds E N (written.All at) = Unit {0}
@@ -74,8 +79,8 @@ back_is_over [] = refl
 back_is_over (written.Bare name ∷ is) = back_is_over is
 back_is_over (written.Named e name ∷ is) = back_is_over is
 back_is_over (written.Total a name ∷ is) = back_is_over is
-back_is_over (written.Framed (written.OverOf (written.LagOf v begin e b) w open' r) name ∷ is) = refl
-back_is_over (written.Framed (written.OverOf (written.Ranged a f) w open' r) name ∷ is) = refl
+back_is_over (written.Framed (written.OverOf (written.LagOf v begin e b) w open' p r) name ∷ is) = refl
+back_is_over (written.Framed (written.OverOf (written.Ranged a f) w open' p r) name ∷ is) = refl
 
 -- E holds of each expression that is meant, and N of each name
 module _ (E : ExprShape → Type 0) (N : List ℕ → Type 0) (own : N (codes "it")) where
@@ -123,8 +128,8 @@ module _ (E : ExprShape → Type 0) (N : List ℕ → Type 0) (own : N (codes "i
   frame_in (written.LagOf w open' e back) r h = h
   frame_in (written.Ranged a f) r h = (over_agg_in a h.0, filtering_in f h.1)
 
-  over_in : (o : written.Over) → OverHolds E o → InFrame E (frame_alike (over_meaning o))
-  over_in (written.OverOf head w open' r) h = frame_in head r h
+  over_in : (o : written.Over) → OverHolds E N o → InFrame E (frame_alike (over_meaning o))
+  over_in (written.OverOf head w open' p r) h = frame_in head r h.0
 
   frames_in : (is : List written.Item) → AllByRecursion (ItemHolds E N) is → AllByRecursion (InFrameItem E N) (map frame_item_alike (frame_items is))
   frames_in [] h = tt
@@ -132,6 +137,14 @@ module _ (E : ExprShape → Type 0) (N : List ℕ → Type 0) (own : N (codes "i
   frames_in (written.Named e name ∷ is) h = (h.0, frames_in is h.1)
   frames_in (written.Total a name ∷ is) h = frames_in is h.1
   frames_in (written.Framed o name ∷ is) h = ((over_in o h.0.0, h.0.1), frames_in is h.1)
+
+  slots_hold : (is : List written.Item) → AllByRecursion (ItemHolds E N) is → InSlots N (option_map slots_shape (slots_in is))
+  slots_hold [] h = tt
+  slots_hold (written.Bare name ∷ is) h = slots_hold is h.1
+  slots_hold (written.Named e name ∷ is) h = slots_hold is h.1
+  slots_hold (written.Total a name ∷ is) h = slots_hold is h.1
+  slots_hold (written.Framed (written.OverOf head w open' None r) name ∷ is) h = tt
+  slots_hold (written.Framed (written.OverOf head w open' (Some p) r) name ∷ is) h = h.0.0.1
 
   filter_in : (f : Option written.Expr) → FilterHolds E f → InFilter E (option_map expr_alike (option_map expr_meaning f))
   filter_in None h = tt
@@ -143,7 +156,7 @@ module _ (E : ExprShape → Type 0) (N : List ℕ → Type 0) (own : N (codes "i
 
   by_over_in : (b : Bool) (is : List written.Item) (f : Option written.Expr) (source : QueryTree) → AllByRecursion (ItemHolds E N) is → FilterHolds E f → InQuery E N (query_alike source)
       → InQuery E N (query_alike (by_over b is (option_map expr_meaning f) source))
-  by_over_in true is f source h g s = (s, frames_in is h, filter_in f g)
+  by_over_in true is f source h g s = (s, frames_in is h, filter_in f g, slots_hold is h)
   by_over_in false is f source h g s = (s, plain_in is h, filter_in f g)
 
   by_items_in : (b : Bool) (is : List written.Item) (f : Option written.Expr) (source : QueryTree) → AllByRecursion (ItemHolds E N) is → FilterHolds E f → InQuery E N (query_alike source)

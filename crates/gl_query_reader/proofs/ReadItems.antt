@@ -10,19 +10,22 @@ use Rattle.gl_query_tokens.specs.declared.token.Word.{Word}
 use Rattle.gl_query_tokens.specs.declared.token.Word.TheVariants as word
 use Rattle.gl_query_tokens.specs.declared.token.Token.{Token}
 use Rattle.gl_query_tokens.specs.declared.token.Token.TheVariants as token
-use Rattle.gl_query_tokens.specs.Sorts.{plain_eq, is_plain, open_in}
+use Rattle.gl_values.specs.declared.op.Op.TheVariants as op
+use Rattle.gl_query_tokens.specs.Sorts.{plain_eq, is_plain, open_in, word_in}
 use Rattle.gl_query_tokens.specs.Words.{word_text}
 use Rattle.gl_query_reader.specs.declared.over_state.Call.{Call}
 use Rattle.gl_query_reader.specs.declared.over_state.Call.TheVariants as call
 use Rattle.gl_query_reader.specs.declared.over_state.RowsSoFar.{RowsSoFar}
 use Rattle.gl_query_reader.specs.declared.over_state.RowsSoFar.TheVariants as so_far
+use Rattle.gl_query_reader.specs.declared.written.Part.{Part}
 use Rattle.gl_query_reader.specs.declared.written.FrameRows.{FrameRows}
-use Rattle.gl_query_reader.specs.Written.{Expr, Column, Number, Minus, Letters, Brackets, Cast, Not, Binary, Agg, Count, Fold', Wsum, OverAgg, CountOf, FoldOf, LastOf, Filtering, FilterOf, OverHead, LagOf, Ranged, Over, OverOf, Item, Bare, Named, Total, Framed, Pick, All, Items, IsAgg, IsOverAgg, IsFiltering, IsOverHead, FitsRows, IsOver, IsExpr, IsItem, AreItems, IsPick, spell, spell_numbers, spell_agg, spell_word, spell_over_agg, spell_filtering, spell_back, spell_head, spell_rows, spell_over, spell_item, spell_items, spell_pick}
-use Rattle.gl_query_reader.specs.States.{State, Frame, InItem, InFold, InWsum, InCall, InCondition, WantItem, WantWeight, HaveAgg, WantOver, InOver, WantOverAs, HaveItem, WantSource, SelectHead}
+use Rattle.gl_query_reader.specs.declared.written.FrameRows.TheVariants as rows
+use Rattle.gl_query_reader.specs.Written.{Expr, Column, Number, Minus, Letters, Brackets, Cast, Not, Binary, Agg, Count, Fold', Wsum, OverAgg, CountOf, FoldOf, LastOf, Filtering, FilterOf, OverHead, LagOf, Ranged, Over, OverOf, Item, Bare, Named, Total, Framed, Pick, All, Items, IsAgg, IsOverAgg, IsFiltering, IsOverHead, FitsRows, IsOver, IsExpr, IsItem, AreItems, IsPick, spell, spell_numbers, spell_agg, spell_word, spell_over_agg, spell_filtering, spell_back, spell_head, spell_bound, spell_part, spell_rows, spell_over, spell_item, spell_items, spell_pick}
+use Rattle.gl_query_reader.specs.States.{State, Frame, InItem, InFold, InWsum, InCall, InCondition, WantItem, WantWeight, HaveAgg, WantOver, WantPart, InOver, WantOverAs, HaveItem, WantSource, SelectHead}
 use Rattle.gl_query_reader.specs.Framing.{rows_first, rows_step}
 use Rattle.gl_query_reader.specs.Machine.{reduced, step, is_operator}
 use Rattle.gl_query_reader.proofs.Steps.{steps, state}
-use Rattle.gl_query_reader.proofs.RowsSaid.{call_word, over-no-filter, rows_run, rows-read, word-in}
+use Rattle.gl_query_reader.proofs.RowsSaid.{call_word, over-no-filter, rows-no-partition, rows_run, rows-read, word-in}
 use Rattle.gl_query_reader.proofs.ReadExpressions.{waits, last_of, pair, wanting, having, reads_expr, reduced-whole, level-lt}
 use Rattle.gl_bits.proofs.Options.{some_same, then_some}
 
@@ -213,47 +216,71 @@ reads_head (LagOf w open' e b) items fs u rest g n =
 
 -- OVER and its bracket
 over-begins : (head : OverHead) (w : Spelling) (open' : ℕ) (items : List Item) (fs : List Frame) (rest : List Token)
-    → steps (state (WantOver items head) fs) (spell_word word.Over w ∷ token.Open open' ∷ rest) ≡ steps (state (InOver items head w open' (rows_first head)) fs) rest
+    → steps (state (WantOver items head) fs) (spell_word word.Over w ∷ token.Open open' ∷ rest) ≡ steps (state (WantPart items head w open') fs) rest
 unfolding steps step
 over-begins (LagOf v begin e b) w open' items fs rest = rw (word-in word.Over w) refl
 over-begins (Ranged a None) w open' items fs rest = rw (over-no-filter w, word-in word.Over w) refl
 over-begins (Ranged a (Some f)) w open' items fs rest = rw (word-in word.Over w) refl
 
-over-goes : (head : OverHead) (w : Spelling) (open' : ℕ) (items : List Item) (fs : List Frame) (t : Token) (rest : List Token) (r next : RowsSoFar) → rows_step r t ≡ Some next
-    → steps (state (InOver items head w open' r) fs) (t ∷ rest) ≡ steps (state (InOver items head w open' next) fs) rest
+over-goes : (head : OverHead) (w : Spelling) (open' : ℕ) (p : Option Part) (items : List Item) (fs : List Frame) (t : Token) (rest : List Token) (r next : RowsSoFar) → rows_step r t ≡ Some next
+    → steps (state (InOver items head w open' p r) fs) (t ∷ rest) ≡ steps (state (InOver items head w open' p next) fs) rest
 unfolding steps step
-over-goes head w open' items fs t rest r next e = rw e refl
+over-goes head w open' p items fs t rest r next e = rw e refl
 
-over-run : (head : OverHead) (w : Spelling) (open' : ℕ) (items : List Item) (fs : List Frame) (ts rest : List Token) (r last : RowsSoFar) → rows_run r ts ≡ Some last
-    → steps (state (InOver items head w open' r) fs) (ts ++ rest) ≡ steps (state (InOver items head w open' last) fs) rest
-over-run head w open' items fs [] rest r last e = ap (λ (x : RowsSoFar). steps (state (InOver items head w open' x) fs) rest) (some_same r last e)
-over-run head w open' items fs (t ∷ ts) rest r last e =
+over-run : (head : OverHead) (w : Spelling) (open' : ℕ) (p : Option Part) (items : List Item) (fs : List Frame) (ts rest : List Token) (r last : RowsSoFar) → rows_run r ts ≡ Some last
+    → steps (state (InOver items head w open' p r) fs) (ts ++ rest) ≡ steps (state (InOver items head w open' p last) fs) rest
+over-run head w open' p items fs [] rest r last e = ap (λ (x : RowsSoFar). steps (state (InOver items head w open' p x) fs) rest) (some_same r last e)
+over-run head w open' p items fs (t ∷ ts) rest r last e =
     let g = then_some (λ x. rows_run x ts) (rows_step r t) last e in
-    over-goes head w open' items fs t (ts ++ rest) r g.0 g.1 ∙ over-run head w open' items fs ts rest g.0 last g.2
+    over-goes head w open' p items fs t (ts ++ rest) r g.0 g.1 ∙ over-run head w open' p items fs ts rest g.0 last g.2
 
-over-close : (head : OverHead) (w : Spelling) (open' : ℕ) (items : List Item) (fs : List Frame) (x : Option FrameRows) (rest : List Token)
-    → steps (state (InOver items head w open' (so_far.WantClose x)) fs) (token.Plain plain.Close ∷ rest) ≡ steps (state (WantOverAs items (OverOf head w open' x)) fs) rest
+over-close : (head : OverHead) (w : Spelling) (open' : ℕ) (p : Option Part) (items : List Item) (fs : List Frame) (x : Option FrameRows) (rest : List Token)
+    → steps (state (InOver items head w open' p (so_far.WantClose x)) fs) (token.Plain plain.Close ∷ rest) ≡ steps (state (WantOverAs items (OverOf head w open' p x)) fs) rest
 unfolding steps step plain_eq
-over-close head w open' items fs x rest = refl
+over-close head w open' p items fs x rest = refl
+
+part-begins : (p : Part) (head : OverHead) (w : Spelling) (open' : ℕ) (items : List Item) (fs : List Frame) (rest : List Token)
+    → steps (state (WantPart items head w open') fs) (spell_part (Some p) ++ rest) ≡ steps (state (InOver items head w open' (Some p) (rows_first head)) fs) rest
+unfolding steps step plain_eq
+part-begins p head w open' items fs rest = rw (word-in word.Partition p.word) refl
+
+-- a token that is not PARTITION stands as behind one
+part-none : (head : OverHead) (w : Spelling) (open' : ℕ) (items : List Item) (fs : List Frame) (t : Token) (rest : List Token) → word_in word.Partition t ≡ None
+    → steps (state (WantPart items head w open') fs) (t ∷ rest) ≡ steps (state (InOver items head w open' None (rows_first head)) fs) (t ∷ rest)
+unfolding steps step
+part-none head w open' items fs t rest e = rw e refl
+
+-- PARTITION is read, where there is one
+reads_part : (p : Option Part) (x : Option FrameRows) (head : OverHead) (w : Spelling) (open' : ℕ) (items : List Item) (fs : List Frame) (rest : List Token)
+    → steps (state (WantPart items head w open') fs) (spell_part p ++ (spell_rows x ++ token.Plain plain.Close ∷ rest)) ≡ steps (state (InOver items head w open' p (rows_first head)) fs) (spell_rows x ++ token.Plain plain.Close ∷ rest)
+reads_part (Some p) x head w open' items fs rest = part-begins p head w open' items fs (spell_rows x ++ token.Plain plain.Close ∷ rest)
+reads_part None None head w open' items fs rest = part-none head w open' items fs (token.Plain plain.Close) rest refl
+reads_part None (Some (rows.Short r b q)) head w open' items fs rest =
+    part-none head w open' items fs (spell_word word.Rows r) (spell_bound b ∷ spell_word word.Preceding q ∷ token.Plain plain.Close ∷ rest) (rows-no-partition r)
+reads_part None (Some (rows.Between f at c o)) head w open' items fs rest =
+    let front : List Token = spell_word word.Between f.between ∷ spell_bound f.bound ∷ spell_word word.Preceding f.preceding ∷ token.Operator op.And at ∷ spell_word word.Current c ∷ spell_word word.Row o ∷ token.Plain plain.Close ∷ rest in
+    part-none head w open' items fs (spell_word word.Rows f.rows) front (rows-no-partition f.rows)
 
 -- the rows are read, and their bracket
-reads_rows : (head : OverHead) (x : Option FrameRows) (w : Spelling) (open' : ℕ) (items : List Item) (fs : List Frame) (rest : List Token) → FitsRows head x
-    → steps (state (InOver items head w open' (rows_first head)) fs) (spell_rows x ++ token.Plain plain.Close ∷ rest) ≡ steps (state (WantOverAs items (OverOf head w open' x)) fs) rest
-reads_rows (LagOf v begin e b) None w open' items fs rest g = over-close (LagOf v begin e b) w open' items fs None rest
-reads_rows (LagOf v begin e b) (Some x) w open' items fs rest g = absurd g
-reads_rows (Ranged a f) None w open' items fs rest g = absurd g
-reads_rows (Ranged a f) (Some x) w open' items fs rest g =
-    over-run (Ranged a f) w open' items fs (spell_rows (Some x)) (token.Plain plain.Close ∷ rest) so_far.WantRows (so_far.WantClose (Some x)) (rows-read x)
-    ∙ over-close (Ranged a f) w open' items fs (Some x) rest
+reads_rows : (head : OverHead) (p : Option Part) (x : Option FrameRows) (w : Spelling) (open' : ℕ) (items : List Item) (fs : List Frame) (rest : List Token) → FitsRows head x
+    → steps (state (InOver items head w open' p (rows_first head)) fs) (spell_rows x ++ token.Plain plain.Close ∷ rest) ≡ steps (state (WantOverAs items (OverOf head w open' p x)) fs) rest
+reads_rows (LagOf v begin e b) p None w open' items fs rest g = over-close (LagOf v begin e b) w open' p items fs None rest
+reads_rows (LagOf v begin e b) p (Some x) w open' items fs rest g = absurd g
+reads_rows (Ranged a f) p None w open' items fs rest g = absurd g
+reads_rows (Ranged a f) p (Some x) w open' items fs rest g =
+    over-run (Ranged a f) w open' p items fs (spell_rows (Some x)) (token.Plain plain.Close ∷ rest) so_far.WantRows (so_far.WantClose (Some x)) (rows-read x)
+    ∙ over-close (Ranged a f) w open' p items fs (Some x) rest
 
 -- a function with OVER is read
 reads_over : (over : Over) (items : List Item) (fs : List Frame) (rest : List Token) → IsOver over → steps (wanting_item items fs) (spell_over over ++ rest) ≡ steps (state (WantOverAs items over) fs) rest
-reads_over (OverOf head w open' x) items fs rest g =
-    ap (steps (wanting_item items fs)) (append_assoc (spell_head head) (spell_word word.Over w ∷ token.Open open' ∷ (spell_rows x ++ token.Plain plain.Close ∷ [])) rest)
-    ∙ reads_head head items fs (spell_word word.Over w) (token.Open open' ∷ ((spell_rows x ++ token.Plain plain.Close ∷ []) ++ rest)) g.0 (no-as word.Over w)
-    ∙ over-begins head w open' items fs ((spell_rows x ++ token.Plain plain.Close ∷ []) ++ rest)
-    ∙ ap (steps (state (InOver items head w open' (rows_first head)) fs)) (append_assoc (spell_rows x) (token.Plain plain.Close ∷ []) rest)
-    ∙ reads_rows head x w open' items fs rest g.1
+reads_over (OverOf head w open' p x) items fs rest g =
+    let inner : List Token = spell_part p ++ (spell_rows x ++ token.Plain plain.Close ∷ []) in
+    ap (steps (wanting_item items fs)) (append_assoc (spell_head head) (spell_word word.Over w ∷ token.Open open' ∷ inner) rest)
+    ∙ reads_head head items fs (spell_word word.Over w) (token.Open open' ∷ (inner ++ rest)) g.0 (no-as word.Over w)
+    ∙ over-begins head w open' items fs (inner ++ rest)
+    ∙ ap (steps (state (WantPart items head w open') fs)) (lag_grouped (spell_part p) (spell_rows x) rest (token.Plain plain.Close))
+    ∙ reads_part p x head w open' items fs rest
+    ∙ reads_rows head p x w open' items fs rest g.1
 
 over-name : (items : List Item) (fs : List Frame) (over : Over) (name : Name) (rest : List Token)
     → steps (state (WantOverAs items over) fs) (token.Plain plain.As ∷ token.Name name ∷ rest) ≡ steps (state (HaveItem (items ++ Framed over name ∷ [])) fs) rest

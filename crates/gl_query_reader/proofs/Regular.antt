@@ -21,11 +21,12 @@ use Rattle.gl_query_tokens.specs.declared.token.Lexeme.{Lexeme}
 use Rattle.gl_query_tokens.specs.Tokens.{tokens_of}
 use Rattle.gl_query_tokens.proofs.Sound.{IsSound, text_sound}
 use Rattle.gl_query_reader.specs.declared.written.Grouping.{Grouping}
+use Rattle.gl_query_reader.specs.declared.written.Part.{Part}
 use Rattle.gl_query_reader.specs.Grammar.{bare_tokens, HaveStatement, HasStatement, IsRegular, StatementsAreRegular}
 use Rattle.gl_query_reader.specs.Limits.{keeps_limits, none_counted}
 use Rattle.gl_query_reader.specs.Meaning.{expr_meaning, query_meaning, statement_meaning}
 use Rattle.gl_query_reader.specs.Written as written
-use Rattle.gl_query_reader.proofs.Meanings.{AggHolds, OverAggHolds, FilteringHolds, HeadHolds, OverHolds, FilterHolds, GroupingHolds, ItemHolds, PickHolds, QueryHolds, query_in}
+use Rattle.gl_query_reader.proofs.Meanings.{AggHolds, OverAggHolds, FilteringHolds, HeadHolds, PartHolds, OverHolds, FilterHolds, GroupingHolds, ItemHolds, PickHolds, QueryHolds, query_in}
 use Rattle.gl_query_reader.proofs.Small.{statement_small}
 
 abbrev pub AreSound : List Token → Type 0
@@ -69,8 +70,16 @@ head_names (written.Ranged a f) h =
     let p = sound_parts (written.spell_over_agg a) (written.spell_filtering f) h in
     (over_agg_names a p.0, filtering_names f p.1)
 
-over_names : (o : written.Over) → AreSound (written.spell_over o) → OverHolds HasNames o
-over_names (written.OverOf head w open' r) h = head_names head (sound_parts (written.spell_head head) (written.spell_word word.Over w ∷ token.Open open' ∷ (written.spell_rows r ++ token.Plain plain.Close ∷ [])) h).0
+part_names : (p : Option Part) → AreSound (written.spell_part p) → PartHolds IsName p
+part_names None h = tt
+part_names (Some p) h = h.1.1.0.name
+
+over_names : (o : written.Over) → AreSound (written.spell_over o) → OverHolds HasNames IsName o
+over_names (written.OverOf head w open' p r) h =
+    let last : List Token = written.spell_rows r ++ token.Plain plain.Close ∷ [] in
+    let a = sound_parts (written.spell_head head) (written.spell_word word.Over w ∷ token.Open open' ∷ (written.spell_part p ++ last)) h in
+    let b = sound_parts (written.spell_part p) last a.1.1.1 in
+    (head_names head a.0, part_names p b.0)
 
 item_names : (i : written.Item) → AreSound (written.spell_item i) → ItemHolds HasNames IsName i
 item_names (written.Bare name) h = (h.0.name, h.0.name)

@@ -31,6 +31,7 @@ word_same : (v w : Word) → word_eq v w ≡ true → v ≡ w
 unfolding word_eq
 word_same word.Over word.Over e = refl
 word_same word.Filter word.Filter e = refl
+word_same word.Partition word.Partition e = refl
 word_same word.Rows word.Rows e = refl
 word_same word.Preceding word.Preceding e = refl
 word_same word.Unbounded word.Unbounded e = refl
@@ -45,6 +46,7 @@ word_refl : (w : Word) → word_eq w w ≡ true
 unfolding word_eq
 word_refl word.Over = refl
 word_refl word.Filter = refl
+word_refl word.Partition = refl
 word_refl word.Rows = refl
 word_refl word.Preceding = refl
 word_refl word.Unbounded = refl
@@ -80,6 +82,11 @@ pub over-no-filter : (s : Spelling) → word_in word.Filter (spell_word word.Ove
 unfolding word_text word_eq
 over-no-filter (Small at) = refl
 over-no-filter (Capital at) = refl
+
+pub rows-no-partition : (s : Spelling) → word_in word.Partition (spell_word word.Rows s) ≡ None
+unfolding word_text word_eq
+rows-no-partition (Small at) = refl
+rows-no-partition (Capital at) = refl
 
 bound-no-between : (b : Bound) → word_in word.Between (spell_bound b) ≡ None
 unfolding word_text word_eq

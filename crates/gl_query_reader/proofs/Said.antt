@@ -17,8 +17,8 @@ use Rattle.gl_query_tokens.specs.declared.token.Word.TheVariants as word
 use Rattle.gl_query_tokens.specs.declared.token.Token.{Token}
 use Rattle.gl_query_tokens.specs.declared.token.Token.TheVariants as token
 use Rattle.gl_query_tokens.specs.Sorts.{plain_eq, is_plain, name_in, number_in, open_in, size_in, by_in, word_in}
-use Rattle.gl_query_reader.specs.Written.{Wsum, Item, Items, Query, left_looseness, looseness, level, IsExpr, IsAgg, IsOverAgg, IsOverHead, IsOver, AreItems, IsPick, IsFilter, IsQuery, IsSource, IsTerm, spell, spell_numbers, spell_agg, spell_word, spell_over_agg, spell_head, spell_over, spell_items, measure_word, spell_pick, spell_window, spell_if_window, spell_row_window, spell_filter, spell_grouping, spell_query}
-use Rattle.gl_query_reader.specs.States.{measure_in, measure_for, State, Control, Frame, Head, WindowHead, BodyHead, GroupsHead, Unnamed, SelectHead, EachHead, SelectWindow, EachWindow, GroupsWindow, WindowsHead, GroupsHead', SelectGroups, EachGroups, UnnamedExpr, UnnamedAgg, UnnamedOver, LeftOf, NotOf, BracketOf, InCast, InItem, InFold, InWsum, InCall, InCondition, InFilter, JoinOf, InQuery, InSource, InBody, WantTerm, WantItem, WantOperand, WantMinus, HaveExpr, WantCastOpen, WantKind, WantCastClose, WantCountOpen, WantCountClose, WantFoldOpen, WantWsumOpen, WantWeightsOpen, WantWeight, HaveWeight, WantWsumClose, HaveAgg, WantCallOpen, WantBack, WantLagClose, WantOver, WantFilterOpen, WantFilterWhere, WantOverOpen, InOver, WantOverAs, WantItemName, HaveItem, WantFrom, WantSource, HaveSource, HaveEachSource, WantSize, WantSizeNumber, WantAdvance, WantAdvanceNumber, WantMeasure, WantWindowClose, WantBy, WantKey, WantGroups, WantGroupsNumber, WantVar, WantIn, WantBody, HaveTerm, WantName, HaveName, WantEnd}
+use Rattle.gl_query_reader.specs.Written.{Wsum, Item, Items, Query, left_looseness, looseness, level, IsExpr, IsAgg, IsOverAgg, IsOverHead, IsOver, AreItems, IsPick, IsFilter, IsQuery, IsSource, IsTerm, spell, spell_numbers, spell_agg, spell_word, spell_over_agg, spell_head, spell_part, spell_over, spell_items, measure_word, spell_pick, spell_window, spell_if_window, spell_row_window, spell_filter, spell_grouping, spell_query}
+use Rattle.gl_query_reader.specs.States.{measure_in, measure_for, State, Control, Frame, Head, WindowHead, BodyHead, GroupsHead, Unnamed, SelectHead, EachHead, SelectWindow, EachWindow, GroupsWindow, WindowsHead, GroupsHead', SelectGroups, EachGroups, OverGroups, UnnamedExpr, UnnamedAgg, UnnamedOver, LeftOf, NotOf, BracketOf, InCast, InItem, InFold, InWsum, InCall, InCondition, InFilter, JoinOf, InQuery, InSource, InBody, WantTerm, WantItem, WantOperand, WantMinus, HaveExpr, WantCastOpen, WantKind, WantCastClose, WantCountOpen, WantCountClose, WantFoldOpen, WantWsumOpen, WantWeightsOpen, WantWeight, HaveWeight, WantWsumClose, HaveAgg, WantCallOpen, WantBack, WantLagClose, WantOver, WantFilterOpen, WantFilterWhere, WantOverOpen, WantPart, WantPartBy, InOver, WantOverAs, WantItemName, HaveItem, WantFrom, WantSource, HaveSource, HaveEachSource, WantSize, WantSizeNumber, WantAdvance, WantAdvanceNumber, WantMeasure, WantWindowClose, WantBy, WantKey, WantGroups, WantGroupsNumber, WantVar, WantIn, WantBody, HaveTerm, WantName, HaveName, WantEnd}
 use Rattle.gl_query_reader.specs.Machine.{room}
 use Rattle.gl_query_reader.proofs.Steps.{state}
 use Rattle.gl_query_reader.proofs.ReadQueries.{NoJoin}
@@ -44,11 +44,6 @@ abbrev pub body_text : BodyHead → List Token
 body_text (WindowsHead at var source window) = token.Each at ∷ token.Name var ∷ token.Plain plain.In ∷ (spell_query source ++ spell_window window)
 body_text (GroupsHead' at var source grouping window) = token.Each at ∷ token.Name var ∷ token.Plain plain.In ∷ (spell_query source ++ (spell_grouping grouping ++ spell_row_window window))
 
--- what stands before BY
-abbrev pub groups_text : GroupsHead → List Token
-groups_text (SelectGroups pick source window filter) = token.Plain plain.Select ∷ (spell_pick pick ++ token.Plain plain.From ∷ (spell_query source ++ (spell_if_window window ++ (spell_filter filter ++ token.Plain plain.Group ∷ []))))
-groups_text (EachGroups at var source) = token.Each at ∷ token.Name var ∷ token.Plain plain.In ∷ spell_query source
-
 abbrev pub unnamed_text : Unnamed → List Token
 unnamed_text (UnnamedExpr e) = spell e
 unnamed_text (UnnamedAgg a) = spell_agg a
@@ -57,6 +52,12 @@ unnamed_text (UnnamedOver o) = spell_over o
 -- a select so far, in its items
 abbrev pub in_items : List Item → List Token → List Token
 in_items items more = token.Plain plain.Select ∷ (items_before items ++ more)
+
+-- what stands before BY
+abbrev pub groups_text : GroupsHead → List Token
+groups_text (SelectGroups pick source window filter) = token.Plain plain.Select ∷ (spell_pick pick ++ token.Plain plain.From ∷ (spell_query source ++ (spell_if_window window ++ (spell_filter filter ++ token.Plain plain.Group ∷ []))))
+groups_text (EachGroups at var source) = token.Each at ∷ token.Name var ∷ token.Plain plain.In ∷ spell_query source
+groups_text (OverGroups items head w open' p) = in_items items (spell_head head ++ spell_word word.Over w ∷ token.Open open' ∷ spell_word word.Partition p ∷ [])
 
 -- what has a window, and what was read behind it
 abbrev pub in_source : WindowHead → Query → List Token → List Token
@@ -110,7 +111,9 @@ control_text (WantOver items head) = in_items items (spell_head head)
 control_text (WantFilterOpen items a w) = in_items items (spell_over_agg a ++ spell_word word.Filter w ∷ [])
 control_text (WantFilterWhere items a w open') = in_items items (spell_over_agg a ++ spell_word word.Filter w ∷ token.Open open' ∷ [])
 control_text (WantOverOpen items head w) = in_items items (spell_head head ++ spell_word word.Over w ∷ [])
-control_text (InOver items head w open' r) = in_items items (spell_head head ++ spell_word word.Over w ∷ token.Open open' ∷ rows_text r)
+control_text (WantPart items head w open') = in_items items (spell_head head ++ spell_word word.Over w ∷ token.Open open' ∷ [])
+control_text (WantPartBy items head w open' p) = groups_text (OverGroups items head w open' p)
+control_text (InOver items head w open' p r) = in_items items (spell_head head ++ spell_word word.Over w ∷ token.Open open' ∷ (spell_part p ++ rows_text r))
 control_text (WantOverAs items o) = in_items items (spell_over o)
 control_text (WantItemName items u) = in_items items (unnamed_text u ++ token.Plain plain.As ∷ [])
 control_text (HaveItem items) = token.Plain plain.Select ∷ spell_items items
@@ -160,6 +163,7 @@ IsBodyHead (GroupsHead' at var source grouping window) = IsSource source
 abbrev pub IsGroupsHead : GroupsHead → Type 0
 IsGroupsHead (SelectGroups pick source window filter) = IsPick pick × IsSource source × IsFilter filter
 IsGroupsHead (EachGroups at var source) = IsSource source
+IsGroupsHead (OverGroups items head w open' p) = AreItems items × IsOverHead head
 
 abbrev pub IsUnnamed : Unnamed → Type 0
 IsUnnamed (UnnamedExpr e) = IsExpr e
@@ -234,7 +238,9 @@ Holds (WantOver items head) fs = InTerm fs × AreItems items × IsOverHead head
 Holds (WantFilterOpen items a w) fs = InTerm fs × AreItems items × IsOverAgg a
 Holds (WantFilterWhere items a w open') fs = InTerm fs × AreItems items × IsOverAgg a
 Holds (WantOverOpen items head w) fs = InTerm fs × AreItems items × IsOverHead head
-Holds (InOver items head w open' r) fs = InTerm fs × AreItems items × IsOverHead head × FitsSoFar head r
+Holds (WantPart items head w open') fs = InTerm fs × AreItems items × IsOverHead head
+Holds (WantPartBy items head w open' p) fs = InTerm fs × IsGroupsHead (OverGroups items head w open' p)
+Holds (InOver items head w open' p r) fs = InTerm fs × AreItems items × IsOverHead head × FitsSoFar head r
 Holds (WantOverAs items o) fs = InTerm fs × AreItems items × IsOver o
 Holds (WantItemName items u) fs = InTerm fs × AreItems items × IsUnnamed u
 Holds (HaveItem items) fs = InTerm fs × IsPick (Items items)

@@ -15,10 +15,11 @@ use Rattle.gl_query_tokens.specs.declared.token.Token.{Token}
 use Rattle.gl_query_tokens.specs.declared.token.Token.TheVariants as token
 use Rattle.gl_query_reader.specs.declared.limits.Counts.{Counts}
 use Rattle.gl_query_reader.specs.declared.written.Grouping.{Grouping}
+use Rattle.gl_query_reader.specs.declared.written.Part.{Part}
 use Rattle.gl_query_reader.specs.Limits.{after, counted, is_past, keeps_limits, none_counted}
 use Rattle.gl_query_reader.specs.Meaning.{expr_meaning}
 use Rattle.gl_query_reader.specs.Written as written
-use Rattle.gl_query_reader.proofs.Meanings.{AggHolds, OverAggHolds, FilteringHolds, HeadHolds, OverHolds, FilterHolds, GroupingHolds, ItemHolds, PickHolds, QueryHolds}
+use Rattle.gl_query_reader.proofs.Meanings.{AggHolds, OverAggHolds, FilteringHolds, HeadHolds, PartHolds, OverHolds, FilterHolds, GroupingHolds, ItemHolds, PickHolds, QueryHolds}
 
 -- ---- along tokens
 
@@ -159,10 +160,15 @@ head_small (written.Ranged a f) more n w =
     let v = subst (IsWithin n) (append_assoc (written.spell_over_agg a) (written.spell_filtering f) more) w in
     (over_agg_small a (written.spell_filtering f ++ more) n v, filtering_small f more _ (within_behind (written.spell_over_agg a) (written.spell_filtering f ++ more) n v))
 
-over_small : (o : written.Over) (more : List Token) (n : Counts) → IsWithin n (written.spell_over o ++ more) → OverHolds IsSmall o
-over_small (written.OverOf head v open' r) more n w =
-    let tail : List Token = written.spell_word word.Over v ∷ token.Open open' ∷ (written.spell_rows r ++ token.Plain plain.Close ∷ []) in
-    head_small head (tail ++ more) n (subst (IsWithin n) (append_assoc (written.spell_head head) tail more) w)
+part_any : (p : Option Part) → PartHolds Any p
+part_any None = tt
+part_any (Some p) = tt
+
+over_small : (o : written.Over) (more : List Token) (n : Counts) → IsWithin n (written.spell_over o ++ more) → OverHolds IsSmall Any o
+over_small (written.OverOf head v open' p r) more n w =
+    let inner : List Token = written.spell_part p ++ (written.spell_rows r ++ token.Plain plain.Close ∷ []) in
+    let tail : List Token = written.spell_word word.Over v ∷ token.Open open' ∷ inner in
+    (head_small head (tail ++ more) n (subst (IsWithin n) (append_assoc (written.spell_head head) tail more) w), part_any p)
 
 item_small : (i : written.Item) (more : List Token) (n : Counts) → n.operand ≡ true → n.operators ≡ 0 → IsWithin n (written.spell_item i ++ more) → ItemHolds IsSmall Any i
 item_small (written.Bare name) more n begins none w = (omega arith, tt)

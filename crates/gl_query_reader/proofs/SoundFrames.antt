@@ -12,11 +12,12 @@ use Rattle.gl_query_tokens.specs.declared.token.Token.TheVariants as token
 use Rattle.gl_query_reader.specs.declared.over_state.Call.{Call}
 use Rattle.gl_query_reader.specs.declared.over_state.RowsSoFar.{RowsSoFar}
 use Rattle.gl_query_reader.specs.declared.over_state.RowsSoFar.TheVariants as so_far
-use Rattle.gl_query_reader.specs.Written.{Expr, Agg, Count, Fold', Wsum, OverAgg, CountOf, FoldOf, OverHead, LagOf, Ranged, Over, OverOf, Item, IsAgg, IsOverHead, spell, spell_agg, spell_word, spell_over_agg, spell_head, spell_rows, spell_over}
-use Rattle.gl_query_reader.specs.Framing.{begin_over, close_over, filter_or_over, over_goes, ranged, rows_step}
-use Rattle.gl_query_reader.specs.States.{State, Frame, UnnamedAgg, UnnamedOver, InCall, InCondition, WantOperand, HaveAgg, WantCallOpen, WantBack, WantLagClose, WantOver, WantFilterOpen, WantFilterWhere, WantOverOpen, InOver, WantOverAs, WantItemName, goes}
+use Rattle.gl_query_reader.specs.declared.written.Part.{Part}
+use Rattle.gl_query_reader.specs.Written.{Expr, Agg, Count, Fold', Wsum, OverAgg, CountOf, FoldOf, OverHead, LagOf, Ranged, Over, OverOf, Item, IsAgg, IsOverHead, spell, spell_agg, spell_word, spell_over_agg, spell_head, spell_part, spell_rows, spell_over}
+use Rattle.gl_query_reader.specs.Framing.{begin_over, close_over, filter_or_over, in_over, over_goes, part_or_rows, ranged, rows_first, rows_step}
+use Rattle.gl_query_reader.specs.States.{State, Frame, UnnamedAgg, UnnamedOver, InCall, InCondition, WantOperand, HaveAgg, WantCallOpen, WantBack, WantLagClose, WantOver, WantFilterOpen, WantFilterWhere, WantOverOpen, WantPart, WantPartBy, WantKey, OverGroups, InOver, WantOverAs, WantItemName, goes}
 use Rattle.gl_query_reader.proofs.RowsSaid.{call_word, rows_text, rows_said, rows_fit}
-use Rattle.gl_query_reader.proofs.Said.{in_items, before, control_text, Fits, Holds, Read, by_some, by_if, by_plain, by_number, by_open, by_word_or, go_on, go_in}
+use Rattle.gl_query_reader.proofs.Said.{in_items, before, control_text, Fits, Holds, Read, by_some, by_if, by_plain, by_number, by_open, by_by, by_word_or, go_on, go_in}
 use Rattle.gl_query_reader.proofs.SoundTerms.{Keeps}
 use Rattle.gl_query_reader.proofs.SoundExpressions.{behind_items, cast_kind, cast_end}
 use Rattle.gl_bits.proofs.Options.{some_same, then_some}
@@ -82,23 +83,40 @@ open_text : (items : List Item) (head : OverHead) (w : Spelling) (n : ℕ) → c
 open_text items head w n = behind_items items (spell_head head ++ spell_word word.Over w ∷ []) (token.Open n) ∙ ap (in_items items) (append_assoc (spell_head head) (spell_word word.Over w ∷ []) (token.Open n ∷ []))
 
 pub keeps_over_open : (items : List Item) (head : OverHead) (w : Spelling) → Keeps (WantOverOpen items head w)
-keeps_over_open items (LagOf v open' arg back) w fs t s' f h e = by_open t _ s' _ e (λ n d. by_some _ s' _ d (go_on (control_text (WantOverOpen items (LagOf v open' arg back) w)) (InOver items (LagOf v open' arg back) w n (so_far.WantClose None)) fs (token.Open n) f (h.0, h.1, h.2, tt) (open_text items (LagOf v open' arg back) w n)))
-keeps_over_open items (Ranged a filter) w fs t s' f h e = by_open t _ s' _ e (λ n d. by_some _ s' _ d (go_on (control_text (WantOverOpen items (Ranged a filter) w)) (InOver items (Ranged a filter) w n so_far.WantRows) fs (token.Open n) f (h.0, h.1, h.2, tt) (open_text items (Ranged a filter) w n)))
+keeps_over_open items head w fs t s' f h e = by_open t _ s' _ e (λ n d. by_some _ s' _ d (go_on (control_text (WantOverOpen items head w)) (WantPart items head w n) fs (token.Open n) f h (open_text items head w n)))
 
 rows_more : (items : List Item) (head : OverHead) (w : Spelling) (open' : ℕ) (more : List Token) (t : Token) → in_items items (spell_head head ++ spell_word word.Over w ∷ token.Open open' ∷ more) ++ t ∷ [] ≡ in_items items (spell_head head ++ spell_word word.Over w ∷ token.Open open' ∷ (more ++ t ∷ []))
 rows_more items head w open' more t = behind_items items (spell_head head ++ spell_word word.Over w ∷ token.Open open' ∷ more) t ∙ ap (in_items items) (append_assoc (spell_head head) (spell_word word.Over w ∷ token.Open open' ∷ more) (t ∷ []))
 
-closes_over : (items : List Item) (head : OverHead) (w : Spelling) (open' : ℕ) (r : RowsSoFar) (fs : List Frame) (t : Token) (s' : State) → Fits fs → Holds (InOver items head w open' r) fs → close_over fs items head w open' r t ≡ Some s' → Read s' ((before fs ++ control_text (InOver items head w open' r)) ++ t ∷ [])
-closes_over items head w open' (so_far.WantClose x) fs t s' f h e = by_plain plain.Close t _ s' _ e (go_on (control_text (InOver items head w open' (so_far.WantClose x))) (WantOverAs items (OverOf head w open' x)) fs (token.Plain plain.Close) f (h.0, h.1, (h.2, h.3)) (rows_more items head w open' (spell_rows x) (token.Plain plain.Close)))
-closes_over items head w open' r fs t s' f h e = absurd cc
+-- a token behind PARTITION and some rows
+part_more : (items : List Item) (head : OverHead) (w : Spelling) (open' : ℕ) (p : Option Part) (more : List Token) (t : Token) → in_items items (spell_head head ++ spell_word word.Over w ∷ token.Open open' ∷ (spell_part p ++ more)) ++ t ∷ [] ≡ in_items items (spell_head head ++ spell_word word.Over w ∷ token.Open open' ∷ (spell_part p ++ (more ++ t ∷ [])))
+part_more items head w open' p more t =
+    rows_more items head w open' (spell_part p ++ more) t ∙ ap (λ (y : List Token). in_items items (spell_head head ++ spell_word word.Over w ∷ token.Open open' ∷ y)) (append_assoc (spell_part p) more (t ∷ []))
 
-pub keeps_in_over : (items : List Item) (head : OverHead) (w : Spelling) (open' : ℕ) (r : RowsSoFar) → Keeps (InOver items head w open' r)
-keeps_in_over items head w open' r fs t s' f h e = test (rows_step r t) refl e
+closes_over : (items : List Item) (head : OverHead) (w : Spelling) (open' : ℕ) (p : Option Part) (r : RowsSoFar) (fs : List Frame) (t : Token) (s' : State) → Fits fs → Holds (InOver items head w open' p r) fs → close_over fs items head w open' p r t ≡ Some s' → Read s' ((before fs ++ control_text (InOver items head w open' p r)) ++ t ∷ [])
+closes_over items head w open' p (so_far.WantClose x) fs t s' f h e = by_plain plain.Close t _ s' _ e (go_on (control_text (InOver items head w open' p (so_far.WantClose x))) (WantOverAs items (OverOf head w open' p x)) fs (token.Plain plain.Close) f (h.0, h.1, (h.2, h.3)) (part_more items head w open' p (spell_rows x) (token.Plain plain.Close)))
+closes_over items head w open' p r fs t s' f h e = absurd cc
+
+pub keeps_in_over : (items : List Item) (head : OverHead) (w : Spelling) (open' : ℕ) (p : Option Part) (r : RowsSoFar) → Keeps (InOver items head w open' p r)
+keeps_in_over items head w open' p r fs t s' f h e = test (rows_step r t) refl e
   where
-    test : (o : Option RowsSoFar) → rows_step r t ≡ o → over_goes o fs items head w open' r t ≡ Some s' → Read s' ((before fs ++ control_text (InOver items head w open' r)) ++ t ∷ [])
-    test None d x = closes_over items head w open' r fs t s' f h x
-    test (Some next) d x = by_some _ s' _ x (go_on (control_text (InOver items head w open' r)) (InOver items head w open' next) fs t f (h.0, h.1, h.2, rows_fit head r next t h.3 d)
-        (rows_more items head w open' (rows_text r) t ∙ ap (λ (y : List Token). in_items items (spell_head head ++ spell_word word.Over w ∷ token.Open open' ∷ y)) (rows_said r next t d)))
+    test : (o : Option RowsSoFar) → rows_step r t ≡ o → over_goes o fs items head w open' p r t ≡ Some s' → Read s' ((before fs ++ control_text (InOver items head w open' p r)) ++ t ∷ [])
+    test None d x = closes_over items head w open' p r fs t s' f h x
+    test (Some next) d x = by_some _ s' _ x (go_on (control_text (InOver items head w open' p r)) (InOver items head w open' p next) fs t f (h.0, h.1, h.2, rows_fit head r next t h.3 d)
+        (part_more items head w open' p (rows_text r) t ∙ ap (λ (y : List Token). in_items items (spell_head head ++ spell_word word.Over w ∷ token.Open open' ∷ (spell_part p ++ y))) (rows_said r next t d)))
+
+-- without PARTITION the rows begin at once
+no_part : (items : List Item) (head : OverHead) (w : Spelling) (open' : ℕ) (fs : List Frame) (t : Token) (s' : State) → Fits fs → Holds (WantPart items head w open') fs → in_over fs items head w open' None (rows_first head) t ≡ Some s' → Read s' ((before fs ++ control_text (WantPart items head w open')) ++ t ∷ [])
+no_part items (LagOf v begin arg back) w open' fs t s' f h e = keeps_in_over items (LagOf v begin arg back) w open' None (so_far.WantClose None) fs t s' f (h.0, h.1, h.2, tt) e
+no_part items (Ranged a filter) w open' fs t s' f h e = keeps_in_over items (Ranged a filter) w open' None so_far.WantRows fs t s' f (h.0, h.1, h.2, tt) e
+
+pub keeps_part : (items : List Item) (head : OverHead) (w : Spelling) (open' : ℕ) → Keeps (WantPart items head w open')
+keeps_part items head w open' fs t s' f h e = by_word_or word.Partition t (λ o. part_or_rows o fs items head w open' t) s' _ e
+    (λ p d. by_some _ s' _ d (go_on (control_text (WantPart items head w open')) (WantPartBy items head w open' p) fs (spell_word word.Partition p) f (h.0, (h.1, h.2)) (rows_more items head w open' [] (spell_word word.Partition p))))
+    (λ d. no_part items head w open' fs t s' f h d)
+
+pub keeps_part_by : (items : List Item) (head : OverHead) (w : Spelling) (open' : ℕ) (p : Spelling) → Keeps (WantPartBy items head w open' p)
+keeps_part_by items head w open' p fs t s' f h e = by_by t _ s' _ e (λ n d. by_some _ s' _ d (go_on (control_text (WantPartBy items head w open' p)) (WantKey (OverGroups items head w open' p) n) fs (token.By n) f h refl))
 
 pub keeps_over_as : (items : List Item) (over : Over) → Keeps (WantOverAs items over)
 keeps_over_as items over fs t s' f h e = by_plain plain.As t _ s' _ e (go_on (control_text (WantOverAs items over)) (WantItemName items (UnnamedOver over)) fs (token.Plain plain.As) f h (behind_items items (spell_over over) (token.Plain plain.As)))

@@ -5,15 +5,17 @@ use Rattle.gl_query.specs.declared.tree.Measure.{Measure}
 use Rattle.gl_query.specs.declared.tree.Name.{Name}
 use Rattle.gl_query.specs.declared.tree.Num.{Num}
 use Rattle.gl_query_tokens.specs.declared.token.Plain.TheVariants as plain
+use Rattle.gl_query_tokens.specs.declared.token.Word.TheVariants as word
 use Rattle.gl_query_tokens.specs.declared.token.Token.{Token}
 use Rattle.gl_query_tokens.specs.declared.token.Token.TheVariants as token
+use Rattle.gl_query_reader.specs.declared.over_state.RowsSoFar.TheVariants as so_far
 use Rattle.gl_query_reader.specs.declared.written.Window.{Window}
-use Rattle.gl_query_reader.specs.Written.{Expr, Pick, Query, Stream, InBrackets, Select, Windows, Groups, Join', IsQuery, IsTerm, measure_word, spell_pick, spell_window, spell_if_window, spell_row_window, spell_filter, spell_grouping, spell_query}
-use Rattle.gl_query_reader.specs.States.{measured, row_window, State, Control, Frame, Head, WindowHead, BodyHead, GroupsHead, SelectHead, EachHead, SelectWindow, EachWindow, GroupsWindow, WindowsHead, GroupsHead', SelectGroups, EachGroups, InFilter, JoinOf, InQuery, InSource, InBody, WantTerm, WantItem, WantOperand, WantSource, HaveSource, HaveEachSource, WantSize, WantSizeNumber, WantAdvance, WantAdvanceNumber, WantMeasure, WantWindowClose, WantBy, WantKey, WantGroups, WantGroupsNumber, WantVar, WantIn, WantBody, HaveTerm, WantName, HaveName, WantEnd}
+use Rattle.gl_query_reader.specs.Written.{Expr, LagOf, Ranged, Pick, Query, Stream, InBrackets, Select, Windows, Groups, Join', IsQuery, IsTerm, measure_word, spell_word, spell_head, spell_pick, spell_window, spell_if_window, spell_row_window, spell_filter, spell_grouping, spell_query}
+use Rattle.gl_query_reader.specs.States.{measured, row_window, State, Control, Frame, Head, WindowHead, BodyHead, GroupsHead, SelectHead, EachHead, SelectWindow, EachWindow, GroupsWindow, WindowsHead, GroupsHead', SelectGroups, EachGroups, OverGroups, InFilter, JoinOf, InQuery, InSource, InBody, WantTerm, WantItem, WantOperand, WantSource, HaveSource, HaveEachSource, WantSize, WantSizeNumber, WantAdvance, WantAdvanceNumber, WantMeasure, WantWindowClose, WantBy, WantKey, WantGroups, WantGroupsNumber, InOver, WantVar, WantIn, WantBody, HaveTerm, WantName, HaveName, WantEnd}
 use Rattle.gl_query_reader.specs.Begun.{open_body}
 use Rattle.gl_query_reader.specs.Machine.{have_term, after_query, close_query, end_query, begin_window, step_at}
 use Rattle.gl_query_reader.proofs.ReadQueries.{NoJoin}
-use Rattle.gl_query_reader.proofs.Said.{head_text, body_text, groups_text, in_source, before, control_text, InTerm, Fits, Holds, Read, by_some, by_if, by_plain, by_name, by_number, by_open, by_measure, by_size, by_by, go_on, go_in}
+use Rattle.gl_query_reader.proofs.Said.{items_before, head_text, body_text, groups_text, in_source, before, control_text, InTerm, Fits, Holds, Read, by_some, by_if, by_plain, by_name, by_number, by_open, by_measure, by_size, by_by, go_on, go_in}
 
 -- a control that keeps what was read, whatever token comes
 abbrev pub Keeps : Control → Type 0
@@ -227,6 +229,11 @@ group_select p q w x g more t = simp append_assoc
 group_each : (q more : List Token) (a b c : Token) (t : Token) → ((a ∷ b ∷ c ∷ q) ++ more) ++ t ∷ [] ≡ a ∷ b ∷ c ∷ (q ++ (more ++ t ∷ []))
 group_each q more a b c t = simp append_assoc
 
+group_over : (b h : List Token) (s u v w : Token) (more : List Token) (t : Token) → ((s ∷ (b ++ (h ++ u ∷ v ∷ w ∷ []))) ++ more) ++ t ∷ [] ≡ s ∷ (b ++ (h ++ u ∷ v ∷ w ∷ (more ++ t ∷ [])))
+group_over b h s u v w more t = simp append_assoc
+
 pub keeps_groups_number : (head : GroupsHead) (at : ℕ) (key : Name) → Keeps (WantGroupsNumber head at key)
 keeps_groups_number (SelectGroups pick source window filter) at key fs t s' f h e = by_number t _ s' _ e (λ n d. by_some _ s' _ d (go_on (control_text (WantGroupsNumber (SelectGroups pick source window filter) at key)) (HaveTerm (Select pick source window filter (Some (record { at = at; key = key; groups = n })))) fs (token.Number n) f h (group_select (spell_pick pick) (spell_query source) (spell_if_window window) (spell_filter filter) (token.Plain plain.Group) (token.By at ∷ token.Name key ∷ token.Plain plain.Groups ∷ []) (token.Number n))))
 keeps_groups_number (EachGroups at' var source) at key fs t s' f h e = by_number t _ s' _ e (λ n d. by_some _ s' _ d (go_on (control_text (WantGroupsNumber (EachGroups at' var source) at key)) (WantBody (GroupsHead' at' var source (record { at = at; key = key; groups = n }) None)) fs (token.Number n) f h (group_each (spell_query source) (token.By at ∷ token.Name key ∷ token.Plain plain.Groups ∷ []) (token.Each at') (token.Name var) (token.Plain plain.In) (token.Number n))))
+keeps_groups_number (OverGroups items (LagOf v begin arg back) w open' p) at key fs t s' f h e = by_number t _ s' _ e (λ n d. by_some _ s' _ d (go_on (control_text (WantGroupsNumber (OverGroups items (LagOf v begin arg back) w open' p) at key)) (InOver items (LagOf v begin arg back) w open' (Some (record { word = p; grouping = record { at = at; key = key; groups = n } })) (so_far.WantClose None)) fs (token.Number n) f (h.0, h.1.0, h.1.1, tt) (group_over (items_before items) (spell_head (LagOf v begin arg back)) (token.Plain plain.Select) (spell_word word.Over w) (token.Open open') (spell_word word.Partition p) (token.By at ∷ token.Name key ∷ token.Plain plain.Groups ∷ []) (token.Number n))))
+keeps_groups_number (OverGroups items (Ranged a filter) w open' p) at key fs t s' f h e = by_number t _ s' _ e (λ n d. by_some _ s' _ d (go_on (control_text (WantGroupsNumber (OverGroups items (Ranged a filter) w open' p) at key)) (InOver items (Ranged a filter) w open' (Some (record { word = p; grouping = record { at = at; key = key; groups = n } })) so_far.WantRows) fs (token.Number n) f (h.0, h.1.0, h.1.1, tt) (group_over (items_before items) (spell_head (Ranged a filter)) (token.Plain plain.Select) (spell_word word.Over w) (token.Open open') (spell_word word.Partition p) (token.By at ∷ token.Name key ∷ token.Plain plain.Groups ∷ []) (token.Number n))))

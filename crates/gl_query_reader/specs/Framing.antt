@@ -11,7 +11,7 @@ use Rattle.gl_query_tokens.specs.declared.token.Word.{Word}
 use Rattle.gl_query_tokens.specs.declared.token.Word.TheVariants as word
 use Rattle.gl_query_tokens.specs.declared.token.Token.{Token}
 use Rattle.gl_query_tokens.specs.declared.token.Token.TheVariants as token
-use Rattle.gl_query_tokens.specs.Sorts.{is_plain, is_small, number_in, open_in, word_in}
+use Rattle.gl_query_tokens.specs.Sorts.{by_in, is_plain, is_small, number_in, open_in, word_in}
 use Rattle.gl_query_reader.specs.declared.over_state.Call.{Call}
 use Rattle.gl_query_reader.specs.declared.over_state.Call.TheVariants as call
 use Rattle.gl_query_reader.specs.declared.over_state.RowsSoFar.{RowsSoFar}
@@ -19,10 +19,11 @@ use Rattle.gl_query_reader.specs.declared.over_state.RowsSoFar.TheVariants as so
 use Rattle.gl_query_reader.specs.declared.written.BetweenFront.{BetweenFront}
 use Rattle.gl_query_reader.specs.declared.written.Bound.{Bound}
 use Rattle.gl_query_reader.specs.declared.written.Bound.TheVariants as bound
+use Rattle.gl_query_reader.specs.declared.written.Part.{Part}
 use Rattle.gl_query_reader.specs.declared.written.FrameRows.{FrameRows}
 use Rattle.gl_query_reader.specs.declared.written.FrameRows.TheVariants as rows
 use Rattle.gl_query_reader.specs.Written.{Expr, Agg, Count, Fold', Wsum, OverAgg, CountOf, FoldOf, LastOf, FilterOf, OverHead, LagOf, Ranged, OverOf, Item}
-use Rattle.gl_query_reader.specs.States.{Frame, State, goes, expected, InCall, InCondition, WantOperand, WantItemName, WantCallOpen, WantBack, WantLagClose, WantOver, WantFilterOpen, WantFilterWhere, WantOverOpen, InOver, WantOverAs, UnnamedAgg}
+use Rattle.gl_query_reader.specs.States.{Frame, State, goes, expected, InCall, InCondition, WantOperand, WantItemName, WantCallOpen, WantBack, WantLagClose, WantOver, WantFilterOpen, WantFilterWhere, WantOverOpen, WantPart, WantPartBy, InOver, WantOverAs, UnnamedAgg, OverGroups, WantKey}
 
 -- ---- functions whose names are no keywords
 
@@ -104,7 +105,7 @@ rows_first (LagOf w open' e back) = so_far.WantClose None
 rows_first (Ranged agg filter) = so_far.WantRows
 
 abbrev pub want_over_open : List Frame → List Item → OverHead → Spelling → Token → Option State
-want_over_open fs items head w t = option_and_then (λ n. goes (InOver items head w n (rows_first head)) fs) (open_in t)
+want_over_open fs items head w t = option_and_then (λ n. goes (WantPart items head w n) fs) (open_in t)
 
 abbrev pub number_or_unbounded : Option Num → Token → Option Bound
 number_or_unbounded (Some n) t = Some (bound.Number n)
@@ -147,15 +148,30 @@ abbrev pub whole_rows : RowsSoFar → Option (Option FrameRows)
 whole_rows (so_far.WantClose r) = Some r
 whole_rows s = None
 
-abbrev pub close_over : List Frame → List Item → OverHead → Spelling → ℕ → RowsSoFar → Token → Option State
-close_over fs items head w open' s t =
-    option_and_then (λ r. expected plain.Close (WantOverAs items (OverOf head w open' r)) fs t) (whole_rows s)
-
-abbrev pub over_goes : Option RowsSoFar → List Frame → List Item → OverHead → Spelling → ℕ → RowsSoFar → Token
+abbrev pub close_over : List Frame → List Item → OverHead → Spelling → ℕ → Option Part → RowsSoFar → Token
     → Option State
-over_goes (Some next) fs items head w open' s t = goes (InOver items head w open' next) fs
-over_goes None fs items head w open' s t = close_over fs items head w open' s t
+close_over fs items head w open' p s t =
+    option_and_then (λ r. expected plain.Close (WantOverAs items (OverOf head w open' p r)) fs t) (whole_rows s)
+
+abbrev pub over_goes : Option RowsSoFar → List Frame → List Item → OverHead → Spelling → ℕ → Option Part → RowsSoFar
+    → Token → Option State
+over_goes (Some next) fs items head w open' p s t = goes (InOver items head w open' p next) fs
+over_goes None fs items head w open' p s t = close_over fs items head w open' p s t
 
 -- the rows go on, or their bracket closes
-abbrev pub in_over : List Frame → List Item → OverHead → Spelling → ℕ → RowsSoFar → Token → Option State
-in_over fs items head w open' s t = over_goes (rows_step s t) fs items head w open' s t
+abbrev pub in_over : List Frame → List Item → OverHead → Spelling → ℕ → Option Part → RowsSoFar → Token → Option State
+in_over fs items head w open' p s t = over_goes (rows_step s t) fs items head w open' p s t
+
+-- ---- PARTITION
+
+abbrev pub part_or_rows : Option Spelling → List Frame → List Item → OverHead → Spelling → ℕ → Token → Option State
+part_or_rows (Some p) fs items head w open' t = goes (WantPartBy items head w open' p) fs
+part_or_rows None fs items head w open' t = in_over fs items head w open' None (rows_first head) t
+
+-- PARTITION, or the rows at once
+abbrev pub want_part : List Frame → List Item → OverHead → Spelling → ℕ → Token → Option State
+want_part fs items head w open' t = part_or_rows (word_in word.Partition t) fs items head w open' t
+
+abbrev pub want_part_by : List Frame → List Item → OverHead → Spelling → ℕ → Spelling → Token → Option State
+want_part_by fs items head w open' p t =
+    option_and_then (λ n. goes (WantKey (OverGroups items head w open' p) n) fs) (by_in t)

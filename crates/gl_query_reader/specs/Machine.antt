@@ -16,9 +16,9 @@ use Rattle.gl_query_tokens.specs.Sorts.{is_plain, name_in, number_in, open_in, b
 use Rattle.gl_query_reader.specs.declared.written.Window.{Window}
 use Rattle.gl_query_reader.specs.Written.{Expr, Column, Number, Minus, Letters, Brackets, Cast, Not, Binary, Count, Fold', Wsum, LagOf, Item, Bare, Named, Total, Framed, Pick, All, Items, Query, Stream, InBrackets, Select, Windows, Groups, Join', Statement, looseness, left_looseness}
 use Rattle.gl_query_reader.specs.Begun.{want_body}
-use Rattle.gl_query_reader.specs.Framing.{begin_call, want_call, want_call_open, after_call, want_back, want_over, have_agg, want_filter_open, want_filter_where, after_condition, want_over_open, in_over}
+use Rattle.gl_query_reader.specs.Framing.{begin_call, want_call, want_call_open, after_call, want_back, want_over, have_agg, want_filter_open, want_filter_where, after_condition, want_over_open, in_over, want_part, want_part_by}
 use Rattle.gl_query_reader.specs.Windowed.{want_size, want_size_number, want_advance_number, want_measure, want_by, want_key, want_groups_number}
-use Rattle.gl_query_reader.specs.States.{Head, after_window, SelectHead, EachHead, SelectWindow, EachWindow, BodyHead, WindowsHead, GroupsHead', EachGroups, Unnamed, UnnamedExpr, UnnamedAgg, UnnamedOver, Frame, Control, State, goes, expected, LeftOf, NotOf, BracketOf, InCast, InItem, InFold, InWsum, InCall, InCondition, InFilter, JoinOf, InQuery, InSource, InBody, WantTerm, WantItem, WantOperand, WantMinus, HaveExpr, WantCastOpen, WantKind, WantCastClose, WantCountOpen, WantCountClose, WantFoldOpen, WantWsumOpen, WantWeightsOpen, WantWeight, HaveWeight, WantWsumClose, HaveAgg, WantCallOpen, WantBack, WantLagClose, WantOver, WantFilterOpen, WantFilterWhere, WantOverOpen, InOver, WantOverAs, WantItemName, HaveItem, WantFrom, WantSource, HaveSource, HaveEachSource, WantSize, WantSizeNumber, WantAdvance, WantAdvanceNumber, WantMeasure, WantWindowClose, WantBy, WantKey, WantGroups, WantGroupsNumber, WantVar, WantIn, WantBody, HaveTerm, WantName, HaveName, WantEnd}
+use Rattle.gl_query_reader.specs.States.{Head, after_window, SelectHead, EachHead, SelectWindow, EachWindow, BodyHead, WindowsHead, GroupsHead', EachGroups, Unnamed, UnnamedExpr, UnnamedAgg, UnnamedOver, Frame, Control, State, goes, expected, LeftOf, NotOf, BracketOf, InCast, InItem, InFold, InWsum, InCall, InCondition, InFilter, JoinOf, InQuery, InSource, InBody, WantTerm, WantItem, WantOperand, WantMinus, HaveExpr, WantCastOpen, WantKind, WantCastClose, WantCountOpen, WantCountClose, WantFoldOpen, WantWsumOpen, WantWeightsOpen, WantWeight, HaveWeight, WantWsumClose, HaveAgg, WantCallOpen, WantBack, WantLagClose, WantOver, WantFilterOpen, WantFilterWhere, WantOverOpen, WantPart, WantPartBy, InOver, WantOverAs, WantItemName, HaveItem, WantFrom, WantSource, HaveSource, HaveEachSource, WantSize, WantSizeNumber, WantAdvance, WantAdvanceNumber, WantMeasure, WantWindowClose, WantBy, WantKey, WantGroups, WantGroupsNumber, WantVar, WantIn, WantBody, HaveTerm, WantName, HaveName, WantEnd}
 
 -- ---- expressions
 
@@ -366,7 +366,9 @@ step_at (WantOver items head) fs t = want_over fs items head t
 step_at (WantFilterOpen items agg w) fs t = want_filter_open fs items agg w t
 step_at (WantFilterWhere items agg w open') fs t = want_filter_where fs items agg w open' t
 step_at (WantOverOpen items head w) fs t = want_over_open fs items head w t
-step_at (InOver items head w open' rows) fs t = in_over fs items head w open' rows t
+step_at (WantPart items head w open') fs t = want_part fs items head w open' t
+step_at (WantPartBy items head w open' p) fs t = want_part_by fs items head w open' p t
+step_at (InOver items head w open' p rows) fs t = in_over fs items head w open' p rows t
 step_at (WantOverAs items over) fs t = expected plain.As (WantItemName items (UnnamedOver over)) fs t
 step_at (WantItemName items u) fs t = want_item_name fs items u t
 step_at (HaveItem items) fs t = have_item fs items t

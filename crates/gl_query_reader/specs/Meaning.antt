@@ -1,8 +1,9 @@
 -- What a statement that is written means: a tree of queries, with places.
-use Rattle.std.specs.Prelude.{ℕ, Bool, true, false, List, [], ◌∷◌, codes, Option, Some, None, option_map}
+use Rattle.std.specs.Prelude.{ℕ, Bool, true, false, List, [], ◌∷◌, codes, Option, Some, None, option_map, option_and_then, if◌then◌else◌}
 use Rattle.std.specs.List.{list_any}
 use Rattle.gl_query.specs.declared.tree.Name.{Name}
 use Rattle.gl_query.specs.declared.tree.Num.{Num}
+use Rattle.gl_query.specs.declared.tree.Slots.{Slots}
 use Rattle.gl_query.specs.Trees.{ExprTree, AggTree, ItemTree, AggItemTree, FrameAggTree, FrameTree, FrameItemTree, QueryTree, StatementTree, Column, Number, Minus, Letters, Not, Cast, Binary, Count, Sum, Min, Max, Avg, Wsum, CountOver, SumOver, MinOver, MaxOver, AvgOver, LastOver, Own, Lag, Over, All, Items, Read, Rows, Total, Frames, Each, PerGroup, Partition, Union, Concat}
 use Rattle.gl_query_tokens.specs.declared.token.Fold.{Fold}
 use Rattle.gl_query_tokens.specs.declared.token.Fold.TheVariants as fold
@@ -12,6 +13,7 @@ use Rattle.gl_query_tokens.specs.declared.token.Spelling.{Spelling}
 use Rattle.gl_query_tokens.specs.declared.token.Spelling.TheVariants.{Small, Capital}
 use Rattle.gl_query_reader.specs.declared.written.Bound.{Bound}
 use Rattle.gl_query_reader.specs.declared.written.Bound.TheVariants as bound
+use Rattle.gl_query_reader.specs.declared.written.Part.{Part}
 use Rattle.gl_query_reader.specs.declared.written.FrameRows.{FrameRows}
 use Rattle.gl_query_reader.specs.declared.written.FrameRows.TheVariants as rows
 use Rattle.gl_query_reader.specs.declared.written.RowWindow.{RowWindow}
@@ -96,7 +98,7 @@ frame_meaning (written.Ranged a f) r =
 
 -- the frame that a written function with OVER means
 abbrev pub over_meaning : written.Over → FrameTree
-over_meaning (written.OverOf head w open' r) = frame_meaning head r
+over_meaning (written.OverOf head w open' p r) = frame_meaning head r
 
 -- the items that are no aggregates and have no OVER; a column alone has its own name
 abbrev pub plain_items : List written.Item → List ItemTree
@@ -140,6 +142,31 @@ is_framed (written.Framed o name) = true
 abbrev pub has_over : List written.Item → Bool
 has_over items = list_any is_framed items
 
+-- the first item with OVER
+abbrev pub first_over : List written.Item → Option written.Item
+first_over [] = None
+first_over (i ∷ is) = if is_framed i then Some i else first_over is
+
+-- the PARTITION of a function with OVER
+abbrev pub part_of : written.Over → Option Part
+part_of (written.OverOf head w open' p r) = p
+
+-- the PARTITION of an item with OVER
+abbrev pub part_in : written.Item → Option Part
+part_in (written.Bare name) = None
+part_in (written.Named e name) = None
+part_in (written.Total a name) = None
+part_in (written.Framed o name) = part_of o
+
+-- what PARTITION means: its key, and of how many keys rows are kept
+abbrev pub part_meaning : Option Part → Option Slots
+part_meaning None = None
+part_meaning (Some p) = Some (record { key = p.grouping.key; groups = p.grouping.groups })
+
+-- the PARTITION of a select is that of its first item with OVER
+abbrev pub slots_in : List written.Item → Option Slots
+slots_in items = option_and_then (λ i. part_meaning (part_in i)) (first_over items)
+
 -- the variable of the bodies that a select makes
 abbrev pub it : ℕ → Name
 it at = record { text = codes "it"; at = at }
@@ -151,7 +178,7 @@ filtered (Some e) source = Rows All (Some e) source
 
 -- with one OVER the items of a select are frames, without any they are expressions over a row
 abbrev pub by_over : Bool → List written.Item → Option ExprTree → QueryTree → QueryTree
-by_over true items filter source = Frames (frame_items items) filter source
+by_over true items filter source = Frames (frame_items items) filter (slots_in items) source
 by_over false items filter source = Rows (Items (plain_items items)) filter source
 
 -- a select of aggregates gives one row for its whole source, a select of other items one for each row

@@ -1,9 +1,10 @@
 -- Which items may stand in one select.
-use Rattle.std.specs.Prelude.{ℕ, Bool, true, false, not, List, [], ◌∷◌, Option, Some, None, bytes_eq, nat_le, if◌then◌else◌}
+use Rattle.std.specs.Prelude.{ℕ, Bool, true, false, not, ◌&&◌, List, [], ◌∷◌, Option, Some, None, option_and_then, bytes_eq, nat_eq, nat_le, if◌then◌else◌}
 use Rattle.gl_query.specs.declared.tree.Name.{Name}
 use Rattle.gl_query_reader.specs.declared.written.Grouping.{Grouping}
+use Rattle.gl_query_reader.specs.declared.written.Part.{Part}
 use Rattle.gl_query_reader.specs.Written.{Expr, Column, Number, Minus, Letters, Brackets, Cast, Not, Binary, Agg, Count, Fold', Wsum, OverHead, LagOf, Ranged, Over, OverOf, Item, Bare, Named, Total, Framed, Pick, All, Items, Query, Stream, InBrackets, Select, Windows, Groups, Join'}
-use Rattle.gl_query_reader.specs.Meaning.{is_total, over_agg_at, spelled_at}
+use Rattle.gl_query_reader.specs.Meaning.{first_over, is_total, over_agg_at, part_in, part_of, spelled_at}
 
 -- the place of an expression's first token
 abbrev pub first_at : Expr → ℕ
@@ -29,7 +30,7 @@ head_at (Ranged agg filter) = over_agg_at agg
 
 -- the place of the function of an OVER
 abbrev pub over_at : Over → ℕ
-over_at (OverOf head w open' rows) = head_at head
+over_at (OverOf head w open' part rows) = head_at head
 
 -- the place at which an item begins
 abbrev pub item_at : Item → ℕ
@@ -60,10 +61,41 @@ abbrev pub behind_key : Grouping → List Item → Option ℕ
 behind_key g [] = Some g.at
 behind_key g (i ∷ is) = first_other true (i ∷ is)
 
--- without groups all items are of the first one's sort
+-- two PARTITIONs have one key and one number, or neither is there
+abbrev pub same_part : Option Part → Option Part → Bool
+same_part None None = true
+same_part None (Some q) = false
+same_part (Some p) None = false
+same_part (Some p) (Some q) =
+    bytes_eq p.grouping.key.text q.grouping.key.text && nat_eq p.grouping.groups.value q.grouping.groups.value
+
+-- an item has this PARTITION, or no OVER
+abbrev pub has_part : Option Part → Item → Bool
+has_part part (Bare name) = true
+has_part part (Named e name) = true
+has_part part (Total agg name) = true
+has_part part (Framed over name) = same_part part (part_of over)
+
+-- the first item with OVER and another PARTITION than this
+abbrev pub other_part : Option Part → List Item → Option ℕ
+other_part part [] = None
+other_part part (i ∷ is) = if has_part part i then other_part part is else Some (item_at i)
+
+-- the first item with OVER that has not the PARTITION of the first of them
+abbrev pub mixed_parts : List Item → Option ℕ
+mixed_parts items = option_and_then (λ i. other_part (part_in i) items) (first_over items)
+
+-- the smaller of two places
+abbrev pub least : Option ℕ → Option ℕ → Option ℕ
+least None b = b
+least (Some a) None = Some a
+least (Some a) (Some b) = if nat_le a b then Some a else Some b
+
+-- without groups all items are of the first one's sort, and all with OVER have one PARTITION: the first item in the
+-- text that breaks either
 abbrev pub mixed_plain : List Item → Option ℕ
 mixed_plain [] = None
-mixed_plain (i ∷ is) = first_other (is_total i) is
+mixed_plain (i ∷ is) = least (first_other (is_total i) is) (mixed_parts (i ∷ is))
 
 -- with groups the first item is the key alone
 abbrev pub mixed_groups : List Item → Grouping → Option ℕ
@@ -76,12 +108,6 @@ mixed_pick (All at) None = None
 mixed_pick (All at) (Some g) = Some at
 mixed_pick (Items items) None = mixed_plain items
 mixed_pick (Items items) (Some g) = mixed_groups items g
-
--- the smaller of two places
-abbrev pub least : Option ℕ → Option ℕ → Option ℕ
-least None b = b
-least (Some a) None = Some a
-least (Some a) (Some b) = if nat_le a b then Some a else Some b
 
 -- the first such item in the text
 abbrev pub mixed_in : Query → Option ℕ

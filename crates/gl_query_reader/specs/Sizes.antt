@@ -40,7 +40,7 @@ head_depth (Ranged agg filter) = max (over_agg_depth agg) (filtering_depth filte
 
 -- how many brackets are open at once in a function with OVER: what stands before OVER has one at least, as OVER has
 abbrev pub over_depth : Over → ℕ
-over_depth (OverOf head word open' rows) = max (head_depth head) 1
+over_depth (OverOf head word open' part rows) = max (head_depth head) 1
 
 -- how many brackets are open at once in an item
 abbrev pub item_depth : Item → ℕ
@@ -122,7 +122,7 @@ HeadIsShort (Ranged agg filter) = OverAggIsShort agg × FilteringIsShort filter
 
 -- each whole expression of a function with OVER is short
 abbrev pub OverIsShort : Over → Type 0
-OverIsShort (OverOf head word open' rows) = HeadIsShort head
+OverIsShort (OverOf head word open' part rows) = HeadIsShort head
 
 -- the expression of an item is short
 abbrev pub ItemIsShort : Item → Type 0

@@ -17,6 +17,7 @@ use Rattle.gl_query_tokens.specs.Sorts.{is_plain}
 use Rattle.gl_query_reader.specs.declared.written.RowWindow.{RowWindow}
 use Rattle.gl_query_reader.specs.declared.written.Window.{Window}
 use Rattle.gl_query_reader.specs.declared.written.Grouping.{Grouping}
+use Rattle.gl_query_reader.specs.declared.written.Part.{Part}
 use Rattle.gl_query_reader.specs.declared.over_state.Call.{Call}
 use Rattle.gl_query_reader.specs.declared.over_state.RowsSoFar.{RowsSoFar}
 use Rattle.gl_query_reader.specs.Written.{Expr, Agg, OverAgg, OverHead, Over, Item, Pick, Query}
@@ -37,10 +38,11 @@ pub data BodyHead : Type 0 where
   WindowsHead : (at : ℕ) (var : Name) (source : Query) (window : Window) → BodyHead
   GroupsHead' : (at : ℕ) (var : Name) (source : Query) (grouping : Grouping) (window : Option RowWindow) → BodyHead
 
--- what stands before BY
+-- what stands before BY: a select with GROUP, an EACH, or a function with OVER and PARTITION
 pub data GroupsHead : Type 0 where
   SelectGroups : (pick : Pick) (source : Query) (window : Option Window) (filter : Option Expr) → GroupsHead
   EachGroups : (at : ℕ) (var : Name) (source : Query) → GroupsHead
+  OverGroups : (items : List Item) (head : OverHead) (word : Spelling) (open' : ℕ) (part : Spelling) → GroupsHead
 
 -- an expression, an aggregate or a function with OVER that waits for its name
 pub data Unnamed : Type 0 where
@@ -91,7 +93,10 @@ pub data Control : Type 0 where
   WantFilterOpen : (items : List Item) (agg : OverAgg) (word : Spelling) → Control
   WantFilterWhere : (items : List Item) (agg : OverAgg) (word : Spelling) (open' : ℕ) → Control
   WantOverOpen : (items : List Item) (head : OverHead) (word : Spelling) → Control
-  InOver : (items : List Item) (head : OverHead) (word : Spelling) (open' : ℕ) (rows : RowsSoFar) → Control
+  WantPart : (items : List Item) (head : OverHead) (word : Spelling) (open' : ℕ) → Control
+  WantPartBy : (items : List Item) (head : OverHead) (word : Spelling) (open' : ℕ) (part : Spelling) → Control
+  InOver : (items : List Item) (head : OverHead) (word : Spelling) (open' : ℕ) (part : Option Part) (rows : RowsSoFar)
+      → Control
   WantOverAs : (items : List Item) (over : Over) → Control
   WantItemName : (items : List Item) (unnamed : Unnamed) → Control
   HaveItem : (items : List Item) → Control

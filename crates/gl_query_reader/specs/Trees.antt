@@ -89,7 +89,7 @@ written_head_of (written_head.Ranged a filter) = Ranged (over_agg_of a) (option_
 
 -- the function with OVER that the reader's tree of it stands for
 abbrev pub written_over_of : WrittenOver → Over
-written_over_of o = OverOf (written_head_of o.head) o.word o.open o.rows
+written_over_of o = OverOf (written_head_of o.head) o.word o.open o.part o.rows
 
 -- the item that the reader's tree of it stands for
 abbrev pub item_of : WrittenItem → Item
@@ -170,6 +170,8 @@ abbrev pub groups_head_of : GroupsHead → states.GroupsHead
 groups_head_of (groups_head.Select from filter) =
     states.SelectGroups (pick_of from.pick) (query_of from.source) from.window (filter_of filter)
 groups_head_of (groups_head.Each at var source) = states.EachGroups at var (query_of source)
+groups_head_of (groups_head.Over h) =
+    states.OverGroups (items_of h.over.items) (written_head_of h.over.head) h.over.word h.open h.word
 
 -- what waits for its name, from the reader's value
 abbrev pub unnamed_of : Unnamed → states.Unnamed
@@ -237,8 +239,12 @@ over_control_of (over_control.WantFilterOpen h) = states.WantFilterOpen (items_o
 over_control_of (over_control.WantFilterWhere h open') =
     states.WantFilterWhere (items_of h.items) (over_agg_of h.agg) h.word open'
 over_control_of (over_control.WantOverOpen h) = states.WantOverOpen (items_of h.items) (written_head_of h.head) h.word
-over_control_of (over_control.InOver h open' rows) =
-    states.InOver (items_of h.items) (written_head_of h.head) h.word open' rows
+over_control_of (over_control.WantPart h open') =
+    states.WantPart (items_of h.items) (written_head_of h.head) h.word open'
+over_control_of (over_control.WantPartBy h) =
+    states.WantPartBy (items_of h.over.items) (written_head_of h.over.head) h.over.word h.open h.word
+over_control_of (over_control.InOver h open' part rows) =
+    states.InOver (items_of h.items) (written_head_of h.head) h.word open' part rows
 over_control_of (over_control.WantOverAs items o) = states.WantOverAs (items_of items) (written_over_of o)
 
 -- what was read last before or behind a source, from the reader's value

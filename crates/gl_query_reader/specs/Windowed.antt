@@ -8,7 +8,8 @@ use Rattle.gl_query_tokens.specs.Sorts.{name_in, number_in, size_in, by_in}
 use Rattle.gl_query_reader.specs.declared.written.Window.{Window}
 use Rattle.gl_query_reader.specs.declared.written.Grouping.{Grouping}
 use Rattle.gl_query_reader.specs.Written.{Expr, Pick, Query, Select}
-use Rattle.gl_query_reader.specs.States.{measure_for, measured, WindowHead, GroupsHead', GroupsHead, SelectGroups, EachGroups, Frame, Control, State, goes, WantSizeNumber, WantAdvance, WantMeasure, WantWindowClose, WantKey, WantGroups, WantBody, HaveTerm}
+use Rattle.gl_query_reader.specs.Framing.{rows_first}
+use Rattle.gl_query_reader.specs.States.{measure_for, measured, WindowHead, GroupsHead', GroupsHead, SelectGroups, EachGroups, OverGroups, InOver, Frame, Control, State, goes, WantSizeNumber, WantAdvance, WantMeasure, WantWindowClose, WantKey, WantGroups, WantBody, HaveTerm}
 
 abbrev pub want_size : List Frame → WindowHead → Query → Token → Option State
 want_size fs head source t = option_and_then (λ n. goes (WantSizeNumber head source n) fs) (size_in t)
@@ -34,6 +35,8 @@ want_key fs head at t = option_and_then (λ key. goes (WantGroups head at key) f
 abbrev pub after_groups : GroupsHead → Grouping → Control
 after_groups (SelectGroups pick source window filter) g = HaveTerm (Select pick source window filter (Some g))
 after_groups (EachGroups at var source) g = WantBody (GroupsHead' at var source g None)
+after_groups (OverGroups items head w open' p) g =
+    InOver items head w open' (Some (record { word = p; grouping = g })) (rows_first head)
 
 abbrev pub want_groups_number : List Frame → GroupsHead → ℕ → Name → Token → Option State
 want_groups_number fs head at key t =

@@ -24,6 +24,7 @@ use Rattle.gl_query_reader.specs.declared.written.Window.{Window}
 use Rattle.gl_query_reader.specs.declared.written.Grouping.{Grouping}
 use Rattle.gl_query_reader.specs.declared.written.Bound.{Bound}
 use Rattle.gl_query_reader.specs.declared.written.Bound.TheVariants as bound
+use Rattle.gl_query_reader.specs.declared.written.Part.{Part}
 use Rattle.gl_query_reader.specs.declared.written.FrameRows.{FrameRows}
 use Rattle.gl_query_reader.specs.declared.written.FrameRows.TheVariants as rows
 
@@ -59,9 +60,9 @@ pub data OverHead : Type 0 where
   LagOf : (word : Spelling) (open' : ℕ) (e : Expr) (back : Option Num) → OverHead
   Ranged : (agg : OverAgg) (filter : Option Filtering) → OverHead
 
--- a function with OVER, and the rows in the bracket behind it
+-- a function with OVER, and PARTITION and the rows in the bracket behind it
 pub data Over : Type 0 where
-  OverOf : (head : OverHead) (word : Spelling) (open' : ℕ) (rows : Option FrameRows) → Over
+  OverOf : (head : OverHead) (word : Spelling) (open' : ℕ) (part : Option Part) (rows : Option FrameRows) → Over
 
 -- an item: a column under its own name, an expression, an aggregate or a function with OVER under a name
 pub data Item : Type 0 where
@@ -176,7 +177,7 @@ FitsRows (Ranged agg filter) (Some r) = Unit {0}
 
 -- a function with OVER is written by the grammar
 abbrev pub IsOver : Over → Type 0
-IsOver (OverOf head word open' rows) = IsOverHead head × FitsRows head rows
+IsOver (OverOf head word open' part rows) = IsOverHead head × FitsRows head rows
 
 -- an item is written by the grammar where its expression, its aggregate or its function is
 abbrev pub IsItem : Item → Type 0
@@ -302,10 +303,20 @@ spell_rows (Some (rows.Between f at c o)) =
     ∷ spell_word word.Preceding f.preceding ∷ token.Operator op.And at ∷ spell_word word.Current c
     ∷ spell_word word.Row o ∷ []
 
--- `head OVER ( rows )`
+-- `BY name GROUPS n`
+abbrev pub spell_grouping : Grouping → List Token
+spell_grouping g = token.By g.at ∷ token.Name g.key ∷ token.Plain plain.Groups ∷ token.Number g.groups ∷ []
+
+-- `PARTITION BY name GROUPS n`, or none
+abbrev pub spell_part : Option Part → List Token
+spell_part None = []
+spell_part (Some p) = spell_word word.Partition p.word ∷ spell_grouping p.grouping
+
+-- `head OVER ( part rows )`
 abbrev pub spell_over : Over → List Token
-spell_over (OverOf head w open' rows) =
-    spell_head head ++ spell_word word.Over w ∷ token.Open open' ∷ (spell_rows rows ++ token.Plain plain.Close ∷ [])
+spell_over (OverOf head w open' part rows) =
+    spell_head head ++ spell_word word.Over w ∷ token.Open open'
+    ∷ (spell_part part ++ (spell_rows rows ++ token.Plain plain.Close ∷ []))
 
 -- the tokens of an item: a column alone, or an expression, an aggregate or a function with OVER, with AS and a name
 abbrev pub spell_item : Item → List Token
@@ -351,10 +362,6 @@ spell_if_window (Some w) = spell_window w
 abbrev pub spell_filter : Option Expr → List Token
 spell_filter None = []
 spell_filter (Some e) = token.Plain plain.Where ∷ spell e
-
--- `BY name GROUPS n`
-abbrev pub spell_grouping : Grouping → List Token
-spell_grouping g = token.By g.at ∷ token.Name g.key ∷ token.Plain plain.Groups ∷ token.Number g.groups ∷ []
 
 -- GROUP and the tokens of what is grouped by, or none
 abbrev pub spell_if_grouping : Option Grouping → List Token

@@ -1,6 +1,6 @@
 //! What is open of the text that was read so far.
 
-use crate::over_state::{Call, FilterHead};
+use crate::over_state::{Call, FilterHead, PartHead};
 use crate::written::{
     Grouping, Over, Window, WrittenAgg, WrittenExpr, WrittenItems, WrittenOver, WrittenPick,
     WrittenQuery,
@@ -92,6 +92,8 @@ pub enum GroupsHead {
         /// What stands behind IN.
         source: WrittenQuery,
     },
+    /// A function with OVER and PARTITION.
+    Over(PartHead),
 }
 
 /// A CAST with its expression.

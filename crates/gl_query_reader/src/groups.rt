@@ -8,10 +8,12 @@ ghost use Rattle.gl_query_reader.specs.Trees.{pick_of, query_of, filter_of, grou
 
 use crate::frames::{BodyHead, GroupsHead, SelectFrom};
 use crate::keeping::Beside;
+use crate::over_state::{OverControl, PartHead};
+use crate::over_steps::rows_first;
 use crate::parts::{expect, keep_named, refuse};
 use crate::state::{Control, GroupsControl, QueryControl};
 use crate::terms::selected;
-use crate::written::{Grouping, Over, WrittenExpr};
+use crate::written::{Grouping, Over, Part, WrittenExpr};
 use gl_query::Name;
 use gl_query_tokens::sorts::{by_in, number_in};
 use gl_query_tokens::{Plain, Token};
@@ -75,6 +77,17 @@ fn after_groups(
                 over: Over::Groups(grouping, None),
             };
             Ok(Some(Control::Query(QueryControl::WantBody { head })))
+        }
+        GroupsHead::Over(head) => {
+            let PartHead { over, open, word } = head;
+            let rows = rows_first(&over.head);
+            let part = Some(Part { word, grouping });
+            Ok(Some(Control::Over(OverControl::InOver {
+                head: over,
+                open,
+                part,
+                rows,
+            })))
         }
     }
 }

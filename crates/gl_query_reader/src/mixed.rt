@@ -1,12 +1,12 @@
 //! Which items may stand in one select.
 
-ghost use Rattle.std.specs.Prelude.{◌≡◌};
+ghost use Rattle.std.specs.Prelude.{◌≡◌, None, Some, MatchOption};
 ghost use Rattle.gl_query_reader.specs.Meaning as meaning;
 ghost use Rattle.gl_query_reader.specs.Mixed as mixed;
 ghost use Rattle.gl_query_reader.specs.Trees.{expr_of, agg_of, over_agg_of, written_over_of, item_of, items_of, pick_of, query_of};
 
 use crate::written::{
-    Grouping, WrittenAgg, WrittenExpr, WrittenHead, WrittenItem, WrittenOver, WrittenOverAgg,
+    Grouping, Part, WrittenAgg, WrittenExpr, WrittenHead, WrittenItem, WrittenOver, WrittenOverAgg,
     WrittenPick, WrittenQuery,
 };
 use gl_query::Name;
@@ -115,6 +115,20 @@ pub fn has_over(items: &[WrittenItem]) -> bool
     false
 }
 
+/// The first item with OVER.
+#[tactic(auto, using(crate::proofs::ItemLists::item_steps))]
+pub fn first_over(items: &[WrittenItem]) -> Option<&WrittenItem>
+    ensures { let first = meaning.first_over (items_of items.now) in
+        MatchOption result (first ≡ None) (λ i. first ≡ Some (item_of i.now)) }
+{
+    for item in items {
+        if is_framed(item) {
+            return Some(item);
+        }
+    }
+    None
+}
+
 // Whether the item is of this sort.
 fn is_of(sort: bool, item: &WrittenItem) -> bool
     ensures { result ≡ mixed.same sort (meaning.is_total (item_of item.now)) }
@@ -161,13 +175,73 @@ fn behind_key(grouping: &Grouping, items: &[WrittenItem]) -> Option<u64>
     }
 }
 
-// Without groups all items are of the first one's sort.
+fn same_part(a: &Option<Part>, b: &Option<Part>) -> bool
+    ensures { result ≡ mixed.same_part a.now b.now }
+{
+    match (a, b) {
+        (None, None) => true,
+        (Some(p), Some(q)) => {
+            p.grouping.key.text.as_slice() == q.grouping.key.text.as_slice()
+                && p.grouping.groups.value == q.grouping.groups.value
+        }
+        (None, Some(_)) | (Some(_), None) => false,
+    }
+}
+
+// The PARTITION is that of an item.
+fn is_part_of(first: &WrittenItem, part: &Option<Part>) -> bool
+    ensures { result ≡ mixed.same_part (meaning.part_in (item_of first.now)) part.now }
+{
+    match first {
+        WrittenItem::Framed { over, .. } => same_part(&over.part, part),
+        _ => match part {
+            None => true,
+            Some(_) => false,
+        },
+    }
+}
+
+// The item has the PARTITION of another one, or no OVER.
+fn has_part(first: &WrittenItem, item: &WrittenItem) -> bool
+    ensures { result ≡ mixed.has_part (meaning.part_in (item_of first.now)) (item_of item.now) }
+{
+    match item {
+        WrittenItem::Framed { over, .. } => is_part_of(first, &over.part),
+        _ => true,
+    }
+}
+
+// The first item with OVER and another PARTITION than this one.
+#[tactic(auto, using(crate::proofs::ItemLists::item_steps))]
+fn other_part(first: &WrittenItem, items: &[WrittenItem]) -> Option<u64>
+    ensures { let part = meaning.part_in (item_of first.now) in
+        result ≡ mixed.other_part part (items_of items.now) }
+{
+    for item in items {
+        if !has_part(first, item) {
+            return Some(item_at(item));
+        }
+    }
+    None
+}
+
+// The first item with OVER that has not the PARTITION of the first of them.
+fn mixed_parts(items: &[WrittenItem]) -> Option<u64>
+    ensures { result ≡ mixed.mixed_parts (items_of items.now) }
+{
+    match first_over(items) {
+        Some(first) => other_part(first, items),
+        None => None,
+    }
+}
+
+// Without groups all items are of the first one's sort, and all with OVER have one PARTITION.
 fn mixed_plain(items: &[WrittenItem]) -> Option<u64>
     ensures { result ≡ mixed.mixed_plain (items_of items.now) }
 {
     match items {
         [] => None,
-        [first, rest @ ..] => first_other(is_total(first), rest),
+        [first, rest @ ..] => least(first_other(is_total(first), rest), mixed_parts(items)),
     }
 }
 

@@ -8,13 +8,13 @@ ghost use Rattle.gl_query_reader.specs.Trees.{expr_of, filtering_of, over_agg_of
 
 use crate::item_meaning::expr_meaning;
 use crate::keeping::{Beside, Both, keep_beside, put, take_both};
-use crate::mixed::{over_agg_at, spelled_at};
+use crate::mixed::{first_over, over_agg_at, spelled_at};
 use crate::parts::cloned;
 use crate::written::{
-    Bound, FrameRows, WrittenExpr, WrittenFilter, WrittenHead, WrittenItem, WrittenItems,
+    Bound, FrameRows, Part, WrittenExpr, WrittenFilter, WrittenHead, WrittenItem, WrittenItems,
     WrittenOver, WrittenOverAgg,
 };
-use gl_query::{Expr, Frame, FrameAgg, FrameItem, FrameItems, Num};
+use gl_query::{Expr, Frame, FrameAgg, FrameItem, FrameItems, Num, Slots};
 use gl_query_tokens::{Fold, Spelling};
 use std::alloc::{AllocError, Global};
 
@@ -146,8 +146,10 @@ fn over_meaning(alloc: Global, over: WrittenOver) -> Result<Frame, AllocError>
         head,
         word: _,
         open: _,
+        part,
         rows,
     } = over;
+    drop(part);
     match head {
         WrittenHead::Lag {
             word,
@@ -156,6 +158,42 @@ fn over_meaning(alloc: Global, over: WrittenOver) -> Result<Frame, AllocError>
             back,
         } => lag_meaning(alloc, word, arg, back),
         WrittenHead::Ranged { agg, filter } => ranged_meaning(alloc, agg, filter, rows),
+    }
+}
+
+// What PARTITION means, where there is one.
+fn part_meaning(alloc: Global, part: &Option<Part>) -> Result<Option<Slots>, AllocError>
+    ensures { IfOk result (λ o. o ≡ meaning.part_meaning part.now) }
+{
+    match part {
+        None => Ok(None),
+        Some(part) => {
+            let key = cloned(alloc, &part.grouping.key)?;
+            let groups = part.grouping.groups;
+            Ok(Some(Slots { key, groups }))
+        }
+    }
+}
+
+// What the PARTITION of an item means, where it has one.
+fn item_slots(alloc: Global, item: &WrittenItem) -> Result<Option<Slots>, AllocError>
+    ensures { IfOk result (λ o. o ≡ meaning.part_meaning (meaning.part_in (item_of item.now))) }
+{
+    match item {
+        WrittenItem::Framed { over, .. } => part_meaning(alloc, &over.part),
+        WrittenItem::Bare(_) => Ok(None),
+        WrittenItem::Named { .. } => Ok(None),
+        WrittenItem::Total { .. } => Ok(None),
+    }
+}
+
+/// What the PARTITION of the first item with OVER means.
+pub fn slots_in(alloc: Global, items: &[WrittenItem]) -> Result<Option<Slots>, AllocError>
+    ensures { IfOk result (λ o. o ≡ meaning.slots_in (items_of items.now)) }
+{
+    match first_over(items) {
+        Some(item) => item_slots(alloc, item),
+        None => Ok(None),
     }
 }
 

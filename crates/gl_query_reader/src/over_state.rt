@@ -1,7 +1,7 @@
 //! Where the reader stands in a function with OVER.
 
 use crate::written::{
-    BetweenFront, Bound, FrameRows, WrittenExpr, WrittenHead, WrittenItems, WrittenOver,
+    BetweenFront, Bound, FrameRows, Part, WrittenExpr, WrittenHead, WrittenItems, WrittenOver,
     WrittenOverAgg,
 };
 use gl_query::Num;
@@ -112,6 +112,17 @@ pub struct OverHead {
     pub word: Spelling,
 }
 
+/// What stands before the BY of a PARTITION.
+#[derive(Drop)]
+pub struct PartHead {
+    /// What stands before the bracket behind OVER.
+    pub over: OverHead,
+    /// The place of that bracket.
+    pub open: u64,
+    /// How PARTITION is spelled.
+    pub word: Spelling,
+}
+
 /// A place in a function with OVER, and what may follow there.
 #[derive(Drop)]
 pub enum OverControl {
@@ -151,12 +162,23 @@ pub enum OverControl {
     },
     /// `(` behind OVER.
     WantOverOpen(OverHead),
-    /// In the bracket behind OVER.
+    /// PARTITION, or what stands behind it, in the bracket behind OVER.
+    WantPart {
+        /// What stands before the bracket.
+        head: OverHead,
+        /// The place of the bracket.
+        open: u64,
+    },
+    /// BY behind PARTITION.
+    WantPartBy(PartHead),
+    /// In the bracket behind OVER, behind PARTITION where there is one.
     InOver {
         /// What stands before the bracket.
         head: OverHead,
         /// The place of the bracket.
         open: u64,
+        /// PARTITION, where there is one.
+        part: Option<Part>,
         /// How far the rows were read.
         rows: RowsSoFar,
     },

@@ -9,15 +9,16 @@ ghost use Rattle.gl_query_reader.specs.Machine as machine;
 ghost use Rattle.gl_query_reader.specs.Trees.{agg_of, expr_of, items_of, over_agg_of, written_head_of, over_control_of, frames_of, leads};
 
 use crate::call_steps::{close_lag, want_back, want_call_open};
-use crate::frames::{Frame, Unnamed};
-use crate::over_state::{FilterHead, OverControl, OverHead, RowsSoFar};
+use crate::frames::{Frame, GroupsHead, Unnamed};
+use crate::over_state::{FilterHead, OverControl, OverHead, PartHead, RowsSoFar};
 use crate::parts::{expect, operand_in, refuse};
 use crate::row_steps::{rows_step, whole_rows};
-use crate::state::{Control, ItemControl};
+use crate::state::{Control, GroupsControl, ItemControl};
 use crate::written::{
-    WrittenAgg, WrittenExpr, WrittenFilter, WrittenHead, WrittenItems, WrittenOver, WrittenOverAgg,
+    Part, WrittenAgg, WrittenExpr, WrittenFilter, WrittenHead, WrittenItems, WrittenOver,
+    WrittenOverAgg,
 };
-use gl_query_tokens::sorts::{is_plain, open_in, word_in};
+use gl_query_tokens::sorts::{by_in, is_plain, open_in, word_in};
 use gl_query_tokens::{Plain, Token, Word};
 use std::alloc::AllocError;
 
@@ -168,8 +169,8 @@ pub fn after_condition(
     )
 }
 
-// Where the rows behind OVER begin to be read.
-fn rows_first(head: &WrittenHead) -> RowsSoFar
+/// Where the rows behind OVER begin to be read.
+pub fn rows_first(head: &WrittenHead) -> RowsSoFar
     ensures { result ≡ framing.rows_first (written_head_of head.now) }
 {
     match head {
@@ -184,18 +185,21 @@ fn want_over_open(head: OverHead, token: &Token) -> Option<Control>
         (items_of head.items) (written_head_of head.head) head.word token.now }
 {
     match open_in(token) {
-        Some(open) => {
-            let rows = rows_first(&head.head);
-            Some(Control::Over(OverControl::InOver { head, open, rows }))
-        }
+        Some(open) => Some(Control::Over(OverControl::WantPart { head, open })),
         None => refuse(head),
     }
 }
 
 // `)` behind the rows.
-fn close_over(head: OverHead, open: u64, rows: RowsSoFar, token: &Token) -> Option<Control>
+fn close_over(
+    head: OverHead,
+    open: u64,
+    part: Option<Part>,
+    rows: RowsSoFar,
+    token: &Token,
+) -> Option<Control>
     ensures { (fs : List states.Frame) → leads result fs ≡ framing.close_over fs
-        (items_of head.items) (written_head_of head.head) head.word «open» rows token.now }
+        (items_of head.items) (written_head_of head.head) head.word «open» part rows token.now }
 {
     match whole_rows(rows) {
         Some(rows) => {
@@ -204,23 +208,71 @@ fn close_over(head: OverHead, open: u64, rows: RowsSoFar, token: &Token) -> Opti
                 head,
                 word,
                 open,
+                part,
                 rows,
             };
             let next = Control::Over(OverControl::WantOverAs { items, over });
             expect(token, Plain::Close, next)
         }
-        None => refuse(head),
+        None => refuse((head, part)),
     }
 }
 
-// In the bracket behind OVER.
-fn in_over(head: OverHead, open: u64, rows: RowsSoFar, token: &Token) -> Option<Control>
+// In the bracket behind OVER, behind PARTITION.
+fn in_over(
+    head: OverHead,
+    open: u64,
+    part: Option<Part>,
+    rows: RowsSoFar,
+    token: &Token,
+) -> Option<Control>
     ensures { (fs : List states.Frame) → leads result fs ≡ framing.in_over fs
-        (items_of head.items) (written_head_of head.head) head.word «open» rows token.now }
+        (items_of head.items) (written_head_of head.head) head.word «open» part rows token.now }
 {
     match rows_step(rows, token) {
-        Some(rows) => Some(Control::Over(OverControl::InOver { head, open, rows })),
-        None => close_over(head, open, rows, token),
+        Some(rows) => Some(Control::Over(OverControl::InOver {
+            head,
+            open,
+            part,
+            rows,
+        })),
+        None => close_over(head, open, part, rows, token),
+    }
+}
+
+// PARTITION, or what stands behind it.
+fn want_part(head: OverHead, open: u64, token: &Token) -> Option<Control>
+    ensures { (fs : List states.Frame) → leads result fs ≡ framing.want_part fs
+        (items_of head.items) (written_head_of head.head) head.word «open» token.now }
+{
+    match word_in(token, Word::Partition) {
+        Some(word) => {
+            let head = PartHead {
+                over: head,
+                open,
+                word,
+            };
+            Some(Control::Over(OverControl::WantPartBy(head)))
+        }
+        None => {
+            let rows = rows_first(&head.head);
+            in_over(head, open, None, rows, token)
+        }
+    }
+}
+
+// BY behind PARTITION.
+fn want_part_by(head: PartHead, token: &Token) -> Option<Control>
+    ensures { (fs : List states.Frame) → leads result fs ≡ framing.want_part_by fs
+        (items_of head.over.items) (written_head_of head.over.head) head.over.word head.open
+        head.word token.now }
+{
+    match by_in(token) {
+        Some(at) => {
+            let head = GroupsHead::Over(head);
+            Some(Control::Groups(GroupsControl::WantKey { head, at }))
+        }
+        None => refuse(head),
     }
 }
 
@@ -245,7 +297,14 @@ pub fn step_over(
             want_filter_where(frames, head, open, token)
         }
         OverControl::WantOverOpen(head) => Ok(want_over_open(head, token)),
-        OverControl::InOver { head, open, rows } => Ok(in_over(head, open, rows, token)),
+        OverControl::WantPart { head, open } => Ok(want_part(head, open, token)),
+        OverControl::WantPartBy(head) => Ok(want_part_by(head, token)),
+        OverControl::InOver {
+            head,
+            open,
+            part,
+            rows,
+        } => Ok(in_over(head, open, part, rows, token)),
         OverControl::WantOverAs { items, over } => {
             let unnamed = Unnamed::Over(over);
             let next = Control::Item(ItemControl::WantItemName { items, unnamed });

@@ -6,9 +6,9 @@ ghost use Rattle.gl_query.specs.Trees.{filter_tree, query_tree, All, Each, Frame
 ghost use Rattle.gl_query_reader.specs.Trees.{items_of, pick_of, filter_of};
 
 use crate::item_meaning::{agg_items, expr_meaning, plain_items};
-use crate::keeping::{Beside, keep_beside, take_both};
+use crate::keeping::{Beside, Both, keep_beside, take_both};
 use crate::mixed::{has_over, is_total};
-use crate::over_meaning::frame_items;
+use crate::over_meaning::{frame_items, slots_in};
 use crate::written::{
     Grouping, Window, WrittenExpr, WrittenItem, WrittenItems, WrittenPick, WrittenSelect,
 };
@@ -115,19 +115,26 @@ fn framed_rows(
 ) -> Result<Query, AllocError>
     ensures { IfOk result (λ q. query_tree q
         ≡ Frames (meaning.frame_items (items_of items)) (filter_tree filter)
-        (query_tree source)) }
+        (meaning.slots_in (items_of items)) (query_tree source)) }
 {
     let OneBox {
         kept: (items, filter),
         boxed: source,
     } = one_box(alloc, (items, filter), source)?;
+    let slots = slots_in(alloc, items.as_slice());
+    let items = frame_items(alloc, items);
     let Beside {
         kept: (filter, source),
-        made: items,
-    } = keep_beside((filter, source), frame_items(alloc, items))?;
+        made,
+    } = keep_beside((filter, source), take_both(items, slots))?;
+    let Both {
+        first: items,
+        second: slots,
+    } = made;
     Ok(Query::Frames {
         items,
         filter,
+        slots,
         source,
     })
 }

@@ -179,6 +179,8 @@ pub struct WrittenOver {
     pub word: Spelling,
     /// The place of the bracket behind OVER.
     pub open: u64,
+    /// PARTITION in that bracket, where there is one.
+    pub part: Option<Part>,
     /// The rows in that bracket, where there are some.
     pub rows: Option<FrameRows>,
 }
@@ -285,6 +287,15 @@ pub struct Grouping {
     pub key: Name,
     /// The number behind GROUPS.
     pub groups: Num,
+}
+
+/// `PARTITION BY name GROUPS number`
+#[derive(Drop)]
+pub struct Part {
+    /// How PARTITION is spelled.
+    pub word: Spelling,
+    /// BY, the name behind it, and the number of groups.
+    pub grouping: Grouping,
 }
 
 /// A select without its source.

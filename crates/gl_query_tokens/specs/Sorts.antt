@@ -67,6 +67,7 @@ by_in t = None
 unfoldable pub word_eq : Word → Word → Bool
 word_eq word.Over word.Over = true
 word_eq word.Filter word.Filter = true
+word_eq word.Partition word.Partition = true
 word_eq word.Rows word.Rows = true
 word_eq word.Preceding word.Preceding = true
 word_eq word.Unbounded word.Unbounded = true

@@ -64,6 +64,7 @@ keyword_of w at = or_else (clause_of w at) (or_else (window_of w at) (operator_o
 abbrev pub frame_word_of : List ℕ → ℕ → Option Token
 frame_word_of w at = if is_keyword w (codes "over") then Some (token.Word word.Over at) else
     if is_keyword w (codes "filter") then Some (token.Word word.Filter at) else
+    if is_keyword w (codes "partition") then Some (token.Word word.Partition at) else
     if is_keyword w (codes "rows") then Some (token.Word word.Rows at) else
     if is_keyword w (codes "preceding") then Some (token.Word word.Preceding at) else
     if is_keyword w (codes "unbounded") then Some (token.Word word.Unbounded at) else
@@ -77,6 +78,7 @@ frame_word_of w at = if is_keyword w (codes "over") then Some (token.Word word.O
 unfoldable pub word_text : Word → List ℕ
 word_text word.Over = codes "over"
 word_text word.Filter = codes "filter"
+word_text word.Partition = codes "partition"
 word_text word.Rows = codes "rows"
 word_text word.Preceding = codes "preceding"
 word_text word.Unbounded = codes "unbounded"

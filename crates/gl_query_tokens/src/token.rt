@@ -68,6 +68,8 @@ pub enum Word {
     Over,
     /// FILTER
     Filter,
+    /// PARTITION
+    Partition,
     /// ROWS
     Rows,
     /// PRECEDING

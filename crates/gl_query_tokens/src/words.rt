@@ -161,6 +161,9 @@ fn frame_word_of(word: &[u8], at: u64) -> Option<Token>
     if is_keyword(word, b"filter") {
         return framed(Word::Filter, at);
     }
+    if is_keyword(word, b"partition") {
+        return framed(Word::Partition, at);
+    }
     if is_keyword(word, b"rows") {
         return framed(Word::Rows, at);
     }
@@ -196,6 +199,7 @@ pub fn word_text(word: Word) -> &'static [u8]
     match word {
         Word::Over => b"over",
         Word::Filter => b"filter",
+        Word::Partition => b"partition",
         Word::Rows => b"rows",
         Word::Preceding => b"preceding",
         Word::Unbounded => b"unbounded",

@@ -1,22 +1,41 @@
 -- The result of a form, from the results of its parts.
 use Rattle.std.proofs.Common.{◌≡◌, ℕ, List, ◌++◌, Bool, false, sym, ap, subst, ◌∙◌}
-use Rattle.std.specs.Prelude.{◌||◌, slice_index}
+use Rattle.std.specs.Prelude.{◌||◌, Option, None, Some, slice_index}
+use Rattle.gl_bits.proofs.Bools.{or_none}
 use Rattle.gl_values.specs.Lists.{Group, IsInterleaving, groups, has_further}
 use Rattle.gl_values.specs.Partitions.{parts}
 use Rattle.gl_values.specs.Tables.{keyed_groups}
 use Rattle.gl_values.specs.declared.lists.Group.{Group as Keyed}
 use Rattle.gl_schema.specs.declared.schema.Column.{Column}
 use Rattle.gl_query.specs.declared.tree.Measure.{Measure}
-use Rattle.gl_query.specs.Shapes.{QueryShape}
+use Rattle.gl_query.specs.Shapes.{ExprShape, FrameItemShape, QueryShape, SlotsShape}
 use Rattle.gl_query.specs.Shapes as shape
 use Rattle.gl_query.specs.Values.{column_number}
 use Rattle.gl_values.specs.Results.{Row, AreBeside}
-use Rattle.gl_query.specs.Results.{Env, IsResultIn, columns_in, ticks_in, times_in}
+use Rattle.gl_query.specs.Results.{Env, IsFramed, IsResultIn, columns_in, kept, ticks_in, times_in}
 use Rattle.gl_query.specs.Windows.{parts_of}
 use Rattle.gl_query.proofs.Existing.{first_then_second}
+use Rattle.gl_reference.specs.Frames.{framed_rows, left_out}
 use Rattle.gl_reference.specs.Joins.{AreOverGroups, AreOverSlices, IsOverGroup}
 use Rattle.gl_reference.specs.Partitions.{table_parts}
 use Rattle.gl_reference.proofs.Joining.{joined_map}
+
+frames_are : (env : Env) (columns : List Column) (items : List FrameItemShape) (filter : Option ExprShape) (slots : Option SlotsShape) (source : QueryShape) (from : List Row) (before : Bool) (out : List Row) (spill : Bool)
+    → IsResultIn source env from before → out ≡ framed_rows columns items slots (kept columns filter from) → spill ≡ (before || left_out columns slots (kept columns filter from))
+    → IsFramed columns items filter slots (IsResultIn source env) out spill
+frames_are env columns items filter None source from before out spill is eo es =
+    record { rows = from; of_source = subst (IsResultIn source env from) (sym (es ∙ or_none before)) is; changed = eo }
+frames_are env columns items filter (Some s) source from before out spill is eo es =
+    record { rows = from; source_spill = before; of_source = is; changed = eo; any = es }
+
+pub frames_made : (env : Env) (items : List FrameItemShape) (filter : Option ExprShape) (slots : Option SlotsShape) (source : QueryShape) (from : List Row) (before : Bool) (columns : List Column) (out : List Row) (spill : Bool)
+    → IsResultIn source env from before → columns ≡ columns_in env source
+    → (out ≡ framed_rows columns items slots (kept columns filter from)) × (spill ≡ (before || left_out columns slots (kept columns filter from)))
+    → IsResultIn (shape.Frames items filter slots source) env out spill
+frames_made env items filter slots source from before columns out spill is ec (eo, es) =
+    frames_are env (columns_in env source) items filter slots source from before out spill is
+    (eo ∙ ap (λ (k : List Column). framed_rows k items slots (kept k filter from)) ec)
+    (es ∙ ap (λ (k : List Column). before || left_out k slots (kept k filter from)) ec)
 
 pub each_made : (measure : Measure) (env : Env) (var : List ℕ) (source : QueryShape) (size advance : ℕ) (body : QueryShape) (from : List Row) (before : Bool) (seen : QueryShape) (named : List ℕ) (columns : List Column) (parts : List (List Row)) (inside out : List Row) (within spill : Bool)
     → IsResultIn source env from before → seen ≡ body → named ≡ var → columns ≡ columns_in env source → parts ≡ parts_of measure size advance (times_in env source) (ticks_in env source) from

@@ -7,7 +7,7 @@ abbrev pub size_of : QueryShape → ℕ
 size_of (shape.Read name) = 1
 size_of (shape.Rows pick filter source) = size_of source + 1
 size_of (shape.Total aggs source) = size_of source + 1
-size_of (shape.Frames items filter source) = size_of source + 1
+size_of (shape.Frames items filter slots source) = size_of source + 1
 size_of (shape.Each measure var source size advance body) = size_of source + size_of body + 1
 size_of (shape.PerGroup var source key n body) = size_of source + size_of body + 1
 size_of (shape.Partition var source key n size advance body) = size_of source + size_of body + 1

@@ -3,12 +3,14 @@
 ghost use Rattle.std.specs.Prelude.{◌≡◌, ◌≤◌, ◌||◌, ◌++◌, IfOk, length, map, option_map};
 ghost use Rattle.gl_bits.specs.Limits.{most_groups};
 ghost use Rattle.gl_values.specs.Lists.{slices};
-ghost use Rattle.gl_query.specs.Shapes.{agg_item_shape, expr_shape, frame_item_shape, pick_shape, query_shape};
+ghost use Rattle.gl_query.specs.Results.{kept};
+ghost use Rattle.gl_query.specs.Shapes.{agg_item_shape, expr_shape, frame_item_shape, pick_shape, query_shape, slots_shape};
 ghost use Rattle.gl_query.specs.Shapes as shape;
 ghost use Rattle.gl_values.specs.Results.{AreBeside};
-ghost use Rattle.gl_query.specs.Accepted.{IsFilter, IsRows, IsWindow};
+ghost use Rattle.gl_query.specs.Accepted.{IsFilter, IsParted, IsRows, IsWindow};
 ghost use Rattle.gl_query.specs.declared.tree.Measure.TheVariants.{Tuples};
 ghost use Rattle.gl_reference.specs.Fits.{AreAggs, AreFramesOf, AreRows, IsOrMemory};
+ghost use Rattle.gl_reference.specs.Frames.{framed_rows, left_out};
 ghost use Rattle.gl_reference.specs.Sources.{IsAnswer, columns_over};
 
 use crate::aggregates::total_row;
@@ -17,7 +19,8 @@ use crate::frames::frames_over;
 use crate::rows::{Fault, beside, copy_of_table, joined, picked_rows};
 use gl_bits::Listed;
 use gl_bits::limits::{MOST_GROUPS, MOST_ROWS};
-use gl_query::{AggItem, Expr, FrameItem, Name, Pick, Query};
+use gl_query::{AggItem, Expr, FrameItem, Name, Pick, Query, Slots};
+use gl_schema::Column;
 use gl_values::Table;
 use gl_values::lists::slices_of;
 use std::alloc::Global;
@@ -99,35 +102,28 @@ pub fn total_from(
     })
 }
 
-/// What frames make of the rows that a filter keeps of a result of the source.
+/// What frames make of the rows that a filter keeps of a result with these columns.
 pub fn frames_from(
     alloc: Global,
-    sources: &[Source<'_>],
-    source: &Query,
+    columns: &[Column],
     items: &[FrameItem],
     filter: &Option<Expr>,
+    slots: &Option<Slots>,
     from: Answer,
 ) -> Result<Answer, Fault>
-    requires { IsAnswer sources.now (query_shape source.now) from }
-    ensures value { IfOk result (IsAnswer sources.now
-        (shape.Frames (map frame_item_shape items.now) (option_map expr_shape filter.now)
-        (query_shape source.now))) }
-    ensures fits { let columns = columns_over sources.now source.now in
-        AreFramesOf columns (map frame_item_shape items.now)
-        → IsFilter columns (option_map expr_shape filter.now)
-        → AreRows columns from.rows → IsOrMemory result }
+    ensures value { let kept_ones = kept columns.now (option_map expr_shape filter.now) from.rows in
+        let parted = option_map slots_shape slots.now in IfOk result (λ a.
+        (a.rows ≡ framed_rows columns.now (map frame_item_shape items.now) parted kept_ones)
+        × (a.spill ≡ (from.spill || left_out columns.now parted kept_ones))) }
+    ensures fits { AreFramesOf columns.now (map frame_item_shape items.now)
+        → IsFilter columns.now (option_map expr_shape filter.now)
+        → IsParted columns.now (option_map slots_shape slots.now)
+        → AreRows columns.now from.rows → IsOrMemory result }
 {
-    let columns = columns_of(alloc, sources, source)?;
-    let rows = frames_over(
-        alloc,
-        columns.as_slice(),
-        items,
-        filter,
-        from.rows.as_slice(),
-    )?;
+    let framed = frames_over(alloc, columns, items, filter, slots, from.rows.as_slice())?;
     Ok(Answer {
-        rows,
-        spill: from.spill,
+        rows: framed.rows,
+        spill: from.spill || framed.further,
     })
 }
 

@@ -1,23 +1,25 @@
 //! Frames: for each row what is made of it and of the rows before it.
 
-ghost use Rattle.std.specs.Prelude.{◌≡◌, IfOk, ℕ, List, Bool, Option, map, option_map};
+ghost use Rattle.std.specs.Prelude.{◌≡◌, ◌++◌, IfOk, OnOk, ℕ, List, Bool, Option, map, option_map, option_to_list, slice_index};
 ghost use Rattle.gl_values.specs.Results.{Row};
-ghost use Rattle.gl_frames.specs.Frames.{frame_of, framed, lag_of, rows_preceding};
-ghost use Rattle.gl_query.specs.Accepted.{IsBack, IsFilter, IsFrame, IsFrameAgg};
+ghost use Rattle.gl_frames.specs.Frames.{frame_of, framed, framed_by_key, lag_of, rows_preceding};
+ghost use Rattle.gl_query.specs.Accepted.{AreSlots, IsBack, IsFilter, IsFrame, IsFrameAgg, IsParted};
 ghost use Rattle.gl_query.specs.Results.{frame_agg_value, frame_row, frame_value, kept};
-ghost use Rattle.gl_query.specs.Shapes.{expr_shape, frame_agg_shape, frame_item_shape, frame_shape};
-ghost use Rattle.gl_query.specs.Values.{kind_alone, value_of};
+ghost use Rattle.gl_query.specs.Shapes.{expr_shape, frame_agg_shape, frame_item_shape, frame_shape, slots_shape};
+ghost use Rattle.gl_query.specs.Values.{column_number, kind_alone, value_of};
 ghost use Rattle.gl_reference.specs.Fits.{AreFramesOf, AreRows, HasKindAlone, IsOrMemory};
-ghost use Rattle.gl_reference.specs.Frames.{back_of};
+ghost use Rattle.gl_reference.specs.Frames.{back_of, framed_rows, key_row, left_out};
 
 use crate::aggregates::{average_in, own_kind, sum_in, values_over};
+use crate::partitions::has_key;
 use crate::rows::{Fault, kept_rows};
 use crate::values::value_of;
-use gl_bits::Listed;
 use gl_bits::limits::MOST_ROWS;
-use gl_query::kinds::kind_alone;
-use gl_query::{Expr, Frame, FrameAgg, FrameItem, Num};
+use gl_bits::{Listed, Memory};
+use gl_query::kinds::{column_number, kind_alone};
+use gl_query::{Expr, Frame, FrameAgg, FrameItem, MOST_SLOTS, Num, Slots};
 use gl_schema::Column;
+use gl_values::lists::{number_at, rows_with_key, some_further};
 use gl_values::{Table, totals};
 use std::alloc::Global;
 
@@ -170,21 +172,142 @@ fn framed_rows(
     Ok(out)
 }
 
-/// Of the rows that a filter keeps, for each what the items make of those up to it.
+// The keys that have a place: the first so many, by a column.
+#[derive(Clone, Copy)]
+struct Keys {
+    most: usize,
+    column: usize,
+}
+
+// The keys of PARTITION, within its limit.
+fn keys_of(columns: &[Column], slots: &Slots) -> Result<Keys, Fault>
+    ensures value { let s = slots_shape slots.now in
+        IfOk result (λ k. (k.most ≡ s.groups) × (k.column ≡ column_number columns.now s.key)) }
+    ensures fits { AreSlots columns.now (slots_shape slots.now) → IsOrMemory result }
+{
+    if slots.groups.value > MOST_SLOTS {
+        return Err(Fault::Unfit);
+    }
+    let most = slots.groups.value as usize;
+    let column = column_number(columns, slots.key.text.as_slice());
+    Ok(Keys { most, column })
+}
+
+// What the items make of the rows of a key, if it has a place.
+fn key_row(
+    alloc: Global,
+    columns: &[Column],
+    items: &[FrameItem],
+    keys: Keys,
+    rows: &[Listed<u128>],
+    key: u128,
+) -> Result<Option<Listed<u128>>, Fault>
+    ensures value { IfOk result (λ v. v
+        ≡ key_row columns.now (map frame_item_shape items.now) keys.most keys.column rows.now key) }
+    ensures fits { AreFramesOf columns.now (map frame_item_shape items.now)
+        → AreRows columns.now rows.now → IsOrMemory result }
+{
+    if !has_key(alloc, keys.most, keys.column, rows, key)? {
+        return Ok(None);
+    }
+    let own = rows_with_key(alloc, keys.column, rows, key)?;
+    let row = frame_row(alloc, columns, items, own.as_slice())?;
+    Ok(Some(row))
+}
+
+// Adds a row, if there is one.
+fn push_some(out: &mut Table, row: Option<Listed<u128>>) -> Result<(), Memory>
+    ensures { OnOk result (out.new ≡ out.old ++ option_to_list row) }
+{
+    match row {
+        Some(row) => out.push(row),
+        None => Ok(()),
+    }
+}
+
+// For each row of a key that has a place what the items make of its key's rows up to it.
+fn keyed_rows(
+    alloc: Global,
+    columns: &[Column],
+    items: &[FrameItem],
+    keys: Keys,
+    rows: &[Listed<u128>],
+) -> Result<Table, Fault>
+    ensures value { let of_rows = frame_row columns.now (map frame_item_shape items.now) in
+        IfOk result (λ v. v
+        ≡ framed_by_key keys.most (λ (r : Row). slice_index r keys.column) of_rows rows.now) }
+    ensures fits { AreFramesOf columns.now (map frame_item_shape items.now)
+        → AreRows columns.now rows.now → IsOrMemory result }
+{
+    let mut out = Listed::new(alloc);
+    for (i, row) in rows.iter().enumerate() {
+        let key = number_at(row.as_slice(), keys.column);
+        let own = key_row(alloc, columns, items, keys, &rows[..i + 1], key)?;
+        push_some(&mut out, own)?;
+    }
+    Ok(out)
+}
+
+/// The rows of a select of frames, and whether rows of further keys were left out.
+#[derive(Drop, Debug)]
+pub struct Framed {
+    /// The rows, in order.
+    pub rows: Table,
+    /// Whether rows of further keys were left out.
+    pub further: bool,
+}
+
+// What the items make of rows, with PARTITION of the rows of each key.
+fn parted_rows(
+    alloc: Global,
+    columns: &[Column],
+    items: &[FrameItem],
+    slots: &Option<Slots>,
+    rows: &[Listed<u128>],
+) -> Result<Framed, Fault>
+    ensures value { let parted = option_map slots_shape slots.now in IfOk result (λ v.
+        (v.rows ≡ framed_rows columns.now (map frame_item_shape items.now) parted rows.now)
+        × (v.further ≡ left_out columns.now parted rows.now)) }
+    ensures fits { AreFramesOf columns.now (map frame_item_shape items.now)
+        → IsParted columns.now (option_map slots_shape slots.now)
+        → AreRows columns.now rows.now → IsOrMemory result }
+{
+    match slots {
+        None => {
+            let out = framed_rows(alloc, columns, items, rows)?;
+            Ok(Framed {
+                rows: out,
+                further: false,
+            })
+        }
+        Some(part) => {
+            let keys = keys_of(columns, part)?;
+            let out = keyed_rows(alloc, columns, items, keys, rows)?;
+            let further = some_further(alloc, keys.most, keys.column, rows)?;
+            Ok(Framed { rows: out, further })
+        }
+    }
+}
+
+/// Of the rows that a filter keeps, for each what the items make of those up to it. With PARTITION
+/// it is made of those of its key alone, and the rows of further keys have none.
 pub fn frames_over(
     alloc: Global,
     columns: &[Column],
     items: &[FrameItem],
     filter: &Option<Expr>,
+    slots: &Option<Slots>,
     rows: &[Listed<u128>],
-) -> Result<Table, Fault>
-    ensures value { let of_row = frame_row columns.now (map frame_item_shape items.now) in
-        IfOk result (λ v. v
-        ≡ framed of_row (kept columns.now (option_map expr_shape filter.now) rows.now)) }
+) -> Result<Framed, Fault>
+    ensures value { let from = kept columns.now (option_map expr_shape filter.now) rows.now in
+        let parted = option_map slots_shape slots.now in IfOk result (λ v.
+        (v.rows ≡ framed_rows columns.now (map frame_item_shape items.now) parted from)
+        × (v.further ≡ left_out columns.now parted from)) }
     ensures fits { AreFramesOf columns.now (map frame_item_shape items.now)
         → IsFilter columns.now (option_map expr_shape filter.now)
+        → IsParted columns.now (option_map slots_shape slots.now)
         → AreRows columns.now rows.now → IsOrMemory result }
 {
     let from = kept_rows(alloc, columns, filter, rows)?;
-    framed_rows(alloc, columns, items, from.as_slice())
+    parted_rows(alloc, columns, items, slots, from.as_slice())
 }

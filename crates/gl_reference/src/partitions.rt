@@ -21,8 +21,8 @@ fn is_key(groups: &[Group], key: u128) -> bool
     groups.iter().any(|group| key == group.key)
 }
 
-// Whether a key is among the first `most` of the rows.
-fn has_key(
+/// Whether a key is among the first `most` of the rows.
+pub fn has_key(
     alloc: Global,
     most: usize,
     column: usize,

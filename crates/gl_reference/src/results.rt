@@ -119,10 +119,19 @@ pub fn result_of(alloc: Global, sources: &[Source<'_>], query: &Query) -> Result
         Query::Frames {
             items,
             filter,
+            slots,
             source,
         } => {
             let from = result_of(alloc, sources, source)?;
-            frames_from(alloc, sources, source, items.as_slice(), filter, from)
+            let columns = columns_of(alloc, sources, source)?;
+            frames_from(
+                alloc,
+                columns.as_slice(),
+                items.as_slice(),
+                filter,
+                slots,
+                from,
+            )
         }
         Query::Each {
             var,

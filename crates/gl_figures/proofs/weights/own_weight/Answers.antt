@@ -1,12 +1,12 @@
 use Rattle.std.proofs.Common.{◌+◌, ◌*◌, sum_by, ◌∙◌}
 use Rattle.gl_algebra.specs.FigureTable.{delay_of_aggs}
-use Rattle.gl_algebra.specs.Weights.{weight_of_agg, weight_of_frames}
+use Rattle.gl_algebra.specs.Weights.{weight_by_key, weight_of_agg}
 use Rattle.gl_figures.proofs.weights.own_weight.Goals as goal
 
 pub returns-in-Frames-clause-value : goal.returns-in-Frames-clause-value
 returns-in-Frames-clause-value c =
     rw c.in-Frames.is
-    (c.weight_of_frames.ensures.value ∙ (λ i. weight_of_frames (c.kinds.ensures.kinds i) c.args.own (c.as_slice.ensures i)))
+    (c.weight_by_key.ensures.value ∙ (λ i. weight_by_key (c.kinds.ensures.kinds i) c.args.own c.in-Frames.by (c.as_slice.ensures i)))
 
 pub returns-in-Aggregate-clause-value : goal.returns-in-Aggregate-clause-value
 returns-in-Aggregate-clause-value c =

@@ -27,4 +27,12 @@ returns c = record {
   greatest_steps = record { is_late = refl; is_apart = refl };
   both_prices = record { is_late = refl; is_apart = refl };
   price_and_average = record { is_late = refl; is_apart = refl };
+  by_symbol = refl;
+  sums_by_symbol = record { is_late = refl; is_apart = refl };
+  one_symbol = record { is_late = refl; is_apart = refl };
+  many_symbols = record { is_late = refl; is_apart = refl };
+  counts_by_key = record { is_late = refl; is_apart = refl };
+  slow_prices = record { is_late = refl; is_apart = refl };
+  first_prices = record { is_late = refl; is_apart = refl };
+  trades_with_bids = record { is_late = refl; is_apart = refl };
 }

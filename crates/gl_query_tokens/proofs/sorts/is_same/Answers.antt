@@ -10,6 +10,7 @@ same : (a b : Word) → sameb the_type a b ≡ word_eq a b
 unfolding word_eq
 same word.Over word.Over = refl
 same word.Filter word.Filter = refl
+same word.Partition word.Partition = refl
 same word.Rows word.Rows = refl
 same word.Preceding word.Preceding = refl
 same word.Unbounded word.Unbounded = refl

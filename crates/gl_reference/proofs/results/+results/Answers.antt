@@ -12,24 +12,25 @@ use Rattle.gl_query.specs.declared.tree.Measure.TheVariants.{Tuples, Time}
 use Rattle.gl_query.specs.declared.tree.Query.{Query}
 use Rattle.gl_query.specs.declared.tree.AggItem.{AggItem}
 use Rattle.gl_query.specs.declared.tree.FrameItem.{FrameItem}
-use Rattle.gl_query.specs.Shapes.{agg_item_shape, expr_shape, frame_item_shape, pick_shape, query_shape}
+use Rattle.gl_query.specs.Shapes.{agg_item_shape, expr_shape, frame_item_shape, pick_shape, query_shape, slots_shape}
 use Rattle.gl_query.specs.Shapes as shape
 use Rattle.gl_query.specs.Values.{column_number}
 use Rattle.gl_values.specs.Results.{Row, AreBeside, AreJoined}
 use Rattle.gl_bits.proofs.AllLists.{all_of_mapped, taken_next}
 use Rattle.gl_schema.specs.Schemas.{IsRowOf}
-use Rattle.gl_query.specs.Accepted.{IsAcceptedOver, IsFilter, IsRows}
+use Rattle.gl_query.specs.Accepted.{IsAcceptedOver, IsFilter, IsParted, IsRows}
 use Rattle.gl_query.specs.Laws.{scope_of}
-use Rattle.gl_query.specs.Results.{IsResultIn, columns_in, only, ticks_in, times_in}
+use Rattle.gl_query.specs.Results.{IsResultIn, columns_in, kept, only, ticks_in, times_in}
 use Rattle.gl_reference.specs.declared.answers.Answer.{Answer}
 use Rattle.gl_reference.specs.Sources.{env_view}
 use Rattle.gl_reference.specs.Joins.{AreOverGroups, AreOverSlices, IsOverGroup}
 use Rattle.gl_reference.specs.Partitions.{table_parts}
+use Rattle.gl_reference.specs.Frames.{framed_rows, left_out}
 use Rattle.gl_reference.specs.Fits.{AreAggs, AreFramesOf, AreRows, IsOrMemory}
 use Rattle.gl_reference.proofs.Fitting.{all_place, inside_fits, one_length, rows_fit}
 use Rattle.gl_reference.proofs.Passing.{each_passes, groups_pass, partitions_pass, passes}
 use Rattle.gl_reference.proofs.Joining.{joined_push, map_taken}
-use Rattle.gl_reference.proofs.Forms.{concat_made, each_made, groups_made, partitions_made, union_made}
+use Rattle.gl_reference.proofs.Forms.{concat_made, each_made, frames_made, groups_made, partitions_made, union_made}
 use Rattle.gl_reference.proofs.results.+results.Goals as goal
 use Rattle.gl_reference.specs.declared.columns.Source.{Source as Given}
 
@@ -81,10 +82,21 @@ result_of-returns-in_ok-from-in-Total-clause-value t c =
     let all = subst (λ (aggs : List AggItem). IfOk c.total_from.result (λ a. IsResultIn (shape.Total (map agg_item_shape aggs) (query_shape c.in-Total.source.value)) (env_view c.args.sources.now) a.rows a.spill)) c.as_slice.ensures made in
     subst (λ (q : Query). IfOk c.total_from.result (λ a. IsResultIn (query_shape q) (env_view c.args.sources.now) a.rows a.spill)) (sym c.in-Total.is) all
 
-pub result_of-returns-in_ok-from-in-Frames-clause-value : goal.result_of-returns-in_ok-from-in-Frames-clause-value
-result_of-returns-in_ok-from-in-Frames-clause-value t c =
-    let made = subst (λ (q : Query). IfOk c.frames_from.result (λ a. IsResultIn (shape.Frames (map frame_item_shape c.as_slice-in-Frames.result.now) (option_map expr_shape c.in-Frames.filter) (query_shape q)) (env_view c.args.sources.now) a.rows a.spill)) c.deref-in-Frames-2.ensures c.frames_from.ensures.value in
-    let all = subst (λ (items : List FrameItem). IfOk c.frames_from.result (λ a. IsResultIn (shape.Frames (map frame_item_shape items) (option_map expr_shape c.in-Frames.filter) (query_shape c.in-Frames.source.value)) (env_view c.args.sources.now) a.rows a.spill)) c.as_slice-in-Frames.ensures made in
+pub result_of-returns-in_ok-columns-in-Frames-clause-value : goal.result_of-returns-in_ok-columns-in-Frames-clause-value
+result_of-returns-in_ok-columns-in-Frames-clause-value t c =
+    let env = env_view c.args.sources.now in
+    let from = c.in_ok-from-in-Frames.from in
+    let source = query_shape c.in-Frames.source.value in
+    let columns = c.as_slice-in-Frames.result.now in
+    let items = map frame_item_shape c.as_slice-in-Frames-2.result.now in
+    let filter = option_map expr_shape c.in-Frames.filter in
+    let slots = option_map slots_shape c.in-Frames.slots in
+    let is = subst (Gives c.args.sources.now from) c.deref-in-Frames.ensures c.in_ok-from-in-Frames.ensures.value in
+    let known : columns ≡ columns_in env source =
+    c.as_slice-in-Frames.ensures ∙ c.in_ok-columns-in-Frames.ensures ∙ ap (λ (q : Query). columns_in env (query_shape q)) c.deref-in-Frames-2.ensures in
+    let made = IfOk-weaker c.frames_from.result (λ (a : Answer). (a.rows ≡ framed_rows columns items slots (kept columns filter from.rows)) × (a.spill ≡ (from.spill || left_out columns slots (kept columns filter from.rows)))) (λ (a : Answer). IsResultIn (shape.Frames items filter slots source) env a.rows a.spill)
+    (λ (a : Answer) facts. frames_made env items filter slots source from.rows from.spill columns a.rows a.spill is known facts) c.frames_from.ensures.value in
+    let all = subst (λ (l : List FrameItem). IfOk c.frames_from.result (λ a. IsResultIn (shape.Frames (map frame_item_shape l) filter slots source) env a.rows a.spill)) c.as_slice-in-Frames-2.ensures made in
     subst (λ (q : Query). IfOk c.frames_from.result (λ a. IsResultIn (query_shape q) (env_view c.args.sources.now) a.rows a.spill)) (sym c.in-Frames.is) all
 
 pub result_of-returns-in_ok-inside-in-Each-clause-value : goal.result_of-returns-in_ok-inside-in-Each-clause-value
@@ -268,15 +280,18 @@ result_of-returns-in_ok-from-in-Total-clause-fits t c = λ timed s a.
     let aggs = subst (λ (l : List AggItem). AreAggs (columns_in env (query_shape c.in-Total.source.value)) (map agg_item_shape l)) (sym c.as_slice.ensures) whole.1.typed in
     pass aggs (rows_fit c.results_fit.ensures env timed (query_shape c.in-Total.source.value) from.rows from.spill s whole.0 is)
 
-pub result_of-returns-in_ok-from-in-Frames-clause-fits : goal.result_of-returns-in_ok-from-in-Frames-clause-fits
-result_of-returns-in_ok-from-in-Frames-clause-fits t c = λ timed s a.
+pub result_of-returns-in_ok-columns-in-Frames-clause-fits : goal.result_of-returns-in_ok-columns-in-Frames-clause-fits
+result_of-returns-in_ok-columns-in-Frames-clause-fits t c = λ timed s a.
     let env = env_view c.args.sources.now in
     let from = c.in_ok-from-in-Frames.from in
+    let source = query_shape c.in-Frames.source.value in
     let whole = subst (Accepted c.args.sources.now timed) c.in-Frames.is a in
     let is = subst (Gives c.args.sources.now from) c.deref-in-Frames.ensures c.in_ok-from-in-Frames.ensures.value in
-    let pass = subst (λ (q : Query). AreFramesOf (columns_in env (query_shape q)) (map frame_item_shape c.as_slice-in-Frames.result.now) → IsFilter (columns_in env (query_shape q)) (option_map expr_shape c.in-Frames.filter) → AreRows (columns_in env (query_shape q)) from.rows → IsOrMemory c.frames_from.result) c.deref-in-Frames-2.ensures c.frames_from.ensures.fits in
-    let items = subst (λ (l : List FrameItem). AreFramesOf (columns_in env (query_shape c.in-Frames.source.value)) (map frame_item_shape l)) (sym c.as_slice-in-Frames.ensures) whole.1.typed in
-    pass items whole.1.filters (rows_fit c.results_fit.ensures env timed (query_shape c.in-Frames.source.value) from.rows from.spill s whole.0 is)
+    let known : c.as_slice-in-Frames.result.now ≡ columns_in env source =
+    c.as_slice-in-Frames.ensures ∙ c.in_ok-columns-in-Frames.ensures ∙ ap (λ (q : Query). columns_in env (query_shape q)) c.deref-in-Frames-2.ensures in
+    let pass = subst (λ (k : List Column). AreFramesOf k (map frame_item_shape c.as_slice-in-Frames-2.result.now) → IsFilter k (option_map expr_shape c.in-Frames.filter) → IsParted k (option_map slots_shape c.in-Frames.slots) → AreRows k from.rows → IsOrMemory c.frames_from.result) known c.frames_from.ensures.fits in
+    let items = subst (λ (l : List FrameItem). AreFramesOf (columns_in env source) (map frame_item_shape l)) (sym c.as_slice-in-Frames-2.ensures) whole.1.typed in
+    pass items whole.1.filters whole.1.parted (rows_fit c.results_fit.ensures env timed source from.rows from.spill s whole.0 is)
 
 pub result_of-returns-in_ok-second-in-Concat-clause-fits : goal.result_of-returns-in_ok-second-in-Concat-clause-fits
 result_of-returns-in_ok-second-in-Concat-clause-fits t c = λ timed s a.
