@@ -53,7 +53,7 @@ leaves_are_streams schema (shape.Read name) a =
     )
 leaves_are_streams schema (shape.Rows pick filter source) a = leaves_are_streams schema source a.0
 leaves_are_streams schema (shape.Total aggs source) a = leaves_are_streams schema source a.0
-leaves_are_streams schema (shape.Frames items filter source) a = leaves_are_streams schema source a.0
+leaves_are_streams schema (shape.Frames items filter slots source) a = leaves_are_streams schema source a.0
 leaves_are_streams schema (shape.Each measure var source size advance body) a = leaves_are_streams schema source a.0
 leaves_are_streams schema (shape.PerGroup var source key groups body) a = leaves_are_streams schema source a.0
 leaves_are_streams schema (shape.Partition var source key groups size advance body) a = leaves_are_streams schema source a.0

@@ -61,7 +61,7 @@ query_named (shape.Read name) sources h q = source_named sources name h
 query_named (shape.Rows pick filter source) sources h q =
     picked_named (columns_of sources source) pick (query_named source sources h q.0) q.1
 query_named (shape.Total aggs source) sources h q = aggs_named (columns_of sources source) aggs q.1
-query_named (shape.Frames items filter source) sources h q = frames_named (columns_of sources source) items q.1
+query_named (shape.Frames items filter slots source) sources h q = frames_named (columns_of sources source) items q.1
 query_named (shape.Each measure var source size advance body) sources h q =
     query_named body (variable var (columns_of sources source)) (query_named source sources h q.0, tt) q.1
 query_named (shape.PerGroup var source key groups body) sources h q =

@@ -102,7 +102,7 @@ const CLAUSES: [Row; 7] = [
     },
     Row {
         words: &[b"partition"],
-        cure: "Windows of one key's own rows are EACH w IN t BY k GROUPS 8 [SIZE 5 ADVANCE 1 TUPLES] (SELECT sum(x) AS s FROM w).",
+        cure: "PARTITION BY stands in the brackets of OVER: lag(price) OVER (PARTITION BY symbol GROUPS 64) AS prior. Windows of one key's own rows are EACH w IN t BY k GROUPS 8 [SIZE 5 ADVANCE 1 TUPLES] (SELECT sum(x) AS s FROM w).",
     },
     Row {
         words: &[

@@ -10,8 +10,12 @@ use crate::words::{has_capital, is_number, is_operator};
 pub(crate) const FRAME: &str =
     "OVER says which rows: OVER (ROWS 19 PRECEDING) has the row itself and 19 before, OVER (ROWS UNBOUNDED PRECEDING) all up to this one.";
 
+// A frame of each key.
+const PART: &str =
+    "PARTITION BY has a column, and GROUPS says of how many of its values rows are kept: OVER (PARTITION BY symbol GROUPS 64 ROWS 19 PRECEDING). Rows come in the order of the stream, so there is no ORDER BY.";
+
 const LAG: &str =
-    "lag looks one row back, or as many as its number says, and has no ROWS: lag(price, 3) OVER () AS older.";
+    "lag looks one row back, or as many as its number says, and has no ROWS: lag(price, 3) OVER () AS older. Of each key's own rows it is lag(price) OVER (PARTITION BY symbol GROUPS 64) AS prior.";
 
 const FILTER: &str = "A condition in brackets is lacking: FILTER (WHERE price > 100).";
 
@@ -56,15 +60,38 @@ fn is_of_lag(pieces: &Pieces<'_>, open: usize) -> bool {
     is_spelled(call_at(pieces, over.saturating_sub(1)), b"lag")
 }
 
+// In the PARTITION of an OVER, and behind its number.
+fn in_part(pieces: &Pieces<'_>, at: usize, open: usize) -> Option<State> {
+    let (word, front) = (pieces.before(at, 1), pieces.before(at, 2));
+    if is_spelled(front, b"by") {
+        Some(State::Groups)
+    } else if is_spelled(word, b"by") {
+        Some(State::Key)
+    } else if is_spelled(word, b"partition") {
+        Some(State::By)
+    } else if is_spelled(word, b"groups") {
+        Some(State::Number)
+    } else if !is_spelled(front, b"groups") {
+        None
+    } else if is_of_lag(pieces, open) {
+        Some(State::FrameEnd)
+    } else {
+        Some(State::FrameRows)
+    }
+}
+
 // In the brackets of an OVER.
 fn in_over(pieces: &Pieces<'_>, at: usize, open: usize) -> State {
     let (word, front) = (pieces.before(at, 1), pieces.before(at, 2));
     if is_sign(word, b'(') {
         return if is_of_lag(pieces, open) {
-            State::FrameEnd
+            State::LagPart
         } else {
-            State::FrameRows
+            State::FramePart
         };
+    }
+    if let Some(state) = in_part(pieces, at, open) {
+        return state;
     }
     if is_one_of(word, &[b"rows", b"between"]) {
         return State::FrameBound;
@@ -154,6 +181,8 @@ pub(crate) fn frame_words(state: State) -> Option<&'static str> {
         State::Over => Some("OVER"),
         State::FrameOpen => Some("("),
         State::FilterWhere => Some("WHERE"),
+        State::FramePart => Some("PARTITION or ROWS"),
+        State::LagPart => Some("PARTITION or )"),
         State::FrameRows => Some("ROWS"),
         State::FrameBound => Some("a number, UNBOUNDED or BETWEEN"),
         State::Preceding => Some("PRECEDING"),
@@ -172,6 +201,8 @@ pub(crate) fn frame_lacking(state: State) -> Option<&'static str> {
         State::FilterOrOver | State::Over => Some(FUNCTION),
         State::FilterWhere => Some(FILTER),
         State::FrameOpen
+        | State::FramePart
+        | State::LagPart
         | State::FrameRows
         | State::FrameBound
         | State::Preceding
@@ -189,13 +220,27 @@ fn over_cure(word: &[u8]) -> &'static str {
     if is_one_of(word, &[b"order", b"sort"]) {
         "Rows come in the order of the stream: leave ORDER BY out, OVER (ROWS 19 PRECEDING)."
     } else if is_spelled(word, b"partition") {
-        "OVER has the rows of all keys. Windows of one key's own rows are EACH w IN t BY k GROUPS 8 [SIZE 5 ADVANCE 1 TUPLES] (SELECT sum(x) AS s FROM w)."
+        "PARTITION BY stands first in the brackets of OVER: OVER (PARTITION BY symbol GROUPS 64 ROWS 19 PRECEDING)."
     } else if is_one_of(word, &[b"range", b"groups", b"interval"]) {
         "A frame counts rows: OVER (ROWS 19 PRECEDING)."
     } else if is_one_of(word, &[b"following", b"exclude"]) {
         "A frame ends with the row itself: OVER (ROWS 19 PRECEDING)."
     } else {
         FRAME
+    }
+}
+
+// What to write in the brackets of an OVER.
+fn bracket_cure(pieces: &Pieces<'_>, at: usize, open: usize, state: State) -> &'static str {
+    if matches!(
+        state,
+        State::By | State::Key | State::Groups | State::Number
+    ) {
+        PART
+    } else if is_of_lag(pieces, open) {
+        LAG
+    } else {
+        over_cure(pieces.get(at))
     }
 }
 
@@ -216,11 +261,7 @@ fn is_function(pieces: &Pieces<'_>, at: usize) -> bool {
 pub(crate) fn frame_cure(pieces: &Pieces<'_>, at: usize, state: State) -> Option<&'static str> {
     let word = pieces.get(at);
     if let Some(open) = over_at(pieces, at) {
-        return Some(if is_of_lag(pieces, open) {
-            LAG
-        } else {
-            over_cure(word)
-        });
+        return Some(bracket_cure(pieces, at, open, state));
     }
     if is_operator(word) && is_behind(pieces, at, b"over") {
         return Some(ALONE);

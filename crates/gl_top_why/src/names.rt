@@ -90,6 +90,27 @@ pub(crate) fn from_around(pieces: &Pieces<'_>, at: usize) -> Option<usize> {
     }
 }
 
+/// The place of the first item of the select around an item.
+pub(crate) fn first_item(pieces: &Pieces<'_>, at: usize) -> usize {
+    match last_before(pieces, at, b"select") {
+        Some(select) => select.saturating_add(1),
+        None => at,
+    }
+}
+
+/// Whether the item that begins at a piece is a function with OVER.
+pub(crate) fn has_over(pieces: &Pieces<'_>, at: usize) -> bool {
+    let Some(over) = next_from(pieces, at, b"over") else {
+        return false;
+    };
+    let is_call = is_sign(pieces.get(at.saturating_add(1)), b'(')
+        && is_sign(pieces.before(over, 1), b')');
+    match next_from(pieces, at, b"as") {
+        Some(name) => is_call && over < name,
+        None => is_call,
+    }
+}
+
 /// Where the source begins that has the columns of a piece: behind FROM, or behind IN for the key of an EACH.
 pub(crate) fn source_around(pieces: &Pieces<'_>, at: usize) -> Option<usize> {
     let is_key = is_spelled(pieces.before(at, 1), b"by")

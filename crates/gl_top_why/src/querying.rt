@@ -246,7 +246,7 @@ fn put_range(out: &mut String, pieces: &Pieces<'_>, at: usize) -> Result<(), All
     }
     if is_spelled(before, b"groups") {
         return out.push_str(
-            " is out of range: GROUPS is 1 to 256, and so are the groups by the windows of each that are open at once.",
+            " is out of range: GROUPS is 1 to 256, and so are the groups by the windows of each that are open at once. Behind PARTITION BY it is 1 to 4,096.",
         );
     }
     if is_one_of(before, &[b"rows", b"between"]) {

@@ -1,7 +1,7 @@
 //! Which rule a statement breaks that is read, in a sentence that names what stands there.
 
 use crate::lines::put_bytes;
-use crate::names::from_around;
+use crate::names::{first_item, from_around, has_over};
 use crate::pieces::{Pieces, is_one_of, is_sign, is_spelled};
 use crate::words::is_total;
 use gl_query::QueryFault;
@@ -27,6 +27,19 @@ fn key_around<'a>(pieces: &Pieces<'a>, at: usize) -> Option<&'a [u8]> {
     None
 }
 
+// What an item breaks in a select without GROUP BY.
+fn mixed_sort(pieces: &Pieces<'_>, at: usize) -> &'static str {
+    let first = first_item(pieces, at);
+    let is_over = has_over(pieces, at);
+    if is_over && (!is_total(pieces.get(first)) || has_over(pieces, first)) {
+        " begins an item with another PARTITION than the first one with OVER. In one select all of them have the same key and the same GROUPS, or none has a key: take the others in a select over this one."
+    } else if is_total(pieces.get(at)) && !is_over {
+        " begins an aggregate, and the first item is none. Either all items are aggregates or none is: write GROUP BY price GROUPS 64 with the key in front, or min(price) AS price. A row beside a total of the rows before has OVER: sum(price) OVER (ROWS 19 PRECEDING) AS s."
+    } else {
+        " begins an item that is no aggregate, and the first one is. Either all items are aggregates or none is: write GROUP BY price GROUPS 64 with the key in front, or min(price) AS price."
+    }
+}
+
 // Items with aggregates and without.
 fn put_mixed(out: &mut String, pieces: &Pieces<'_>, at: usize) -> Result<(), AllocError> {
     let word = pieces.get(at);
@@ -47,12 +60,7 @@ fn put_mixed(out: &mut String, pieces: &Pieces<'_>, at: usize) -> Result<(), All
         Some(_) => out.push_str(
             " begins an item that is no aggregate, and behind the key stand aggregates alone: min(price) AS price.",
         ),
-        None if is_total(word) => out.push_str(
-            " begins an aggregate, and the first item is none. Either all items are aggregates or none is: write GROUP BY price GROUPS 64 with the key in front, or min(price) AS price. A row beside a total of the rows before has OVER: sum(price) OVER (ROWS 19 PRECEDING) AS s.",
-        ),
-        None => out.push_str(
-            " begins an item that is no aggregate, and the first one is. Either all items are aggregates or none is: write GROUP BY price GROUPS 64 with the key in front, or min(price) AS price.",
-        ),
+        None => out.push_str(mixed_sort(pieces, at)),
     }
 }
 

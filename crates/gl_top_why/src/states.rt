@@ -64,7 +64,11 @@ pub(crate) enum State {
     FrameOpen,
     /// WHERE in the bracket of a FILTER.
     FilterWhere,
-    /// ROWS in the bracket of an OVER.
+    /// PARTITION or ROWS in the bracket of an OVER.
+    FramePart,
+    /// PARTITION or the end in the bracket of the OVER of `lag`.
+    LagPart,
+    /// ROWS in the bracket of an OVER, behind PARTITION.
     FrameRows,
     /// How many rows, behind ROWS and BETWEEN.
     FrameBound,

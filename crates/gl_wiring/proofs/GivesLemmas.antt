@@ -6,24 +6,24 @@ use Rattle.gl_algebra.specs.Results.{Inputs, Meaning}
 use Rattle.gl_algebra.specs.Shapes.{Shape}
 use Rattle.gl_values.specs.Results.{Row}
 use Rattle.gl_net.specs.declared.node.Bit.{Bit}
-use Rattle.gl_net.specs.Net.{Net, Keeps}
+use Rattle.gl_net.specs.Net.{Net, Run, IsRun, Keeps}
 use Rattle.gl_wire.specs.declared.emitted.Emitted.{Emitted}
 use Rattle.gl_wire.specs.declared.emitted.Faults.{Faults}
 use Rattle.gl_wire.specs.declared.wire.Wire.{Wire}
 use Rattle.gl_wire.specs.Beats.{Beats, Spaced}
-use Rattle.gl_wire.specs.Blocks.{IsBehind, IsBehind2}
+use Rattle.gl_wire.specs.Blocks.{IsBehind, IsBehind2, IsBehindLines}
 use Rattle.gl_wire.specs.Costs.{Cost}
 use Rattle.gl_wire.specs.Faults.{AreLines, line_of, lines_of}
 use Rattle.gl_wire.specs.Pace.{KeepsPace}
 use Rattle.gl_wire.specs.Serves as block
 use Rattle.gl_wire.specs.Serves.{Fits, Served}
 use Rattle.gl_wire.specs.Serving.{Serving, inputs_at}
-use Rattle.gl_wire.specs.Spills.{Condition, Lines, Relation2, both_lines}
+use Rattle.gl_wire.specs.Spills.{Condition, Lines, Relation, Relation2, both_lines}
 use Rattle.gl_wire.specs.Wire.{Carried, carried}
 use Rattle.gl_wire.proofs.ColumnLemmas.{wire_kept}
 use Rattle.gl_wire.proofs.DelayLemmas.{spaced_closer}
 use Rattle.gl_wire.proofs.FaultLemmas.{lines_kept}
-use Rattle.gl_wire.proofs.ServingLemmas.{serving_as, serving_lines, serving_through, serving_then2}
+use Rattle.gl_wire.proofs.ServingLemmas.{serving_as, serving_lines, serving_then, serving_then2, serving_through}
 use Rattle.gl_wiring.specs.Leaves.{leaf, widths_of}
 use Rattle.gl_wiring.specs.Put.{GivesAs}
 
@@ -59,6 +59,29 @@ behind s s' f g means means' mid new tick leaves below e Between columns most n 
       (serving_as g _ (λ t. means' (ins t)) (lines_of run below.faults) beats (carried run e.wire)
       (λ t ys p x. results (ins t) x.0 ys p x.1 x.2)
       (serving_through f g (λ t. means (ins t)) n (lines_of run below.faults) beats (carried run below.wire) (carried run e.wire) before through));
+}
+
+-- one operator with lines of its own behind a node
+pub behind_lines : (s s' : Shape) (f g : Figures) (means means' : Meaning) (mid new : Net) (tick : Option Bit) (leaves : List Wire) (below e : Emitted) (columns : List ℕ) (most : Cost)
+    (n : Relation) → GivesAs s f means mid tick leaves below → IsBehindLines mid new f g n columns most below e → columns ≡ widths_of s'.kinds → NoCloser f g
+    → ((run : Run) → IsRun new run → KeepsPace s'.pace g.a (leaf run leaves) (carried run e.wire))
+    → ((i : Inputs) (xs ys : List Row) (q r : Bool) → means i xs q → n xs ys r → means' i ys (q || r))
+    → GivesAs s' g means' new tick leaves e
+behind_lines s s' f g means means' mid new tick leaves below e columns most n h b same closer pace results = record {
+  wire = b.wire;
+  same_widths = b.same_widths ∙ same;
+  lines = b.lines;
+  paced = pace;
+  serving = λ run r beats spaced fits.
+      let before = h.serving run (b.keeps.runs run r) beats (spaced_closer f g beats closer spaced) fits in
+      let z = b.serves run r in
+      let ins : ℕ → Inputs = inputs_at (line_of run tick) (leaf run leaves) (leaf run leaves 0) in
+      let lines : Lines = both_lines (lines_of run below.faults) z.0 in
+      serving_lines g (λ t. means' (ins t)) (lines_of run e.faults) lines beats (carried run e.wire) z.1
+      (serving_as g _ (λ t. means' (ins t)) lines beats (carried run e.wire)
+      (λ t ys p w. subst (means' (ins t) ys) (sym w.5) (results (ins t) w.0 ys w.1 w.2 w.3 w.4))
+      (serving_then f g (λ t. means (ins t)) n (lines_of run below.faults) z.0 beats (carried run below.wire) (carried run e.wire)
+      before (z.2 beats spaced before.fits)));
 }
 
 -- one operator behind two nodes

@@ -45,6 +45,7 @@ pub mod SpacedLemmas
 pub mod TotalCosts
 pub mod WindowCosts
 pub mod WindowLemmas
+pub mod PartedNode
 pub mod TickLemmas
 pub mod TimeWindowCosts
 pub mod TimeWindowLemmas

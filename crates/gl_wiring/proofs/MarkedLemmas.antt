@@ -64,7 +64,7 @@ module _ (laws : LawsBelow) (nodes : List PlanNode) (figures : List Figures) (ne
   can_children id (Compute child ops) at can = ((can_child laws nodes figures id (Compute child ops) net tick leaves plan at can child [] refl refl).can, tt)
   can_children id (Select child column) at can = ((can_child laws nodes figures id (Select child column) net tick leaves plan at can child [] refl refl).can, tt)
   can_children id (Project child items) at can = ((can_child laws nodes figures id (Project child items) net tick leaves plan at can child [] refl refl).can, tt)
-  can_children id (Frames child items) at can = ((can_child laws nodes figures id (Frames child items) net tick leaves plan at can child [] refl refl).can, tt)
+  can_children id (Frames child by items) at can = ((can_child laws nodes figures id (Frames child by items) net tick leaves plan at can child [] refl refl).can, tt)
   can_children id (Aggregate child aggs) at can = ((can_child laws nodes figures id (Aggregate child aggs) net tick leaves plan at can child [] refl refl).can, tt)
   can_children id (Union left right) at can = (
     (can_left laws nodes figures id (Union left right) net tick leaves plan at can left right refl refl).can,

@@ -160,20 +160,20 @@ module _ (laws : LawsBelow) (nodes : List PlanNode) (id : ℕ) (old new : Net) (
             (λ i xs ys p r m. (follows.results i ys p).1 (record { rows = xs; of_source = r; changed = m ∙ mapped_all (projected items) xs })));
       }
 
-  pub frames_put : (child : ℕ) (items : List PlanFrame) → slice_get nodes id ≡ Some (Frames child items) → Gives nodes child old tick leaves below
+  pub frames_put : (child : ℕ) (items : List PlanFrame) → slice_get nodes id ≡ Some (Frames child None items) → Gives nodes child old tick leaves below
       → (let kinds = kinds_of nodes child in IsBehind old new (Runs (delay_of_frames kinds items) (λ rows. Some (row_of_frames kinds items rows))) (frames_widths kinds items)
       (cost_of_frames kinds (delay_of_frames kinds items) items) below e)
       → IsPutBehind nodes id old new tick leaves e
   frames_put child items at h b =
-      let follows = laws.nodes_follow_tables nodes id (Frames child items) plan at in
-      let parts = parts_at nodes id (Frames child items) at in
+      let follows = laws.nodes_follow_tables nodes id (Frames child None items) plan at in
+      let parts = parts_at nodes id (Frames child None items) at in
       let f : Figures = figures_of nodes child in
       let kinds = kinds_of nodes child in
       let m : ℕ = delay_of_frames kinds items in
       let step : List Row → Option Row = λ rows. Some (row_of_frames kinds items rows) in
-      let within = first_within nodes id (Frames child items) plan at child [] refl in
+      let within = first_within nodes id (Frames child None items) plan at child [] refl in
       let sound = laws.figures_are_sound nodes child plan within in
-      let suits = (plan.fits id (Frames child items) at).suits in
+      let suits = (plan.fits id (Frames child None items) at).suits.0 in
       record {
         keeps = b.keeps;
         cost = cost_behind nodes id _ _ _ old new _

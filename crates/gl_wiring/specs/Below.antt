@@ -5,6 +5,7 @@ use Rattle.gl_wire.specs.Laws.{EndsServe, FollowersKeepPace, OwnBeatsFit, Steady
 use Rattle.gl_wire_lanes.specs.Laws.{BeginsBehind}
 use Rattle.gl_frames_wire.specs.Laws.{RunningKeepsPace, RunningSettles}
 use Rattle.gl_frames_stages.specs.Counted.{FramesAreCounted}
+use Rattle.gl_frames_parted.specs.Parted.{KeyFramesAreCounted}
 use Rattle.gl_windows.specs.Costs.{RotationsAreCounted, TimesAreCounted}
 use Rattle.gl_windows.specs.Laws.{WindowsRotate}
 use Rattle.gl_windows.specs.TimeRotations.{TimesRotate}
@@ -37,6 +38,7 @@ pub record LawsBelow : Type 0 where
   pub running_settles : RunningSettles
   pub running_keeps_pace : RunningKeepsPace
   pub frames_are_counted : FramesAreCounted
+  pub key_frames_are_counted : KeyFramesAreCounted
   pub windows_rotate : WindowsRotate
   pub rotations_are_counted : RotationsAreCounted
   pub times_rotate : TimesRotate

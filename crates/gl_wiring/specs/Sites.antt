@@ -24,8 +24,9 @@ use Rattle.gl_algebra.specs.declared.node.PlanFrame.{PlanFrame}
 use Rattle.gl_algebra.specs.declared.node.PlanFrame.TheVariants.{Own, Lag, Over}
 use Rattle.gl_algebra.specs.declared.node.PlanFrameAgg.{PlanFrameAgg}
 use Rattle.gl_algebra.specs.declared.node.PlanFrameAgg.TheVariants as over
+use Rattle.gl_algebra.specs.declared.node.PlanKey.{PlanKey}
 use Rattle.gl_algebra.specs.Columns.{OperandFits, SortFits, OpFits, AggFits, FrameAggFits, ConditionFits, BackFits, FrameFits}
-use Rattle.gl_algebra.specs.Fits.{IsOverStream, IsPlan, Suits}
+use Rattle.gl_algebra.specs.Fits.{IsOverStream, IsPlan, KeyFits, Suits}
 use Rattle.gl_algebra.specs.Shapes.{Shape}
 use Rattle.gl_algebra.specs.Small.{AreFigures}
 
@@ -85,13 +86,17 @@ frame_prop kinds (Own operand) = hlevel (sets, operand_prop)
 frame_prop kinds (Lag operand back) = hlevel (sets, operand_prop)
 frame_prop kinds (Over agg filter back) = hlevel (sets, frame_agg_prop, condition_prop, back_prop)
 
+key_prop : (kinds : List Kind) (o : Option PlanKey) → IsProp (KeyFits kinds o)
+key_prop kinds None = hlevel sets
+key_prop kinds (Some by) = hlevel sets
+
 suits_prop : (shapes : ℕ → Shape) (n : PlanNode) → IsProp (Suits shapes n)
 suits_prop shapes (Stream number kinds) = hlevel sets
 suits_prop shapes (Body kinds) = hlevel sets
 suits_prop shapes (Compute child ops) = hlevel (sets, op_prop)
 suits_prop shapes (Select child column) = hlevel sets
 suits_prop shapes (Project child items) = hlevel (sets, operand_prop)
-suits_prop shapes (Frames child items) = hlevel (sets, frame_prop)
+suits_prop shapes (Frames child by items) = hlevel (sets, frame_prop, key_prop)
 suits_prop shapes (Aggregate child aggs) = hlevel (sets, agg_prop)
 suits_prop shapes (Union left right) = hlevel sets
 suits_prop shapes (Beside left right) = hlevel sets
@@ -139,7 +144,7 @@ over_prop nodes (Body kinds) = hlevel sets
 over_prop nodes (Compute child ops) = hlevel sets
 over_prop nodes (Select child column) = hlevel sets
 over_prop nodes (Project child items) = hlevel sets
-over_prop nodes (Frames child items) = hlevel sets
+over_prop nodes (Frames child by items) = hlevel sets
 over_prop nodes (Aggregate child aggs) = hlevel sets
 over_prop nodes (Union left right) = hlevel sets
 over_prop nodes (Beside left right) = hlevel sets

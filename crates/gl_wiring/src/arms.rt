@@ -1,6 +1,6 @@
 //! The circuit of a node of each kind behind those of its children.
 
-ghost use Rattle.std.specs.Prelude.{◌≡◌, ◌<◌, Some, slice_get, IfOk, length};
+ghost use Rattle.std.specs.Prelude.{◌≡◌, ◌<◌, None, Some, slice_get, IfOk, length};
 ghost use Rattle.gl_algebra.specs.declared.node.PlanNode.TheVariants.{Compute, Select, Project, Frames, Aggregate, Union, Beside};
 ghost use Rattle.gl_wire.specs.Faults.{no_faults};
 ghost use Rattle.gl_wiring.specs.Put.{IsPutBehind};
@@ -123,7 +123,7 @@ pub(crate) fn frames_node(
     items: &PlanFrames,
     table: &[Option<Emitted>],
 ) -> Result<Emitted, Memory>
-    requires node { slice_get site.plan.now id ≡ Some (Frames child items.now) }
+    requires node { slice_get site.plan.now id ≡ Some (Frames child None items.now) }
     requires there { HasCircuit site.plan.now net.old site.tick site.leaves.now table.now child }
     ensures { let s = site.entry in
         IfOk result (λ e. IsPutBehind s.plan.now id net.old net.new s.tick s.leaves.now e) }

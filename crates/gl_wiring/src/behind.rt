@@ -6,10 +6,10 @@ ghost use Rattle.gl_wiring.specs.Put.{CanPut, IsPutBehind};
 ghost use Rattle.gl_wiring.specs.Tables.{HaveChildren};
 
 use crate::arms::{
-    aggregate_node, beside_node, compute_node, frames_node, leaf_of, project_node, select_node,
-    union_node,
+    aggregate_node, beside_node, compute_node, leaf_of, project_node, select_node, union_node,
 };
 use crate::below::laws_below;
+use crate::parted::{FramesOf, frames_by};
 use crate::site::Site;
 use gl_algebra::{PlanId, PlanNode};
 use gl_bits::Memory;
@@ -55,7 +55,14 @@ pub(crate) fn put_behind(
         PlanNode::Compute { child, ops } => compute_node(net, site, id, *child, ops, table),
         PlanNode::Select { child, column } => select_node(net, site, id, *child, *column, table),
         PlanNode::Project { child, items } => project_node(net, site, id, *child, items, table),
-        PlanNode::Frames { child, items } => frames_node(net, site, id, *child, items, table),
+        PlanNode::Frames { child, by, items } => {
+            let frames = FramesOf {
+                id,
+                child: *child,
+                by: *by,
+            };
+            frames_by(net, site, frames, items, table)
+        }
         PlanNode::Aggregate { child, aggs } => aggregate_node(net, site, id, *child, aggs, table),
         PlanNode::Union { left, right } => union_node(net, site, id, *left, *right, table),
         PlanNode::Beside { left, right } => beside_node(net, site, id, *left, *right, table),

@@ -4,6 +4,7 @@ ghost use Rattle.gl_wiring.specs.Below.{LawsBelow};
 
 use gl_algebra::laws as plans;
 use gl_figures::reach_laws::once_is_less;
+use gl_frames_parted::laws::key_frames_are_counted;
 use gl_frames_stages::laws::frames_are_counted;
 use gl_frames_wire::laws::running_serves;
 use gl_wire::laws as wires;
@@ -30,6 +31,7 @@ pub fn laws_below()
     begins_behind();
     running_serves();
     frames_are_counted();
+    key_frames_are_counted();
     gl_windows::laws::windows_rotate();
     gl_windows::laws::costs_are_counted();
     gl_windows::laws::times_rotate();

@@ -20,6 +20,7 @@ pub mod many;
 pub mod names;
 mod notes;
 mod output;
+mod parted;
 pub mod partitions;
 pub mod parts;
 pub mod plan;

@@ -1,4 +1,4 @@
-use Rattle.std.proofs.Common.{[], refl}
+use Rattle.std.proofs.Common.{[], None, refl}
 use Rattle.gl_algebra.specs.declared.node.PlanNode.TheVariants.{Frames}
 use Rattle.gl_wiring.proofs.CanLemmas.{first_within}
 use Rattle.gl_wiring.proofs.RowLemmas.{frames_put}
@@ -15,15 +15,15 @@ pub put_frames-requires-clause-kinds : goal.put_frames-requires-clause-kinds
 put_frames-requires-clause-kinds c = rw c.kinds.ensures.kinds (taken_gives c.requires.there c.in_ok-below.ensures).same_widths
 
 pub kinds-requires : goal.kinds-requires
-kinds-requires c = first_within c.args.site.plan.now c.args.id (Frames c.args.child c.args.items.now) c.args.site.planned c.requires.node c.args.child [] refl
+kinds-requires c = first_within c.args.site.plan.now c.args.id (Frames c.args.child None c.args.items.now) c.args.site.planned c.requires.node c.args.child [] refl
 
 pub put_frames-requires-clause-are_kinds : goal.put_frames-requires-clause-are_kinds
 put_frames-requires-clause-are_kinds c =
     rw c.kinds.ensures.kinds (c.laws_below.ensures.columns_have_kinds c.args.site.plan.now c.args.child c.args.site.planned
-    (first_within c.args.site.plan.now c.args.id (Frames c.args.child c.args.items.now) c.args.site.planned c.requires.node c.args.child [] refl))
+    (first_within c.args.site.plan.now c.args.id (Frames c.args.child None c.args.items.now) c.args.site.planned c.requires.node c.args.child [] refl))
 
 pub put_frames-requires-clause-items : goal.put_frames-requires-clause-items
-put_frames-requires-clause-items c = rw (c.kinds.ensures.kinds, c.as_slice.ensures) ((c.args.site.planned.fits c.args.id _ c.requires.node).suits)
+put_frames-requires-clause-items c = rw (c.kinds.ensures.kinds, c.as_slice.ensures) (c.args.site.planned.fits c.args.id (Frames c.args.child None c.args.items.now) c.requires.node).suits.0
 
 pub returns : goal.returns
 returns c =

@@ -33,8 +33,8 @@ select_node-requires-clause-there c = (c.requires.children (Select c.in-Select.c
 pub project_node-requires-clause-there : goal.project_node-requires-clause-there
 project_node-requires-clause-there c = (c.requires.children (Project c.in-Project.child c.in-Project.items) (c.node.ensures.node ∙ ap Some c.in-Project.is)).0
 
-pub frames_node-requires-clause-there : goal.frames_node-requires-clause-there
-frames_node-requires-clause-there c = (c.requires.children (Frames c.in-Frames.child c.in-Frames.items) (c.node.ensures.node ∙ ap Some c.in-Frames.is)).0
+pub frames_by-requires-clause-there : goal.frames_by-requires-clause-there
+frames_by-requires-clause-there c = (c.requires.children (Frames c.in-Frames.child c.in-Frames.by c.in-Frames.items) (c.node.ensures.node ∙ ap Some c.in-Frames.is)).0
 
 pub aggregate_node-requires-clause-there : goal.aggregate_node-requires-clause-there
 aggregate_node-requires-clause-there c = (c.requires.children (Aggregate c.in-Aggregate.child c.in-Aggregate.aggs) (c.node.ensures.node ∙ ap Some c.in-Aggregate.is)).0

@@ -20,6 +20,7 @@ returns c = record {
   running_settles = c.running_serves.ensures.settles;
   running_keeps_pace = c.running_serves.ensures.pace;
   frames_are_counted = c.frames_are_counted.ensures;
+  key_frames_are_counted = c.key_frames_are_counted.ensures;
   windows_rotate = c.windows_rotate.ensures;
   rotations_are_counted = c.costs_are_counted.ensures;
   times_rotate = c.times_rotate.ensures;
