@@ -142,9 +142,10 @@ def values_of(columns, word):
             yield str(value - (1 << width) if kind.startswith('s') and value >> width - 1 else value)
 
 
-def sessions_of(log, schema, gap):
-    """The tuple file of each session, and the transfers that left, by result."""
-    kinds, sessions, now, at, cycle, came = dict(schema), [], [], 0, None, {}
+def sessions_of(log, schema, apart):
+    """The tuple file of each session, with beats and ticks so far apart, and the transfers that left, by result."""
+    (gap, calm), kinds = apart, dict(schema)
+    sessions, now, at, ticked, cycle, came = [], [], 0, None, None, {}
     for line in log:
         words = line.split()
         if words[0] == 'out':
@@ -152,13 +153,16 @@ def sessions_of(log, schema, gap):
             continue
         if words[0] != cycle:
             cycle, at = words[0], at + gap
+        if words[1] == 'tick' or (words[1] == 'end' and ticked != at):
+            at = at if ticked is None else max(at, ticked + calm)
         if words[1] == 'tick':
             now.append(f'{at},tick\n')
+            ticked = at
         elif words[1] == 'in':
             now.append(','.join([str(at), words[2], *values_of(kinds[words[2]], int(words[3], 16))]) + '\n')
         else:
             sessions.append(''.join(now) + f'{at},end\n')
-            now, at = [], 0
+            now, at, ticked = [], 0, None
     return sessions, came
 
 
@@ -186,11 +190,11 @@ def differs(rows, overflow, transfers, columns):
     return '' if last == '1' and '1' not in keep and int(user) == overflow else f'no end behind {len(rows)} rows: {keep}'
 
 
-def compared(program, files, log, results, gap):
+def compared(program, files, log, results, apart):
     """What differs between a log and what the program says of its sessions, or nothing; and the sessions and rows."""
     with open(files[0], encoding='utf8') as file:
         schema = schema_of(file.read())
-    sessions, came = sessions_of(log, schema, gap)
+    sessions, came = sessions_of(log, schema, apart)
     rows_there = 0
     with tempfile.TemporaryDirectory() as room:
         for number, text in enumerate(sessions):

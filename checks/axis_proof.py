@@ -9,9 +9,12 @@ COUNT = 8  # bits of counters: the runs are shorter than 256 cycles
 
 
 def figures_in(text):
-    """The gap, and of each result what the heading of a wrapper says: rows, cycles, rows of the end."""
+    """The gap, the distance of ticks where there is one, and of each result what the heading of a wrapper says: rows,
+    cycles, rows of the end."""
+    calm = re.search(r'behind a tick by (\d+)', text)
     told = re.findall(r'^// m_axis\w*: .* at most (\d+) rows of a beat, in (\d+) cycles, and (\d+) of the end', text, re.M)
-    return int(re.search(r'apart by (\d+) cycles', text)[1]), [tuple(map(int, it)) for it in told]
+    gap = int(re.search(r'apart by (\d+) cycles', text)[1])
+    return gap, calm and int(calm[1]), [tuple(map(int, it)) for it in told]
 
 
 def budget(at, front, columns, figures):
@@ -43,9 +46,17 @@ def budget(at, front, columns, figures):
     yield 'end'
 
 
-def stand_in(text, module, schema, gap, figures):
+def distance_kept(calm):
+    """That ticks and the end keep the distance of ticks."""
+    yield 'integer quiet;'
+    yield f'always @(posedge clk) quiet <= rst ? {calm} : tick ? 1 : quiet < {calm} ? quiet + 1 : quiet;'
+    yield f'always @* if (there && !rst) assert (!(tick || eos) || quiet >= {calm});'
+
+
+def stand_in(text, module, schema, figures):
     """A module with the ports of the real one, which gives any rows that the figures allow, and says that its inputs
     keep the rules."""
+    gap, calm, rows = figures
     results, ticks = results_of(text), has_tick(text)
     begins = re.search(r'^module ', text, re.M).start()
     head = text[begins : text.index(');', begins) + 2]
@@ -56,13 +67,14 @@ def stand_in(text, module, schema, gap, figures):
     lines += ['ended <= !rst && (ended || eos);', 'end', 'always @* if (there) begin']
     lines += ['assert (!(rst && beat));', 'if (!rst) assert (!(ended && beat));']
     lines += [f'if (!rst) assert (!beat || since >= {gap});', 'end']
-    for at, ((front, columns), it) in enumerate(zip(results, figures)):
+    lines += distance_kept(calm) if calm else ()
+    for at, ((front, columns), it) in enumerate(zip(results, rows)):
         lines += budget(at, front, columns, it)
     return '\n'.join([*lines, 'endmodule', ''])
 
 
-def entry_kept(schema):
-    """Assertions about what the module sees."""
+def entry_kept(schema, calm):
+    """Assertions about what the module sees, or what is held for it behind a tick that waits."""
     one = len(schema) == 1
     for name, columns in schema:
         line = 's_axis' if one else f's_axis_{name}'
@@ -70,8 +82,11 @@ def entry_kept(schema):
         bits = sum(8 * -(-width_of(kind) // 8) for _, kind in columns)
         yield f'reg was_{name}; reg [{bits - 1}:0] gave_{name};'
         yield 'always @(posedge aclk) begin'
+        if calm:
+            yield 'if (!(aresetn && held))'
+        yield 'begin'
         yield f'was_{name} <= aresetn && {line}_tvalid && {line}_tready{keep}; gave_{name} <= {line}_tdata;'
-        yield 'end'
+        yield 'end end'
         yield f'always @* if (there) assert (valid__{name} == was_{name});'
         at = 0
         for column, kind in columns:
@@ -81,17 +96,19 @@ def entry_kept(schema):
             at += 8 * -(-width // 8)
 
 
-def ticks_kept(schema):
+def ticks_kept(schema, calm):
     """Assertions about ticks: none is lost, and each tuple is behind those up to its transfer."""
     low = f'[{COUNT - 1}:0]'
     yield f'reg {low} raised = 0, passed = 0, before;'
     yield 'always @(posedge aclk) begin'
-    yield "raised <= aresetn ? raised + tick : 0; passed <= aresetn ? passed + tick_in : 0; before <= raised + tick;"
+    yield 'raised <= aresetn ? raised + tick : 0; passed <= aresetn ? passed + tick_in : 0;'
+    yield f'{"if (!(aresetn && held)) " if calm else ""}before <= raised + tick;'
     yield 'end'
     yield f'always @* if (there) assert (raised == passed + tick_in + waiting{low});'
     yield "always @* if (there) assert (waits == (waiting != 32'd0));"
     for name, _ in schema:
-        yield f'always @* if (there && valid__{name}) assert (before == passed + tick_in);'
+        shown = f'valid__{name}{" && !held" if calm else ""}'
+        yield f'always @* if (there && {shown}) assert (before == passed + tick_in);'
 
 
 def exit_kept(line, columns):
@@ -123,10 +140,10 @@ def exit_kept(line, columns):
     yield 'end'
 
 
-def with_assertions(text, schema, results, ticks):
+def with_assertions(text, schema, results, ticks, calm):
     """A wrapper with assertions in front of its end. The first cycle is a reset, and no later one."""
     more = ['reg there = 0;', 'always @(posedge aclk) there <= 1;', 'always @* assume (aresetn == there);']
-    more += [*entry_kept(schema), *(ticks_kept(schema) if ticks else ())]
+    more += [*entry_kept(schema, calm), *(ticks_kept(schema, calm) if ticks else ())]
     for front, columns in results:
         more += exit_kept(f'm_axis_{front[:-2]}' if front else 'm_axis', columns)
     return text.replace('endmodule', '\n'.join([*more, 'endmodule']))
@@ -136,11 +153,11 @@ def proved(case, schema_file, module_text, text, steps, room):
     """Whether the assertions hold in all runs of so many steps; a line tells of it."""
     with open(schema_file, encoding='utf8') as file:
         schema = schema_of(file.read())
-    gap, figures = figures_in(text)
+    figures = figures_in(text)
     module, top = ports_of(module_text)[0], re.search(r'^module (\w+)', text, re.M)[1]
     with open(f'{room}/proof.v', 'w', encoding='utf8') as file:
-        file.write(with_assertions(text, schema, results_of(module_text), has_tick(module_text)))
-        file.write(stand_in(module_text, module, schema, gap, figures))
+        file.write(with_assertions(text, schema, results_of(module_text), has_tick(module_text), figures[1]))
+        file.write(stand_in(module_text, module, schema, figures))
     script = f'read_verilog -formal -sv {room}/proof.v; prep -flatten -nordff -top {top}; write_smt2 -wires {room}/proof.smt2'
     said = ended(['yosys', '-q', '-p', script])
     if said.returncode:

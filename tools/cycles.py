@@ -37,6 +37,9 @@ def with_cycles(words, clock=None):
         '--gap', metavar='G', type=int, default=1, help='the gap of the query, as `figures` prints it (%(default)s)'
     )
     words.add_argument(
+        '--ticks', metavar='H', type=int, help='the distance of ticks, where `figures` prints one; without it the gap'
+    )
+    words.add_argument(
         '--tick', metavar='SECONDS', type=number, help='the time from one tick to the next; without it there are none'
     )
     words.add_argument('--idle', metavar='N', type=int, help='the longest pause, in cycles')
@@ -50,8 +53,12 @@ def check_cycles(words, asked):
         words.error('--tick is a time above 0, and --clock a number above 0')
     if asked.gap < 1 or (asked.idle is not None and asked.idle < 1):
         words.error('--gap and --idle are at least 1')
-    if asked.tick and asked.clock and asked.tick * asked.clock < asked.gap:
-        words.error(f'ticks are {float(asked.tick * asked.clock):.4g} cycles apart, which is nearer than the gap')
+    if asked.ticks is None:
+        asked.ticks = asked.gap
+    if asked.ticks < asked.gap:
+        words.error('--ticks is at least the gap, since a tick is a beat')
+    if asked.tick and asked.clock and asked.tick * asked.clock < asked.ticks:
+        words.error(f'ticks are {float(asked.tick * asked.clock):.4g} cycles apart, which is nearer than they may be')
 
 
 def with_ticks(events, every):
@@ -67,20 +74,30 @@ def with_ticks(events, every):
 
 def placed(events, asked):
     """The beats of events. A row comes in its cycle, or, where its stream has one there, in the next free one. A tick
-    waits until the gap has run, or goes with the next row."""
+    waits until the gap and the distance of ticks have run, or goes with the next row."""
     beats, cuts, moved, cut, first = [], [], 0, 0, None
     for event in events:
         first = event.time if first is None else first
         cycle, last = int((event.time - first) * asked.clock) - cut, beats[-1].cycle if beats else -1
-        longest = asked.idle and max(asked.idle, asked.gap if event.stream is None or asked.wait else 0)
+        longest = asked.idle and max(asked.idle, least_pause(event, asked))
         if beats and longest and cycle - last > longest:
             cut, cycle = cut + cycle - last - longest, last + longest
             cuts.append((cycle, cut))
         if event.stream is None:
-            beats.append(Beat(max(cycle, last + asked.gap), True, {}))
+            beats.append(Beat(max(cycle, last + asked.gap, next_tick(beats, asked)), True, {}))
         else:
             moved += put(beats, cycle, event, asked)
     return Placed(beats, moved, cuts)
+
+
+def least_pause(event, asked):
+    """The cycles that no pause in front of an event may be shortened to less than."""
+    return asked.ticks if event.stream is None else asked.gap if asked.wait else 0
+
+
+def next_tick(beats, asked):
+    """The first cycle in which a tick may come behind some beats."""
+    return next((beat.cycle + asked.ticks for beat in reversed(beats) if beat.ticked), 0)
 
 
 def put(beats, cycle, event, asked):
@@ -90,7 +107,7 @@ def put(beats, cycle, event, asked):
         return cycle < beats[-1].cycle
     tick = beats.pop() if beats and not beats[-1].rows else None  # it may go with this row
     free = beats[-1].cycle + (1 if beats[-1].rows and not asked.wait else asked.gap) if beats else 0
-    at = max(cycle, free)
+    at = max(cycle, free, next_tick(beats, asked) if tick else 0)
     joins = tick is not None and at < tick.cycle + asked.gap
     if tick is not None and not joins:
         beats.append(tick)
@@ -98,11 +115,17 @@ def put(beats, cycle, event, asked):
     return cycle < at
 
 
-def written(beats):
+def end_of(beats, asked):
+    """The cycle of the end: that of the last beat, or later where a tick before it is nearer than ticks may be."""
+    return max(beats[-1].cycle, next_tick(beats[:-1], asked)) if beats else 0
+
+
+def written(beats, asked):
     """Writes a tuple file to standard output."""
-    if beats and beats[-1].cycle > LAST:
+    end = end_of(beats, asked)
+    if end > LAST:
         sys.exit(
-            f'the feed ends in cycle {beats[-1].cycle:,}, and a tuple file at {LAST:,}: '
+            f'the feed ends in cycle {end:,}, and a tuple file at {LAST:,}: '
             'shorten its pauses by --idle, or take a slower clock'
         )
     write = csv.writer(sys.stdout, lineterminator='\n').writerow
@@ -111,6 +134,8 @@ def written(beats):
             write([beat.cycle, 'tick'])
         for stream, values in beat.rows.items():
             write([beat.cycle, stream, *values])
+    if beats and end > beats[-1].cycle:
+        write([end, 'end'])
 
 
 def told(asked, events, beats, moved):
@@ -125,7 +150,8 @@ def told(asked, events, beats, moved):
         file=sys.stderr,
     )
     if not near:
-        print(f'they keep a gap of {asked.gap}', file=sys.stderr)
+        distance = f', and ticks one of {asked.ticks}' if asked.ticks > asked.gap else ''
+        print(f'they keep a gap of {asked.gap}{distance}', file=sys.stderr)
         return 0
     print(f'they do not keep a gap of {asked.gap}: {near} are nearer; {cure(asked.gap, events)}', file=sys.stderr)
     return 1

@@ -26,9 +26,9 @@ Side = collections.namedtuple('Side', 'line stream columns')
 # places of its FIFO, and how many of them are kept for rows of beats that were let in.
 Result = collections.namedtuple('Result', 'line front columns rows end_rows last depth kept')
 
-# A module behind its wrapper: its name, the sides, whether it has ticks, its gap, the cycles between two beats and
-# those between the last of them and the end, and the results.
-Plan = collections.namedtuple('Plan', 'module sides ticks gap pace rest results')
+# A module behind its wrapper: its name, the sides, whether it has ticks, its gap, the distance of ticks where it is
+# more than that, the cycles between two beats and those between the last of them and the end, and the results.
+Plan = collections.namedtuple('Plan', 'module sides ticks gap calm pace rest results')
 
 
 def bytes_of(columns):
@@ -137,12 +137,13 @@ def plan_of(program, files, depth=None, room=None):
         refused(text, command, files)
     schema, statements = schema_of(text_of(files[0])), statements_of(text_of(files[1]))
     said = ended([program, 'figures' if command == 'compile' else 'manyfigures', *files]).stdout
-    gap = max(int(it) for it in re.findall(r'^(?:gap|ticks) (\d+)$', said, re.M))  # a tick is a beat like any other
+    gap, *ticks = (int(it) for it in re.findall(r'^(?:gap|ticks) (\d+)$', said, re.M))
     results = [
         Result('m_axis' + f'_{front[:-2]}' * bool(front), front, columns, *it, 0, 0)
         for (front, columns), it in zip(results_of(text), figures_of(program, files[0], statements))
     ]
-    plan = Plan(ports_of(text)[0], sides_of(schema), has_tick(text), gap, gap, gap, results)
+    calm = ticks[0] if ticks and ticks[0] > gap else None
+    plan = Plan(ports_of(text)[0], sides_of(schema), has_tick(text), gap, calm, gap, gap, results)
     return planned(plan, depth), text
 
 
@@ -176,9 +177,10 @@ def entry(plan):
         yield f'wire take__{stream} = aresetn && ready && {line}_tvalid{keep};'
         yield f'reg valid__{stream};' + ''.join(f' reg [{width - 1}:0] {stream}__{name};' for name, width in columns)
         yield 'always @(posedge aclk) begin'
-        yield f'    valid__{stream} <= take__{stream};'
+        yield f'    valid__{stream} <= take__{stream}{f" || (aresetn && held && valid__{stream})" if plan.calm else ""};'
         for name, at, width in places_of(columns):
-            yield f"    {stream}__{name} <= take__{stream} ? {line}_tdata[{at + width - 1}:{at}] : {width}'d0;"
+            stays = f'aresetn && held ? {stream}__{name} : ' if plan.calm else ''
+            yield f"    {stream}__{name} <= {stays}take__{stream} ? {line}_tdata[{at + width - 1}:{at}] : {width}'d0;"
         yield 'end'
         yield f'assign {line}_tready = ready;'
     if not one:
@@ -186,19 +188,37 @@ def entry(plan):
     offered = ' || '.join([f'{line}_tvalid' for line, _, _ in plan.sides] + ['s_axis_end_tvalid'] * (not one))
     yield f'wire last = ready && {"s_axis_tvalid && s_axis_tlast" if one else "s_axis_end_tvalid"};'
     yield f'wire beat = ready && ({offered}){" || ticked" if plan.ticks else ""};'
+    if plan.calm:
+        yield f'assign holds = held ? !ticked : ready && ({offered}) && tick && !ticked;'
 
 
-def ticking():
+def ticking(plan):
     """Ticks: in front of what is taken in their cycle, or counted. One that waits goes alone, and while one waits
     nothing is taken."""
+    if plan.calm:
+        yield from calming(plan.calm)
     yield from (
         'reg [31:0] waiting; reg waits; reg tick_in;',
-        'wire ticked = open && (waits || tick);',
+        f'wire ticked = open && {"calm && " if plan.calm else ""}(waits || tick);',
         "wire still = aresetn && (tick == ticked ? waits : tick || waiting != 32'd1);",
         'always @(posedge aclk) begin',
         '    waits <= still;',
         "    waiting <= aresetn ? waiting + {31'd0, tick} - {31'd0, ticked} : 32'd0;",
         '    tick_in <= aresetn && ticked;',
+        'end',
+    )
+
+
+def calming(cycles):
+    """Whether the distance of ticks has run since the last one, for the next and for the end; and whether what was
+    transferred in the cycle of a tick that waits is held until that tick goes."""
+    bits = bits_for(cycles)
+    yield from (
+        f'reg calm; reg held; reg [{bits - 1}:0] hush; wire holds;',
+        'always @(posedge aclk) begin',
+        '    held <= aresetn && holds;',
+        f"    hush <= off ? {bits}'d0 : ticked ? {bits}'d{cycles - 1} : hush == {bits}'d0 ? {bits}'d0 : hush - {bits}'d1;",
+        f"    calm <= off || (!ticked && hush <= {bits}'d1);",
         'end',
     )
 
@@ -210,12 +230,13 @@ def steering(plan):
     rooms = ''.join(f' && {it.line}_room' for it in plan.results if it.kept)
     ends = ''.join(f' && {it.line}_end_room' for it in plan.results)
     yield f'wire spaced = {spaced};'
-    yield f'wire opens = !off && !shut && !last && spaced{rooms};'
-    yield f'wire close = ending && rested{ends};'
+    more = '!shut && !last'
+    yield f'wire opens = !off && {f"(holds || ({more}))" if plan.calm else more} && spaced{rooms};'
+    yield f'wire close = ending && rested{" && calm && !held" if plan.calm else ""}{ends};'
     yield from (
         'always @(posedge aclk) begin',
         '    open <= opens;',
-        f'    ready <= opens{" && !still" if plan.ticks else ""};',
+        f'    ready <= opens{" && !still" if plan.ticks else ""}{" && !holds" if plan.calm else ""};',
         f"    pause <= off ? {bits}'d0 : beat ? {bits}'d{rest - 1}",
         f"        : pause == {bits}'d0 ? {bits}'d0 : pause - {bits}'d1;",
         f"    rested <= {'' if rest == 1 else '!beat && '}pause <= {bits}'d1;",
@@ -270,7 +291,7 @@ def connections(plan):
     """The ports of the module."""
     yield from ('.clk(aclk)', '.rst(rst)')
     for _, stream, columns in plan.sides:
-        yield f'.in__{stream}__valid(valid__{stream})'
+        yield f'.in__{stream}__valid(valid__{stream}{" && !held" if plan.calm else ""})'
         yield from (f'.in__{stream}__{name}({stream}__{name})' for name, _ in columns)
     yield from ('.eos(eos)', *['.tick(tick_in)'] * plan.ticks)
     for it in plan.results:
@@ -291,7 +312,8 @@ def layout(columns):
 
 def heading(plan):
     """What the wrapper does, in comments."""
-    yield f'// {plan.module} behind AXI4-Stream: beats are apart by {plan.pace} cycles, the end by {plan.rest}'
+    calm = f', ticks and the end behind a tick by {plan.calm}' if plan.calm else ''
+    yield f'// {plan.module} behind AXI4-Stream: beats are apart by {plan.pace} cycles, the end by {plan.rest}{calm}'
     for it in plan.sides:
         yield f'// {it.line}_tdata: {layout(it.columns)}'
     for it in plan.results:
@@ -311,7 +333,7 @@ def wrapper(plan):
     for it in plan.results:
         lines.append(f'wire {it.line}_row; wire {it.line}_eos; wire {it.line}_group; wire {it.line}_queue;')
         lines.append(f'wire [{sum(width for _, width in it.columns) - 1}:0] {it.line}_data;')
-    lines += ['wire off = !aresetn || rst;', *(ticking() if plan.ticks else ()), *entry(plan)]
+    lines += ['wire off = !aresetn || rst;', *(ticking(plan) if plan.ticks else ()), *entry(plan)]
     for it in plan.results:
         lines += exit_of(it)
     lines += steering(plan)
