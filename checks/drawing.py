@@ -37,7 +37,7 @@ def weight_of(query):
         weight_of(query['body'])
         if query['body']
         else 1 + sum(10 if it[1] == 'avg' else 1 for it in (query['totals'] or []) + (query['frames'] or []))
-    )
+    ) + (query['part'][1] // 8 if query['part'] else 0)
     return weight_of(query['source']) + copies * inside
 
 
@@ -61,7 +61,7 @@ class Maker:
     """Draws schemas, queries and tuples. What it draws is accepted, unless its plan passes a limit."""
 
     def __init__(self, draw, groups, signed, ticks, times, keyed, frames=False):
-        self.frames = frames
+        self.frames, self.many = frames, frames and draw.random() < 0.4
         self.draw, self.groups, self.signed, self.ticks, self.times, self.keyed, self.words = (
             draw,
             groups,
@@ -101,8 +101,10 @@ class Maker:
                 some_ = list(dict.fromkeys([0, 1, 2, top, top - 1, top // 2, top // 2 + 1, self.draw.randint(0, top)]))
             if kind[0] == 't':
                 some_ = [word_of(it[: int(kind[4:])], kind) for it in LETTERS]
+            if self.many and top > 255 and kind[0] != 't':
+                some_ = list(dict.fromkeys(some_ + [self.draw.randint(0, top) for _ in range(8)]))
             self.words[kind] = self.draw.sample(
-                [it for it in some_ if 0 <= it <= top], min(len(some_) - 2, 4) if top > 1 else 2
+                [it for it in some_ if 0 <= it <= top], min(len(some_) - 2, 12 if self.many else 4) if top > 1 else 2
             )
         return self.draw.choice(self.words[kind])
 
@@ -225,6 +227,22 @@ class Maker:
             out.append((name, sort, argument, condition, back))
         return out if any(item[1] != 'own' for item in out) else self.frames_over(columns)
 
+    def part(self, columns):
+        """A key and how many of its values rows are kept of, or none: mostly few, so that further ones come."""
+        if self.often(0.4):
+            return None
+        most = self.draw.choice([1, 1, 2, 2, 3, 4, 7, 8, 9, 64, 65, self.draw.randint(1, 100)])
+        return self.draw.choice(columns)[0], most
+
+    def framed(self, source):
+        """A select of frames over a source."""
+        return self.select(source, frames=self.frames_over(source['columns']), part=self.part(source['columns']))
+
+    def framed_body(self, scope, depth):
+        """Totals of frames of what a body sees."""
+        source = self.framed(self.read(scope) if self.often(0.7) else self.source(scope, depth))
+        return self.select(source, totals=self.totals(source['columns']))
+
     def read(self, scope):
         """A stream, or what a body sees."""
         name = self.draw.choice(list(scope))
@@ -292,7 +310,7 @@ class Maker:
         if way == 'total':
             return self.select(source, totals=self.totals(columns))
         if way == 'frames':
-            return self.select(source, frames=self.frames_over(columns))
+            return self.framed(source)
         if way == 'window':
             return self.select(source, totals=self.totals(columns), window=self.window(measure))
         key, kind = self.draw.choice(columns)
@@ -302,7 +320,10 @@ class Maker:
                 return self.select(source, totals=self.totals(columns, [key]), window=self.window(), group=group)
             return self.select(source, totals=self.totals(columns, [key]), group=group)
         var = self.names(1)[0] if self.often(0.7) else self.draw.choice(list(self.schema))
-        body = self.query({var: columns}, depth - 1, True)
+        if self.frames and self.often(0.4):
+            body = self.framed_body({var: columns}, depth - 1)
+        else:
+            body = self.query({var: columns}, depth - 1, True)
         if way != 'each' and key in [name for name, _ in body['columns']]:
             body = self.renamed(body, [key])
         out = {
@@ -313,6 +334,7 @@ class Maker:
             'filter': None,
             'totals': None,
             'frames': None,
+            'part': None,
             'window': None,
             'group': None,
         }
@@ -358,6 +380,8 @@ class Maker:
         if source is None:
             source = self.source(scope, depth - 1)
             return self.select(source, totals=self.totals(source['columns']))
+        if self.frames and self.often(0.3):
+            return self.select(source, frames=self.frames_over(source['columns']), filter_=0)
         return self.select(source, None if self.often(0.1) else self.items(source['columns']), filter_=0)
 
     def concat(self, scope, depth, closing, base=None):

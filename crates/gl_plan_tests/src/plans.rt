@@ -171,7 +171,14 @@ fn put_frames(alloc: Global, plan: &mut Plan, child: PlanId) -> Result<(), Memor
     ensures { OnOk result (KeepsShapes plan.old plan.new) }
 {
     let items = lags(alloc)?;
-    put(plan, PlanNode::Frames { child, items })?;
+    put(
+        plan,
+        PlanNode::Frames {
+            child,
+            by: None,
+            items,
+        },
+    )?;
     Ok(())
 }
 

@@ -168,8 +168,12 @@ fn push_node(out: &mut String, schema: &Schema, node: &PlanNode) -> Result<(), A
                 push_operand(out, item)?;
             }
         }
-        PlanNode::Frames { child, items } => {
+        PlanNode::Frames { child, by, items } => {
             write!(out, "frames p{}", child.number())?;
+            match by {
+                Some(by) => write!(out, " by c{} {}", by.key, by.groups)?,
+                None => {}
+            }
             for item in items.as_slice() {
                 push_frame(out, item)?;
             }

@@ -33,6 +33,9 @@ returns-clause-figures c = record {
   last_prices = record { is_late = refl; is_apart = refl; is_copied = refl };
   far_prices = record { is_late = refl; is_apart = refl; is_copied = refl };
   counted_volumes = record { is_late = refl; is_apart = refl; is_copied = refl };
+  two_symbols = record { is_late = refl; is_apart = refl; is_copied = refl };
+  many_symbols = record { is_late = refl; is_apart = refl; is_copied = refl };
+  counts_by_number = record { is_late = refl; is_apart = refl; is_copied = refl };
 }
 
 pub returns-clause-weights : goal.returns-clause-weights
@@ -44,6 +47,11 @@ returns-clause-weights c = record {
   one_before = refl;
   last_of_each = refl;
   far = refl;
+  two_symbols = refl;
+  many_symbols = refl;
+  counts_by_number = refl;
+  far_by_symbol = refl;
+  farthest_by_symbol = refl;
 }
 
 pub returns-clause-bits : goal.returns-clause-bits
@@ -56,4 +64,7 @@ returns-clause-bits c = record {
   keys = refl;
   one_before = refl;
   last_of_each = refl;
+  two_symbols = refl;
+  many_symbols = refl;
+  counts_by_number = refl;
 }
