@@ -1,0 +1,4 @@
+pub mod OrderLemmas
+pub mod SideLemmas
+pub mod ChangeLemmas
+pub mod ResultLemmas
