@@ -1,0 +1,6 @@
+mod PlaceLemmas
+mod MapLemmas
+mod ToldLemmas
+mod SeenNet
+mod PassNet
+mod MapNet
