@@ -5,7 +5,7 @@ use Rattle.gl_values.specs.Results.{Row}
 use Rattle.gl_net.specs.declared.node.Bit.{Bit}
 use Rattle.gl_net.specs.Net.{Net, Run, IsRun, IsBit, IsBus, Keeps}
 use Rattle.gl_wire.specs.declared.wire.Wire.{Wire}
-use Rattle.gl_wire.specs.Costs.{Costs}
+use Rattle.gl_wire.specs.Costs.{Cost, Costs}
 use Rattle.gl_wire.specs.Shapes.{IsDelayed}
 use Rattle.gl_wire.specs.Wire.{Carried, IsWire, carried, line_at, widths, wire_of}
 use Rattle.gl_wire_lanes.specs.Shares.{lane_of, rows_of}
@@ -82,20 +82,28 @@ pub record IsLateIn (old new : Net) (late : Wire) (passes : Bit) (told : Told) (
   pub has : HasKeyLane new late told.slot.width r
   pub law : (run : Run) → IsRun new run → IsToldLate run late passes told r
 
--- in a run, two cycles behind a wire, the lane of the first keys of each of its streams, and a line that is 1 where a
--- row of a further key would stand
-pub record IsKeyLane (run : Run) (keys : Keys) (source : Wire) (r : KeyLane) : Type 0 where
+-- in a run, so many cycles behind a wire, the lane of the first keys of each of its streams, and a line that is 1 where
+-- a row of a further key would stand
+pub record IsLaneBehind (cycles : ℕ) (run : Run) (keys : Keys) (source : Wire) (r : KeyLane) : Type 0 where
   pub late : Carried
-  pub behind : IsDelayed 2 (carried run source) late
+  pub behind : IsDelayed cycles (carried run source) late
   pub lane : IsKeyedLane keys.groups (key_in keys.column) late (lane_of run r.wire r.slot r.first) (rows_of run r.wire)
   pub further : (c : ℕ) → line_at run r.further c ≡ leaves_out keys.groups (key_in keys.column) late c
+
+-- where all slots are looked at at once they are two
+abbrev pub IsKeyLane : Run → Keys → Wire → KeyLane → Type 0
+IsKeyLane run keys source r = IsLaneBehind 2 run keys source r
+
+-- what that costs for so many columns, of so many bits in all, and a key of so many
+abbrev pub cost_of_key_lane : Keys → (count bits key : ℕ) → Cost
+cost_of_key_lane keys count bits key = with_registers
+    (keys.groups * 14 + gates_of keys.groups + count * 2 + 32)
+    (keys.groups * (key + 2) + bits * 2 + key + keys.width * 3 + 11)
 
 -- in every run, from any contents
 pub record IsKeyLaneIn (old new : Net) (keys : Keys) (source : Wire) (r : KeyLane) : Type 0 where
   pub keeps : Keeps old new
-  pub cost : Costs old new (with_registers
-      (keys.groups * 14 + gates_of keys.groups + length (widths source.columns) * 2 + 32)
-      (keys.groups * (slice_index (widths source.columns) keys.column + 2) + sum (widths source.columns) * 2
-      + slice_index (widths source.columns) keys.column + keys.width * 3 + 11))
+  pub cost : Costs old new (cost_of_key_lane keys (length (widths source.columns)) (sum (widths source.columns))
+      (slice_index (widths source.columns) keys.column))
   pub has : HasKeyLane new source keys.width r
   pub law : (run : Run) → IsRun new run → IsKeyLane run keys source r

@@ -10,11 +10,9 @@ use Rattle.gl_wire.specs.declared.wire.Wire.{Wire}
 use Rattle.gl_wire.specs.Costs.{Cost, Costs, nodes_alone}
 use Rattle.gl_wire.specs.Gates.{same_at}
 use Rattle.gl_wire.specs.Shapes.{IsDelayed}
-use Rattle.gl_wire.specs.Wire.{Carried, IsWire, carried, line_at, widths, wire_of}
-use Rattle.gl_wire_lanes.specs.Shares.{lane_of, rows_of}
+use Rattle.gl_wire.specs.Wire.{IsWire, carried, line_at, widths, wire_of}
 use Rattle.gl_wire_registers.specs.Held.{held_at, with_registers}
-use Rattle.gl_frames_keys.specs.Lanes.{IsKeyedLane, leaves_out}
-use Rattle.gl_frames_lanes.specs.LaneNets.{HasKeyLane, key_in}
+use Rattle.gl_frames_lanes.specs.LaneNets.{HasKeyLane, IsLaneBehind, key_in}
 use Rattle.gl_frames_lanes.specs.declared.lane.KeyLane.{KeyLane}
 use Rattle.gl_frames_lanes.specs.declared.lane.Keys.{Keys}
 use Rattle.gl_frames_map.specs.declared.passing.Asked.{Asked}
@@ -330,11 +328,8 @@ pub record IsToldLateIn (old new : Net) (late : Wire) (told : Told) (r : KeyLane
 
 -- in a run, three cycles behind a wire, the lane of the first keys of each of its streams, and a line that is 1 where a
 -- row of a further key would stand
-pub record IsMapLane (run : Run) (keys : Keys) (source : Wire) (r : KeyLane) : Type 0 where
-  pub late : Carried
-  pub behind : IsDelayed 3 (carried run source) late
-  pub lane : IsKeyedLane keys.groups (key_in keys.column) late (lane_of run r.wire r.slot r.first) (rows_of run r.wire)
-  pub further : (c : ℕ) → line_at run r.further c ≡ leaves_out keys.groups (key_in keys.column) late c
+abbrev pub IsMapLane : Run → Keys → Wire → KeyLane → Type 0
+IsMapLane run keys source r = IsLaneBehind 3 run keys source r
 
 -- what it costs for columns of these widths: a word for each key, and one for each slot
 abbrev pub cost_of_map : Keys → (count bits key : ℕ) → Cost

@@ -1,6 +1,6 @@
 -- What frames by a key cost at most is within what a plan counts for their node.
 use Rattle.std.proofs.Common.{◌≡◌, ℕ, suc, ◌+◌, ◌-◌, ◌*◌, ◌^◌, ◌<◌, ◌≤◌, min, List, [], ◌∷◌, length, map, Option, Some, None, refl, ap, ◌∙◌, arith}
-use Rattle.std.specs.Prelude.{All, slice_index, sum_by}
+use Rattle.std.specs.Prelude.{All, sum_by}
 use Rattle.std.specs.List.{sum}
 use Rattle.std.proofs.Math.Nat.{mul-le-mul_left, pow-le-pow_right}
 use Rattle.std.proofs.lemmas.List.{length-map}
@@ -12,7 +12,7 @@ use Rattle.gl_algebra.specs.Columns.{BackFits, FrameAggFits, FrameFits, OperandF
 use Rattle.gl_algebra.specs.Cost.{store_by_key}
 use Rattle.gl_algebra.specs.Fits.{KeyFits}
 use Rattle.gl_algebra.specs.Frames.{delay_of_frame, delay_of_frames, frames_in, words_of_doublings, words_of_frame}
-use Rattle.gl_algebra.specs.Keys.{cycles_of_look_up, delay_by_key, store_of_look_up, weight_of_look_up, width_of_key}
+use Rattle.gl_algebra.specs.Keys.{delay_by_key, store_of_look_up, weight_of_look_up, width_of_key}
 use Rattle.gl_algebra.specs.Rings.{digits, least_exponent, ring}
 use Rattle.gl_algebra.specs.Weights.{weight_by_key, weight_of_frame, weight_of_rings}
 use Rattle.gl_algebra.specs.declared.node.Operand.{Operand}
@@ -29,18 +29,18 @@ use Rattle.gl_values.specs.Kinds.{IsKind, width_of}
 use Rattle.gl_values.specs.declared.kind.Kind.{Kind}
 use Rattle.gl_wire.specs.Counted.{IsCounted}
 use Rattle.gl_wire.specs.Costs.{Cost}
-use Rattle.gl_wire.proofs.CountLemmas.{narrow_at, narrow_kinds, narrow_sum}
-use Rattle.gl_wire_registers.proofs.LineLemmas.{gates_some}
-use Rattle.gl_wire_registers.specs.Lines.{gates_of}
+use Rattle.gl_wire.proofs.CountLemmas.{narrow_kinds, narrow_sum}
 use Rattle.gl_frames_stages.specs.DelayNets.{cost_of_late_line}
+use Rattle.gl_frames_stages.specs.DoublingNets.{DoublingsAreBits}
 use Rattle.gl_frames_stages.proofs.CountLemmas.{divider_within, narrow_of, slowest, some_of}
 use Rattle.gl_frames_stages.proofs.CycleLemmas.{few_digits, items_few}
 use Rattle.gl_frames_stages.proofs.LevelCosts.{few_places, frame_words, late_memories, late_nodes, line_memories, line_nodes, place_words, ring_bits}
 use Rattle.gl_frames_slots.specs.ItemCosts.{cost_of_slot_best, cost_of_slot_extreme_by, cost_of_slot_item, cost_of_slot_item_late}
 use Rattle.gl_frames_slots.specs.KeyNets.{items_delay}
-use Rattle.gl_frames_parted.specs.Parted.{cost_over_all, places_of_frames}
+use Rattle.gl_frames_parted.specs.Parted.{cost_of_look_up, cost_over_all, cycles_to_slot, partition_by, places_of_frames}
 use Rattle.gl_frames_parted.proofs.LevelCosts.{slot_extreme_within, waiting_line, waiting_registers}
-use Rattle.gl_frames_parted.proofs.PartedLemmas.{cycles_some, look_up_weighs, places_fit, slot_few, wait_few}
+use Rattle.gl_frames_parted.proofs.LookUpLemmas.{look_up_within}
+use Rattle.gl_frames_parted.proofs.PartedLemmas.{cycles_some, places_fit, slot_few, slot_some, slot_soon, wait_few}
 
 -- ---- rings
 
@@ -76,11 +76,11 @@ slot_words slot w narrow = mul-le-mul_left (2 ^ slot) narrow
 -- ---- items
 
 record IsSlotWithin (cost : Cost) (slot weight frames words : ℕ) : Type 0 where
-  nodes : cost.nodes ≤ weight + 5
+  nodes : cost.nodes ≤ weight + 3
   registers : cost.registers ≤ 64 * (weight + 16)
   memories : cost.memories ≤ 2 ^ slot * (128 * frames + 65 * words)
 
-module _ (slot : ℕ) (few_slots : slot ≤ 12) (kinds : List Kind) (all : All IsKind kinds) where
+module _ (bits_are : DoublingsAreBits) (slot : ℕ) (few_slots : slot ≤ 12) (kinds : List Kind) (all : All IsKind kinds) where
   abbrev width : Operand → ℕ
   width x = width_of (kind_of_operand kinds x)
 
@@ -100,12 +100,12 @@ module _ (slot : ℕ) (few_slots : slot ≤ 12) (kinds : List Kind) (all : All I
       → IsSlotWithin (cost_of_slot_extreme_by slot by (width x) back) slot (weight_of_rings (digits back) 0) 1 (words_of_doublings (digits back) 0 back)
   extreme_by x None back fits lt =
       let w = operand_width kinds x all fits in
-      let most = slot_extreme_within slot 5 (width x) back 2 (width x) few_slots (omega arith) (omega (arith, w)) lt (omega arith) (omega (arith, w)) in
-      record { nodes = most.nodes; registers = most.registers; memories = (let m = most.memories in omega (arith, m)) }
+      let most = slot_extreme_within bits_are slot 5 (width x) back 2 (width x) few_slots (omega arith) (omega (arith, w)) lt (omega arith) (omega (arith, w)) in
+      record { nodes = (let n = most.nodes in omega (arith, n)); registers = most.registers; memories = (let m = most.memories in omega (arith, m)) }
   extreme_by x (Some column) back fits lt =
       let w = operand_width kinds x all fits in
-      let most = slot_extreme_within slot 12 (width x + 1) back 9 (width x + 1) few_slots (omega arith) (omega (arith, w)) lt (omega arith) (omega (arith, w)) in
-      record { nodes = most.nodes; registers = (let m = most.registers in omega (arith, m)); memories = (let m = most.memories in omega (arith, m)) }
+      let most = slot_extreme_within bits_are slot 12 (width x + 1) back 9 (width x + 1) few_slots (omega arith) (omega (arith, w)) lt (omega arith) (omega (arith, w)) in
+      record { nodes = (let n = most.nodes in omega (arith, n)); registers = (let m = most.registers in omega (arith, m)); memories = (let m = most.memories in omega (arith, m)) }
 
   over_within : (agg : PlanFrameAgg) (by back : Option ℕ) → FrameAggFits kinds agg → BackFits back → Within (Over agg by back)
   over_within Count by None fits rows =
@@ -168,7 +168,7 @@ module _ (slot : ℕ) (few_slots : slot ≤ 12) (kinds : List Kind) (all : All I
 
   -- an item so many cycles behind its row, where the node takes some more
   record IsLateWithin (m whole : ℕ) (item : PlanFrame) : Type 0 where
-    nodes : (cost_of_slot_item_late slot kinds m item).nodes ≤ weight_of_frame kinds item + 26
+    nodes : (cost_of_slot_item_late slot kinds m item).nodes ≤ weight_of_frame kinds item + 24
     registers : (cost_of_slot_item_late slot kinds m item).registers ≤ 64 * (weight_of_frame kinds item + 20)
     memories : (cost_of_slot_item_late slot kinds m item).memories ≤ 2 ^ slot * (128 * frames_in item + 65 * words_of_frame item) + 64 * ring whole
 
@@ -192,7 +192,7 @@ module _ (slot : ℕ) (few_slots : slot ≤ 12) (kinds : List Kind) (all : All I
   -- ---- all items
 
   record AreWithin (m whole : ℕ) (items : List PlanFrame) : Type 0 where
-    nodes : sum_by (λ i. (cost_of_slot_item_late slot kinds m i).nodes) items ≤ sum_by (weight_of_frame kinds) items + 26 * length items
+    nodes : sum_by (λ i. (cost_of_slot_item_late slot kinds m i).nodes) items ≤ sum_by (weight_of_frame kinds) items + 24 * length items
     registers : sum_by (λ i. (cost_of_slot_item_late slot kinds m i).registers) items ≤ 64 * (sum_by (weight_of_frame kinds) items + 20 * length items)
     memories : sum_by (λ i. (cost_of_slot_item_late slot kinds m i).memories) items
         ≤ 2 ^ slot * sum_by (λ i. 128 * frames_in i + 65 * words_of_frame i) items + 64 * (ring whole * length items)
@@ -222,33 +222,31 @@ module _ (slot : ℕ) (few_slots : slot ≤ 12) (kinds : List Kind) (all : All I
 
 -- ---- the look-up and the lines beside them
 
--- so many items, groups, columns and cycles in all
-nodes_in_all : (i n c whole cost lines line weights look rest : ℕ) → 4 ≤ whole → 16 * n + 96 ≤ look → 1 ≤ n → c ≤ 1 + 2 * i → cost ≤ weights + 26 * i → lines ≤ 23 → line ≤ 23
-    → n * 14 + gates_of n + c * 3 + 36 + (cost + 16 + 2 * lines) + line + 1 ≤ 4 * (i + 2) * (min whole 4 + 4) + 32 + weights + look + rest
-nodes_in_all i n c whole cost lines line weights look rest late is some few h l w =
-    let gates = gates_some n some in
+-- so many items, columns and cycles in all, behind a look-up of so many nodes
+nodes_in_all : (i c whole up cost lines line weights look rest : ℕ) → 4 ≤ whole → up + 64 ≤ look + 3 * c → c ≤ 1 + 2 * i → cost ≤ weights + 24 * i → lines ≤ 23 → line ≤ 23
+    → up + (c + 4 + (cost + 16 + 2 * lines) + line) + 1 ≤ 4 * (i + 2) * (min whole 4 + 4) + 32 + weights + look + rest
+nodes_in_all i c whole up cost lines line weights look rest late is few h l w =
     let four : min whole 4 + 4 ≡ 8 = omega (arith, late) in
     let waiting = ap (λ (q : ℕ). 4 * (i + 2) * q) four in
-    omega (arith, is, few, h, l, w, gates, waiting)
+    omega (arith, is, few, h, l, w, waiting)
 
-registers_in_all : (i n c whole cost lines line weights look rest key bits slot place : ℕ) → 4 ≤ whole → 16 * n + 96 ≤ look → c ≤ 1 + 2 * i → cost ≤ 64 * (weights + 20 * i)
-    → lines ≤ 23 → line ≤ 23 → key ≤ 64 → bits ≤ c * 64 → slot ≤ 12 → place ≤ 17
-    → n * (key + 2) + bits * 3 + key + slot * 4 + 14 + (cost + place + 1 + 2 * lines) + line ≤ 64 * (4 * (i + 2) * (min whole 4 + 4) + 32 + weights + look + rest)
-registers_in_all i n c whole cost lines line weights look rest key bits slot place late is few h l w narrow sums slots places =
+registers_in_all : (i c whole up cost lines line weights look rest bits slot place : ℕ) → 4 ≤ whole → up ≤ 64 * look + 3 * bits → c ≤ 1 + 2 * i → cost ≤ 64 * (weights + 20 * i)
+    → lines ≤ 23 → line ≤ 23 → bits ≤ c * 64 → slot ≤ 12 → place ≤ 17
+    → up + (bits + slot + 3 + (cost + place + 1 + 2 * lines) + line) ≤ 64 * (4 * (i + 2) * (min whole 4 + 4) + 32 + weights + look + rest)
+registers_in_all i c whole up cost lines line weights look rest bits slot place late is few h l w sums slots places =
     let four : min whole 4 + 4 ≡ 8 = omega (arith, late) in
     let waiting = ap (λ (q : ℕ). 4 * (i + 2) * q) four in
-    let keys = mul-le-mul_left n (let z : key + 2 ≤ 66 = omega (arith, narrow) in z) in
-    omega (arith, is, few, h, l, w, waiting, keys, narrow, sums, slots, places)
+    omega (arith, is, few, h, l, w, waiting, sums, slots, places)
 
-memories_in_all : (i frames s r m whole cost lines line stored place look : ℕ) → s ≡ r → cost ≤ s * stored + 64 * (whole * i) → lines ≤ whole → line ≤ whole → place ≤ 17
-    → cost + s * (place + 1) + 2 * lines + line ≤ 64 * (i + 2 + 2 * frames) * whole + r * (32 + stored) + look
-memories_in_all i frames s r m whole cost lines line stored place look is h l w places =
+memories_in_all : (i frames s r m whole up cost lines line stored place look : ℕ) → s ≡ r → up ≤ look → cost ≤ s * stored + 64 * (whole * i) → lines ≤ whole → line ≤ whole → place ≤ 17
+    → up + (cost + s * (place + 1) + 2 * lines + line) ≤ 64 * (i + 2 + 2 * frames) * whole + r * (32 + stored) + look
+memories_in_all i frames s r m whole up cost lines line stored place look is found h l w places =
     let counts = mul-le-mul_left s (let z : place + 1 ≤ 32 = omega (arith, places) in z) in
     let same = ap (λ (k : ℕ). k * (32 + stored)) is in
-    omega (arith, h, l, w, counts, same)
+    omega (arith, found, h, l, w, counts, same)
 
 -- over columns that are few
-module _ (kinds : List Kind) (by : PlanKey) (items : List PlanFrame) (all : All IsKind kinds) (fit : All (FrameFits kinds) items) (key : KeyFits kinds (Some by))
+module _ (bits_are : DoublingsAreBits) (kinds : List Kind) (by : PlanKey) (items : List PlanFrame) (all : All IsKind kinds) (fit : All (FrameFits kinds) items) (key : KeyFits kinds (Some by))
     (few : length kinds ≤ 1 + 2 * length items) where
   abbrev slot : ℕ
   slot = least_exponent by.groups 1 by.groups
@@ -257,7 +255,7 @@ module _ (kinds : List Kind) (by : PlanKey) (items : List PlanFrame) (all : All 
   key_width = width_of_key kinds by
 
   abbrev wait : ℕ
-  wait = cycles_of_look_up key_width by.groups - 2
+  wait = (partition_by kinds by items).wait
 
   abbrev m : ℕ
   m = items_delay wait kinds items
@@ -275,19 +273,19 @@ module _ (kinds : List Kind) (by : PlanKey) (items : List PlanFrame) (all : All 
   narrow = operand_width kinds (Column by.key) all key.0
 
   waits : wait ≤ 30
-  waits = wait_few key_width by.groups narrow
+  waits = let most = wait_few key_width by.groups narrow in let some = slot_some kinds by in omega (arith, most, some)
 
-  later : whole ≡ 1 + 2 + m
-  later = let some = cycles_some key_width by.groups in omega (arith, some)
+  later : whole ≡ 1 + cycles_to_slot kinds by + m
+  later = let soon = slot_soon kinds by in omega (arith, soon)
 
   late : 4 ≤ whole
-  late = let some = slowest kinds all items in let is = later in omega (arith, some, is)
+  late = let cycles = cycles_some key_width by.groups in let some = slowest kinds all items in omega (arith, cycles, some)
 
   few_cycles : m ≤ 130
   few_cycles = let own = items_few kinds items all fit in let w = waits in omega (arith, own, w)
 
-  within : AreWithin slot few_slots kinds all m whole items
-  within = let is = later in all_within slot few_slots kinds all m whole items few_cycles (omega (arith, is)) (omega arith) fit
+  within : AreWithin bits_are slot few_slots kinds all m whole items
+  within = let is = later in all_within bits_are slot few_slots kinds all m whole items few_cycles (omega (arith, is)) (omega arith) fit
 
   columns : length (map width_of kinds) ≡ length kinds
   columns = length-map kinds width_of
@@ -297,18 +295,18 @@ module _ (kinds : List Kind) (by : PlanKey) (items : List PlanFrame) (all : All 
   over_all_counted =
       let are = narrow_kinds kinds all in
       let place = (places_fit kinds items fit).most in
-      let look = look_up_weighs key_width by.groups in
+      let look = look_up_within kinds by key narrow in
       let few_columns : length (map width_of kinds) ≤ 1 + 2 * length items = (let is = columns in omega (arith, is, few)) in
       let shorter : m ≤ whole = (let is = later in omega (arith, is)) in
       let sooner : wait ≤ whole = (let is = later in omega (arith, is)) in
       let few_wait = waits in
       let few_m = few_cycles in
       record {
-        nodes = nodes_in_all (length items) by.groups (length (map width_of kinds)) whole _ _ _ (sum_by (weight_of_frame kinds) items) (weight_of_look_up key_width by.groups) _ late look
-            key.1.least few_columns within.nodes (line_nodes m) (line_nodes wait);
-        registers = registers_in_all (length items) by.groups (length (map width_of kinds)) whole _ _ _ (sum_by (weight_of_frame kinds) items) (weight_of_look_up key_width by.groups) _
-            (slice_index (map width_of kinds) by.key) (sum (map width_of kinds)) slot (places_of_frames items) late look few_columns within.registers (waiting_line m (omega (arith, few_m)))
-            (waiting_line wait (omega (arith, few_wait))) (narrow_at (map width_of kinds) by.key are) (narrow_sum (map width_of kinds) are) few_slots place;
-        memories = memories_in_all (length items) (sum_by frames_in items) (2 ^ slot) (ring by.groups) m (ring whole) _ _ _ stored (places_of_frames items)
-            (store_of_look_up key_width by.groups) (slots_are by.groups) within.memories (line_fits m whole shorter) (line_fits wait whole sooner) place;
+        nodes = nodes_in_all (length items) (length (map width_of kinds)) whole (cost_of_look_up kinds by).nodes _ _ _ (sum_by (weight_of_frame kinds) items)
+            (weight_of_look_up key_width by.groups) _ late look.nodes few_columns within.nodes (line_nodes m) (line_nodes wait);
+        registers = registers_in_all (length items) (length (map width_of kinds)) whole (cost_of_look_up kinds by).registers _ _ _ (sum_by (weight_of_frame kinds) items)
+            (weight_of_look_up key_width by.groups) _ (sum (map width_of kinds)) slot (places_of_frames items) late look.registers few_columns within.registers
+            (waiting_line m (omega (arith, few_m))) (waiting_line wait (omega (arith, few_wait))) (narrow_sum (map width_of kinds) are) few_slots place;
+        memories = memories_in_all (length items) (sum_by frames_in items) (2 ^ slot) (ring by.groups) m (ring whole) (cost_of_look_up kinds by).memories _ _ _ stored (places_of_frames items)
+            (store_of_look_up key_width by.groups) (slots_are by.groups) look.memories within.memories (line_fits m whole shorter) (line_fits wait whole sooner) place;
       }

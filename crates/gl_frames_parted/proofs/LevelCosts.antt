@@ -11,8 +11,7 @@ use Rattle.gl_algebra.specs.Weights.{weight_of_rings}
 use Rattle.gl_frames_wire.specs.Reaches.{place_bits}
 use Rattle.gl_wire.specs.Costs.{Cost}
 use Rattle.gl_frames_stages.specs.DelayNets.{cost_of_far, cost_of_far_line, cost_of_late, cost_of_late_line, near_cost}
-use Rattle.gl_frames_stages.specs.DoublingNets.{cost_of_doublings, doublings, gap_of, with_level}
-use Rattle.gl_frames_stages.proofs.CycleLemmas.{doublings_bits}
+use Rattle.gl_frames_stages.specs.DoublingNets.{DoublingsAreBits, cost_of_doublings, doublings, gap_of, with_level}
 use Rattle.gl_frames_stages.proofs.LevelCosts.{few_places, level_memories}
 use Rattle.gl_frames_slots.specs.BestNets.{cost_of_slot_doublings, with_slot_level}
 
@@ -75,21 +74,21 @@ slot_memories slot gates (suc more) rows all w =
 
 -- an extreme, with these gates in each level over words so wide, and so many nodes and registers beside
 pub record IsExtremeWithin (cost : Cost) (slot back : ℕ) : Type 0 where
-  pub nodes : cost.nodes ≤ weight_of_rings (digits back) 0 + 5
+  pub nodes : cost.nodes ≤ weight_of_rings (digits back) 0
   pub registers : cost.registers ≤ 64 * (weight_of_rings (digits back) 0 + 16)
   pub memories : cost.memories ≤ 2 ^ slot * (65 * words_of_doublings (digits back) 0 back)
 
-pub slot_extreme_within : (slot gates w back nodes registers : ℕ) → slot ≤ 12 → gates ≤ 12 → w ≤ 65 → back < 2 ^ 16 → nodes ≤ 9 → registers ≤ 65
+pub slot_extreme_within : DoublingsAreBits → (slot gates w back nodes registers : ℕ) → slot ≤ 12 → gates ≤ 12 → w ≤ 65 → back < 2 ^ 16 → nodes ≤ 9 → registers ≤ 65
     → IsExtremeWithin (record {
       nodes = (cost_of_slot_doublings slot gates back 1 (back + 1) w).nodes + nodes;
       registers = (cost_of_slot_doublings slot gates back 1 (back + 1) w).registers + registers;
       memories = (cost_of_slot_doublings slot gates back 1 (back + 1) w).memories;
     }) slot back
-slot_extreme_within slot gates w back nodes registers few_slots small narrow lt few_nodes few_registers =
+slot_extreme_within bits_are slot gates w back nodes registers few_slots small narrow lt few_nodes few_registers =
     let r : ℕ = digits back in
     let n : ℕ = doublings back 1 (back + 1) in
     let words : ℕ = words_of_doublings r 0 back in
-    let are : n ≡ r = doublings_bits back in
+    let are : n ≡ r = bits_are back in
     let few : digits back ≤ 16 = few_exponents 16 (back + 1) 0 (back + 1) (omega arith) (omega (arith, lt)) in
     let cost = slot_nodes slot gates back 1 (back + 1) w in
     let gates_of = mul-le-mul_right n (let z : 24 + gates ≤ 36 = omega (arith, small) in z) in

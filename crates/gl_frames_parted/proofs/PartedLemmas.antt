@@ -1,19 +1,20 @@
 -- The slots of a key, the places of rings and the cycles that rows wait are what frames of each key ask for.
-use Rattle.std.proofs.Common.{◌≡◌, ℕ, suc, ◌+◌, ◌-◌, ◌*◌, ◌^◌, ◌<◌, ◌≤◌, List, [], ◌∷◌, Option, Some, None, Bool, true, false, All, refl, arith}
+use Rattle.std.proofs.Common.{◌≡◌, ℕ, suc, ◌+◌, ◌*◌, ◌^◌, ◌<◌, ◌≤◌, List, [], ◌∷◌, Option, Some, None, Bool, true, false, All, refl, arith}
 use Rattle.std.specs.Prelude.{if◌then◌else◌, nat_le}
 use Rattle.std.proofs.lemmas.Bool.{leb-false}
 use Rattle.gl_algebra.proofs.ExponentLemmas.{exponent_covers, few_exponents}
 use Rattle.gl_algebra.specs.Columns.{BackFits, FrameFits}
-use Rattle.gl_algebra.specs.Keys.{by_look_up, cycles_of_look_up, levels_of, weight_of_look_up}
+use Rattle.gl_algebra.specs.Keys.{by_look_up, cycles_of_look_up, levels_of, weight_of_look_up, width_of_key}
 use Rattle.gl_algebra.specs.Rings.{least_exponent}
 use Rattle.gl_algebra.specs.declared.node.PlanFrame.{PlanFrame}
 use Rattle.gl_algebra.specs.declared.node.PlanFrame.TheVariants.{Lag, Over, Own}
+use Rattle.gl_algebra.specs.declared.node.PlanKey.{PlanKey}
 use Rattle.gl_bits.specs.Words.{IsWidth}
 use Rattle.gl_values.specs.declared.kind.Kind.{Kind}
 use Rattle.gl_frames_stages.proofs.LevelCosts.{few_places}
 use Rattle.gl_frames_wire.proofs.ReachLemmas.{from_exponent}
 use Rattle.gl_frames_wire.specs.Reaches.{IsPlaceWidth, place_bits}
-use Rattle.gl_frames_parted.specs.Parted.{place_of_frame, place_over, places_of_frames}
+use Rattle.gl_frames_parted.specs.Parted.{cycles_to_slot, has_map, place_of_frame, place_over, places_of_frames}
 
 -- ---- the look-up
 
@@ -26,15 +27,32 @@ of_three P width groups of_map of_slots of_tree map slots tree = by (nat_le widt
     by false true p = slots
     by false false p = tree (leb-false width 10 p)
 
--- that of all slots at once takes no longer than what the plan counts
+-- it takes some cycles
 pub cycles_some : (width groups : ℕ) → 2 ≤ cycles_of_look_up width groups
 cycles_some width groups = of_three (λ n. 2 ≤ n) width groups 3 2 (levels_of width) (omega arith) (omega arith) (λ wide. omega (arith, wide))
 
--- and rows do not wait long
-pub wait_few : (width groups : ℕ) → width ≤ 64 → cycles_of_look_up width groups - 2 ≤ 30
-wait_few width groups narrow = of_three (λ n. n - 2 ≤ 30) width groups 3 2 (levels_of width) (omega arith) (omega arith) (λ wide. omega (arith, narrow))
+-- a slot is found no later than the plan counts
+soon : (b : Bool) (others : ℕ) → 2 ≤ (if b then 3 else others) → (if b then 3 else 2) ≤ (if b then 3 else others)
+soon true others some = omega arith
+soon false others some = some
 
--- nor weighs more
+pub slot_soon : (kinds : List Kind) (by : PlanKey) → cycles_to_slot kinds by ≤ cycles_of_look_up (width_of_key kinds by) by.groups
+slot_soon kinds by =
+    soon (has_map kinds by) (if nat_le by.groups 64 then 2 else levels_of (width_of_key kinds by)) (cycles_some (width_of_key kinds by) by.groups)
+
+-- and in some cycles
+two_or_three : (b : Bool) → 2 ≤ (if b then 3 else 2)
+two_or_three true = omega arith
+two_or_three false = omega arith
+
+pub slot_some : (kinds : List Kind) (by : PlanKey) → 2 ≤ cycles_to_slot kinds by
+slot_some kinds by = two_or_three (has_map kinds by)
+
+-- and rows do not wait long
+pub wait_few : (width groups : ℕ) → width ≤ 64 → cycles_of_look_up width groups ≤ 32
+wait_few width groups narrow = of_three (λ n. n ≤ 32) width groups 3 2 (levels_of width) (omega arith) (omega arith) (λ wide. omega (arith, narrow))
+
+-- that of all slots weighs no more than the plan counts for any
 pub look_up_weighs : (width groups : ℕ) → 16 * groups + 96 ≤ weight_of_look_up width groups
 look_up_weighs width groups =
     let rest = of_three (λ n. 96 ≤ n) width groups 160 96 (80 * levels_of width) (omega arith) (omega arith) (λ wide. omega (arith, wide)) in

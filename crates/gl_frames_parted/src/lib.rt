@@ -6,6 +6,7 @@
 #![tactic(auto)]
 
 pub mod laws;
+pub mod look_up;
 pub mod parted;
 pub mod picked;
 pub mod places;

@@ -5,16 +5,17 @@ ghost use Rattle.gl_algebra.specs.Columns.{FrameFits};
 ghost use Rattle.gl_algebra.specs.Fits.{KeyFits};
 ghost use Rattle.gl_values.specs.Kinds.{IsKind, width_of};
 ghost use Rattle.gl_frames_asked.specs.Among.{renumber_key};
-ghost use Rattle.gl_frames_slots.specs.KeyNets.{AreKeyFramesIn};
-ghost use Rattle.gl_frames_parted.specs.Parted.{ArePartedIn, partition_by};
+ghost use Rattle.gl_frames_parted.specs.Parted.{AreOverAllIn, ArePartedIn};
 ghost use Rattle.gl_wire.specs.Wire.{IsWire, widths};
 
+use crate::look_up::put_look_up;
 use crate::picked::picked_wire;
 use crate::places::partition_by;
 use gl_algebra::{PlanFrame, PlanKey};
 use gl_bits::Memory;
 use gl_frames_asked::laws::{columns_are_asked, nodes_are_same, nodes_make_same};
 use gl_frames_asked::{asked_columns, asked_items, asked_kinds, place_among};
+use gl_frames_keys::laws::partitions_serve;
 use gl_frames_slots::{KeyFrames, put_key_frames};
 use gl_net::NetBuilder;
 use gl_values::Kind;
@@ -31,7 +32,7 @@ fn renumber_key(asked: &[usize], by: PlanKey) -> PlanKey
     }
 }
 
-// Frames of each key over all columns of a wire.
+// Frames of each key over all columns of a wire, in the cycles that the plan counts.
 fn put_over_all(
     alloc: Global,
     net: &mut NetBuilder,
@@ -45,12 +46,12 @@ fn put_over_all(
     requires are_kinds { All IsKind kinds.now }
     requires key { KeyFits kinds.now (Some by) }
     requires fit { All (FrameFits kinds.now) items.now }
-    ensures { IfOk result (AreKeyFramesIn net.old net.new
-        (partition_by kinds.now by items.now) kinds.now items.now wire.now) }
+    ensures { IfOk result (AreOverAllIn net.old net.new kinds.now by items.now wire.now) }
 {
     let partition = partition_by(kinds, by, items);
+    let lane = put_look_up(alloc, net, wire, kinds, by)?;
     // Named, since a goal speaks of the value.
-    let frames = put_key_frames(alloc, net, wire, partition, kinds, items)?;
+    let frames = put_key_frames(alloc, net, &lane, partition, kinds, items)?;
     Ok(frames)
 }
 
@@ -71,6 +72,7 @@ pub fn put_parted_frames(
     ensures { IfOk result
         (ArePartedIn net.old net.new kinds.now by items.now wire.now) }
 {
+    partitions_serve();
     columns_are_asked();
     nodes_are_same();
     nodes_make_same();

@@ -2,7 +2,7 @@
 
 ghost use Rattle.std.specs.Prelude.{◌≡◌, ◌≤◌, ◌^◌};
 ghost use Rattle.gl_frames_wire.specs.Reaches.{place_bits};
-ghost use Rattle.gl_frames_parted.specs.Parted.{partition_by, place_of_frame, place_over, places_of_frames};
+ghost use Rattle.gl_frames_parted.specs.Parted.{cycles_to_slot, has_map, keys_by, partition_by, place_of_frame, place_over, places_of_frames};
 
 use gl_algebra::frames::least_exponent;
 use gl_algebra::keys::{cycles_of_look_up, width_of_key};
@@ -50,19 +50,42 @@ fn places_of_frames(items: &[PlanFrame]) -> u8
     }
 }
 
+/// The slots of the groups of a key.
+pub fn keys_by(by: PlanKey) -> Keys
+    ensures { result ≡ keys_by by }
+{
+    let groups = u64::from(by.groups);
+    Keys {
+        column: usize::from(by.key),
+        groups: u32::from(by.groups),
+        width: least_exponent(groups, 1, groups),
+    }
+}
+
+/// Whether a key is found in a map: one of at most 10 bits is.
+pub fn has_map(kinds: &[Kind], by: PlanKey) -> bool
+    ensures { result ≡ has_map kinds.now by }
+{
+    width_of_key(kinds, by) <= 10
+}
+
+// The cycles until its slot is found there, and until one that is compared with all slots is.
+fn cycles_to_slot(kinds: &[Kind], by: PlanKey) -> u32
+    ensures { result ≡ cycles_to_slot kinds.now by }
+{
+    if has_map(kinds, by) { 3 } else { 2 }
+}
+
 /// The slots of the groups of a key, how far back the rings of items reach, and the cycles that
-/// rows wait beside the two in which all slots are looked at.
+/// rows wait beside those until their slot is found.
 pub fn partition_by(kinds: &[Kind], by: PlanKey, items: &[PlanFrame]) -> Partition
     ensures { result ≡ partition_by kinds.now by items.now }
 {
-    let groups = u64::from(by.groups);
+    let cycles = cycles_of_look_up(width_of_key(kinds, by), by.groups);
+    let wait = cycles - cycles_to_slot(kinds, by);
     Partition {
-        keys: Keys {
-            column: usize::from(by.key),
-            groups: u32::from(by.groups),
-            width: least_exponent(groups, 1, groups),
-        },
+        keys: keys_by(by),
         bits: places_of_frames(items),
-        wait: cycles_of_look_up(width_of_key(kinds, by), by.groups) - 2,
+        wait,
     }
 }

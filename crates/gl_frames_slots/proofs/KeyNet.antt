@@ -22,7 +22,7 @@ use Rattle.gl_frames_keys.proofs.LateLemmas.{delayed_both, left_late}
 use Rattle.gl_frames_keys.proofs.LaterLemmas.{lanes_late}
 use Rattle.gl_frames_keys.proofs.OpenLemmas.{lanes_open}
 use Rattle.gl_frames_keys.proofs.SlotKeyLemmas.{keyed_run}
-use Rattle.gl_frames_lanes.specs.LaneNets.{IsKeyLane, key_in}
+use Rattle.gl_frames_lanes.specs.LaneNets.{IsLaneBehind, key_in}
 use Rattle.gl_frames_lanes.specs.declared.lane.KeyLane.{KeyLane}
 use Rattle.gl_frames_lanes.specs.declared.lane.Keys.{Keys}
 use Rattle.gl_frames_lanes.proofs.LaneNet.{after, after_is, line_behind, row_behind}
@@ -65,7 +65,7 @@ module _ (run : Run) (groups : ℕ) (key : Row → ℕ) (a : Carried) (line out 
         )
   ]
 
-module _ (run : Run) (keys : Keys) (source : Wire) (lane : KeyLane) (late : KeyRows) (is_lane : IsKeyLane run keys source lane) (same_line : late.rows.valid ≡ late.wire.valid)
+module _ (run : Run) (cycles : ℕ) (some : 1 ≤ cycles) (keys : Keys) (source : Wire) (lane : KeyLane) (late : KeyRows) (is_lane : IsLaneBehind cycles run keys source lane) (same_line : late.rows.valid ≡ late.wire.valid)
     (same_begins : late.rows.begins ≡ lane.first) (same_next : late.rows.next ≡ lane.slot) (is_late : AreRowsLate run lane late) where
   abbrev key : Row → ℕ
   key = key_in keys.column
@@ -76,7 +76,7 @@ module _ (run : Run) (keys : Keys) (source : Wire) (lane : KeyLane) (late : KeyR
   abbrev row : ℕ → Row
   row t = row_at run t late.wire.columns
 
-  -- the source three cycles later
+  -- the source one cycle later than the lane
   abbrev source_late : Carried
   source_late = after is_lane.late
 
@@ -99,7 +99,7 @@ module _ (run : Run) (keys : Keys) (source : Wire) (lane : KeyLane) (late : KeyR
 
   keyed : IsKeyedLane keys.groups key source_late (lane_at run late.rows ends) row
   keyed = lanes_late keys.groups key is_lane.late source_late (lane_of run lane.wire lane.slot lane.first) (lane_at run late.rows ends) (rows_of run lane.wire) row
-      is_lane.lane (is_lane.behind.before 0 (omega arith)) (after_is is_lane.late) goes_late
+      is_lane.lane (is_lane.behind.before 0 (omega (arith, some))) (after_is is_lane.late) goes_late
 
   pub told : AreTold run late.rows ends
   told = record {
@@ -126,31 +126,35 @@ module _ (run : Run) (keys : Keys) (source : Wire) (lane : KeyLane) (late : KeyR
       ends = are.delayed.ends;
     }
 
-    runs : Runs (key_delay wait kinds items) (by_key keys.groups key (row_of_frames kinds items)) (carried run source) (carried run out)
+    -- the cycles of the look-up, and those that rows wait
+    abbrev found : ℕ
+    found = cycles + wait
+
+    runs : Runs (key_delay found kinds items) (by_key keys.groups key (row_of_frames kinds items)) (carried run source) (carried run out)
     runs =
-        let whole : 3 + m ≡ key_delay wait kinds items = omega arith in
+        let whole : cycles + 1 + m ≡ key_delay found kinds items = omega arith in
         subst (λ n. Runs n (by_key keys.groups key (row_of_frames kinds items)) (carried run source) (carried run out)) whole
-        (keyed_run m 3 keys.groups key (row_of_frames kinds items) (carried run source) source_late (carried run out) (lane_at run late.rows ends) row (λ c. row_at run (c + m) out.columns)
-        (delayed_both 2 1 (carried run source) is_lane.late source_late is_lane.behind (after_is is_lane.late)) keyed is_made same_rows)
+        (keyed_run m (cycles + 1) keys.groups key (row_of_frames kinds items) (carried run source) source_late (carried run out) (lane_at run late.rows ends) row (λ c. row_at run (c + m) out.columns)
+        (delayed_both cycles 1 (carried run source) is_lane.late source_late is_lane.behind (after_is is_lane.late)) keyed is_made same_rows)
 
     -- the source as late as the line of further keys
     abbrev told_source : Carried
     told_source = after_by wait is_lane.late
 
-    behind : IsDelayed (2 + wait) (carried run source) told_source
-    behind = delayed_both 2 wait (carried run source) is_lane.late told_source is_lane.behind (after_by_is wait is_lane.late)
+    behind : IsDelayed found (carried run source) told_source
+    behind = delayed_both cycles wait (carried run source) is_lane.late told_source is_lane.behind (after_by_is wait is_lane.late)
 
     tells : (c : ℕ) → line_at run further c ≡ leaves_out keys.groups key told_source c
     tells = told_late run keys.groups key is_lane.late lane.further further wait is_lane.further line_late
 
-    pub frames_are : AreKeyFrames run keys wait kinds items source (record { wire = out; further = further })
+    pub frames_are : AreKeyFrames found run keys kinds items source (record { wire = out; further = further })
     frames_are = record {
       runs = runs;
       late = told_source;
       behind = behind;
       further = tells;
       serves = λ f sound.
-          let few : 2 + wait ≤ key_delay wait kinds items = omega arith in
-          partitions_serve (key_delay wait kinds items) (2 + wait) keys.groups key (row_of_frames kinds items) f (carried run source) told_source (carried run out) (line_at run further)
+          let few : found ≤ key_delay found kinds items = omega arith in
+          partitions_serve (key_delay found kinds items) found keys.groups key (row_of_frames kinds items) f (carried run source) told_source (carried run out) (line_at run further)
           sound few runs behind tells;
     }

@@ -1,5 +1,5 @@
--- Frames of each key in a netlist, from the wire that comes to the wire that leaves.
-use Rattle.std.specs.Prelude.{◌≡◌, ℕ, suc, ◌+◌, ◌*◌, ◌^◌, Bool, false, List, Some, None, length, slice_index, if◌then◌else◌}
+-- Frames of each key in a netlist, from the lane of its first keys to the wire that leaves.
+use Rattle.std.specs.Prelude.{◌≡◌, ℕ, suc, ◌+◌, ◌*◌, ◌^◌, ◌≤◌, Bool, false, List, Some, None, length, if◌then◌else◌}
 use Rattle.std.specs.List.{sum}
 use Rattle.gl_algebra.specs.declared.figures.Figures.{Figures}
 use Rattle.gl_algebra.specs.FigureTable.{IsSound, delayed}
@@ -11,7 +11,7 @@ use Rattle.gl_net.specs.Net.{Net, Run, IsRun, IsBit, Keeps}
 use Rattle.gl_frames.specs.Frames.{by_key}
 use Rattle.gl_frames_keys.specs.Lanes.{leaves_out}
 use Rattle.gl_frames_keys.specs.Laws.{OfKeys}
-use Rattle.gl_frames_lanes.specs.LaneNets.{key_in}
+use Rattle.gl_frames_lanes.specs.LaneNets.{IsLaneBehind, key_in}
 use Rattle.gl_frames_lanes.specs.declared.lane.KeyLane.{KeyLane}
 use Rattle.gl_frames_lanes.specs.declared.lane.Keys.{Keys}
 use Rattle.gl_frames_stages.specs.DelayNets.{cost_of_late_line, cost_of_late_lines}
@@ -23,7 +23,6 @@ use Rattle.gl_wire.specs.Shapes.{IsDelayed}
 use Rattle.gl_wire.specs.Spills.{ServesWithLines}
 use Rattle.gl_wire.specs.Wire.{Carried, IsWire, carried, line_at, row_at, widths}
 use Rattle.gl_wire_registers.specs.Held.{with_registers}
-use Rattle.gl_wire_registers.specs.Lines.{gates_of}
 use Rattle.gl_frames_slots.specs.ItemCosts.{cost_of_slot_items}
 use Rattle.gl_frames_slots.specs.Rows.{AreTold, HasSlotRows, TellsBySlot}
 use Rattle.gl_frames_slots.specs.declared.keyed.KeyFrames.{KeyFrames}
@@ -82,44 +81,46 @@ pub record AreKeyItemsIn (old new : Net) (late : KeyRows) (partition : Partition
   pub law : (run : Run) → IsRun new run → (ends : ℕ → Bool) → AreTold run late.rows ends
       → AreItemsOn run late kinds (items_delay partition.wait kinds items) items out ends
 
--- as many cycles behind each row as it waits, and the slowest item takes, and three
+-- behind a row whose slot takes so many cycles to find, those, one more, and what the slowest item takes
 abbrev pub key_delay : ℕ → List Kind → List PlanFrame → ℕ
-key_delay wait kinds items = 3 + wait + delay_of_frames kinds items
+key_delay cycles kinds items = cycles + 1 + delay_of_frames kinds items
 
--- in a run: so many cycles behind each row of the first keys of its stream what the items make of its key's rows up to
--- it. Behind each row of a further key a line, as many cycles as rows wait, and two. So it serves that, with no flush
-pub record AreKeyFrames (run : Run) (keys : Keys) (wait : ℕ) (kinds : List Kind) (items : List PlanFrame)
+-- in a run, where a row's slot takes so many cycles to find: as many behind each row of the first keys of its stream what
+-- the items make of its key's rows up to it. Behind each row of a further key a line, in those cycles. So it serves that,
+-- with no flush
+pub record AreKeyFrames (cycles : ℕ) (run : Run) (keys : Keys) (kinds : List Kind) (items : List PlanFrame)
     (source : Wire) (r : KeyFrames) : Type 0 where
-  pub runs : Runs (key_delay wait kinds items) (by_key keys.groups (key_in keys.column) (row_of_frames kinds items))
+  pub runs : Runs (key_delay cycles kinds items) (by_key keys.groups (key_in keys.column) (row_of_frames kinds items))
       (carried run source) (carried run r.wire)
   pub late : Carried
-  pub behind : IsDelayed (2 + wait) (carried run source) late
+  pub behind : IsDelayed cycles (carried run source) late
   pub further : (c : ℕ) → line_at run r.further c ≡ leaves_out keys.groups (key_in keys.column) late c
   pub serves : (f : Figures) → IsSound f
-      → ServesWithLines f (delayed (key_delay wait kinds items) f)
+      → ServesWithLines f (delayed (key_delay cycles kinds items) f)
       (OfKeys keys.groups (key_in keys.column) (row_of_frames kinds items))
       (record { passed = λ c. false; further = line_at run r.further }) (carried run source) (carried run r.wire)
 
--- what all cost at most: the look-up, the rows beside their slots, the count, the items and the lines beside them, and
--- the line of further keys
-abbrev pub cost_of_key_frames : Keys → ℕ → ℕ → List ℕ → List Kind → List PlanFrame → Cost
-cost_of_key_frames keys wait bits columns kinds items =
-    let most = cost_of_key_items keys.width bits kinds (items_delay wait kinds items) items in
-    let line = cost_of_late_line wait in
+-- what all cost at most, the look-up aside: the rows beside their slots, the count, the items and the lines beside them,
+-- and the line of further keys
+abbrev pub cost_of_key_frames : Partition → List ℕ → List Kind → List PlanFrame → Cost
+cost_of_key_frames partition columns kinds items =
+    let slot = partition.keys.width in
+    let most = cost_of_key_items slot partition.bits kinds (items_delay partition.wait kinds items) items in
+    let line = cost_of_late_line partition.wait in
     record {
-      nodes = keys.groups * 14 + gates_of keys.groups + length columns * 3 + 36 + most.nodes + line.nodes;
-      registers = keys.groups * (slice_index columns keys.column + 2) + sum columns * 3
-          + slice_index columns keys.column + keys.width * 4 + 14 + most.registers + line.registers;
+      nodes = length columns + 4 + most.nodes + line.nodes;
+      registers = sum columns + slot + 3 + most.registers + line.registers;
       memories = most.memories + line.memories;
     }
 
--- in every run, from any contents
+-- in every run, from any contents, whatever wire the lane is behind, and so many cycles as it is
 pub record AreKeyFramesIn (old new : Net) (partition : Partition) (kinds : List Kind) (items : List PlanFrame)
-    (source : Wire) (r : KeyFrames) : Type 0 where
+    (lane : KeyLane) (r : KeyFrames) : Type 0 where
   pub keeps : Keeps old new
-  pub cost : CostsAtMost old new
-      (cost_of_key_frames partition.keys partition.wait partition.bits (widths source.columns) kinds items)
+  pub cost : CostsAtMost old new (cost_of_key_frames partition (widths lane.wire.columns) kinds items)
   pub wire : IsWire new r.wire
   pub same_widths : widths r.wire.columns ≡ frames_widths kinds items
   pub further : IsBit new r.further
-  pub law : (run : Run) → IsRun new run → AreKeyFrames run partition.keys partition.wait kinds items source r
+  pub law : (run : Run) → IsRun new run → (cycles : ℕ) (source : Wire) → 1 ≤ cycles
+      → IsLaneBehind cycles run partition.keys source lane
+      → AreKeyFrames (cycles + partition.wait) run partition.keys kinds items source r

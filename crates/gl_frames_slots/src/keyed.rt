@@ -1,6 +1,6 @@
-//! Frames of each key: from the wire that comes to the wire that leaves.
+//! Frames of each key: from the lane of its first keys to the wire that leaves.
 
-ghost use Rattle.std.specs.Prelude.{◌≡◌, ◌+◌, ◌<◌, ◌≤◌, ◌^◌, All, IfOk, length, map};
+ghost use Rattle.std.specs.Prelude.{◌≡◌, ◌+◌, ◌≤◌, All, IfOk, map};
 ghost use Rattle.gl_algebra.specs.Columns.{FrameFits};
 ghost use Rattle.gl_values.specs.Kinds.{IsKind, width_of};
 ghost use Rattle.gl_bits.specs.Words.{IsWidth};
@@ -17,7 +17,7 @@ use crate::rows::SlotRows;
 use gl_algebra::PlanFrame;
 use gl_algebra::frames::delay_of_frames;
 use gl_bits::Memory;
-use gl_frames_lanes::{KeyLane, Keys, put_key_lane};
+use gl_frames_lanes::{KeyLane, Keys};
 use gl_frames_stages::Lines;
 use gl_frames_stages::delay::{put_late_line, put_late_lines};
 use gl_net::{Bit, NetBuilder};
@@ -51,7 +51,8 @@ pub struct KeyRows {
 pub struct KeyFrames {
     /// The row of all items for each row of the first keys, and the ends.
     pub wire: Wire,
-    /// 1 for each row of a further key, as many cycles behind it as rows wait, and two.
+    /// 1 for each row of a further key, as many cycles behind it as its slot would take to find,
+    /// and as rows wait.
     pub further: Bit,
 }
 
@@ -118,34 +119,34 @@ fn put_key_items(
     })
 }
 
-/// Behind each row of the first keys of its stream, what these items make of the rows of its key up
-/// to it: three cycles more than they wait and the slowest item takes. All items are made whose rings
-/// fit the partition's bits (`IsSlotItem`).
+/// Behind each row of a lane of the first keys of a stream, what these items make of the rows of
+/// its key up to it: one cycle more than they wait and the slowest item takes. All items are made
+/// whose rings fit the partition's bits (`IsSlotItem`), whichever circuit put the lane.
 pub fn put_key_frames(
     alloc: Global,
     net: &mut NetBuilder,
-    wire: &Wire,
+    lane: &KeyLane,
     partition: Partition,
     kinds: &[Kind],
     items: &[PlanFrame],
 ) -> Result<KeyFrames, Memory>
-    requires wire { IsWire net.old wire.now }
-    requires kinds { widths wire.now.columns ≡ map width_of kinds.now }
+    requires wire { IsWire net.old lane.now.wire }
+    requires kinds { widths lane.now.wire.columns ≡ map width_of kinds.now }
+    requires slot { IsBus net.old lane.now.slot }
+    requires slot_width { lane.now.slot.width ≡ partition.keys.width }
+    requires first { IsBit net.old lane.now.first }
+    requires further { IsBit net.old lane.now.further }
     requires are_kinds { All IsKind kinds.now }
-    requires column { partition.keys.column < length wire.now.columns }
-    requires some { 1 ≤ partition.keys.groups }
     requires width { IsWidth partition.keys.width }
-    requires fits { partition.keys.groups ≤ 2 ^ partition.keys.width }
     requires bits { IsPlaceWidth partition.bits }
     requires address { partition.keys.width + partition.bits ≤ 32 }
     requires wait { partition.wait ≤ 100 }
     requires fit { All (FrameFits kinds.now) items.now }
     requires slot_items { All (IsSlotItem partition.bits) items.now }
     ensures { IfOk result
-        (AreKeyFramesIn net.old net.new partition kinds.now items.now wire.now) }
+        (AreKeyFramesIn net.old net.new partition kinds.now items.now lane.now) }
 {
-    let lane = put_key_lane(alloc, net, wire, partition.keys)?;
-    let late = put_key_rows(alloc, net, &lane)?;
+    let late = put_key_rows(alloc, net, lane)?;
     let out = put_key_items(alloc, net, &late, partition, kinds, items)?;
     let further = put_late_line(net, lane.further, partition.wait)?;
     Ok(KeyFrames { wire: out, further })

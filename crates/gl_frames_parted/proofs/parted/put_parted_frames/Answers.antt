@@ -31,6 +31,6 @@ returns c =
     let same_kinds = c.deref-5.ensures.value ∙ c.in_ok-kinds.ensures ∙ ap (λ (ks : List ℕ). pick_kinds ks kinds) (c.deref-2.ensures.value ∙ are) in
     let same_key = c.renumber_key-by.ensures ∙ ap (λ (ks : List ℕ). renumber_key ks c.args.by) (c.deref-4.ensures.value ∙ are) in
     let same_items = c.deref-6.ensures.value ∙ c.in_ok-items.ensures ∙ ap (λ (ks : List ℕ). map (renumber ks) items) (c.deref-3.ensures.value ∙ are) in
-    parted_as c.nodes_are_same.ensures.nodes c.nodes_make_same.ensures (forms_same {A = Row} {B = Row} {C = Row}) kinds c.args.by items c.requires.key.0 c.requires.fit c.args.wire.now
-    c.in_ok-picked.picked has c.in_ok-frames.frames c.requires.kinds c.args.net.now c.put_over_all.new.net c.deref-5.result.now c.renumber_key-by.result c.deref-6.result.now same_kinds same_key
+    parted_as c.partitions_serve.ensures c.nodes_are_same.ensures.nodes c.nodes_make_same.ensures (forms_same {A = Row} {B = Row} {C = Row}) kinds c.args.by items c.requires.key.0 c.requires.fit c.args.wire.now
+    c.in_ok-picked.picked has c.in_ok-frames.frames c.args.net.now c.put_over_all.new.net c.deref-5.result.now c.renumber_key-by.result c.deref-6.result.now same_kinds same_key
     same_items c.in_ok-frames.ensures
