@@ -1,5 +1,5 @@
 -- Changes that keep places: without places they are those of lists of rows, and no row comes behind one at a later place.
-use Rattle.std.proofs.Common.{◌≡◌, ℕ, ◌≤◌, List, [], ◌∷◌, ◌++◌, Option, Some, None, Bool, true, false, length, refl, ap, arith}
+use Rattle.std.proofs.Common.{◌≡◌, ℕ, ◌≤◌, List, [], ◌∷◌, ◌++◌, Option, Some, None, Bool, true, false, length, refl, sym, ap, ◌∙◌, arith}
 use Rattle.std.specs.Prelude.{filter, filter_map, if◌then◌else◌, map, option_map}
 use Rattle.std.specs.List.{AllByRecursion, cons_option}
 use Rattle.gl_frames.specs.Frames.{each_of}
@@ -109,9 +109,38 @@ pub moved_by_none : {A : Type 0} (xs : List (Placed A)) → moved (λ n. n) xs �
 moved_by_none [] = refl
 moved_by_none (x ∷ xs) = ap (λ l. x ∷ l) (moved_by_none xs)
 
+-- rows at places are the rows
+pub rows_at_places : {A : Type 0} (xs : List A) (ps : List ℕ) → rows_of (at_places xs ps) ≡ xs
+rows_at_places [] ps = refl
+rows_at_places (x ∷ xs) [] = ap (λ l. x ∷ l) (rows_at_places xs [])
+rows_at_places (x ∷ xs) (p ∷ ps) = ap (λ l. x ∷ l) (rows_at_places xs ps)
+
 -- rows at places, and more of them
 pub at_places_append : {A : Type 0} (xs ys : List A) (ps qs : List ℕ) → length xs ≡ length ps → at_places (xs ++ ys) (ps ++ qs) ≡ at_places xs ps ++ at_places ys qs
 at_places_append [] ys [] qs h = refl
 at_places_append [] ys (p ∷ ps) qs h = absurd (omega (arith, h))
 at_places_append (x ∷ xs) ys [] qs h = absurd (omega (arith, h))
 at_places_append (x ∷ xs) ys (p ∷ ps) qs h = ap (λ l. at_place x p ∷ l) (at_places_append xs ys ps qs (omega (arith, h)))
+
+-- ---- places changed
+
+pub rows_moved : {A : Type 0} (g : ℕ → ℕ) (xs : List (Placed A)) → rows_of (moved g xs) ≡ rows_of xs
+rows_moved g [] = refl
+rows_moved g (x ∷ xs) = ap (λ l. x.row ∷ l) (rows_moved g xs)
+
+pub kept_moved : {A : Type 0} (passes : A → Bool) (g : ℕ → ℕ) (xs : List (Placed A)) → kept_at passes (moved g xs) ≡ moved g (kept_at passes xs)
+kept_moved passes g xs =
+    sym (stepped_kept passes (moved g xs)) ∙ stepped_moved (λ x. if passes x then Some x else None) g xs ∙ ap (λ l. moved g l) (stepped_kept passes xs)
+
+pub mapped_moved : {A B : Type 0} (f : A → B) (g : ℕ → ℕ) (xs : List (Placed A)) → mapped_at f (moved g xs) ≡ moved g (mapped_at f xs)
+mapped_moved f g xs = sym (stepped_mapped f (moved g xs)) ∙ stepped_moved (λ x. Some (f x)) g xs ∙ ap (λ l. moved g l) (stepped_mapped f xs)
+
+pub each_moved : {A B : Type 0} (f : List A → Option B) (g : ℕ → ℕ) (seen : List A) (xs : List (Placed A)) → each_at f seen (moved g xs) ≡ moved g (each_at f seen xs)
+each_moved f g seen [] = refl
+each_moved {A = A} {B = B} f g seen (x ∷ xs) = by (f (seen ++ x.row ∷ [])) (each_moved f g (seen ++ x.row ∷ []) xs)
+  where
+    by : (o : Option B) → each_at f (seen ++ x.row ∷ []) (moved g xs) ≡ moved g (each_at f (seen ++ x.row ∷ []) xs)
+        → cons_option (option_map (λ y. at_place y (g x.place)) o) (each_at f (seen ++ x.row ∷ []) (moved g xs))
+        ≡ moved g (cons_option (option_map (λ y. at_place y x.place) o) (each_at f (seen ++ x.row ∷ []) xs))
+    by None e = e
+    by (Some y) e = ap (λ l. at_place y (g x.place) ∷ l) e

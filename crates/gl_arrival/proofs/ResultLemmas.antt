@@ -1,7 +1,7 @@
 -- Results with places: without them they are those of UNION, and a union by arrival has one result at most where both sides have.
 use Rattle.std.proofs.Common.{List, Bool, ◌||◌, refl, sym, ap, ◌∙◌, subst}
 use Rattle.gl_values.specs.Lists.{IsInterleaving}
-use Rattle.gl_values.specs.Results.{IsOfBoth, Row}
+use Rattle.gl_values.specs.Results.{AreSame, IsOfBoth, Row}
 use Rattle.gl_arrival.specs.Places.{Placed, rows_of}
 use Rattle.gl_arrival.specs.Arrival.{by_arrival}
 use Rattle.gl_arrival.specs.Results.{Arrivals, HasOneArrival, IsArrival, IsByArrival, IsChangedInPlace, IsPartedInPlace, IsWithoutPlaces}
@@ -49,3 +49,10 @@ one_by_arrival Left Right left right out out' spill spill' a b =
       a.in_order ∙ ap (λ (xs : List (Placed Row)). by_arrival xs a.right) l.0 ∙ ap (by_arrival b.left) r.0 ∙ sym b.in_order,
       a.either ∙ ap (λ s. s || a.right_spill) l.1 ∙ ap (λ s. b.left_spill || s) r.1 ∙ sym b.either,
     )
+
+-- so it has one without its places
+pub one_without : (Source : Arrivals) → HasOneArrival Source → (out out' : List Row) (spill spill' : Bool) → IsWithoutPlaces Source out spill
+    → IsWithoutPlaces Source out' spill' → AreSame out out' spill spill'
+one_without Source one out out' spill spill' a b =
+    let same = one a.rows b.rows spill spill' a.of_source b.of_source in
+    record { rows = a.without ∙ ap (λ (l : List (Placed Row)). rows_of l) same.0 ∙ sym b.without; spills = same.1 }

@@ -7,7 +7,7 @@ use Rattle.gl_values.specs.Lists.{IsInterleaving, nothing, from_first, from_seco
 use Rattle.gl_arrival.specs.Places.{Placed, at_place}
 use Rattle.gl_arrival.specs.Arrival.{by_arrival, earlier, not_earlier}
 use Rattle.gl_arrival.specs.Changes.{mapped_at, moved}
-use Rattle.gl_arrival.specs.Laws.{KeepsOrder}
+use Rattle.gl_arrival.specs.Laws.{KeepsOrder, Rises}
 
 module _ {A : Type 0} (is_first : A → Bool) where
   pub first_restored : (xs ys zs : List A) → IsInterleaving xs ys zs → AllByRecursion (λ x. is_first x ≡ true) xs → AllByRecursion (λ y. is_first y ≡ false) ys → filter is_first zs ≡ xs
@@ -71,6 +71,14 @@ module _ {A B : Type 0} (f : Placed A → Placed B) where
 
 pub by_arrival_moved : {A : Type 0} (g : ℕ → ℕ) (xs ys : List (Placed A)) → KeepsOrder g xs ys → by_arrival (moved g xs) (moved g ys) ≡ moved g (by_arrival xs ys)
 by_arrival_moved {A = A} g xs ys h = by_arrival_mapped (λ (x : Placed A). at_place x.row (g x.place)) xs ys h
+
+all_keep : {A : Type 0} (g : ℕ → ℕ) → Rises g → (x : Placed A) (ys : List (Placed A)) → AllByRecursion (λ (y : Placed A). nat_lt (g y.place) (g x.place) ≡ nat_lt y.place x.place) ys
+all_keep g r x [] = tt
+all_keep g r x (y ∷ ys) = (r y.place x.place, all_keep g r x ys)
+
+pub keeps_order : {A : Type 0} (g : ℕ → ℕ) → Rises g → (xs ys : List (Placed A)) → KeepsOrder g xs ys
+keeps_order g r [] ys = tt
+keeps_order g r (x ∷ xs) ys = (all_keep g r x ys, keeps_order g r xs ys)
 
 -- a change of rows alone keeps every order
 module _ {A B : Type 0} (f : A → B) where

@@ -48,6 +48,10 @@ abbrev pub KeepsOrder : {A : Type 0} → (ℕ → ℕ) → List (Placed A) → L
 KeepsOrder g xs ys =
     AllByRecursion (λ x. AllByRecursion (λ y. nat_lt (g y.place) (g x.place) ≡ nat_lt y.place x.place) ys) xs
 
+-- a change of places keeps every order
+abbrev pub Rises : (ℕ → ℕ) → Type 0
+Rises g = (m n : ℕ) → nat_lt (g m) (g n) ≡ nat_lt m n
+
 -- only the order of places counts, and no row does
 pub record GoesByOrder (A B : Type 0) : Type 0 where
   pub places : (g : ℕ → ℕ) (xs ys : List (Placed A)) → KeepsOrder g xs ys

@@ -15,10 +15,10 @@ at_place x p = record { row = x; place = p }
 abbrev pub rows_of : {A : Type 0} → List (Placed A) → List A
 rows_of {A = A} xs = map (λ (x : Placed A). x.row) xs
 
--- rows at these places, one for each, in order
+-- rows at these places, one for each, in order; where there are fewer places the other rows are at 0
 abbrev pub at_places : {A : Type 0} → List A → List ℕ → List (Placed A)
 at_places [] ps = []
-at_places (x ∷ xs) [] = []
+at_places (x ∷ xs) [] = at_place x 0 ∷ at_places xs []
 at_places (x ∷ xs) (p ∷ ps) = at_place x p ∷ at_places xs ps
 
 -- the rows that a body is given: each at its position

@@ -2,15 +2,20 @@
 use Rattle.std.proofs.Common.{◌≡◌, suc, List, [], ◌∷◌, ◌++◌, Bool, true, false, length, refl, sym, ap, subst, ◌∙◌}
 use Rattle.std.specs.Prelude.{◌||◌, Option, Some, None, IsSome, filter}
 use Rattle.std.proofs.lemmas.List.{length-map}
+use Rattle.gl_bits.proofs.Bools.{and_parts}
 use Rattle.gl_values.specs.Lists.{IsInterleaving, nothing, from_first, from_second}
+use Rattle.gl_arrival.specs.Places as arrival
+use Rattle.gl_arrival.specs.Arrival.{by_arrival}
+use Rattle.gl_arrival.specs.Results.{Arrivals, IsByArrival}
 use Rattle.gl_frames.proofs.ListLemmas.{each_length}
 use Rattle.gl_query.specs.Shapes.{QueryShape}
 use Rattle.gl_query.specs.Shapes as shape
-use Rattle.gl_query.specs.Columns.{Pace, Once, Step, pace_of}
+use Rattle.gl_query.specs.Columns.{Pace, Once, Step, arrives, pace_of}
 use Rattle.gl_values.specs.Results.{Row, Results, IsChanged, AreJoined, IsOfParts, IsOfBoth, AreBeside, beside}
-use Rattle.gl_query.specs.Results.{Env, IsChangedInPart, IsResultIn, columns_in, frame_row, rows_of}
+use Rattle.gl_query.specs.Results.{ArrivesIn, Env, IsChangedInPart, IsResultIn, IsWithoutPlaces, columns_in, frame_row, rows_of}
 use Rattle.gl_query.specs.Accepted.{IsAcceptedOver}
 use Rattle.gl_query.specs.Laws.{AcceptedHaveResults, scope_of}
+use Rattle.gl_query.proofs.Arriving.{with_places}
 
 -- as many rows as the pace says
 abbrev pub IsPaced : Env → Option Pace → List Row → Type 0
@@ -54,6 +59,7 @@ paced (shape.Each measure var source size advance body) env out spill r = tt
 paced (shape.PerGroup var source key n body) env out spill r = tt
 paced (shape.Partition var source key n size advance body) env out spill r = tt
 paced (shape.Union l r) env out spill both = tt
+paced (shape.ByArrival l r) env out spill both = tt
 paced (shape.Concat l r) env out spill both =
     let same = ap length both.join.rows ∙ length_beside both.left both.right both.join.paired in
     paced_alike env (pace_of l) both.left out same (paced l env both.left both.left_spill both.of_left)
@@ -127,6 +133,29 @@ some_of_both left right Join x y rows join = record {
   };
 }
 
+some_by_arrival : (Left Right : Arrivals) (xs ys : List Row) (p q : Bool) → IsWithoutPlaces Left xs p → IsWithoutPlaces Right ys q
+    → HasSome (IsWithoutPlaces (IsByArrival Left Right))
+some_by_arrival Left Right xs ys p q x y =
+    let rows = by_arrival x.rows y.rows in
+    record {
+      rows = arrival.rows_of rows;
+      spill = p || q;
+      is = record {
+        rows = rows;
+        of_source = record {
+          left = x.rows;
+          right = y.rows;
+          left_spill = p;
+          right_spill = q;
+          of_left = x.of_source;
+          of_right = y.of_source;
+          in_order = refl;
+          either = refl;
+        };
+        without = refl;
+      };
+    }
+
 some_result : (q : QueryShape) (env : Env) (timed : Bool) → IsAcceptedOver (scope_of env timed) q → HasSome (IsResultIn q env)
 some_result (shape.Read name) env timed a = record { rows = rows_of env name; spill = false; is = record { rows = refl; kept = refl } }
 some_result (shape.Rows pick filter source) env timed a = some_changed (IsResultIn source env) _ (some_result source env timed a.0)
@@ -143,6 +172,12 @@ some_result (shape.Union l r) env timed a =
     let x = some_result l env timed a.0 in
     let y = some_result r env timed a.1 in
     some_of_both (IsResultIn l env) (IsResultIn r env) IsInterleaving x y (x.rows ++ y.rows) (first_then_second x.rows y.rows)
+some_result (shape.ByArrival l r) env timed a =
+    let come = and_parts (arrives l) (arrives r) a.2 in
+    let x = some_result l env timed a.0 in
+    let y = some_result r env timed a.1 in
+    some_by_arrival (ArrivesIn l env) (ArrivesIn r env) x.rows y.rows x.spill y.spill (with_places l come.0 env x.rows x.spill x.is)
+    (with_places r come.1 env y.rows y.spill y.is)
 some_result (shape.Concat l r) env timed a =
     let x = some_result l env timed a.0 in
     let y = some_result r env timed a.1 in

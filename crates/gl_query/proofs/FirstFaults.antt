@@ -1,6 +1,6 @@
 -- A statement has no first fault exactly where it is accepted.
 use Rattle.std.proofs.Common.{◌≡◌, ℕ, ◌*◌, ◌<◌, ◌≤◌, true, false, List, [], ◌∷◌, length, map, Option, Some, None, refl, sym, ap, subst, arith, lit≤}
-use Rattle.std.specs.Prelude.{not, IsSome, bytes_eq, nat_le, nat_lt, option_map}
+use Rattle.std.specs.Prelude.{not, ◌&&◌, IsSome, bytes_eq, nat_le, nat_lt, option_map}
 use Rattle.std.specs.Int.{div_ceil}
 use Rattle.std.specs.List.{AllByRecursion, IsDistinct, list_any}
 use Rattle.std.proofs.lemmas.Bool.{leb-true, le-leb, ltb-true, lt-ltb}
@@ -19,7 +19,7 @@ use Rattle.gl_query.specs.Trees.{ExprTree, ItemTree, AggItemTree, FrameItemTree,
 use Rattle.gl_query.specs.Alike.{expr_alike, agg_alike, item_alike, agg_item_alike, frame_alike, frame_item_alike, pick_alike, query_alike}
 use Rattle.gl_query.specs.Shapes.{QueryShape, slots_shape}
 use Rattle.gl_query.specs.Values.{HasKind, kind_alone}
-use Rattle.gl_query.specs.Columns.{Pace, Once, Step, agg_column, frame_column, is_closing, item_column, pace_of}
+use Rattle.gl_query.specs.Columns.{Pace, Once, Step, agg_column, arrives, frame_column, is_closing, item_column, pace_of}
 use Rattle.gl_query.specs.Accepted.{AreFrames, AreResultColumns, IsAcceptedOver, IsAgg, IsFrame, IsParted, IsPick, IsTotal, IsWindow, KeepPace, Scope, body_scope, can_measure, columns_under}
 use Rattle.gl_query.specs.Windows.{copies_of}
 use Rattle.gl_query.specs.Faults.{or_else, unless, agg_fault, are_distinct, aggs_fault, beside_fault, filter_fault, frame_fault, frames_fault, is_within, key_fault, pick_fault, query_fault, same_kinds, same_pace, slots_fault, whole_fault, window_fault, windows_fault}
@@ -304,6 +304,16 @@ query_decides (tree.Union l r at) scope s =
     (both (query_fault scope l) _ (query_decides l scope s)
     (λ a. both (query_fault scope r) _ (query_decides r scope s) (λ b. rule (same_kinds left right) _ (left ≡ right) (lists_equal left right) (equal_lists left right))))
     (λ h. (h.0, h.1.0, h.1.1)) (λ a. (a.0, (a.1, a.2)))
+query_decides (tree.ByArrival l r at) scope s =
+    let left = kinds_of (columns_under scope (query_alike l)) in
+    let right = kinds_of (columns_under scope (query_alike r)) in
+    let come = arrives (query_alike l) && arrives (query_alike r) in
+    change _
+    (both (query_fault scope l) _ (query_decides l scope s)
+    (λ a. both (query_fault scope r) _ (query_decides r scope s)
+    (λ b. both (unless come _) _ (test come _)
+    (λ c. rule (same_kinds left right) _ (left ≡ right) (lists_equal left right) (equal_lists left right)))))
+    (λ h. (h.0, h.1.0, h.1.1.0, h.1.1.1)) (λ a. (a.0, (a.1, (a.2, a.3))))
 query_decides (tree.Concat l r at) scope s =
     let columns = columns_under scope (query_alike (tree.Concat l r at)) in
     change _

@@ -22,6 +22,7 @@ use Rattle.gl_query.specs.Accepted.{IsAgg, IsFrame, IsPick}
 use Rattle.gl_query.specs.Results.{IsResultIn, columns_in, frame_row, keeps, kept, only, picked, streams_of, ticks_in, times_in, total_row}
 use Rattle.gl_query.specs.Windows.{parts_of}
 use Rattle.gl_query.specs.Laws.{HoldsIn, HoldsOfResults}
+use Rattle.gl_query.proofs.Arriving.{as_union}
 
 -- each step keeps it
 pub record IsKept (P : List Column → Row → Type 0) : Type 0 where
@@ -298,6 +299,13 @@ results_hold P k (shape.Union l r) env timed out spill a h is =
     let right = results_hold P k r env timed is.right is.right_spill a.1 h is.of_right in
     let alike = all_weaker (P (columns_in env r)) (P columns) (λ row p. k.alike columns (columns_in env r) row a.2 p) is.right right in
     all_interleaved (P columns) is.left is.right out left alike is.join
+results_hold P k (shape.ByArrival l r) env timed out spill a h is =
+    let columns = columns_in env l in
+    let both = as_union l r env out spill is in
+    let left = results_hold P k l env timed both.left both.left_spill a.0 h both.of_left in
+    let right = results_hold P k r env timed both.right both.right_spill a.1 h both.of_right in
+    let alike = all_weaker (P (columns_in env r)) (P columns) (λ row p. k.alike columns (columns_in env r) row a.3 p) both.right right in
+    all_interleaved (P columns) both.left both.right out left alike both.join
 results_hold P k (shape.Concat l r) env timed out spill a h is =
     let left = results_hold P k l env timed is.left is.left_spill a.0 h is.of_left in
     let right = results_hold P k r env timed is.right is.right_spill a.1 h is.of_right in

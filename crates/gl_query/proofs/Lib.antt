@@ -1,3 +1,4 @@
+pub mod Arriving
 pub mod Unique
 pub mod Existing
 pub mod Timeless

@@ -179,6 +179,7 @@ real (shape.Partition var source key groups size advance body) scope s a =
     let inner = real body (body_scope var columns) (body_is var columns r.result r.kinds) a.2 in
     record { result = a.1.grouping.columns; kinds = (kind_at columns (column_number columns key) r.kinds, inner.kinds) }
 real (shape.Union l r) scope s a = real l scope s a.0
+real (shape.ByArrival l r) scope s a = real l scope s a.0
 real (shape.Concat l r) scope s a =
     let x = real l scope s a.0 in
     let y = real r scope s a.1 in
@@ -244,6 +245,7 @@ some (shape.Each measure var source size advance body) scope s i a =
 some (shape.PerGroup var source key groups body) scope s i a = omega arith
 some (shape.Partition var source key groups size advance body) scope s i a = omega arith
 some (shape.Union l r) scope s i a = some l scope s i.0 a.0
+some (shape.ByArrival l r) scope s i a = some l scope s i.0 a.0
 some (shape.Concat l r) scope s i a =
     let h = some l scope s i.0 a.0 in
     let e = length-append (columns_under scope l) (columns_under scope r) in

@@ -1,25 +1,48 @@
--- Without a window of time, results go by the rows of the streams.
+-- Without a window of time, results go by the rows of the streams and their places.
 use Rattle.std.proofs.Common.{◌≡◌, ℕ, ◌+◌, false, List, [], ◌∷◌, refl, ap, ◌∙◌, subst}
 use Rattle.std.specs.Prelude.{bytes_eq, map, slice_index}
 use Rattle.gl_values.specs.Lists.{IsInterleaving, groups, has_further, slices}
 use Rattle.gl_values.specs.Partitions.{parts}
 use Rattle.gl_values.specs.Results.{Row, Results, AreBeside, IsChanged, IsInput, IsOfBoth, IsOfGroup, IsOfParts}
+use Rattle.gl_arrival.specs.Places.{at_places}
+use Rattle.gl_arrival.specs.Changes.{kept_at, mapped_at}
 use Rattle.gl_bits.proofs.Bools.{by_cases, neither_parts}
 use Rattle.gl_schema.specs.declared.schema.Stream.{Stream}
 use Rattle.gl_schema.specs.Beats.{Inputs}
 use Rattle.gl_query.specs.declared.tree.Measure.TheVariants.{Tuples, Time}
 use Rattle.gl_query.specs.Columns.{columns_of}
 use Rattle.gl_query.specs.Laws.{ResultsGoByRows}
-use Rattle.gl_query.specs.Results.{Env, IsFramed, IsResultIn, env_of, kept, numbered, only, picked, rows_of, streams_of, total_row}
+use Rattle.gl_query.specs.Results.{Arrivals, ArrivesIn, Env, IsArrival, IsByArrival, IsChangedInPlace, IsFramed, IsFramedInPlace, IsResultIn, IsWithoutPlaces, env_of, keeps, kept, numbered, only, picked, placed_rows_of, rows_of, streams_of, total_row}
 use Rattle.gl_query.specs.Shapes.{QueryShape, query_shape}
 use Rattle.gl_query.specs.Shapes as shape
 use Rattle.gl_query.specs.Values.{column_number}
 use Rattle.gl_query.specs.Windows.{HasNoTime, has_time}
 
--- the same streams with the same rows
+-- the same streams with the same rows, at the same places
 record HaveRows (env other : Env) : Type 0 where
   pub streams : streams_of env ≡ streams_of other
   pub rows : (name : List ℕ) → rows_of env name ≡ rows_of other name
+  pub placed : (name : List ℕ) → placed_rows_of env name ≡ placed_rows_of other name
+
+-- results with places look at no time
+same_arrivals : (q : QueryShape) (env other : Env) → HaveRows env other → ArrivesIn q env ≡ ArrivesIn q other
+same_arrivals (shape.Read name) env other h = ap IsArrival (h.placed name)
+same_arrivals (shape.Rows pick filter source) env other h =
+    let step : List Stream → Arrivals → Arrivals =
+    λ s r. IsChangedInPlace r (λ xs. mapped_at (picked (columns_of s source) pick) (kept_at (keeps (columns_of s source) filter) xs)) in
+    ap (λ (s : List Stream). step s (ArrivesIn source env)) h.streams ∙ ap (step (streams_of other)) (same_arrivals source env other h)
+same_arrivals (shape.Total aggs source) env other h = refl
+same_arrivals (shape.Frames items filter slots source) env other h =
+    let step : List Stream → Arrivals → Arrivals = λ s r. IsFramedInPlace (columns_of s source) items filter slots r in
+    ap (λ (s : List Stream). step s (ArrivesIn source env)) h.streams ∙ ap (step (streams_of other)) (same_arrivals source env other h)
+same_arrivals (shape.Each measure var source size advance body) env other h = refl
+same_arrivals (shape.PerGroup var source key n body) env other h = refl
+same_arrivals (shape.Partition var source key n size advance body) env other h = refl
+same_arrivals (shape.Union l r) env other h = refl
+same_arrivals (shape.ByArrival l r) env other h =
+    ap (λ (x : Arrivals). IsByArrival x (ArrivesIn r env)) (same_arrivals l env other h)
+    ∙ ap (λ (x : Arrivals). IsByArrival (ArrivesIn l other) x) (same_arrivals r env other h)
+same_arrivals (shape.Concat l r) env other h = refl
 
 same_results : (q : QueryShape) → HasNoTime q → (env other : Env) → HaveRows env other → IsResultIn q env ≡ IsResultIn q other
 same_results (shape.Read name) t env other h = ap IsInput (h.rows name)
@@ -57,6 +80,7 @@ same_results (shape.Union l r) t env other h =
     let apart = neither_parts (has_time l) (has_time r) t in
     ap (λ (x : Results). IsOfBoth x (IsResultIn r env) IsInterleaving) (same_results l apart.0 env other h)
     ∙ ap (λ (x : Results). IsOfBoth (IsResultIn l other) x IsInterleaving) (same_results r apart.1 env other h)
+same_results (shape.ByArrival l r) t env other h = ap (λ (x : Arrivals). IsWithoutPlaces x) (same_arrivals (shape.ByArrival l r) env other h)
 same_results (shape.Concat l r) t env other h =
     let apart = neither_parts (has_time l) (has_time r) t in
     ap (λ (x : Results). IsOfBoth x (IsResultIn r env) AreBeside) (same_results l apart.0 env other h)
@@ -74,8 +98,20 @@ numbered_rows k [] inputs others same name = refl
 numbered_rows k (s ∷ streams) inputs others same name =
     by_cases (bytes_eq name s.name) (λ e. rw e (same k)) (λ e. rw e (numbered_rows (k + 1) streams inputs others same name))
 
+numbered_placed : (k : ℕ) (streams : List Stream) (inputs others : Inputs) → ((i : ℕ) → inputs.rows i ≡ others.rows i)
+    → ((i : ℕ) → inputs.places i ≡ others.places i) → (name : List ℕ)
+    → placed_rows_of (numbered k streams inputs) name ≡ placed_rows_of (numbered k streams others) name
+numbered_placed k [] inputs others same at name = refl
+numbered_placed k (s ∷ streams) inputs others same at name =
+    by_cases (bytes_eq name s.name)
+    (λ e. rw e (ap (λ (l : List Row). at_places l (inputs.places k)) (same k) ∙ ap (at_places (others.rows k)) (at k)))
+    (λ e. rw e (numbered_placed (k + 1) streams inputs others same at name))
+
 pub go_by_rows : ResultsGoByRows
-go_by_rows schema statement inputs others out spill timeless same result =
-    let alike : HaveRows (env_of schema inputs) (env_of schema others) =
-    record { streams = numbered_streams 0 schema.streams inputs others; rows = numbered_rows 0 schema.streams inputs others same } in
+go_by_rows schema statement inputs others out spill timeless same at result =
+    let alike : HaveRows (env_of schema inputs) (env_of schema others) = record {
+      streams = numbered_streams 0 schema.streams inputs others;
+      rows = numbered_rows 0 schema.streams inputs others same;
+      placed = numbered_placed 0 schema.streams inputs others same at;
+    } in
     subst (λ (r : Results). r out spill) (same_results (query_shape statement.query) timeless (env_of schema inputs) (env_of schema others) alike) result

@@ -1,5 +1,5 @@
 -- Which statements are accepted over a schema.
-use Rattle.std.specs.Prelude.{◌≡◌, ℕ, ◌*◌, ◌<◌, ◌≤◌, Bool, true, false, List, length, Option, Some, None, IsSome, IsTrue, bytes_eq}
+use Rattle.std.specs.Prelude.{◌≡◌, ℕ, ◌*◌, ◌<◌, ◌≤◌, Bool, true, false, ◌&&◌, List, length, Option, Some, None, IsSome, IsTrue, bytes_eq}
 use Rattle.std.specs.Int.{div_ceil}
 use Rattle.std.specs.List.{AllByRecursion, IsDistinct}
 use Rattle.gl_values.specs.Kinds.{is_number}
@@ -16,7 +16,7 @@ use Rattle.gl_query.specs.declared.tree.Statement.{Statement}
 use Rattle.gl_query.specs.Shapes.{ExprShape, AggShape, ItemShape, AggItemShape, FrameAggShape, FrameShape, FrameItemShape, PickShape, QueryShape, SlotsShape, query_shape}
 use Rattle.gl_query.specs.Shapes as shape
 use Rattle.gl_query.specs.Values.{HasKind, IsNumberOf, kind_alone, kind_of}
-use Rattle.gl_query.specs.Columns.{columns_of, picked_columns, is_closing, pace_of, variable}
+use Rattle.gl_query.specs.Columns.{arrives, columns_of, picked_columns, is_closing, pace_of, variable}
 use Rattle.gl_query.specs.Windows.{copies_of}
 
 -- at most 32 columns, no two of one name
@@ -212,6 +212,9 @@ IsAcceptedOver scope (shape.Partition var source key groups size advance body) =
     × IsAcceptedOver (body_scope var (columns_under scope source)) body × IsTrue (is_closing body)
 IsAcceptedOver scope (shape.Union l r) =
     IsAcceptedOver scope l × IsAcceptedOver scope r
+    × (kinds_of (columns_under scope l) ≡ kinds_of (columns_under scope r))
+IsAcceptedOver scope (shape.ByArrival l r) =
+    IsAcceptedOver scope l × IsAcceptedOver scope r × IsTrue (arrives l && arrives r)
     × (kinds_of (columns_under scope l) ≡ kinds_of (columns_under scope r))
 IsAcceptedOver scope (shape.Concat l r) =
     IsAcceptedOver scope l × IsAcceptedOver scope r × KeepPace l r

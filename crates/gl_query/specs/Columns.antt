@@ -1,4 +1,4 @@
--- The columns of a query, when it closes, and its pace.
+-- The columns of a query, when it closes, whether its rows come one by one, and its pace.
 use Rattle.std.specs.Prelude.{ℕ, Bool, true, false, not, ◌&&◌, List, [], ◌∷◌, ◌++◌, map, Option, Some, None, find, unwrap_or, option_map, bytes_eq}
 use Rattle.gl_values.specs.declared.kind.Kind.{Kind}
 use Rattle.gl_values.specs.declared.kind.Kind.TheVariants.{Unsigned}
@@ -73,6 +73,7 @@ columns_of sources (shape.Partition var source key groups size advance body) =
     record { name = key; kind = column_kind (columns_of sources source) key } ∷ columns_of
     (variable var (columns_of sources source)) body
 columns_of sources (shape.Union l r) = columns_of sources l
+columns_of sources (shape.ByArrival l r) = columns_of sources l
 columns_of sources (shape.Concat l r) = columns_of sources l ++ columns_of sources r
 
 -- a closing query gives its rows at the end of its input
@@ -85,7 +86,22 @@ is_closing (shape.Each measure var source size advance body) = not (is_time meas
 is_closing (shape.PerGroup var source key groups body) = true
 is_closing (shape.Partition var source key groups size advance body) = is_closing source
 is_closing (shape.Union l r) = is_closing l && is_closing r
+is_closing (shape.ByArrival l r) = false
 is_closing (shape.Concat l r) = is_closing l && is_closing r
+
+-- whether each row of a query comes of one row that came: of a source, of a select over such a query, with frames or
+-- without, and of a union by arrival
+abbrev pub arrives : QueryShape → Bool
+arrives (shape.Read name) = true
+arrives (shape.Rows pick filter source) = arrives source
+arrives (shape.Total aggs source) = false
+arrives (shape.Frames items filter slots source) = arrives source
+arrives (shape.Each measure var source size advance body) = false
+arrives (shape.PerGroup var source key groups body) = false
+arrives (shape.Partition var source key groups size advance body) = false
+arrives (shape.Union l r) = false
+arrives (shape.ByArrival l r) = true
+arrives (shape.Concat l r) = false
 
 -- how many rows a query gives: one, or one for each row of a source
 pub data Pace : Type 0 where
@@ -97,7 +113,7 @@ abbrev pub unfiltered : {A B : Type 0} → Option A → Option B → Option B
 unfiltered None pace = pace
 unfiltered (Some e) pace = None
 
--- the pace of a query, where it has one: filters, PARTITION, windows, groups and UNION have none, and CONCAT has its
+-- the pace of a query, where it has one: filters, PARTITION, windows, groups and unions have none, and CONCAT has its
 -- left side's
 abbrev pub pace_of : QueryShape → Option Pace
 pace_of (shape.Read name) = Some (Step name)
@@ -108,4 +124,5 @@ pace_of (shape.Each measure var source size advance body) = None
 pace_of (shape.PerGroup var source key groups body) = None
 pace_of (shape.Partition var source key groups size advance body) = None
 pace_of (shape.Union l r) = None
+pace_of (shape.ByArrival l r) = None
 pace_of (shape.Concat l r) = pace_of l

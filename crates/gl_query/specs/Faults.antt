@@ -14,17 +14,17 @@ use Rattle.gl_schema.specs.declared.schema.Column.{Column as NamedColumn}
 use Rattle.gl_schema.specs.declared.schema.Schema.{Schema}
 use Rattle.gl_schema.specs.Schemas.{column_names, has_column, has_stream, kinds_of}
 use Rattle.gl_query.specs.declared.fault.QueryFault.{QueryFault}
-use Rattle.gl_query.specs.declared.fault.QueryFault.TheVariants.{UnknownStream, UnknownColumn, KindsDiffer, LiteralTooWide, NotCondition, TwiceNamed, ColumnsDiffer, PaceDiffers, NotClosing, OutOfRange, NoTime}
+use Rattle.gl_query.specs.declared.fault.QueryFault.TheVariants.{UnknownStream, UnknownColumn, KindsDiffer, LiteralTooWide, NotCondition, TwiceNamed, ColumnsDiffer, PaceDiffers, NotClosing, OutOfRange, NoTime, NoArrival}
 use Rattle.gl_query.specs.declared.tree.Measure.{Measure}
 use Rattle.gl_query.specs.declared.tree.Measure.TheVariants.{Tuples}
 use Rattle.gl_query.specs.declared.tree.Name.{Name}
 use Rattle.gl_query.specs.declared.tree.Num.{Num}
 use Rattle.gl_query.specs.declared.tree.Slots.{Slots}
-use Rattle.gl_query.specs.Trees.{ExprTree, AggTree, ItemTree, AggItemTree, FrameAggTree, FrameTree, FrameItemTree, PickTree, QueryTree, StatementTree, Column, Number, Minus, Letters, Not, Cast, Binary, Count, Sum, Min, Max, Avg, Wsum, CountOver, SumOver, MinOver, MaxOver, AvgOver, LastOver, Own, Lag, Over, All, Items, Read, Rows, Total, Frames, Each, PerGroup, Partition, Union, Concat}
+use Rattle.gl_query.specs.Trees.{ExprTree, AggTree, ItemTree, AggItemTree, FrameAggTree, FrameTree, FrameItemTree, PickTree, QueryTree, StatementTree, Column, Number, Minus, Letters, Not, Cast, Binary, Count, Sum, Min, Max, Avg, Wsum, CountOver, SumOver, MinOver, MaxOver, AvgOver, LastOver, Own, Lag, Over, All, Items, Read, Rows, Total, Frames, Each, PerGroup, Partition, Union, ByArrival, Concat}
 use Rattle.gl_query.specs.Shapes.{QueryShape}
 use Rattle.gl_query.specs.Alike.{expr_alike, query_alike}
 use Rattle.gl_query.specs.Values.{is_loose, kind_alone, kind_of, letters_fit, operand_place}
-use Rattle.gl_query.specs.Columns.{Pace, Once, Step, is_closing, pace_of}
+use Rattle.gl_query.specs.Columns.{Pace, Once, Step, arrives, is_closing, pace_of}
 use Rattle.gl_query.specs.Accepted.{Scope, body_scope, can_measure, columns_under, most_slots, schema_scope}
 use Rattle.gl_query.specs.Windows.{copies_of}
 
@@ -315,6 +315,11 @@ query_fault scope (Union l r at) =
     or_else (query_fault scope l) (or_else (query_fault scope r)
     (unless (same_kinds (kinds_of (columns_under scope (query_alike l)))
     (kinds_of (columns_under scope (query_alike r)))) (ColumnsDiffer at)))
+query_fault scope (ByArrival l r at) =
+    or_else (query_fault scope l) (or_else (query_fault scope r)
+    (or_else (unless (arrives (query_alike l) && arrives (query_alike r)) (NoArrival at))
+    (unless (same_kinds (kinds_of (columns_under scope (query_alike l)))
+    (kinds_of (columns_under scope (query_alike r)))) (ColumnsDiffer at))))
 query_fault scope (Concat l r at) =
     or_else (query_fault scope l)
     (or_else (query_fault scope r) (beside_fault (query_alike l) (query_alike r)

@@ -1,5 +1,5 @@
 -- Laws of the meaning of queries.
-use Rattle.std.specs.Prelude.{◌≡◌, ◌↔◌, ℕ, ◌≤◌, Bool, List, length, None}
+use Rattle.std.specs.Prelude.{◌≡◌, ◌↔◌, ℕ, ◌≤◌, Bool, List, length, None, IsTrue}
 use Rattle.std.specs.List.{AllByRecursion}
 use Rattle.gl_query.specs.Shapes.{QueryShape}
 use Rattle.gl_query.specs.Shapes as shape
@@ -13,14 +13,14 @@ use Rattle.gl_schema.specs.declared.schema.Column.{Column}
 use Rattle.gl_schema.specs.declared.schema.Schema.{Schema}
 use Rattle.gl_schema.specs.Beats.{Inputs}
 use Rattle.gl_schema.specs.Schemas.{IsRowOf, IsSchema}
-use Rattle.gl_query.specs.Columns.{columns_of, source_columns}
+use Rattle.gl_query.specs.Columns.{arrives, columns_of, source_columns}
 use Rattle.gl_query.specs.Sizes.{HasItems}
 use Rattle.gl_query.specs.Faults.{first_fault}
-use Rattle.gl_query.specs.Results.{Env, IsResult, IsResultIn, columns_in, rows_of, streams_of}
+use Rattle.gl_query.specs.Results.{ArrivesIn, Env, IsResult, IsResultIn, IsWithoutPlaces, columns_in, rows_of, streams_of}
 use Rattle.gl_query.specs.Accepted.{AreResultColumns, Scope, IsAcceptedOver, schema_scope}
 use Rattle.gl_query.specs.Windows.{HasNoTime}
 
--- no UNION stands in a query
+-- no UNION without BY ARRIVAL stands in a query
 abbrev pub HasNoUnion : QueryShape → Type 0
 HasNoUnion (shape.Read name) = Unit {0}
 HasNoUnion (shape.Rows pick filter source) = HasNoUnion source
@@ -30,13 +30,19 @@ HasNoUnion (shape.Each measure var source size advance body) = HasNoUnion source
 HasNoUnion (shape.PerGroup var source key groups body) = HasNoUnion source × HasNoUnion body
 HasNoUnion (shape.Partition var source key groups size advance body) = HasNoUnion source × HasNoUnion body
 HasNoUnion (shape.Union l r) = ⊥
+HasNoUnion (shape.ByArrival l r) = HasNoUnion l × HasNoUnion r
 HasNoUnion (shape.Concat l r) = HasNoUnion l × HasNoUnion r
 
--- without UNION there is at most one result
+-- without such a UNION there is at most one result
 abbrev pub HasOneResult : Type 0
 HasOneResult =
     (q : QueryShape) → HasNoUnion q → (env : Env) (out out' : List Row) (spill spill' : Bool)
     → IsResultIn q env out spill → IsResultIn q env out' spill' → AreSame out out' spill spill'
+
+-- where each row of a query comes of one row that came, its results are those with places, without them
+abbrev pub ArrivalsAreResults : Type 0
+ArrivalsAreResults = (q : QueryShape) → IsTrue (arrives q) → (env : Env) (out : List Row) (spill : Bool)
+    → IsResultIn q env out spill ↔ IsWithoutPlaces (ArrivesIn q env) out spill
 
 -- a result of a query in an environment
 pub record HasResult (q : QueryShape) (env : Env) : Type 0 where
@@ -75,11 +81,13 @@ ResultsAreLong = HoldsOfResults IsLongAs
 abbrev pub ResultsFit : Type 0
 ResultsFit = HoldsOfResults IsRowOf
 
--- without a window of time a result goes by the rows of the streams alone, whatever their times, or ticks
+-- without a window of time a result goes by the rows of the streams and their places alone, whatever their times, or
+-- ticks
 abbrev pub ResultsGoByRows : Type 0
 ResultsGoByRows =
     (schema : Schema) (statement : Statement) (inputs others : Inputs) (out : List Row) (spill : Bool)
     → HasNoTime (query_shape statement.query) → ((k : ℕ) → inputs.rows k ≡ others.rows k)
+    → ((k : ℕ) → inputs.places k ≡ others.places k)
     → IsResult schema statement inputs out spill → IsResult schema statement others out spill
 
 -- a statement without its places is the tree without them

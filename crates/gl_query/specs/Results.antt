@@ -1,6 +1,7 @@
 -- The results of a query: a relation between the rows of its sources, the rows of a result, and whether rows of further
 -- keys were left out. After the operators of Mueller, Teubner and Alonso, Streams on Wires, PVLDB 2(1), 2009.
-use Rattle.std.specs.Prelude.{ℕ, ◌+◌, Bool, true, false, List, [], ◌∷◌, map, filter, find, Option, Some, None, unwrap_or, option_map, bytes_eq, nat_eq, slice_index}
+use Rattle.std.specs.Prelude.{ℕ, ◌+◌, Bool, true, false, List, [], ◌∷◌, length, map, filter, find, Option, Some, None, unwrap_or, option_map, bytes_eq, nat_eq, slice_index}
+use Rattle.std.specs.List.{range_with_len}
 use Rattle.gl_values.specs.declared.kind.Kind.TheVariants.{Unsigned}
 use Rattle.gl_values.specs.Kinds.{width_of}
 use Rattle.gl_values.specs.Lists.{IsInterleaving, groups, has_further}
@@ -8,6 +9,9 @@ use Rattle.gl_frames.specs.Frames.{frame_of, framed, framed_by_key, lag_of, own_
 pub use Rattle.gl_frames.specs.Results.{IsChangedInPart}
 use Rattle.gl_values.specs.Partitions.{parts}
 use Rattle.gl_values.specs.Results.{Row, Results, IsInput, IsChanged, IsOfBoth, AreBeside, IsOfParts, IsOfGroup}
+use Rattle.gl_arrival.specs.Places.{Placed, at_places}
+use Rattle.gl_arrival.specs.Changes.{framed_at, framed_by_key_at, kept_at, mapped_at}
+pub use Rattle.gl_arrival.specs.Results.{Arrivals, IsArrival, IsByArrival, IsChangedInPlace, IsPartedInPlace, IsWithoutPlaces}
 use Rattle.gl_values.specs.Totals.{average_of, count_of, greatest_of, least_of, sum_total, weighted_sum}
 use Rattle.gl_schema.specs.declared.schema.Column.{Column}
 use Rattle.gl_schema.specs.declared.schema.Stream.{Stream}
@@ -90,12 +94,25 @@ IsFramed columns items filter (Some s) source =
     (λ rows. framed_by_key s.groups key_of (frame_row columns items) (kept columns filter rows))
     (λ rows. has_further s.groups key_of (kept columns filter rows))
 
+-- the same of rows at places: each row is at the place of the row that it is for
+abbrev pub IsFramedInPlace : List Column → List FrameItemShape → Option ExprShape → Option SlotsShape → Arrivals
+    → Arrivals
+IsFramedInPlace columns items filter None source =
+    IsChangedInPlace source (λ xs. framed_at (frame_row columns items) (kept_at (keeps columns filter) xs))
+IsFramedInPlace columns items filter (Some s) source =
+    let key_of : Row → ℕ = λ row. slice_index row (column_number columns s.key) in
+    IsPartedInPlace source
+    (λ xs. framed_by_key_at s.groups key_of (frame_row columns items) (kept_at (keeps columns filter) xs))
+    (λ rows. has_further s.groups key_of (kept columns filter rows))
+
 -- ---- what a query sees
 
--- a source that a query may read, and its rows; a stream's have times, and there are so many ticks in all
+-- a source that a query may read, and its rows with their places; a stream's have times, and there are so many ticks
+-- in all
 pub record Source : Type 0 where
   pub stream : Stream
   pub rows : List Row
+  pub places : List ℕ
   pub times : List ℕ
   pub ticks : ℕ
 
@@ -115,6 +132,10 @@ said_of said none env name = unwrap_or (option_map said (find (λ (s : Source). 
 abbrev pub rows_of : Env → List ℕ → List Row
 rows_of env name = said_of (λ (s : Source). s.rows) [] env name
 
+-- the rows of a source by its name, each at its place
+abbrev pub placed_rows_of : Env → List ℕ → List (Placed Row)
+placed_rows_of env name = said_of (λ (s : Source). at_places s.rows s.places) [] env name
+
 -- the times of the rows of a query that is a source itself; none for any other query
 abbrev pub times_in : Env → QueryShape → List ℕ
 times_in env (shape.Read name) = said_of (λ (s : Source). s.times) [] env name
@@ -129,23 +150,56 @@ ticks_in env q = 0
 abbrev pub columns_in : Env → QueryShape → List Column
 columns_in env q = columns_of (streams_of env) q
 
--- a body sees its own variable alone, whose rows have no times
+-- a body sees its own variable alone, whose rows have no times; the place of each is its position
 abbrev pub only : List ℕ → List Column → List Row → Env
 only var columns rows =
-    record { stream = record { name = var; columns = columns }; rows = rows; times = []; ticks = 0 } ∷ []
+    record {
+      stream = record { name = var; columns = columns };
+      rows = rows;
+      places = range_with_len 0 (length rows);
+      times = [];
+      ticks = 0;
+    } ∷ []
 
 -- the streams of a schema with their inputs, which go by the streams' numbers
 abbrev pub numbered : ℕ → List Stream → Inputs → Env
 numbered k [] inputs = []
 numbered k (s ∷ streams) inputs =
-    record { stream = s; rows = inputs.rows k; times = inputs.times k; ticks = inputs.ticks }
-    ∷ numbered (k + 1) streams inputs
+    record {
+      stream = s;
+      rows = inputs.rows k;
+      places = inputs.places k;
+      times = inputs.times k;
+      ticks = inputs.ticks;
+    } ∷ numbered (k + 1) streams inputs
 
--- each stream of a schema with the rows, times and ticks that come over it
+-- each stream of a schema with the rows, places, times and ticks that come over it
 abbrev pub env_of : Schema → Inputs → Env
 env_of schema inputs = numbered 0 schema.streams inputs
 
 -- ---- the results of a query
+
+-- no result
+abbrev pub NoArrivals : Arrivals
+NoArrivals out spill = ⊥
+
+-- the results of a query each of whose rows comes of one row that came, with the places of those rows; another query
+-- has none
+abbrev pub ArrivesIn : QueryShape → Env → Arrivals
+ArrivesIn (shape.Read name) env = IsArrival (placed_rows_of env name)
+ArrivesIn (shape.Rows pick filter source) env =
+    let columns = columns_in env source in
+    IsChangedInPlace (ArrivesIn source env)
+    (λ xs. mapped_at (picked columns pick) (kept_at (keeps columns filter) xs))
+ArrivesIn (shape.Total aggs source) env = NoArrivals
+ArrivesIn (shape.Frames items filter slots source) env =
+    IsFramedInPlace (columns_in env source) items filter slots (ArrivesIn source env)
+ArrivesIn (shape.Each measure var source size advance body) env = NoArrivals
+ArrivesIn (shape.PerGroup var source key n body) env = NoArrivals
+ArrivesIn (shape.Partition var source key n size advance body) env = NoArrivals
+ArrivesIn (shape.Union l r) env = NoArrivals
+ArrivesIn (shape.ByArrival l r) env = IsByArrival (ArrivesIn l env) (ArrivesIn r env)
+ArrivesIn (shape.Concat l r) env = NoArrivals
 
 -- the results of a query in an environment
 abbrev pub IsResultIn : QueryShape → Env → Results
@@ -173,6 +227,7 @@ IsResultIn (shape.Partition var source key n size advance body) env =
     IsOfParts (IsResultIn source env) (parts n key_of size advance)
     (IsOfGroup (λ rows. IsResultIn body (only var columns rows))) (has_further n key_of)
 IsResultIn (shape.Union l r) env = IsOfBoth (IsResultIn l env) (IsResultIn r env) IsInterleaving
+IsResultIn (shape.ByArrival l r) env = IsWithoutPlaces (IsByArrival (ArrivesIn l env) (ArrivesIn r env))
 IsResultIn (shape.Concat l r) env = IsOfBoth (IsResultIn l env) (IsResultIn r env) AreBeside
 
 -- what a statement means over a schema and its inputs

@@ -82,7 +82,7 @@ pub data PickShape : Type 0 where
   All : PickShape
   Items : (items : List ItemShape) → PickShape
 
--- a query in its nine forms
+-- a query in its ten forms
 pub data QueryShape : Type 0 where
   Read : (name : List ℕ) → QueryShape
   Rows : (pick : PickShape) (filter : Option ExprShape) (source : QueryShape) → QueryShape
@@ -94,6 +94,7 @@ pub data QueryShape : Type 0 where
   Partition : (var : List ℕ) (source : QueryShape) (key : List ℕ) (groups size advance : ℕ) (body : QueryShape)
       → QueryShape
   Union : (l r : QueryShape) → QueryShape
+  ByArrival : (l r : QueryShape) → QueryShape
   Concat : (l r : QueryShape) → QueryShape
 
 -- a statement: a query and the name of its result
@@ -177,6 +178,7 @@ query_shape (query.PerGroup' var p source key groups q body at) =
 query_shape (query.Partition' var p source key groups size advance q body at) =
     Partition var.text (query_shape source) key.text groups.value size.value advance.value (query_shape body)
 query_shape (query.Union' p l q r at) = Union (query_shape l) (query_shape r)
+query_shape (query.ByArrival' p l q r at) = ByArrival (query_shape l) (query_shape r)
 query_shape (query.Concat' p l q r at) = Concat (query_shape l) (query_shape r)
 
 -- the shape of a statement that code holds

@@ -48,4 +48,5 @@ HasItems (shape.Each measure var source size advance body) = HasItems source × 
 HasItems (shape.PerGroup var source key groups body) = HasItems source × HasItems body
 HasItems (shape.Partition var source key groups size advance body) = HasItems source × HasItems body
 HasItems (shape.Union l r) = HasItems l × HasItems r
+HasItems (shape.ByArrival l r) = HasItems l × HasItems r
 HasItems (shape.Concat l r) = HasItems l × HasItems r

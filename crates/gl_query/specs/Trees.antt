@@ -78,7 +78,7 @@ pub data PickTree : Type 0 where
   All : PickTree
   Items : (items : List ItemTree) → PickTree
 
--- a query in its nine forms, with the places of its names, its numbers and its keywords
+-- a query in its ten forms, with the places of its names, its numbers and its keywords
 pub data QueryTree : Type 0 where
   Read : (name : Name) → QueryTree
   Rows : (pick : PickTree) (filter : Option ExprTree) (source : QueryTree) → QueryTree
@@ -89,6 +89,7 @@ pub data QueryTree : Type 0 where
   Partition : (var : Name) (source : QueryTree) (key : Name) (groups size advance : Num) (body : QueryTree) (at : ℕ)
       → QueryTree
   Union : (l r : QueryTree) (at : ℕ) → QueryTree
+  ByArrival : (l r : QueryTree) (at : ℕ) → QueryTree
   Concat : (l r : QueryTree) (at : ℕ) → QueryTree
 
 -- a statement with its places: a query and the name of its result
@@ -167,6 +168,7 @@ query_tree (query.PerGroup' var p source key groups q body at) =
 query_tree (query.Partition' var p source key groups size advance q body at) =
     Partition var (query_tree source) key groups size advance (query_tree body) at
 query_tree (query.Union' p l q r at) = Union (query_tree l) (query_tree r) at
+query_tree (query.ByArrival' p l q r at) = ByArrival (query_tree l) (query_tree r) at
 query_tree (query.Concat' p l q r at) = Concat (query_tree l) (query_tree r) at
 
 -- the tree of a statement that code holds

@@ -282,7 +282,9 @@ pub fn columns_of(alloc: Global, sources: Sources<'_>, query: &Query) -> Result<
             let later = columns_of(alloc, inside, body)?;
             group_columns(alloc, columns.as_slice(), key.text.as_slice(), later)
         }
-        Query::Union { left, .. } => columns_of(alloc, sources, left),
+        Query::Union { left, .. } | Query::ByArrival { left, .. } => {
+            columns_of(alloc, sources, left)
+        }
         Query::Concat { left, right, .. } => {
             let first = columns_of(alloc, sources, left)?;
             joined_columns(first, columns_of(alloc, sources, right)?)

@@ -1,10 +1,16 @@
 //! Laws of the meaning of queries. The contract of each function is the law; it does nothing.
 
-ghost use Rattle.gl_query.specs.Laws.{AcceptedHaveRealColumns, AcceptedHaveResults, FirstFaultsAreExact, HasOneResult, ResultsAreLong, ResultsFit, ResultsGoByRows, TreesAreAlike};
+ghost use Rattle.gl_query.specs.Laws.{AcceptedHaveRealColumns, AcceptedHaveResults, ArrivalsAreResults, FirstFaultsAreExact, HasOneResult, ResultsAreLong, ResultsFit, ResultsGoByRows, TreesAreAlike};
 
-/// A query without UNION has at most one result over given rows: its rows and its spill.
+/// A query without UNION, or with BY ARRIVAL behind each, has at most one result over given rows: its
+/// rows and its spill.
 pub fn results_are_unique()
     ensures { HasOneResult }
+{}
+
+/// Where each row of a query comes of one row that came, its results are those with places.
+pub fn arrivals_are_results()
+    ensures { ArrivalsAreResults }
 {}
 
 /// An accepted query has a result over any rows; so one without UNION has exactly one.
@@ -24,8 +30,8 @@ pub fn results_fit()
     ensures { ResultsFit }
 {}
 
-/// A result of a query without a window of time goes by the rows of the streams alone, whatever their
-/// times, or ticks.
+/// A result of a query without a window of time goes by the rows of the streams and their places
+/// alone, whatever their times, or ticks.
 pub fn results_go_by_rows()
     ensures { ResultsGoByRows }
 {}

@@ -306,6 +306,15 @@ pub enum Query {
         /// The place of UNION.
         at: u64,
     },
+    /// The rows of both sides in the order in which they came; of one place the left side's first.
+    ByArrival {
+        /// The query on the left.
+        left: Box<Query>,
+        /// The query on the right.
+        right: Box<Query>,
+        /// The place of UNION.
+        at: u64,
+    },
     /// The rows of both sides side by side.
     Concat {
         /// The query on the left.

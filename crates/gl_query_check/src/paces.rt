@@ -1,6 +1,6 @@
-//! The paces of queries.
+//! The paces of queries, and which queries have rows that each come of one row that came.
 
-ghost use Rattle.std.specs.Prelude.{◌≡◌, option_map};
+ghost use Rattle.std.specs.Prelude.{◌≡◌, ◌&&◌, option_map};
 ghost use Rattle.gl_query.specs.Alike.{query_alike};
 ghost use Rattle.gl_query.specs.Columns as columns;
 ghost use Rattle.gl_query.specs.Faults as faults;
@@ -45,7 +45,8 @@ pub fn pace_of(query: &Query) -> Option<Pace<'_>>
         | Query::EachTime { .. }
         | Query::PerGroup { .. }
         | Query::Partition { .. }
-        | Query::Union { .. } => None,
+        | Query::Union { .. }
+        | Query::ByArrival { .. } => None,
         Query::Concat { left, .. } => pace_of(left),
     }
 }
@@ -59,4 +60,31 @@ pub fn same_pace(left: Option<Pace<'_>>, right: Option<Pace<'_>>) -> bool
         (Some(Pace::Step(a)), Some(Pace::Step(b))) => a == b,
         _ => false,
     }
+}
+
+// Whether each row of a query comes of one row that came.
+fn arrives(query: &Query) -> bool
+    ensures { result ≡ columns.arrives (query_alike (query_tree query.now)) }
+{
+    match query {
+        Query::Read(_) => true,
+        Query::Rows { source, .. } => arrives(source),
+        Query::Total { .. } => false,
+        Query::Frames { source, .. } => arrives(source),
+        Query::Each { .. }
+        | Query::EachTime { .. }
+        | Query::PerGroup { .. }
+        | Query::Partition { .. }
+        | Query::Union { .. } => false,
+        Query::ByArrival { .. } => true,
+        Query::Concat { .. } => false,
+    }
+}
+
+/// Whether each row of two queries comes of one row that came.
+pub fn both_arrive(left: &Query, right: &Query) -> bool
+    ensures { result ≡ (columns.arrives (query_alike (query_tree left.now))
+        && columns.arrives (query_alike (query_tree right.now))) }
+{
+    arrives(left) && arrives(right)
 }

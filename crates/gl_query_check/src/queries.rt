@@ -17,7 +17,7 @@ ghost use Rattle.gl_query_check.specs.Answers.{Answers};
 use crate::expressions::filter_fault;
 use crate::frames::{frames_fault, slots_fault};
 use crate::items::{aggs_fault, pick_fault};
-use crate::paces::{pace_of, same_pace};
+use crate::paces::{both_arrive, pace_of, same_pace};
 use crate::rules::{
     are_distinct, has_column, has_source, is_among, is_within, or_else, refuse, same_kinds, unless,
 };
@@ -48,6 +48,7 @@ fn is_closing(query: &Query) -> bool
         Query::PerGroup { .. } => true,
         Query::Partition { source, .. } => is_closing(source),
         Query::Union { left, right, .. } => is_closing(left) && is_closing(right),
+        Query::ByArrival { .. } => false,
         Query::Concat { left, right, .. } => is_closing(left) && is_closing(right),
     }
 }
@@ -71,6 +72,7 @@ fn has_times(sources: Sources<'_>, query: &Query) -> bool
         | Query::PerGroup { .. }
         | Query::Partition { .. }
         | Query::Union { .. }
+        | Query::ByArrival { .. }
         | Query::Concat { .. } => false,
     }
 }
@@ -351,6 +353,15 @@ pub fn columns_checked(
         Query::Union { left, right, at } => {
             let first = columns_checked(alloc, sources, left)?;
             let second = columns_checked(alloc, sources, right)?;
+            let same = same_kinds(first.as_slice(), second.as_slice());
+            refuse(unless(same, QueryFault::ColumnsDiffer { at: *at }))?;
+            Ok(first)
+        }
+        Query::ByArrival { left, right, at } => {
+            let first = columns_checked(alloc, sources, left)?;
+            let second = columns_checked(alloc, sources, right)?;
+            let come = both_arrive(left, right);
+            refuse(unless(come, QueryFault::NoArrival { at: *at }))?;
             let same = same_kinds(first.as_slice(), second.as_slice());
             refuse(unless(same, QueryFault::ColumnsDiffer { at: *at }))?;
             Ok(first)

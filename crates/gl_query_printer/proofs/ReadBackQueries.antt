@@ -5,13 +5,16 @@ use Rattle.gl_query.specs.declared.tree.Measure.{Measure}
 use Rattle.gl_query.specs.declared.tree.Measure.TheVariants.{Tuples}
 use Rattle.gl_query.specs.Shapes.{ExprShape, FrameItemShape, SlotsShape, PickShape, QueryShape}
 use Rattle.gl_query.specs.Shapes as shape
-use Rattle.gl_query_tokens.specs.declared.token.Join.{Join}
 use Rattle.gl_query_tokens.specs.declared.token.Join.TheVariants.{Union, Concat}
+use Rattle.gl_query_tokens.specs.declared.token.Spelling.TheVariants.{Capital}
+use Rattle.gl_query_tokens.specs.declared.token.Word.TheVariants as word
+use Rattle.gl_query_reader.specs.declared.joins.Joining.{Joining}
+use Rattle.gl_query_reader.specs.declared.joins.Joining.TheVariants as joining
 use Rattle.gl_query_tokens.specs.declared.token.Plain.TheVariants as plain
 use Rattle.gl_query_tokens.specs.declared.token.Token.{Token}
 use Rattle.gl_query_tokens.specs.declared.token.Token.TheVariants as token
 use Rattle.gl_query_reader.specs.Written as written
-use Rattle.gl_query_reader.specs.Written.{IsQuery, IsSource, IsTerm, spell_items, spell_pick, spell_window, spell_row_window, spell_filter, spell_grouping, spell_query}
+use Rattle.gl_query_reader.specs.Written.{IsQuery, IsSource, IsTerm, spell_items, spell_pick, spell_window, spell_row_window, spell_filter, spell_grouping, spell_join, spell_query}
 use Rattle.gl_query.specs.Trees as meant
 use Rattle.gl_query_reader.specs.Meaning.{expr_meaning, by_pick, query_meaning, join_meaning}
 use Rattle.gl_query_reader.specs.Mixed.{mixed_pick, mixed_in, least}
@@ -62,6 +65,7 @@ no_stream (shape.Each measure var source size advance body) h = tt
 no_stream (shape.PerGroup var source key groups body) h = tt
 no_stream (shape.Partition var source key groups size advance body) h = tt
 no_stream (shape.Union l r) h = tt
+no_stream (shape.ByArrival l r) h = tt
 no_stream (shape.Concat l r) h = tt
 
 pub record InBrackets' (us : List Token) (q : QueryShape) : Type 0 where
@@ -106,38 +110,79 @@ none_mixed : (a b : Option ℕ) → a ≡ None → b ≡ None → least a b ≡ 
 none_mixed None b e f = f
 none_mixed (Some a) b e f = absurd (some_none a (sym e))
 
-abbrev joined : Join → QueryShape → QueryShape → QueryShape
-joined Union l r = shape.Union l r
-joined Concat l r = shape.Concat l r
+-- what stands between two queries, which it makes one of
+record ReadJoining (us : List Token) (make : QueryShape → QueryShape → QueryShape) : Type 0 where
+  at : ℕ
+  join : Joining
+  spelled : spell_join join at ≡ us
+  alike : (l r : written.Query) (x y : QueryShape) → query_alike (query_meaning l) ≡ x → query_alike (query_meaning r) ≡ y
+      → query_alike (join_meaning join (query_meaning l) (query_meaning r) at) ≡ make x y
 
-alike_join : (j : Join) (l r : written.Query) (at : ℕ) (x y : QueryShape) → query_alike (query_meaning l) ≡ x → query_alike (query_meaning r) ≡ y → query_alike (join_meaning j (query_meaning l) (query_meaning r) at) ≡ joined j x y
-alike_join Union l r at x y e f = ap (λ (z : QueryShape). shape.Union z (query_alike (query_meaning r))) e ∙ ap (shape.Union x) f
-alike_join Concat l r at x y e f = ap (λ (z : QueryShape). shape.Concat z (query_alike (query_meaning r))) e ∙ ap (shape.Concat x) f
+read_union : (us : List Token) → map placeless us ≡ token.Join Union 0 ∷ [] → ReadJoining us (λ x y. shape.Union x y)
+read_union us h =
+    let k = alone us (token.Join Union 0) h in
+    record {
+      at = k.at;
+      join = joining.Union;
+      spelled = sym k.whole;
+      alike = λ l r x y e f. ap (λ (z : QueryShape). shape.Union z (query_alike (query_meaning r))) e ∙ ap (shape.Union x) f;
+    }
 
-pub record ReadJoin (us : List Token) (j : Join) (l r : QueryShape) : Type 0 where
-  pub at : ℕ
-  pub left : written.Query
-  pub right : written.Query
-  pub spelled : spell_query (written.Join' j at left right) ≡ us
-  pub grammar : IsQuery (written.Join' j at left right)
-  pub mixed : mixed_in (written.Join' j at left right) ≡ None
-  pub alike : query_alike (query_meaning (written.Join' j at left right)) ≡ joined j l r
+read_concat : (us : List Token) → map placeless us ≡ token.Join Concat 0 ∷ [] → ReadJoining us (λ x y. shape.Concat x y)
+read_concat us h =
+    let k = alone us (token.Join Concat 0) h in
+    record {
+      at = k.at;
+      join = joining.Concat;
+      spelled = sym k.whole;
+      alike = λ l r x y e f. ap (λ (z : QueryShape). shape.Concat z (query_alike (query_meaning r))) e ∙ ap (shape.Concat x) f;
+    }
 
-read_join : (j : Join) (l r : QueryShape) → IsNoStream l → IsNoStream r → Reads l → Reads r → (us : List Token) → map placeless us ≡ spell_query (query_of l) ++ token.Join j 0 ∷ spell_query (term_of (query_of r)) → ReadJoin us j l r
-read_join j l r n m rl rr us h =
-    let right = spell_query (term_of (query_of r)) in
-    let p = parts us (spell_query (query_of l)) (token.Join j 0 ∷ right) h in
-    let x = rl p.front p.front_is in
-    let a = first p.back (token.Join j 0) right p.back_is in
-    let y = read_term (is_term (query_of r)) r refl m rr a.rest a.rest_is in
+-- UNION BY ARRIVAL
+abbrev arrival_tokens : List Token
+arrival_tokens = token.Join Union 0 ∷ token.By 0 ∷ token.Word word.Arrival 0 ∷ []
+
+read_arrival : (us : List Token) → map placeless us ≡ arrival_tokens → ReadJoining us (λ x y. shape.ByArrival x y)
+read_arrival us h =
+    let a = first us (token.Join Union 0) (token.By 0 ∷ token.Word word.Arrival 0 ∷ []) h in
+    let b = first a.rest (token.By 0) (token.Word word.Arrival 0 ∷ []) a.rest_is in
+    let k = alone b.rest (token.Word word.Arrival 0) b.rest_is in
     record {
       at = a.at;
+      join = joining.Arrival b.at (Capital k.at);
+      spelled = cons (token.Join Union a.at) us a.rest _ a.whole (cons (token.By b.at) a.rest b.rest _ b.whole (sym k.whole));
+      alike = λ l r x y e f. ap (λ (z : QueryShape). shape.ByArrival z (query_alike (query_meaning r))) e ∙ ap (shape.ByArrival x) f;
+    }
+
+pub record ReadJoin (us : List Token) (make : QueryShape → QueryShape → QueryShape) (l r : QueryShape) : Type 0 where
+  pub at : ℕ
+  pub join : Joining
+  pub left : written.Query
+  pub right : written.Query
+  pub spelled : spell_query (written.Join' join at left right) ≡ us
+  pub grammar : IsQuery (written.Join' join at left right)
+  pub mixed : mixed_in (written.Join' join at left right) ≡ None
+  pub alike : query_alike (query_meaning (written.Join' join at left right)) ≡ make l r
+
+read_join : (make : QueryShape → QueryShape → QueryShape) (between : List Token) → ((vs : List Token) → map placeless vs ≡ between → ReadJoining vs make)
+    → (l r : QueryShape) → IsNoStream l → IsNoStream r → Reads l → Reads r → (us : List Token)
+    → map placeless us ≡ spell_query (query_of l) ++ (between ++ spell_query (term_of (query_of r))) → ReadJoin us make l r
+read_join make between rj l r n m rl rr us h =
+    let right = spell_query (term_of (query_of r)) in
+    let p = parts us (spell_query (query_of l)) (between ++ right) h in
+    let x = rl p.front p.front_is in
+    let d = parts p.back between right p.back_is in
+    let j = rj d.front d.front_is in
+    let y = read_term (is_term (query_of r)) r refl m rr d.back d.back_is in
+    record {
+      at = j.at;
+      join = j.join;
       left = x.tree;
       right = y.tree;
-      spelled = two us p.front p.back (spell_query x.tree) _ p.whole x.spelled (cons (token.Join j a.at) p.back a.rest (spell_query y.tree) a.whole y.spelled);
+      spelled = two us p.front p.back (spell_query x.tree) _ p.whole x.spelled (two p.back d.front d.back (spell_join j.join j.at) (spell_query y.tree) d.whole j.spelled y.spelled);
       grammar = (x.grammar n, y.grammar);
       mixed = none_mixed (mixed_in x.tree) (mixed_in y.tree) x.mixed y.mixed;
-      alike = alike_join j x.tree y.tree a.at l r x.alike y.alike;
+      alike = j.alike x.tree y.tree l r x.alike y.alike;
     }
 
 alike_rows : (p : written.Pick) (f : Option written.Expr) (s : written.Query) (pick : PickShape) (filter : Option ExprShape) (source : QueryShape)
@@ -330,8 +375,11 @@ read_query (shape.Partition var source key groups size advance body) c us h =
           a.alike g.key_is g.groups_is w.size_is w.advance_is b.alike;
     }
 read_query (shape.Union l r) c us h =
-    let x = read_join Union l r c.1 c.3 (λ vs k. read_query l c.0 vs k) (λ vs k. read_query r c.2 vs k) us h in
-    record { tree = written.Join' Union x.at x.left x.right; spelled = x.spelled; grammar = λ n. x.grammar; bare = λ e. absurd (true≢false (sym e)); term = λ n e. absurd (true≢false (sym e)); mixed = x.mixed; alike = x.alike }
+    let x = read_join (λ x y. shape.Union x y) (token.Join Union 0 ∷ []) read_union l r c.1 c.3 (λ vs k. read_query l c.0 vs k) (λ vs k. read_query r c.2 vs k) us h in
+    record { tree = written.Join' x.join x.at x.left x.right; spelled = x.spelled; grammar = λ n. x.grammar; bare = λ e. absurd (true≢false (sym e)); term = λ n e. absurd (true≢false (sym e)); mixed = x.mixed; alike = x.alike }
+read_query (shape.ByArrival l r) c us h =
+    let x = read_join (λ x y. shape.ByArrival x y) arrival_tokens read_arrival l r c.1 c.3 (λ vs k. read_query l c.0 vs k) (λ vs k. read_query r c.2 vs k) us h in
+    record { tree = written.Join' x.join x.at x.left x.right; spelled = x.spelled; grammar = λ n. x.grammar; bare = λ e. absurd (true≢false (sym e)); term = λ n e. absurd (true≢false (sym e)); mixed = x.mixed; alike = x.alike }
 read_query (shape.Concat l r) c us h =
-    let x = read_join Concat l r c.1 c.3 (λ vs k. read_query l c.0 vs k) (λ vs k. read_query r c.2 vs k) us h in
-    record { tree = written.Join' Concat x.at x.left x.right; spelled = x.spelled; grammar = λ n. x.grammar; bare = λ e. absurd (true≢false (sym e)); term = λ n e. absurd (true≢false (sym e)); mixed = x.mixed; alike = x.alike }
+    let x = read_join (λ x y. shape.Concat x y) (token.Join Concat 0 ∷ []) read_concat l r c.1 c.3 (λ vs k. read_query l c.0 vs k) (λ vs k. read_query r c.2 vs k) us h in
+    record { tree = written.Join' x.join x.at x.left x.right; spelled = x.spelled; grammar = λ n. x.grammar; bare = λ e. absurd (true≢false (sym e)); term = λ n e. absurd (true≢false (sym e)); mixed = x.mixed; alike = x.alike }

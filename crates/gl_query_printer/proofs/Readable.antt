@@ -28,7 +28,7 @@ use Rattle.gl_query_printer.specs.declared.text.Behind.TheVariants.{Opening, Nam
 use Rattle.gl_query_printer.specs.Spaced.{token_text, plain_text, operator_text, fold_text, join_text, place_behind}
 use Rattle.gl_query_printer.proofs.Lexed.{Readable, ReadAs, Apart, Ends, EndsIn, dash_ends, ends_apart, half_ends, letters_readable, no_number, read_word}
 use Rattle.gl_query_tokens.proofs.Sound.{is_word}
-use Rattle.gl_query_printer.proofs.ReadableWords.{over_readable, filter_word_readable, partition_word_readable, rows_word_readable, preceding_readable, unbounded_readable, lag_word, last_value_word}
+use Rattle.gl_query_printer.proofs.ReadableWords.{over_readable, filter_word_readable, partition_word_readable, rows_word_readable, preceding_readable, unbounded_readable, arrival_readable, lag_word, last_value_word}
 use Rattle.gl_query_printer.proofs.Places.{placeless}
 use Rattle.gl_query_tokens.proofs.Sound.{IsNameWord, IsSmall}
 use Rattle.gl_bits.proofs.AllLists.{all_append}
@@ -348,6 +348,9 @@ query_readable (shape.Partition var source key groups size advance body) c = (
   ),
 )
 query_readable (shape.Union l r) c = join (spell_query (query_of l)) (token.Join Union 0 ∷ spell_query (term_of (query_of r))) (query_readable l c.0) (join_readable Union, bracketed _ (query_of r) (query_readable r c.2))
+query_readable (shape.ByArrival l r) c =
+    join (spell_query (query_of l)) (token.Join Union 0 ∷ token.By 0 ∷ token.Word word.Arrival 0 ∷ spell_query (term_of (query_of r))) (query_readable l c.0)
+    (join_readable Union, (by_readable, (arrival_readable, bracketed _ (query_of r) (query_readable r c.2))))
 query_readable (shape.Concat l r) c = join (spell_query (query_of l)) (token.Join Concat 0 ∷ spell_query (term_of (query_of r))) (query_readable l c.0) (join_readable Concat, bracketed _ (query_of r) (query_readable r c.2))
 
 pub statement_readable : (s : StatementShape) → CanBeStatement s → AreReadable (canonical_tokens s)

@@ -1,4 +1,4 @@
--- The words of frames are read from their text.
+-- The words of frames, and of a union by arrival, are read from their text.
 use Rattle.std.proofs.Common.{◌≡◌, ℕ, true, refl}
 use Rattle.std.specs.Prelude.{codes}
 use Rattle.gl_schema.specs.Names.{is_name, has_name_bytes, begins_with_letter, has_loose_underscore, is_taken, keywords, reserved}
@@ -34,6 +34,11 @@ preceding_readable = no_number refl (λ p at bs e. read_word (codes "PRECEDING")
 pub unbounded_readable : Readable (token.Word word.Unbounded 0)
 unfolding token_text capitals place_behind class_of word_token is_keyword is_name has_name_bytes begins_with_letter has_loose_underscore is_taken keywords reserved
 unbounded_readable = no_number refl (λ p at bs e. read_word (codes "UNBOUNDED") (token.Word word.Unbounded 0) refl (λ a. refl) at bs e)
+
+-- the word of a union by arrival in capitals
+pub arrival_readable : Readable (token.Word word.Arrival 0)
+unfolding token_text capitals place_behind class_of word_token is_keyword is_name has_name_bytes begins_with_letter has_loose_underscore is_taken keywords reserved
+arrival_readable = no_number refl (λ p at bs e. read_word (codes "ARRIVAL") (token.Word word.Arrival 0) refl (λ a. refl) at bs e)
 
 -- LAG and LAST_VALUE are names in small letters
 lag_is_word : is_word (word_text word.Lag) ≡ true

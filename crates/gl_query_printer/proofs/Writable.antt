@@ -104,6 +104,7 @@ IsNoStream (shape.Each measure var source size advance body) = Unit {0}
 IsNoStream (shape.PerGroup var source key groups body) = Unit {0}
 IsNoStream (shape.Partition var source key groups size advance body) = Unit {0}
 IsNoStream (shape.Union l r) = Unit {0}
+IsNoStream (shape.ByArrival l r) = Unit {0}
 IsNoStream (shape.Concat l r) = Unit {0}
 
 abbrev pub CanBeSource : QueryShape → Type 0
@@ -115,6 +116,7 @@ CanBeSource (shape.Each measure var source size advance body) = IsNameWord var �
 CanBeSource (shape.PerGroup var source key groups body) = IsNameWord var × CanBeSource source × IsNameWord key × IsSmall groups × CanBeSource body × IsNoStream body
 CanBeSource (shape.Partition var source key groups size advance body) = IsNameWord var × CanBeSource source × IsNameWord key × IsSmall groups × IsSmall size × IsSmall advance × CanBeSource body × IsNoStream body
 CanBeSource (shape.Union l r) = CanBeSource l × IsNoStream l × CanBeSource r × IsNoStream r
+CanBeSource (shape.ByArrival l r) = CanBeSource l × IsNoStream l × CanBeSource r × IsNoStream r
 CanBeSource (shape.Concat l r) = CanBeSource l × IsNoStream l × CanBeSource r × IsNoStream r
 
 abbrev pub CanBeQuery : QueryShape → Type 0

@@ -4,8 +4,8 @@ use Rattle.std.specs.Prelude.{codes, nat_le, if◌then◌else◌}
 use Rattle.std.specs.List.{AllByRecursion}
 use Rattle.std.proofs.lemmas.Bool.{or_parts, true≢false}
 use Rattle.gl_query.specs.Shapes as shape
-use Rattle.gl_query_tokens.specs.declared.token.Join.{Join}
-use Rattle.gl_query_tokens.specs.declared.token.Join.TheVariants.{Union, Concat}
+use Rattle.gl_query_reader.specs.declared.joins.Joining.{Joining}
+use Rattle.gl_query_reader.specs.declared.joins.Joining.TheVariants.{Union, Arrival, Concat}
 use Rattle.gl_query_tokens.specs.Tokens.{class_of}
 use Rattle.gl_query_tokens.specs.Words.{is_keyword, word_token}
 use Rattle.gl_schema.specs.Names.{is_name, has_name_bytes, begins_with_letter, has_loose_underscore, is_taken, keywords, reserved}
@@ -132,8 +132,9 @@ least_right None b h = h
 least_right (Some a) None h = refl
 least_right (Some a) (Some b) h = absurd (either_some (nat_le a b) a b h)
 
-join_can : (j : Join) (l r : tree.QueryTree) (at : ℕ) → CanBeQuery (query_alike l) → CanBeQuery (query_alike r) → CanBeQuery (query_alike (join_meaning j l r at))
+join_can : (j : Joining) (l r : tree.QueryTree) (at : ℕ) → CanBeQuery (query_alike l) → CanBeQuery (query_alike r) → CanBeQuery (query_alike (join_meaning j l r at))
 join_can Union l r at p q = ((p.0, p.1, q.0, q.1), tt)
+join_can (Arrival b w) l r at p q = ((p.0, p.1, q.0, q.1), tt)
 join_can Concat l r at p q = ((p.0, p.1, q.0, q.1), tt)
 
 query_of_term : (q : written.Query) → written.IsTerm q → written.IsQuery q
@@ -203,9 +204,10 @@ query_can (written.Groups at var source grouping (Some w) open' body) h m =
       query = λ g. ((h.1.0, s.source g.0, b.0.1.0, b.0.1.1.1.0, d.0.1.1.0, d.0.1.1.1.1.0, (i.query g.1).0, (i.query g.1).1), tt);
     }
 query_can (written.Join' join at l r) h m =
-    let a = sound_parts (written.spell_query l) (token.Join join at ∷ written.spell_query r) h in
+    let a = sound_parts (written.spell_query l) (written.spell_join join at ++ written.spell_query r) h in
+    let b = sound_parts (written.spell_join join at) (written.spell_query r) a.1 in
     let x = query_can l a.0 (least_left (mixed_in l) (mixed_in r) m) in
-    let y = query_can r a.1.1 (least_right (mixed_in l) (mixed_in r) m) in
+    let y = query_can r b.1 (least_right (mixed_in l) (mixed_in r) m) in
     record {
       source = λ g. absurd g;
       query = λ g. join_can join (query_meaning l) (query_meaning r) at (x.query g.0) (y.query (query_of_term r g.1));

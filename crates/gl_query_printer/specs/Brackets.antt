@@ -24,7 +24,7 @@ is_stream (Windows at var source window open' body) = false
 is_stream (Groups at var source grouping window open' body) = false
 is_stream (Join' join at l r) = false
 
--- a right side of UNION or CONCAT that stands without brackets
+-- a right side of a union or CONCAT that stands without brackets
 abbrev pub is_term : Query → Bool
 is_term (Stream name) = true
 is_term (InBrackets at q) = true

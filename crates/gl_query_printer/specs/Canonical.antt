@@ -7,9 +7,9 @@ use Rattle.gl_query.specs.declared.tree.Num.{Num}
 use Rattle.gl_query.specs.Shapes.{ExprShape, AggShape, ItemShape, AggItemShape, FrameAggShape, FrameShape, FrameItemShape, SlotsShape, PickShape, QueryShape, StatementShape}
 use Rattle.gl_query.specs.Shapes as shape
 use Rattle.gl_query_tokens.specs.declared.token.Fold.TheVariants.{Sum, Min, Max, Avg}
-use Rattle.gl_query_tokens.specs.declared.token.Join.TheVariants.{Union, Concat}
 use Rattle.gl_query_tokens.specs.declared.token.Spelling.TheVariants.{Small, Capital}
 use Rattle.gl_query_tokens.specs.declared.token.Token.{Token}
+use Rattle.gl_query_reader.specs.declared.joins.Joining.TheVariants.{Union, Arrival, Concat}
 use Rattle.gl_query_reader.specs.declared.written.Bound.{Bound}
 use Rattle.gl_query_reader.specs.declared.written.Bound.TheVariants as bound
 use Rattle.gl_query_reader.specs.declared.written.FrameRows.{FrameRows}
@@ -132,7 +132,7 @@ bracketed_unless false q = InBrackets 0 q
 abbrev pub source_of : Query → Query
 source_of q = bracketed_unless (is_stream q) q
 
--- the right side of UNION and CONCAT is in brackets where it is itself one
+-- the right side of a union and of CONCAT is in brackets where it is itself one of these
 abbrev pub term_of : Query → Query
 term_of q = bracketed_unless (is_term q) q
 
@@ -162,6 +162,7 @@ query_of (shape.Partition var source key groups size advance body) =
     Groups 0 (name_of var) (source_of (query_of source)) (grouping_of key groups)
     (Some (row_window_of size advance)) 0 (query_of body)
 query_of (shape.Union l r) = Join' Union 0 (query_of l) (term_of (query_of r))
+query_of (shape.ByArrival l r) = Join' (Arrival 0 (Capital 0)) 0 (query_of l) (term_of (query_of r))
 query_of (shape.Concat l r) = Join' Concat 0 (query_of l) (term_of (query_of r))
 
 -- no `;` ends it

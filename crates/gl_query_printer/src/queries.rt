@@ -3,7 +3,9 @@
 ghost use Rattle.std.specs.Prelude.{◌≡◌, ◌++◌, ◌∷◌, [], Some, IfOk, OnOk, map, option_map};
 ghost use Rattle.gl_query.specs.Shapes.{expr_shape, agg_item_shape, frame_item_shape, pick_shape, query_shape, slots_shape, statement_shape};
 ghost use Rattle.gl_query_tokens.specs.declared.token.Token.TheVariants as token;
+ghost use Rattle.gl_query_tokens.specs.declared.token.Join.TheVariants as join;
 ghost use Rattle.gl_query_tokens.specs.declared.token.Plain.TheVariants as plain;
+ghost use Rattle.gl_query_tokens.specs.declared.token.Word.TheVariants as words;
 ghost use Rattle.gl_query_reader.specs.Written as written;
 ghost use Rattle.gl_query_printer.specs.Brackets as brackets;
 ghost use Rattle.gl_query_printer.specs.Brackets.{opening};
@@ -15,7 +17,7 @@ use crate::over_items::put_frames;
 use crate::tokens::{close_unless, open_unless, put, put_name, put_number, put_open, put_plain};
 use gl_bits::Memory;
 use gl_query::{AggItem, Expr, FrameItem, Measure, Name, Num, Pick, Query, Slots, Statement};
-use gl_query_tokens::{Join, Plain, Token};
+use gl_query_tokens::{Join, Plain, Token, Word};
 use std::alloc::Global;
 
 // A source that stands without brackets.
@@ -28,12 +30,12 @@ fn is_stream(query: &Query) -> bool
     }
 }
 
-// A right side of UNION or CONCAT that stands without brackets.
+// A right side of a union or CONCAT that stands without brackets.
 fn is_term(query: &Query) -> bool
     ensures { result ≡ brackets.is_term (query_of (query_shape query.now)) }
 {
     match query {
-        Query::Union { .. } | Query::Concat { .. } => false,
+        Query::Union { .. } | Query::ByArrival { .. } | Query::Concat { .. } => false,
         _ => true,
     }
 }
@@ -150,6 +152,29 @@ fn put_join(tokens: &mut Vec<Token>, join: Join, bare: bool) -> Result<(), Memor
     open_unless(tokens, bare)
 }
 
+// Puts UNION BY ARRIVAL, and the bracket of its right side.
+fn put_arrival(tokens: &mut Vec<Token>, bare: bool) -> Result<(), Memory>
+    ensures { OnOk result (tokens.new.items ≡ tokens.old.items ++ token.Join join.Union 0
+        ∷ token.By 0 ∷ token.Word words.Arrival 0 ∷ opening bare) }
+{
+    put(
+        tokens,
+        Token::Join {
+            join: Join::Union,
+            at: 0,
+        },
+    )?;
+    put(tokens, Token::By { at: 0 })?;
+    put(
+        tokens,
+        Token::Word {
+            word: Word::Arrival,
+            at: 0,
+        },
+    )?;
+    open_unless(tokens, bare)
+}
+
 // Puts a query.
 #[tactic(auto, using(crate::proofs::Operands::operands))]
 fn put_query(alloc: Global, tokens: &mut Vec<Token>, query: &Query) -> Result<(), Memory>
@@ -251,6 +276,12 @@ fn put_query(alloc: Global, tokens: &mut Vec<Token>, query: &Query) -> Result<()
         Query::Union { left, right, .. } => {
             put_query(alloc, tokens, left)?;
             put_join(tokens, Join::Union, is_term(right))?;
+            put_query(alloc, tokens, right)?;
+            close_unless(tokens, is_term(right))
+        }
+        Query::ByArrival { left, right, .. } => {
+            put_query(alloc, tokens, left)?;
+            put_arrival(tokens, is_term(right))?;
             put_query(alloc, tokens, right)?;
             close_unless(tokens, is_term(right))
         }

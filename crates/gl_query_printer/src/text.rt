@@ -122,6 +122,7 @@ fn capitals(word: Word) -> &'static [u8]
         Word::Row => b"ROW",
         Word::Lag => b"LAG",
         Word::LastValue => b"LAST_VALUE",
+        Word::Arrival => b"ARRIVAL",
     }
 }
 

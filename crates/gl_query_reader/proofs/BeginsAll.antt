@@ -9,11 +9,13 @@ use Rattle.gl_query_tokens.specs.declared.token.Spelling.{Spelling}
 use Rattle.gl_query_tokens.specs.declared.token.Spelling.TheVariants.{Capital}
 use Rattle.gl_query_tokens.specs.declared.token.Token.{Token}
 use Rattle.gl_query_tokens.specs.declared.token.Token.TheVariants as token
-use Rattle.gl_query_tokens.specs.Sorts.{plain_eq}
+use Rattle.gl_query_tokens.specs.declared.token.Word.TheVariants as word
+use Rattle.gl_query_tokens.specs.Sorts.{plain_eq, word_eq}
+use Rattle.gl_query_reader.specs.declared.joins.Joining.TheVariants as joining
 use Rattle.gl_query_reader.specs.declared.over_state.Call.{Call}
 use Rattle.gl_query_reader.specs.declared.written.Window.{Window}
 use Rattle.gl_query_reader.specs.Written.{Expr, Column, Minus, Cast, Count, OverAgg, Item, Pick, All, Query, Stream}
-use Rattle.gl_query_reader.specs.States.{State, Control, Frame, SelectHead, EachHead, SelectGroups, InCast, InItem, InFold, InWsum, InCall, InCondition, WantTerm, WantItem, WantOperand, WantMinus, HaveExpr, WantCastOpen, WantKind, WantCastClose, WantCountOpen, WantCountClose, WantFoldOpen, WantWsumOpen, WantWeightsOpen, WantWeight, HaveWeight, WantWsumClose, HaveAgg, WantCallOpen, WantBack, WantLagClose, WantOver, WantFilterOpen, WantFilterWhere, WantOverOpen, WantPart, WantPartBy, InOver, WantOverAs, WantItemName, HaveItem, WantFrom, WantSource, HaveSource, HaveEachSource, WantSize, WantSizeNumber, WantAdvance, WantAdvanceNumber, WantMeasure, WantWindowClose, WantBy, WantKey, WantGroups, WantGroupsNumber, WantVar, WantIn, WantBody, HaveTerm, WantName, HaveName, WantEnd}
+use Rattle.gl_query_reader.specs.States.{State, Control, Frame, SelectHead, EachHead, SelectGroups, InCast, InItem, InFold, InWsum, InCall, InCondition, WantTerm, WantItem, WantOperand, WantMinus, HaveExpr, WantCastOpen, WantKind, WantCastClose, WantCountOpen, WantCountClose, WantFoldOpen, WantWsumOpen, WantWeightsOpen, WantWeight, HaveWeight, WantWsumClose, HaveAgg, WantCallOpen, WantBack, WantLagClose, WantOver, WantFilterOpen, WantFilterWhere, WantOverOpen, WantPart, WantPartBy, InOver, WantOverAs, WantItemName, HaveItem, WantFrom, WantSource, HaveSource, HaveEachSource, WantSize, WantSizeNumber, WantAdvance, WantAdvanceNumber, WantMeasure, WantWindowClose, WantBy, WantKey, WantGroups, WantGroupsNumber, WantVar, WantIn, WantBody, HaveTerm, WantName, HaveName, WantEnd, JoinOf, WantArrival}
 use Rattle.gl_query_reader.specs.Machine.{step}
 use Rattle.gl_query_reader.proofs.Steps.{steps, state}
 use Rattle.gl_query_reader.proofs.ReadExpressions.{wanting, having}
@@ -99,9 +101,16 @@ filter_where_step fs items a w open' = refl
 filter_where_ends : (fs : List Frame) (items : List Item) (a : OverAgg) (w : Spelling) (open' : ℕ) → Fits fs → Holds (WantFilterWhere items a w open') fs → Ends (state (WantFilterWhere items a w open') fs)
 filter_where_ends fs items a w open' f h = by_token _ (wanting (InCondition items a w open' ∷ fs)) (token.Plain plain.Where) (filter_where_step fs items a w open') (operand_ends (InCondition items a w open' ∷ fs) (h, f) tt)
 
+arrival_step : (fs : List Frame) (l : Query) (at by' : ℕ) → step (state (WantArrival l at by') fs) (token.Word word.Arrival 0) ≡ Some (state WantTerm (JoinOf l (joining.Arrival by' (Capital 0)) at ∷ fs))
+unfolding step word_eq
+arrival_step fs l at by' = refl
+
+want_term_ends : (fs : List Frame) → Fits fs → InTerm fs → Ends (state WantTerm fs)
+want_term_ends fs f i = by_tokens (state WantTerm fs) (state (HaveSource (All 0) (Stream some_name) None) fs) all_text (all_steps fs) (have_source_ends fs (All 0) (Stream some_name) None f i)
+
 -- every state goes on to a whole statement
 pub state_ends : (c : Control) (fs : List Frame) → Fits fs → Holds c fs → Ends (state c fs)
-state_ends WantTerm fs f h = by_tokens (state WantTerm fs) (state (HaveSource (All 0) (Stream some_name) None) fs) all_text (all_steps fs) (have_source_ends fs (All 0) (Stream some_name) None f h)
+state_ends WantTerm fs f h = want_term_ends fs f h
 state_ends (WantItem items) fs f h = by_token _ (having (Column some_name) (InItem items ∷ fs)) (token.Name some_name) (item_step fs items) (have_expr_ends (InItem items ∷ fs) (Column some_name) (h, f) tt)
 state_ends WantOperand fs f h = operand_ends fs f h
 state_ends (WantMinus at) fs f h = by_token _ (having (Minus at some_number) fs) (token.Number some_number) (minus_step fs at) (have_expr_ends fs (Minus at some_number) f h)
@@ -145,6 +154,7 @@ state_ends (WantBy pick source window filter) fs f h = by_token _ (state (WantKe
 state_ends (WantKey head at) fs f h = key_ends fs head at f h.0
 state_ends (WantGroups head at key) fs f h = groups_ends fs head at key f h.0
 state_ends (WantGroupsNumber head at key) fs f h = groups_number_ends fs head at key f h.0
+state_ends (WantArrival l at by') fs f h = by_token _ (state WantTerm (JoinOf l (joining.Arrival by' (Capital 0)) at ∷ fs)) (token.Word word.Arrival 0) (arrival_step fs l at by') (want_term_ends (JoinOf l (joining.Arrival by' (Capital 0)) at ∷ fs) (h, f) tt)
 state_ends (WantVar at) fs f h = by_token _ (state (WantIn at some_name) fs) (token.Name some_name) (var_step fs at) (in_ends fs at some_name f h)
 state_ends (WantIn at var) fs f h = in_ends fs at var f h
 state_ends (WantBody head) fs f h = want_body_ends fs head f h.0

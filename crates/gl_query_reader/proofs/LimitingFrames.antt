@@ -19,11 +19,11 @@ use Rattle.gl_query_reader.proofs.Limiting.{counts, Keeps, over, under, parted, 
 
 -- ---- words and bounds
 
-word_over : (v : Word) (s : Spelling) (b o j : ℕ) (d : Bool) (rest : List Token) → Keeps (counts b o j d) (spell_word v s ∷ rest) → Keeps (counts b o j false) rest
+pub word_over : (v : Word) (s : Spelling) (b o j : ℕ) (d : Bool) (rest : List Token) → Keeps (counts b o j d) (spell_word v s ∷ rest) → Keeps (counts b o j false) rest
 word_over v (Small at) b o j d rest h = (over h).1
 word_over v (Capital at) b o j d rest h = (over h).1
 
-word_under : (v : Word) (s : Spelling) (b o j : ℕ) (d : Bool) (rest : List Token) → IsSmall (counts b o j false) → Keeps (counts b o j false) rest → Keeps (counts b o j d) (spell_word v s ∷ rest)
+pub word_under : (v : Word) (s : Spelling) (b o j : ℕ) (d : Bool) (rest : List Token) → IsSmall (counts b o j false) → Keeps (counts b o j false) rest → Keeps (counts b o j d) (spell_word v s ∷ rest)
 word_under v (Small at) b o j d rest f h = under f h
 word_under v (Capital at) b o j d rest f h = under f h
 

@@ -3,11 +3,30 @@ use Rattle.std.proofs.Common.{◌≡◌, ℕ, ◌+◌, ◌-◌, ◌≤◌, Bool,
 use Rattle.gl_query_tokens.specs.declared.token.Plain.TheVariants as plain
 use Rattle.gl_query_tokens.specs.declared.token.Token.{Token}
 use Rattle.gl_query_tokens.specs.declared.token.Token.TheVariants as token
+use Rattle.gl_query_tokens.specs.declared.token.Word.TheVariants as word
+use Rattle.gl_query_reader.specs.declared.joins.Joining.{Joining}
+use Rattle.gl_query_reader.specs.declared.joins.Joining.TheVariants as joining
 use Rattle.gl_query_reader.specs.Limits.{IsSmall, none_counted, operators_open, keeps_limits}
 use Rattle.gl_query_reader.specs.Sizes.{pick_depth, filter_depth, depth_of, joins_of, AreShort, IsWithinLimits, LimitsAreCounted}
-use Rattle.gl_query_reader.specs.Written.{Query, Stream, InBrackets, Select, Windows, Groups, Join', Statement, spell_pick, spell_window, spell_if_window, spell_row_window, spell_filter, spell_grouping, spell_if_grouping, spell_query, spell_end, spell_statement}
+use Rattle.gl_query_reader.specs.Written.{Query, Stream, InBrackets, Select, Windows, Groups, Join', Statement, spell_pick, spell_window, spell_if_window, spell_row_window, spell_filter, spell_grouping, spell_if_grouping, spell_join, spell_query, spell_end, spell_statement}
 use Rattle.gl_query_reader.proofs.Limiting.{counts, Keeps, over, under, parted, paired, keeps_at, small_at, close, Any}
+use Rattle.gl_query_reader.proofs.LimitingFrames.{word_over, word_under}
 use Rattle.gl_query_reader.proofs.LimitingItems.{limited_pick, limits_pick, window_to, window_from, row_window_to, row_window_from, grouping_to, grouping_from, if_window_to, if_window_from, if_grouping_to, if_grouping_from, limited_filter, limits_filter}
+
+-- what stands between two queries counts one join
+join_to : (join : Joining) (at b o j : ℕ) (d : Bool) (rest : List Token) → Keeps (counts b o j d) (spell_join join at ++ rest)
+    → IsSmall (counts b o (j + 1) false) × Keeps (counts b o (j + 1) false) rest
+join_to joining.Union at b o j d rest h = over h
+join_to (joining.Arrival by' w) at b o j d rest h =
+    let p = over h in
+    (p.0, word_over word.Arrival w b o (j + 1) false rest (over p.1).1)
+join_to joining.Concat at b o j d rest h = over h
+
+join_from : (join : Joining) (at b o j : ℕ) (d : Bool) (rest : List Token) → IsSmall (counts b o (j + 1) false) → Keeps (counts b o (j + 1) false) rest
+    → Keeps (counts b o j d) (spell_join join at ++ rest)
+join_from joining.Union at b o j d rest s h = under s h
+join_from (joining.Arrival by' w) at b o j d rest s h = under s (under s (word_under word.Arrival w b o (j + 1) false rest s h))
+join_from joining.Concat at b o j d rest s h = under s h
 
 -- the same behind a query, whose joins count too
 record Past (b j depth joins : ℕ) (short : Type 0) (rest : List Token) : Type 0 where
@@ -103,10 +122,10 @@ limited_in (Groups at var source grouping window open' body) b o j d rest f h =
       rest' = keeps_at {b = b + 1 - 1} {j = k + joins_of body} b z.operators (j + (joins_of source + joins_of body)) (omega arith) refl (omega arith) (over z.rest').1;
     }
 limited_in (Join' join at l r) b o j d rest f h =
-    let right : List Token = token.Join join at ∷ spell_query r in
+    let right : List Token = spell_join join at ++ spell_query r in
     let k = j + joins_of l in
     let x = limited_in l b o j d (right ++ rest) f (parted (spell_query l) right rest h) in
-    let p = over x.rest' in
+    let p = join_to join at b x.operators k x.operand (spell_query r ++ rest) (parted (spell_join join at) (spell_query r) rest x.rest') in
     let y = limited_in r b x.operators (k + 1) false rest p.0 p.1 in
     record {
       depth' = (let t : b + depth_of l ≤ 32 = x.depth' in let u : b + depth_of r ≤ 32 = y.depth' in omega arith);
@@ -185,12 +204,12 @@ limits_in (Groups at var source grouping window open' body) b o j d rest f m n s
 limits_in (Join' join at l r) b o j d rest f m n s h =
     let t : b + max (depth_of l) (depth_of r) ≤ 32 = m in
     let u : j + (joins_of l + joins_of r + 1) ≤ 64 = n in
-    let right : List Token = token.Join join at ∷ spell_query r in
+    let right : List Token = spell_join join at ++ spell_query r in
     let k = j + joins_of l in
     let i = k + 1 + joins_of r in
     let p : i ≤ 64 = omega arith in
     let last : Any b i rest = λ o' d' v. keeps_at b o' i refl refl (omega arith) (h o' d' v) in
-    let joined : Any b k (right ++ rest) = λ o' d' v. under (small_at b o' (k + 1) false (omega arith) v (omega arith)) (limits_in r b o' (k + 1) false rest v (omega arith) p s.1 last) in
+    let joined : Any b k (right ++ rest) = λ o' d' v. paired (spell_join join at) (spell_query r) rest (join_from join at b o' k d' (spell_query r ++ rest) (small_at b o' (k + 1) false (omega arith) v (omega arith)) (limits_in r b o' (k + 1) false rest v (omega arith) p s.1 last)) in
     paired (spell_query l) right rest (limits_in l b o j d (right ++ rest) f (omega arith) (omega arith) s.0 joined)
 
 -- ---- statements

@@ -4,8 +4,8 @@ use Rattle.std.specs.Prelude.{codes, option_map}
 use Rattle.std.specs.List.{AllByRecursion, list_any}
 use Rattle.gl_query_tokens.specs.declared.token.Fold.{Fold}
 use Rattle.gl_query_tokens.specs.declared.token.Fold.TheVariants as fold
-use Rattle.gl_query_tokens.specs.declared.token.Join.{Join}
-use Rattle.gl_query_tokens.specs.declared.token.Join.TheVariants as join
+use Rattle.gl_query_reader.specs.declared.joins.Joining.{Joining}
+use Rattle.gl_query_reader.specs.declared.joins.Joining.TheVariants as joining
 use Rattle.gl_query.specs.Shapes.{ExprShape, FrameItemShape, slots_shape}
 use Rattle.gl_query.specs.Sizes.{looks_back}
 use Rattle.gl_query.specs.Trees.{ExprTree, QueryTree, Read}
@@ -183,9 +183,10 @@ module _ (E : ExprShape → Type 0) (N : List ℕ → Type 0) (own : N (codes "i
   select_in p None f g source h k r s = grouped_in p f g source h k r s
   select_in p (Some w) f g source h k r s = (s, grouped_in p f g (Read (it w.at)) h k r own, own)
 
-  join_in : (j : Join) (l r : QueryTree) (at : ℕ) → InQuery E N (query_alike l) → InQuery E N (query_alike r) → InQuery E N (query_alike (join_meaning j l r at))
-  join_in join.Union l r at p q = (p, q)
-  join_in join.Concat l r at p q = (p, q)
+  join_in : (j : Joining) (l r : QueryTree) (at : ℕ) → InQuery E N (query_alike l) → InQuery E N (query_alike r) → InQuery E N (query_alike (join_meaning j l r at))
+  join_in joining.Union l r at p q = (p, q)
+  join_in (joining.Arrival by' w) l r at p q = (p, q)
+  join_in joining.Concat l r at p q = (p, q)
 
   pub query_in : (q : written.Query) → QueryHolds E N q → InQuery E N (query_alike (query_meaning q))
   query_in (written.Stream name) h = h

@@ -1,10 +1,16 @@
 -- A query that is spelled is read again, and no tokens have two statements.
 use Rattle.std.proofs.Common.{◌≡◌, ℕ, Bool, true, false, List, [], ◌∷◌, ◌++◌, Option, Some, None, refl, sym, ap, ◌∙◌, append_assoc, arith}
+use Rattle.std.specs.Prelude.{option_and_then}
 use Rattle.gl_query.specs.declared.tree.Measure.{Measure}
 use Rattle.gl_query.specs.declared.tree.Measure.TheVariants.{Tuples, Time}
 use Rattle.gl_query.specs.declared.tree.Name.{Name}
 use Rattle.gl_query.specs.declared.tree.Num.{Num}
 use Rattle.gl_query_tokens.specs.declared.token.Join.{Join}
+use Rattle.gl_query_tokens.specs.declared.token.Join.TheVariants as join
+use Rattle.gl_query_tokens.specs.declared.token.Spelling.{Spelling}
+use Rattle.gl_query_tokens.specs.declared.token.Word.TheVariants as word
+use Rattle.gl_query_reader.specs.declared.joins.Joining.{Joining}
+use Rattle.gl_query_reader.specs.declared.joins.Joining.TheVariants as joining
 use Rattle.gl_query_tokens.specs.declared.token.Plain.TheVariants as plain
 use Rattle.gl_query_tokens.specs.declared.token.Token.{Token}
 use Rattle.gl_query_tokens.specs.declared.token.Token.TheVariants as token
@@ -12,13 +18,14 @@ use Rattle.gl_query_tokens.specs.Sorts.{plain_eq, is_plain}
 use Rattle.gl_query_reader.specs.declared.written.RowWindow.{RowWindow}
 use Rattle.gl_query_reader.specs.declared.written.Window.{Window}
 use Rattle.gl_query_reader.specs.declared.written.Grouping.{Grouping}
-use Rattle.gl_query_reader.specs.Written.{Expr, Pick, Query, Stream, InBrackets, Select, Windows, Groups, Join', Statement, IsPick, IsQuery, IsSource, IsTerm, IsFilter, measure_word, spell, spell_pick, spell_window, spell_if_window, spell_row_window, spell_filter, spell_grouping, spell_if_grouping, spell_query, spell_end, spell_statement}
-use Rattle.gl_query_reader.specs.States.{after_window, measure_in, measure_for, measured, State, Frame, InFilter, JoinOf, InQuery, InSource, InBody, Head, SelectHead, EachHead, WindowHead, SelectWindow, EachWindow, GroupsWindow, WindowsHead, GroupsHead', WantSize, WantTerm, WantSource, HaveSource, HaveEachSource, HaveTerm, WantName, HaveName, WantEnd, start}
+use Rattle.gl_query_reader.specs.Written.{Expr, Pick, Query, Stream, InBrackets, Select, Windows, Groups, Join', Statement, IsPick, IsQuery, IsSource, IsTerm, IsFilter, measure_word, spell, spell_pick, spell_window, spell_if_window, spell_row_window, spell_filter, spell_grouping, spell_if_grouping, spell_join, spell_word, spell_query, spell_end, spell_statement}
+use Rattle.gl_query_reader.specs.States.{after_window, measure_in, measure_for, measured, State, Frame, InFilter, JoinOf, InQuery, InSource, InBody, Head, SelectHead, EachHead, WindowHead, SelectWindow, EachWindow, GroupsWindow, WindowsHead, GroupsHead', WantSize, WantTerm, WantSource, HaveSource, HaveEachSource, WantArrival, HaveTerm, WantName, HaveName, WantEnd, goes, start}
 use Rattle.gl_query_reader.specs.Machine.{Joined, reduced, joined, after_source, after_query, have_term, is_operator, step, finish}
 use Rattle.gl_query_reader.specs.Grammar.{Derives}
 use Rattle.gl_query_reader.proofs.Steps.{steps, state, is-machine}
 use Rattle.gl_query_reader.proofs.ReadExpressions.{waits, last_of, pair, wanting, having, reads_expr, reduced-whole, level-lt}
 use Rattle.gl_query_reader.proofs.ReadItems.{wanting_item, reads_pick}
+use Rattle.gl_query_reader.proofs.RowsSaid.{word-in}
 use Rattle.gl_bits.proofs.Options.{some_same}
 
 -- the state at a query's end: a select waits for what may stand behind it
@@ -238,12 +245,37 @@ reads_groups at var source n window open' body fs rest r b s g =
     ∙ each-groups at var source n window open' fs (spell_query body ++ token.Plain plain.Close ∷ rest)
     ∙ closes body (InBody (GroupsHead' at var source n window) open') fs (state (HaveTerm (Groups at var source n window open' body)) fs) rest b g tt refl
 
-reads_join : (join : Join) (at : ℕ) (l r : Query) (fs : List Frame) (rest : List Token) → IsRead l → IsRead r → IsQuery l → IsTerm r → NoJoin fs
+by_step : (l : Query) (at by' : ℕ) (fs : List Frame) → step (state WantTerm (JoinOf l joining.Union at ∷ fs)) (token.By by') ≡ Some (state (WantArrival l at by') fs)
+unfolding step
+by_step l at by' fs = refl
+
+arrival_step : (l : Query) (at by' : ℕ) (w : Spelling) (fs : List Frame) → step (state (WantArrival l at by') fs) (spell_word word.Arrival w) ≡ Some (state WantTerm (JoinOf l (joining.Arrival by' w) at ∷ fs))
+unfolding step
+arrival_step l at by' w fs =
+    ap (λ (o : Option Spelling). option_and_then (λ v. goes WantTerm (JoinOf l (joining.Arrival by' v) at ∷ fs)) o) (word-in word.Arrival w)
+
+-- what stands between two queries is read
+reads_joining : (join : Joining) (at : ℕ) (l : Query) (fs : List Frame) (rest : List Token) → IsQuery l → NoJoin fs
+    → steps (ended l fs) (spell_join join at ++ rest) ≡ steps (state WantTerm (JoinOf l join at ∷ fs)) rest
+reads_joining joining.Union at l fs rest g n =
+    is-machine.goes (ended l fs) (state WantTerm (JoinOf l joining.Union at ∷ fs)) (token.Join join.Union at) rest (end_query l fs (token.Join join.Union at) g n (join-follows join.Union at))
+reads_joining (joining.Arrival by' w) at l fs rest g n =
+    is-machine.goes (ended l fs) (state WantTerm (JoinOf l joining.Union at ∷ fs)) (token.Join join.Union at) (token.By by' ∷ spell_word word.Arrival w ∷ rest)
+    (end_query l fs (token.Join join.Union at) g n (join-follows join.Union at))
+    ∙ is-machine.goes (state WantTerm (JoinOf l joining.Union at ∷ fs)) (state (WantArrival l at by') fs) (token.By by') (spell_word word.Arrival w ∷ rest) (by_step l at by' fs)
+    ∙ is-machine.goes (state (WantArrival l at by') fs) (state WantTerm (JoinOf l (joining.Arrival by' w) at ∷ fs)) (spell_word word.Arrival w) rest (arrival_step l at by' w fs)
+reads_joining joining.Concat at l fs rest g n =
+    is-machine.goes (ended l fs) (state WantTerm (JoinOf l joining.Concat at ∷ fs)) (token.Join join.Concat at) rest (end_query l fs (token.Join join.Concat at) g n (join-follows join.Concat at))
+
+regroup_join : (l j r rest : List Token) → (l ++ (j ++ r)) ++ rest ≡ l ++ (j ++ (r ++ rest))
+regroup_join l j r rest = simp append_assoc
+
+reads_join : (join : Joining) (at : ℕ) (l r : Query) (fs : List Frame) (rest : List Token) → IsRead l → IsRead r → IsQuery l → IsTerm r → NoJoin fs
     → steps (state WantTerm fs) (spell_query (Join' join at l r) ++ rest) ≡ steps (ended (Join' join at l r) fs) rest
 reads_join join at l r fs rest a b g h n =
-    ap (steps (state WantTerm fs)) (append_assoc (spell_query l) (token.Join join at ∷ spell_query r) rest)
-    ∙ a.as_query g fs (token.Join join at ∷ (spell_query r ++ rest)) n
-    ∙ is-machine.goes (ended l fs) (state WantTerm (JoinOf l join at ∷ fs)) (token.Join join at) (spell_query r ++ rest) (end_query l fs (token.Join join at) g n (join-follows join at))
+    ap (steps (state WantTerm fs)) (regroup_join (spell_query l) (spell_join join at) (spell_query r) rest)
+    ∙ a.as_query g fs (spell_join join at ++ (spell_query r ++ rest)) n
+    ∙ reads_joining join at l fs (spell_query r ++ rest) g n
     ∙ b.as_term h (JoinOf l join at ∷ fs) rest
 
 -- a term, a query and a source are read, and then what follows them

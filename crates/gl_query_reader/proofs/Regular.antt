@@ -139,8 +139,9 @@ query_names (written.Groups at var source grouping window open' body) h =
     let d = sound_parts (written.spell_query body) (token.Plain plain.Close ∷ []) c.1.1 in
     (query_names source a.0, query_names body d.0, h.1.0.name, b.0.1.0.name)
 query_names (written.Join' join at l r) h =
-    let a = sound_parts (written.spell_query l) (token.Join join at ∷ written.spell_query r) h in
-    (query_names l a.0, query_names r a.1.1)
+    let a = sound_parts (written.spell_query l) (written.spell_join join at ++ written.spell_query r) h in
+    let b = sound_parts (written.spell_join join at) (written.spell_query r) a.1 in
+    (query_names l a.0, query_names r b.1)
 
 it_is_name : IsName (codes "it")
 unfolding is_name has_name_bytes begins_with_letter has_loose_underscore is_taken keywords reserved

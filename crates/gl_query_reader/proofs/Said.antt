@@ -9,6 +9,7 @@ use Rattle.gl_query.specs.declared.tree.Measure.TheVariants.{Tuples, Time}
 use Rattle.gl_query.specs.declared.tree.Name.{Name}
 use Rattle.gl_query.specs.declared.tree.Num.{Num}
 use Rattle.gl_values.specs.declared.op.Op.TheVariants as op
+use Rattle.gl_query_tokens.specs.declared.token.Join.TheVariants as join
 use Rattle.gl_query_tokens.specs.declared.token.Plain.{Plain}
 use Rattle.gl_query_tokens.specs.declared.token.Plain.TheVariants as plain
 use Rattle.gl_query_tokens.specs.declared.token.Spelling.{Spelling}
@@ -17,8 +18,8 @@ use Rattle.gl_query_tokens.specs.declared.token.Word.TheVariants as word
 use Rattle.gl_query_tokens.specs.declared.token.Token.{Token}
 use Rattle.gl_query_tokens.specs.declared.token.Token.TheVariants as token
 use Rattle.gl_query_tokens.specs.Sorts.{plain_eq, is_plain, name_in, number_in, open_in, size_in, by_in, word_in}
-use Rattle.gl_query_reader.specs.Written.{Wsum, Item, Items, Query, left_looseness, looseness, level, IsExpr, IsAgg, IsOverAgg, IsOverHead, IsOver, AreItems, IsPick, IsFilter, IsQuery, IsSource, IsTerm, spell, spell_numbers, spell_agg, spell_word, spell_over_agg, spell_head, spell_part, spell_over, spell_items, measure_word, spell_pick, spell_window, spell_if_window, spell_row_window, spell_filter, spell_grouping, spell_query}
-use Rattle.gl_query_reader.specs.States.{measure_in, measure_for, State, Control, Frame, Head, WindowHead, BodyHead, GroupsHead, Unnamed, SelectHead, EachHead, SelectWindow, EachWindow, GroupsWindow, WindowsHead, GroupsHead', SelectGroups, EachGroups, OverGroups, UnnamedExpr, UnnamedAgg, UnnamedOver, LeftOf, NotOf, BracketOf, InCast, InItem, InFold, InWsum, InCall, InCondition, InFilter, JoinOf, InQuery, InSource, InBody, WantTerm, WantItem, WantOperand, WantMinus, HaveExpr, WantCastOpen, WantKind, WantCastClose, WantCountOpen, WantCountClose, WantFoldOpen, WantWsumOpen, WantWeightsOpen, WantWeight, HaveWeight, WantWsumClose, HaveAgg, WantCallOpen, WantBack, WantLagClose, WantOver, WantFilterOpen, WantFilterWhere, WantOverOpen, WantPart, WantPartBy, InOver, WantOverAs, WantItemName, HaveItem, WantFrom, WantSource, HaveSource, HaveEachSource, WantSize, WantSizeNumber, WantAdvance, WantAdvanceNumber, WantMeasure, WantWindowClose, WantBy, WantKey, WantGroups, WantGroupsNumber, WantVar, WantIn, WantBody, HaveTerm, WantName, HaveName, WantEnd}
+use Rattle.gl_query_reader.specs.Written.{Wsum, Item, Items, Query, left_looseness, looseness, level, IsExpr, IsAgg, IsOverAgg, IsOverHead, IsOver, AreItems, IsPick, IsFilter, IsQuery, IsSource, IsTerm, spell, spell_numbers, spell_agg, spell_word, spell_over_agg, spell_head, spell_part, spell_over, spell_items, measure_word, spell_pick, spell_window, spell_if_window, spell_row_window, spell_filter, spell_grouping, spell_query, spell_join}
+use Rattle.gl_query_reader.specs.States.{measure_in, measure_for, State, Control, Frame, Head, WindowHead, BodyHead, GroupsHead, Unnamed, SelectHead, EachHead, SelectWindow, EachWindow, GroupsWindow, WindowsHead, GroupsHead', SelectGroups, EachGroups, OverGroups, UnnamedExpr, UnnamedAgg, UnnamedOver, LeftOf, NotOf, BracketOf, InCast, InItem, InFold, InWsum, InCall, InCondition, InFilter, JoinOf, InQuery, InSource, InBody, WantTerm, WantItem, WantOperand, WantMinus, HaveExpr, WantCastOpen, WantKind, WantCastClose, WantCountOpen, WantCountClose, WantFoldOpen, WantWsumOpen, WantWeightsOpen, WantWeight, HaveWeight, WantWsumClose, HaveAgg, WantCallOpen, WantBack, WantLagClose, WantOver, WantFilterOpen, WantFilterWhere, WantOverOpen, WantPart, WantPartBy, InOver, WantOverAs, WantItemName, HaveItem, WantFrom, WantSource, HaveSource, HaveEachSource, WantSize, WantSizeNumber, WantAdvance, WantAdvanceNumber, WantMeasure, WantWindowClose, WantBy, WantKey, WantGroups, WantGroupsNumber, WantVar, WantIn, WantBody, HaveTerm, WantName, HaveName, WantEnd, WantArrival}
 use Rattle.gl_query_reader.specs.Machine.{room}
 use Rattle.gl_query_reader.proofs.Steps.{state}
 use Rattle.gl_query_reader.proofs.ReadQueries.{NoJoin}
@@ -76,7 +77,7 @@ frame_text (InWsum items at open') = in_items items (token.Wsum at ∷ token.Ope
 frame_text (InCall items c w open') = in_items items (spell_word (call_word c) w ∷ token.Open open' ∷ [])
 frame_text (InCondition items a w open') = in_items items (spell_over_agg a ++ spell_word word.Filter w ∷ token.Open open' ∷ token.Plain plain.Where ∷ [])
 frame_text (InFilter pick source window) = token.Plain plain.Select ∷ (spell_pick pick ++ token.Plain plain.From ∷ (spell_query source ++ (spell_if_window window ++ token.Plain plain.Where ∷ [])))
-frame_text (JoinOf l join at) = spell_query l ++ token.Join join at ∷ []
+frame_text (JoinOf l join at) = spell_query l ++ spell_join join at
 frame_text (InQuery at) = token.Open at ∷ []
 frame_text (InSource head at) = head_text head ++ token.Open at ∷ []
 frame_text (InBody head open') = body_text head ++ token.Open open' ∷ []
@@ -131,6 +132,7 @@ control_text (WantBy pick source window filter) = groups_text (SelectGroups pick
 control_text (WantKey head at) = groups_text head ++ token.By at ∷ []
 control_text (WantGroups head at key) = groups_text head ++ token.By at ∷ token.Name key ∷ []
 control_text (WantGroupsNumber head at key) = groups_text head ++ token.By at ∷ token.Name key ∷ token.Plain plain.Groups ∷ []
+control_text (WantArrival l at by') = spell_query l ++ token.Join join.Union at ∷ token.By by' ∷ []
 control_text (WantVar at) = token.Each at ∷ []
 control_text (WantIn at var) = token.Each at ∷ token.Name var ∷ []
 control_text (WantBody head) = body_text head
@@ -258,6 +260,7 @@ Holds (WantBy pick source window filter) fs = InTerm fs × IsGroupsHead (SelectG
 Holds (WantKey head at) fs = InTerm fs × IsGroupsHead head
 Holds (WantGroups head at key) fs = InTerm fs × IsGroupsHead head
 Holds (WantGroupsNumber head at key) fs = InTerm fs × IsGroupsHead head
+Holds (WantArrival l at by') fs = InTerm fs × NoJoin fs × IsQuery l
 Holds (WantVar at) fs = InTerm fs
 Holds (WantIn at var) fs = InTerm fs
 Holds (WantBody head) fs = InTerm fs × IsBodyHead head

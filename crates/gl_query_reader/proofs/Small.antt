@@ -251,9 +251,9 @@ query_small (written.Groups at var source grouping window open' body) more n w =
     let c = first_part (written.spell_query body) tail more _ (within_more _ (token.Open open') _ b) in
     (query_small source (rest ++ more) _ s, query_small body (tail ++ more) _ c, tt, tt)
 query_small (written.Join' j at l r) more n w =
-    let rest : List Token = token.Join j at ∷ written.spell_query r in
+    let rest : List Token = written.spell_join j at ++ written.spell_query r in
     let a = first_part (written.spell_query l) rest more n w in
-    let b = within_more _ (token.Join j at) _ (along (written.spell_query l) rest more n w) in
+    let b = along (written.spell_join j at) (written.spell_query r) more _ (along (written.spell_query l) rest more n w) in
     (query_small l (rest ++ more) n a, query_small r more _ b)
 
 pub statement_small : (w : written.Statement) → keeps_limits none_counted (written.spell_statement w) ≡ true → QueryHolds IsSmall Any w.query

@@ -1,21 +1,24 @@
 -- What follows a term, and the parts of sources, windows and groups, are read as the grammar has them.
 use Rattle.std.proofs.Common.{◌≡◌, ℕ, List, [], ◌∷◌, ◌++◌, Option, Some, None, refl, ap, subst, ◌∙◌, append_assoc}
+use Rattle.std.specs.Prelude.{option_and_then}
 use Rattle.std.proofs.lemmas.List.{append-nil}
 use Rattle.gl_query.specs.declared.tree.Measure.{Measure}
 use Rattle.gl_query.specs.declared.tree.Name.{Name}
 use Rattle.gl_query.specs.declared.tree.Num.{Num}
+use Rattle.gl_query_tokens.specs.declared.token.Join.TheVariants as join
 use Rattle.gl_query_tokens.specs.declared.token.Plain.TheVariants as plain
 use Rattle.gl_query_tokens.specs.declared.token.Word.TheVariants as word
 use Rattle.gl_query_tokens.specs.declared.token.Token.{Token}
 use Rattle.gl_query_tokens.specs.declared.token.Token.TheVariants as token
 use Rattle.gl_query_reader.specs.declared.over_state.RowsSoFar.TheVariants as so_far
+use Rattle.gl_query_reader.specs.declared.joins.Joining.TheVariants as joining
 use Rattle.gl_query_reader.specs.declared.written.Window.{Window}
-use Rattle.gl_query_reader.specs.Written.{Expr, LagOf, Ranged, Pick, Query, Stream, InBrackets, Select, Windows, Groups, Join', IsQuery, IsTerm, measure_word, spell_word, spell_head, spell_pick, spell_window, spell_if_window, spell_row_window, spell_filter, spell_grouping, spell_query}
-use Rattle.gl_query_reader.specs.States.{measured, row_window, State, Control, Frame, Head, WindowHead, BodyHead, GroupsHead, SelectHead, EachHead, SelectWindow, EachWindow, GroupsWindow, WindowsHead, GroupsHead', SelectGroups, EachGroups, OverGroups, InFilter, JoinOf, InQuery, InSource, InBody, WantTerm, WantItem, WantOperand, WantSource, HaveSource, HaveEachSource, WantSize, WantSizeNumber, WantAdvance, WantAdvanceNumber, WantMeasure, WantWindowClose, WantBy, WantKey, WantGroups, WantGroupsNumber, InOver, WantVar, WantIn, WantBody, HaveTerm, WantName, HaveName, WantEnd}
+use Rattle.gl_query_reader.specs.Written.{Expr, LagOf, Ranged, Pick, Query, Stream, InBrackets, Select, Windows, Groups, Join', IsQuery, IsTerm, measure_word, spell_word, spell_head, spell_pick, spell_window, spell_if_window, spell_row_window, spell_filter, spell_grouping, spell_join, spell_query}
+use Rattle.gl_query_reader.specs.States.{measured, row_window, State, Control, Frame, Head, WindowHead, BodyHead, GroupsHead, SelectHead, EachHead, SelectWindow, EachWindow, GroupsWindow, WindowsHead, GroupsHead', SelectGroups, EachGroups, OverGroups, InFilter, JoinOf, InQuery, InSource, InBody, WantTerm, WantItem, WantOperand, WantSource, HaveSource, HaveEachSource, WantSize, WantSizeNumber, WantAdvance, WantAdvanceNumber, WantMeasure, WantWindowClose, WantBy, WantKey, WantGroups, WantGroupsNumber, InOver, WantArrival, WantVar, WantIn, WantBody, HaveTerm, WantName, HaveName, WantEnd, goes}
 use Rattle.gl_query_reader.specs.Begun.{open_body}
 use Rattle.gl_query_reader.specs.Machine.{have_term, after_query, close_query, end_query, begin_window, step_at}
 use Rattle.gl_query_reader.proofs.ReadQueries.{NoJoin}
-use Rattle.gl_query_reader.proofs.Said.{items_before, head_text, body_text, groups_text, in_source, before, control_text, InTerm, Fits, Holds, Read, by_some, by_if, by_plain, by_name, by_number, by_open, by_measure, by_size, by_by, go_on, go_in}
+use Rattle.gl_query_reader.proofs.Said.{items_before, head_text, body_text, groups_text, in_source, before, control_text, InTerm, Fits, Holds, Read, by_some, by_if, by_plain, by_name, by_number, by_open, by_measure, by_size, by_by, by_word_or, go_on, go_in}
 
 -- a control that keeps what was read, whatever token comes
 abbrev pub Keeps : Control → Type 0
@@ -78,7 +81,8 @@ ends_query [] q s' f h e = by_some _ s' _ e (record { text = refl; fits = tt; ho
 ends_query (f ∷ fs) q s' fits h e = absurd cc
 
 pub keeps_query : (fs : List Frame) (q : Query) (t : Token) (s' : State) → Fits fs → InTerm fs → NoJoin fs → IsQuery q → after_query fs q t ≡ Some s' → Read s' ((before fs ++ spell_query q) ++ t ∷ [])
-keeps_query fs q (token.Join join at) s' f i n h e = by_some _ s' _ e (go_in (spell_query q) WantTerm (JoinOf q join at) fs (token.Join join at) f (i, n, h) tt refl refl)
+keeps_query fs q (token.Join join.Union at) s' f i n h e = by_some _ s' _ e (go_in (spell_query q) WantTerm (JoinOf q joining.Union at) fs (token.Join join.Union at) f (i, n, h) tt refl refl)
+keeps_query fs q (token.Join join.Concat at) s' f i n h e = by_some _ s' _ e (go_in (spell_query q) WantTerm (JoinOf q joining.Concat at) fs (token.Join join.Concat at) f (i, n, h) tt refl refl)
 keeps_query fs q (token.Plain plain.Close) s' f i n h e = closes_query fs q s' f h e
 keeps_query fs q (token.Plain plain.Into) s' f i n h e = ends_query fs q s' f h e
 keeps_query fs q (token.Plain p) s' f i n h e = absurd cc
@@ -87,10 +91,10 @@ keeps_query fs q t s' f i n h e = absurd cc
 -- a term that joins what stands before it, or stands alone
 pub keeps_term : (fs : List Frame) (q : Query) (t : Token) (s' : State) → Fits fs → InTerm fs → IsTerm q → have_term fs q t ≡ Some s' → Read s' ((before fs ++ spell_query q) ++ t ∷ [])
 keeps_term (JoinOf l join at ∷ fs) q t s' f i h e =
-    subst (λ (x : List Token). Read s' (x ++ t ∷ [])) (text (before fs) (spell_query l) (spell_query q)) (keeps_query fs (Join' join at l q) t s' f.1 f.0.0 f.0.1 (f.0.2, h) e)
+    subst (λ (x : List Token). Read s' (x ++ t ∷ [])) (text (before fs) (spell_query l) (spell_join join at) (spell_query q)) (keeps_query fs (Join' join at l q) t s' f.1 f.0.0 f.0.1 (f.0.2, h) e)
   where
-    text : (b x y : List Token) → b ++ (x ++ token.Join join at ∷ y) ≡ (b ++ (x ++ token.Join join at ∷ [])) ++ y
-    text b x y = simp append_assoc
+    text : (b x j y : List Token) → b ++ (x ++ (j ++ y)) ≡ (b ++ (x ++ j)) ++ y
+    text b x j y = simp append_assoc
 keeps_term [] q t s' f i h e = keeps_query [] q t s' f i tt (term_is_query q h) e
 keeps_term (f ∷ fs) q t s' fits i h e = keeps_query (f ∷ fs) q t s' fits i tt (term_is_query q h) e
 
@@ -101,7 +105,20 @@ keeps_want_term fs (token.Plain plain.Select) s' f h e = by_some _ s' _ e (go_on
 keeps_want_term fs (token.Plain p) s' f h e = absurd cc
 keeps_want_term fs (token.Each at) s' f h e = by_some _ s' _ e (go_on [] (WantVar at) fs (token.Each at) f h refl)
 keeps_want_term fs (token.Open at) s' f h e = by_some _ s' _ e (go_in [] WantTerm (InQuery at) fs (token.Open at) f h tt refl refl)
+keeps_want_term (JoinOf l joining.Union at ∷ fs) (token.By n) s' f h e = by_some _ s' _ e (record { text = text (before fs) (spell_query l); fits = f.1; holds = f.0 })
+  where
+    text : (b x : List Token) → b ++ (x ++ token.Join join.Union at ∷ token.By n ∷ []) ≡ ((b ++ (x ++ token.Join join.Union at ∷ [])) ++ []) ++ token.By n ∷ []
+    text b x = simp append_assoc
+keeps_want_term (JoinOf l (joining.Arrival m w) at ∷ fs) (token.By n) s' f h e = absurd cc
+keeps_want_term (JoinOf l joining.Concat at ∷ fs) (token.By n) s' f h e = absurd cc
+keeps_want_term fs (token.By n) s' f h e = absurd cc
 keeps_want_term fs t s' f h e = absurd cc
+
+pub keeps_arrival : (l : Query) (at by' : ℕ) → Keeps (WantArrival l at by')
+keeps_arrival l at n fs t s' f h e = by_word_or word.Arrival t (λ o. option_and_then (λ w. goes WantTerm (JoinOf l (joining.Arrival n w) at ∷ fs)) o) s' _ e
+    (λ w d. by_some _ s' _ d (go_in (control_text (WantArrival l at n)) WantTerm (JoinOf l (joining.Arrival n w) at) fs (spell_word word.Arrival w) f h tt refl
+    (append_assoc (spell_query l) (token.Join join.Union at ∷ token.By n ∷ []) (spell_word word.Arrival w ∷ []))))
+    (λ d. absurd cc)
 
 pub keeps_var : (at : ℕ) → Keeps (WantVar at)
 keeps_var at fs t s' f h e = by_name t _ s' _ e (λ n d. by_some _ s' _ d (go_on (token.Each at ∷ []) (WantIn at n) fs (token.Name n) f h refl))

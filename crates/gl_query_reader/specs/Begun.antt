@@ -1,12 +1,16 @@
--- Where a window or a body begins behind what an EACH is over.
+-- Where a window or a body begins behind what an EACH is over, and a union by arrival behind UNION.
 -- A middle layer of the reader: no promise rests on it.
-use Rattle.std.specs.Prelude.{◌≡◌, List, ◌∷◌, Option, Some, None, Result, Ok, Err, option_and_then, if◌then◌else◌}
+use Rattle.std.specs.Prelude.{◌≡◌, ℕ, List, ◌∷◌, Option, Some, None, Result, Ok, Err, option_and_then, if◌then◌else◌}
 use Rattle.gl_query_tokens.specs.declared.token.Plain.TheVariants as plain
 use Rattle.gl_query_tokens.specs.declared.token.Token.{Token}
-use Rattle.gl_query_tokens.specs.Sorts.{is_plain, open_in}
+use Rattle.gl_query_tokens.specs.declared.token.Word.TheVariants as word
+use Rattle.gl_query_tokens.specs.Sorts.{is_plain, open_in, word_in}
+use Rattle.gl_query_reader.specs.declared.joins.Joining.{Joining}
+use Rattle.gl_query_reader.specs.declared.joins.Joining.TheVariants as joining
 use Rattle.gl_query_reader.specs.declared.frames.BodyHead.{BodyHead as Head}
 use Rattle.gl_query_reader.specs.declared.frames.WindowHead.{WindowHead}
-use Rattle.gl_query_reader.specs.States.{BodyHead, WindowsHead, GroupsHead', GroupsWindow, Frame, State, goes, InBody, WantTerm, WantSize}
+use Rattle.gl_query_reader.specs.States.{BodyHead, WindowsHead, GroupsHead', GroupsWindow, Frame, State, goes, InBody, JoinOf, WantArrival, WantTerm, WantSize}
+use Rattle.gl_query_reader.specs.Written.{Query}
 use Rattle.gl_query_reader.specs.Trees.{body_head_of, query_of, window_head_of}
 
 -- the bracket of a body
@@ -28,3 +32,19 @@ BeginsWindow head t (Ok w) = (fs : List Frame)
     → want_body fs (body_head_of head) t ≡ goes (WantSize (window_head_of w.head) (query_of w.source)) fs
 BeginsWindow head t (Err same) = (same ≡ head) × ((fs : List Frame)
     → want_body fs (body_head_of head) t ≡ open_body fs (body_head_of head) t)
+
+-- BY behind UNION alone
+abbrev pub by_behind : List Frame → Joining → Query → ℕ → ℕ → Option State
+by_behind fs joining.Union l at by' = goes (WantArrival l at by') fs
+by_behind fs (joining.Arrival b w) l at by' = None
+by_behind fs joining.Concat l at by' = None
+
+-- BY where a term is wanted: behind UNION it begins BY ARRIVAL
+abbrev pub begin_arrival : List Frame → ℕ → Option State
+begin_arrival (JoinOf l join at ∷ fs) by' = by_behind fs join l at by'
+begin_arrival fs by' = None
+
+-- ARRIVAL behind UNION BY
+abbrev pub want_arrival : List Frame → Query → ℕ → ℕ → Token → Option State
+want_arrival fs l at by' t =
+    option_and_then (λ w. goes WantTerm (JoinOf l (joining.Arrival by' w) at ∷ fs)) (word_in word.Arrival t)

@@ -1,3 +1,4 @@
+pub mod Joins
 pub mod Written
 pub mod States
 pub mod Framing

@@ -15,10 +15,11 @@ use Rattle.gl_query_tokens.specs.declared.token.Token.TheVariants as token
 use Rattle.gl_query_tokens.specs.Sorts.{is_plain, name_in, number_in, open_in, by_in}
 use Rattle.gl_query_reader.specs.declared.written.Window.{Window}
 use Rattle.gl_query_reader.specs.Written.{Expr, Column, Number, Minus, Letters, Brackets, Cast, Not, Binary, Count, Fold', Wsum, LagOf, Item, Bare, Named, Total, Framed, Pick, All, Items, Query, Stream, InBrackets, Select, Windows, Groups, Join', Statement, looseness, left_looseness}
-use Rattle.gl_query_reader.specs.Begun.{want_body}
+use Rattle.gl_query_reader.specs.Begun.{begin_arrival, want_arrival, want_body}
+use Rattle.gl_query_reader.specs.Joins.{joining_of}
 use Rattle.gl_query_reader.specs.Framing.{begin_call, want_call, want_call_open, after_call, want_back, want_over, have_agg, want_filter_open, want_filter_where, after_condition, want_over_open, in_over, want_part, want_part_by}
 use Rattle.gl_query_reader.specs.Windowed.{want_size, want_size_number, want_advance_number, want_measure, want_by, want_key, want_groups_number}
-use Rattle.gl_query_reader.specs.States.{Head, after_window, SelectHead, EachHead, SelectWindow, EachWindow, BodyHead, WindowsHead, GroupsHead', EachGroups, Unnamed, UnnamedExpr, UnnamedAgg, UnnamedOver, Frame, Control, State, goes, expected, LeftOf, NotOf, BracketOf, InCast, InItem, InFold, InWsum, InCall, InCondition, InFilter, JoinOf, InQuery, InSource, InBody, WantTerm, WantItem, WantOperand, WantMinus, HaveExpr, WantCastOpen, WantKind, WantCastClose, WantCountOpen, WantCountClose, WantFoldOpen, WantWsumOpen, WantWeightsOpen, WantWeight, HaveWeight, WantWsumClose, HaveAgg, WantCallOpen, WantBack, WantLagClose, WantOver, WantFilterOpen, WantFilterWhere, WantOverOpen, WantPart, WantPartBy, InOver, WantOverAs, WantItemName, HaveItem, WantFrom, WantSource, HaveSource, HaveEachSource, WantSize, WantSizeNumber, WantAdvance, WantAdvanceNumber, WantMeasure, WantWindowClose, WantBy, WantKey, WantGroups, WantGroupsNumber, WantVar, WantIn, WantBody, HaveTerm, WantName, HaveName, WantEnd}
+use Rattle.gl_query_reader.specs.States.{Head, after_window, SelectHead, EachHead, SelectWindow, EachWindow, BodyHead, WindowsHead, GroupsHead', EachGroups, Unnamed, UnnamedExpr, UnnamedAgg, UnnamedOver, Frame, Control, State, goes, expected, LeftOf, NotOf, BracketOf, InCast, InItem, InFold, InWsum, InCall, InCondition, InFilter, JoinOf, InQuery, InSource, InBody, WantTerm, WantItem, WantOperand, WantMinus, HaveExpr, WantCastOpen, WantKind, WantCastClose, WantCountOpen, WantCountClose, WantFoldOpen, WantWsumOpen, WantWeightsOpen, WantWeight, HaveWeight, WantWsumClose, HaveAgg, WantCallOpen, WantBack, WantLagClose, WantOver, WantFilterOpen, WantFilterWhere, WantOverOpen, WantPart, WantPartBy, InOver, WantOverAs, WantItemName, HaveItem, WantFrom, WantSource, HaveSource, HaveEachSource, WantSize, WantSizeNumber, WantAdvance, WantAdvanceNumber, WantMeasure, WantWindowClose, WantBy, WantKey, WantGroups, WantGroupsNumber, WantArrival, WantVar, WantIn, WantBody, HaveTerm, WantName, HaveName, WantEnd}
 
 -- ---- expressions
 
@@ -149,7 +150,7 @@ after_whole fs q p = None
 
 -- what stands behind a query
 abbrev pub after_query : List Frame → Query → Token → Option State
-after_query fs q (token.Join join at) = goes WantTerm (JoinOf q join at ∷ fs)
+after_query fs q (token.Join join at) = goes WantTerm (JoinOf q (joining_of join) at ∷ fs)
 after_query fs q (token.Plain p) = after_whole fs q p
 after_query fs q t = None
 
@@ -314,6 +315,7 @@ abbrev pub want_term : List Frame → Token → Option State
 want_term fs (token.Plain p) = begin_select fs p
 want_term fs (token.Each at) = goes (WantVar at) fs
 want_term fs (token.Open at) = goes WantTerm (InQuery at ∷ fs)
+want_term fs (token.By at) = begin_arrival fs at
 want_term fs t = None
 
 abbrev pub want_var : List Frame → ℕ → Token → Option State
@@ -324,6 +326,7 @@ want_name fs q t = option_and_then (λ name. goes (HaveName q name) fs) (name_in
 
 abbrev pub step_at : Control → List Frame → Token → Option State
 step_at WantTerm fs t = want_term fs t
+step_at (WantArrival l at by') fs t = want_arrival fs l at by' t
 step_at (WantVar at) fs t = want_var fs at t
 step_at (WantIn at var) fs t = expected plain.In (WantSource (EachHead at var)) fs t
 step_at (WantBody head) fs t = want_body fs head t

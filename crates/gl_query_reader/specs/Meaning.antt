@@ -4,11 +4,11 @@ use Rattle.std.specs.List.{list_any}
 use Rattle.gl_query.specs.declared.tree.Name.{Name}
 use Rattle.gl_query.specs.declared.tree.Num.{Num}
 use Rattle.gl_query.specs.declared.tree.Slots.{Slots}
-use Rattle.gl_query.specs.Trees.{ExprTree, AggTree, ItemTree, AggItemTree, FrameAggTree, FrameTree, FrameItemTree, QueryTree, StatementTree, Column, Number, Minus, Letters, Not, Cast, Binary, Count, Sum, Min, Max, Avg, Wsum, CountOver, SumOver, MinOver, MaxOver, AvgOver, LastOver, Own, Lag, Over, All, Items, Read, Rows, Total, Frames, Each, PerGroup, Partition, Union, Concat}
+use Rattle.gl_query.specs.Trees.{ExprTree, AggTree, ItemTree, AggItemTree, FrameAggTree, FrameTree, FrameItemTree, QueryTree, StatementTree, Column, Number, Minus, Letters, Not, Cast, Binary, Count, Sum, Min, Max, Avg, Wsum, CountOver, SumOver, MinOver, MaxOver, AvgOver, LastOver, Own, Lag, Over, All, Items, Read, Rows, Total, Frames, Each, PerGroup, Partition, Union, ByArrival, Concat}
 use Rattle.gl_query_tokens.specs.declared.token.Fold.{Fold}
 use Rattle.gl_query_tokens.specs.declared.token.Fold.TheVariants as fold
-use Rattle.gl_query_tokens.specs.declared.token.Join.{Join}
-use Rattle.gl_query_tokens.specs.declared.token.Join.TheVariants as join
+use Rattle.gl_query_reader.specs.declared.joins.Joining.{Joining}
+use Rattle.gl_query_reader.specs.declared.joins.Joining.TheVariants as joining
 use Rattle.gl_query_tokens.specs.declared.token.Spelling.{Spelling}
 use Rattle.gl_query_tokens.specs.declared.token.Spelling.TheVariants.{Small, Capital}
 use Rattle.gl_query_reader.specs.declared.written.Bound.{Bound}
@@ -213,10 +213,11 @@ select_meaning p None filter g source = grouped p filter g source
 select_meaning p (Some w) filter g source =
     Each w.measure (it w.at) source w.size w.advance (grouped p filter g (Read (it w.at))) w.at
 
--- two queries are joined one behind the other by UNION, or side by side by CONCAT
-abbrev pub join_meaning : Join → QueryTree → QueryTree → ℕ → QueryTree
-join_meaning join.Union l r at = Union l r at
-join_meaning join.Concat l r at = Concat l r at
+-- two queries are joined one behind the other by UNION, in the order of arrival, or side by side by CONCAT
+abbrev pub join_meaning : Joining → QueryTree → QueryTree → ℕ → QueryTree
+join_meaning joining.Union l r at = Union l r at
+join_meaning (joining.Arrival by' w) l r at = ByArrival l r at
+join_meaning joining.Concat l r at = Concat l r at
 
 -- a body for each group, or for each window of each group
 abbrev pub each_group : Name → QueryTree → Grouping → Option RowWindow → QueryTree → ℕ → QueryTree

@@ -7,7 +7,7 @@ use Rattle.gl_query.specs.declared.tree.Name.{Name}
 use Rattle.gl_query.specs.declared.tree.Num.{Num}
 use Rattle.gl_values.specs.declared.op.Op.{Op}
 use Rattle.gl_query_tokens.specs.declared.token.Fold.{Fold}
-use Rattle.gl_query_tokens.specs.declared.token.Join.{Join}
+use Rattle.gl_query_reader.specs.declared.joins.Joining.{Joining}
 use Rattle.gl_query_tokens.specs.declared.token.Plain.{Plain}
 use Rattle.gl_query_tokens.specs.declared.token.Plain.TheVariants as plain
 use Rattle.gl_query_tokens.specs.declared.token.Spelling.{Spelling}
@@ -62,7 +62,7 @@ pub data Frame : Type 0 where
   InCall : (items : List Item) (call : Call) (word : Spelling) (open' : ℕ) → Frame
   InCondition : (items : List Item) (agg : OverAgg) (word : Spelling) (open' : ℕ) → Frame
   InFilter : (pick : Pick) (source : Query) (window : Option Window) → Frame
-  JoinOf : (l : Query) (join : Join) (at : ℕ) → Frame
+  JoinOf : (l : Query) (join : Joining) (at : ℕ) → Frame
   InQuery : (at : ℕ) → Frame
   InSource : (head : Head) (at : ℕ) → Frame
   InBody : (head : BodyHead) (open' : ℕ) → Frame
@@ -114,6 +114,7 @@ pub data Control : Type 0 where
   WantKey : (head : GroupsHead) (at : ℕ) → Control
   WantGroups : (head : GroupsHead) (at : ℕ) (key : Name) → Control
   WantGroupsNumber : (head : GroupsHead) (at : ℕ) (key : Name) → Control
+  WantArrival : (left' : Query) (at by' : ℕ) → Control
   WantVar : (at : ℕ) → Control
   WantIn : (at : ℕ) (var : Name) → Control
   WantBody : (head : BodyHead) → Control

@@ -278,6 +278,7 @@ groups_control_of (groups_control.WantGroupsNumber head at key) = states.WantGro
 -- what was read last between queries, from the reader's value
 abbrev pub query_control_of : QueryControl → states.Control
 query_control_of query_control.WantTerm = states.WantTerm
+query_control_of (query_control.WantArrival l at by') = states.WantArrival (query_of l) at by'
 query_control_of (query_control.WantVar at) = states.WantVar at
 query_control_of (query_control.WantIn at var) = states.WantIn at var
 query_control_of (query_control.WantBody head) = states.WantBody (body_head_of head)

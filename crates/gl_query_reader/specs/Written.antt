@@ -9,16 +9,14 @@ use Rattle.gl_query.specs.declared.tree.Num.{Num}
 use Rattle.gl_values.specs.declared.op.Op.{Op}
 use Rattle.gl_values.specs.declared.op.Op.TheVariants as op
 use Rattle.gl_query_tokens.specs.declared.token.Fold.{Fold}
-use Rattle.gl_query_tokens.specs.declared.token.Join.{Join}
+use Rattle.gl_query_reader.specs.declared.joins.Joining.{Joining}
 use Rattle.gl_query_tokens.specs.declared.token.Plain.{Plain}
 use Rattle.gl_query_tokens.specs.declared.token.Plain.TheVariants as plain
-use Rattle.gl_query_tokens.specs.declared.token.Word.{Word}
 use Rattle.gl_query_tokens.specs.declared.token.Word.TheVariants as word
 use Rattle.gl_query_tokens.specs.declared.token.Spelling.{Spelling}
-use Rattle.gl_query_tokens.specs.declared.token.Spelling.TheVariants.{Small, Capital}
 use Rattle.gl_query_tokens.specs.declared.token.Token.{Token}
 use Rattle.gl_query_tokens.specs.declared.token.Token.TheVariants as token
-use Rattle.gl_query_tokens.specs.Words.{word_text}
+pub use Rattle.gl_query_reader.specs.Joins.{spell_join, spell_word}
 use Rattle.gl_query_reader.specs.declared.written.RowWindow.{RowWindow}
 use Rattle.gl_query_reader.specs.declared.written.Window.{Window}
 use Rattle.gl_query_reader.specs.declared.written.Grouping.{Grouping}
@@ -85,7 +83,7 @@ pub data Query : Type 0 where
   Windows : (at : ℕ) (var : Name) (source : Query) (window : Window) (open' : ℕ) (body : Query) → Query
   Groups : (at : ℕ) (var : Name) (source : Query) (grouping : Grouping) (window : Option RowWindow) (open' : ℕ)
       (body : Query) → Query
-  Join' : (join : Join) (at : ℕ) (l r : Query) → Query
+  Join' : (join : Joining) (at : ℕ) (l r : Query) → Query
 
 -- a written statement: a query, the name of its result, and whether a semicolon ends it
 pub record Statement : Type 0 where
@@ -260,11 +258,6 @@ spell_agg (Wsum at open' e ns) =
     token.Wsum at ∷ token.Open open' ∷ (spell e ++ token.Plain plain.Comma ∷ token.Plain plain.LeftSquare
     ∷ (spell_numbers ns ++ token.Plain plain.RightSquare ∷ token.Plain plain.Close ∷ []))
 
--- the token of a word of frames: a name in small letters, or the word
-abbrev pub spell_word : Word → Spelling → Token
-spell_word w (Small at) = token.Name (record { text = word_text w; at = at })
-spell_word w (Capital at) = token.Word w at
-
 -- the tokens of a function over rows: its keyword or its word, and in brackets its argument
 abbrev pub spell_over_agg : OverAgg → List Token
 spell_over_agg (CountOf at open') = token.Count at ∷ token.Open open' ∷ token.Plain plain.Close ∷ []
@@ -383,7 +376,7 @@ spell_query (Groups at var source grouping window open' body) =
     token.Each at ∷ token.Name var ∷ token.Plain plain.In
     ∷ (spell_query source ++ (spell_grouping grouping ++ (spell_row_window window ++ token.Open open'
     ∷ (spell_query body ++ token.Plain plain.Close ∷ []))))
-spell_query (Join' join at l r) = spell_query l ++ token.Join join at ∷ spell_query r
+spell_query (Join' join at l r) = spell_query l ++ (spell_join join at ++ spell_query r)
 
 -- a closing semicolon, or nothing
 abbrev pub spell_end : Bool → List Token

@@ -1,12 +1,13 @@
 //! What is open of the text that was read so far.
 
+use crate::joins::Joining;
 use crate::over_state::{Call, FilterHead, PartHead};
 use crate::written::{
     Grouping, Over, Window, WrittenAgg, WrittenExpr, WrittenItems, WrittenOver, WrittenPick,
     WrittenQuery,
 };
 use gl_query::{Name, Op};
-use gl_query_tokens::{Fold, Join, Spelling};
+use gl_query_tokens::{Fold, Spelling};
 
 /// What reads a source.
 #[derive(Drop)]
@@ -207,13 +208,13 @@ pub enum Frame {
     /// A select behind WHERE, which waits for its condition.
     InFilter(SelectFrom),
     // These wait for a query.
-    /// A UNION or CONCAT that waits for its right side.
+    /// A UNION, UNION BY ARRIVAL or CONCAT that waits for its right side.
     JoinOf {
         /// Its left side.
         left: WrittenQuery,
-        /// Which of the two it is.
-        join: Join,
-        /// The place of its keyword.
+        /// Which of the three it is.
+        join: Joining,
+        /// The place of UNION or CONCAT.
         at: u64,
     },
     /// A bracket around a query.

@@ -10,6 +10,7 @@ mod frames;
 mod groups;
 mod item_meaning;
 mod items;
+mod joins;
 mod keeping;
 pub mod laws;
 mod limits;

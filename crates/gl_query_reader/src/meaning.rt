@@ -5,12 +5,12 @@ ghost use Rattle.gl_query_reader.specs.Meaning as meaning;
 ghost use Rattle.gl_query.specs.Trees.{query_tree, statement_tree};
 ghost use Rattle.gl_query_reader.specs.Trees.{each_tree, query_of, statement_of};
 
+use crate::joins::Joining;
 use crate::keeping::{Beside, Both, keep_beside, take_both};
 use crate::select_meaning::{each_over, select_meaning};
 use crate::written::{Grouping, Over, RowWindow, WrittenEach, WrittenQuery, WrittenStatement};
 use gl_bits::boxes::{TwoBoxes, two_boxes};
 use gl_query::{Name, Query, Statement};
-use gl_query_tokens::Join;
 use std::alloc::{AllocError, Global};
 
 // A body for each group, or for each window of each group.
@@ -80,7 +80,7 @@ fn each_meaning(
 
 fn join_meaning(
     alloc: Global,
-    join: Join,
+    join: Joining,
     left: Query,
     right: Query,
     at: u64,
@@ -94,8 +94,9 @@ fn join_meaning(
         second: right,
     } = two_boxes(alloc, at, left, right)?;
     match join {
-        Join::Union => Ok(Query::Union { left, right, at }),
-        Join::Concat => Ok(Query::Concat { left, right, at }),
+        Joining::Union => Ok(Query::Union { left, right, at }),
+        Joining::Arrival { .. } => Ok(Query::ByArrival { left, right, at }),
+        Joining::Concat => Ok(Query::Concat { left, right, at }),
     }
 }
 

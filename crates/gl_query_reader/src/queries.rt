@@ -1,19 +1,20 @@
 //! What begins a query, and the end of a statement.
 
-ghost use Rattle.std.specs.Prelude.{◌≡◌, List, IfOk};
+ghost use Rattle.std.specs.Prelude.{◌≡◌, ◌∷◌, List, IfOk};
 ghost use Rattle.gl_query_reader.specs.States as states;
 ghost use Rattle.gl_query_reader.specs.Machine as machine;
-ghost use Rattle.gl_query_reader.specs.Begun.{BeginsWindow, open_body, want_body};
-ghost use Rattle.gl_query_reader.specs.Trees.{query_of, body_head_of, query_control_of, frames_of, leads};
+ghost use Rattle.gl_query_reader.specs.Begun.{BeginsWindow, begin_arrival, by_behind, open_body, want_arrival, want_body};
+ghost use Rattle.gl_query_reader.specs.Trees.{query_of, body_head_of, frame_of, query_control_of, frames_of, leads};
 
 use crate::frames::{BodyHead, Frame, Head, WindowBy, WindowHead};
+use crate::joins::Joining;
 use crate::keeping::Beside;
 use crate::parts::{expect, keep_named, refuse, term_in};
 use crate::state::{Control, ItemControl, QueryControl, SourceControl, WindowControl};
 use crate::terms::have_term;
 use crate::written::{Over, WrittenItems, WrittenQuery};
-use gl_query_tokens::sorts::{is_plain, open_in};
-use gl_query_tokens::{Plain, Token};
+use gl_query_tokens::sorts::{is_plain, open_in, word_in};
+use gl_query_tokens::{Plain, Token, Word};
 use std::alloc::{AllocError, Global};
 
 fn begin_select(alloc: Global, plain: Plain) -> Option<Control>
@@ -28,7 +29,61 @@ fn begin_select(alloc: Global, plain: Plain) -> Option<Control>
     }
 }
 
-// A select, an EACH or a bracket.
+// BY behind what joins this query with what follows.
+fn by_behind(join: Joining, left: WrittenQuery, at: u64, by_at: u64) -> Option<Control>
+    ensures { (fs : List states.Frame) → leads result fs
+        ≡ by_behind fs join (query_of left) at by_at }
+{
+    match join {
+        Joining::Union => Some(Control::Query(QueryControl::WantArrival { left, at, by_at })),
+        _ => refuse(left),
+    }
+}
+
+// BY, by the frame that it stands in.
+fn begin_arrival_in(frame: Frame, by_at: u64) -> Option<Control>
+    ensures { (fs : List states.Frame) → leads result fs
+        ≡ begin_arrival (frame_of frame ∷ fs) by_at }
+{
+    match frame {
+        Frame::JoinOf { left, join, at } => by_behind(join, left, at, by_at),
+        other => refuse(other),
+    }
+}
+
+// BY where a term is wanted.
+#[tactic(auto, using(crate::proofs::Stack::reductions))]
+fn begin_arrival(frames: &mut Vec<Frame>, by_at: u64) -> Option<Control>
+    ensures { leads result (frames_of frames.new.items)
+        ≡ begin_arrival (frames_of frames.old.items) by_at }
+{
+    match frames.pop() {
+        Some(frame) => begin_arrival_in(frame, by_at),
+        None => None,
+    }
+}
+
+// ARRIVAL behind UNION BY.
+fn want_arrival(
+    frames: &mut Vec<Frame>,
+    left: WrittenQuery,
+    at: u64,
+    by_at: u64,
+    token: &Token,
+) -> Result<Option<Control>, AllocError>
+    ensures { IfOk result (λ o. leads o (frames_of frames.new.items)
+        ≡ want_arrival (frames_of frames.old.items) (query_of left) at by_at token.now) }
+{
+    match word_in(token, Word::Arrival) {
+        Some(word) => {
+            let join = Joining::Arrival { by_at, word };
+            term_in(frames, Frame::JoinOf { left, join, at })
+        }
+        None => Ok(refuse(left)),
+    }
+}
+
+// A select, an EACH or a bracket; or BY behind UNION.
 fn want_term(
     alloc: Global,
     frames: &mut Vec<Frame>,
@@ -41,6 +96,7 @@ fn want_term(
         Token::Plain(plain) => Ok(begin_select(alloc, *plain)),
         Token::Each { at } => Ok(Some(Control::Query(QueryControl::WantVar { at: *at }))),
         Token::Open { at } => term_in(frames, Frame::InQuery { at: *at }),
+        Token::By { at } => Ok(begin_arrival(frames, *at)),
         _ => Ok(None),
     }
 }
@@ -160,6 +216,9 @@ pub fn step_query(
 {
     match control {
         QueryControl::WantTerm => want_term(alloc, frames, token),
+        QueryControl::WantArrival { left, at, by_at } => {
+            want_arrival(frames, left, at, by_at, token)
+        }
         QueryControl::WantVar { at } => want_var(alloc, at, token),
         QueryControl::WantIn { at, var } => {
             let head = Head::Each { at, var };

@@ -249,20 +249,46 @@ pub enum GroupsControl {
 pub enum QueryControl {
     /// A select, an EACH or a bracket.
     WantTerm,
+    /// ARRIVAL behind UNION BY.
+    WantArrival {
+        /// The query on the left.
+        left: WrittenQuery,
+        /// The place of UNION.
+        at: u64,
+        /// The place of BY.
+        by_at: u64,
+    },
     /// The name behind EACH.
-    WantVar { at: u64 },
+    WantVar {
+        at: u64,
+    },
     /// IN.
-    WantIn { at: u64, var: Name },
+    WantIn {
+        at: u64,
+        var: Name,
+    },
     /// `(` before a body.
-    WantBody { head: BodyHead },
+    WantBody {
+        head: BodyHead,
+    },
     /// What may stand behind a whole term.
-    HaveTerm { term: WrittenQuery },
+    HaveTerm {
+        term: WrittenQuery,
+    },
     /// The name behind INTO.
-    WantName { query: WrittenQuery },
+    WantName {
+        query: WrittenQuery,
+    },
     /// `;` or the end.
-    HaveName { query: WrittenQuery, name: Name },
+    HaveName {
+        query: WrittenQuery,
+        name: Name,
+    },
     /// The end.
-    WantEnd { query: WrittenQuery, name: Name },
+    WantEnd {
+        query: WrittenQuery,
+        name: Name,
+    },
 }
 
 /// Where the reader stands: what it has read last, and what may follow.

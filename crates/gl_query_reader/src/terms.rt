@@ -7,12 +7,13 @@ ghost use Rattle.gl_query_reader.specs.Machine as machine;
 ghost use Rattle.gl_query_reader.specs.Trees.{pick_of, query_of, filter_of, head_of, body_head_of, frame_of, frames_of, control_of, leads};
 
 use crate::frames::{BodyHead, Frame, Head, SelectFrom};
+use crate::joins::{Joining, joining_of};
 use crate::keeping::{Beside, keep_beside};
 use crate::parts::{refuse, term_in};
 use crate::state::{Control, QueryControl, SourceControl};
 use crate::written::{Grouping, WrittenEach, WrittenExpr, WrittenQuery, WrittenSelect};
 use gl_bits::boxes::{OneBox, TwoBoxes, one_box, two_boxes};
-use gl_query_tokens::{Join, Plain, Token};
+use gl_query_tokens::{Plain, Token};
 use std::alloc::{AllocError, Global};
 
 fn is_join(frame: &Frame) -> bool
@@ -23,7 +24,7 @@ fn is_join(frame: &Frame) -> bool
 
 fn of_join(
     alloc: Global,
-    join: Join,
+    join: Joining,
     at: u64,
     left: WrittenQuery,
     right: WrittenQuery,
@@ -285,7 +286,7 @@ fn after_query(
 {
     match token {
         Token::Join { join, at } => {
-            let (join, at) = (*join, *at);
+            let (join, at) = (joining_of(*join), *at);
             term_in(
                 frames,
                 Frame::JoinOf {

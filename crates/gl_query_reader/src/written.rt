@@ -1,9 +1,10 @@
 //! Statements as they are written: trees that keep the tokens that they were read from, except those
 //! that every tree of their form has, and the places that a statement keeps.
 
+use crate::joins::Joining;
 use gl_bits::Listed;
 use gl_query::{Measure, Name, Num, Nums, Op, TextBytes};
-use gl_query_tokens::{Fold, Join, Spelling};
+use gl_query_tokens::{Fold, Spelling};
 use gl_values::Kind;
 
 /// The items of a select, as written.
@@ -361,11 +362,11 @@ pub enum WrittenQuery {
         /// What stands in the body's brackets.
         body: Box<WrittenQuery>,
     },
-    /// Two queries with UNION or CONCAT between them.
+    /// Two queries with UNION, UNION BY ARRIVAL or CONCAT between them.
     Join {
-        /// Which of the two it is.
-        join: Join,
-        /// The place of the keyword.
+        /// Which of the three it is.
+        join: Joining,
+        /// The place of UNION or CONCAT.
         at: u64,
         /// The query before it.
         left: Box<WrittenQuery>,

@@ -10,8 +10,8 @@ use Rattle.gl_query.specs.Sizes.{HasItems}
 use Rattle.gl_query.specs.Trees.{ExprTree, QueryTree, StatementTree, Read, statement_tree}
 use Rattle.gl_query.proofs.Alike.{query_same}
 use Rattle.gl_query.specs.Laws.{AcceptedHaveRealColumns}
-use Rattle.gl_query_tokens.specs.declared.token.Join.{Join}
-use Rattle.gl_query_tokens.specs.declared.token.Join.TheVariants as join
+use Rattle.gl_query_reader.specs.declared.joins.Joining.{Joining}
+use Rattle.gl_query_reader.specs.declared.joins.Joining.TheVariants as joining
 use Rattle.gl_query_reader.specs.declared.written.Grouping.{Grouping}
 use Rattle.gl_query_reader.specs.declared.written.RowWindow.{RowWindow}
 use Rattle.gl_query_reader.specs.declared.written.Window.{Window}
@@ -87,9 +87,10 @@ select_have : (p : written.Pick) (w : Option Window) (f : Option ExprTree) (g : 
 select_have p None f g source h m s = grouped_have p f g source h m s
 select_have p (Some w) f g source h m s = (s, grouped_have p f g (Read (it w.at)) h m tt)
 
-join_have : (j : Join) (l r : QueryTree) (at : ℕ) → HasItems (query_alike l) → HasItems (query_alike r) → HasItems (query_alike (join_meaning j l r at))
-join_have join.Union l r at p q = (p, q)
-join_have join.Concat l r at p q = (p, q)
+join_have : (j : Joining) (l r : QueryTree) (at : ℕ) → HasItems (query_alike l) → HasItems (query_alike r) → HasItems (query_alike (join_meaning j l r at))
+join_have joining.Union l r at p q = (p, q)
+join_have (joining.Arrival b w) l r at p q = (p, q)
+join_have joining.Concat l r at p q = (p, q)
 
 -- ---- queries
 

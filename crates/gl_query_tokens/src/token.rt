@@ -61,7 +61,8 @@ pub enum Plain {
     Semicolon,
 }
 
-/// A word of the frames of a select: one where the grammar asks for it, and a name elsewhere.
+/// A word of the frames of a select, or of a union by arrival: one where the grammar asks for it, and a
+/// name elsewhere.
 #[derive(Clone, Copy, PartialEq, Eq, Debug)]
 pub enum Word {
     /// OVER
@@ -86,9 +87,11 @@ pub enum Word {
     Lag,
     /// LAST_VALUE
     LastValue,
+    /// ARRIVAL
+    Arrival,
 }
 
-/// How a word of the frames is spelled, and the byte of the text where it begins.
+/// How such a word is spelled, and the byte of the text where it begins.
 #[derive(Clone, Copy, Debug)]
 pub enum Spelling {
     /// In small letters: its token is a name.
@@ -128,7 +131,7 @@ pub enum Token {
     By { at: u64 },
     /// SIZE
     Size { at: u64 },
-    /// A word of the frames with a capital, so that it is no name.
+    /// A word of frames, or of a union by arrival, with a capital, so that it is no name.
     Word { word: Word, at: u64 },
     /// A keyword or a sign of whose place no statement knows.
     Plain(Plain),

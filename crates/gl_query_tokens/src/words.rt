@@ -151,7 +151,7 @@ fn framed(word: Word, at: u64) -> Option<Token>
     Some(Token::Word { word, at })
 }
 
-// The words of the frames of a select.
+// The words of the frames of a select, and of a union by arrival.
 fn frame_word_of(word: &[u8], at: u64) -> Option<Token>
     ensures { result ≡ frame_word_of word.now at }
 {
@@ -188,10 +188,13 @@ fn frame_word_of(word: &[u8], at: u64) -> Option<Token>
     if is_keyword(word, b"last_value") {
         return framed(Word::LastValue, at);
     }
+    if is_keyword(word, b"arrival") {
+        return framed(Word::Arrival, at);
+    }
     None
 }
 
-/// The letters of a word of the frames.
+/// The letters of a word of frames, or of a union by arrival.
 #[tactic(auto, unfolding(crate::specs::Words::word_text))]
 pub fn word_text(word: Word) -> &'static [u8]
     ensures { result.now ≡ word_text word }
@@ -208,6 +211,7 @@ pub fn word_text(word: Word) -> &'static [u8]
         Word::Row => b"row",
         Word::Lag => b"lag",
         Word::LastValue => b"last_value",
+        Word::Arrival => b"arrival",
     }
 }
 

@@ -82,12 +82,12 @@ numbered_streams k [] inputs = refl
 numbered_streams k (s ∷ streams) inputs = ap (λ l. s ∷ l) (numbered_streams (k + 1) streams inputs)
 
 -- a statement that is accepted over a schema, over rows that fit it
-pub statement_fits : (schema : Schema) (statement : Statement) (tables : List (List Row)) (times : List (List ℕ)) (ticks : ℕ) (env : Env)
-    → IsFit schema statement tables times ticks → env ≡ env_of schema (given_inputs tables times ticks)
+pub statement_fits : (schema : Schema) (statement : Statement) (tables : List (List Row)) (places times : List (List ℕ)) (ticks : ℕ) (env : Env)
+    → IsFit schema statement tables places times ticks → env ≡ env_of schema (given_inputs tables places times ticks)
     → AreSources env × IsAcceptedOver (scope_of env true) (query_shape statement.query)
-statement_fits schema statement tables times ticks env fit e =
+statement_fits schema statement tables places times ticks env fit e =
     let given = ap (λ (z : Env). scope_of z true) e in
-    let named = ap (λ (l : List Stream). schema_scope (record { streams = l })) (numbered_streams 0 schema.streams (given_inputs tables times ticks)) in
+    let named = ap (λ (l : List Stream). schema_scope (record { streams = l })) (numbered_streams 0 schema.streams (given_inputs tables places times ticks)) in
     let scope : scope_of env true ≡ schema_scope schema = given ∙ named in
     let is = subst IsScope (sym scope) (schema_is schema.streams fit.of_schema.streams) in (
       record { columns = is.columns; kinds = is.kinds; rows = subst (HoldsIn IsRowOf) (sym e) fit.rows },

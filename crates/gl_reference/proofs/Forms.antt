@@ -12,7 +12,9 @@ use Rattle.gl_query.specs.Shapes.{ExprShape, FrameItemShape, QueryShape, SlotsSh
 use Rattle.gl_query.specs.Shapes as shape
 use Rattle.gl_query.specs.Values.{column_number}
 use Rattle.gl_values.specs.Results.{Row, AreBeside}
-use Rattle.gl_query.specs.Results.{Env, IsFramed, IsResultIn, columns_in, kept, ticks_in, times_in}
+use Rattle.gl_query.specs.Results.{ArrivesIn, Env, IsFramed, IsResultIn, columns_in, kept, ticks_in, times_in}
+use Rattle.gl_arrival.specs.Places.{Placed, rows_of}
+use Rattle.gl_arrival.specs.Results.{IsByArrival}
 use Rattle.gl_query.specs.Windows.{parts_of}
 use Rattle.gl_query.proofs.Existing.{first_then_second}
 use Rattle.gl_reference.specs.Frames.{framed_rows, left_out}
@@ -115,4 +117,13 @@ concat_made env l r left right out p q spill is is' (b, s) = record {
   of_right = is';
   join = b;
   either = s;
+}
+
+-- a union by arrival has its result with places, without them
+pub arrived_made : (env : Env) (l r : QueryShape) (xs : List (Placed Row)) (out : List Row) (p spill : Bool)
+    → ArrivesIn (shape.ByArrival l r) env xs p → (out ≡ rows_of xs) × (spill ≡ p) → IsResultIn (shape.ByArrival l r) env out spill
+arrived_made env l r xs out p spill is (e, s) = record {
+  rows = xs;
+  of_source = subst (λ (b : Bool). IsByArrival (ArrivesIn l env) (ArrivesIn r env) xs b) (sym s) is;
+  without = e;
 }

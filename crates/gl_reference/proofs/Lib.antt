@@ -11,3 +11,5 @@ pub mod Passing
 pub mod Elements
 pub mod Partitioning
 pub mod Framing
+pub mod Placing
+pub mod Arriving

@@ -64,8 +64,8 @@ pub record IsBody (var : List ℕ) (columns : List Column) (body : QueryShape) :
   pub accepted : IsAcceptedOver (body_scope var columns) body
 
 -- an accepted statement over a schema, and rows that fit the columns of their streams
-pub record IsFit (schema : Schema) (statement : Statement) (tables : List (List Row)) (times : List (List ℕ)) (ticks : ℕ)
+pub record IsFit (schema : Schema) (statement : Statement) (tables : List (List Row)) (places times : List (List ℕ)) (ticks : ℕ)
     : Type 0 where
   pub of_schema : IsSchema schema
   pub accepted : IsAccepted schema statement
-  pub rows : HoldsIn IsRowOf (env_of schema (given_inputs tables times ticks))
+  pub rows : HoldsIn IsRowOf (env_of schema (given_inputs tables places times ticks))

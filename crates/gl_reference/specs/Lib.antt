@@ -4,3 +4,4 @@ pub mod Worked
 pub mod Fits
 pub mod Partitions
 pub mod Frames
+pub mod Arrivals

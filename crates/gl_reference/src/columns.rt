@@ -9,9 +9,11 @@ use gl_query::{Query, Sources};
 use gl_schema::{Column, Columns, Stream, Streams};
 use std::alloc::Global;
 
-/// The times of a stream's rows, and how many ticks come in all.
+/// The places and times of a stream's rows, and how many ticks come in all.
 #[derive(Clone, Copy)]
 pub struct Clock<'a> {
+    /// A place for each row: the cycle of its beat.
+    pub places: &'a [u64],
     /// A time for each row.
     pub times: &'a [u64],
     /// All ticks.

@@ -131,8 +131,8 @@ fn frame_value(
     }
 }
 
-// The row of a select of frames, of the rows up to a row.
-fn frame_row(
+/// The row of a select of frames, of the rows up to a row.
+pub(crate) fn frame_row(
     alloc: Global,
     columns: &[Column],
     items: &[FrameItem],
@@ -172,15 +172,15 @@ fn framed_rows(
     Ok(out)
 }
 
-// The keys that have a place: the first so many, by a column.
+/// The keys that have a place: the first so many, by a column.
 #[derive(Clone, Copy)]
-struct Keys {
-    most: usize,
-    column: usize,
+pub(crate) struct Keys {
+    pub(crate) most: usize,
+    pub(crate) column: usize,
 }
 
-// The keys of PARTITION, within its limit.
-fn keys_of(columns: &[Column], slots: &Slots) -> Result<Keys, Fault>
+/// The keys of PARTITION, within its limit.
+pub(crate) fn keys_of(columns: &[Column], slots: &Slots) -> Result<Keys, Fault>
     ensures value { let s = slots_shape slots.now in
         IfOk result (λ k. (k.most ≡ s.groups) × (k.column ≡ column_number columns.now s.key)) }
     ensures fits { AreSlots columns.now (slots_shape slots.now) → IsOrMemory result }
@@ -193,8 +193,8 @@ fn keys_of(columns: &[Column], slots: &Slots) -> Result<Keys, Fault>
     Ok(Keys { most, column })
 }
 
-// What the items make of the rows of a key, if it has a place.
-fn key_row(
+/// What the items make of the rows of a key, if it has a place.
+pub(crate) fn key_row(
     alloc: Global,
     columns: &[Column],
     items: &[FrameItem],

@@ -4,9 +4,11 @@
 
 pub mod aggregates;
 pub mod answers;
+pub mod arrivals;
 pub mod columns;
 pub mod frames;
 pub mod partitions;
+pub mod placed;
 pub mod results;
 pub mod rows;
 pub mod values;

@@ -16,6 +16,7 @@ use crate::answers::{
     Answer, concat_of, frames_from, groups_wanted, of_parts, read, rows_from, total_from, union_of,
     windows_of,
 };
+use crate::arrivals::{by_arrival, without_places};
 use crate::columns::{Clock, Source, columns_of};
 use crate::partitions::partitions_of;
 use crate::rows::{Fault, joined, with_key};
@@ -236,6 +237,12 @@ pub fn result_of(alloc: Global, sources: &[Source<'_>], query: &Query) -> Result
             let second = result_of(alloc, sources, right)?;
             union_of(first, second)
         }
+        Query::ByArrival { left, right, .. } => {
+            let both = by_arrival(alloc, sources, left, right)?;
+            // Named, since a goal speaks of the value.
+            let answer = without_places(alloc, both)?;
+            Ok(answer)
+        }
         Query::Concat { left, right, .. } => {
             let first = result_of(alloc, sources, left)?;
             let second = result_of(alloc, sources, right)?;
@@ -244,7 +251,7 @@ pub fn result_of(alloc: Global, sources: &[Source<'_>], query: &Query) -> Result
     }
 }
 
-/// The times of a stream's rows, one for each.
+/// The times of a stream's rows, or their places, one for each.
 pub type Times = Listed<u64>;
 
 /// The streams of a schema, each with its rows and their times.
@@ -252,13 +259,15 @@ fn sources_of<'a>(
     alloc: Global,
     streams: &'a [Stream],
     inputs: &'a [Table],
+    places: &'a [Times],
     times: &'a [Times],
     ticks: u64,
 ) -> Result<Vec<Source<'a>>, Memory>
     requires inputs { length inputs.now ≡ length streams.now }
+    requires places { length places.now ≡ length streams.now }
     requires times { length times.now ≡ length streams.now }
     ensures { IfOk result (λ v. env_view v.items
-        ≡ numbered 0 streams.now (given_inputs inputs.now times.now ticks)) }
+        ≡ numbered 0 streams.now (given_inputs inputs.now places.now times.now ticks)) }
 {
     let mut out = Vec::new(alloc);
     for (i, stream) in streams.iter().enumerate() {
@@ -267,6 +276,7 @@ fn sources_of<'a>(
             columns: stream.columns.as_slice(),
             rows: inputs[i].as_slice(),
             clock: Some(Clock {
+                places: places[i].as_slice(),
                 times: times[i].as_slice(),
                 ticks,
             }),
@@ -275,23 +285,32 @@ fn sources_of<'a>(
     Ok(out)
 }
 
-/// One result of an accepted statement over a schema: the inputs and their times are those of the
-/// streams, in order, and `ticks` ticks come in all.
+/// One result of an accepted statement over a schema: the inputs, their places and their times are
+/// those of the streams, in order, and `ticks` ticks come in all.
 pub fn evaluate(
     alloc: Global,
     schema: &Schema,
     statement: &Statement,
     inputs: &[Table],
+    places: &[Times],
     times: &[Times],
     ticks: u64,
 ) -> Result<Answer, Fault>
     requires inputs { length inputs.now ≡ length schema.now.streams }
+    requires places { length places.now ≡ length schema.now.streams }
     requires times { length times.now ≡ length schema.now.streams }
     ensures value { IfOk result (λ a. IsResult schema.now statement.now
-        (given_inputs inputs.now times.now ticks) a.rows a.spill) }
-    ensures fits { IsFit schema.now statement.now inputs.now times.now ticks
+        (given_inputs inputs.now places.now times.now ticks) a.rows a.spill) }
+    ensures fits { IsFit schema.now statement.now inputs.now places.now times.now ticks
         → IsOrMemory result }
 {
-    let sources = sources_of(alloc, schema.streams.as_slice(), inputs, times, ticks)?;
+    let sources = sources_of(
+        alloc,
+        schema.streams.as_slice(),
+        inputs,
+        places,
+        times,
+        ticks,
+    )?;
     result_of(alloc, sources.as_slice(), &statement.query)
 }

@@ -92,7 +92,7 @@ fn item_values(
 }
 
 /// The row that is picked of a row.
-fn picked_row(
+pub(crate) fn picked_row(
     alloc: Global,
     columns: &[Column],
     pick: &Pick,

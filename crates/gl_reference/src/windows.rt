@@ -36,6 +36,7 @@ pub fn clock_of<'a>(sources: &[Source<'a>], query: &Query) -> Option<Clock<'a>>
         | Query::PerGroup { .. }
         | Query::Partition { .. }
         | Query::Union { .. }
+        | Query::ByArrival { .. }
         | Query::Concat { .. } => None,
     }
 }

@@ -1,10 +1,10 @@
--- The times of the rows that beats bring.
+-- The times and places of the rows that beats bring.
 use Rattle.std.proofs.Common.{◌≡◌, ℕ, suc, ◌+◌, ◌≤◌, List, [], ◌∷◌, length, Option, Some, None, refl, ap, arith}
 use Rattle.std.specs.Prelude.{option_map}
 use Rattle.std.specs.List.{AllByRecursion, cons_option}
 use Rattle.gl_bits.proofs.AllLists.{all_weaker}
 use Rattle.gl_bits.specs.Words.{bit}
-use Rattle.gl_schema.specs.Beats.{Beat, HaveTimes, NeverFall, input_of, inputs_of, row_in, ticks_of, times_from}
+use Rattle.gl_schema.specs.Beats.{AreInOrder, Beat, HavePlaces, HaveTimes, NeverFall, input_of, inputs_of, places_of, row_in, ticks_of, times_from}
 
 -- one row more, or none
 long_cons : (o : Option (List ℕ)) (t : ℕ) (ts : List ℕ) (rows : List (List ℕ)) → length ts ≡ length rows → length (cons_option (option_map (λ row. t) o) ts) ≡ length (cons_option o rows)
@@ -54,3 +54,25 @@ have_times beats = record {
   order = λ k. times_order 0 k beats;
   last = λ k. all_weaker (λ t. t ≤ 0 + ticks_of beats) (λ t. t ≤ ticks_of beats) (λ t h. omega (arith, h)) (times_from 0 k beats) (times_high 0 k beats);
 }
+
+-- ---- places
+
+pub places_long : (k : ℕ) (bs : List Beat) → length (places_of k bs) ≡ length (input_of k bs)
+places_long k [] = refl
+places_long k (b ∷ bs) = long_cons (row_in k b) b.cycle (places_of k bs) (input_of k bs) (places_long k bs)
+
+-- no place is below the cycle of a beat before
+places_above : (k : ℕ) (b : Beat) (bs : List Beat) → AreInOrder (b ∷ bs) → AllByRecursion (λ p. b.cycle ≤ p) (places_of k bs)
+places_above k b [] h = tt
+places_above k b (c ∷ bs) h =
+    all_cons (λ p. b.cycle ≤ p) (row_in k c) c.cycle (places_of k bs) (omega (arith, h.1))
+    (all_weaker (λ p. c.cycle ≤ p) (λ p. b.cycle ≤ p) (λ p le. omega (arith, h.1, le)) (places_of k bs) (places_above k c bs h.2))
+
+places_order : (k : ℕ) (bs : List Beat) → AreInOrder bs → NeverFall (places_of k bs)
+places_order k [] h = tt
+places_order k (b ∷ []) h = never_cons (row_in k b) b.cycle [] tt tt
+places_order k (b ∷ c ∷ bs) h =
+    never_cons (row_in k b) b.cycle (places_of k (c ∷ bs)) (places_above k b (c ∷ bs) h) (places_order k (c ∷ bs) h.2)
+
+pub have_places : (beats : List Beat) → AreInOrder beats → HavePlaces (inputs_of beats)
+have_places beats h = record { each = λ k. places_long k beats; order = λ k. places_order k beats h }

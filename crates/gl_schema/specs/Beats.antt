@@ -61,17 +61,28 @@ times_from before k (b ∷ bs) =
 abbrev pub times_of : ℕ → List Beat → List ℕ
 times_of k beats = times_from 0 k beats
 
--- what comes in to a query: the rows of each stream, by the streams' numbers, with their times, and how many ticks
+-- the place of each row of a stream: the cycle of its beat
+abbrev pub places_of : ℕ → List Beat → List ℕ
+places_of k beats = filter_map (λ b. option_map (λ row. b.cycle) (row_in k b)) beats
+
+-- what comes in to a query: the rows of each stream, by the streams' numbers, with their places and times, and how many
+-- ticks
 pub record Inputs : Type 0 where
   pub rows : ℕ → List (List ℕ)
+  pub places : ℕ → List ℕ
   pub times : ℕ → List ℕ
   pub ticks : ℕ
 
 -- the inputs that beats bring
 abbrev pub inputs_of : List Beat → Inputs
-inputs_of beats = record { rows = λ k. input_of k beats; times = λ k. times_of k beats; ticks = ticks_of beats }
+inputs_of beats = record {
+  rows = λ k. input_of k beats;
+  places = λ k. places_of k beats;
+  times = λ k. times_of k beats;
+  ticks = ticks_of beats;
+}
 
--- no time is above a later one
+-- no time, and no place, is above a later one
 abbrev pub NeverFall : List ℕ → Type 0
 NeverFall [] = Unit {0}
 NeverFall (t ∷ ts) = AllByRecursion (λ s. t ≤ s) ts × NeverFall ts
@@ -81,6 +92,11 @@ pub record HaveTimes (inputs : Inputs) : Type 0 where
   pub each : (k : ℕ) → length (inputs.times k) ≡ length (inputs.rows k)
   pub order : (k : ℕ) → NeverFall (inputs.times k)
   pub last : (k : ℕ) → AllByRecursion (λ t. t ≤ inputs.ticks) (inputs.times k)
+
+-- each row of a stream has a place, in their order, and none is above a later one
+pub record HavePlaces (inputs : Inputs) : Type 0 where
+  pub each : (k : ℕ) → length (inputs.places k) ≡ length (inputs.rows k)
+  pub order : (k : ℕ) → NeverFall (inputs.places k)
 
 -- the cycle of the last beat
 abbrev pub last_cycle : List Beat → ℕ

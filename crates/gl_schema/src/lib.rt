@@ -18,7 +18,7 @@ pub mod schema;
 pub mod text;
 pub mod value;
 
-pub use beats::rows_have_times;
+pub use beats::{rows_have_places, rows_have_times};
 pub use fault::SchemaFault;
 pub use kind::{kind_front, kind_named, kind_size};
 pub use name::is_name;

@@ -19,6 +19,7 @@ same word.Current word.Current = refl
 same word.Row word.Row = refl
 same word.Lag word.Lag = refl
 same word.LastValue word.LastValue = refl
+same word.Arrival word.Arrival = refl
 same a b = refl
 
 pub returns : goal.returns

@@ -22,7 +22,8 @@ use Rattle.gl_query.specs.Accepted.{IsAcceptedOver, IsFilter, IsParted, IsRows}
 use Rattle.gl_query.specs.Laws.{scope_of}
 use Rattle.gl_query.specs.Results.{IsResultIn, columns_in, kept, only, ticks_in, times_in}
 use Rattle.gl_reference.specs.declared.answers.Answer.{Answer}
-use Rattle.gl_reference.specs.Sources.{env_view}
+use Rattle.gl_reference.specs.declared.arrivals.Arrived.{Arrived}
+use Rattle.gl_reference.specs.Sources.{HasArrived, env_view, placed_of}
 use Rattle.gl_reference.specs.Joins.{AreOverGroups, AreOverSlices, IsOverGroup}
 use Rattle.gl_reference.specs.Partitions.{table_parts}
 use Rattle.gl_reference.specs.Frames.{framed_rows, left_out}
@@ -30,13 +31,16 @@ use Rattle.gl_reference.specs.Fits.{AreAggs, AreFramesOf, AreRows, IsOrMemory}
 use Rattle.gl_reference.proofs.Fitting.{all_place, inside_fits, one_length, rows_fit}
 use Rattle.gl_reference.proofs.Passing.{each_passes, groups_pass, partitions_pass, passes}
 use Rattle.gl_reference.proofs.Joining.{joined_push, map_taken}
-use Rattle.gl_reference.proofs.Forms.{concat_made, each_made, frames_made, groups_made, partitions_made, union_made}
+use Rattle.gl_reference.proofs.Forms.{arrived_made, concat_made, each_made, frames_made, groups_made, partitions_made, union_made}
 use Rattle.gl_reference.proofs.results.+results.Goals as goal
 use Rattle.gl_reference.specs.declared.columns.Source.{Source as Given}
 
 -- a query is accepted over sources, and an answer is a result of a query over them
 abbrev Accepted : List Given → Bool → Query → Type 0
 Accepted sources timed q = IsAcceptedOver (scope_of (env_view sources) timed) (query_shape q)
+
+abbrev IsArrivedIn : List Given → Arrived → Query → Query → Type 0
+IsArrivedIn sources a l r = HasArrived sources (shape.ByArrival (query_shape l) (query_shape r)) a
 
 abbrev Gives : List Given → Answer → Query → Type 0
 Gives sources a q = IsResultIn (query_shape q) (env_view sources) a.rows a.spill
@@ -141,6 +145,25 @@ result_of-returns-in_ok-second-in-Union-clause-value t c =
     let made = IfOk-weaker c.union_of.result (λ (a : Answer). (a.rows ≡ first.rows ++ second.rows) × (a.spill ≡ (first.spill || second.spill))) (λ (a : Answer). IsResultIn (shape.Union (query_shape c.in-Union.left.value) (query_shape c.in-Union.right.value)) env a.rows a.spill)
     (λ (a : Answer) facts. union_made env (query_shape c.in-Union.left.value) (query_shape c.in-Union.right.value) first.rows second.rows a.rows first.spill second.spill a.spill l r facts) c.union_of.ensures.value in
     subst (λ (q : Query). IfOk c.union_of.result (λ a. IsResultIn (query_shape q) (env_view c.args.sources.now) a.rows a.spill)) (sym c.in-Union.is) made
+
+pub result_of-returns-in_ok-answer-in-ByArrival-clause-value : goal.result_of-returns-in_ok-answer-in-ByArrival-clause-value
+result_of-returns-in_ok-answer-in-ByArrival-clause-value t c =
+    let env = env_view c.args.sources.now in
+    let both = c.in_ok-both-in-ByArrival.both in
+    let r : IsArrivedIn c.args.sources.now both c.in-ByArrival.left.value c.deref-in-ByArrival-2.result.now =
+    subst (λ (q : Query). IsArrivedIn c.args.sources.now both q c.deref-in-ByArrival-2.result.now) c.deref-in-ByArrival.ensures c.in_ok-both-in-ByArrival.ensures.value in
+    let l : IsArrivedIn c.args.sources.now both c.in-ByArrival.left.value c.in-ByArrival.right.value =
+    subst (λ (q : Query). IsArrivedIn c.args.sources.now both c.in-ByArrival.left.value q) c.deref-in-ByArrival-2.ensures r in
+    let made = arrived_made env (query_shape c.in-ByArrival.left.value) (query_shape c.in-ByArrival.right.value) (map placed_of both.rows) c.in_ok-answer-in-ByArrival.answer.rows both.spill
+    c.in_ok-answer-in-ByArrival.answer.spill l c.in_ok-answer-in-ByArrival.ensures in
+    subst (λ (q : Query). IsResultIn (query_shape q) env c.in_ok-answer-in-ByArrival.answer.rows c.in_ok-answer-in-ByArrival.answer.spill) (sym c.in-ByArrival.is) made
+
+pub result_of-returns-in_err-both-in-ByArrival-clause-fits : goal.result_of-returns-in_err-both-in-ByArrival-clause-fits
+result_of-returns-in_err-both-in-ByArrival-clause-fits t c = λ timed s a.
+    let whole = subst (Accepted c.args.sources.now timed) c.in-ByArrival.is a in
+    let r = subst (λ (q : Query). IsAcceptedOver (scope_of (env_view c.args.sources.now) timed) (shape.ByArrival (query_shape c.in-ByArrival.left.value) (query_shape q))) (sym c.deref-in-ByArrival-2.ensures) whole in
+    let l = subst (λ (q : Query). IsAcceptedOver (scope_of (env_view c.args.sources.now) timed) (shape.ByArrival (query_shape q) (query_shape c.deref-in-ByArrival-2.result.now))) (sym c.deref-in-ByArrival.ensures) r in
+    passes _ c.from_residual-in_err-both-in-ByArrival.ensures.1 (λ y e. e ∙ c.in_err-both-in-ByArrival.ensures.fits timed s l)
 
 pub result_of-returns-in_ok-second-in-Concat-clause-value : goal.result_of-returns-in_ok-second-in-Concat-clause-value
 result_of-returns-in_ok-second-in-Concat-clause-value t c =

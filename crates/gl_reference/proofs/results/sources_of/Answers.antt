@@ -12,19 +12,23 @@ loop-i-preserved c =
     let s = c.index-streams-i.result in
     let rows = c.as_slice-in-loop-i-2.result.now in
     let inputs = c.args.inputs.now in
+    let places = c.args.places.now in
     let times = c.args.times.now in
     let ticks = c.args.ticks in
-    let clock = c.as_slice-in-loop-i-3.result.now in
+    let put_at = c.as_slice-in-loop-i-3.result.now in
+    let clock = c.as_slice-in-loop-i-4.result.now in
     let streams = c.args.streams.now in
-    let new : Given = record { name = c.as_slice.result; columns = c.as_slice-in-loop-i.result; rows = c.as_slice-in-loop-i-2.result; clock = Some (record { times = c.as_slice-in-loop-i-3.result; ticks = ticks }) } in
-    let named : List ℕ → Source = λ n. record { stream = record { name = n; columns = c.as_slice-in-loop-i.result.now }; rows = rows; times = clock; ticks = ticks } in
-    let lined : List Column → Source = λ k. record { stream = record { name = s.name; columns = k }; rows = rows; times = clock; ticks = ticks } in
-    let is : source_of new ≡ record { stream = s; rows = rows; times = clock; ticks = ticks } = ap named c.as_slice.ensures ∙ ap lined c.as_slice-in-loop-i.ensures in
+    let new : Given = record { name = c.as_slice.result; columns = c.as_slice-in-loop-i.result; rows = c.as_slice-in-loop-i-2.result; clock = Some (record { places = c.as_slice-in-loop-i-3.result; times = c.as_slice-in-loop-i-4.result; ticks = ticks }) } in
+    let named : List ℕ → Source = λ n. record { stream = record { name = n; columns = c.as_slice-in-loop-i.result.now }; rows = rows; places = put_at; times = clock; ticks = ticks } in
+    let lined : List Column → Source = λ k. record { stream = record { name = s.name; columns = k }; rows = rows; places = put_at; times = clock; ticks = ticks } in
+    let is : source_of new ≡ record { stream = s; rows = rows; places = put_at; times = clock; ticks = ticks } = ap named c.as_slice.ensures ∙ ap lined c.as_slice-in-loop-i.ensures in
     let within : i < length inputs = omega arith in
+    let put : i < length places = omega arith in
     let timely : i < length times = omega arith in
     let place : i ≡ 0 + i = omega arith in
-    let from = c.as_slice-in-loop-i-2.ensures ∙ input_is inputs i c.index-inputs-i.result within c.index-inputs-i.is ∙ ap (given_inputs inputs times ticks).rows place in
-    let at = c.as_slice-in-loop-i-3.ensures ∙ input_is times i c.index-times-i.result timely c.index-times-i.is ∙ ap (given_inputs inputs times ticks).times place in
-    let more = numbered_more 0 streams (given_inputs inputs times ticks) i s rows clock c.loop-i-test.true c.index-streams-i.is from at in
+    let from = c.as_slice-in-loop-i-2.ensures ∙ input_is inputs i c.index-inputs-i.result within c.index-inputs-i.is ∙ ap (given_inputs inputs places times ticks).rows place in
+    let placed = c.as_slice-in-loop-i-3.ensures ∙ input_is places i c.index-places-i.result put c.index-places-i.is ∙ ap (given_inputs inputs places times ticks).places place in
+    let at = c.as_slice-in-loop-i-4.ensures ∙ input_is times i c.index-times-i.result timely c.index-times-i.is ∙ ap (given_inputs inputs places times ticks).times place in
+    let more = numbered_more 0 streams (given_inputs inputs places times ticks) i s rows put_at clock c.loop-i-test.true c.index-streams-i.is from placed at in
     ap env_view c.in_ok-push.ensures.items ∙ env_push c.loop-i.out.items new ∙ ap (λ (l : List Source). l ++ source_of new ∷ []) c.loop-i.invariant
-    ∙ ap (λ (z : Source). numbered 0 (take i streams) (given_inputs inputs times ticks) ++ z ∷ []) is ∙ sym more
+    ∙ ap (λ (z : Source). numbered 0 (take i streams) (given_inputs inputs places times ticks) ++ z ∷ []) is ∙ sym more

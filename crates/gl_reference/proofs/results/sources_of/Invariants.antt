@@ -4,4 +4,4 @@ use Rattle.gl_reference.specs.Sources.{env_view, given_inputs}
 use Rattle.gl_reference.proofs.results.sources_of.Given as goal
 
 abbrev pub invariant-loop-i : goal.invariant-loop-i
-invariant-loop-i l = env_view l.out.items ≡ numbered 0 (take l.i l.streams) (given_inputs l.inputs l.times l.ticks)
+invariant-loop-i l = env_view l.out.items ≡ numbered 0 (take l.i l.streams) (given_inputs l.inputs l.places l.times l.ticks)

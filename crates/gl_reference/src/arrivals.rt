@@ -1,0 +1,213 @@
+//! Results of queries each of whose rows comes of one row that came: rows with their places.
+
+ghost use Rattle.std.specs.Prelude.{◌≡◌, Bool, IfOk, IsTrue, map, option_map};
+ghost use Rattle.gl_arrival.specs.Changes.{kept_at, mapped_at};
+ghost use Rattle.gl_arrival.specs.Places.{rows_of};
+ghost use Rattle.gl_query.specs.Accepted.{IsAcceptedOver, IsFilter, IsParted, IsRows};
+ghost use Rattle.gl_query.specs.Columns.{arrives};
+ghost use Rattle.gl_query.specs.Laws.{scope_of};
+ghost use Rattle.gl_query.specs.Results.{keeps, kept, picked};
+ghost use Rattle.gl_query.specs.Shapes.{expr_shape, frame_item_shape, pick_shape, query_shape, slots_shape};
+ghost use Rattle.gl_query.specs.Shapes as shape;
+ghost use Rattle.gl_reference.specs.Arrivals.{framed_in, rows_in, spills};
+ghost use Rattle.gl_reference.specs.Fits.{AreFramesOf, AreRows, AreSources, IsOrMemory};
+ghost use Rattle.gl_reference.specs.Sources.{HasArrived, env_view, placed_of};
+
+use crate::answers::Answer;
+use crate::columns::{Source, columns_of, source_named};
+use crate::frames::keys_of;
+use crate::placed::{
+    PlacedRow, framed_placed, kept_placed, keyed_placed, merged, picked_placed, placed_rows,
+    rows_alone,
+};
+use crate::rows::Fault;
+use gl_bits::{Listed, Memory};
+use gl_query::laws::{arrivals_are_results, results_fit};
+use gl_query::{Expr, FrameItem, Name, Pick, Query, Slots};
+use gl_schema::Column;
+use gl_values::lists::some_further;
+use std::alloc::Global;
+
+/// A result with places.
+#[derive(Drop, Debug)]
+pub struct Arrived {
+    /// The rows, in order.
+    pub rows: Listed<PlacedRow>,
+    /// Whether rows of further keys were left out.
+    pub spill: bool,
+}
+
+// The rows of a source, by its name.
+fn read_placed(alloc: Global, sources: &[Source<'_>], name: &Name) -> Result<Arrived, Fault>
+    ensures value { IfOk result (HasArrived sources.now (shape.Read name.now.text)) }
+    ensures fits { IsOrMemory result }
+{
+    let rows = match source_named(sources, name.text.as_slice()) {
+        Some(source) => placed_rows(alloc, source.rows, source.clock)?,
+        None => Listed::new(alloc),
+    };
+    Ok(Arrived { rows, spill: false })
+}
+
+// What frames make of rows at places.
+fn parted_placed(
+    alloc: Global,
+    columns: &[Column],
+    items: &[FrameItem],
+    slots: &Option<Slots>,
+    from: Arrived,
+) -> Result<Arrived, Fault>
+    ensures value { let parted = option_map slots_shape slots.now in IfOk result (λ a.
+        (map placed_of a.rows ≡ framed_in columns.now (map frame_item_shape items.now) parted
+        (map placed_of from.rows))
+        × (a.spill ≡ spills columns.now parted from.spill (rows_in from.rows))) }
+    ensures fits { AreFramesOf columns.now (map frame_item_shape items.now)
+        → IsParted columns.now (option_map slots_shape slots.now)
+        → AreRows columns.now (rows_in from.rows) → IsOrMemory result }
+{
+    let alone = rows_alone(alloc, from.rows.as_slice())?;
+    let unplaced = alone.as_slice();
+    let rows = from.rows.as_slice();
+    match slots {
+        None => {
+            let made = framed_placed(alloc, columns, items, unplaced, rows)?;
+            Ok(Arrived {
+                rows: made,
+                spill: from.spill,
+            })
+        }
+        Some(part) => {
+            let keys = keys_of(columns, part)?;
+            let made = keyed_placed(alloc, columns, items, keys, unplaced, rows)?;
+            let further = some_further(alloc, keys.most, keys.column, unplaced)?;
+            Ok(Arrived {
+                rows: made,
+                spill: from.spill || further,
+            })
+        }
+    }
+}
+
+// What frames make of the rows that a filter keeps of a result with these columns.
+fn frames_placed(
+    alloc: Global,
+    columns: &[Column],
+    items: &[FrameItem],
+    filter: &Option<Expr>,
+    slots: &Option<Slots>,
+    from: Arrived,
+) -> Result<Arrived, Fault>
+    ensures value { let parted = option_map slots_shape slots.now in
+        let condition = option_map expr_shape filter.now in IfOk result (λ a.
+        (map placed_of a.rows ≡ framed_in columns.now (map frame_item_shape items.now) parted
+        (kept_at (keeps columns.now condition) (map placed_of from.rows)))
+        × (a.spill
+        ≡ spills columns.now parted from.spill (kept columns.now condition (rows_in from.rows)))) }
+    ensures fits { AreFramesOf columns.now (map frame_item_shape items.now)
+        → IsFilter columns.now (option_map expr_shape filter.now)
+        → IsParted columns.now (option_map slots_shape slots.now)
+        → AreRows columns.now (rows_in from.rows) → IsOrMemory result }
+{
+    let kept = kept_placed(alloc, columns, filter, from.rows.as_slice())?;
+    let left = Arrived {
+        rows: kept,
+        spill: from.spill,
+    };
+    parted_placed(alloc, columns, items, slots, left)
+}
+
+// The rows that a filter keeps of a result with these columns, each picked.
+fn rows_placed(
+    alloc: Global,
+    columns: &[Column],
+    pick: &Pick,
+    filter: &Option<Expr>,
+    from: Arrived,
+) -> Result<Arrived, Fault>
+    ensures value { let condition = option_map expr_shape filter.now in IfOk result (λ a.
+        (map placed_of a.rows ≡ mapped_at (picked columns.now (pick_shape pick.now))
+        (kept_at (keeps columns.now condition) (map placed_of from.rows)))
+        × (a.spill ≡ from.spill)) }
+    ensures fits { IsRows columns.now (pick_shape pick.now) (option_map expr_shape filter.now)
+        → AreRows columns.now (rows_in from.rows) → IsOrMemory result }
+{
+    let kept = kept_placed(alloc, columns, filter, from.rows.as_slice())?;
+    let rows = picked_placed(alloc, columns, pick, kept.as_slice())?;
+    Ok(Arrived {
+        rows,
+        spill: from.spill,
+    })
+}
+
+/// The one result with places of a query; one that does not arrive has none.
+#[cycle(arrivals)]
+fn arrival_of(alloc: Global, sources: &[Source<'_>], query: &Query) -> Result<Arrived, Fault>
+    ensures value { IfOk result (HasArrived sources.now (query_shape query.now)) }
+    ensures fits { (timed : Bool) → IsTrue (arrives (query_shape query.now))
+        → AreSources (env_view sources.now)
+        → IsAcceptedOver (scope_of (env_view sources.now) timed) (query_shape query.now)
+        → IsOrMemory result }
+{
+    results_fit();
+    arrivals_are_results();
+    match query {
+        Query::Read(name) => read_placed(alloc, sources, name),
+        Query::Rows {
+            pick,
+            filter,
+            source,
+        } => {
+            let from = arrival_of(alloc, sources, source)?;
+            let columns = columns_of(alloc, sources, source)?;
+            rows_placed(alloc, columns.as_slice(), pick, filter, from)
+        }
+        Query::Frames {
+            items,
+            filter,
+            slots,
+            source,
+        } => {
+            let from = arrival_of(alloc, sources, source)?;
+            let columns = columns_of(alloc, sources, source)?;
+            let items = items.as_slice();
+            frames_placed(alloc, columns.as_slice(), items, filter, slots, from)
+        }
+        Query::ByArrival { left, right, .. } => by_arrival(alloc, sources, left, right),
+        _ => Err(Fault::Unfit),
+    }
+}
+
+/// The rows of two queries that arrive, in the order in which they came.
+#[cycle(arrivals)]
+pub fn by_arrival(
+    alloc: Global,
+    sources: &[Source<'_>],
+    left: &Query,
+    right: &Query,
+) -> Result<Arrived, Fault>
+    ensures value { IfOk result (HasArrived sources.now
+        (shape.ByArrival (query_shape left.now) (query_shape right.now))) }
+    ensures fits { (timed : Bool) → AreSources (env_view sources.now)
+        → IsAcceptedOver (scope_of (env_view sources.now) timed)
+        (shape.ByArrival (query_shape left.now) (query_shape right.now))
+        → IsOrMemory result }
+{
+    let first = arrival_of(alloc, sources, left)?;
+    let second = arrival_of(alloc, sources, right)?;
+    let rows = merged(alloc, first.rows.as_slice(), second.rows.as_slice())?;
+    Ok(Arrived {
+        rows,
+        spill: first.spill || second.spill,
+    })
+}
+
+/// A result without its places.
+pub fn without_places(alloc: Global, from: Arrived) -> Result<Answer, Memory>
+    ensures { IfOk result (λ a.
+        (a.rows ≡ rows_of (map placed_of from.rows)) × (a.spill ≡ from.spill)) }
+{
+    Ok(Answer {
+        rows: rows_alone(alloc, from.rows.as_slice())?,
+        spill: from.spill,
+    })
+}
