@@ -4,7 +4,7 @@ use Rattle.std.proofs.Math.Nat.{mul-pos, zero-mul}
 use Rattle.std.proofs.lemmas.Grind.{div_ceil_times}
 use Rattle.gl_algebra.specs.declared.figures.Figures.{Figures}
 use Rattle.gl_algebra.specs.declared.node.PlanNode.{PlanNode}
-use Rattle.gl_algebra.specs.declared.node.PlanNode.TheVariants.{Stream, Body, Compute, Select, Project, Frames, Aggregate, Union, Beside, Window, TimeWindow, Group, Partition}
+use Rattle.gl_algebra.specs.declared.node.PlanNode.TheVariants.{Stream, Body, Compute, Select, Project, Frames, Aggregate, Union, Merge, Beside, Window, TimeWindow, Group, Partition}
 use Rattle.gl_algebra.specs.Keys.{delay_by_key}
 use Rattle.gl_algebra.specs.Nodewise.{named_by}
 use Rattle.gl_algebra.specs.Shapes.{Shape, shape_from, shape_of, is_closing}
@@ -15,7 +15,7 @@ use Rattle.gl_bits.proofs.Bools.{and_parts}
 use Rattle.gl_algebra.proofs.NodewiseLemmas.{Agree, AreInOrder, SameSteps, agree, agree_self, nodewise-kept, nodewise-node, FollowsRow}
 use Rattle.gl_algebra.proofs.ShapeLemmas.{shape-kept, shape-node}
 use Rattle.gl_algebra.proofs.PlanLemmas.{in_order, by_nodes}
-use Rattle.gl_algebra.proofs.SoundLemmas.{settled_sound, delayed_sound, aggregate_sound, merged_sound, joined_sound, spaced_sound, windows_sound, groups_sound, partitions_sound}
+use Rattle.gl_algebra.proofs.SoundLemmas.{settled_sound, delayed_sound, aggregate_sound, merged_sound, turn_figures_sound, joined_sound, spaced_sound, windows_sound, groups_sound, partitions_sound}
 
 -- figures follow from the shapes and figures of the nodes that a node names
 pub figures_local : (s t : ℕ → Shape) (v w : ℕ → Figures) (node : PlanNode) → Agree s t (named_by node) → Agree v w (named_by node)
@@ -28,6 +28,7 @@ figures_local s t v w (Project child items) g h = ap (λ (x : Figures). settled 
 figures_local s t v w (Frames child by items) g h = rw (g.0, h.0)
 figures_local s t v w (Aggregate child aggs) g h = rw (g.0, h.0)
 figures_local s t v w (Union left right) g h = rw (h.0, h.1.0)
+figures_local s t v w (Merge left right) g h = rw (h.0, h.1.0)
 figures_local s t v w (Beside left right) g h = rw (h.0, h.1.0)
 figures_local s t v w (Window source body size advance) g h = rw (h.0, h.1.0)
 figures_local s t v w (TimeWindow source body size advance) g h = rw (h.0, h.1.0)
@@ -87,6 +88,7 @@ rows_keep_sound s f (Union left right) suits sound =
     merged_sound (delayed (wait_of (f left) (f right)) (f left)) (delayed (wait_of (f right) (f left)) (f right))
     (delayed_sound (wait_of (f left) (f right)) (f left) (sound 0 0 (lit< tt)))
     (delayed_sound (wait_of (f right) (f left)) (f right) (sound 1 0 (lit< tt)))
+rows_keep_sound s f (Merge left right) suits sound = turn_figures_sound (f left) (f right) (sound 0 0 (lit< tt)) (sound 1 0 (lit< tt))
 rows_keep_sound s f (Beside left right) suits sound =
     joined_sound (delayed (wait_of (f left) (f right)) (f left)) (delayed (wait_of (f right) (f left)) (f right))
     (delayed_sound (wait_of (f left) (f right)) (f left) (sound 0 0 (lit< tt)))
@@ -164,6 +166,7 @@ rows_wait s f (Aggregate child aggs) wait closing = refl
 rows_wait s f (Union left right) wait closing =
     let sides = and_parts (s left).closing (s right).closing closing in
     rw (wait 0 0 (lit< tt) sides.0, wait 1 0 (lit< tt) sides.1)
+rows_wait s f (Merge left right) wait closing = absurd (cc)
 rows_wait s f (Beside left right) wait closing =
     let sides = and_parts (s left).closing (s right).closing closing in
     joined-nt (delayed (wait_of (f left) (f right)) (f left)) (delayed (wait_of (f right) (f left)) (f right)) (wait 0 0 (lit< tt) sides.0)

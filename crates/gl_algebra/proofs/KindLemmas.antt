@@ -16,7 +16,7 @@ use Rattle.gl_algebra.specs.declared.node.PlanFrame.TheVariants.{Own, Lag, Over}
 use Rattle.gl_algebra.specs.declared.node.PlanFrameAgg.{PlanFrameAgg}
 use Rattle.gl_algebra.specs.declared.node.PlanFrameAgg.TheVariants as over
 use Rattle.gl_algebra.specs.declared.node.PlanNode.{PlanNode}
-use Rattle.gl_algebra.specs.declared.node.PlanNode.TheVariants.{Stream, Body, Compute, Select, Project, Frames, Aggregate, Union, Beside, Window, TimeWindow, Group, Partition}
+use Rattle.gl_algebra.specs.declared.node.PlanNode.TheVariants.{Stream, Body, Compute, Select, Project, Frames, Aggregate, Union, Merge, Beside, Window, TimeWindow, Group, Partition}
 use Rattle.gl_algebra.specs.Columns.{bit_kind, kind_of_column, kind_of_operand, kind_of_op, kind_of_agg, kind_of_frame, kind_of_frame_agg, OperandFits, OpFits, AggFits, FrameAggFits, FrameFits}
 use Rattle.gl_algebra.specs.Fits.{Suits}
 use Rattle.gl_algebra.specs.Laws.{ColumnsHaveKinds}
@@ -79,6 +79,7 @@ row_is s (Aggregate child aggs) suits are =
     let own = are 0 0 (lit< tt) in
     mapped_are (s child).kinds own (kind_of_agg (s child).kinds) (AggFits (s child).kinds) (agg_is (s child).kinds own) aggs suits
 row_is s (Union left right) suits are = are 0 0 (lit< tt)
+row_is s (Merge left right) suits are = are 0 0 (lit< tt)
 row_is s (Beside left right) suits are =
     All-append IsKind (s left).kinds (s right).kinds (are 0 0 (lit< tt)) (are 1 0 (lit< tt))
 row_is s (Window source body size advance) suits are = are 1 0 (lit< tt)

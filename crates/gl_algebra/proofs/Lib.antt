@@ -13,4 +13,5 @@ pub mod ExponentLemmas
 pub mod KindLemmas
 pub mod PaceLemmas
 pub mod ReadLemmas
+pub mod OrderLemmas
 pub mod CallerLemmas

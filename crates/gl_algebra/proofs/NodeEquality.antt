@@ -38,7 +38,7 @@ use Rattle.gl_algebra.specs.contracts.node.PlanFrameAggPartialEq.TheImpl as OfPl
 use Rattle.gl_algebra.specs.declared.node.PlanKey.{PlanKey}
 use Rattle.gl_algebra.specs.contracts.node.PlanKeyPartialEq.TheImpl as OfPlanKey
 use Rattle.gl_algebra.specs.declared.node.PlanNode.{PlanNode}
-use Rattle.gl_algebra.specs.declared.node.PlanNode.TheVariants.{Stream, Body, Compute, Select, Project, Frames, Aggregate, Union, Beside, Window, TimeWindow, Group, Partition}
+use Rattle.gl_algebra.specs.declared.node.PlanNode.TheVariants.{Stream, Body, Compute, Select, Project, Frames, Aggregate, Union, Merge, Beside, Window, TimeWindow, Group, Partition}
 use Rattle.gl_algebra.specs.contracts.node.PlanNodeEq.TheImpl.Laws as PlanNodeLaws
 
 -- a test that holds of one thing alone, and of each thing and itself, decides
@@ -175,6 +175,9 @@ same_node-is (Aggregate c o) (Aggregate d p) h =
 same_node-is (Union a b) (Union c d) h =
     let parts = and_parts (nat_eq a c) (nat_eq b d) h in
     λ i. Union (number a c parts.0 i) (number b d parts.1 i)
+same_node-is (Merge a b) (Merge c d) h =
+    let parts = and_parts (nat_eq a c) (nat_eq b d) h in
+    λ i. Merge (number a c parts.0 i) (number b d parts.1 i)
 same_node-is (Beside a b) (Beside c d) h =
     let parts = and_parts (nat_eq a c) (nat_eq b d) h in
     λ i. Beside (number a c parts.0 i) (number b d parts.1 i)

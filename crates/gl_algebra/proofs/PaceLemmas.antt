@@ -3,7 +3,7 @@ use Rattle.std.proofs.Common.{◌≡◌, ℕ, zero, suc, true, false, ◌&&◌, 
 use Rattle.std.proofs.lemmas.Bool.{eq-eqb}
 use Rattle.gl_algebra.specs.declared.figures.Figures.{Figures}
 use Rattle.gl_algebra.specs.declared.node.PlanNode.{PlanNode}
-use Rattle.gl_algebra.specs.declared.node.PlanNode.TheVariants.{Stream, Body, Compute, Select, Project, Frames, Aggregate, Union, Beside, Window, TimeWindow, Group, Partition}
+use Rattle.gl_algebra.specs.declared.node.PlanNode.TheVariants.{Stream, Body, Compute, Select, Project, Frames, Aggregate, Union, Merge, Beside, Window, TimeWindow, Group, Partition}
 use Rattle.gl_algebra.specs.FigureTable.{delayed, settled, last_of, is_fixed, in_step, at_end, joined, wait_of, beside_figures, figures_from, figures_of}
 use Rattle.gl_algebra.specs.Fits.{Suits}
 use Rattle.gl_algebra.specs.Frames.{delay_of_frames}
@@ -97,6 +97,7 @@ row_paced shapes figures (Frames child None items) suits h =
     settled_pace (shapes child).pace (delayed delay (figures child)) (delayed_pace delay (shapes child).pace (figures child) (h 0 0 (lit< tt)))
 row_paced shapes figures (Aggregate child aggs) suits h = record { tuples = refl; end_tuples = refl }
 row_paced shapes figures (Union left right) suits h = tt
+row_paced shapes figures (Merge left right) suits h = tt
 row_paced shapes figures (Beside left right) suits h =
     beside_pace (shapes left).pace (figures left) (figures right) (h 0 0 (lit< tt))
     (subst (λ pace. PaceFixes pace (figures right)) (sym suits.0) (h 1 0 (lit< tt)))

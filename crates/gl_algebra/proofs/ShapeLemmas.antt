@@ -1,7 +1,7 @@
 -- Shapes and fitting: later nodes change neither.
 use Rattle.std.proofs.Common.{◌≡◌, ℕ, ◌<◌, ◌≤◌, List, Some, slice_get, All, refl, ap, ◌∙◌, subst, arith, lit<}
 use Rattle.gl_algebra.specs.declared.node.PlanNode.{PlanNode}
-use Rattle.gl_algebra.specs.declared.node.PlanNode.TheVariants.{Stream, Body, Compute, Select, Project, Frames, Aggregate, Union, Beside, Window, TimeWindow, Group, Partition}
+use Rattle.gl_algebra.specs.declared.node.PlanNode.TheVariants.{Stream, Body, Compute, Select, Project, Frames, Aggregate, Union, Merge, Beside, Window, TimeWindow, Group, Partition}
 use Rattle.gl_algebra.specs.Columns.{bit_kind, OpFits, OperandFits, AggFits, FrameFits}
 use Rattle.gl_algebra.specs.Nodewise.{named_by}
 use Rattle.gl_algebra.specs.Shapes.{Shape, no_shape, shape_from, shape_of}
@@ -19,6 +19,7 @@ module _ (s t : ℕ → Shape) where
   shape_local (Frames child by items) h = ap (λ (x : Shape). shape_from (λ _. x) (Frames child by items)) h.0
   shape_local (Aggregate child aggs) h = ap (λ (x : Shape). shape_from (λ _. x) (Aggregate child aggs)) h.0
   shape_local (Union left right) h = rw (h.0, h.1.0)
+  shape_local (Merge left right) h = rw (h.0, h.1.0)
   shape_local (Beside left right) h = rw (h.0, h.1.0)
   shape_local (Window source body size advance) h = rw (h.0, h.1.0)
   shape_local (TimeWindow source body size advance) h = rw (h.0, h.1.0)
@@ -35,6 +36,7 @@ module _ (s t : ℕ → Shape) where
   suits_local (Frames child by items) h suits = subst (λ (x : Shape). All (FrameFits x.kinds) items × KeyFits x.kinds by) h.0 suits
   suits_local (Aggregate child aggs) h suits = subst (λ (x : Shape). All (AggFits x.kinds) aggs) h.0 suits
   suits_local (Union left right) h suits = rw (← h.0, ← h.1.0) suits
+  suits_local (Merge left right) h suits = rw (← h.0, ← h.1.0) suits
   suits_local (Beside left right) h suits = rw (← h.0, ← h.1.0) suits
   suits_local (Window source body size advance) h suits = rw (← h.0, ← h.1.0) suits
   suits_local (TimeWindow source body size advance) h suits = rw (← h.0, ← h.1.0) suits

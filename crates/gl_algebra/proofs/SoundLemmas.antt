@@ -1,10 +1,10 @@
 -- Every row of the table gives sound figures from sound ones.
-use Rattle.std.proofs.Common.{ℕ, zero, suc, ◌+◌, ◌-◌, ◌*◌, ◌<◌, ◌≤◌, max, true, false, ◌&&◌, cond, nat_lt, arith}
+use Rattle.std.proofs.Common.{◌≡◌, ℕ, zero, suc, ◌+◌, ◌-◌, ◌*◌, ◌<◌, ◌≤◌, max, true, false, ◌&&◌, cond, nat_lt, arith}
 use Rattle.std.proofs.Math.Nat.{mul-le-mul_right, mul-pos}
 use borrow.Author.Tests.{ltb-true}
 use Rattle.gl_bits.proofs.Bools.{and_left, by_cases}
 use Rattle.gl_algebra.specs.declared.figures.Figures.{Figures}
-use Rattle.gl_algebra.specs.FigureTable.{IsSound, last_of, settled, delayed, aggregate_figures, merged, is_fixed, in_step, at_end, joined, spacer_figures, spaced, needs_spacer, windows_over, groups_over, partitions_over}
+use Rattle.gl_algebra.specs.FigureTable.{IsSound, last_of, settled, delayed, aggregate_figures, merged, left_wait, right_wait, in_turn, turn_figures, is_fixed, in_step, at_end, joined, spacer_figures, spaced, needs_spacer, windows_over, groups_over, partitions_over}
 
 -- the last cycle lies between the first and the one without the rule for no tuples
 last_of-least : (tuples first last : ℕ) → first ≤ last → first ≤ last_of tuples first last
@@ -70,6 +70,21 @@ merged_sound p q sound sound' =
       end_gap = omega arith;
       gaps = omega arith;
     }
+
+in_turn_sound : (p q : Figures) → IsSound p → IsSound q → p.le + 1 ≡ q.a → IsSound (in_turn p q)
+in_turn_sound p q sound sound' behind = record {
+  tuples_last = omega (arith, behind, sound.tuples_last, sound.end_last, sound'.tuples_last);
+  end_last = omega (arith, sound'.end_last);
+  tuples = omega (arith, sound.tuples, sound'.tuples);
+  some = omega (arith, sound.some);
+  tuples_gap = omega arith;
+  end_gap = omega arith;
+  gaps = omega (arith, sound.gaps, sound'.gaps, sound'.end_last);
+}
+
+pub turn_figures_sound : (p q : Figures) → IsSound p → IsSound q → IsSound (turn_figures p q)
+turn_figures_sound p q sound sound' =
+    in_turn_sound (delayed (left_wait p q) p) (delayed (right_wait p q) q) (delayed_sound (left_wait p q) p sound) (delayed_sound (right_wait p q) q sound') (omega arith)
 
 in_step_sound : (p q : Figures) → IsSound p → IsSound q → IsSound (in_step p q)
 in_step_sound p q sound sound' = record {

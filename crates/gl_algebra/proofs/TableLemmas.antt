@@ -2,7 +2,7 @@
 use Rattle.std.proofs.Common.{◌≡◌, ℕ, ◌<◌, List, ◌++◌, length, Some, slice_get, refl, sym, arith}
 use Rattle.gl_algebra.specs.declared.figures.Figures.{Figures}
 use Rattle.gl_algebra.specs.declared.node.PlanNode.{PlanNode}
-use Rattle.gl_algebra.specs.declared.node.PlanNode.TheVariants.{Stream, Body, Compute, Select, Project, Frames, Aggregate, Union, Beside, Window, TimeWindow, Group, Partition}
+use Rattle.gl_algebra.specs.declared.node.PlanNode.TheVariants.{Stream, Body, Compute, Select, Project, Frames, Aggregate, Union, Merge, Beside, Window, TimeWindow, Group, Partition}
 use Rattle.gl_algebra.specs.FigureTable.{figures_of}
 use Rattle.gl_algebra.specs.Laws.{NodesFollowTables, EarlierNodesAreKept}
 use Rattle.gl_algebra.specs.Nodewise.{named_by}
@@ -15,7 +15,7 @@ use Rattle.gl_algebra.proofs.FigureLemmas.{figures-node, figures-kept}
 use Rattle.gl_algebra.proofs.ListLemmas.{get-append}
 use Rattle.gl_algebra.proofs.NodewiseLemmas.{Agree, AreInOrder, agree, agree_self, nodewise-kept, nodewise-node}
 use Rattle.gl_algebra.proofs.PlanLemmas.{in_order}
-use Rattle.gl_algebra.proofs.ResultLemmas.{meaning-node, meaning-kept, moved}
+use Rattle.gl_algebra.proofs.ResultLemmas.{arriving-node, arriving-kept, meaning-node, meaning-kept, moved, moved_in_place}
 use Rattle.gl_algebra.proofs.ShapeLemmas.{shape-node, shape-kept}
 
 weight_local : (s t : ℕ → Shape) (f g : ℕ → Figures) (v w : ℕ → ℕ) (node : PlanNode)
@@ -29,6 +29,7 @@ weight_local s t f g v w (Project child items) a b c = rw (a.0, c.0)
 weight_local s t f g v w (Frames child by items) a b c = rw (a.0, c.0)
 weight_local s t f g v w (Aggregate child aggs) a b c = rw (a.0, c.0)
 weight_local s t f g v w (Union left right) a b c = rw (a.0, b.0, b.1.0, c.0, c.1.0)
+weight_local s t f g v w (Merge left right) a b c = rw (a.0, b.0, b.1.0, c.0, c.1.0)
 weight_local s t f g v w (Beside left right) a b c = rw (a.0, a.1.0, b.0, b.1.0, c.0, c.1.0)
 weight_local s t f g v w (Window source body size advance) a b c = rw (a.0, a.1.0, b.0, b.1.0, c.0, c.1.0)
 weight_local s t f g v w (TimeWindow source body size advance) a b c = rw (a.0, a.1.0, b.0, b.1.0, c.0, c.1.0)
@@ -44,6 +45,7 @@ copies_local v w (Project child items) h = rw h.0
 copies_local v w (Frames child by items) h = rw h.0
 copies_local v w (Aggregate child aggs) h = rw h.0
 copies_local v w (Union left right) h = rw (h.0, h.1.0)
+copies_local v w (Merge left right) h = rw (h.0, h.1.0)
 copies_local v w (Beside left right) h = rw (h.0, h.1.0)
 copies_local v w (Window source body size advance) h = rw (h.0, h.1.0)
 copies_local v w (TimeWindow source body size advance) h = rw (h.0, h.1.0)
@@ -60,6 +62,7 @@ lean_local s f o v w (Project child items) h = rw h.0
 lean_local s f o v w (Frames child by items) h = rw h.0
 lean_local s f o v w (Aggregate child aggs) h = rw h.0
 lean_local s f o v w (Union left right) h = rw (h.0, h.1.0)
+lean_local s f o v w (Merge left right) h = rw (h.0, h.1.0)
 lean_local s f o v w (Beside left right) h = rw (h.0, h.1.0)
 lean_local s f o v w (Window source body size advance) h = rw (h.0, h.1.0)
 lean_local s f o v w (TimeWindow source body size advance) h = rw (h.0, h.1.0)
@@ -75,6 +78,7 @@ form_local s v w (Project child items) h = rw h.0
 form_local s v w (Frames child by items) h = refl
 form_local s v w (Aggregate child aggs) h = rw h.0
 form_local s v w (Union left right) h = refl
+form_local s v w (Merge left right) h = refl
 form_local s v w (Beside left right) h = refl
 form_local s v w (Window source body size advance) h = refl
 form_local s v w (TimeWindow source body size advance) h = refl
@@ -90,6 +94,7 @@ keys_local s o v w (Project child items) h = rw h.0
 keys_local s o v w (Frames child by items) h = rw h.0
 keys_local s o v w (Aggregate child aggs) h = rw h.0
 keys_local s o v w (Union left right) h = rw (h.0, h.1.0)
+keys_local s o v w (Merge left right) h = rw (h.0, h.1.0)
 keys_local s o v w (Beside left right) h = rw (h.0, h.1.0)
 keys_local s o v w (Window source body size advance) h = rw (h.0, h.1.0)
 keys_local s o v w (TimeWindow source body size advance) h = rw (h.0, h.1.0)
@@ -106,6 +111,7 @@ store_local s f o v w (Project child items) h = rw h.0
 store_local s f o v w (Frames child by items) h = rw h.0
 store_local s f o v w (Aggregate child aggs) h = rw h.0
 store_local s f o v w (Union left right) h = rw (h.0, h.1.0)
+store_local s f o v w (Merge left right) h = rw (h.0, h.1.0)
 store_local s f o v w (Beside left right) h = rw (h.0, h.1.0)
 store_local s f o v w (Window source body size advance) h = rw (h.0, h.1.0)
 store_local s f o v w (TimeWindow source body size advance) h = rw (h.0, h.1.0)
@@ -156,6 +162,7 @@ nodes_follow_tables nodes number node plan is =
     let within = slice_get_within nodes number node is in
     let order = in_order nodes plan (length nodes) in
     let meaning = meaning-node nodes (length nodes) order number node within is in
+    let arriving = arriving-node nodes (length nodes) order number node within is in
     record {
       shape = shape-node nodes (length nodes) order number node within is;
       figures = figures-node nodes (length nodes) order number node within is;
@@ -165,6 +172,7 @@ nodes_follow_tables nodes number node plan is =
       lean = lean-node nodes (length nodes) order number node within is;
       keys = keys-node nodes (length nodes) order number node within is;
       store = store-node nodes (length nodes) order number node within is;
+      arrivals = λ inputs out spill. (moved_in_place _ _ arriving inputs out spill, moved_in_place _ _ (sym arriving) inputs out spill);
       results = λ inputs out spill. (moved _ _ meaning inputs out spill, moved _ _ (sym meaning) inputs out spill);
     }
 
@@ -193,10 +201,12 @@ earlier_nodes_are_kept nodes more number plan within =
     let order = in_order nodes plan (length nodes) in
     let kept = get-append nodes more in
     let meaning = meaning-kept nodes (nodes ++ more) (length nodes) order kept number within in
+    let arriving = arriving-kept nodes (nodes ++ more) (length nodes) order kept number within in
     record {
       shape = sym (shape-kept nodes (nodes ++ more) (length nodes) order kept number within);
       figures = sym (figures-kept nodes (nodes ++ more) (length nodes) order kept number within);
       weight = sym (weight-kept nodes (nodes ++ more) (length nodes) order kept number within);
       copies = sym (copies-kept nodes (nodes ++ more) (length nodes) order kept number within);
+      arrivals = λ inputs out spill. (moved_in_place _ _ (sym arriving) inputs out spill, moved_in_place _ _ arriving inputs out spill);
       results = λ inputs out spill. (moved _ _ (sym meaning) inputs out spill, moved _ _ meaning inputs out spill);
     }

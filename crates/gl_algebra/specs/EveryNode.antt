@@ -40,12 +40,12 @@ sums = Sum (Column 0) ∷ []
 
 -- a stream of one number gives a row in step with itself and waits for no end
 abbrev pub of_stream : Shape
-of_stream = record { kinds = number; closing = false; pace = with_stream 0; leaves = Stream 0 number ∷ [] }
+of_stream = record { kinds = number; closing = false; pace = with_stream 0; arrives = true; leaves = Stream 0 number ∷ [] }
 
 -- a filtered body input gives a number and a bit, at no steady pace
 abbrev pub of_choice : Shape
-of_choice = record { kinds = number_and_bit; closing = false; pace = unsteady; leaves = Body number ∷ [] }
+of_choice = record { kinds = number_and_bit; closing = false; pace = unsteady; arrives = true; leaves = Body number ∷ [] }
 
 -- sums over a body input are one row of a number, and come with the end
 abbrev pub of_sums : Shape
-of_sums = record { kinds = number; closing = true; pace = once; leaves = Body number ∷ [] }
+of_sums = record { kinds = number; closing = true; pace = once; arrives = false; leaves = Body number ∷ [] }

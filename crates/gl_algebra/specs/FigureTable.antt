@@ -4,7 +4,7 @@ use Rattle.gl_values.specs.Kinds.{width_of}
 use Rattle.gl_values.specs.declared.kind.Kind.{Kind}
 use Rattle.gl_algebra.specs.declared.figures.Figures.{Figures}
 use Rattle.gl_algebra.specs.declared.node.PlanNode.{PlanNode}
-use Rattle.gl_algebra.specs.declared.node.PlanNode.TheVariants.{Stream, Body, Compute, Select, Project, Frames, Aggregate, Union, Beside, Window, TimeWindow, Group, Partition}
+use Rattle.gl_algebra.specs.declared.node.PlanNode.TheVariants.{Stream, Body, Compute, Select, Project, Frames, Aggregate, Union, Merge, Beside, Window, TimeWindow, Group, Partition}
 use Rattle.gl_algebra.specs.declared.node.PlanAgg.{PlanAgg}
 use Rattle.gl_algebra.specs.declared.node.PlanAgg.TheVariants.{Count, Sum, Min, Max, Avg, Wsum}
 use Rattle.gl_algebra.specs.Columns.{kind_of_operand}
@@ -105,6 +105,39 @@ merged p q =
 -- the side that begins earlier waits for the other, and both are merged one tuple a cycle
 abbrev pub union_figures : Figures → Figures → Figures
 union_figures p q = merged (delayed (wait_of p q) p) (delayed (wait_of q p) q)
+
+-- the cycles by which the left side waits: its interval is over in the cycle before the right side's begins, at least
+abbrev pub left_wait : Figures → Figures → ℕ
+left_wait p q = q.a - (p.le + 1)
+
+-- the cycles by which the right side waits: its interval begins in the cycle behind the last one of the left side's, at
+-- least
+abbrev pub right_wait : Figures → Figures → ℕ
+right_wait p q = p.le + 1 - q.a
+
+-- the cycles that either side waits; for one of them they are 0
+abbrev pub waits : Figures → Figures → ℕ
+waits p q = left_wait p q + right_wait p q
+
+-- two sides, the right one's interval behind the left one's: a cycle later, and the end is the right side's
+abbrev pub in_turn : Figures → Figures → Figures
+in_turn p q =
+    let a = p.a + 1 in
+    let lt = q.lt + 1 in
+    let le = q.le + 1 in
+    record {
+      a = a;
+      lt = lt;
+      le = le;
+      nt = p.nt + q.nt;
+      ne = p.ne + q.ne;
+      gt = max (max p.gt q.gt) (lt - a + 1);
+      ge = max (max p.ge q.ge) (le - a + 1);
+    }
+
+-- one side waits until the right one's interval begins in the cycle behind the left one's, and both take turns
+abbrev pub turn_figures : Figures → Figures → Figures
+turn_figures p q = in_turn (delayed (left_wait p q) p) (delayed (right_wait p q) q)
 
 -- each tuple and end comes a fixed time after its beat
 abbrev pub is_fixed : Figures → Bool
@@ -255,6 +288,7 @@ figures_from shapes figures (Frames child by items) =
 figures_from shapes figures (Aggregate child aggs) =
     aggregate_figures (delay_of_aggs (shapes child).kinds aggs) (figures child)
 figures_from shapes figures (Union left right) = union_figures (figures left) (figures right)
+figures_from shapes figures (Merge left right) = turn_figures (figures left) (figures right)
 figures_from shapes figures (Beside left right) = beside_figures (figures left) (figures right)
 figures_from shapes figures (Window source body size advance) =
     window_figures (copies_of_window size advance) (figures source) (figures body)

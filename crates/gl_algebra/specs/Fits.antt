@@ -1,12 +1,12 @@
 -- When a node fits a plan, and what a plan is.
-use Rattle.std.specs.Prelude.{ℕ, ◌≡◌, ◌≢◌, ◌<◌, ◌≤◌, List, length, slice_get, Option, Some, None, All, IsTrue}
+use Rattle.std.specs.Prelude.{ℕ, ◌≡◌, ◌≢◌, ◌<◌, ◌≤◌, ◌&&◌, List, length, slice_get, Option, Some, None, All, IsTrue}
 use Rattle.gl_bits.specs.Limits.{most_copies, most_groups, most_rows, most_windows}
 use Rattle.gl_values.specs.Kinds.{IsKind}
 use Rattle.gl_values.specs.declared.kind.Kind.{Kind}
 use Rattle.gl_frames.specs.Results.{most_slots}
 use Rattle.gl_algebra.specs.declared.node.PlanKey.{PlanKey}
 use Rattle.gl_algebra.specs.declared.node.PlanNode.{PlanNode}
-use Rattle.gl_algebra.specs.declared.node.PlanNode.TheVariants.{Stream, Body, Compute, Select, Project, Frames, Aggregate, Union, Beside, Window, TimeWindow, Group, Partition}
+use Rattle.gl_algebra.specs.declared.node.PlanNode.TheVariants.{Stream, Body, Compute, Select, Project, Frames, Aggregate, Union, Merge, Beside, Window, TimeWindow, Group, Partition}
 use Rattle.gl_algebra.specs.Columns.{bit_kind, OperandFits, OpFits, AggFits, FrameFits}
 use Rattle.gl_algebra.specs.Nodewise.{named_by}
 use Rattle.gl_algebra.specs.Shapes.{Shape, unsteady, shape_of, kinds_of}
@@ -38,6 +38,8 @@ Suits shapes (Frames child by items) =
     All (FrameFits (shapes child).kinds) items × KeyFits (shapes child).kinds by
 Suits shapes (Aggregate child aggs) = All (AggFits (shapes child).kinds) aggs
 Suits shapes (Union left right) = (shapes left).kinds ≡ (shapes right).kinds
+Suits shapes (Merge left right) =
+    ((shapes left).kinds ≡ (shapes right).kinds) × IsTrue ((shapes left).arrives && (shapes right).arrives)
 Suits shapes (Beside left right) = ((shapes left).pace ≡ (shapes right).pace) × ((shapes left).pace ≢ unsteady)
 Suits shapes (Window source body size advance) =
     IsBodyFor (shapes source) (shapes body)

@@ -12,13 +12,14 @@ use Rattle.gl_algebra.specs.Rings.{digits, ring}
 abbrev pub width_of_key : List Kind → PlanKey → ℕ
 width_of_key kinds by = width_of (kind_of_column kinds by.key)
 
--- what a look-up takes, by which of three it is: keys of at most 10 bits have a map of all keys, other keys of at most
--- 64 groups have all slots looked at in one cycle, and the others have a tree
+-- what a look-up counts, one of three: keys of at most 10 bits have a map of all keys, and other keys have all slots
+-- looked at in one cycle. Of those with more than 64 groups a tree of keys is counted: their rows wait as long as it
+-- would take
 abbrev pub by_look_up : ℕ → ℕ → ℕ → ℕ → ℕ → ℕ
 by_look_up width groups of_map of_slots of_tree =
     if nat_le width 10 then of_map else (if nat_le groups 64 then of_slots else of_tree)
 
--- the levels of a tree of keys of so many bits, two bits each
+-- the levels that a tree of keys of so many bits would have, two bits each
 abbrev pub levels_of : ℕ → ℕ
 levels_of width = (width + 1) / 2
 
@@ -36,7 +37,8 @@ delay_by_key kinds (Some by) items =
 abbrev pub weight_of_look_up : ℕ → ℕ → ℕ
 weight_of_look_up width groups = 16 * groups + by_look_up width groups 160 96 (80 * levels_of width)
 
--- the words of a look-up: of a map one for each key and one for each slot, of a tree one for each slot on each level
+-- the words that are counted of a look-up: of a map one for each key and one for each slot, of a tree one for each slot
+-- on each level
 abbrev pub words_of_look_up : ℕ → ℕ → ℕ
 words_of_look_up width groups = by_look_up width groups (2 ^ width + ring groups) 0 (levels_of width * ring groups)
 
@@ -44,8 +46,8 @@ words_of_look_up width groups = by_look_up width groups (2 ^ width + ring groups
 abbrev pub slot_bits : ℕ → ℕ
 slot_bits groups = digits (ring groups - 1)
 
--- the bits of these words: a map has the slot of each key and the key of each slot, and a tree has four places of the
--- next level, each with a bit that tells whether it is there
+-- the bits of these words: a map has the slot of each key and the key of each slot. A tree would have four places of
+-- the next level, each with a bit that tells whether it is there
 abbrev pub store_of_look_up : ℕ → ℕ → ℕ
 store_of_look_up width groups =
     by_look_up width groups (2 ^ width * slot_bits groups + ring groups * width) 0

@@ -3,6 +3,9 @@ use Rattle.std.specs.Prelude.{ℕ, ◌≡◌, ◌<◌, ◌≤◌, ◌↔◌, Boo
 use Rattle.std.specs.List.{list_any}
 use Rattle.gl_values.specs.Kinds.{IsKind}
 use Rattle.gl_values.specs.declared.kind.Kind.{Kind}
+use Rattle.gl_arrival.specs.Changes.{moved}
+use Rattle.gl_arrival.specs.Laws.{Rises}
+use Rattle.gl_arrival.specs.Places.{Placed, at_places}
 use Rattle.gl_algebra.specs.declared.figures.Figures.{Figures}
 use Rattle.gl_algebra.specs.declared.node.PlanNode.{PlanNode}
 use Rattle.gl_algebra.specs.declared.node.PlanNode.TheVariants.{Body, Union}
@@ -10,7 +13,7 @@ use Rattle.gl_algebra.specs.FigureTable.{IsSound, figures_from, figures_of, spac
 use Rattle.gl_algebra.specs.Fits.{Suits, IsPlan}
 use Rattle.gl_algebra.specs.Nodewise.{named_by, nodewise}
 use Rattle.gl_values.specs.Results.{Row, AreSame}
-use Rattle.gl_algebra.specs.Results.{Inputs, meaning_from, IsPlanResult}
+use Rattle.gl_algebra.specs.Results.{Inputs, arriving_from, meaning_from, IsPlanArrival, IsPlanResult}
 use Rattle.gl_algebra.specs.Shapes.{Shape, kinds_of, Pace, unsteady, once, with_stream, with_body, shape_from, shape_of, is_closing}
 use Rattle.gl_algebra.specs.Cost.{keys_from, keys_of, lean_from, lean_of, store_from, store_of}
 use Rattle.gl_algebra.specs.Direct.{form_from, form_of}
@@ -60,25 +63,49 @@ abbrev pub PacesFixFigures : Type 0
 PacesFixFigures = (nodes : List PlanNode) (number : ℕ) → IsPlan nodes → number < length nodes
     → PaceFixes (shape_of nodes number).pace (figures_of nodes number)
 
--- a node all of whose leaves are a body's input has the same results for all inputs that give a body the same rows
+-- inputs that give a body the same rows at the same places
+pub record HaveSameBody (inputs others : Inputs) : Type 0 where
+  pub rows : inputs.body ≡ others.body
+  pub places : inputs.body_places ≡ others.body_places
+
+-- a node all of whose leaves are a body's input has the same results for all inputs that give a body the same rows at
+-- the same places
 abbrev pub BodiesReadTheirInput : Type 0
 BodiesReadTheirInput = (nodes : List PlanNode) (number : ℕ) → IsPlan nodes → number < length nodes
     → (kinds : List Kind) → All (λ leaf. leaf ≡ Body kinds) (shape_of nodes number).leaves
-    → (inputs others : Inputs) → inputs.body ≡ others.body
+    → (inputs others : Inputs) → HaveSameBody inputs others
     → (out : List Row) (spill : Bool) → IsPlanResult nodes number inputs out spill
     → IsPlanResult nodes number others out spill
 
--- inputs that give the same rows, whatever their times and ticks are
+-- inputs that give the same rows at the same places, whatever their times and ticks are
 pub record HaveSameRows (inputs others : Inputs) : Type 0 where
   pub streams : (number : ℕ) → inputs.streams number ≡ others.streams number
-  pub body : inputs.body ≡ others.body
+  pub places : (number : ℕ) → inputs.places number ≡ others.places number
+  pub body : HaveSameBody inputs others
 
--- without a window of time a plan has equal results for inputs whose rows are equal
+-- without a window of time a plan has equal results for inputs whose rows and places are equal
 abbrev pub UntimedResults : Type 0
 UntimedResults = (nodes : List PlanNode) (number : ℕ) → IsPlan nodes → number < length nodes → reads_time nodes ≡ false
     → (inputs others : Inputs) → HaveSameRows inputs others
     → (out : List Row) (spill : Bool) → IsPlanResult nodes number inputs out spill
     → IsPlanResult nodes number others out spill
+
+-- inputs that give the same rows, times and ticks, where the places of the first turn into those of the second
+pub record TurnInto (g : ℕ → ℕ) (inputs others : Inputs) : Type 0 where
+  pub streams : (number : ℕ) → inputs.streams number ≡ others.streams number
+  pub places : (number : ℕ) → at_places (others.streams number) (others.places number)
+      ≡ moved g (at_places (inputs.streams number) (inputs.places number))
+  pub times : (number : ℕ) → inputs.times number ≡ others.times number
+  pub ticks : inputs.ticks ≡ others.ticks
+  pub body : inputs.body ≡ others.body
+  pub body_places : at_places others.body others.body_places ≡ moved g (at_places inputs.body inputs.body_places)
+
+-- only the order of places counts
+abbrev pub ResultsGoByOrder : Type 0
+ResultsGoByOrder = (nodes : List PlanNode) (number : ℕ) → IsPlan nodes → number < length nodes
+    → (g : ℕ → ℕ) → Rises g → (inputs others : Inputs) → TurnInto g inputs others
+    → (out : List Row) (spill : Bool) → IsPlanResult nodes number others out spill
+    → IsPlanResult nodes number inputs out spill
 
 -- the columns of each node of a plan have kinds of columns
 abbrev pub ColumnsHaveKinds : Type 0
@@ -94,7 +121,7 @@ is_union node = false
 abbrev pub has_union_from : (ℕ → Bool) → PlanNode → Bool
 has_union_from unions node = is_union node || list_any unions (named_by node)
 
--- a node is a UNION or has one below it, in a body too
+-- a node is a union in any order or has one below it, in a body too
 unfoldable pub has_union : List PlanNode → ℕ → Bool
 has_union nodes = nodewise has_union_from false nodes
 
@@ -118,8 +145,10 @@ pub record FollowsTables (nodes : List PlanNode) (number : ℕ) (node : PlanNode
   pub keys : keys_of nodes number ≡ keys_from (shape_of nodes) (form_of nodes) (keys_of nodes) node
   pub store : store_of nodes number
       ≡ store_from (shape_of nodes) (figures_of nodes) (form_of nodes) (store_of nodes) node
+  pub arrivals : (inputs : Inputs) (out : List (Placed Row)) (spill : Bool) → IsPlanArrival nodes number inputs out spill
+      ↔ arriving_from (shape_of nodes) (IsPlanArrival nodes) node inputs out spill
   pub results : (inputs : Inputs) (out : List Row) (spill : Bool) → IsPlanResult nodes number inputs out spill
-      ↔ meaning_from (shape_of nodes) (IsPlanResult nodes) node inputs out spill
+      ↔ meaning_from (shape_of nodes) (IsPlanArrival nodes) (IsPlanResult nodes) node inputs out spill
 
 -- each node of a plan has the shape, figures, weight, bits and results that the tables give it from the nodes that it
 -- names
@@ -134,6 +163,8 @@ pub record IsKept (nodes more : List PlanNode) (number : ℕ) : Type 0 where
   pub figures : figures_of (nodes ++ more) number ≡ figures_of nodes number
   pub weight : weight_of (nodes ++ more) number ≡ weight_of nodes number
   pub copies : copies_of (nodes ++ more) number ≡ copies_of nodes number
+  pub arrivals : (inputs : Inputs) (out : List (Placed Row)) (spill : Bool)
+      → IsPlanArrival (nodes ++ more) number inputs out spill ↔ IsPlanArrival nodes number inputs out spill
   pub results : (inputs : Inputs) (out : List Row) (spill : Bool) → IsPlanResult (nodes ++ more) number inputs out spill
       ↔ IsPlanResult nodes number inputs out spill
 

@@ -1,6 +1,7 @@
--- What a plan means over lists of rows: the results that each node may have, and whether rows were left out of its
--- groups. After the operators of Mueller, Teubner and Alonso, Streams on Wires, PVLDB 2(1), 2009.
-use Rattle.std.specs.Prelude.{ℕ, Bool, true, false, List, [], ◌∷◌, ◌++◌, Option, Some, None, map, filter, nat_eq, slice_index}
+-- What a plan means over lists of rows: the results that each node may have, with places or without, and whether rows
+-- were left out of its groups. After the operators of Mueller, Teubner and Alonso, Streams on Wires, PVLDB 2(1), 2009.
+use Rattle.std.specs.Prelude.{ℕ, Bool, true, false, List, [], ◌∷◌, ◌++◌, Option, Some, None, length, map, filter, nat_eq, slice_index}
+use Rattle.std.specs.List.{range_with_len}
 use Rattle.gl_values.specs.Kinds.{width_of}
 use Rattle.gl_values.specs.Lists.{slices, groups, has_further, IsInterleaving}
 use Rattle.gl_values.specs.Partitions.{parts}
@@ -9,6 +10,9 @@ use Rattle.gl_values.specs.Totals.{count_of, sum_total, least_of, greatest_of, a
 use Rattle.gl_values.specs.Times.{tslices}
 use Rattle.gl_frames.specs.Frames.{frame_of, framed, framed_by_key, lag_of, last_value_of, own_of}
 use Rattle.gl_frames.specs.Results.{IsChangedInPart}
+use Rattle.gl_arrival.specs.Places.{at_places}
+use Rattle.gl_arrival.specs.Changes.{framed_at, framed_by_key_at, kept_at, mapped_at}
+use Rattle.gl_arrival.specs.Results.{Arrivals, IsArrival, IsByArrival, IsChangedInPlace, IsPartedInPlace, IsWithoutPlaces}
 use Rattle.gl_bits.specs.Words.{bits_of}
 use Rattle.gl_values.specs.declared.kind.Kind.{Kind}
 use Rattle.gl_algebra.specs.declared.node.ColOp.{ColOp}
@@ -27,21 +31,27 @@ use Rattle.gl_algebra.specs.Nodewise.{nodewise}
 use Rattle.gl_algebra.specs.Shapes.{Shape, shape_of, Pace, with_stream}
 use Rattle.gl_algebra.specs.Values.{value_of_operand, value_of_op}
 
--- what the leaves give: the rows of each stream, by its number, with their times and the number of all ticks, and the
--- rows of a body's input
+-- what the leaves give: the rows of each stream, by its number, with their places, their times and the number of all
+-- ticks, and the rows of a body's input with their places
 pub record Inputs : Type 0 where
   pub streams : ℕ → List Row
+  pub places : ℕ → List ℕ
   pub times : ℕ → List ℕ
   pub ticks : ℕ
   pub body : List Row
+  pub body_places : List ℕ
 
--- the inputs of a body that is given these rows
+-- the inputs of a body that is given these rows, each at its position
 abbrev pub given : Inputs → List Row → Inputs
-given inputs rows = record inputs { body = rows }
+given inputs rows = record inputs { body = rows; body_places = range_with_len 0 (length rows) }
 
 -- the results for inputs
 abbrev pub Meaning : Type 1
 Meaning = Inputs → Results
+
+-- the results with places for inputs
+abbrev pub Arriving : Type 1
+Arriving = Inputs → Arrivals
 
 -- the times of rows that come one with each of a stream's
 abbrev pub times_with : Pace → Inputs → List ℕ
@@ -112,6 +122,13 @@ IsFramed (Some by) row source =
     IsChangedInPart source (framed_by_key by.groups (λ x. slice_index x by.key) row)
     (has_further by.groups (λ x. slice_index x by.key))
 
+-- the same of rows at places: each row is at the place of the row that it is for
+abbrev pub IsFramedInPlace : Option PlanKey → (List Row → Row) → Arrivals → Arrivals
+IsFramedInPlace None row source = IsChangedInPlace source (framed_at row)
+IsFramedInPlace (Some by) row source =
+    IsPartedInPlace source (framed_by_key_at by.groups (λ x. slice_index x by.key) row)
+    (has_further by.groups (λ x. slice_index x by.key))
+
 -- one row of the items' values, each a column or a literal
 abbrev pub projected : List Operand → Row → Row
 projected items row = map (value_of_operand row) items
@@ -120,33 +137,62 @@ projected items row = map (value_of_operand row) items
 abbrev pub totalled : List Kind → List PlanAgg → List Row → List Row
 totalled kinds aggs rows = map (total_of kinds rows) aggs ∷ []
 
--- the results of a node, from the meanings of the nodes that it names
-abbrev pub meaning_from : (ℕ → Shape) → (ℕ → Meaning) → PlanNode → Meaning
-meaning_from shapes meanings (Node.Stream number kinds) inputs = IsInput (inputs.streams number)
-meaning_from shapes meanings (Node.Body kinds) inputs = IsInput inputs.body
-meaning_from shapes meanings (Node.Compute child ops) inputs =
+-- no result with places
+abbrev pub NoArriving : Arriving
+NoArriving inputs out spill = ⊥
+
+-- the results of a node each of whose rows comes of one row that came, with the places of those rows. Another node has
+-- none
+abbrev pub arriving_from : (ℕ → Shape) → (ℕ → Arriving) → PlanNode → Arriving
+arriving_from shapes arrivals (Node.Stream number kinds) inputs =
+    IsArrival (at_places (inputs.streams number) (inputs.places number))
+arriving_from shapes arrivals (Node.Body kinds) inputs = IsArrival (at_places inputs.body inputs.body_places)
+arriving_from shapes arrivals (Node.Compute child ops) inputs =
+    IsChangedInPlace (arrivals child inputs) (mapped_at (computed (shapes child).kinds ops))
+arriving_from shapes arrivals (Node.Select child column) inputs =
+    IsChangedInPlace (arrivals child inputs) (kept_at (λ row. nat_eq (slice_index row column) 1))
+arriving_from shapes arrivals (Node.Project child items) inputs =
+    IsChangedInPlace (arrivals child inputs) (mapped_at (projected items))
+arriving_from shapes arrivals (Node.Frames child by items) inputs =
+    IsFramedInPlace by (row_of_frames (shapes child).kinds items) (arrivals child inputs)
+arriving_from shapes arrivals (Node.Merge left right) inputs =
+    IsByArrival (arrivals left inputs) (arrivals right inputs)
+arriving_from shapes arrivals node inputs = NoArriving inputs
+
+-- the rows at places are a result of a node with this spill
+unfoldable pub IsPlanArrival : List PlanNode → ℕ → Arriving
+IsPlanArrival nodes = nodewise (arriving_from (shape_of nodes)) NoArriving nodes
+
+-- the results of a node, from the meanings of the nodes that it names, with places and without
+abbrev pub meaning_from : (ℕ → Shape) → (ℕ → Arriving) → (ℕ → Meaning) → PlanNode → Meaning
+meaning_from shapes arrivals meanings (Node.Stream number kinds) inputs = IsInput (inputs.streams number)
+meaning_from shapes arrivals meanings (Node.Body kinds) inputs = IsInput inputs.body
+meaning_from shapes arrivals meanings (Node.Compute child ops) inputs =
     IsChanged (meanings child inputs) (map (computed (shapes child).kinds ops))
-meaning_from shapes meanings (Node.Select child column) inputs = IsChanged (meanings child inputs) (selected column)
-meaning_from shapes meanings (Node.Project child items) inputs =
+meaning_from shapes arrivals meanings (Node.Select child column) inputs =
+    IsChanged (meanings child inputs) (selected column)
+meaning_from shapes arrivals meanings (Node.Project child items) inputs =
     IsChanged (meanings child inputs) (map (projected items))
-meaning_from shapes meanings (Node.Frames child by items) inputs =
+meaning_from shapes arrivals meanings (Node.Frames child by items) inputs =
     IsFramed by (row_of_frames (shapes child).kinds items) (meanings child inputs)
-meaning_from shapes meanings (Node.Aggregate child aggs) inputs =
+meaning_from shapes arrivals meanings (Node.Aggregate child aggs) inputs =
     IsChanged (meanings child inputs) (totalled (shapes child).kinds aggs)
-meaning_from shapes meanings (Node.Union left right) inputs =
+meaning_from shapes arrivals meanings (Node.Union left right) inputs =
     IsOfBoth (meanings left inputs) (meanings right inputs) IsInterleaving
-meaning_from shapes meanings (Node.Beside left right) inputs =
+meaning_from shapes arrivals meanings (Node.Merge left right) inputs =
+    IsWithoutPlaces (IsByArrival (arrivals left inputs) (arrivals right inputs))
+meaning_from shapes arrivals meanings (Node.Beside left right) inputs =
     IsOfBoth (meanings left inputs) (meanings right inputs) AreBeside
-meaning_from shapes meanings (Node.Window source body size advance) inputs =
+meaning_from shapes arrivals meanings (Node.Window source body size advance) inputs =
     IsOfParts (meanings source inputs) (slices size advance) (λ slice. meanings body (given inputs slice))
     (λ rows. false)
-meaning_from shapes meanings (Node.TimeWindow source body size advance) inputs =
+meaning_from shapes arrivals meanings (Node.TimeWindow source body size advance) inputs =
     IsOfParts (meanings source inputs) (tslices size advance (times_with (shapes source).pace inputs) inputs.ticks)
     (λ slice. meanings body (given inputs slice)) (λ rows. false)
-meaning_from shapes meanings (Node.Group source body key count) inputs =
+meaning_from shapes arrivals meanings (Node.Group source body key count) inputs =
     IsOfParts (meanings source inputs) (groups count (λ row. slice_index row key))
     (IsOfGroup (λ rows. meanings body (given inputs rows))) (has_further count (λ row. slice_index row key))
-meaning_from shapes meanings (Node.Partition source body key count size advance) inputs =
+meaning_from shapes arrivals meanings (Node.Partition source body key count size advance) inputs =
     IsOfParts (meanings source inputs) (parts count (λ row. slice_index row key) size advance)
     (IsOfGroup (λ rows. meanings body (given inputs rows))) (has_further count (λ row. slice_index row key))
 
@@ -156,4 +202,4 @@ NoMeaning inputs out spill = ⊥
 
 -- the rows are a result of a node with this spill; each use of a shared node chooses for itself
 unfoldable pub IsPlanResult : List PlanNode → ℕ → Meaning
-IsPlanResult nodes = nodewise (meaning_from (shape_of nodes)) NoMeaning nodes
+IsPlanResult nodes = nodewise (meaning_from (shape_of nodes) (IsPlanArrival nodes)) NoMeaning nodes

@@ -1,10 +1,10 @@
--- What other nodes need to know of a node: its columns, whether it waits for the end, how steadily its rows come, and
--- its leaves.
+-- What other nodes need to know of a node: its columns, whether it waits for the end, how steadily its rows come,
+-- whether each comes of one row that came, and its leaves.
 use Rattle.std.specs.Prelude.{ℕ, ◌≡◌, ◌<◌, length, Bool, true, false, ◌&&◌, List, [], ◌∷◌, ◌++◌, Option, Some, None, map}
 use Rattle.gl_values.specs.declared.kind.Kind.{Kind}
 use Rattle.gl_algebra.specs.declared.node.PlanKey.{PlanKey}
 use Rattle.gl_algebra.specs.declared.node.PlanNode.{PlanNode}
-use Rattle.gl_algebra.specs.declared.node.PlanNode.TheVariants.{Stream, Body, Compute, Select, Project, Frames, Aggregate, Union, Beside, Window, TimeWindow, Group, Partition}
+use Rattle.gl_algebra.specs.declared.node.PlanNode.TheVariants.{Stream, Body, Compute, Select, Project, Frames, Aggregate, Union, Merge, Beside, Window, TimeWindow, Group, Partition}
 use Rattle.gl_algebra.specs.Columns.{kind_of_column, kind_of_operand, kind_of_op, kind_of_agg, kind_of_frame}
 use Rattle.gl_algebra.specs.Nodewise.{nodewise}
 
@@ -22,12 +22,14 @@ pub record Shape : Type 0 where
   -- nothing comes before the end
   pub closing : Bool
   pub pace : Pace
+  -- each row comes of one row that came
+  pub arrives : Bool
   -- the streams and body inputs that the rows come from, those in bodies left out
   pub leaves : List PlanNode
 
 -- the shape of what is no node
 abbrev pub no_shape : Shape
-no_shape = record { kinds = []; closing = false; pace = unsteady; leaves = [] }
+no_shape = record { kinds = []; closing = false; pace = unsteady; arrives = false; leaves = [] }
 
 -- rows that are parted by a key come at no steady pace
 abbrev pub pace_by_key : Option PlanKey → Pace → Pace
@@ -37,9 +39,15 @@ pace_by_key (Some by) pace = unsteady
 -- a node's shape, from those of the nodes that it names
 abbrev pub shape_from : (ℕ → Shape) → PlanNode → Shape
 shape_from shapes (Stream number kinds) =
-    record { kinds = kinds; closing = false; pace = with_stream number; leaves = Stream number kinds ∷ [] }
+    record {
+      kinds = kinds;
+      closing = false;
+      pace = with_stream number;
+      arrives = true;
+      leaves = Stream number kinds ∷ [];
+    }
 shape_from shapes (Body kinds) =
-    record { kinds = kinds; closing = false; pace = with_body; leaves = Body kinds ∷ [] }
+    record { kinds = kinds; closing = false; pace = with_body; arrives = true; leaves = Body kinds ∷ [] }
 shape_from shapes (Compute child ops) =
     let of_child = shapes child in
     record of_child { kinds = of_child.kinds ++ map (kind_of_op of_child.kinds) ops }
@@ -51,32 +59,44 @@ shape_from shapes (Frames child by items) =
     record of_child { kinds = map (kind_of_frame of_child.kinds) items; pace = pace_by_key by of_child.pace }
 shape_from shapes (Aggregate child aggs) =
     let of_child = shapes child in
-    record of_child { kinds = map (kind_of_agg of_child.kinds) aggs; closing = true; pace = once }
+    record of_child { kinds = map (kind_of_agg of_child.kinds) aggs; closing = true; pace = once; arrives = false }
 shape_from shapes (Union left right) =
     let l = shapes left in let r = shapes right in
-    record { kinds = l.kinds; closing = l.closing && r.closing; pace = unsteady; leaves = l.leaves ++ r.leaves }
+    record {
+      kinds = l.kinds;
+      closing = l.closing && r.closing;
+      pace = unsteady;
+      arrives = false;
+      leaves = l.leaves ++ r.leaves;
+    }
+shape_from shapes (Merge left right) =
+    let l = shapes left in let r = shapes right in
+    record { kinds = l.kinds; closing = false; pace = unsteady; arrives = true; leaves = l.leaves ++ r.leaves }
 shape_from shapes (Beside left right) =
     let l = shapes left in let r = shapes right in
     record {
       kinds = l.kinds ++ r.kinds;
       closing = l.closing && r.closing;
       pace = l.pace;
+      arrives = false;
       leaves = l.leaves ++ r.leaves;
     }
 shape_from shapes (Window source body size advance) =
-    record (shapes source) { kinds = (shapes body).kinds; pace = unsteady }
+    record (shapes source) { kinds = (shapes body).kinds; pace = unsteady; arrives = false }
 shape_from shapes (TimeWindow source body size advance) =
-    record (shapes source) { kinds = (shapes body).kinds; closing = false; pace = unsteady }
+    record (shapes source) { kinds = (shapes body).kinds; closing = false; pace = unsteady; arrives = false }
 shape_from shapes (Group source body key groups) =
     record (shapes source) {
       kinds = kind_of_column (shapes source).kinds key ∷ (shapes body).kinds;
       closing = true;
       pace = unsteady;
+      arrives = false;
     }
 shape_from shapes (Partition source body key groups size advance) =
     record (shapes source) {
       kinds = kind_of_column (shapes source).kinds key ∷ (shapes body).kinds;
       pace = unsteady;
+      arrives = false;
     }
 
 -- the shape of a node

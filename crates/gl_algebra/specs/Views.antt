@@ -3,7 +3,7 @@ use Rattle.std.specs.Prelude.{ℕ, ◌*◌, ◌+◌, ◌/◌, Bool, true, false,
 use Rattle.std.specs.Int.{div_ceil}
 use Rattle.std.specs.List.{list_any}
 use Rattle.gl_algebra.specs.declared.node.PlanNode.{PlanNode}
-use Rattle.gl_algebra.specs.declared.node.PlanNode.TheVariants.{Stream, Body, Compute, Select, Project, Frames, Aggregate, Union, Beside, Window, TimeWindow, Group, Partition}
+use Rattle.gl_algebra.specs.declared.node.PlanNode.TheVariants.{Stream, Body, Compute, Select, Project, Frames, Aggregate, Union, Merge, Beside, Window, TimeWindow, Group, Partition}
 
 -- the nodes whose rows it takes
 abbrev pub children_of : PlanNode → List ℕ
@@ -15,6 +15,7 @@ children_of (Project child items) = child ∷ []
 children_of (Frames child by items) = child ∷ []
 children_of (Aggregate child aggs) = child ∷ []
 children_of (Union left right) = left ∷ right ∷ []
+children_of (Merge left right) = left ∷ right ∷ []
 children_of (Beside left right) = left ∷ right ∷ []
 children_of (Window source body size advance) = source ∷ []
 children_of (TimeWindow source body size advance) = source ∷ []

@@ -7,11 +7,11 @@ use Rattle.gl_algebra.specs.declared.node.PlanFrame.{PlanFrame}
 use Rattle.gl_algebra.specs.declared.node.PlanFrame.TheVariants.{Own, Lag, Over}
 use Rattle.gl_algebra.specs.declared.node.PlanKey.{PlanKey}
 use Rattle.gl_algebra.specs.declared.node.PlanNode.{PlanNode}
-use Rattle.gl_algebra.specs.declared.node.PlanNode.TheVariants.{Stream, Body, Compute, Select, Project, Frames, Aggregate, Union, Beside, Window, TimeWindow, Group, Partition}
+use Rattle.gl_algebra.specs.declared.node.PlanNode.TheVariants.{Stream, Body, Compute, Select, Project, Frames, Aggregate, Union, Merge, Beside, Window, TimeWindow, Group, Partition}
 use Rattle.gl_algebra.specs.declared.node.PlanAgg.{PlanAgg}
 use Rattle.gl_algebra.specs.declared.node.PlanAgg.TheVariants.{Count, Sum, Min, Max, Avg, Wsum}
 use Rattle.gl_algebra.specs.Columns.{kind_of_operand}
-use Rattle.gl_algebra.specs.FigureTable.{figures_of, delay_of_aggs, gap_in, wait_of, needs_spacer}
+use Rattle.gl_algebra.specs.FigureTable.{figures_of, delay_of_aggs, gap_in, wait_of, waits, needs_spacer}
 use Rattle.gl_algebra.specs.Frames.{delay_of_frames, digits_of_frame, frames_in, rings_of_frame, words_of_frame}
 use Rattle.gl_algebra.specs.Keys.{delay_by_key, weight_of_look_up, width_of_key, words_of_look_up}
 use Rattle.gl_algebra.specs.Nodewise.{nodewise}
@@ -70,6 +70,10 @@ weight_by_key kinds lines (Some by) items =
 abbrev pub pad_of : Figures → Figures → ℕ
 pad_of p q = max (wait_of p q) (wait_of q p)
 
+-- the part of turns over so many lines: what is counted of two sides that stand side by side
+abbrev pub weight_of_turns : Figures → Figures → ℕ → ℕ
+weight_of_turns p q lines = 8 * lines * (waits p q + 4)
+
 -- the part of the spacer before a body of this gap, where one stands, over a source of so many lines
 abbrev pub weight_of_spacer : ℕ → Figures → ℕ → ℕ
 weight_of_spacer gap f lines = if needs_spacer gap f then 8 * lines * (f.ne + 6) else 0
@@ -107,6 +111,7 @@ own_part spacer shapes figures weights lines (Aggregate child aggs) =
     4 * lines + sum_by (λ agg. 2 * delay_of_aggs kinds aggs + weight_of_agg kinds agg) aggs
 own_part spacer shapes figures weights lines (Union left right) =
     8 * lines * (pad_of (figures left) (figures right) + (figures left).ne + (figures right).ne + 4)
+own_part spacer shapes figures weights lines (Merge left right) = weight_of_turns (figures left) (figures right) lines
 own_part spacer shapes figures weights lines (Beside left right) =
     8 * lines * (pad_of (figures left) (figures right) + 4)
 own_part spacer shapes figures weights lines (Window source body size advance) =

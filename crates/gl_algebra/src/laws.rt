@@ -1,6 +1,6 @@
 //! Laws of plans, each of which stands in a function's contract.
 
-ghost use Rattle.gl_algebra.specs.Laws.{RowsKeepSound, SpacersKeepSound, FiguresAreSound, ClosingNodesWait, ColumnsHaveKinds, PacesFixFigures, BodiesReadTheirInput, UntimedResults, ResultsAreUnique, NodesFollowTables, EarlierNodesAreKept};
+ghost use Rattle.gl_algebra.specs.Laws.{RowsKeepSound, SpacersKeepSound, FiguresAreSound, ClosingNodesWait, ColumnsHaveKinds, PacesFixFigures, BodiesReadTheirInput, UntimedResults, ResultsGoByOrder, ResultsAreUnique, NodesFollowTables, EarlierNodesAreKept};
 
 /// Each row of the table of figures gives sound figures from sound ones, and so does a spacer.
 pub fn rows_keep_sound()
@@ -37,6 +37,11 @@ pub fn bodies_read_their_input()
 /// Without a window of time a plan has the same results whatever the times and ticks of its inputs are.
 pub fn results_are_untimed()
     ensures { UntimedResults }
+{}
+
+/// Only the order of the places of rows counts.
+pub fn results_go_by_order()
+    ensures { ResultsGoByOrder }
 {}
 
 /// A node without a union below it has one result at most.

@@ -156,6 +156,13 @@ pub enum PlanNode {
         /// The number of the node on the right.
         right: PlanId,
     },
+    /// The rows of both children in the order in which they came; of one place the left child's first.
+    Merge {
+        /// The number of the node on the left.
+        left: PlanId,
+        /// The number of the node on the right.
+        right: PlanId,
+    },
     /// The rows of both children side by side.
     Beside {
         /// The number of the node on the left.

@@ -143,7 +143,9 @@ impl Plan {
                 self.kinds(*child),
                 aggs.as_slice(),
             ),
-            PlanNode::Union { left, .. } => same_columns(alloc, self.kinds(*left)),
+            PlanNode::Union { left, .. } | PlanNode::Merge { left, .. } => {
+                same_columns(alloc, self.kinds(*left))
+            }
             PlanNode::Beside { left, right } => columns_of_both(
                 alloc,
                 self.kinds(*left),

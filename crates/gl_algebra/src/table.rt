@@ -2,7 +2,7 @@
 
 ghost use Rattle.std.specs.Prelude.{◌≡◌, ◌<◌, ◌≤◌, ◌^◌};
 ghost use Rattle.gl_bits.specs.Limits.{most_rows};
-ghost use Rattle.gl_algebra.specs.FigureTable.{aggregate_figures, beside_figures, delay_of_agg, delay_of_aggs, delayed, group_figures, input_figures, partition_figures, settled, union_figures, wait_of, window_figures};
+ghost use Rattle.gl_algebra.specs.FigureTable.{aggregate_figures, beside_figures, delay_of_agg, delay_of_aggs, delayed, group_figures, input_figures, left_wait, partition_figures, right_wait, settled, turn_figures, union_figures, wait_of, waits, window_figures};
 ghost use Rattle.gl_algebra.specs.Views.{copies_of_partition, copies_of_time, copies_of_window};
 ghost use Rattle.gl_algebra.specs.Small.{small_of};
 
@@ -11,7 +11,7 @@ use crate::figures::Figures;
 use crate::node::PlanAgg;
 use crate::wide::{
     aggregated, delayed, groups_over, joined, merged, narrowed, partitions_over, settled, spaced,
-    widened, windows_over,
+    turned, widened, windows_over,
 };
 use gl_values::Kind;
 
@@ -97,6 +97,39 @@ pub fn union_figures(left: &Figures, right: &Figures) -> Option<Figures>
     let first = delayed(wait_of(left, right) as u128, widened(left));
     let second = delayed(wait_of(right, left) as u128, widened(right));
     narrowed(merged(first, second))
+}
+
+// The cycles by which the left side of two that take turns waits.
+fn left_wait(left: &Figures, right: &Figures) -> u128
+    ensures value { result ≡ left_wait left.now right.now }
+    ensures below { result < 2 ^ 33 }
+{
+    (right.a as u128).saturating_sub(left.le as u128 + 1)
+}
+
+// The cycles by which the right one waits.
+fn right_wait(left: &Figures, right: &Figures) -> u128
+    ensures value { result ≡ right_wait left.now right.now }
+    ensures below { result < 2 ^ 33 }
+{
+    (left.le as u128 + 1).saturating_sub(right.a as u128)
+}
+
+/// The cycles that either of them waits.
+pub fn waits(left: &Figures, right: &Figures) -> u128
+    ensures value { result ≡ waits left.now right.now }
+    ensures below { result < 2 ^ 34 }
+{
+    left_wait(left, right) + right_wait(left, right)
+}
+
+/// Two sides that take turns.
+pub fn turn_figures(left: &Figures, right: &Figures) -> Option<Figures>
+    ensures { result ≡ small_of (turn_figures left.now right.now) }
+{
+    let first = delayed(left_wait(left, right), widened(left));
+    let second = delayed(right_wait(left, right), widened(right));
+    narrowed(turned(first, second))
 }
 
 /// Two sides side by side.

@@ -1,7 +1,7 @@
 //! The rows of the table of figures, in numbers that take their sums and products whole.
 
 ghost use Rattle.std.specs.Prelude.{◌≡◌, ◌<◌, ◌+◌, ◌*◌, ◌^◌};
-ghost use Rattle.gl_algebra.specs.FigureTable.{aggregate_figures, at_end, delayed, groups_over, in_step, is_fixed, joined, last_of, merged, partitions_over, settled, spaced, spacer_figures, stride_of, windows_over};
+ghost use Rattle.gl_algebra.specs.FigureTable.{aggregate_figures, at_end, delayed, groups_over, in_step, in_turn, is_fixed, joined, last_of, merged, partitions_over, settled, spaced, spacer_figures, stride_of, windows_over};
 ghost use Rattle.gl_algebra.specs.Small.{small_of};
 ghost use Rattle.gl_algebra.specs.Wides.{plain, IsNarrow, IsWide};
 
@@ -130,6 +130,26 @@ pub(crate) fn merged(p: Wide, q: Wide) -> Wide
         lt,
         le,
         nt,
+        ne: p.ne + q.ne,
+        gt: p.gt.max(q.gt).max(lt.saturating_sub(a) + 1),
+        ge: p.ge.max(q.ge).max(le.saturating_sub(a) + 1),
+    }
+}
+
+// Two sides, the right one's interval behind the left one's.
+pub(crate) fn turned(p: Wide, q: Wide) -> Wide
+    requires left { IsWide p }
+    requires right { IsWide q }
+    ensures { plain result ≡ in_turn (plain p) (plain q) }
+{
+    let a = p.a + 1;
+    let lt = q.lt + 1;
+    let le = q.le + 1;
+    Wide {
+        a,
+        lt,
+        le,
+        nt: p.nt + q.nt,
         ne: p.ne + q.ne,
         gt: p.gt.max(q.gt).max(lt.saturating_sub(a) + 1),
         ge: p.ge.max(q.ge).max(le.saturating_sub(a) + 1),

@@ -240,6 +240,7 @@ can (shape.Partition var source key count size advance body) sources timed most 
       a.1.window.most_advance,
     )
 can (shape.Union l r) sources timed most is a s = (can l sources timed most is a.0 s.0, can r sources timed most is a.1 s.1)
+can (shape.ByArrival l r) sources timed most is a s = (can l sources timed most is a.0 s.0, can r sources timed most is a.1 s.1)
 can (shape.Concat l r) sources timed most is a s = (can l sources timed most is a.0 s.0, can r sources timed most is a.1 s.1)
 
 pub can-place : (schema : Schema) (statement : Statement) → IsChecked schema statement → CanPlace schema.streams (query_shape statement.query)

@@ -18,7 +18,7 @@ use Rattle.gl_query.specs.Laws.{ResultsAreLong}
 use Rattle.gl_algebra.specs.declared.figures.Figures.{Figures}
 use Rattle.gl_algebra.specs.declared.node.PlanNode.{PlanNode}
 use Rattle.gl_algebra.specs.declared.node.PlanNode.TheVariants as node
-use Rattle.gl_algebra.specs.FigureTable.{input_figures, settled, delayed, aggregate_figures, union_figures, beside_figures, window_figures, group_figures, partition_figures, figures_from, figures_of}
+use Rattle.gl_algebra.specs.FigureTable.{input_figures, settled, delayed, aggregate_figures, turn_figures, union_figures, beside_figures, window_figures, group_figures, partition_figures, figures_from, figures_of}
 use Rattle.gl_algebra.specs.Fits.{IsPlan}
 use Rattle.gl_query.specs.Windows.{copies_of}
 use Rattle.gl_algebra.specs.Views.{copies_of_partition}
@@ -233,6 +233,7 @@ read-figures (node.Project child items) kinds s v h = absurd h
 read-figures (node.Frames child by items) kinds s v h = absurd h
 read-figures (node.Aggregate child aggs) kinds s v h = absurd h
 read-figures (node.Union left right) kinds s v h = absurd h
+read-figures (node.Merge left right) kinds s v h = absurd h
 read-figures (node.Beside left right) kinds s v h = absurd h
 read-figures (node.Window source body size advance) kinds s v h = absurd h
 read-figures (node.TimeWindow source body size advance) kinds s v h = absurd h
@@ -312,6 +313,15 @@ figures-right lengths (shape.Union l r) read sources timed nodes reader a plan =
     let second = right lengths r read sources timed left.nodes reader a.1 first.1.over.plan in
     let both = placed read sources r left.nodes in
     both-figures left both (query_figures sources l) (query_figures sources r) (node.Union left.root both.root) union_figures
+    (figures-right lengths l read sources timed nodes reader a.0 plan) (figures-right lengths r read sources timed left.nodes reader a.1 first.1.over.plan)
+    first.1.over.within second.1.over done.0.2 (λ s v. refl)
+figures-right lengths (shape.ByArrival l r) read sources timed nodes reader a plan =
+    let done = right lengths (shape.ByArrival l r) read sources timed nodes reader a plan in
+    let first = right lengths l read sources timed nodes reader a.0 plan in
+    let left = placed read sources l nodes in
+    let second = right lengths r read sources timed left.nodes reader a.1 first.1.over.plan in
+    let both = placed read sources r left.nodes in
+    both-figures left both (query_figures sources l) (query_figures sources r) (node.Merge left.root both.root) turn_figures
     (figures-right lengths l read sources timed nodes reader a.0 plan) (figures-right lengths r read sources timed left.nodes reader a.1 first.1.over.plan)
     first.1.over.within second.1.over done.0.2 (λ s v. refl)
 figures-right lengths (shape.Concat l r) read sources timed nodes reader a plan =

@@ -10,6 +10,8 @@ use Rattle.gl_values.specs.Lists.{distinct, has_further, rows_with}
 use Rattle.gl_values.specs.Partitions.{has_key}
 use Rattle.gl_frames.specs.Frames.{by_key, each_of, frame_of, framed, framed_by_key, if_has_key, lag_of, last_value_of, number_or, row_before, rows_preceding}
 use Rattle.gl_frames.proofs.SumLemmas.{last_map}
+use Rattle.gl_arrival.specs.Places.{Placed, at_place, rows_of}
+use Rattle.gl_arrival.specs.Changes.{each_at, framed_at, framed_by_key_at, kept_at, mapped_at}
 use Rattle.gl_query.proofs.Holding.{all_before, all_drop, all_filter, all_in_frame}
 
 module _ {A B : Type 0} (w : A → B) (P : A → Type 0) where
@@ -48,6 +50,13 @@ module _ {A B : Type 0} (w : A → B) (P : A → Type 0) where
         let rest = filter_mapped xs h.1 in
         by_cases (q x) (λ e. rw (here, e) (ap (λ (l : List B). w x ∷ l) rest)) (λ e. rw (here, e) rest)
 
+    pub kept_mapped : (xs : List (Placed A)) → AllByRecursion P (rows_of xs) → kept_at p (mapped_at w xs) ≡ mapped_at w (kept_at q xs)
+    kept_mapped [] h = refl
+    kept_mapped (x ∷ xs) h =
+        let here = same x.row h.0 in
+        let rest = kept_mapped xs h.1 in
+        by_cases (q x.row) (λ e. rw (here, e) (ap (λ (l : List (Placed B)). at_place (w x.row) x.place ∷ l) rest)) (λ e. rw (here, e) rest)
+
     pub frame_mapped : (back : Option ℕ) (xs : List A) → AllByRecursion P xs → frame_of back p (map w xs) ≡ map w (frame_of back q xs)
     frame_mapped back xs h =
         ap (filter p) (preceding_mapped back xs) ∙ filter_mapped (rows_preceding back xs) (all_preceding back xs h)
@@ -69,6 +78,17 @@ module _ {A B : Type 0} (w : A → B) (P : A → Type 0) where
         let here = same (seen ++ x ∷ []) more in
         let rest = each_mapped (seen ++ x ∷ []) xs more k.1 in
         (λ i. cons_option (g (wider i)) (each_of g (wider i) (map w xs))) ∙ (λ i. cons_option (here i) (rest i))
+
+    each_mapped_in_place : (seen : List A) (xs : List (Placed A)) → AllByRecursion P seen → AllByRecursion P (rows_of xs)
+        → each_at g (map w seen) (mapped_at w xs) ≡ each_at f seen xs
+    each_mapped_in_place seen [] h k = refl
+    each_mapped_in_place seen (x ∷ xs) h k =
+        let more : AllByRecursion P (seen ++ x.row ∷ []) = all_append P seen (x.row ∷ []) h (k.0, tt) in
+        let wider : map w seen ++ w x.row ∷ [] ≡ map w (seen ++ x.row ∷ []) = sym (map-append w seen (x.row ∷ [])) in
+        let here = same (seen ++ x.row ∷ []) more in
+        let rest = each_mapped_in_place (seen ++ x.row ∷ []) xs more k.1 in
+        (λ i. cons_option (option_map (λ (y : C). at_place y x.place) (g (wider i))) (each_at g (wider i) (mapped_at w xs)))
+        ∙ (λ i. cons_option (option_map (λ (y : C). at_place y x.place) (here i)) (rest i))
 
   -- two keys that are one on such rows
   module _ (k : B → ℕ) (key_of : A → ℕ) (alike : (x : A) → P x → k (w x) ≡ key_of x) where
@@ -99,6 +119,9 @@ module _ {A B : Type 0} (w : A → B) (P : A → Type 0) where
     pub framed_mapped : (xs : List A) → AllByRecursion P xs → framed g (map w xs) ≡ framed f xs
     framed_mapped xs h = each_mapped (λ ys. Some (g ys)) (λ ys. Some (f ys)) (λ ys q. ap Some (same ys q)) [] xs tt h
 
+    pub framed_mapped_in_place : (xs : List (Placed A)) → AllByRecursion P (rows_of xs) → framed_at g (mapped_at w xs) ≡ framed_at f xs
+    framed_mapped_in_place xs h = each_mapped_in_place (λ ys. Some (g ys)) (λ ys. Some (f ys)) (λ ys q. ap Some (same ys q)) [] xs tt h
+
     -- and two keys
     module _ (n : ℕ) (k : B → ℕ) (key_of : A → ℕ) (alike : (x : A) → P x → k (w x) ≡ key_of x) where
       of_key : (xs : List A) → AllByRecursion P xs → (o : Option A) → IfSome o P
@@ -118,3 +141,6 @@ module _ {A B : Type 0} (w : A → B) (P : A → Type 0) where
 
       pub keyed_mapped : (xs : List A) → AllByRecursion P xs → framed_by_key n k g (map w xs) ≡ framed_by_key n key_of f xs
       keyed_mapped xs h = each_mapped (by_key n k g) (by_key n key_of f) by_key_mapped [] xs tt h
+
+      pub keyed_mapped_in_place : (xs : List (Placed A)) → AllByRecursion P (rows_of xs) → framed_by_key_at n k g (mapped_at w xs) ≡ framed_by_key_at n key_of f xs
+      keyed_mapped_in_place xs h = each_mapped_in_place (by_key n k g) (by_key n key_of f) by_key_mapped [] xs tt h

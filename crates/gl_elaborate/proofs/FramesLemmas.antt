@@ -30,8 +30,12 @@ use Rattle.gl_algebra.specs.Added.{Placed}
 use Rattle.gl_algebra.specs.Columns.{kind_of_frame, kind_of_frame_agg, kind_of_operand, BackFits, ConditionFits, FrameAggFits, FrameFits}
 use Rattle.gl_algebra.specs.Frames.{delay_of_count, delay_of_frame, delay_of_frames, delay_of_sum, delay_over, digits_of_rows}
 use Rattle.gl_algebra.specs.Keys.{delay_by_key}
-use Rattle.gl_algebra.specs.Results.{Meaning, counts_in, row_of_frames, value_of_frame, value_over, values_in}
+use Rattle.gl_arrival.specs.Places as arrival
+use Rattle.gl_arrival.specs.Changes.{kept_at, mapped_at}
+use Rattle.gl_arrival.specs.Results.{IsChangedInPlace}
+use Rattle.gl_algebra.specs.Results.{Inputs, IsPlanArrival, Meaning, counts_in, row_of_frames, value_of_frame, value_over, values_in}
 use Rattle.gl_algebra.specs.Results as plan
+use Rattle.gl_algebra.proofs.ReadLemmas.{framed_in_place}
 use Rattle.gl_algebra.specs.Shapes.{Shape, Pace, unsteady, pace_by_key, shape_of}
 use Rattle.gl_algebra.specs.Values.{value_of_operand}
 use Rattle.gl_elaborate.specs.Terms.{Term, IsTerm, term_of, depth_of_all}
@@ -44,11 +48,11 @@ use Rattle.gl_elaborate.proofs.AcceptedLemmas.{term-fits}
 use Rattle.gl_elaborate.proofs.LevelLemmas.{IsCarried, KeepsColumns}
 use Rattle.gl_elaborate.proofs.DepthLemmas.{IsNoLiteral}
 use Rattle.gl_elaborate.proofs.LongLemmas.{AreLong}
-use Rattle.gl_elaborate.proofs.StandsLemmas.{Stands, weaker, frames-fits, frames-stands, select-fits, select-stands, IsLevelled, levels-stand}
-use Rattle.gl_elaborate.proofs.RowsLemmas.{IsCast, condition, flat-column, pace_under, unfiltered}
+use Rattle.gl_elaborate.proofs.StandsLemmas.{Comes, Stands, comes-then, weaker, frames-fits, frames-stands, frames-comes, select-fits, select-stands, select-comes, IsLevelled, levels-stand}
+use Rattle.gl_elaborate.proofs.RowsLemmas.{IsCast, condition, flat-column, pace_under, unfiltered, unfiltered_in_place}
 use Rattle.gl_elaborate.proofs.TotalsLemmas.{IsArgument, argument, counted, sum_of_kind, summed}
 use Rattle.gl_elaborate.proofs.FramedLemmas.{frame_mapped, lag_mapped, last_mapped}
-use Rattle.gl_elaborate.proofs.KeyedLemmas.{AreFramed, framed-alike, key-stands}
+use Rattle.gl_elaborate.proofs.KeyedLemmas.{AreFramed, AreFramedHere, framed-alike, framed-alike-here, key-stands}
 
 -- a column over wider rows picks the rows that a condition picks
 abbrev PicksAlike : List NamedColumn → (Row → Row) → Option ExprShape → Option ℕ → Type 0
@@ -290,21 +294,28 @@ module _ (columns : List NamedColumn) (areKinds : AreKinds columns) (old : List 
   open_levels : (left : Option Term)
       → AllByRecursion (IsTerm (kinds_of columns)) (option_to_list left) → AllByRecursion IsNoLiteral (option_to_list left)
       → Stands old at shape Means
-      → IsLevelled old given Means (frames_terms columns items) left (levelled (length columns) at (frames_terms columns items) left)
+      → IsLevelled old at given Means (frames_terms columns items) left (levelled (length columns) at (frames_terms columns items) left)
       (LevelledFit (length columns) at (frames_terms columns items) left)
   open_levels left fits nl s =
       levels-stand (depth_of_all (with_filter (frames_terms columns items) left)) (length columns) old at given Means (frames_terms columns items) left
       (sym (length-map columns (λ c. c.kind))) (omega arith) (terms-fit columns areKinds items typed) fits nl
       (subst (λ (k : List Kind). Stands old at (record shape { kinds = k }) Means) same s)
 
+  -- what comes of the last node is made of what comes of the source
+  abbrev pub FramesHere : Option ExprShape → Placed → Type 0
+  FramesHere o next = (inputs : Inputs) (out : List (arrival.Placed Row)) (spill : Bool) → IsPlanArrival next.nodes next.root inputs out spill
+      → AreFramedHere columns items o slots (IsPlanArrival at.nodes at.root inputs) out spill
+
   -- the last node, behind a filter
   finish : (o : Option ExprShape) (pace : Pace) (from : Placed) (kinds : List Kind) (widen : Row → Row) (p : Row → Bool) (terms : List Term)
       → Stands old from (record shape { kinds = kinds; pace = pace }) (λ inputs. IsChanged (IsChanged (Means inputs) (map widen)) (filter p))
+      → Comes at from (λ xs. kept_at p (mapped_at widen xs))
       → AllZip (IsCarried (kinds_of columns) kinds widen) (frames_terms columns items) terms → depth_of_all terms ≡ 0 → KeepsColumns (kinds_of columns) kinds widen
       → ((row : Row) → IsLongAs columns row → p (widen row) ≡ keeps columns o row)
       → FramedFits from by items terms × HasFrameDelay columns items slots from terms
       × Stands old (framed_over from by items terms) (last pace) (λ inputs. AreFramed columns items o slots (Means inputs))
-  finish o pace from kinds widen p terms s zipped flat wide picks =
+      × FramesHere o (framed_over from by items terms)
+  finish o pace from kinds widen p terms s come zipped flat wide picks =
       let all = frames columns areKinds kinds widen items terms typed zipped flat in
       let key = key-stands columns areKinds kinds widen wide slots parted in
       let made = frames_of items terms in
@@ -318,26 +329,36 @@ module _ (columns : List NamedColumn) (areKinds : AreKinds columns) (old : List 
             (λ inputs. plan.IsFramed by (row_of_frames kinds made) (IsChanged (IsChanged (Means inputs) (map widen)) (filter p)))
             (λ inputs. AreFramed columns items o slots (Means inputs)) moved
             (λ inputs. framed-alike columns areKinds kinds widen wide items o made p picks all.3 slots parted (Means inputs)),
+        λ inputs out spill r.
+            framed-alike-here columns areKinds kinds widen wide items o made p picks all.3 slots parted (IsPlanArrival at.nodes at.root inputs) out spill
+            (framed_in_place (IsPlanArrival from.nodes from.root inputs) (IsChangedInPlace (IsPlanArrival at.nodes at.root inputs) (λ xs. kept_at p (mapped_at widen xs))) by
+            (row_of_frames kinds made) (come inputs) out spill
+            (frames-comes old from below (λ inputs. IsChanged (IsChanged (Means inputs) (map widen)) (filter p)) s by made key.fits all.0 inputs out spill r)),
       )
 
   over_none : (from : Placed) (terms : List Term) (left : Option Term) (Fit : Type 0)
-      → IsLevelled old given Means (frames_terms columns items) None (record { at = from; items = terms; filter = left }) Fit
+      → IsLevelled old at given Means (frames_terms columns items) None (record { at = from; items = terms; filter = left }) Fit
       → SelectFits from left × FramedFits (selected from left) by items terms × HasFrameDelay columns items slots (selected from left) terms
       × Stands old (framed_over (selected from left) by items terms) (last shape.pace) (λ inputs. AreFramed columns items None slots (Means inputs))
+      × FramesHere None (framed_over (selected from left) by items terms)
   over_none from terms None Fit l =
       let done = finish None shape.pace from l.kinds l.widen (λ row. true) terms
       (weaker old from (record shape { kinds = l.kinds }) (λ inputs. IsChanged (Means inputs) (map l.widen))
       (λ inputs. IsChanged (IsChanged (Means inputs) (map l.widen)) (filter (λ row. true))) l.stands
       (λ inputs out spill r. record { rows = out; of_source = r; changed = unfiltered out }))
+      (λ inputs out spill r.
+      let y = l.comes inputs out spill r in
+      record { rows = y.rows; of_source = y.of_source; changed = y.changed ∙ unfiltered_in_place (mapped_at l.widen y.rows) })
       l.of_items l.flat_items l.of_columns (λ row long. refl) in
-      (tt, done.0, done.1, done.2)
+      (tt, done.0, done.1, done.2, done.3)
   over_none from terms (Some t) Fit l = absurd l.of_filter
 
   over_some : (e : ExprShape) (from : Placed) (terms : List Term) (left : Option Term) (Fit : Type 0)
       → IsCast (kinds_of columns) (term_of columns (Unsigned 1) e) (condition_of (term_of columns (Unsigned 1) e))
-      → IsLevelled old given Means (frames_terms columns items) (filter_of columns (Some e)) (record { at = from; items = terms; filter = left }) Fit
+      → IsLevelled old at given Means (frames_terms columns items) (filter_of columns (Some e)) (record { at = from; items = terms; filter = left }) Fit
       → SelectFits from left × FramedFits (selected from left) by items terms × HasFrameDelay columns items slots (selected from left) terms
       × Stands old (framed_over (selected from left) by items terms) (last unsteady) (λ inputs. AreFramed columns items (Some e) slots (Means inputs))
+      × FramesHere (Some e) (framed_over (selected from left) by items terms)
   over_some e from terms None Fit is l = absurd l.of_filter
   over_some e from terms (Some t) Fit is l =
       let carried = l.of_filter.0 in
@@ -345,10 +366,12 @@ module _ (columns : List NamedColumn) (areKinds : AreKinds columns) (old : List 
       let column = column_under (operand_of t) in
       let done = finish (Some e) unsteady (selected from (Some t)) l.kinds l.widen (λ row. nat_eq (slice_index row column) 1) terms
       (select-stands old from (record shape { kinds = l.kinds }) (λ inputs. IsChanged (Means inputs) (map l.widen)) l.stands column bit.is)
+      (comes-then at from (selected from (Some t)) (mapped_at l.widen) (kept_at (λ (row : Row). nat_eq (slice_index row column) 1)) l.comes
+      (select-comes old from (record shape { kinds = l.kinds }) (λ inputs. IsChanged (Means inputs) (map l.widen)) l.stands column bit.is))
       l.of_items l.flat_items l.of_columns
       (λ row long. ap (λ (n : ℕ). nat_eq n 1)
       (bit.value (l.widen row) ∙ carried.value row (long ∙ sym (length-map columns (λ c. c.kind))) ∙ is.value row ∙ term-value columns (Unsigned 1) e row)) in
-      (select-fits old from (record shape { kinds = l.kinds }) (λ inputs. IsChanged (Means inputs) (map l.widen)) l.stands column bit.is, done.0, done.1, done.2)
+      (select-fits old from (record shape { kinds = l.kinds }) (λ inputs. IsChanged (Means inputs) (map l.widen)) l.stands column bit.is, done.0, done.1, done.2, done.3)
 
   -- a select of frames over a node
   pub frames-stand : (o : Option ExprShape) → IsFilter columns o → Stands old at shape Means
@@ -356,12 +379,13 @@ module _ (columns : List NamedColumn) (areKinds : AreKinds columns) (old : List 
       × (let over = levelled (length columns) at (frames_terms columns items) (filter_of columns o) in
       HasFrameDelay columns items slots (selected over.at over.filter) over.items)
       × Stands old (frames_over columns items o by at) (last (pace_under o shape.pace)) (λ inputs. AreFramed columns items o slots (Means inputs))
+      × FramesHere o (frames_over columns items o by at)
   frames-stand None is s =
       let opened = open_levels None tt tt s in
       let done = over_none _ _ _ _ opened in
-      (record { of_levels = opened.fit; of_select = done.0; of_frames = done.1 }, done.2, done.3)
+      (record { of_levels = opened.fit; of_select = done.0; of_frames = done.1 }, done.2, done.3, done.4)
   frames-stand (Some e) is s =
       let of_condition = cast columns areKinds e is in
       let opened = open_levels (filter_of columns (Some e)) (of_condition.fits, tt) (of_condition.no, tt) s in
       let done = over_some e _ _ _ _ of_condition opened in
-      (record { of_levels = opened.fit; of_select = done.0; of_frames = done.1 }, done.2, done.3)
+      (record { of_levels = opened.fit; of_select = done.0; of_frames = done.1 }, done.2, done.3, done.4)

@@ -1,5 +1,6 @@
 -- PARTITION over a node of a plan: the key that it becomes, and what frames by it make of a result.
-use Rattle.std.proofs.Common.{◌≡◌, ℕ, ◌+◌, Bool, ◌||◌, List, Option, Some, None, slice_index, sym, ap, ◌∙◌, map, filter}
+use Rattle.std.proofs.Common.{◌≡◌, ℕ, ◌+◌, Bool, ◌||◌, List, Option, Some, None, slice_index, sym, ap, subst, ◌∙◌, map, filter}
+use Rattle.std.specs.List.{AllByRecursion}
 use Rattle.std.proofs.lemmas.List.{length-map}
 use Rattle.gl_values.specs.Kinds.{width_of}
 use Rattle.gl_values.specs.Lists.{has_further}
@@ -26,7 +27,11 @@ use Rattle.gl_elaborate.proofs.TermLemmas.{kind-column}
 use Rattle.gl_elaborate.proofs.AcceptedLemmas.{column-fits}
 use Rattle.gl_elaborate.proofs.LevelLemmas.{KeepsColumns}
 use Rattle.gl_elaborate.proofs.LongLemmas.{AreLong}
-use Rattle.gl_elaborate.proofs.FramedLemmas.{filter_mapped, framed_mapped, further_mapped, keyed_mapped}
+use Rattle.gl_arrival.specs.Places.{Placed, rows_of}
+use Rattle.gl_arrival.specs.Changes.{framed_at, framed_by_key_at, kept_at, mapped_at}
+use Rattle.gl_arrival.specs.Results.{Arrivals, IsChangedInPlace}
+use Rattle.gl_arrival.proofs.ChangeLemmas.{rows_kept, rows_mapped}
+use Rattle.gl_elaborate.proofs.FramedLemmas.{filter_mapped, framed_mapped, framed_mapped_in_place, further_mapped, kept_mapped, keyed_mapped, keyed_mapped_in_place}
 
 -- made of a result of the source whose rows are long
 pub record IsFramed (columns : List NamedColumn) (items : List FrameItemShape) (condition : Option ExprShape) (source : Results) (out : List Row) (spill : Bool) : Type 0 where
@@ -49,6 +54,23 @@ pub record IsFramedByKey (columns : List NamedColumn) (items : List FrameItemSha
 abbrev pub AreFramed : List NamedColumn → List FrameItemShape → Option ExprShape → Option SlotsShape → Results → Results
 AreFramed columns items condition None source = IsFramed columns items condition source
 AreFramed columns items condition (Some s) source = IsFramedByKey columns items condition s source
+
+-- the same with places
+pub record IsFramedHere (columns : List NamedColumn) (items : List FrameItemShape) (condition : Option ExprShape) (source : Arrivals) (out : List (Placed Row)) (spill : Bool) : Type 0 where
+  pub rows : List (Placed Row)
+  pub of_source : source rows spill
+  pub made : AreLong columns (rows_of rows) → out ≡ framed_at (frame_row columns items) (kept_at (keeps columns condition) rows)
+
+pub record IsFramedByKeyHere (columns : List NamedColumn) (items : List FrameItemShape) (condition : Option ExprShape) (slots : SlotsShape) (source : Arrivals) (out : List (Placed Row)) (spill : Bool) : Type 0 where
+  pub rows : List (Placed Row)
+  pub source_spill : Bool
+  pub of_source : source rows source_spill
+  pub made : AreLong columns (rows_of rows) → out ≡ framed_by_key_at slots.groups (key_of columns slots) (frame_row columns items) (kept_at (keeps columns condition) rows)
+  pub told : AreLong columns (rows_of rows) → spill ≡ (source_spill || has_further slots.groups (key_of columns slots) (kept columns condition (rows_of rows)))
+
+abbrev pub AreFramedHere : List NamedColumn → List FrameItemShape → Option ExprShape → Option SlotsShape → Arrivals → Arrivals
+AreFramedHere columns items condition None source = IsFramedHere columns items condition source
+AreFramedHere columns items condition (Some s) source = IsFramedByKeyHere columns items condition s source
 
 -- the key of a node stands for PARTITION
 pub record IsKeyOf (columns : List NamedColumn) (kinds : List Kind) (slots : Option SlotsShape) : Type 0 where
@@ -107,4 +129,47 @@ module _ (columns : List NamedColumn) (areKinds : AreKinds columns) (kinds : Lis
               r.any ∙ ap (λ (l : List Row). r.source_spill || has_further s.groups key l) (narrowed source r.rows r.source_spill r.of_source long)
               ∙ ap (λ (b : Bool). r.source_spill || b)
               (further_mapped widen (IsLongAs columns) key key same s.groups (kept columns o rows) (all_filter (IsLongAs columns) (keeps columns o) rows long));
+        }
+
+    -- the same with places
+    long_kept : (xs : List (Placed Row)) → AreLong columns (rows_of xs) → AreLong columns (rows_of (kept_at (keeps columns o) xs))
+    long_kept xs long =
+        subst (AllByRecursion (IsLongAs columns)) (sym (rows_kept (keeps columns o) xs)) (all_filter (IsLongAs columns) (keeps columns o) (rows_of xs) long)
+
+    narrowed_here : (source : Arrivals) (out : List (Placed Row)) (spill : Bool) (r : IsChangedInPlace source (λ xs. kept_at p (mapped_at widen xs)) out spill)
+        → AreLong columns (rows_of r.rows) → out ≡ mapped_at widen (kept_at (keeps columns o) r.rows)
+    narrowed_here source out spill r long = r.changed ∙ kept_mapped widen (IsLongAs columns) p (keeps columns o) picks r.rows long
+
+    pub framed-alike-here : (slots : Option SlotsShape) → IsParted columns slots → (source : Arrivals) (out : List (Placed Row)) (spill : Bool)
+        → plan.IsFramedInPlace (key_over columns slots) (row_of_frames kinds made) (IsChangedInPlace source (λ xs. kept_at p (mapped_at widen xs))) out spill
+        → AreFramedHere columns items o slots source out spill
+    framed-alike-here None h source out spill r = record {
+      rows = r.of_source.rows;
+      of_source = r.of_source.of_source;
+      made = λ long.
+          let rows = r.of_source.rows in
+          r.changed ∙ ap (λ (l : List (Placed Row)). framed_at (row_of_frames kinds made) l) (narrowed_here source r.rows spill r.of_source long)
+          ∙ framed_mapped_in_place widen (IsLongAs columns) (row_of_frames kinds made) (frame_row columns items) alike (kept_at (keeps columns o) rows) (long_kept rows long);
+    }
+    framed-alike-here (Some s) h source out spill r =
+        let number = column_number columns s.key in
+        let column = wide number (column-fits columns areKinds s.key h.known) in
+        let same : (row : Row) → IsLongAs columns row → slice_index (widen row) number ≡ slice_index row number =
+        λ row long. column.value row (long ∙ sym (length-map columns (λ c. c.kind))) in
+        let rows = r.of_source.rows in
+        let key : Row → ℕ = key_of columns s in
+        let left : List (Placed Row) = kept_at (keeps columns o) rows in
+        record {
+          rows = rows;
+          source_spill = r.source_spill;
+          of_source = r.of_source.of_source;
+          made = λ long.
+              r.changed ∙ ap (λ (l : List (Placed Row)). framed_by_key_at s.groups key (row_of_frames kinds made) l) (narrowed_here source r.rows r.source_spill r.of_source long)
+              ∙ keyed_mapped_in_place widen (IsLongAs columns) (row_of_frames kinds made) (frame_row columns items) alike s.groups key key same left (long_kept rows long);
+          told = λ long.
+              r.any
+              ∙ ap (λ (l : List Row). r.source_spill || has_further s.groups key l)
+              (ap (λ (l : List (Placed Row)). rows_of l) (narrowed_here source r.rows r.source_spill r.of_source long) ∙ rows_mapped widen left)
+              ∙ ap (λ (b : Bool). r.source_spill || b) (further_mapped widen (IsLongAs columns) key key same s.groups (rows_of left) (long_kept rows long))
+              ∙ ap (λ (l : List Row). r.source_spill || has_further s.groups key l) (rows_kept (keeps columns o) rows);
         }

@@ -8,6 +8,7 @@ pub mod FramesLemmas
 pub mod LongLemmas
 pub mod ReadLemmas
 pub mod TwoLemmas
+pub mod RightLemmas
 pub mod QueryLemmas
 pub mod FigureLemmas
 pub mod StatementLemmas

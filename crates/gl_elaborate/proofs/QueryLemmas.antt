@@ -1,77 +1,44 @@
 -- The plan of an accepted query fits, has the query's shape, and each of its results is one of the query.
-use Rattle.std.proofs.Common.{◌≡◌, ◌≢◌, ℕ, Bool, true, false, ◌&&◌, List, [], ◌∷◌, ◌++◌, length, Option, Some, None, slice_index, refl, sym, ap, subst, ◌∙◌, map}
-use Rattle.std.specs.List.{AllByRecursion}
-use Rattle.std.specs.Prelude.{IsSome}
+use Rattle.std.proofs.Common.{◌≡◌, ℕ, Bool, true, false, ◌&&◌, List, [], ◌∷◌, ◌++◌, length, Option, slice_index, refl, sym, ap, subst, ◌∙◌, map}
+use Rattle.std.specs.Prelude.{IsTrue}
 use Rattle.std.proofs.lemmas.List.{map-append}
 use Rattle.gl_values.specs.Lists.{Group, groups, has_further}
 use Rattle.gl_values.specs.Partitions.{parts}
-use Rattle.gl_values.specs.Results.{Row, Results, AreBeside, AreJoined, IsOfBoth, IsOfGroup, IsOfParts}
+use Rattle.gl_values.specs.Results.{Row, AreBeside, AreJoined, IsOfBoth, IsOfGroup, IsOfParts}
 use Rattle.gl_values.specs.declared.kind.Kind.{Kind}
-use Rattle.gl_schema.specs.declared.schema.Column.{Column as NamedColumn}
 use Rattle.gl_schema.specs.declared.schema.Stream.{Stream}
 use Rattle.gl_schema.specs.Schemas.{kinds_of}
-use Rattle.gl_query.specs.declared.tree.Measure.{Measure}
-use Rattle.gl_query.specs.declared.tree.Measure.TheVariants.{Tuples, Time}
 use Rattle.gl_query.specs.Shapes.{ExprShape, AggItemShape, FrameItemShape, QueryShape, SlotsShape}
 use Rattle.gl_query.specs.Shapes as shape
 use Rattle.gl_query.specs.Values.{column_number}
-use Rattle.gl_query.specs.Columns.{columns_of, frame_column, source_columns, variable, is_closing, pace_of, unfiltered, picked_columns}
-use Rattle.gl_query.specs.Columns as query
-use Rattle.gl_query.specs.Accepted.{IsAcceptedOver, can_measure}
+use Rattle.gl_bits.proofs.Bools.{and_parts}
+use Rattle.gl_query.specs.Columns.{arrives, columns_of, frame_column, source_columns, variable, is_closing, pace_of, picked_columns}
+use Rattle.gl_query.specs.Accepted.{IsAcceptedOver}
 use Rattle.gl_query.specs.Windows.{parts_of}
-use Rattle.gl_query.specs.Results.{Env, IsFramed, IsResultIn, frame_row, only, picked, kept, ticks_in, times_in, total_row}
+use Rattle.gl_query.specs.Results.{IsResultIn, only, picked, kept, ticks_in, times_in, total_row}
 use Rattle.gl_query.proofs.Holding.{all_parts}
 use Rattle.gl_query.proofs.Real.{AreReal, real}
 use Rattle.gl_algebra.specs.declared.node.PlanNode.{PlanNode}
 use Rattle.gl_algebra.specs.declared.node.PlanNode.TheVariants as node
-use Rattle.gl_algebra.specs.Fits.{IsPlan, IsOverStream}
-use Rattle.gl_algebra.specs.Shapes.{Pace, unsteady, pace_by_key, shape_of}
+use Rattle.gl_algebra.specs.Fits.{IsPlan}
+use Rattle.gl_algebra.specs.Shapes.{Pace, unsteady, shape_of}
 use Rattle.gl_algebra.specs.Added.{Placed, added}
-use Rattle.gl_algebra.specs.Results.{Inputs, given, times_with, IsPlanResult}
+use Rattle.gl_algebra.specs.Results.{given, IsPlanArrival, IsPlanResult}
 use Rattle.gl_elaborate.proofs.TermLemmas.{kind-column}
 use Rattle.gl_elaborate.proofs.AcceptedLemmas.{column-fits}
 use Rattle.gl_elaborate.specs.Plans.{filter_of, frames_over, frames_terms, key_over, levelled, placed, rows_over, selected, totals_over, window_node}
 use Rattle.gl_elaborate.specs.Fitting.{PlacedFit}
 use Rattle.gl_elaborate.specs.Right.{plan_pace, leaves_of, shape_for}
 use Rattle.gl_elaborate.proofs.LongLemmas.{AreLong, in-groups, in-parts, results-long}
-use Rattle.gl_elaborate.proofs.ReadLemmas.{IsReader, Sees, means_for, all-kinds, read-shape, read-fits, read-means, body-reader, body-sees, body-leaves}
-use Rattle.gl_elaborate.proofs.PlacedLemmas.{IsOver, is_added}
+use Rattle.gl_elaborate.proofs.ReadLemmas.{IsReader, means_for, all-kinds, read-arrives, read-shape, read-fits, read-means, body-reader, body-sees, body-leaves}
 use Rattle.gl_elaborate.proofs.StandsLemmas.{Stands, weaker}
-use Rattle.gl_elaborate.proofs.RowsLemmas.{IsPicked, pace_under, rows-stand}
+use Rattle.gl_elaborate.proofs.RightLemmas.{ComeOf, joined-means, rows-pace, frames-pace, some-pace, over-stream, same-parts, framed-means, picked-arrives, framed-arrives, merged-arrives}
+use Rattle.gl_elaborate.proofs.RowsLemmas.{IsPicked, rows-stand}
 use Rattle.gl_elaborate.proofs.TotalsLemmas.{IsTotalled, HasDelay, totals-stand}
 use Rattle.gl_elaborate.proofs.KeyedLemmas.{AreFramed}
 use Rattle.gl_elaborate.proofs.FramesLemmas.{HasFrameDelay, frames-stand}
-use Rattle.gl_elaborate.proofs.TwoLemmas.{behind, left_still, union-stands, beside-stands, window-stands, group-stands, partition-stands}
+use Rattle.gl_elaborate.proofs.TwoLemmas.{behind, left-comes, left_still, merge-stands, union-stands, beside-stands, window-stands, group-stands, partition-stands}
 use Rattle.gl_query.specs.Laws.{IsLongAs, ResultsAreLong}
-use Rattle.gl_frames.specs.Frames.{framed}
-
--- ---- results in parts
-
-joined-means : {A : Type 0} (P : A → Type 0) (F G : A → Results) (each : (x : A) (out : List Row) (spill : Bool) → P x → F x out spill → G x out spill)
-    (parts : List A) (out : List Row) (spill : Bool) → AllByRecursion P parts → AreJoined F parts out spill → AreJoined G parts out spill
-joined-means P F G each [] out spill h r = r
-joined-means P F G each (x ∷ parts) out spill h (first, later, p, q, one, rest, e, s) =
-    (first, later, p, q, each x first p h.0 one, joined-means P F G each parts later q h.1 rest, e, s)
-
--- ---- paces
-
-rows-pace : (read : List ℕ → PlanNode) (condition : Option ExprShape) (pace : Option query.Pace)
-    → pace_under condition (plan_pace read pace) ≡ plan_pace read (unfiltered condition pace)
-rows-pace read None pace = refl
-rows-pace read (Some e) pace = refl
-
-frames-pace : (read : List ℕ → PlanNode) (columns : List NamedColumn) (slots : Option SlotsShape) (condition : Option ExprShape) (pace : Option query.Pace)
-    → pace_by_key (key_over columns slots) (pace_under condition (plan_pace read pace)) ≡ plan_pace read (unfiltered condition (unfiltered slots pace))
-frames-pace read columns None None pace = refl
-frames-pace read columns None (Some e) pace = refl
-frames-pace read columns (Some s) None pace = refl
-frames-pace read columns (Some s) (Some e) pace = refl
-
-some-pace : (read : List ℕ → PlanNode) (sources : List Stream) (timed : Bool) → IsReader read sources timed → (pace : Option query.Pace) → IsSome pace
-    → plan_pace read pace ≢ unsteady
-some-pace read sources timed reader None some e = cc
-some-pace read sources timed reader (Some query.Once) some e = absurd (cc)
-some-pace read sources timed reader (Some (query.Step name)) some e = reader.steady name e
 
 -- ---- queries
 
@@ -80,51 +47,13 @@ pub columns-are : (q : QueryShape) (read : List ℕ → PlanNode) (sources : Lis
 columns-are q read sources timed reader a = real q (record { sources = sources; timed = timed }) reader.scope a
 
 module _ (read : List ℕ → PlanNode) (sources : List Stream) (timed : Bool) where
+  -- where each row of a query comes of one row that came, what comes of its node is what comes of the query
+  abbrev pub HasArrivals : QueryShape → Placed → Type 0
+  HasArrivals q at = IsTrue (arrives q) → ComeOf read sources timed q (λ inputs. IsPlanArrival at.nodes at.root inputs)
+
   abbrev pub IsRight : QueryShape → List PlanNode → Type 0
   IsRight q nodes = PlacedFit read sources q nodes × Stands nodes (placed read sources q nodes) (shape_for read sources q) (means_for read sources timed q)
-
--- a window of time is over a stream's node
-over-stream : (measure : Measure) (source : QueryShape) (read : List ℕ → PlanNode) (sources : List Stream) (timed : Bool) (nodes : List PlanNode) (at : Placed)
-    (size advance : ℕ) → IsReader read sources timed → IsAcceptedOver (record { sources = sources; timed = timed }) source
-    → can_measure measure (record { sources = sources; timed = timed }) source ≡ true → IsPlan nodes → IsOver (placed read sources source nodes).nodes at
-    → IsOverStream at.nodes (window_node measure (placed read sources source nodes).root at.root size advance)
-over-stream Tuples source read sources timed nodes at size advance reader a can plan over = tt
-over-stream Time (shape.Read name) read sources timed nodes at size advance reader a can plan over =
-    let fits = read-fits (read name) (kinds_of (source_columns sources name)) nodes (reader.leaf name a) (all-kinds (source_columns sources name) (reader.scope.kinds name)) in
-    let new = is_added nodes (read name) plan fits in
-    let stream = reader.streams can name in
-    (stream.0, stream.1, over.kept (added nodes (read name)).root new.over.within ∙ new.there ∙ ap Some stream.2)
-over-stream Time source read sources timed nodes at size advance reader a can plan over = absurd (cc)
-
--- its rows have the times that the plan sees
-same-parts : (measure : Measure) (source : QueryShape) (read : List ℕ → PlanNode) (sources : List Stream) (timed : Bool) (env : Env) (inputs : Inputs)
-    (size advance : ℕ) (rows : List Row) → IsAcceptedOver (record { sources = sources; timed = timed }) source
-    → can_measure measure (record { sources = sources; timed = timed }) source ≡ true → Sees read sources timed env inputs
-    → parts_of measure size advance (times_with (plan_pace read (pace_of source)) inputs) inputs.ticks rows
-    ≡ parts_of measure size advance (times_in env source) (ticks_in env source) rows
-same-parts Tuples source read sources timed env inputs size advance rows a can sees = refl
-same-parts Time (shape.Read name) read sources timed env inputs size advance rows a can sees =
-    (λ i. parts_of Time size advance (sees.times can name a i) (sees.ticks can name a i) rows)
-same-parts Time source read sources timed env inputs size advance rows a can sees = absurd (cc)
-
--- what frames make of a result of their source is a result of the query
-framed-means : ResultsAreLong → (items : List FrameItemShape) (condition : Option ExprShape) (slots : Option SlotsShape) (source : QueryShape) (read : List ℕ → PlanNode)
-    (sources : List Stream) (timed : Bool) → IsAcceptedOver (record { sources = sources; timed = timed }) source → (inputs : Inputs) (out : List Row) (spill : Bool)
-    → AreFramed (columns_of sources source) items condition slots (means_for read sources timed source inputs) out spill
-    → means_for read sources timed (shape.Frames items condition slots source) inputs out spill
-framed-means lengths items condition None source read sources timed a inputs out spill r = λ env sees.
-    let result = r.of_source env sees in
-    record {
-      rows = r.rows;
-      of_source = result;
-      changed = subst (λ (s : List Stream). out ≡ framed (frame_row (columns_of s source) items) (kept (columns_of s source) condition r.rows))
-          (sym sees.streams) (r.made (results-long lengths source sources timed env r.rows spill a sees.streams sees.are_long result));
-    }
-framed-means lengths items condition (Some slots) source read sources timed a inputs out spill r = λ env sees.
-    let result = r.of_source env sees in
-    let long = results-long lengths source sources timed env r.rows r.source_spill a sees.streams sees.are_long result in
-    subst (λ (s : List Stream). IsFramed (columns_of s source) items condition (Some slots) (IsResultIn source env) out spill) (sym sees.streams)
-    (record { rows = r.rows; source_spill = r.source_spill; of_source = result; changed = r.made long; any = r.told long })
+      × HasArrivals q (placed read sources q nodes)
 
 -- the plan of an accepted query
 pub right : ResultsAreLong → (q : QueryShape) (read : List ℕ → PlanNode) (sources : List Stream) (timed : Bool) (nodes : List PlanNode) → IsReader read sources timed
@@ -138,10 +67,14 @@ right lengths (shape.Read name) read sources timed nodes reader a plan =
         over = new.over;
         is = new.shape ∙ read-shape (read name) (kinds_of (source_columns sources name)) (shape_of nodes) leaf;
         means = λ inputs out spill r env sees.
-            let given = read-means (read name) (kinds_of (source_columns sources name)) (shape_of nodes) (IsPlanResult nodes) inputs out spill leaf
+            let given = read-means (read name) (kinds_of (source_columns sources name)) (shape_of nodes) (IsPlanArrival nodes) (IsPlanResult nodes) inputs out spill leaf
             (new.result inputs out spill r) in
             record { rows = given.0 ∙ sees.reads name a; kept = given.1 };
       },
+      λ t inputs out spill r env sees.
+          let given = read-arrives (read name) (kinds_of (source_columns sources name)) (shape_of nodes) (IsPlanArrival nodes) inputs out spill leaf
+          (new.comes inputs out spill r) in
+          record { rows = given.0 ∙ sees.places name a; kept = given.1 },
     )
 right lengths (shape.Rows pick condition source) read sources timed nodes reader a plan =
     let columns = columns_of sources source in
@@ -149,7 +82,8 @@ right lengths (shape.Rows pick condition source) read sources timed nodes reader
     let are = columns-are source read sources timed reader a.0 in
     let done = rows-stand columns are.kinds nodes (placed read sources source nodes) (shape_for read sources source) (means_for read sources timed source) refl
     pick condition a.1 below.1 in
-    let at = rows_over columns pick condition (placed read sources source nodes) in
+    let from = placed read sources source nodes in
+    let at = rows_over columns pick condition from in
     let paced = subst (λ (p : Pace). Stands nodes at (record (shape_for read sources source) { kinds = kinds_of (picked_columns columns pick); pace = p })
     (λ inputs. IsPicked columns pick condition (means_for read sources timed source inputs))) (rows-pace read condition (pace_of source)) done.1 in (
       (below.0, done.0),
@@ -163,6 +97,8 @@ right lengths (shape.Rows pick condition source) read sources timed nodes reader
             changed = subst (λ (s : List Stream). out ≡ map (picked (columns_of s source) pick) (kept (columns_of s source) condition r.rows))
                 (sym sees.streams) (r.made (results-long lengths source sources timed env r.rows spill a.0 sees.streams sees.are_long result));
           }),
+      λ t inputs out spill r.
+          picked-arrives lengths pick condition source read sources timed a.0 (λ i. IsPlanArrival from.nodes from.root i) (below.2 t) inputs out spill (done.2 inputs out spill r),
     )
 right lengths (shape.Total aggs source) read sources timed nodes reader a plan =
     let columns = columns_of sources source in
@@ -182,6 +118,7 @@ right lengths (shape.Total aggs source) read sources timed nodes reader a plan =
             changed = subst (λ (s : List Stream). out ≡ total_row (columns_of s source) aggs r.rows ∷ [])
                 (sym sees.streams) (r.made (results-long lengths source sources timed env r.rows spill a.0 sees.streams sees.are_long result));
           }),
+      λ t. absurd (cc),
     )
 right lengths (shape.Frames items condition slots source) read sources timed nodes reader a plan =
     let columns = columns_of sources source in
@@ -189,13 +126,16 @@ right lengths (shape.Frames items condition slots source) read sources timed nod
     let are = columns-are source read sources timed reader a.0 in
     let done = frames-stand columns are.kinds nodes (placed read sources source nodes) (shape_for read sources source) (means_for read sources timed source) refl
     items a.1.typed slots a.1.parted condition a.1.filters below.1 in
-    let at = frames_over columns items condition (key_over columns slots) (placed read sources source nodes) in
+    let from = placed read sources source nodes in
+    let at = frames_over columns items condition (key_over columns slots) from in
     let paced = subst (λ (p : Pace). Stands nodes at (record (shape_for read sources source) { kinds = kinds_of (map (frame_column columns) items); pace = p })
     (λ inputs. AreFramed columns items condition slots (means_for read sources timed source inputs))) (frames-pace read columns slots condition (pace_of source)) done.2 in (
       (below.0, done.0),
       weaker nodes at (shape_for read sources (shape.Frames items condition slots source)) (λ inputs. AreFramed columns items condition slots (means_for read sources timed source inputs))
           (means_for read sources timed (shape.Frames items condition slots source)) paced
           (framed-means lengths items condition slots source read sources timed a.0),
+      λ t inputs out spill r.
+          framed-arrives lengths items condition slots source read sources timed a.0 (λ i. IsPlanArrival from.nodes from.root i) (below.2 t) inputs out spill (done.3 inputs out spill r),
     )
 right lengths (shape.Each measure var source size advance body) read sources timed nodes reader a plan =
     let columns = columns_of sources source in
@@ -231,6 +171,7 @@ right lengths (shape.Each measure var source size advance body) read sources tim
                 (subst (λ (ps : List (List Row)). AreJoined (λ slice. IsPlanResult at.nodes at.root (given inputs slice)) ps out r.parts_spill) parts r.of_parts);
             any = r.any;
           })),
+      λ t. absurd (cc),
     )
 right lengths (shape.PerGroup var source key count body) read sources timed nodes reader a plan =
     let columns = columns_of sources source in
@@ -247,7 +188,7 @@ right lengths (shape.PerGroup var source key count body) read sources timed node
     let s = left_still nodes from at (shape_for read sources source) (shape_for inner (variable var columns) body)
     (means_for read sources timed source) (means_for inner (variable var columns) false body) below.1 inside.1 in
     let stands = subst (λ (k : Kind). Stands nodes (added at.nodes (node.Group from.root at.root number count))
-    (record (shape_for read sources source) { kinds = k ∷ kinds_of (columns_of (variable var columns) body); closing = true; pace = unsteady })
+    (record (shape_for read sources source) { kinds = k ∷ kinds_of (columns_of (variable var columns) body); closing = true; pace = unsteady; arrives = false })
     (λ inputs. IsOfParts (IsPlanResult at.nodes from.root inputs) (groups count (λ row. slice_index row number))
     (IsOfGroup (λ rows. IsPlanResult at.nodes at.root (given inputs rows))) (has_further count (λ row. slice_index row number))))
     (kind-column columns key) two.stands in (
@@ -275,6 +216,7 @@ right lengths (shape.PerGroup var source key count body) read sources timed node
                 (in-groups (IsLongAs columns) count (λ row. slice_index row number) r.rows long) r.of_parts;
             any = r.any;
           })),
+      λ t. absurd (cc),
     )
 right lengths (shape.Partition var source key count size advance body) read sources timed nodes reader a plan =
     let columns = columns_of sources source in
@@ -291,7 +233,7 @@ right lengths (shape.Partition var source key count size advance body) read sour
     let s = left_still nodes from at (shape_for read sources source) (shape_for inner (variable var columns) body)
     (means_for read sources timed source) (means_for inner (variable var columns) false body) below.1 inside.1 in
     let stands = subst (λ (k : Kind). Stands nodes (added at.nodes (node.Partition from.root at.root number count size advance))
-    (record (shape_for read sources source) { kinds = k ∷ kinds_of (columns_of (variable var columns) body); pace = unsteady })
+    (record (shape_for read sources source) { kinds = k ∷ kinds_of (columns_of (variable var columns) body); pace = unsteady; arrives = false })
     (λ inputs. IsOfParts (IsPlanResult at.nodes from.root inputs) (parts count (λ row. slice_index row number) size advance)
     (IsOfGroup (λ rows. IsPlanResult at.nodes at.root (given inputs rows))) (has_further count (λ row. slice_index row number))))
     (kind-column columns key) two.stands in (
@@ -319,6 +261,7 @@ right lengths (shape.Partition var source key count size advance body) read sour
                 (in-parts (IsLongAs columns) count (λ row. slice_index row number) size advance r.rows long) r.of_parts;
             any = r.any;
           })),
+      λ t. absurd (cc),
     )
 right lengths (shape.Union l r) read sources timed nodes reader a plan =
     let first = right lengths l read sources timed nodes reader a.0 plan in
@@ -339,6 +282,23 @@ right lengths (shape.Union l r) read sources timed nodes reader a plan =
             join = x.join;
             either = x.either;
           }),
+      λ t. absurd (cc),
+    )
+right lengths (shape.ByArrival l r) read sources timed nodes reader a plan =
+    let first = right lengths l read sources timed nodes reader a.0 plan in
+    let left = placed read sources l nodes in
+    let second = right lengths r read sources timed left.nodes reader a.1 first.1.over.plan in
+    let both = placed read sources r left.nodes in
+    let come = and_parts (arrives l) (arrives r) a.2 in
+    let two = merge-stands nodes left both (shape_for read sources l) (shape_for read sources r) (means_for read sources timed l) (means_for read sources timed r) first.1 second.1 a.3 come.0 come.1 in
+    let back = left-comes nodes left both (shape_for read sources l) (shape_for read sources r) (means_for read sources timed l) (means_for read sources timed r) first.1 second.1 in
+    let new = behind both.nodes (node.Merge left.root both.root) second.1.over.plan two.fits in
+    let made = merged-arrives l r read sources timed (λ i. IsPlanArrival both.nodes left.root i) (λ i. IsPlanArrival both.nodes both.root i)
+    (λ inputs out spill x. first.2 come.0 inputs out spill (back inputs out spill x)) (second.2 come.1) in (
+      (first.0, second.0, two.fits),
+      weaker nodes (added both.nodes (node.Merge left.root both.root)) (shape_for read sources (shape.ByArrival l r)) _ (means_for read sources timed (shape.ByArrival l r)) two.stands
+          (λ inputs out spill x env sees. record { rows = x.rows; of_source = made inputs x.rows spill x.of_source env sees; without = x.without }),
+      λ t inputs out spill x. made inputs out spill (new.comes inputs out spill x),
     )
 right lengths (shape.Concat l r) read sources timed nodes reader a plan =
     let first = right lengths l read sources timed nodes reader a.0 plan in
@@ -349,7 +309,7 @@ right lengths (shape.Concat l r) read sources timed nodes reader a plan =
     (ap (plan_pace read) a.2.same) (some-pace read sources timed reader (pace_of l) a.2.paced) in
     let s = left_still nodes left both (shape_for read sources l) (shape_for read sources r) (means_for read sources timed l) (means_for read sources timed r) first.1 second.1 in
     let stands = subst (λ (k : List Kind). Stands nodes (added both.nodes (node.Beside left.root both.root))
-    (record { kinds = k; closing = is_closing l && is_closing r; pace = plan_pace read (pace_of l); leaves = leaves_of read l ++ leaves_of read r })
+    (record { kinds = k; closing = is_closing l && is_closing r; pace = plan_pace read (pace_of l); arrives = false; leaves = leaves_of read l ++ leaves_of read r })
     (λ inputs. IsOfBoth (IsPlanResult both.nodes left.root inputs) (IsPlanResult both.nodes both.root inputs) AreBeside))
     (sym (map-append (λ c. c.kind) (columns_of sources l) (columns_of sources r))) two.stands in (
       (first.0, second.0, two.fits),
@@ -364,6 +324,7 @@ right lengths (shape.Concat l r) read sources timed nodes reader a plan =
             join = x.join;
             either = x.either;
           }),
+      λ t. absurd (cc),
     )
 
 pub total-delay : ResultsAreLong → (aggs : List AggItemShape) (source : QueryShape) (read : List ℕ → PlanNode) (sources : List Stream) (timed : Bool) (nodes : List PlanNode)

@@ -14,13 +14,14 @@ use Rattle.gl_schema.specs.Schemas.{kinds_of, has_stream}
 use Rattle.gl_query.specs.Shapes.{QueryShape}
 use Rattle.gl_query.specs.Shapes as shape
 use Rattle.gl_query.specs.Columns.{source_columns, variable}
-use Rattle.gl_query.specs.Results.{Env, IsResultIn, only, rows_of, streams_of, ticks_in, times_in}
+use Rattle.gl_query.specs.Results.{ArrivesIn, Env, IsResultIn, only, placed_rows_of, rows_of, streams_of, ticks_in, times_in}
 use Rattle.gl_query.specs.Laws.{AreKinds, HoldsIn, IsLongAs}
 use Rattle.gl_query.proofs.Real.{AreReal, IsScope, body_is}
 use Rattle.gl_algebra.specs.declared.node.PlanNode.{PlanNode}
 use Rattle.gl_algebra.specs.declared.node.PlanNode.TheVariants as node
 use Rattle.gl_algebra.specs.Shapes.{Shape, unsteady, shape_from}
-use Rattle.gl_algebra.specs.Results.{Inputs, Meaning, given, meaning_from, times_with}
+use Rattle.gl_arrival.specs.Places.{Placed, at_places}
+use Rattle.gl_algebra.specs.Results.{Arriving, Inputs, Meaning, arriving_from, given, meaning_from, times_with}
 use Rattle.gl_elaborate.specs.Fitting.{FitsNext}
 use Rattle.gl_elaborate.specs.Right.{pace_at, leaves_of}
 use Rattle.gl_elaborate.proofs.LongLemmas.{AreLong}
@@ -35,6 +36,7 @@ IsLeafOf (node.Project child items) kinds = ⊥
 IsLeafOf (node.Frames child by items) kinds = ⊥
 IsLeafOf (node.Aggregate child aggs) kinds = ⊥
 IsLeafOf (node.Union left right) kinds = ⊥
+IsLeafOf (node.Merge left right) kinds = ⊥
 IsLeafOf (node.Beside left right) kinds = ⊥
 IsLeafOf (node.Window source body size advance) kinds = ⊥
 IsLeafOf (node.TimeWindow source body size advance) kinds = ⊥
@@ -51,11 +53,29 @@ leaf_rows (node.Project child items) inputs = []
 leaf_rows (node.Frames child by items) inputs = []
 leaf_rows (node.Aggregate child aggs) inputs = []
 leaf_rows (node.Union left right) inputs = []
+leaf_rows (node.Merge left right) inputs = []
 leaf_rows (node.Beside left right) inputs = []
 leaf_rows (node.Window source body size advance) inputs = []
 leaf_rows (node.TimeWindow source body size advance) inputs = []
 leaf_rows (node.Group source body key groups) inputs = []
 leaf_rows (node.Partition source body key groups size advance) inputs = []
+
+-- the same rows, each at its place
+abbrev pub leaf_placed : PlanNode → Inputs → List (Placed Row)
+leaf_placed (node.Stream number kinds) inputs = at_places (inputs.streams number) (inputs.places number)
+leaf_placed (node.Body kinds) inputs = at_places inputs.body inputs.body_places
+leaf_placed (node.Compute child ops) inputs = []
+leaf_placed (node.Select child column) inputs = []
+leaf_placed (node.Project child items) inputs = []
+leaf_placed (node.Frames child by items) inputs = []
+leaf_placed (node.Aggregate child aggs) inputs = []
+leaf_placed (node.Union left right) inputs = []
+leaf_placed (node.Merge left right) inputs = []
+leaf_placed (node.Beside left right) inputs = []
+leaf_placed (node.Window source body size advance) inputs = []
+leaf_placed (node.TimeWindow source body size advance) inputs = []
+leaf_placed (node.Group source body key groups) inputs = []
+leaf_placed (node.Partition source body key groups size advance) inputs = []
 
 -- a stream's node
 abbrev pub IsStreamNode : PlanNode → Type 0
@@ -73,6 +93,7 @@ pub record Sees (read : List ℕ → PlanNode) (sources : List Stream) (timed : 
   pub streams : streams_of env ≡ sources
   pub are_long : HoldsIn IsLongAs env
   pub reads : (name : List ℕ) → has_stream sources name ≡ true → leaf_rows (read name) inputs ≡ rows_of env name
+  pub places : (name : List ℕ) → has_stream sources name ≡ true → leaf_placed (read name) inputs ≡ placed_rows_of env name
   pub times : timed ≡ true → (name : List ℕ) → has_stream sources name ≡ true
       → times_with (pace_at (read name)) inputs ≡ times_in env (shape.Read name)
   pub ticks : timed ≡ true → (name : List ℕ) → has_stream sources name ≡ true → inputs.ticks ≡ ticks_in env (shape.Read name)
@@ -81,21 +102,26 @@ pub record Sees (read : List ℕ → PlanNode) (sources : List Stream) (timed : 
 abbrev pub means_for : (List ℕ → PlanNode) → List Stream → Bool → QueryShape → Meaning
 means_for read sources timed q inputs out spill = (env : Env) → Sees read sources timed env inputs → IsResultIn q env out spill
 
+-- and those with places
+abbrev pub arrives_for : (List ℕ → PlanNode) → List Stream → Bool → QueryShape → Arriving
+arrives_for read sources timed q inputs out spill = (env : Env) → Sees read sources timed env inputs → ArrivesIn q env out spill
+
 -- ---- one leaf
 
 pub all-kinds : (columns : List NamedColumn) → AreKinds columns → AllByRecursion IsKind (kinds_of columns)
 all-kinds columns h = all_mapped IsKind (λ (c : NamedColumn). c.kind) columns h
 
 pub read-shape : (n : PlanNode) (kinds : List Kind) (s : ℕ → Shape) → IsLeafOf n kinds
-    → shape_from s n ≡ record { kinds = kinds; closing = false; pace = pace_at n; leaves = n ∷ [] }
-read-shape (node.Stream k own) kinds s h = λ i. record { kinds = h i; closing = false; pace = pace_at (node.Stream k own); leaves = node.Stream k own ∷ [] }
-read-shape (node.Body own) kinds s h = λ i. record { kinds = h i; closing = false; pace = pace_at (node.Body own); leaves = node.Body own ∷ [] }
+    → shape_from s n ≡ record { kinds = kinds; closing = false; pace = pace_at n; arrives = true; leaves = n ∷ [] }
+read-shape (node.Stream k own) kinds s h = λ i. record { kinds = h i; closing = false; pace = pace_at (node.Stream k own); arrives = true; leaves = node.Stream k own ∷ [] }
+read-shape (node.Body own) kinds s h = λ i. record { kinds = h i; closing = false; pace = pace_at (node.Body own); arrives = true; leaves = node.Body own ∷ [] }
 read-shape (node.Compute child ops) kinds s h = absurd h
 read-shape (node.Select child column) kinds s h = absurd h
 read-shape (node.Project child items) kinds s h = absurd h
 read-shape (node.Frames child by items) kinds s h = absurd h
 read-shape (node.Aggregate child aggs) kinds s h = absurd h
 read-shape (node.Union left right) kinds s h = absurd h
+read-shape (node.Merge left right) kinds s h = absurd h
 read-shape (node.Beside left right) kinds s h = absurd h
 read-shape (node.Window source body size advance) kinds s h = absurd h
 read-shape (node.TimeWindow source body size advance) kinds s h = absurd h
@@ -119,27 +145,46 @@ read-fits (node.Project child items) kinds nodes h a = absurd h
 read-fits (node.Frames child by items) kinds nodes h a = absurd h
 read-fits (node.Aggregate child aggs) kinds nodes h a = absurd h
 read-fits (node.Union left right) kinds nodes h a = absurd h
+read-fits (node.Merge left right) kinds nodes h a = absurd h
 read-fits (node.Beside left right) kinds nodes h a = absurd h
 read-fits (node.Window source body size advance) kinds nodes h a = absurd h
 read-fits (node.TimeWindow source body size advance) kinds nodes h a = absurd h
 read-fits (node.Group source body key groups) kinds nodes h a = absurd h
 read-fits (node.Partition source body key groups size advance) kinds nodes h a = absurd h
 
-pub read-means : (n : PlanNode) (kinds : List Kind) (s : ℕ → Shape) (m : ℕ → Meaning) (inputs : Inputs) (out : List Row) (spill : Bool) → IsLeafOf n kinds
-    → meaning_from s m n inputs out spill → (out ≡ leaf_rows n inputs) × (spill ≡ false)
-read-means (node.Stream k own) kinds s m inputs out spill h r = (r.rows, r.kept)
-read-means (node.Body own) kinds s m inputs out spill h r = (r.rows, r.kept)
-read-means (node.Compute child ops) kinds s m inputs out spill h r = absurd h
-read-means (node.Select child column) kinds s m inputs out spill h r = absurd h
-read-means (node.Project child items) kinds s m inputs out spill h r = absurd h
-read-means (node.Frames child by items) kinds s m inputs out spill h r = absurd h
-read-means (node.Aggregate child aggs) kinds s m inputs out spill h r = absurd h
-read-means (node.Union left right) kinds s m inputs out spill h r = absurd h
-read-means (node.Beside left right) kinds s m inputs out spill h r = absurd h
-read-means (node.Window source body size advance) kinds s m inputs out spill h r = absurd h
-read-means (node.TimeWindow source body size advance) kinds s m inputs out spill h r = absurd h
-read-means (node.Group source body key groups) kinds s m inputs out spill h r = absurd h
-read-means (node.Partition source body key groups size advance) kinds s m inputs out spill h r = absurd h
+pub read-means : (n : PlanNode) (kinds : List Kind) (s : ℕ → Shape) (v : ℕ → Arriving) (m : ℕ → Meaning) (inputs : Inputs) (out : List Row) (spill : Bool) → IsLeafOf n kinds
+    → meaning_from s v m n inputs out spill → (out ≡ leaf_rows n inputs) × (spill ≡ false)
+read-means (node.Stream k own) kinds s v m inputs out spill h r = (r.rows, r.kept)
+read-means (node.Body own) kinds s v m inputs out spill h r = (r.rows, r.kept)
+read-means (node.Compute child ops) kinds s v m inputs out spill h r = absurd h
+read-means (node.Select child column) kinds s v m inputs out spill h r = absurd h
+read-means (node.Project child items) kinds s v m inputs out spill h r = absurd h
+read-means (node.Frames child by items) kinds s v m inputs out spill h r = absurd h
+read-means (node.Aggregate child aggs) kinds s v m inputs out spill h r = absurd h
+read-means (node.Union left right) kinds s v m inputs out spill h r = absurd h
+read-means (node.Merge left right) kinds s v m inputs out spill h r = absurd h
+read-means (node.Beside left right) kinds s v m inputs out spill h r = absurd h
+read-means (node.Window source body size advance) kinds s v m inputs out spill h r = absurd h
+read-means (node.TimeWindow source body size advance) kinds s v m inputs out spill h r = absurd h
+read-means (node.Group source body key groups) kinds s v m inputs out spill h r = absurd h
+read-means (node.Partition source body key groups size advance) kinds s v m inputs out spill h r = absurd h
+
+pub read-arrives : (n : PlanNode) (kinds : List Kind) (s : ℕ → Shape) (v : ℕ → Arriving) (inputs : Inputs) (out : List (Placed Row)) (spill : Bool) → IsLeafOf n kinds
+    → arriving_from s v n inputs out spill → (out ≡ leaf_placed n inputs) × (spill ≡ false)
+read-arrives (node.Stream k own) kinds s v inputs out spill h r = (r.rows, r.kept)
+read-arrives (node.Body own) kinds s v inputs out spill h r = (r.rows, r.kept)
+read-arrives (node.Compute child ops) kinds s v inputs out spill h r = absurd h
+read-arrives (node.Select child column) kinds s v inputs out spill h r = absurd h
+read-arrives (node.Project child items) kinds s v inputs out spill h r = absurd h
+read-arrives (node.Frames child by items) kinds s v inputs out spill h r = absurd h
+read-arrives (node.Aggregate child aggs) kinds s v inputs out spill h r = absurd h
+read-arrives (node.Union left right) kinds s v inputs out spill h r = absurd h
+read-arrives (node.Merge left right) kinds s v inputs out spill h r = absurd h
+read-arrives (node.Beside left right) kinds s v inputs out spill h r = absurd h
+read-arrives (node.Window source body size advance) kinds s v inputs out spill h r = absurd h
+read-arrives (node.TimeWindow source body size advance) kinds s v inputs out spill h r = absurd h
+read-arrives (node.Group source body key groups) kinds s v inputs out spill h r = absurd h
+read-arrives (node.Partition source body key groups size advance) kinds s v inputs out spill h r = absurd h
 
 lost : (var : List ℕ) (columns : List NamedColumn) (name : List ℕ) → bytes_eq name var ≡ false → has_stream (variable var columns) name ≡ true → ⊥
 unfolding has_stream
@@ -159,6 +204,7 @@ body-sees var columns inputs rows long = record {
   streams = refl;
   are_long = λ name. by_cases (bytes_eq name var) (λ e. rw e long) (λ e. rw e tt);
   reads = λ name has. by_cases (bytes_eq name var) (λ e. rw e refl) (λ e. absurd (lost var columns name e has));
+  places = λ name has. by_cases (bytes_eq name var) (λ e. rw e refl) (λ e. absurd (lost var columns name e has));
   times = λ t name has. absurd (cc);
   ticks = λ t name has. absurd (cc);
 }
@@ -172,4 +218,5 @@ body-leaves n (shape.Each measure var source size advance body) = body-leaves n 
 body-leaves n (shape.PerGroup var source key groups body) = body-leaves n source
 body-leaves n (shape.Partition var source key groups size advance body) = body-leaves n source
 body-leaves n (shape.Union l r) = all_append (λ leaf. leaf ≡ n) (leaves_of (λ name. n) l) (leaves_of (λ name. n) r) (body-leaves n l) (body-leaves n r)
+body-leaves n (shape.ByArrival l r) = all_append (λ leaf. leaf ≡ n) (leaves_of (λ name. n) l) (leaves_of (λ name. n) r) (body-leaves n l) (body-leaves n r)
 body-leaves n (shape.Concat l r) = all_append (λ leaf. leaf ≡ n) (leaves_of (λ name. n) l) (leaves_of (λ name. n) r) (body-leaves n l) (body-leaves n r)

@@ -15,6 +15,9 @@ use Rattle.gl_query.specs.Shapes as shape
 use Rattle.gl_query.specs.Values.{HasKind, kind_alone, value_of}
 use Rattle.gl_query.specs.Columns.{item_column, picked_columns}
 use Rattle.gl_query.specs.Accepted.{IsRows, IsPick}
+use Rattle.gl_arrival.specs.Places as arrival
+use Rattle.gl_arrival.specs.Changes.{kept_at, mapped_at}
+use Rattle.gl_arrival.specs.Results.{Arrivals}
 use Rattle.gl_query.specs.Results.{picked, keeps, kept}
 use Rattle.gl_algebra.specs.declared.node.PlanNode.{PlanNode}
 use Rattle.gl_algebra.specs.Columns.{bit_kind, kind_of_operand, OperandFits}
@@ -23,7 +26,7 @@ use Rattle.gl_values.specs.Results.{Row, Results, IsChanged}
 use Rattle.gl_bits.proofs.Bools.{by_cases}
 use Rattle.gl_query.specs.Laws.{AreKinds, IsLongAs}
 use Rattle.gl_algebra.specs.Added.{Placed}
-use Rattle.gl_algebra.specs.Results.{Meaning}
+use Rattle.gl_algebra.specs.Results.{Inputs, IsPlanArrival, Meaning}
 use Rattle.gl_algebra.specs.Results as algebra
 use Rattle.gl_elaborate.specs.Terms.{Term, Column, Literal, Not, Cast, Binary, IsTerm, term_of, term_kind, term_value, depth_of, depth_of_all}
 use Rattle.gl_elaborate.specs.Levels.{operand_of}
@@ -34,7 +37,7 @@ use Rattle.gl_elaborate.proofs.AcceptedLemmas.{term-fits}
 use Rattle.gl_elaborate.proofs.LevelLemmas.{IsLeaf, IsCarried}
 use Rattle.gl_elaborate.proofs.DepthLemmas.{IsNoLiteral}
 use Rattle.gl_elaborate.proofs.LongLemmas.{AreLong}
-use Rattle.gl_elaborate.proofs.StandsLemmas.{Stands, weaker, select-stands, project-stands, select-fits, project-fits, IsLevelled, levels-stand, zip-fits}
+use Rattle.gl_elaborate.proofs.StandsLemmas.{Comes, Stands, comes-then, weaker, select-stands, select-comes, project-stands, project-comes, select-fits, project-fits, IsLevelled, levels-stand, zip-fits}
 use Rattle.gl_query.proofs.Real.{alone_kind}
 
 -- ---- terms of depth 0
@@ -186,6 +189,19 @@ pub unfiltered : (rows : List Row) → rows ≡ filter (λ (row : Row). true) ro
 unfiltered [] = refl
 unfiltered (row ∷ rows) = ap (λ (l : List Row). row ∷ l) (unfiltered rows)
 
+-- and rows at places
+through_in_place : (w : Row → Row) (p q : Row → Bool) (f g : Row → Row) (P : Row → Type 0) → ((row : Row) → P row → (p (w row) ≡ q row) × (f (w row) ≡ g row))
+    → (xs : List (arrival.Placed Row)) → AllByRecursion P (arrival.rows_of xs) → mapped_at f (kept_at p (mapped_at w xs)) ≡ mapped_at g (kept_at q xs)
+through_in_place w p q f g P each [] h = refl
+through_in_place w p q f g P each (x ∷ xs) h =
+    let here = each x.row h.0 in
+    let rest = through_in_place w p q f g P each xs h.1 in
+    by_cases (q x.row) (λ e. rw (here.0, e) (λ i. arrival.at_place (here.1 i) x.place ∷ rest i)) (λ e. rw (here.0, e) rest)
+
+pub unfiltered_in_place : (xs : List (arrival.Placed Row)) → xs ≡ kept_at (λ (row : Row). true) xs
+unfiltered_in_place [] = refl
+unfiltered_in_place (x ∷ xs) = ap (λ (l : List (arrival.Placed Row)). x ∷ l) (unfiltered_in_place xs)
+
 -- ---- selects
 
 -- made of a result of the source whose rows are long
@@ -193,6 +209,12 @@ pub record IsPicked (columns : List NamedColumn) (pick : PickShape) (condition :
   pub rows : List Row
   pub of_source : source rows spill
   pub made : AreLong columns rows → out ≡ map (picked columns pick) (kept columns condition rows)
+
+-- the same with places
+pub record IsPickedInPlace (columns : List NamedColumn) (pick : PickShape) (condition : Option ExprShape) (source : Arrivals) (out : List (arrival.Placed Row)) (spill : Bool) : Type 0 where
+  pub rows : List (arrival.Placed Row)
+  pub of_source : source rows spill
+  pub made : AreLong columns (arrival.rows_of rows) → out ≡ mapped_at (picked columns pick) (kept_at (keeps columns condition) rows)
 
 abbrev pub pace_under : Option ExprShape → Pace → Pace
 pace_under None pace = pace
@@ -206,7 +228,7 @@ module _ (columns : List NamedColumn) (areKinds : AreKinds columns) (old : List 
   open_levels : (pick : PickShape) (left : Option Term) → IsPick columns pick
       → AllByRecursion (IsTerm (kinds_of columns)) (option_to_list left) → AllByRecursion IsNoLiteral (option_to_list left)
       → Stands old at shape Means
-      → IsLevelled old given Means (picked_terms columns pick) left (levelled (length columns) at (picked_terms columns pick) left)
+      → IsLevelled old at given Means (picked_terms columns pick) left (levelled (length columns) at (picked_terms columns pick) left)
       (LevelledFit (length columns) at (picked_terms columns pick) left)
   open_levels pick left picks fits nl s =
       levels-stand (depth_of_all (with_filter (picked_terms columns pick) left)) (length columns) old at given Means (picked_terms columns pick) left
@@ -216,15 +238,27 @@ module _ (columns : List NamedColumn) (areKinds : AreKinds columns) (old : List 
   long-kinds : (row : Row) → length row ≡ length columns → length row ≡ length (kinds_of columns)
   long-kinds row e = e ∙ sym (length-map columns (λ c. c.kind))
 
+  -- what comes of the last node is picked of what comes of the source
+  abbrev pub PicksInPlace : PickShape → Option ExprShape → Placed → Type 0
+  PicksInPlace pick condition next = (inputs : Inputs) (out : List (arrival.Placed Row)) (spill : Bool) → IsPlanArrival next.nodes next.root inputs out spill
+      → IsPickedInPlace columns pick condition (IsPlanArrival at.nodes at.root inputs) out spill
+
   -- the last node, behind a filter
   finish : (pick : PickShape) (condition : Option ExprShape) (pace : Pace) (from : Placed) (kinds : List Kind) (widen : Row → Row) (p : Row → Bool) (items : List Term)
       → Stands old from (record shape { kinds = kinds; pace = pace }) (λ inputs. IsChanged (IsChanged (Means inputs) (map widen)) (filter p))
+      → Comes at from (λ xs. kept_at p (mapped_at widen xs))
       → AllZip (IsCarried (kinds_of columns) kinds widen) (picked_terms columns pick) items → depth_of_all items ≡ 0
       → ((row : Row) → length row ≡ length columns → p (widen row) ≡ keeps columns condition row)
       → ProjectFits from items
       × Stands old (projected from items) (record shape { kinds = kinds_of (picked_columns columns pick); pace = pace })
       (λ inputs. IsPicked columns pick condition (Means inputs))
-  finish pick condition pace from kinds widen p items s zipped flat kept_same =
+      × PicksInPlace pick condition (projected from items)
+  finish pick condition pace from kinds widen p items s come zipped flat kept_same =
+      let both : (row : Row) → IsLongAs columns row → (p (widen row) ≡ keeps columns condition row) × (algebra.projected (map operand_of items) (widen row) ≡ picked columns pick row) =
+      λ row one. (
+        kept_same row one,
+        flat-values (kinds_of columns) kinds widen (picked_terms columns pick) items row (long-kinds row one) zipped flat ∙ pick-values columns pick row one,
+      ) in
       let fits = zip-fits (kinds_of columns) kinds widen (picked_terms columns pick) items zipped in
       let stood = project-stands old from (record shape { kinds = kinds; pace = pace }) (λ inputs. IsChanged (IsChanged (Means inputs) (map widen)) (filter p)) s (map operand_of items)
       (flat-fit (kinds_of columns) kinds widen items flat fits) in
@@ -243,36 +277,46 @@ module _ (columns : List NamedColumn) (areKinds : AreKinds columns) (old : List 
                   r.changed
                   ∙ ap (map (algebra.projected (map operand_of items))) (r.of_source.changed ∙ ap (filter p) r.of_source.of_source.changed)
                   ∙ through widen p (keeps columns condition) (algebra.projected (map operand_of items)) (picked columns pick)
-                  (IsLongAs columns)
-                  (λ row one. (
-                    kept_same row one,
-                    flat-values (kinds_of columns) kinds widen (picked_terms columns pick) items row (long-kinds row one) zipped flat
-                        ∙ pick-values columns pick row one,
-                  ))
-                  r.of_source.of_source.rows long;
+                  (IsLongAs columns) both r.of_source.of_source.rows long;
             }),
+        λ inputs out spill r.
+            let y = project-comes old from (record shape { kinds = kinds; pace = pace }) (λ inputs. IsChanged (IsChanged (Means inputs) (map widen)) (filter p)) s (map operand_of items)
+            (flat-fit (kinds_of columns) kinds widen items flat fits) inputs out spill r in
+            let x = come inputs y.rows spill y.of_source in
+            record {
+              rows = x.rows;
+              of_source = x.of_source;
+              made = λ long.
+                  y.changed ∙ ap (λ (l : List (arrival.Placed Row)). mapped_at (algebra.projected (map operand_of items)) l) x.changed
+                  ∙ through_in_place widen p (keeps columns condition) (algebra.projected (map operand_of items)) (picked columns pick) (IsLongAs columns) both x.rows long;
+            },
       )
 
   over_none : (pick : PickShape) (from : Placed) (items : List Term) (left : Option Term) (Fit : Type 0)
-      → IsLevelled old given Means (picked_terms columns pick) None (record { at = from; items = items; filter = left }) Fit
+      → IsLevelled old at given Means (picked_terms columns pick) None (record { at = from; items = items; filter = left }) Fit
       → SelectFits from left × ProjectFits (selected from left) items
       × Stands old (projected (selected from left) items) (record shape { kinds = kinds_of (picked_columns columns pick) })
       (λ inputs. IsPicked columns pick None (Means inputs))
+      × PicksInPlace pick None (projected (selected from left) items)
   over_none pick from items None Fit l =
       let done = finish pick None shape.pace from l.kinds l.widen (λ row. true) items
       (weaker old from (record shape { kinds = l.kinds }) (λ inputs. IsChanged (Means inputs) (map l.widen))
       (λ inputs. IsChanged (IsChanged (Means inputs) (map l.widen)) (filter (λ row. true))) l.stands
       (λ inputs out spill r. record { rows = out; of_source = r; changed = unfiltered out }))
+      (λ inputs out spill r.
+      let y = l.comes inputs out spill r in
+      record { rows = y.rows; of_source = y.of_source; changed = y.changed ∙ unfiltered_in_place (mapped_at l.widen y.rows) })
       l.of_items l.flat_items (λ row long. refl) in
-      (tt, done.0, done.1)
+      (tt, done.0, done.1, done.2)
   over_none pick from items (Some t) Fit l = absurd l.of_filter
 
   over_some : (pick : PickShape) (e : ExprShape) (from : Placed) (items : List Term) (left : Option Term) (Fit : Type 0)
       → IsCast (kinds_of columns) (term_of columns (Unsigned 1) e) (condition_of (term_of columns (Unsigned 1) e))
-      → IsLevelled old given Means (picked_terms columns pick) (filter_of columns (Some e)) (record { at = from; items = items; filter = left }) Fit
+      → IsLevelled old at given Means (picked_terms columns pick) (filter_of columns (Some e)) (record { at = from; items = items; filter = left }) Fit
       → SelectFits from left × ProjectFits (selected from left) items
       × Stands old (projected (selected from left) items) (record shape { kinds = kinds_of (picked_columns columns pick); pace = unsteady })
       (λ inputs. IsPicked columns pick (Some e) (Means inputs))
+      × PicksInPlace pick (Some e) (projected (selected from left) items)
   over_some pick e from items None Fit is l = absurd l.of_filter
   over_some pick e from items (Some t) Fit is l =
       let carried = l.of_filter.0 in
@@ -280,10 +324,12 @@ module _ (columns : List NamedColumn) (areKinds : AreKinds columns) (old : List 
       let column = column_under (operand_of t) in
       let done = finish pick (Some e) unsteady (selected from (Some t)) l.kinds l.widen (λ row. nat_eq (slice_index row column) 1) items
       (select-stands old from (record shape { kinds = l.kinds }) (λ inputs. IsChanged (Means inputs) (map l.widen)) l.stands column bit.is)
+      (comes-then at from (selected from (Some t)) (mapped_at l.widen) (kept_at (λ (row : Row). nat_eq (slice_index row column) 1)) l.comes
+      (select-comes old from (record shape { kinds = l.kinds }) (λ inputs. IsChanged (Means inputs) (map l.widen)) l.stands column bit.is))
       l.of_items l.flat_items
       (λ row long. ap (λ (n : ℕ). nat_eq n 1)
       (bit.value (l.widen row) ∙ carried.value row (long-kinds row long) ∙ is.value row ∙ term-value columns (Unsigned 1) e row)) in
-      (select-fits old from (record shape { kinds = l.kinds }) (λ inputs. IsChanged (Means inputs) (map l.widen)) l.stands column bit.is, done.0, done.1)
+      (select-fits old from (record shape { kinds = l.kinds }) (λ inputs. IsChanged (Means inputs) (map l.widen)) l.stands column bit.is, done.0, done.1, done.2)
 
   -- a select over a node
   pub rows-stand : (pick : PickShape) (condition : Option ExprShape) → IsRows columns pick condition
@@ -291,13 +337,14 @@ module _ (columns : List NamedColumn) (areKinds : AreKinds columns) (old : List 
       → RowsFit columns pick condition at
       × Stands old (rows_over columns pick condition at) (record shape { kinds = kinds_of (picked_columns columns pick); pace = pace_under condition shape.pace })
       (λ inputs. IsPicked columns pick condition (Means inputs))
+      × PicksInPlace pick condition (rows_over columns pick condition at)
   rows-stand pick None is s =
       let opened = open_levels pick None is.picks tt tt s in
       let done = over_none pick _ _ _ _ opened in
-      (record { of_levels = opened.fit; of_select = done.0; of_project = done.1 }, done.2)
+      (record { of_levels = opened.fit; of_select = done.0; of_project = done.1 }, done.2, done.3)
   rows-stand pick (Some e) is s =
       let fits = term-fits columns areKinds e (Unsigned 1) (lit≤ tt, lit≤ tt) is.filters.typed in
       let cast = condition (kinds_of columns) (term_of columns (Unsigned 1) e) fits (term-kind columns (Unsigned 1) e ∙ is.filters.bit) in
       let opened = open_levels pick (filter_of columns (Some e)) is.picks (cast.fits, tt) (cast.no, tt) s in
       let done = over_some pick e _ _ _ _ cast opened in
-      (record { of_levels = opened.fit; of_select = done.0; of_project = done.1 }, done.2)
+      (record { of_levels = opened.fit; of_select = done.0; of_project = done.1 }, done.2, done.3)

@@ -1,5 +1,5 @@
 -- Levels over a node of a plan: their nodes fit, and what they make of a result of the node.
-use Rattle.std.proofs.Common.{◌≡◌, ℕ, zero, suc, ◌+◌, ◌<◌, ◌≤◌, Bool, true, List, [], ◌∷◌, ◌++◌, length, Option, Some, slice_get, refl, sym, ap, subst, ◌∙◌, arith, map, All, length-append}
+use Rattle.std.proofs.Common.{◌≡◌, ℕ, zero, suc, ◌+◌, ◌<◌, ◌≤◌, Bool, true, false, List, [], ◌∷◌, ◌++◌, length, Option, Some, slice_get, slice_index, refl, sym, ap, subst, ◌∙◌, arith, map, nat_eq, All, length-append}
 use Rattle.std.specs.Prelude.{option_map, option_to_list}
 use Rattle.std.specs.List.{AllByRecursion, AllZip}
 use Rattle.std.proofs.lemmas.List.{length-map, map-id}
@@ -18,9 +18,12 @@ use Rattle.gl_algebra.specs.Shapes.{Shape, unsteady, once, pace_by_key, shape_fr
 use Rattle.gl_values.specs.Results.{Row, Results, IsChanged}
 use Rattle.gl_bits.proofs.AllLists.{all_append, all_front, all_back, map_map}
 use Rattle.gl_algebra.specs.Added.{Placed, added}
-use Rattle.gl_algebra.specs.Results.{Inputs, IsFramed, Meaning, IsPlanResult, meaning_from, computed, row_of_frames, selected, projected, totalled}
+use Rattle.gl_arrival.specs.Places as arrival
+use Rattle.gl_arrival.specs.Changes.{kept_at, mapped_at}
+use Rattle.gl_arrival.specs.Results.{IsChangedInPlace}
+use Rattle.gl_algebra.specs.Results.{Arriving, Inputs, IsFramed, IsFramedInPlace, Meaning, IsPlanArrival, IsPlanResult, arriving_from, meaning_from, computed, row_of_frames, selected, projected, totalled}
 use Rattle.gl_algebra.proofs.ReadLemmas.{framed_within}
-use Rattle.gl_algebra.proofs.ResultLemmas.{moved}
+use Rattle.gl_algebra.proofs.ResultLemmas.{moved, moved_in_place}
 use Rattle.gl_elaborate.specs.Terms.{Term, Column, IsTerm, depth_of_all}
 use Rattle.gl_elaborate.specs.Levels.{innermost_of_all, level_of, reduced}
 use Rattle.gl_elaborate.specs.Plans.{Levelled, levels, with_filter}
@@ -37,6 +40,25 @@ pub record Stands (old : List PlanNode) (at : Placed) (shape : Shape) (Means : M
   pub is : shape_of at.nodes at.root ≡ shape
   pub means : (inputs : Inputs) (out : List Row) (spill : Bool) → IsPlanResult at.nodes at.root inputs out spill → Means inputs out spill
 
+-- what a node's results with places are made of those of another
+abbrev pub Comes : Placed → Placed → (List (arrival.Placed Row) → List (arrival.Placed Row)) → Type 0
+Comes at next change = (inputs : Inputs) (out : List (arrival.Placed Row)) (spill : Bool) → IsPlanArrival next.nodes next.root inputs out spill
+    → IsChangedInPlace (IsPlanArrival at.nodes at.root inputs) change out spill
+
+pub comes-then : (a b c : Placed) (f g : List (arrival.Placed Row) → List (arrival.Placed Row)) → Comes a b f → Comes b c g → Comes a c (λ xs. g (f xs))
+comes-then a b c f g first second inputs out spill r =
+    let y = second inputs out spill r in
+    let x = first inputs y.rows spill y.of_source in
+    record { rows = x.rows; of_source = x.of_source; changed = y.changed ∙ ap g x.changed }
+
+mapped_same : (xs : List (arrival.Placed Row)) → mapped_at (λ (row : Row). row) xs ≡ xs
+mapped_same [] = refl
+mapped_same (x ∷ xs) = ap (λ (l : List (arrival.Placed Row)). x ∷ l) (mapped_same xs)
+
+mapped_twice : (f g : Row → Row) (xs : List (arrival.Placed Row)) → mapped_at g (mapped_at f xs) ≡ mapped_at (λ row. g (f row)) xs
+mapped_twice f g [] = refl
+mapped_twice f g (x ∷ xs) = ap (λ (l : List (arrival.Placed Row)). arrival.at_place (g (f x.row)) x.place ∷ l) (mapped_twice f g xs)
+
 -- other results that are at least these
 pub weaker : (old : List PlanNode) (at : Placed) (shape : Shape) (M N : Meaning) → Stands old at shape M
     → ((inputs : Inputs) (out : List Row) (spill : Bool) → M inputs out spill → N inputs out spill) → Stands old at shape N
@@ -51,7 +73,7 @@ module _ (old : List PlanNode) (at : Placed) (shape : Shape) (Means : Meaning) (
   one-more : (n : PlanNode) (change : Shape → List Row → List Row)
       → Fits at.nodes (length at.nodes) n
       → ((x : ℕ → Shape) → shape_from x n ≡ shape_from (λ _. x at.root) n)
-      → ((x : ℕ → Shape) (m : ℕ → Meaning) (inputs : Inputs) (out : List Row) (spill : Bool) → meaning_from x m n inputs out spill
+      → ((x : ℕ → Shape) (v : ℕ → Arriving) (m : ℕ → Meaning) (inputs : Inputs) (out : List Row) (spill : Bool) → meaning_from x v m n inputs out spill
       → IsChanged (m at.root inputs) (change (x at.root)) out spill)
       → Stands old (added at.nodes n) (shape_from (λ _. shape) n) (λ inputs. IsChanged (Means inputs) (change shape))
   one-more n change fits local means =
@@ -60,8 +82,8 @@ module _ (old : List PlanNode) (at : Placed) (shape : Shape) (Means : Meaning) (
         over = over-then old at (added at.nodes n) s.over new.over;
         is = new.shape ∙ local (shape_of at.nodes) ∙ ap (λ (x : Shape). shape_from (λ _. x) n) s.is;
         means = λ inputs out spill r.
-            let made = means (shape_of at.nodes) (IsPlanResult at.nodes) inputs out spill
-            (moved (IsPlanResult (added at.nodes n).nodes (added at.nodes n).root) (meaning_from (shape_of at.nodes) (IsPlanResult at.nodes) n)
+            let made = means (shape_of at.nodes) (IsPlanArrival at.nodes) (IsPlanResult at.nodes) inputs out spill
+            (moved (IsPlanResult (added at.nodes n).nodes (added at.nodes n).root) (meaning_from (shape_of at.nodes) (IsPlanArrival at.nodes) (IsPlanResult at.nodes) n)
             new.means inputs out spill r) in
             record {
               rows = made.rows;
@@ -113,7 +135,7 @@ module _ (old : List PlanNode) (at : Placed) (shape : Shape) (Means : Meaning) (
         over = over-then old at (added at.nodes n) s.over new.over;
         is = new.shape ∙ ap (λ (x : Shape). shape_from (λ _. x) n) s.is;
         means = λ inputs out spill r.
-            let made = moved (IsPlanResult (added at.nodes n).nodes (added at.nodes n).root) (meaning_from (shape_of at.nodes) (IsPlanResult at.nodes) n)
+            let made = moved (IsPlanResult (added at.nodes n).nodes (added at.nodes n).root) (meaning_from (shape_of at.nodes) (IsPlanArrival at.nodes) (IsPlanResult at.nodes) n)
             new.means inputs out spill r in
             framed_within (IsPlanResult at.nodes at.root inputs) (Means inputs) by (row_of_frames shape.kinds items) (s.means inputs) out spill
             (subst (λ (x : Shape). IsFramed by (row_of_frames x.kinds items) (IsPlanResult at.nodes at.root inputs) out spill) s.is made);
@@ -128,11 +150,11 @@ module _ (old : List PlanNode) (at : Placed) (shape : Shape) (Means : Meaning) (
 
   pub aggregate-stands : (aggs : List PlanAgg) → AllByRecursion (AggFits shape.kinds) aggs
       → Stands old (added at.nodes (node.Aggregate at.root aggs))
-      (record shape { kinds = map (kind_of_agg shape.kinds) aggs; closing = true; pace = once })
+      (record shape { kinds = map (kind_of_agg shape.kinds) aggs; closing = true; pace = once; arrives = false })
       (λ inputs. IsChanged (Means inputs) (totalled shape.kinds aggs))
   aggregate-stands aggs fits =
       one-more (node.Aggregate at.root aggs) (λ x. totalled x.kinds aggs) (aggregate-fits aggs fits)
-      (λ x. refl) (λ x m inputs out spill r. r)
+      (λ x. refl) (λ x v m inputs out spill r. r)
 
   pub compute-stands : (ops : List ColOp) → AllByRecursion (OpFits shape.kinds) ops
       → Stands old (added at.nodes (node.Compute at.root ops)) (record shape { kinds = wider shape.kinds ops })
@@ -140,7 +162,7 @@ module _ (old : List PlanNode) (at : Placed) (shape : Shape) (Means : Meaning) (
   compute-stands ops fits =
       one-more (node.Compute at.root ops) (λ x. map (computed x.kinds ops))
       (compute-fits ops fits)
-      (λ x. refl) (λ x m inputs out spill r. r)
+      (λ x. refl) (λ x v m inputs out spill r. r)
 
   pub select-stands : (column : ℕ) → slice_get shape.kinds column ≡ Some bit_kind
       → Stands old (added at.nodes (node.Select at.root column)) (record shape { pace = unsteady })
@@ -148,7 +170,7 @@ module _ (old : List PlanNode) (at : Placed) (shape : Shape) (Means : Meaning) (
   select-stands column fits =
       one-more (node.Select at.root column) (λ x. selected column)
       (select-fits column fits)
-      (λ x. refl) (λ x m inputs out spill r. r)
+      (λ x. refl) (λ x v m inputs out spill r. r)
 
   pub project-stands : (items : List Operand) → AllByRecursion (OperandFits shape.kinds) items
       → Stands old (added at.nodes (node.Project at.root items)) (record shape { kinds = map (kind_of_operand shape.kinds) items })
@@ -156,7 +178,43 @@ module _ (old : List PlanNode) (at : Placed) (shape : Shape) (Means : Meaning) (
   project-stands items fits =
       one-more (node.Project at.root items) (λ x. map (projected items))
       (project-fits items fits)
-      (λ x. refl) (λ x m inputs out spill r. r)
+      (λ x. refl) (λ x v m inputs out spill r. r)
+
+  -- the same with places
+  one-comes : (n : PlanNode) (change : Shape → List (arrival.Placed Row) → List (arrival.Placed Row)) → Fits at.nodes (length at.nodes) n
+      → ((x : ℕ → Shape) (v : ℕ → Arriving) (inputs : Inputs) (out : List (arrival.Placed Row)) (spill : Bool) → arriving_from x v n inputs out spill
+      → IsChangedInPlace (v at.root inputs) (change (x at.root)) out spill)
+      → Comes at (added at.nodes n) (change shape)
+  one-comes n change fits means inputs out spill r =
+      let new = is_added at.nodes n s.over.plan fits in
+      let made = means (shape_of at.nodes) (IsPlanArrival at.nodes) inputs out spill
+      (moved_in_place (IsPlanArrival (added at.nodes n).nodes (added at.nodes n).root) (arriving_from (shape_of at.nodes) (IsPlanArrival at.nodes) n)
+      new.arrives inputs out spill r) in
+      record { rows = made.rows; of_source = made.of_source; changed = made.changed ∙ ap (λ (x : Shape). change x made.rows) s.is }
+
+  pub compute-comes : (ops : List ColOp) → AllByRecursion (OpFits shape.kinds) ops
+      → Comes at (added at.nodes (node.Compute at.root ops)) (mapped_at (computed shape.kinds ops))
+  compute-comes ops fits = one-comes (node.Compute at.root ops) (λ x. mapped_at (computed x.kinds ops)) (compute-fits ops fits) (λ x v inputs out spill r. r)
+
+  pub select-comes : (column : ℕ) → slice_get shape.kinds column ≡ Some bit_kind
+      → Comes at (added at.nodes (node.Select at.root column)) (kept_at (λ (row : Row). nat_eq (slice_index row column) 1))
+  select-comes column fits =
+      one-comes (node.Select at.root column) (λ x. kept_at (λ (row : Row). nat_eq (slice_index row column) 1)) (select-fits column fits) (λ x v inputs out spill r. r)
+
+  pub project-comes : (items : List Operand) → AllByRecursion (OperandFits shape.kinds) items
+      → Comes at (added at.nodes (node.Project at.root items)) (mapped_at (projected items))
+  project-comes items fits = one-comes (node.Project at.root items) (λ x. mapped_at (projected items)) (project-fits items fits) (λ x v inputs out spill r. r)
+
+  pub frames-comes : (by : Option PlanKey) (items : List PlanFrame) → KeyFits shape.kinds by → AllByRecursion (FrameFits shape.kinds) items
+      → (inputs : Inputs) (out : List (arrival.Placed Row)) (spill : Bool)
+      → IsPlanArrival (added at.nodes (node.Frames at.root by items)).nodes (added at.nodes (node.Frames at.root by items)).root inputs out spill
+      → IsFramedInPlace by (row_of_frames shape.kinds items) (IsPlanArrival at.nodes at.root inputs) out spill
+  frames-comes by items key fits inputs out spill r =
+      let n = node.Frames at.root by items in
+      let new = is_added at.nodes n s.over.plan (frames-fits by items key fits) in
+      subst (λ (x : Shape). IsFramedInPlace by (row_of_frames x.kinds items) (IsPlanArrival at.nodes at.root inputs) out spill) s.is
+      (moved_in_place (IsPlanArrival (added at.nodes n).nodes (added at.nodes n).root) (arriving_from (shape_of at.nodes) (IsPlanArrival at.nodes) n)
+      new.arrives inputs out spill r)
 
 -- ---- changes behind each other
 
@@ -201,11 +259,12 @@ zip-fits k k' w (x ∷ xs) (y ∷ ys) h = (h.0.fits, zip-fits k k' w xs ys h.1)
 
 -- ---- levels
 
-pub record IsLevelled (old : List PlanNode) (shape : Shape) (Means : Meaning) (items : List Term) (filter : Option Term) (over : Levelled) (Fit : Type 0) : Type 0 where
+pub record IsLevelled (old : List PlanNode) (at : Placed) (shape : Shape) (Means : Meaning) (items : List Term) (filter : Option Term) (over : Levelled) (Fit : Type 0) : Type 0 where
   pub fit : Fit
   pub kinds : List Kind
   pub widen : Row → Row
   pub stands : Stands old over.at (record shape { kinds = kinds }) (λ inputs. IsChanged (Means inputs) (map widen))
+  pub comes : Comes at over.at (mapped_at widen)
   pub wide : (row : Row) → length row ≡ length shape.kinds → length (widen row) ≡ length kinds
   pub of_items : AllZip (IsCarried shape.kinds kinds widen) items over.items
   pub of_filter : AllZip (IsCarried shape.kinds kinds widen) (option_to_list filter) (option_to_list over.filter)
@@ -217,7 +276,7 @@ pub record IsLevelled (old : List PlanNode) (shape : Shape) (Means : Meaning) (i
 pub levels-stand : (depth base : ℕ) (old : List PlanNode) (at : Placed) (shape : Shape) (Means : Meaning) (items : List Term) (filter : Option Term)
     → base ≡ length shape.kinds → depth_of_all (with_filter items filter) ≤ depth
     → AllByRecursion (IsTerm shape.kinds) items → AllByRecursion (IsTerm shape.kinds) (option_to_list filter) → AllByRecursion IsNoLiteral (option_to_list filter)
-    → Stands old at shape Means → IsLevelled old shape Means items filter (levels depth base at items filter) (LevelsFit depth base at items filter)
+    → Stands old at shape Means → IsLevelled old at shape Means items filter (levels depth base at items filter) (LevelsFit depth base at items filter)
 levels-stand zero base old at shape Means items filter same deep fits fits' columns s =
     let both = depth-both items (option_to_list filter) in
     record {
@@ -226,6 +285,7 @@ levels-stand zero base old at shape Means items filter same deep fits fits' colu
       widen = λ row. row;
       stands = weaker old at shape Means (λ inputs. IsChanged (Means inputs) (map (λ row. row))) s
           (λ inputs out spill r. record { rows = out; of_source = r; changed = sym (map-id out) });
+      comes = λ inputs out spill r. record { rows = out; of_source = r; changed = sym (mapped_same out) };
       wide = λ row e. e;
       of_items = zip-self shape.kinds items fits;
       of_filter = zip-self shape.kinds (option_to_list filter) fits';
@@ -271,6 +331,10 @@ levels-stand (suc depth) base old at shape Means items filter same deep fits fit
       stands = weaker old _ (record shape { kinds = rest.kinds }) (λ inputs. IsChanged (IsChanged (Means inputs) (map w)) (map rest.widen))
           (λ inputs. IsChanged (Means inputs) (map (λ row. rest.widen (w row)))) rest.stands
           (λ inputs out spill r. changed-twice (Means inputs) w rest.widen out spill r);
+      comes = λ inputs out spill r.
+          let x = comes-then at next _ (mapped_at w) (mapped_at rest.widen)
+          (compute-comes old at shape Means s level (level-fits shape.kinds (items ++ conditions) all)) rest.comes inputs out spill r in
+          record { rows = x.rows; of_source = x.of_source; changed = x.changed ∙ mapped_twice w rest.widen x.rows };
       wide = λ row e. rest.wide (w row) (length-computed shape.kinds level row e);
       of_items = zip-then shape.kinds kinds' rest.kinds w rest.widen items (map (reduced base level) items) _
           (λ row e. length-computed shape.kinds level row e) made rest.of_items;

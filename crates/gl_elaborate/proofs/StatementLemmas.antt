@@ -10,7 +10,8 @@ use Rattle.gl_query.specs.Shapes.{query_shape}
 use Rattle.gl_query.specs.Shapes as shape
 use Rattle.gl_query.specs.Columns.{source_columns}
 use Rattle.gl_query.specs.Laws.{ResultsAreLong}
-use Rattle.gl_query.specs.Results.{env_of, numbered, rows_of, streams_of, ticks_in, times_in}
+use Rattle.gl_arrival.specs.Places.{at_places}
+use Rattle.gl_query.specs.Results.{env_of, numbered, placed_rows_of, rows_of, streams_of, ticks_in, times_in}
 use Rattle.gl_algebra.specs.declared.node.PlanNode.{PlanNode}
 use Rattle.gl_algebra.specs.Fits.{IsPlan}
 use Rattle.gl_bits.proofs.Bools.{by_cases}
@@ -49,6 +50,17 @@ numbered-rows k (s ∷ streams) inputs name has =
     let rest = numbered-rows (k + 1) streams inputs name (rw e at has) in
     rw (e, one-add)
     (ap inputs.rows (let z : k + suc (stream_number streams name) ≡ k + 1 + stream_number streams name = omega arith in z) ∙ rest))
+
+numbered-placed : (k : ℕ) (streams : List Stream) (inputs : beats.Inputs) (name : List ℕ) → has_stream streams name ≡ true
+    → at_places (inputs.rows (k + stream_number streams name)) (inputs.places (k + stream_number streams name)) ≡ placed_rows_of (numbered k streams inputs) name
+unfolding has_stream
+numbered-placed k [] inputs name has = absurd (cc)
+numbered-placed k (s ∷ streams) inputs name has =
+    by_cases (bytes_eq name s.name) (λ e. rw e (ap (λ (i : ℕ). at_places (inputs.rows i) (inputs.places i)) (let z : k + 0 ≡ k = omega arith in z)))
+    (λ e.
+    let rest = numbered-placed (k + 1) streams inputs name (rw e at has) in
+    rw (e, one-add)
+    (ap (λ (i : ℕ). at_places (inputs.rows i) (inputs.places i)) (let z : k + suc (stream_number streams name) ≡ k + 1 + stream_number streams name = omega arith in z) ∙ rest))
 
 numbered-times : (k : ℕ) (streams : List Stream) (inputs : beats.Inputs) (name : List ℕ) → has_stream streams name ≡ true
     → inputs.times (k + stream_number streams name) ≡ times_in (numbered k streams inputs) (shape.Read name)
@@ -89,6 +101,9 @@ schema-sees schema inputs body rows = record {
   reads = λ name has.
       ap inputs.rows (let z : stream_number schema.streams name ≡ 0 + stream_number schema.streams name = omega arith in z)
       ∙ numbered-rows 0 schema.streams inputs name has;
+  places = λ name has.
+      ap (λ (i : ℕ). at_places (inputs.rows i) (inputs.places i)) (let z : stream_number schema.streams name ≡ 0 + stream_number schema.streams name = omega arith in z)
+      ∙ numbered-placed 0 schema.streams inputs name has;
   times = λ t name has.
       ap inputs.times (let z : stream_number schema.streams name ≡ 0 + stream_number schema.streams name = omega arith in z)
       ∙ numbered-times 0 schema.streams inputs name has;

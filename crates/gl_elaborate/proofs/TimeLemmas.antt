@@ -143,6 +143,11 @@ placed-time (shape.Union l r) read sources nodes h =
     let right = placed read sources r left.nodes in
     quiet right.nodes (node.Union left.root right.root) refl ∙ placed-time r read sources left.nodes h
     ∙ ap (λ (b : Bool). b || has_time r) (placed-time l read sources nodes h) ∙ or_join (reads_time nodes) (has_time l) (has_time r)
+placed-time (shape.ByArrival l r) read sources nodes h =
+    let left = placed read sources l nodes in
+    let right = placed read sources r left.nodes in
+    quiet right.nodes (node.Merge left.root right.root) refl ∙ placed-time r read sources left.nodes h
+    ∙ ap (λ (b : Bool). b || has_time r) (placed-time l read sources nodes h) ∙ or_join (reads_time nodes) (has_time l) (has_time r)
 placed-time (shape.Concat l r) read sources nodes h =
     let left = placed read sources l nodes in
     let right = placed read sources r left.nodes in

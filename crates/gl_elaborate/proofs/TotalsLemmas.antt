@@ -1,5 +1,5 @@
 -- Totals over a node of a plan.
-use Rattle.std.proofs.Common.{◌≡◌, ℕ, ◌+◌, ◌^◌, ◌<◌, Bool, true, List, [], ◌∷◌, ◌++◌, length, None, refl, sym, ap, subst, ◌∙◌, arith, map, max}
+use Rattle.std.proofs.Common.{◌≡◌, ℕ, ◌+◌, ◌^◌, ◌<◌, Bool, true, false, List, [], ◌∷◌, ◌++◌, length, None, refl, sym, ap, subst, ◌∙◌, arith, map, max}
 use Rattle.std.specs.Prelude.{IsTrue}
 use Rattle.std.specs.List.{AllByRecursion, AllZip, All}
 use Rattle.std.proofs.lemmas.List.{length-map}
@@ -222,7 +222,7 @@ module _ (columns : List NamedColumn) (areKinds : AreKinds columns) (old : List 
       → Stands old at shape Means
       → TotalsFit columns items at
       × HasDelay columns items at
-      × Stands old (totals_over columns items at) (record shape { kinds = kinds_of (map (agg_column columns) items); closing = true; pace = once })
+      × Stands old (totals_over columns items at) (record shape { kinds = kinds_of (map (agg_column columns) items); closing = true; pace = once; arrives = false })
       (λ inputs. IsTotalled columns items (Means inputs))
   totals-stand items h s =
       let terms = arguments_of_all columns items in
@@ -233,14 +233,14 @@ module _ (columns : List NamedColumn) (areKinds : AreKinds columns) (old : List 
       let all = aggregates columns areKinds l.kinds l.widen items over.items h l.of_items l.flat_items in
       let aggs = aggs_of columns items over.items in
       let stood = aggregate-stands old over.at (record shape { kinds = l.kinds }) (λ inputs. IsChanged (Means inputs) (map l.widen)) l.stands aggs all.0 in
-      let moved = subst (λ (k : List Kind). Stands old (totals_over columns items at) (record shape { kinds = k; closing = true; pace = once })
+      let moved = subst (λ (k : List Kind). Stands old (totals_over columns items at) (record shape { kinds = k; closing = true; pace = once; arrives = false })
       (λ inputs. IsChanged (IsChanged (Means inputs) (map l.widen)) (totalled l.kinds aggs))) all.1 stood in (
         record {
           of_levels = l.fit;
           of_aggregate = aggregate-fits old over.at (record shape { kinds = l.kinds }) (λ inputs. IsChanged (Means inputs) (map l.widen)) l.stands aggs all.0;
         },
         ap (λ (x : Shape). delay_of_aggs x.kinds aggs) l.stands.is ∙ all.2,
-        weaker old (totals_over columns items at) (record shape { kinds = kinds_of (map (agg_column columns) items); closing = true; pace = once })
+        weaker old (totals_over columns items at) (record shape { kinds = kinds_of (map (agg_column columns) items); closing = true; pace = once; arrives = false })
             (λ inputs. IsChanged (IsChanged (Means inputs) (map l.widen)) (totalled l.kinds aggs)) (λ inputs. IsTotalled columns items (Means inputs)) moved
             (λ inputs out spill r. record {
               rows = r.of_source.rows;

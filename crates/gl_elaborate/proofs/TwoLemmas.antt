@@ -10,6 +10,7 @@ use Rattle.gl_query.specs.declared.tree.Measure.{Measure}
 use Rattle.gl_query.specs.declared.tree.Measure.TheVariants.{Tuples, Time}
 use Rattle.gl_query.specs.Accepted.{IsWindow}
 use Rattle.gl_query.specs.Windows.{is_time, parts_of}
+use Rattle.gl_bits.proofs.Bools.{and_both}
 use Rattle.gl_algebra.specs.declared.node.PlanNode.{PlanNode}
 use Rattle.gl_algebra.specs.declared.node.PlanNode.TheVariants as node
 use Rattle.gl_algebra.specs.Columns.{kind_of_column}
@@ -17,9 +18,11 @@ use Rattle.gl_algebra.specs.Fits.{IsPlan, IsBodyFor, IsOverStream}
 use Rattle.gl_algebra.specs.Views.{copies_of_partition}
 use Rattle.gl_algebra.specs.Shapes.{Shape, unsteady, shape_from, shape_of}
 use Rattle.gl_algebra.specs.Added.{Placed, added}
-use Rattle.gl_algebra.specs.Results.{Inputs, Meaning, given, times_with, IsPlanResult, meaning_from}
+use Rattle.gl_arrival.specs.Places as arrival
+use Rattle.gl_arrival.specs.Results.{IsByArrival, IsWithoutPlaces}
+use Rattle.gl_algebra.specs.Results.{Inputs, Meaning, given, times_with, IsPlanArrival, IsPlanResult, arriving_from, meaning_from}
 use Rattle.gl_algebra.proofs.PlanLemmas.{in_order}
-use Rattle.gl_algebra.proofs.ResultLemmas.{moved, meaning-kept}
+use Rattle.gl_algebra.proofs.ResultLemmas.{arriving-kept, meaning-kept, moved, moved_in_place}
 use Rattle.gl_algebra.proofs.ShapeLemmas.{shape-kept}
 use Rattle.gl_elaborate.specs.Fitting.{FitsNext}
 use Rattle.gl_elaborate.specs.Plans.{window_node}
@@ -51,7 +54,9 @@ pub record IsBehind (nodes : List PlanNode) (n : PlanNode) : Type 1 where
   pub over : IsOver nodes (added nodes n)
   pub shape : shape_of (added nodes n).nodes (added nodes n).root ≡ shape_from (shape_of nodes) n
   pub result : (inputs : Inputs) (out : List Row) (spill : Bool) → IsPlanResult (added nodes n).nodes (added nodes n).root inputs out spill
-      → meaning_from (shape_of nodes) (IsPlanResult nodes) n inputs out spill
+      → meaning_from (shape_of nodes) (IsPlanArrival nodes) (IsPlanResult nodes) n inputs out spill
+  pub comes : (inputs : Inputs) (out : List (arrival.Placed Row)) (spill : Bool) → IsPlanArrival (added nodes n).nodes (added nodes n).root inputs out spill
+      → arriving_from (shape_of nodes) (IsPlanArrival nodes) n inputs out spill
 
 pub behind : (nodes : List PlanNode) (n : PlanNode) → IsPlan nodes → FitsNext nodes n → IsBehind nodes n
 behind nodes n plan fits =
@@ -59,7 +64,8 @@ behind nodes n plan fits =
     record {
       over = new.over;
       shape = new.shape;
-      result = moved (IsPlanResult (added nodes n).nodes (added nodes n).root) (meaning_from (shape_of nodes) (IsPlanResult nodes) n) new.means;
+      result = moved (IsPlanResult (added nodes n).nodes (added nodes n).root) (meaning_from (shape_of nodes) (IsPlanArrival nodes) (IsPlanResult nodes) n) new.means;
+      comes = moved_in_place (IsPlanArrival (added nodes n).nodes (added nodes n).root) (arriving_from (shape_of nodes) (IsPlanArrival nodes) n) new.arrives;
     }
 
 two-before : (nodes : List PlanNode) (a b : ℕ) → a < length nodes → b < length nodes → All (λ child. child < length nodes) (a ∷ b ∷ [])
@@ -75,6 +81,12 @@ module _ (old : List PlanNode) (l r : Placed) (sl sr : Shape) (ML MR : Meaning) 
   right_still : IsStill r.nodes r.root sr MR
   right_still = here l.nodes r sr MR b
 
+  -- the results with places of the left node are what they were
+  pub left-comes : (inputs : Inputs) (out : List (arrival.Placed Row)) (spill : Bool) → IsPlanArrival r.nodes l.root inputs out spill → IsPlanArrival l.nodes l.root inputs out spill
+  left-comes =
+      moved_in_place (IsPlanArrival r.nodes l.root) (IsPlanArrival l.nodes l.root)
+      (sym (arriving-kept l.nodes r.nodes (length l.nodes) (in_order l.nodes a.over.plan (length l.nodes)) b.over.kept l.root a.over.within))
+
   -- what a node of both has, where it fits
   pub record IsOfTwo (n : PlanNode) (shape : Shape) (Means : (ℕ → Meaning) → Meaning) : Type 0 where
     pub fits : FitsNext r.nodes n
@@ -82,7 +94,7 @@ module _ (old : List PlanNode) (l r : Placed) (sl sr : Shape) (ML MR : Meaning) 
 
   of_two : (n : PlanNode) (row : Shape → Shape → Shape) (Means : (ℕ → Meaning) → Meaning) → FitsNext r.nodes n
       → ((x : ℕ → Shape) → shape_from x n ≡ row (x l.root) (x r.root))
-      → ((m : ℕ → Meaning) (inputs : Inputs) (out : List Row) (spill : Bool) → meaning_from (shape_of r.nodes) m n inputs out spill → Means m inputs out spill)
+      → ((m : ℕ → Meaning) (inputs : Inputs) (out : List Row) (spill : Bool) → meaning_from (shape_of r.nodes) (IsPlanArrival r.nodes) m n inputs out spill → Means m inputs out spill)
       → IsOfTwo n (row sl sr) Means
   of_two n row Means fits local means =
       let new = behind r.nodes n b.over.plan fits in
@@ -96,10 +108,10 @@ module _ (old : List PlanNode) (l r : Placed) (sl sr : Shape) (ML MR : Meaning) 
       }
 
   pub union-stands : sl.kinds ≡ sr.kinds
-      → IsOfTwo (node.Union l.root r.root) (record { kinds = sl.kinds; closing = sl.closing && sr.closing; pace = unsteady; leaves = sl.leaves ++ sr.leaves })
+      → IsOfTwo (node.Union l.root r.root) (record { kinds = sl.kinds; closing = sl.closing && sr.closing; pace = unsteady; arrives = false; leaves = sl.leaves ++ sr.leaves })
       (λ m inputs. IsOfBoth (m l.root inputs) (m r.root inputs) IsInterleaving)
   union-stands same =
-      of_two (node.Union l.root r.root) (λ x y. record { kinds = x.kinds; closing = x.closing && y.closing; pace = unsteady; leaves = x.leaves ++ y.leaves })
+      of_two (node.Union l.root r.root) (λ x y. record { kinds = x.kinds; closing = x.closing && y.closing; pace = unsteady; arrives = false; leaves = x.leaves ++ y.leaves })
       (λ m inputs. IsOfBoth (m l.root inputs) (m r.root inputs) IsInterleaving)
       (record {
         before = two-before r.nodes l.root r.root left_still.within right_still.within;
@@ -108,11 +120,28 @@ module _ (old : List PlanNode) (l r : Placed) (sl sr : Shape) (ML MR : Meaning) 
       })
       (λ x. refl) (λ m inputs out spill result. result)
 
+  pub merge-stands : sl.kinds ≡ sr.kinds → sl.arrives ≡ true → sr.arrives ≡ true
+      → IsOfTwo (node.Merge l.root r.root) (record { kinds = sl.kinds; closing = false; pace = unsteady; arrives = true; leaves = sl.leaves ++ sr.leaves })
+      (λ m inputs. IsWithoutPlaces (IsByArrival (IsPlanArrival r.nodes l.root inputs) (IsPlanArrival r.nodes r.root inputs)))
+  merge-stands same first second =
+      of_two (node.Merge l.root r.root) (λ x y. record { kinds = x.kinds; closing = false; pace = unsteady; arrives = true; leaves = x.leaves ++ y.leaves })
+      (λ m inputs. IsWithoutPlaces (IsByArrival (IsPlanArrival r.nodes l.root inputs) (IsPlanArrival r.nodes r.root inputs)))
+      (record {
+        before = two-before r.nodes l.root r.root left_still.within right_still.within;
+        suits = (
+          ap (λ (x : Shape). x.kinds) left_still.is ∙ same ∙ sym (ap (λ (x : Shape). x.kinds) right_still.is),
+          and_both (shape_of r.nodes l.root).arrives (shape_of r.nodes r.root).arrives
+              (ap (λ (x : Shape). x.arrives) left_still.is ∙ first) (ap (λ (x : Shape). x.arrives) right_still.is ∙ second),
+        );
+        timed = tt;
+      })
+      (λ x. refl) (λ m inputs out spill result. result)
+
   pub beside-stands : sl.pace ≡ sr.pace → sl.pace ≢ unsteady
-      → IsOfTwo (node.Beside l.root r.root) (record { kinds = sl.kinds ++ sr.kinds; closing = sl.closing && sr.closing; pace = sl.pace; leaves = sl.leaves ++ sr.leaves })
+      → IsOfTwo (node.Beside l.root r.root) (record { kinds = sl.kinds ++ sr.kinds; closing = sl.closing && sr.closing; pace = sl.pace; arrives = false; leaves = sl.leaves ++ sr.leaves })
       (λ m inputs. IsOfBoth (m l.root inputs) (m r.root inputs) AreBeside)
   beside-stands same steady =
-      of_two (node.Beside l.root r.root) (λ x y. record { kinds = x.kinds ++ y.kinds; closing = x.closing && y.closing; pace = x.pace; leaves = x.leaves ++ y.leaves })
+      of_two (node.Beside l.root r.root) (λ x y. record { kinds = x.kinds ++ y.kinds; closing = x.closing && y.closing; pace = x.pace; arrives = false; leaves = x.leaves ++ y.leaves })
       (λ m inputs. IsOfBoth (m l.root inputs) (m r.root inputs) AreBeside)
       (record {
         before = two-before r.nodes l.root r.root left_still.within right_still.within;
@@ -134,12 +163,12 @@ module _ (old : List PlanNode) (l r : Placed) (sl sr : Shape) (ML MR : Meaning) 
   }
 
   window-row : (measure : Measure) (size advance : ℕ) (x : ℕ → Shape) → shape_from x (window_node measure l.root r.root size advance)
-      ≡ record (x l.root) { kinds = (x r.root).kinds; closing = not (is_time measure) && (x l.root).closing; pace = unsteady }
+      ≡ record (x l.root) { kinds = (x r.root).kinds; closing = not (is_time measure) && (x l.root).closing; pace = unsteady; arrives = false }
   window-row Tuples size advance x = refl
   window-row Time size advance x = refl
 
   window-means : (measure : Measure) (size advance : ℕ) (m : ℕ → Meaning) (inputs : Inputs) (out : List Row) (spill : Bool)
-      → meaning_from (shape_of r.nodes) m (window_node measure l.root r.root size advance) inputs out spill
+      → meaning_from (shape_of r.nodes) (IsPlanArrival r.nodes) m (window_node measure l.root r.root size advance) inputs out spill
       → IsOfParts (m l.root inputs) (parts_of measure size advance (times_with sl.pace inputs) inputs.ticks) (λ slice. m r.root (given inputs slice)) (λ rows. false) out spill
   window-means Tuples size advance m inputs out spill result = result
   window-means Time size advance m inputs out spill result =
@@ -161,19 +190,19 @@ module _ (old : List PlanNode) (l r : Placed) (sl sr : Shape) (ML MR : Meaning) 
 
   pub window-stands : (measure : Measure) (size advance : ℕ) → IsWindow measure size advance → IsOverStream r.nodes (window_node measure l.root r.root size advance)
       → sr.closing ≡ true → AllByRecursion (λ leaf. leaf ≡ node.Body sl.kinds) sr.leaves
-      → IsOfTwo (window_node measure l.root r.root size advance) (record sl { kinds = sr.kinds; closing = not (is_time measure) && sl.closing; pace = unsteady })
+      → IsOfTwo (window_node measure l.root r.root size advance) (record sl { kinds = sr.kinds; closing = not (is_time measure) && sl.closing; pace = unsteady; arrives = false })
       (λ m inputs. IsOfParts (m l.root inputs) (parts_of measure size advance (times_with sl.pace inputs) inputs.ticks) (λ slice. m r.root (given inputs slice)) (λ rows. false))
   window-stands measure size advance is timed closing leaves =
-      of_two (window_node measure l.root r.root size advance) (λ x y. record x { kinds = y.kinds; closing = not (is_time measure) && x.closing; pace = unsteady })
+      of_two (window_node measure l.root r.root size advance) (λ x y. record x { kinds = y.kinds; closing = not (is_time measure) && x.closing; pace = unsteady; arrives = false })
       (λ m inputs. IsOfParts (m l.root inputs) (parts_of measure size advance (times_with sl.pace inputs) inputs.ticks) (λ slice. m r.root (given inputs slice)) (λ rows. false))
       (window-fits measure size advance is timed (body-for closing leaves)) (window-row measure size advance) (window-means measure size advance)
 
   pub group-stands : (key count : ℕ) → key < length sl.kinds → 1 ≤ count → count ≤ 256 → sr.closing ≡ true → AllByRecursion (λ leaf. leaf ≡ node.Body sl.kinds) sr.leaves
-      → IsOfTwo (node.Group l.root r.root key count) (record sl { kinds = kind_of_column sl.kinds key ∷ sr.kinds; closing = true; pace = unsteady })
+      → IsOfTwo (node.Group l.root r.root key count) (record sl { kinds = kind_of_column sl.kinds key ∷ sr.kinds; closing = true; pace = unsteady; arrives = false })
       (λ m inputs. IsOfParts (m l.root inputs) (groups count (λ row. slice_index row key)) (IsOfGroup (λ rows. m r.root (given inputs rows)))
       (has_further count (λ row. slice_index row key)))
   group-stands key count known some most closing leaves =
-      of_two (node.Group l.root r.root key count) (λ x y. record x { kinds = kind_of_column x.kinds key ∷ y.kinds; closing = true; pace = unsteady })
+      of_two (node.Group l.root r.root key count) (λ x y. record x { kinds = kind_of_column x.kinds key ∷ y.kinds; closing = true; pace = unsteady; arrives = false })
       (λ m inputs. IsOfParts (m l.root inputs) (groups count (λ row. slice_index row key)) (IsOfGroup (λ rows. m r.root (given inputs rows)))
       (has_further count (λ row. slice_index row key)))
       (record {
@@ -184,11 +213,11 @@ module _ (old : List PlanNode) (l r : Placed) (sl sr : Shape) (ML MR : Meaning) 
       (λ x. refl) (λ m inputs out spill result. result)
 
   pub partition-stands : (key count size advance : ℕ) → key < length sl.kinds → 1 ≤ count → count ≤ 256 → IsWindow Tuples size advance → copies_of_partition count size advance ≤ 256 → sr.closing ≡ true → AllByRecursion (λ leaf. leaf ≡ node.Body sl.kinds) sr.leaves
-      → IsOfTwo (node.Partition l.root r.root key count size advance) (record sl { kinds = kind_of_column sl.kinds key ∷ sr.kinds; pace = unsteady })
+      → IsOfTwo (node.Partition l.root r.root key count size advance) (record sl { kinds = kind_of_column sl.kinds key ∷ sr.kinds; pace = unsteady; arrives = false })
       (λ m inputs. IsOfParts (m l.root inputs) (parts count (λ row. slice_index row key) size advance) (IsOfGroup (λ rows. m r.root (given inputs rows)))
       (has_further count (λ row. slice_index row key)))
   partition-stands key count size advance known some most is all closing leaves =
-      of_two (node.Partition l.root r.root key count size advance) (λ x y. record x { kinds = kind_of_column x.kinds key ∷ y.kinds; pace = unsteady })
+      of_two (node.Partition l.root r.root key count size advance) (λ x y. record x { kinds = kind_of_column x.kinds key ∷ y.kinds; pace = unsteady; arrives = false })
       (λ m inputs. IsOfParts (m l.root inputs) (parts count (λ row. slice_index row key) size advance) (IsOfGroup (λ rows. m r.root (given inputs rows)))
       (has_further count (λ row. slice_index row key)))
       (record {

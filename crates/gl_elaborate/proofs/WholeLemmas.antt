@@ -196,6 +196,9 @@ module _ (lengths : ResultsAreLong) (schema : Schema) (fine : IsSchema schema) w
   whole (shape.Union l r) a =
       let p = plain _ (node.Union _ _) refl in
       record { spare = p.none; figures = p.own ∙ own_figures (shape.Union l r) a; ticks = untimed _ (node.Union _ _) refl }
+  whole (shape.ByArrival l r) a =
+      let p = plain _ (node.Merge _ _) refl in
+      record { spare = p.none; figures = p.own ∙ own_figures (shape.ByArrival l r) a; ticks = untimed _ (node.Merge _ _) refl }
   whole (shape.Concat l r) a =
       let p = plain _ (node.Beside _ _) refl in
       record { spare = p.none; figures = p.own ∙ own_figures (shape.Concat l r) a; ticks = untimed _ (node.Beside _ _) refl }

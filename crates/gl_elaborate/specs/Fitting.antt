@@ -127,6 +127,11 @@ PlacedFit read sources (shape.Union l r) nodes =
     let right = placed read sources r left.nodes in
     PlacedFit read sources l nodes × PlacedFit read sources r left.nodes
     × FitsNext right.nodes (node.Union left.root right.root)
+PlacedFit read sources (shape.ByArrival l r) nodes =
+    let left = placed read sources l nodes in
+    let right = placed read sources r left.nodes in
+    PlacedFit read sources l nodes × PlacedFit read sources r left.nodes
+    × FitsNext right.nodes (node.Merge left.root right.root)
 PlacedFit read sources (shape.Concat l r) nodes =
     let left = placed read sources l nodes in
     let right = placed read sources r left.nodes in
@@ -193,4 +198,5 @@ CanPlace sources (shape.Partition var source key groups size advance body) =
     × (column_number (columns_of sources source) key ≤ 255) × (groups ≤ 256) × (size ≤ 65536)
     × (advance ≤ 65536)
 CanPlace sources (shape.Union l r) = CanPlace sources l × CanPlace sources r
+CanPlace sources (shape.ByArrival l r) = CanPlace sources l × CanPlace sources r
 CanPlace sources (shape.Concat l r) = CanPlace sources l × CanPlace sources r

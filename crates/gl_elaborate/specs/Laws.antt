@@ -30,7 +30,14 @@ AreLongRows schema rows = (number : ℕ) (s : Stream) → slice_get schema.strea
 -- what comes in to a query, as what the leaves of its plan give, beside the rows of a body
 abbrev pub leaf_inputs : beats.Inputs → List Row → Inputs
 leaf_inputs inputs body =
-    record { streams = inputs.rows; times = inputs.times; ticks = inputs.ticks; body = body }
+    record {
+      streams = inputs.rows;
+      places = inputs.places;
+      times = inputs.times;
+      ticks = inputs.ticks;
+      body = body;
+      body_places = inputs.places 0;
+    }
 
 -- the plan of a statement over a schema: each node fits where it is added, and the root has the query's shape, its
 -- figures, and no result that is not one of the statement

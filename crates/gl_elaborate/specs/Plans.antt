@@ -274,6 +274,10 @@ placed read sources (shape.Union l r) nodes =
     let left = placed read sources l nodes in
     let right = placed read sources r left.nodes in
     added right.nodes (node.Union left.root right.root)
+placed read sources (shape.ByArrival l r) nodes =
+    let left = placed read sources l nodes in
+    let right = placed read sources r left.nodes in
+    added right.nodes (node.Merge left.root right.root)
 placed read sources (shape.Concat l r) nodes =
     let left = placed read sources l nodes in
     let right = placed read sources r left.nodes in

@@ -278,6 +278,12 @@ pub fn query_into(
             let root = put(plan, PlanNode::Union { left, right })?;
             Ok((root, columns))
         }
+        Query::ByArrival { left, right, .. } => {
+            let (left, columns) = query_into(alloc, sources, left, plan)?;
+            let (right, _) = query_into(alloc, sources, right, plan)?;
+            let root = put(plan, PlanNode::Merge { left, right })?;
+            Ok((root, columns))
+        }
         Query::Concat { left, right, .. } => {
             let (left, columns) = query_into(alloc, sources, left, plan)?;
             let (right, more) = query_into(alloc, sources, right, plan)?;

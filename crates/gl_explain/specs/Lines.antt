@@ -109,6 +109,7 @@ words_of schema (node.Project child items) = codes "project" ++ node_text child 
 words_of schema (node.Frames child by items) = codes "frames" ++ node_text child ++ key_text by ++ frames_text items
 words_of schema (node.Aggregate child aggs) = codes "aggregate" ++ node_text child ++ aggs_text aggs
 words_of schema (node.Union left right) = codes "union" ++ node_text left ++ node_text right
+words_of schema (node.Merge left right) = codes "merge" ++ node_text left ++ node_text right
 words_of schema (node.Beside left right) = codes "beside" ++ node_text left ++ node_text right
 words_of schema (node.Window source body size advance) =
     codes "window" ++ node_text source ++ node_text body ++ numbered (codes " ") size ++ numbered (codes " ") advance

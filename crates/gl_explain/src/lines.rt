@@ -221,6 +221,7 @@ pub fn put_words(text: &mut Vec<u8>, schema: &Schema, node: &PlanNode) -> Result
             put_aggs(text, aggs.as_slice())
         }
         PlanNode::Union { left, right } => put_two(text, b"union", *left, *right),
+        PlanNode::Merge { left, right } => put_two(text, b"merge", *left, *right),
         PlanNode::Beside { left, right } => put_two(text, b"beside", *left, *right),
         PlanNode::Window {
             source,

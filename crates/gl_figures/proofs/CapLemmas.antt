@@ -5,7 +5,7 @@ use Rattle.std.proofs.lemmas.Bool.{cases_lt}
 use Rattle.gl_bits.proofs.Numbers.{le_times}
 use Rattle.gl_algebra.specs.declared.figures.Figures.{Figures}
 use Rattle.gl_algebra.specs.declared.node.PlanNode.{PlanNode}
-use Rattle.gl_algebra.specs.declared.node.PlanNode.TheVariants.{Stream, Body, Compute, Select, Project, Frames, Aggregate, Union, Beside, Window, TimeWindow, Group, Partition}
+use Rattle.gl_algebra.specs.declared.node.PlanNode.TheVariants.{Stream, Body, Compute, Select, Project, Frames, Aggregate, Union, Merge, Beside, Window, TimeWindow, Group, Partition}
 use Rattle.gl_algebra.specs.FigureTable.{figures_of}
 use Rattle.gl_algebra.specs.Fits.{IsPlan, Suits}
 use Rattle.gl_algebra.specs.Laws.{NodesFollowTables}
@@ -81,6 +81,7 @@ copies-capped s (Project child items) v suits = omega arith
 copies-capped s (Frames child by items) v suits = omega arith
 copies-capped s (Aggregate child aggs) v suits = omega arith
 copies-capped s (Union left right) v suits = omega arith
+copies-capped s (Merge left right) v suits = omega arith
 copies-capped s (Beside left right) v suits = omega arith
 copies-capped s (Window source body size advance) v suits =
     sum_alike (v source) _ _ (times_alike' (copies_of_window size advance) (v body) (one_copy size advance suits.1.least suits.2.least))
@@ -103,6 +104,7 @@ weight-capped s f lines (Project child items) v suits = sum_alike (v child) _ _ 
 weight-capped s f lines (Frames child by items) v suits = sum_alike (v child) _ _ (inl refl)
 weight-capped s f lines (Aggregate child aggs) v suits = sum_alike (v child) _ _ (inl refl)
 weight-capped s f lines (Union left right) v suits = two_alike (v left) (v right) _
+weight-capped s f lines (Merge left right) v suits = two_alike (v left) (v right) _
 weight-capped s f lines (Beside left right) v suits = two_alike (v left) (v right) _
 weight-capped s f lines (Window source body size advance) v suits =
     sum_alike (v source) _ _ (more_alike _ _ _ (more_alike _ _ _ (more_alike _ _ _
@@ -132,6 +134,7 @@ row_light s f v w (Project child items) light = let one = light 0 0 (lit< tt) in
 row_light s f v w (Frames child by items) light = let one = light 0 0 (lit< tt) in omega arith
 row_light s f v w (Aggregate child aggs) light = let one = light 0 0 (lit< tt) in omega arith
 row_light s f v w (Union left right) light = let one = light 0 0 (lit< tt) in let two = light 1 0 (lit< tt) in omega arith
+row_light s f v w (Merge left right) light = let one = light 0 0 (lit< tt) in let two = light 1 0 (lit< tt) in omega arith
 row_light s f v w (Beside left right) light = let one = light 0 0 (lit< tt) in let two = light 1 0 (lit< tt) in omega arith
 row_light s f v w (Window source body size advance) light =
     let one = light 0 0 (lit< tt) in

@@ -7,7 +7,7 @@ use Rattle.gl_algebra.specs.declared.figures.Figures.{Figures}
 use Rattle.gl_algebra.specs.declared.figures.Spare.{Spare}
 use Rattle.gl_root_gaps.specs.declared.TickGaps.{TickGaps}
 use Rattle.gl_algebra.specs.declared.node.PlanNode.{PlanNode}
-use Rattle.gl_algebra.specs.declared.node.PlanNode.TheVariants.{Stream, Body, Compute, Select, Project, Frames, Aggregate, Union, Beside, Window, TimeWindow, Group, Partition}
+use Rattle.gl_algebra.specs.declared.node.PlanNode.TheVariants.{Stream, Body, Compute, Select, Project, Frames, Aggregate, Union, Merge, Beside, Window, TimeWindow, Group, Partition}
 use Rattle.gl_algebra.specs.FigureTable.{AreSmall, figures_of, stride_of}
 use Rattle.gl_algebra.specs.Fits.{IsPlan}
 use Rattle.gl_algebra.specs.Laws.{NodesFollowTables}
@@ -45,6 +45,7 @@ none_inside nodes root node at not = sym (inside_there nodes root node at ∙ by
     by (Frames child key items) not = refl
     by (Aggregate child aggs) not = refl
     by (Union left right) not = refl
+    by (Merge left right) not = refl
     by (Beside left right) not = refl
     by (TimeWindow source body size advance) not = refl
     by (Group source body key groups) not = refl
@@ -136,6 +137,7 @@ module _ (nodes : List PlanNode) (root : ℕ) (plan : IsPlan nodes) (small : Are
   by_node (Frames child by items) it at h = small.le
   by_node (Aggregate child aggs) it at h = small.le
   by_node (Union left right) it at h = small.le
+  by_node (Merge left right) it at h = small.le
   by_node (Beside left right) it at h = small.le
   by_node (TimeWindow source body size advance) it at h = small.le
   by_node (Group source body key groups) it at h = small.le

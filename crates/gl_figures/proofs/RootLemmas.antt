@@ -10,7 +10,7 @@ use Rattle.gl_algebra.specs.declared.figures.Figures.{Figures}
 use Rattle.gl_algebra.specs.declared.figures.Spare.{Spare}
 use Rattle.gl_root_gaps.specs.declared.TickGaps.{TickGaps}
 use Rattle.gl_algebra.specs.declared.node.PlanNode.{PlanNode}
-use Rattle.gl_algebra.specs.declared.node.PlanNode.TheVariants.{Stream, Body, Compute, Select, Project, Frames, Aggregate, Union, Beside, Window, TimeWindow, Group, Partition}
+use Rattle.gl_algebra.specs.declared.node.PlanNode.TheVariants.{Stream, Body, Compute, Select, Project, Frames, Aggregate, Union, Merge, Beside, Window, TimeWindow, Group, Partition}
 use Rattle.gl_algebra.specs.FigureTable.{IsSound, figures_of, spaced, window_gap}
 use Rattle.gl_algebra.specs.Fits.{IsPlan, IsWithin}
 use Rattle.gl_algebra.specs.Views.{copies_of_time}
@@ -122,6 +122,7 @@ module _ (nodes : List PlanNode) (root : ℕ) (node : PlanNode) (at : slice_get 
       by (Frames child key items) not = refl
       by (Aggregate child aggs) not = refl
       by (Union left right) not = refl
+      by (Merge left right) not = refl
       by (Beside left right) not = refl
       by (TimeWindow source body size advance) not = refl
       by (Group source body key groups) not = refl
@@ -141,6 +142,7 @@ module _ (nodes : List PlanNode) (root : ℕ) (node : PlanNode) (at : slice_get 
       by (Frames child key items) not = refl
       by (Aggregate child aggs) not = refl
       by (Union left right) not = refl
+      by (Merge left right) not = refl
       by (Beside left right) not = refl
       by (Window source body size advance) not = refl
       by (Group source body key groups) not = refl
@@ -216,6 +218,7 @@ module _ (follow : NodesFollowTables) (sound : FiguresAreSound) (nodes : List Pl
   closer (Frames child by items) it at h = absurd (cc (h))
   closer (Aggregate child aggs) it at h = absurd (cc (h))
   closer (Union left right) it at h = absurd (cc (h))
+  closer (Merge left right) it at h = absurd (cc (h))
   closer (Beside left right) it at h = absurd (cc (h))
   closer (TimeWindow source body size advance) it at h = absurd (cc (h))
   closer (Group source body key groups) it at h = absurd (cc (h))
@@ -240,6 +243,7 @@ module _ (follow : NodesFollowTables) (sound : FiguresAreSound) (nodes : List Pl
   ticks_closer (Frames child by items) it at h = absurd (cc (h))
   ticks_closer (Aggregate child aggs) it at h = absurd (cc (h))
   ticks_closer (Union left right) it at h = absurd (cc (h))
+  ticks_closer (Merge left right) it at h = absurd (cc (h))
   ticks_closer (Beside left right) it at h = absurd (cc (h))
   ticks_closer (Window source body size advance) it at h = absurd (cc (h))
   ticks_closer (Group source body key groups) it at h = absurd (cc (h))

@@ -1,5 +1,5 @@
 -- Trades, and the shapes of nodes over them, for plans that were worked out by hand.
-use Rattle.std.specs.Prelude.{ℕ, ◌≡◌, ◌<◌, false, List, [], ◌∷◌, length, IsTrue}
+use Rattle.std.specs.Prelude.{ℕ, ◌≡◌, ◌<◌, false, true, List, [], ◌∷◌, length, IsTrue}
 use Rattle.gl_values.specs.declared.kind.Kind.{Kind}
 use Rattle.gl_values.specs.declared.kind.Kind.TheVariants.{Unsigned, Text}
 use Rattle.gl_algebra.specs.declared.node.Operand.TheVariants.{Column}
@@ -15,11 +15,11 @@ trades = Text 4 ∷ Unsigned 32 ∷ Unsigned 32 ∷ []
 
 -- the stream of trades gives rows in step with itself
 abbrev pub of_stream : Shape
-of_stream = record { kinds = trades; closing = false; pace = with_stream 0; leaves = Stream 0 trades ∷ [] }
+of_stream = record { kinds = trades; closing = false; pace = with_stream 0; arrives = true; leaves = Stream 0 trades ∷ [] }
 
 -- a body's input of trades gives rows in step with the body
 abbrev pub of_input : Shape
-of_input = record { kinds = trades; closing = false; pace = with_body; leaves = Body trades ∷ [] }
+of_input = record { kinds = trades; closing = false; pace = with_body; arrives = true; leaves = Body trades ∷ [] }
 
 -- the average of the prices
 abbrev pub averages : List PlanAgg

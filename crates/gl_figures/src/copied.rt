@@ -71,6 +71,9 @@ fn copies_over(plan: &Plan, copies: &[u64], number: usize, node: &PlanNode) -> u
         PlanNode::Union { left, right } => {
             cap(copies_at(plan, copies, number, *left) + copies_at(plan, copies, number, *right))
         }
+        PlanNode::Merge { left, right } => {
+            cap(copies_at(plan, copies, number, *left) + copies_at(plan, copies, number, *right))
+        }
         PlanNode::Beside { left, right } => {
             cap(copies_at(plan, copies, number, *left) + copies_at(plan, copies, number, *right))
         }

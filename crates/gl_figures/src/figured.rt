@@ -15,7 +15,7 @@ use gl_algebra::laws::nodes_follow_tables;
 use gl_algebra::table::{
     aggregate_figures, beside_figures, copies_of_partition, copies_of_time, copies_of_window,
     delay_of_aggs, frame_figures, group_figures, input_figures, partition_figures, picked_figures,
-    row_figures, union_figures, window_figures,
+    row_figures, turn_figures, union_figures, window_figures,
 };
 use gl_algebra::{Figures, Plan, PlanId, PlanNode};
 use gl_bits::Memory;
@@ -82,6 +82,10 @@ fn figures_over(plan: &Plan, figures: &[Figures], number: usize, node: &PlanNode
             aggregate_figures(delay, &figures_at(plan, figures, number, *child))
         }
         PlanNode::Union { left, right } => union_figures(
+            &figures_at(plan, figures, number, *left),
+            &figures_at(plan, figures, number, *right),
+        ),
+        PlanNode::Merge { left, right } => turn_figures(
             &figures_at(plan, figures, number, *left),
             &figures_at(plan, figures, number, *right),
         ),

@@ -39,7 +39,9 @@ fn mark_children(marks: &mut [bool], node: &PlanNode)
         PlanNode::Project { child, .. } => mark(marks, *child),
         PlanNode::Frames { child, .. } => mark(marks, *child),
         PlanNode::Aggregate { child, .. } => mark(marks, *child),
-        PlanNode::Union { left, right } | PlanNode::Beside { left, right } => {
+        PlanNode::Union { left, right }
+        | PlanNode::Merge { left, right }
+        | PlanNode::Beside { left, right } => {
             mark(marks, *left);
             mark(marks, *right);
         }

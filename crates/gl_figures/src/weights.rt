@@ -16,6 +16,7 @@ use crate::figured::figures_at;
 use crate::frames::weight_by_key;
 use gl_algebra::table::{
     copies_of_partition, copies_of_time, copies_of_window, delay_of_agg, delay_of_aggs, wait_of,
+    waits,
 };
 use gl_algebra::{Figures, Plan, PlanAgg, PlanId, PlanNode};
 use gl_values::Kind;
@@ -128,6 +129,9 @@ fn weight_of_children(plan: &Plan, weights: &[u64], number: usize, node: &PlanNo
         PlanNode::Union { left, right } => {
             weight_at(plan, weights, number, *left) + weight_at(plan, weights, number, *right)
         }
+        PlanNode::Merge { left, right } => {
+            weight_at(plan, weights, number, *left) + weight_at(plan, weights, number, *right)
+        }
         PlanNode::Beside { left, right } => {
             weight_at(plan, weights, number, *left) + weight_at(plan, weights, number, *right)
         }
@@ -213,6 +217,11 @@ fn own_weight(
             let p = figures_at(plan, figures, number, *left);
             let q = figures_at(plan, figures, number, *right);
             times(8 * own, pad_of(&p, &q) + p.ne as u128 + q.ne as u128 + 4)
+        }
+        PlanNode::Merge { left, right } => {
+            let p = figures_at(plan, figures, number, *left);
+            let q = figures_at(plan, figures, number, *right);
+            times(8 * own, waits(&p, &q) + 4)
         }
         PlanNode::Beside { left, right } => {
             let p = figures_at(plan, figures, number, *left);

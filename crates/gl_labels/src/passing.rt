@@ -47,7 +47,9 @@ fn column_below(table: &Table, node: &PlanNode, column: usize) -> Option<(usize,
             let at = own_column(items.as_slice().get(column)?)?;
             Some((child.number(), at))
         }
-        PlanNode::Union { left, .. } => Some((left.number(), column)),
+        PlanNode::Union { left, .. } | PlanNode::Merge { left, .. } => {
+            Some((left.number(), column))
+        }
         PlanNode::Beside { left, right } => {
             Some(beside(table, left.number(), right.number(), column))
         }
@@ -91,8 +93,11 @@ fn pass_down(node: &PlanNode, number: usize, table: &mut Table) {
         if let Some((below, at)) = column_below(table, node, column) {
             table.name(below, at, source);
         }
-        if let PlanNode::Union { right, .. } = node {
-            table.name(right.number(), column, source);
+        match node {
+            PlanNode::Union { right, .. } | PlanNode::Merge { right, .. } => {
+                table.name(right.number(), column, source)
+            }
+            _ => {}
         }
     }
 }
@@ -126,7 +131,9 @@ fn leaf_of(node: &PlanNode, number: usize, leaves: &[Option<usize>]) -> Option<u
         | PlanNode::Project { child, .. }
         | PlanNode::Frames { child, .. }
         | PlanNode::Aggregate { child, .. } => entry(leaves, child.number()),
-        PlanNode::Union { left, right } | PlanNode::Beside { left, right } => {
+        PlanNode::Union { left, right }
+        | PlanNode::Merge { left, right }
+        | PlanNode::Beside { left, right } => {
             match entry(leaves, left.number()) {
                 Some(leaf) => Some(leaf),
                 None => entry(leaves, right.number()),
