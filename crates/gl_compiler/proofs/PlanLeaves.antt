@@ -59,5 +59,7 @@ leaves_are_streams schema (shape.PerGroup var source key groups body) a = leaves
 leaves_are_streams schema (shape.Partition var source key groups size advance body) a = leaves_are_streams schema source a.0
 leaves_are_streams schema (shape.Union l r) a =
     join_streams schema (leaves_of (stream_node schema.streams) l) (leaves_of (stream_node schema.streams) r) (leaves_are_streams schema l a.0) (leaves_are_streams schema r a.1)
+leaves_are_streams schema (shape.ByArrival l r) a =
+    join_streams schema (leaves_of (stream_node schema.streams) l) (leaves_of (stream_node schema.streams) r) (leaves_are_streams schema l a.0) (leaves_are_streams schema r a.1)
 leaves_are_streams schema (shape.Concat l r) a =
     join_streams schema (leaves_of (stream_node schema.streams) l) (leaves_of (stream_node schema.streams) r) (leaves_are_streams schema l a.0) (leaves_are_streams schema r a.1)

@@ -69,6 +69,7 @@ query_named (shape.PerGroup var source key groups body) sources h q =
 query_named (shape.Partition var source key groups size advance body) sources h q =
     (q.3, query_named body (variable var (columns_of sources source)) (query_named source sources h q.0, tt) q.1)
 query_named (shape.Union l r) sources h q = query_named l sources h q.0
+query_named (shape.ByArrival l r) sources h q = query_named l sources h q.0
 query_named (shape.Concat l r) sources h q =
     join_named (columns_of sources l) (columns_of sources r) (query_named l sources h q.0) (query_named r sources h q.1)
 

@@ -9,7 +9,7 @@ use Rattle.gl_bits.specs.Words.{bit}
 use Rattle.gl_gaps.specs.declared.Gaps.{Gaps}
 use Rattle.gl_schema.specs.declared.schema.Stream.{Stream}
 use Rattle.gl_schema.specs.declared.schema.Schema.{Schema}
-use Rattle.gl_schema.specs.Beats.{Beat, Inputs, IsBeat, AreBeats, AreInOrder, AreRowsOf, KeepsGap, beat_at, inputs_of, input_of, row_in, ticks_of, times_from}
+use Rattle.gl_schema.specs.Beats.{Beat, Inputs, IsBeat, AreBeats, AreInOrder, AreRowsOf, KeepsGap, beat_at, inputs_of, input_of, places_of, row_in, ticks_of, times_from}
 use Rattle.gl_gaps.specs.Keeps.{KeepsGaps, KeepsTicks}
 use Rattle.gl_testbench.specs.Dues.{AreFrom}
 use Rattle.gl_testbench.specs.Overflow.{beats_to}
@@ -131,6 +131,17 @@ module _ (c : ℕ) (e : Beat) where
         ∙ sym (ap (input_of j) (to_here b bs le))
   ]
 
+  cut_places : (j : ℕ) (bs : List Beat) (k : ℕ) → row_in j e ≡ None → AreFrom k bs → places_of j (cut_at c e bs) ≡ places_of j (beats_to c bs)
+  cut_places j [] k none h = refl
+  cut_places j (b ∷ bs) k none h = elim (cases_lt c b.cycle) [
+    | inl lt ↦
+        ap (places_of j) (cut_here c e b bs lt) ∙ ap (λ (o : Option (List ℕ)). cons_option (option_map (λ row. e.cycle) o) []) none
+        ∙ sym (ap (places_of j) (to_none (b ∷ bs) b.cycle (omega arith, h.1) lt))
+    | inr le ↦
+        ap (places_of j) (cut_later c e b bs le) ∙ ap (cons_option (option_map (λ row. b.cycle) (row_in j b))) (cut_places j bs (b.cycle + 1) none h.1)
+        ∙ sym (ap (places_of j) (to_here b bs le))
+  ]
+
   cut_times : (j : ℕ) (bs : List Beat) (k before : ℕ) → row_in j e ≡ None → AreFrom k bs → times_from before j (cut_at c e bs) ≡ times_from before j (beats_to c bs)
   cut_times j [] k before none h = refl
   cut_times j (b ∷ bs) k before none h = elim (cases_lt c b.cycle) [
@@ -154,9 +165,11 @@ module _ (c : ℕ) (e : Beat) where
         ∙ sym (ap ticks_of (to_here b bs le))
   ]
 
-inputs_same : (rows rows' : ℕ → List (List ℕ)) (times times' : ℕ → List ℕ) (ticks ticks' : ℕ) → rows ≡ rows' → times ≡ times' → ticks ≡ ticks'
-    → ◌≡◌ {A = Inputs} (record { rows = rows; times = times; ticks = ticks }) (record { rows = rows'; times = times'; ticks = ticks' })
-inputs_same rows rows' times times' ticks ticks' r t n = cc
+inputs_same : (rows rows' : ℕ → List (List ℕ)) (places places' times times' : ℕ → List ℕ) (ticks ticks' : ℕ) → rows ≡ rows' → places ≡ places'
+    → times ≡ times' → ticks ≡ ticks'
+    → ◌≡◌ {A = Inputs} (record { rows = rows; places = places; times = times; ticks = ticks })
+    (record { rows = rows'; places = places'; times = times'; ticks = ticks' })
+inputs_same rows rows' places places' times times' ticks ticks' r p t n = cc
 
 -- beats that keep the gaps, and agree with these up to a cycle, of which they bring what has come by then
 pub record IsCut (schema : Schema) (gaps : Gaps) (c : ℕ) (beats cut : List Beat) : Type 0 where
@@ -184,6 +197,7 @@ is_cut schema gaps c beats are keeps =
       };
       same = λ n le. cut_same c e beats 0 n le (omega arith) from;
       brings =
-          inputs_same _ _ _ _ _ _ (fun_ext (λ j. cut_input c e j beats 0 (no_row schema.streams j) from))
+          inputs_same _ _ _ _ _ _ _ _ (fun_ext (λ j. cut_input c e j beats 0 (no_row schema.streams j) from))
+          (fun_ext (λ j. cut_places c e j beats 0 (no_row schema.streams j) from))
           (fun_ext (λ j. cut_times c e j beats 0 0 (no_row schema.streams j) from)) (cut_ticks c e beats 0 refl from);
     }

@@ -93,6 +93,7 @@ query_kind (query.NotClosing at) = codes "NotClosing"
 query_kind (query.OutOfRange at) = codes "OutOfRange"
 query_kind (query.TooDeep at) = codes "TooDeep"
 query_kind (query.NoTime at) = codes "NoTime"
+query_kind (query.NoArrival at) = codes "NoArrival"
 query_kind query.Memory = codes "Memory"
 
 -- where in the query's text a fault is; want of memory gives 0
@@ -111,6 +112,7 @@ query_place (query.NotClosing at) = at
 query_place (query.OutOfRange at) = at
 query_place (query.TooDeep at) = at
 query_place (query.NoTime at) = at
+query_place (query.NoArrival at) = at
 query_place query.Memory = 0
 
 -- the word by which a fault of a module is told

@@ -58,6 +58,7 @@ pub fn query_kind(fault: &QueryFault) -> &'static [u8]
         QueryFault::OutOfRange { .. } => b"OutOfRange",
         QueryFault::TooDeep { .. } => b"TooDeep",
         QueryFault::NoTime { .. } => b"NoTime",
+        QueryFault::NoArrival { .. } => b"NoArrival",
         QueryFault::Memory => b"Memory",
     }
 }
@@ -80,7 +81,8 @@ pub fn query_place(fault: &QueryFault) -> u64
         | QueryFault::NotClosing { at }
         | QueryFault::OutOfRange { at }
         | QueryFault::TooDeep { at }
-        | QueryFault::NoTime { at } => *at,
+        | QueryFault::NoTime { at }
+        | QueryFault::NoArrival { at } => *at,
         QueryFault::Memory => 0,
     }
 }

@@ -93,6 +93,7 @@ fn source_words(state: State) -> &'static str {
         State::Body => "(",
         State::GroupBody => "a window or (",
         State::By => "BY",
+        State::Arrival => "ARRIVAL",
         State::Key => "a column's name",
         State::Groups => "GROUPS",
         State::BehindName => "a ; or the end of the text",

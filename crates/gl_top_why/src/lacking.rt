@@ -4,6 +4,7 @@ use crate::expected::{expression_call, is_bare_item};
 use crate::frames::frame_lacking;
 use crate::pieces::{Pieces, is_one_of, is_sign, is_spelled};
 use crate::states::State;
+use crate::unions::is_behind_arrival;
 use crate::words::is_operator;
 
 pub(crate) const ITEM_NAMES: &str =
@@ -29,6 +30,9 @@ pub(crate) const SIGN: &str =
 
 pub(crate) const ONE_STATEMENT: &str =
     "A text has one statement. The commands many, manyfigures and manyrun take up to eight.";
+
+pub(crate) const ARRIVAL: &str =
+    "UNION BY ARRIVAL has the rows of both sides in the order in which they came. UNION alone has them in some order.";
 
 const INTO: &str =
     "INTO and a name are lacking: a statement ends in INTO r, which names the module.";
@@ -74,7 +78,7 @@ fn operand(pieces: &Pieces<'_>, at: usize) -> &'static str {
 
 // In the place of a query.
 fn term(pieces: &Pieces<'_>, at: usize) -> &'static str {
-    if is_one_of(pieces.before(at, 1), &[b"union", b"concat"]) {
+    if is_one_of(pieces.before(at, 1), &[b"union", b"concat"]) || is_behind_arrival(pieces, at) {
         "Behind UNION and CONCAT stands another select: SELECT price FROM trades."
     } else {
         "A select is lacking: SELECT price FROM trades."
@@ -124,6 +128,7 @@ fn source(state: State) -> &'static str {
         State::Body | State::GroupBody =>
             "A body in brackets is lacking: (SELECT sum(price) AS p FROM w), where w is the variable.",
         State::By => "BY is lacking behind GROUP: GROUP BY symbol GROUPS 64.",
+        State::Arrival => ARRIVAL,
         State::Key => KEY,
         State::Groups => GROUPS,
         State::ResultName => "A name is lacking behind INTO.",
@@ -165,6 +170,7 @@ pub(crate) fn is_lacking(pieces: &Pieces<'_>, at: usize, state: State) -> bool {
         | State::In
         | State::Source
         | State::By
+        | State::Arrival
         | State::Number
         | State::Body
         | State::GroupBody

@@ -25,6 +25,7 @@ mod schemas;
 mod states;
 mod syntax;
 mod texts;
+mod unions;
 mod words;
 
 pub use explaining::{Refused, explanation};

@@ -163,6 +163,9 @@ pub(crate) fn put_rule(
         QueryFault::ColumnsDiffer { .. } => out.push_str(
             "The two sides of UNION differ in the number, the kinds or the order of their columns: CAST, or name the columns in one order.",
         ),
+        QueryFault::NoArrival { .. } => out.push_str(
+            "Each row of a side of UNION BY ARRIVAL comes of one row that came. So a side is a select of plain items or frames, or another UNION BY ARRIVAL. Let windows, groups and totals go over the whole.",
+        ),
         QueryFault::PaceDiffers { .. } => out.push_str(
             "CONCAT pairs rows, so both sides give one for each row of one stream, or one each at the end. Take two selects of one stream without WHERE, or two totals.",
         ),

@@ -5,6 +5,7 @@
 
 use crate::frames::frame_state;
 use crate::pieces::{Pieces, is_one_of, is_sign, is_spelled};
+use crate::unions::{behind_union, is_behind_arrival};
 use crate::words::{is_name, is_number, is_total};
 
 /// What a statement waits for.
@@ -40,6 +41,8 @@ pub(crate) enum State {
     GroupBody,
     /// BY behind GROUP.
     By,
+    /// ARRIVAL behind UNION BY.
+    Arrival,
     /// The key behind BY.
     Key,
     /// GROUPS behind a key.
@@ -212,7 +215,9 @@ pub(crate) fn is_of_query(pieces: &Pieces<'_>, open: usize) -> bool {
     for place in (0..open).rev() {
         let word = pieces.get(place);
         if !is_sign(word, b'(') {
-            return is_one_of(word, &[b"from", b"in", b"union", b"concat", b"]"]) || is_number(word);
+            return is_one_of(word, &[b"from", b"in", b"union", b"concat", b"]"])
+                || is_number(word)
+                || is_behind_arrival(pieces, place.saturating_add(1));
         }
     }
     true
@@ -367,6 +372,9 @@ pub(crate) fn state_at(pieces: &Pieces<'_>, at: usize) -> State {
         return State::Term;
     }
     if let Some(state) = frame_state(pieces, at) {
+        return state;
+    }
+    if let Some(state) = behind_union(pieces, at) {
         return state;
     }
     if let Some(state) = state_in(&BEHIND, before) {

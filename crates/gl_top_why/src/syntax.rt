@@ -232,6 +232,9 @@ fn order_cure(pieces: &Pieces<'_>, at: usize, state: State) -> Option<&'static s
     if is_spelled(word, b"where") && is_one_of(clause, &[b"groups", b"by"]) {
         return Some("WHERE stands in front of GROUP BY.");
     }
+    if is_spelled(word, b"by") && is_spelled(pieces.before(at, 1), b"concat") {
+        return Some("BY ARRIVAL stands behind UNION alone: CONCAT pairs rows by their number.");
+    }
     if is_sign(word, b')') && pieces.open_before(at).is_none() {
         return Some("No bracket is open in front.");
     }

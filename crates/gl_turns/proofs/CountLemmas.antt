@@ -3,11 +3,9 @@ use Rattle.std.proofs.Common.{◌≡◌, ℕ, ◌+◌, ◌*◌, ◌≤◌, lengt
 use Rattle.std.specs.List.{sum}
 use Rattle.std.proofs.Math.Nat.{mul-le-mul_left}
 use Rattle.gl_algebra.specs.declared.figures.Figures.{Figures}
-use Rattle.gl_algebra.specs.FigureTable.{IsSound, delayed}
-use Rattle.gl_algebra.proofs.SoundLemmas.{delayed_sound}
 use Rattle.gl_wire.proofs.CountLemmas.{narrow_sum}
 use Rattle.gl_turns.specs.Counted.{TurnsAreCounted, TurnsOfStreams}
-use Rattle.gl_turns.specs.TurnFigures.{in_turn, left_wait, right_wait, stream_figures, turn_figures, waits}
+use Rattle.gl_turns.specs.TurnFigures.{left_wait, stream_figures, turn_figures, waits}
 
 nodes_within : (n w : ℕ) → (n + 2) * (w + 2) + 1 ≤ 8 * (n + 2) * (w + 4)
 nodes_within n w =
@@ -29,21 +27,6 @@ turns_are_counted p q columns narrow = record {
   registers = bits_within (sum columns) (length columns) (waits p q) (narrow_sum columns narrow);
   memories = omega arith;
 }
-
-in_turn_sound : (p q : Figures) → IsSound p → IsSound q → p.le + 1 ≡ q.a → IsSound (in_turn p q)
-in_turn_sound p q sound sound' behind = record {
-  tuples_last = omega (arith, behind, sound.tuples_last, sound.end_last, sound'.tuples_last);
-  end_last = omega (arith, sound'.end_last);
-  tuples = omega (arith, sound.tuples, sound'.tuples);
-  some = omega (arith, sound.some);
-  tuples_gap = omega arith;
-  end_gap = omega arith;
-  gaps = omega (arith, sound.gaps, sound'.gaps, sound'.end_last);
-}
-
-pub turn_figures_sound : (p q : Figures) → IsSound p → IsSound q → IsSound (turn_figures p q)
-turn_figures_sound p q sound sound' =
-    in_turn_sound (delayed (left_wait p q) p) (delayed (right_wait p q) q) (delayed_sound (left_wait p q) p sound) (delayed_sound (right_wait p q) q sound') (omega arith)
 
 abbrev figures_with : ℕ → ℕ → ℕ → ℕ → ℕ → ℕ → ℕ → Figures
 figures_with a lt le nt ne gt ge = record { a = a; lt = lt; le = le; nt = nt; ne = ne; gt = gt; ge = ge }

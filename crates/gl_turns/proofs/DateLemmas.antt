@@ -46,7 +46,7 @@ module _ (first : ℕ) (beats : Beats) (s : Carried) where
   joined : (xs : List (Placed Row)) (c : ℕ) → rows_of (xs ++ row_at_beat first beats s c) ≡ rows_of xs ++ option_to_list (s.tuple c)
   joined xs c = map-append (λ (x : Placed Row). x.row) xs (row_at_beat first beats s c) ∙ ap (λ l. rows_of xs ++ l) (row_without c)
 
-  pending_without : (c : ℕ) → rows_of (pending_at_beats first beats s c) ≡ pending s c
+  pub pending_without : (c : ℕ) → rows_of (pending_at_beats first beats s c) ≡ pending s c
   pending_without zero = refl
   pending_without (suc c) = by (s.ends c) (pending_without c)
     where

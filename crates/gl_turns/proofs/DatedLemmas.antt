@@ -1,7 +1,7 @@
 -- Wires that give results with places: leaves, wires some cycles later, rows changed one by one, and two sides that take turns.
 use Rattle.std.proofs.Common.{◌≡◌, ℕ, zero, suc, ◌+◌, ◌-◌, List, [], ◌∷◌, ◌++◌, length, Option, Some, None, Bool, true, false, ◌||◌, refl, sym, ap, ◌∙◌, arith, length-append}
-use Rattle.std.specs.Prelude.{if◌then◌else◌, map, nat_lt, option_and_then, option_map, option_to_list}
-use Rattle.std.specs.List.{AllByRecursion, cons_option}
+use Rattle.std.specs.Prelude.{if◌then◌else◌, map, option_and_then, option_map, option_to_list}
+use Rattle.std.specs.List.{cons_option}
 use Rattle.std.proofs.lemmas.List.Elements.{filter_map-append}
 use Rattle.gl_algebra.specs.declared.figures.Figures.{Figures}
 use Rattle.gl_algebra.specs.FigureTable.{delayed, input_figures, settled}
@@ -14,11 +14,10 @@ use Rattle.gl_wire.specs.Wire.{Carried, pending, stream}
 use Rattle.gl_wire.proofs.DelayLemmas.{has_end_before}
 use Rattle.gl_arrival.specs.Arrival.{by_arrival}
 use Rattle.gl_arrival.specs.Changes.{moved, stepped_at}
-use Rattle.gl_arrival.specs.Laws.{KeepsOrder}
 use Rattle.gl_arrival.specs.Places.{Placed, at_place, at_places}
 use Rattle.gl_arrival.specs.Results.{Arrivals, IsArrival, IsByArrival, IsChangedInPlace}
 use Rattle.gl_arrival.proofs.ChangeLemmas.{at_places_append, moved_by_none, stepped_moved}
-use Rattle.gl_arrival.proofs.SideLemmas.{by_arrival_moved}
+use Rattle.gl_arrival.proofs.SideLemmas.{by_arrival_moved, keeps_order}
 use Rattle.gl_turns.specs.Dated.{Dated, Rises}
 use Rattle.gl_turns.specs.Dates.{beat_of, cycles_at, cycles_before, last_beat, pending_at_beats, row_at_beat, stream_at_beats}
 use Rattle.gl_turns.specs.Turns.{ServedInTurn}
@@ -140,14 +139,6 @@ dated_stepped step f means g spill beats a w t e h i =
     }
 
 -- ---- two sides
-
-all_keep : (g : ℕ → ℕ) → Rises g → (x : Placed Row) (ys : List (Placed Row)) → AllByRecursion (λ (y : Placed Row). nat_lt (g y.place) (g x.place) ≡ nat_lt y.place x.place) ys
-all_keep g r x [] = tt
-all_keep g r x (y ∷ ys) = (r y.place x.place, all_keep g r x ys)
-
-keeps_order : (g : ℕ → ℕ) → Rises g → (xs ys : List (Placed Row)) → KeepsOrder g xs ys
-keeps_order g r [] ys = tt
-keeps_order g r (x ∷ xs) ys = (all_keep g r x ys, keeps_order g r xs ys)
 
 pub dated_turns : (f h k : Figures) (m n : ℕ → Arrivals) (g : ℕ → ℕ → ℕ) (p q : ℕ → Bool) (beats : Beats) (a b o : Carried) → ((t : ℕ) → Rises (g t)) → Fits f beats a → Fits h beats b → ServedInTurn f h k beats a b o
     → Dated f m g p beats a → Dated h n g q beats b → Dated k (λ t. IsByArrival (m t) (n t)) g (λ t. p t || q t) beats o

@@ -1,18 +1,15 @@
 -- Wires that give results with places: each row is brought by the beat that its place turns into.
-use Rattle.std.specs.Prelude.{◌≡◌, ℕ, List, Some, Bool, true, nat_lt}
+use Rattle.std.specs.Prelude.{◌≡◌, ℕ, List, Some, Bool, true}
 use Rattle.gl_algebra.specs.declared.figures.Figures.{Figures}
 use Rattle.gl_values.specs.Results.{Row}
 use Rattle.gl_wire.specs.Beats.{Beats}
 use Rattle.gl_wire.specs.Serves.{HasEnd}
 use Rattle.gl_wire.specs.Wire.{Carried}
 use Rattle.gl_arrival.specs.Changes.{moved}
+pub use Rattle.gl_arrival.specs.Laws.{Rises}
 use Rattle.gl_arrival.specs.Places.{Placed}
 use Rattle.gl_arrival.specs.Results.{Arrivals}
 use Rattle.gl_turns.specs.Dates.{stream_at_beats}
-
--- places in order turn into beats in order
-abbrev pub Rises : (ℕ → ℕ) → Type 0
-Rises g = (m n : ℕ) → nat_lt (g m) (g n) ≡ nat_lt m n
 
 -- these rows are a result, each brought by the beat that its place turns into
 pub record IsDated (Of : Arrivals) (g : ℕ → ℕ) (spill : Bool) (given : List (Placed Row)) : Type 0 where

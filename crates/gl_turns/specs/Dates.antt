@@ -3,7 +3,7 @@
 use Rattle.std.specs.Prelude.{ℕ, zero, suc, ◌-◌, List, [], ◌++◌, is_some, map, option_to_list, if◌then◌else◌}
 use Rattle.gl_values.specs.Results.{Row}
 use Rattle.gl_wire.specs.Beats.{Beats}
-use Rattle.gl_wire.specs.Ticks.{times_of}
+pub use Rattle.gl_wire.specs.Ticks.{cycles_at, cycles_before}
 use Rattle.gl_wire.specs.Wire.{Carried}
 use Rattle.gl_arrival.specs.Places.{Placed, at_place}
 
@@ -30,14 +30,3 @@ pending_at_beats first beats s (suc c) =
 -- the same with the cycle's own row: the stream, where this cycle has the end
 abbrev pub stream_at_beats : ℕ → Beats → Carried → ℕ → List (Placed Row)
 stream_at_beats first beats s c = pending_at_beats first beats s c ++ row_at_beat first beats s c
-
--- ---- where rows come in the cycle of their beat: those of a leaf
-
--- the cycles of the rows since the last end before this cycle
-abbrev pub cycles_before : Carried → ℕ → List ℕ
-cycles_before s zero = []
-cycles_before s (suc c) = if s.ends c then [] else cycles_before s c ++ times_of (s.tuple c) c
-
--- the same with the cycle of the cycle's own row
-abbrev pub cycles_at : Carried → ℕ → List ℕ
-cycles_at s c = cycles_before s c ++ times_of (s.tuple c) c

@@ -1,12 +1,21 @@
 -- What a body of a plan makes of rows that are given to it alone.
-use Rattle.std.specs.Prelude.{ℕ, List, []}
+use Rattle.std.specs.Prelude.{ℕ, List, [], length}
+use Rattle.std.specs.List.{range_with_len}
 use Rattle.gl_algebra.specs.declared.node.PlanNode.{PlanNode}
 use Rattle.gl_algebra.specs.Results.{Inputs, IsPlanResult}
 use Rattle.gl_values.specs.Results.{Row, Results}
 
--- inputs that bring a body its rows and nothing else
+-- inputs that bring a body its rows, each at its position, and nothing else
 abbrev pub alone : List Row → Inputs
-alone rows = record { streams = λ number. []; times = λ number. []; ticks = 0; body = rows }
+alone rows =
+    record {
+      streams = λ number. [];
+      places = λ number. [];
+      times = λ number. [];
+      ticks = 0;
+      body = rows;
+      body_places = range_with_len 0 (length rows);
+    }
 
 -- the results of a body over rows that are given to it alone
 abbrev pub OfBody : List PlanNode → ℕ → List Row → Results

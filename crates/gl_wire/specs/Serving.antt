@@ -7,7 +7,7 @@ use Rattle.gl_algebra.specs.Results.{Inputs}
 use Rattle.gl_wire.specs.Beats.{Beats, Ends}
 use Rattle.gl_wire.specs.Wire.{Carried, stream}
 use Rattle.gl_wire.specs.Serves.{HasEnd, Fits, Meaning}
-use Rattle.gl_wire.specs.Ticks.{ticks_at, times_at}
+use Rattle.gl_wire.specs.Ticks.{cycles_at, ticks_at, times_at}
 use Rattle.gl_wire.specs.Spills.{Lines, Relation, Relation2}
 
 -- over these beats the wire fits its figures, and for a choice of spill each of its streams is a result of the beat and
@@ -26,15 +26,17 @@ pub record Serving (f : Figures) (means : ℕ → Results) (lines : Lines) (beat
   -- the line is not 1 after the last end
   pub late : Ends beats → (c : ℕ) → lines.further c ≡ true → (e : ℕ) × (c ≤ e) × (b.ends e ≡ true)
 
--- what the leaves give at a beat: the stream of each leaf's wire, and that of a body's input, with the times and ticks of
--- a line beside them
+-- what the leaves give at a beat: the stream of each leaf's wire, and that of a body's input, each row at the cycle in
+-- which it comes, with the times and ticks of a line beside them
 abbrev pub inputs_at : (ℕ → Bool) → (ℕ → Carried) → Carried → ℕ → Inputs
 inputs_at tick streams body t =
     record {
       streams = λ k. stream (streams k) t;
+      places = λ k. cycles_at (streams k) t;
       times = λ k. times_at tick (streams k) t;
       ticks = ticks_at tick body t;
       body = stream body t;
+      body_places = cycles_at body t;
     }
 
 -- what a block makes of results

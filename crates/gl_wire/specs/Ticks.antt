@@ -30,6 +30,15 @@ times_before tick a (suc c) =
 abbrev pub times_at : (ℕ → Bool) → Carried → ℕ → List ℕ
 times_at tick a c = times_before tick a c ++ times_of (a.tuple c) (ticks_at tick a c)
 
+-- the cycles of the tuples since the end before, the cycle's own left out
+abbrev pub cycles_before : Carried → ℕ → List ℕ
+cycles_before a zero = []
+cycles_before a (suc c) = if a.ends c then [] else cycles_before a c ++ times_of (a.tuple c) c
+
+-- the cycles of the tuples since the end before, the cycle's own among them
+abbrev pub cycles_at : Carried → ℕ → List ℕ
+cycles_at a c = cycles_before a c ++ times_of (a.tuple c) c
+
 -- the ticks of n cycles from this one on
 abbrev pub ticks_in : (ℕ → Bool) → ℕ → ℕ → ℕ
 ticks_in tick c zero = 0

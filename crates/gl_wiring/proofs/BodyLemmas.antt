@@ -5,7 +5,7 @@ use Rattle.gl_algebra.specs.declared.figures.Figures.{Figures}
 use Rattle.gl_algebra.specs.declared.node.PlanNode.{PlanNode}
 use Rattle.gl_algebra.specs.FigureTable.{figures_of, spaced}
 use Rattle.gl_algebra.specs.Fits.{IsBodyFor, IsPlan}
-use Rattle.gl_algebra.specs.Results.{IsPlanResult}
+use Rattle.gl_algebra.specs.Results.{IsPlanArrival, IsPlanResult}
 use Rattle.gl_algebra.specs.Shapes.{kinds_of, shape_of}
 use Rattle.gl_net.specs.declared.node.Bit.{Bit}
 use Rattle.gl_net.specs.Net.{Net, Run, IsRun, Keeps}
@@ -29,6 +29,7 @@ use Rattle.gl_wiring.specs.Below.{LawsBelow}
 use Rattle.gl_wiring.specs.Copies.{AreBodies, IsSpacedFor, LeavesRoom, cost_from, cost_of_spaced, paceless}
 use Rattle.gl_wiring.specs.Leaves.{LeavesFit, leaf, widths_of}
 use Rattle.gl_wiring.specs.Put.{Gives, GivesAs}
+use Rattle.gl_wiring.proofs.PositionLemmas.{at_positions_in, cycle_at, cycles_rise, silent_stream, turn_into_cycles}
 use Rattle.gl_wiring.proofs.CopyLemmas.{copy_fits}
 use Rattle.gl_wiring.proofs.CostLemmas.{costs_then}
 use Rattle.gl_wiring.proofs.GivesLemmas.{gives_kept}
@@ -66,10 +67,10 @@ module _ (nodes : List PlanNode) (source gap : ℕ) (g : Figures) (room : Leaves
       subst (λ (cs : List ℕ). CostsAtMost old net (cost_of_spaced gap p cs)) columns sp.behind.cost in
       costs_then old net new _ _ spacer cost
 
-  pub source_gives : GivesAs (paceless (shape_of nodes source)) f (IsPlanResult nodes source) new tick leaves between
+  pub source_gives : GivesAs (paceless (shape_of nodes source)) f (IsPlanArrival nodes source) (IsPlanResult nodes source) new tick leaves between
   source_gives =
-      gives_kept _ f _ net new tick leaves between keeps
-      (behind_same (shape_of nodes source) p f (IsPlanResult nodes source) old net tick leaves below between _ _ h sp.behind columns (no_closer gap p))
+      gives_kept _ f _ _ net new tick leaves between keeps
+      (behind_same (shape_of nodes source) p f (IsPlanArrival nodes source) (IsPlanResult nodes source) old net tick leaves below between _ _ h sp.behind columns (no_closer gap p))
 
   pub source_apart : (run : Run) → IsRun new run → (beats : Beats) → Spaced g beats → LeavesFit run tick leaves beats
       → CarriesApart gap (carried run between.wire)
@@ -96,7 +97,10 @@ module _ (laws : LawsBelow) (nodes : List PlanNode) (source body : ℕ) (plan : 
       let ls : ℕ → Carried = leaf run (wire ∷ []) in
       serving_as s (λ t. IsPlanResult nodes body (inputs_at (line_of run None) ls (ls 0) t)) (λ u. OfBody nodes body (stream (carried run wire) u)) (lines_of run x.faults)
       (beats_of (carried run wire)) (carried run x.wire)
-      (λ t ys p h. laws.bodies_read_their_input nodes body plan in_body (kinds_of nodes source) for.leaves (inputs_at (line_of run None) ls (ls 0) t) (alone (stream (carried run wire) t)) refl ys p h)
+      (λ t ys p h. laws.bodies_read_their_input nodes body plan in_body (kinds_of nodes source) for.leaves (at_positions_in (line_of run None) ls t) (alone (stream (carried run wire) t))
+      (record { rows = refl; places = refl }) ys p
+      (laws.results_go_by_order nodes body plan in_body (cycle_at (ls 0) t) (cycles_rise (ls 0) t) (at_positions_in (line_of run None) ls t) (inputs_at (line_of run None) ls (ls 0) t)
+      (turn_into_cycles (line_of run None) ls t (λ k. silent_stream t)) ys p h))
       ((are.gives k wire x at_wire at_copy).serving run r (beats_of (carried run wire)) spaced_beats (copy_fits laws run wire))
 
   pub copies_serve : (mid net : Net) (run : Run) (wires : List Wire) (c : ℕ) (copies : List Emitted) → IsRun net run → AreBodies nodes body mid net wires c copies

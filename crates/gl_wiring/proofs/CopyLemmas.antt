@@ -98,7 +98,7 @@ bodies_more nodes body old mid new wires n copies w e are at h = record {
   };
   as_many = length-append copies (e ∷ []) ∙ ap (λ (k : ℕ). k + 1) are.as_many;
   gives = λ k v x at_wire at_copy. elim (place_in_append copies e k x at_copy) [
-    | earlier below is ↦ gives_kept _ _ _ mid new None (v ∷ []) x h.keeps (are.gives k v x at_wire is)
+    | earlier below is ↦ gives_kept _ _ _ _ mid new None (v ∷ []) x h.keeps (are.gives k v x at_wire is)
     | last place same ↦ (let here : v ≡ w = (let z : slice_get wires n ≡ Some v = ap (slice_get wires) (sym (place ∙ are.as_many)) ∙ at_wire in cc) in
         rw (same, here) h.gives)
   ];

@@ -3,7 +3,7 @@ use Rattle.std.proofs.Common.{◌≡◌, ℕ, suc, ◌≤◌, List, [], ◌∷�
 use Rattle.gl_values.specs.declared.kind.Kind.{Kind}
 use Rattle.gl_algebra.specs.declared.node.PlanAgg.{PlanAgg}
 use Rattle.gl_algebra.specs.declared.node.PlanNode.{PlanNode}
-use Rattle.gl_algebra.specs.declared.node.PlanNode.TheVariants.{Stream, Body, Compute, Select, Project, Frames, Aggregate, Union, Beside, Window, TimeWindow, Group, Partition}
+use Rattle.gl_algebra.specs.declared.node.PlanNode.TheVariants.{Stream, Body, Compute, Select, Project, Frames, Aggregate, Union, Merge, Beside, Window, TimeWindow, Group, Partition}
 use Rattle.gl_algebra.specs.Direct.{Form, copied, rowwise, totalling, form_from, is_direct, is_rowwise, rows_over, totals_over}
 use Rattle.gl_algebra.specs.FigureTable.{delay_of_aggs}
 use Rattle.gl_algebra.specs.Shapes.{Shape}
@@ -59,6 +59,7 @@ others_no_rows shapes forms (Project child items) a b c d = absurd (d child item
 others_no_rows shapes forms (Frames child by items) a b c d = refl
 others_no_rows shapes forms (Aggregate child aggs) a b c d = sym (totals_no_rows (forms child) (shapes child).kinds aggs)
 others_no_rows shapes forms (Union left right) a b c d = refl
+others_no_rows shapes forms (Merge left right) a b c d = refl
 others_no_rows shapes forms (Beside left right) a b c d = refl
 others_no_rows shapes forms (Window source body size advance) a b c d = refl
 others_no_rows shapes forms (TimeWindow source body size advance) a b c d = refl
@@ -75,6 +76,7 @@ others_not_direct shapes forms (Project child items) a = sym (rows_not_direct (f
 others_not_direct shapes forms (Frames child by items) a = refl
 others_not_direct shapes forms (Aggregate child aggs) a = absurd (a child aggs refl)
 others_not_direct shapes forms (Union left right) a = refl
+others_not_direct shapes forms (Merge left right) a = refl
 others_not_direct shapes forms (Beside left right) a = refl
 others_not_direct shapes forms (Window source body size advance) a = refl
 others_not_direct shapes forms (TimeWindow source body size advance) a = refl

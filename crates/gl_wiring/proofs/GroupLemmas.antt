@@ -146,7 +146,8 @@ module _ (laws : LawsBelow) (nodes : List PlanNode) (g : GroupOf) (plan : IsPlan
               (λ t ys p v. (follows.results (ins t) ys p).1 v)
               (groups_then f h (λ t. IsPlanResult nodes g.source (ins t)) g.groups (key_of (grouping_of nodes g)) (OfBody nodes g.body)
               (λ t rows. IsPlanResult nodes g.body (given (ins t) rows))
-              (λ t rows zs q y. laws.bodies_read_their_input nodes g.body plan in_body (kinds_of nodes g.source) fits.suits.0.leaves (alone rows) (given (ins t) rows) refl zs q y)
+              (λ t rows zs q y. laws.bodies_read_their_input nodes g.body plan in_body (kinds_of nodes g.source) fits.suits.0.leaves (alone rows) (given (ins t) rows) (record { rows = refl; places = refl }) zs q y)
               (lines_of run o.front.source.faults) told beats (carried run o.front.source.wire) (carried run e.wire) y.source' whole));
+          dated = λ run r beats spaced_beats has came. absurd (cc);
         });
       }

@@ -363,7 +363,8 @@ module _ (laws : LawsBelow) (nodes : List PlanNode) (g : GroupOf) (plan : IsPlan
             (λ t ys p v. ((follows laws nodes g plan at).results (ins t) ys p).1 v)
             (groups_then f h (λ t. IsPlanResult nodes g.source (ins t)) g.groups (key_of (grouping_of nodes g)) (OfBody nodes g.body)
             (λ t rows. IsPlanResult nodes g.body (given (ins t) rows))
-            (λ t rows zs q y. laws.bodies_read_their_input nodes g.body plan (in_body laws nodes g plan at) (kinds_of nodes g.source) (fits laws nodes g plan at).suits.0.leaves (alone rows) (given (ins t) rows) refl zs q y)
+            (λ t rows zs q y. laws.bodies_read_their_input nodes g.body plan (in_body laws nodes g plan at) (kinds_of nodes g.source) (fits laws nodes g plan at).suits.0.leaves (alone rows) (given (ins t) rows) (record { rows = refl; places = refl }) zs q y)
             (lines_of run l.source.faults) told beats (carried run l.source.wire) (carried run wire) source whole));
+        dated = λ run r beats spaced_beats has came. absurd (cc);
       });
     }

@@ -13,6 +13,7 @@ pub mod BringLemmas
 pub mod RootLemmas
 pub mod FileLemmas
 pub mod ClockLemmas
+pub mod CycleLemmas
 pub mod TopLemmas
 pub mod ShownLemmas
 pub mod OutputLemmas
@@ -27,7 +28,11 @@ pub mod GroupLemmas
 pub mod PartitionCosts
 pub mod PartitionLemmas
 pub mod CostLemmas
+pub mod DatedServing
 pub mod GivesLemmas
+pub mod DatedRows
+pub mod PositionLemmas
+pub mod TurnLemmas
 pub mod LeafLemmas
 pub mod MarkedLemmas
 pub mod TableLemmas

@@ -8,7 +8,7 @@ use Rattle.gl_bits.proofs.AllLists.{get_there}
 use Rattle.gl_bits.proofs.Bools.{or_cases, or_left, or_right}
 use Rattle.gl_algebra.specs.declared.figures.Figures.{Figures}
 use Rattle.gl_algebra.specs.declared.node.PlanNode.{PlanNode}
-use Rattle.gl_algebra.specs.declared.node.PlanNode.TheVariants.{Stream, Body, Compute, Select, Project, Frames, Aggregate, Union, Beside, Window, TimeWindow, Group, Partition}
+use Rattle.gl_algebra.specs.declared.node.PlanNode.TheVariants.{Stream, Body, Compute, Select, Project, Frames, Aggregate, Union, Merge, Beside, Window, TimeWindow, Group, Partition}
 use Rattle.gl_algebra.specs.Fits.{IsPlan}
 use Rattle.gl_algebra.specs.Views.{children_of}
 use Rattle.gl_algebra.proofs.PlanLemmas.{in_order}
@@ -69,6 +69,10 @@ module _ (laws : LawsBelow) (nodes : List PlanNode) (figures : List Figures) (ne
   can_children id (Union left right) at can = (
     (can_left laws nodes figures id (Union left right) net tick leaves plan at can left right refl refl).can,
     ((can_right laws nodes figures id (Union left right) net tick leaves plan at can net left right refl refl (same_keeps net)).can, tt),
+  )
+  can_children id (Merge left right) at can = (
+    (can_left laws nodes figures id (Merge left right) net tick leaves plan at can left right refl refl).can,
+    ((can_right laws nodes figures id (Merge left right) net tick leaves plan at can net left right refl refl (same_keeps net)).can, tt),
   )
   can_children id (Beside left right) at can = (
     (can_left laws nodes figures id (Beside left right) net tick leaves plan at can left right refl refl).can,

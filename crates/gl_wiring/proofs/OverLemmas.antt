@@ -9,7 +9,7 @@ use Rattle.gl_algebra.specs.declared.figures.Figures.{Figures}
 use Rattle.gl_algebra.specs.declared.node.PlanNode.{PlanNode}
 use Rattle.gl_algebra.specs.FigureTable.{figures_of, spaced}
 use Rattle.gl_algebra.specs.Fits.{IsBodyFor, IsPlan}
-use Rattle.gl_algebra.specs.Results.{IsPlanResult}
+use Rattle.gl_algebra.specs.Results.{IsPlanArrival, IsPlanResult}
 use Rattle.gl_algebra.specs.Shapes.{kinds_of, shape_of}
 use Rattle.gl_net.specs.declared.node.Bit.{Bit}
 use Rattle.gl_net.specs.Net.{Net, Run, IsRun, Keeps}
@@ -78,8 +78,8 @@ around laws nodes source body gap g m between old mid new tick leaves e plan in_
     let columns = columns_between nodes source gap g room old mid o.mid tick leaves sp.below between sp.gives sp.spaced' o.fronted.keeps in
     let fore : CostsAtMost mid o.mid (m.front_cost (widths_of (kinds_of nodes source))) =
     subst (λ (cs : List ℕ). CostsAtMost mid o.mid (m.front_cost cs)) columns o.fronted.cost in
-    let given : GivesAs (paceless (shape_of nodes source)) f (IsPlanResult nodes source) o.mid tick leaves o.front.source =
-    subst (GivesAs (paceless (shape_of nodes source)) f (IsPlanResult nodes source) o.mid tick leaves) (sym o.fronted.same)
+    let given : GivesAs (paceless (shape_of nodes source)) f (IsPlanArrival nodes source) (IsPlanResult nodes source) o.mid tick leaves o.front.source =
+    subst (GivesAs (paceless (shape_of nodes source)) f (IsPlanArrival nodes source) (IsPlanResult nodes source) o.mid tick leaves) (sym o.fronted.same)
     (source_gives nodes source gap g room old mid o.mid tick leaves sp.below between sp.gives sp.spaced' o.fronted.keeps) in
     record {
       keeps = keeps_then old o.mid new (source_keeps nodes source gap g room old mid o.mid tick leaves sp.below between sp.gives sp.spaced' o.fronted.keeps)

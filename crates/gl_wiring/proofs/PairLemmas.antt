@@ -12,7 +12,7 @@ use Rattle.gl_algebra.specs.declared.node.PlanNode.TheVariants.{Union, Beside}
 use Rattle.gl_algebra.specs.FigureTable.{NoCloser, at_end, beside_figures, delayed, figures_of, in_step, is_fixed, union_figures, wait_of}
 use Rattle.gl_algebra.specs.Fits.{IsPlan}
 use Rattle.gl_algebra.specs.Laws.{PaceFixes}
-use Rattle.gl_algebra.specs.Results.{IsPlanResult}
+use Rattle.gl_algebra.specs.Results.{IsPlanArrival, IsPlanResult}
 use Rattle.gl_algebra.specs.Shapes.{Pace, Shape, kinds_of, shape_of}
 use Rattle.gl_net.specs.declared.node.Bit.{Bit}
 use Rattle.gl_net.specs.Net.{Net}
@@ -35,7 +35,7 @@ use Rattle.gl_wiring.proofs.CostLemmas.{cost_behind}
 use Rattle.gl_wiring.proofs.GivesLemmas.{behind2}
 use Rattle.gl_wiring.proofs.SideLemmas.{joins_pace, sides_alike}
 
-or_none : (p q : Bool) → q ≡ false → (p || q) ≡ p
+pub or_none : (p q : Bool) → q ≡ false → (p || q) ≡ p
 or_none true q h = refl
 or_none false q h = h
 
@@ -71,13 +71,14 @@ module _ (laws : LawsBelow) (nodes : List PlanNode) (id : ℕ) (old new : Net) (
             cost
             (laws.unions_are_counted (shape_of nodes) (figures_of nodes) left right (widths_of kinds) (narrow_kinds kinds (laws.columns_have_kinds nodes left plan within)));
         gives = rw (follows.shape, follows.figures) (behind2 (shape_of nodes left) (shape_of nodes right) _ p q (union_figures p q)
-            (IsPlanResult nodes left) (IsPlanResult nodes right) (IsPlanResult nodes id) (never2 IsInterleaving) always any_pace old new tick leaves first second e _ _
+            (IsPlanArrival nodes left) (IsPlanArrival nodes right) (IsPlanArrival nodes id) (IsPlanResult nodes left) (IsPlanResult nodes right) (IsPlanResult nodes id) (never2 IsInterleaving) always any_pace old new tick leaves first second e _ _
             h h' b h.same_widths
             (record { gt = omega arith; ge = omega arith }) (record { gt = omega arith; ge = omega arith })
             (λ ls beats x y fx fy px py. tt)
             (λ ls x y o w px py. tt)
             (λ i xs ys zs s t u l r m. (follows.results i zs ((s || t) || u)).1
-            (record { left = xs; right = ys; left_spill = s; right_spill = t; of_left = l; of_right = r; join = m.0; either = or_none (s || t) u m.1 })));
+            (record { left = xs; right = ys; left_spill = s; right_spill = t; of_left = l; of_right = r; join = m.0; either = or_none (s || t) u m.1 }))
+            refl);
       }
 
   pub beside_put : (left right : ℕ) → slice_get nodes id ≡ Some (Beside left right) → Gives nodes left old tick leaves first
@@ -111,12 +112,13 @@ module _ (laws : LawsBelow) (nodes : List PlanNode) (id : ℕ) (old new : Net) (
             cost
             (laws.joiners_are_counted (shape_of nodes) (figures_of nodes) left right (widths_of kinds) (narrow_kinds kinds own));
         gives = rw (follows.shape, follows.figures) (behind2 (shape_of nodes left) (shape_of nodes right) _ p q (beside_figures p q)
-            (IsPlanResult nodes left) (IsPlanResult nodes right) (IsPlanResult nodes id) (never2 AreBeside) (joins_when p q fixed) (joined_pace p q fixed)
+            (IsPlanArrival nodes left) (IsPlanArrival nodes right) (IsPlanArrival nodes id) (IsPlanResult nodes left) (IsPlanResult nodes right) (IsPlanResult nodes id) (never2 AreBeside) (joins_when p q fixed) (joined_pace p q fixed)
             old new tick leaves first second e _ _
             h h' b columns
             (joined_closer p q both) (joined_closer' p q both)
             (λ ls beats x y fx fy px py. sides_alike pace p q suits.1 fp fq ls beats x y fx fy px (subst (λ (z : Pace). KeepsPace z q.a ls y) (sym suits.0) py) fixed refl)
             (λ ls x y o w px py. joins_pace laws pace p q fp fq ls x y o fixed refl w px)
             (λ i xs ys zs s t u l r m. (follows.results i zs ((s || t) || u)).1
-            (record { left = xs; right = ys; left_spill = s; right_spill = t; of_left = l; of_right = r; join = m.0; either = or_none (s || t) u m.1 })));
+            (record { left = xs; right = ys; left_spill = s; right_spill = t; of_left = l; of_right = r; join = m.0; either = or_none (s || t) u m.1 }))
+            refl);
       }

@@ -15,7 +15,7 @@ use Rattle.gl_algebra.specs.Cost.{store_by_key}
 use Rattle.gl_algebra.specs.FigureTable.{IsSound, delayed, figures_of, settled}
 use Rattle.gl_algebra.specs.Fits.{IsPlan, KeyFits}
 use Rattle.gl_algebra.specs.Keys.{delay_by_key}
-use Rattle.gl_algebra.specs.Results.{IsPlanResult, row_of_frames}
+use Rattle.gl_algebra.specs.Results.{IsPlanArrival, IsPlanResult, row_of_frames}
 use Rattle.gl_algebra.specs.Shapes.{kinds_of, shape_of}
 use Rattle.gl_algebra.specs.Weights.{weight_by_key}
 use Rattle.gl_algebra.proofs.SoundLemmas.{delayed_sound}
@@ -43,6 +43,12 @@ use Rattle.gl_wire.proofs.ColumnLemmas.{wire_kept}
 use Rattle.gl_wire.proofs.DelayLemmas.{spaced_closer}
 use Rattle.gl_wire.proofs.FaultLemmas.{line_kept}
 use Rattle.gl_wire.proofs.SettledLemmas.{settled_serves}
+use Rattle.gl_arrival.specs.Changes.{each_at}
+use Rattle.gl_frames.specs.Frames.{by_key}
+use Rattle.gl_values.specs.Lists.{has_further}
+use Rattle.gl_arrival.specs.Results.{IsPartedInPlace}
+use Rattle.gl_turns.proofs.DatedLemmas.{dated_as}
+use Rattle.gl_wiring.proofs.DatedRows.{dated_by_key}
 use Rattle.gl_wiring.specs.Below.{LawsBelow}
 use Rattle.gl_wiring.specs.Put.{Gives, IsPutBehind}
 use Rattle.gl_wiring.proofs.CanLemmas.{first_within}
@@ -142,10 +148,23 @@ module _ (laws : LawsBelow) (nodes : List PlanNode) (id : ℕ) (old mid new : Ne
         cost = cost_behind nodes id weight weight (store_by_key kinds lines (Some by) items) old new (cost_by_key kinds by items)
             (record { weight' = parts.weight; lean' = without_keys _ _ weight parts.lean none; store' = parts.store })
             keyed.cost (key_frames_counted laws.key_frames_are_counted kinds by items (laws.columns_have_kinds nodes child plan in_child) suits.0 suits.1);
-        gives = rw (follows.shape, follows.figures) (behind_lines (shape_of nodes child) _ f (settled (delayed m f)) (IsPlanResult nodes child)
+        gives = rw (follows.shape, follows.figures) (behind_lines (shape_of nodes child) _ f (settled (delayed m f)) (IsPlanArrival nodes child) (IsPlanArrival nodes id) (IsPlanResult nodes child)
             (IsPlanResult nodes id) old new tick leaves below e _ _ relation
             h keyed refl (record { gt = omega arith; ge = omega arith })
             (λ run z. tt)
             (λ i xs ys q s of n. (follows.results i ys (q || s)).1
-            (record { rows = xs; source_spill = q; of_source = of; changed = n.rows; any = ap (λ (b : Bool). q || b) n.left_out })));
+            (record { rows = xs; source_spill = q; of_source = of; changed = n.rows; any = ap (λ (b : Bool). q || b) n.left_out }))
+            (has_further by.groups (key_in by.key)) (λ xs ys s n. n.left_out)
+            (λ run z beats apart fits came. (
+              came,
+              λ i p d.
+                  let w = (keyed.serves run z).2 beats apart fits in
+                  dated_as (settled (delayed m f)) (λ t. IsPartedInPlace (IsPlanArrival nodes child (i t)) (each_at (by_key by.groups (key_in by.key) (row_of_frames kinds items)) [])
+                  (has_further by.groups (key_in by.key))) (λ t n. n) (λ t. p t || w.spill t) beats (λ t. IsPlanArrival nodes id (i t)) (carried run r.wire)
+                  (λ t xs q x. (follows.arrivals (i t) xs q).1 x)
+                  (dated_by_key f (λ t. IsPlanArrival nodes child (i t)) (λ t n. n) p beats (carried run below.wire) (carried run r.wire) m
+                  (by_key by.groups (key_in by.key) (row_of_frames kinds items)) (has_further by.groups (key_in by.key)) w.spill
+                  (λ t k l ends first last. (w.served.results t k l ends first last).left_out)
+                  (is.runs run (line.keeps.runs run z)) d),
+            )));
       }

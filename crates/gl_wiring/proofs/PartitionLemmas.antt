@@ -178,7 +178,8 @@ module _ (laws : LawsBelow) (nodes : List PlanNode) (p : PartitionOf) (plan : Is
               (λ t ys x v. (follows.results (ins t) ys x).1 v)
               (parts_then f h (λ t. IsPlanResult nodes p.source (ins t)) (partitioning_of nodes p) (OfBody nodes p.body)
               (λ t rows. IsPlanResult nodes p.body (given (ins t) rows))
-              (λ t rows zs q y. laws.bodies_read_their_input nodes p.body plan in_body (kinds_of nodes p.source) fits.suits.0.leaves (alone rows) (given (ins t) rows) refl zs q y)
+              (λ t rows zs q y. laws.bodies_read_their_input nodes p.body plan in_body (kinds_of nodes p.source) fits.suits.0.leaves (alone rows) (given (ins t) rows) (record { rows = refl; places = refl }) zs q y)
               (lines_of run o.front.source.faults) told beats (carried run o.front.source.wire) (carried run e.wire) y.source' whole));
+          dated = λ run r beats spaced_beats has came. absurd (cc);
         });
       }

@@ -20,7 +20,7 @@ use Rattle.gl_algebra.specs.Cost.{store_of_frames}
 use Rattle.gl_algebra.specs.FigureTable.{delayed, settled, aggregate_figures, delay_of_aggs, figures_of}
 use Rattle.gl_algebra.specs.Fits.{IsPlan}
 use Rattle.gl_algebra.specs.Frames.{delay_of_frames}
-use Rattle.gl_algebra.specs.Results.{IsPlanResult, computed, selected, projected, row_of_frames}
+use Rattle.gl_algebra.specs.Results.{IsPlanArrival, IsPlanResult, computed, selected, projected, row_of_frames}
 use Rattle.gl_algebra.specs.Shapes.{Shape, kinds_of, shape_of}
 use Rattle.gl_algebra.specs.Weights.{weight_of_frames}
 use Rattle.gl_algebra.proofs.FigureLemmas.{delayed_by_none}
@@ -44,11 +44,17 @@ use Rattle.gl_wire.specs.Serves.{Serves}
 use Rattle.gl_wire.specs.Shapes.{Steady, AtEnds, Mapped, Totalled, keep_where}
 use Rattle.gl_wire.proofs.PaceLemmas.{steady_pace}
 use Rattle.gl_wire.proofs.SettledLemmas.{settled_serves}
+use Rattle.gl_arrival.specs.Changes.{each_at, stepped_at}
+use Rattle.gl_arrival.specs.Results.{IsChangedInPlace}
+use Rattle.gl_arrival.proofs.ChangeLemmas.{stepped_kept, stepped_mapped}
+use Rattle.gl_turns.specs.Dated.{Dated}
+use Rattle.gl_turns.proofs.DatedLemmas.{dated_as}
 use Rattle.gl_wiring.specs.Below.{LawsBelow}
 use Rattle.gl_wiring.specs.Leaves.{widths_of}
 use Rattle.gl_wiring.specs.Put.{Gives, IsPutBehind}
 use Rattle.gl_wiring.proofs.CanLemmas.{first_within}
 use Rattle.gl_wiring.proofs.CostLemmas.{cost_behind, items_counted, rows_counted, selected_counted}
+use Rattle.gl_wiring.proofs.DatedRows.{dated_runs, dated_steady}
 use Rattle.gl_wiring.proofs.GivesLemmas.{behind}
 use Rattle.gl_wiring.proofs.TotalCosts.{aggs_counted}
 
@@ -102,12 +108,19 @@ module _ (laws : LawsBelow) (nodes : List PlanNode) (id : ℕ) (old new : Net) (
         cost = cost_behind nodes id _ _ _ old new _
             (record { weight' = parts.weight; lean' = omega (arith, parts.lean, parts.keys); store' = parts.store })
             b.cost (rows_counted (kinds ++ map (kind_of_op kinds) ops) (length ops) own);
-        gives = rw (follows.shape, follows.figures) (behind (shape_of nodes child) _ f (settled (delayed 1 f)) (IsPlanResult nodes child)
+        gives = rw (follows.shape, follows.figures) (behind (shape_of nodes child) _ f (settled (delayed 1 f)) (IsPlanArrival nodes child) (IsPlanArrival nodes id) (IsPlanResult nodes child)
             (IsPlanResult nodes id) old new tick leaves below e _ _ _ (Mapped step)
             h b refl (record { gt = omega arith; ge = omega arith })
             (λ x y s. settled_serves f (delayed 1 f) (Mapped step) x y (delayed_sound 1 f sound) (laws.steady_serves 1 step x y f s))
             (λ x y ls s. steady_pace 1 (computed kinds ops) x y s (shape_of nodes child).pace f.a ls)
-            (λ i xs ys p r m. (follows.results i ys p).1 (record { rows = xs; of_source = r; changed = m ∙ mapped_all (computed kinds ops) xs })));
+            (λ i xs ys p r m. (follows.results i ys p).1 (record { rows = xs; of_source = r; changed = m ∙ mapped_all (computed kinds ops) xs }))
+            (record {
+              before = λ t. t;
+              dates = λ t i p beats x y s d.
+                  dated_as (settled (delayed 1 f)) (λ u. IsChangedInPlace (IsPlanArrival nodes child (i u)) (stepped_at step)) (λ u n. n) p beats (λ u. IsPlanArrival nodes id (i u)) y
+                  (λ u xs q r. (follows.arrivals (i u) xs q).1 (record { rows = r.rows; of_source = r.of_source; changed = r.changed ∙ stepped_mapped (computed kinds ops) r.rows }))
+                  (dated_steady f (λ u. IsPlanArrival nodes child (i u)) (λ u n. n) p beats x y 1 step s d);
+            }));
       }
 
   pub select_put : (child column : ℕ) → slice_get nodes id ≡ Some (Select child column) → Gives nodes child old tick leaves below
@@ -125,12 +138,20 @@ module _ (laws : LawsBelow) (nodes : List PlanNode) (id : ℕ) (old new : Net) (
         cost = cost_behind nodes id _ _ _ old new _
             (record { weight' = parts.weight; lean' = omega (arith, parts.lean, parts.keys); store' = parts.store })
             b.cost (selected_counted kinds (laws.columns_have_kinds nodes child plan within));
-        gives = rw (follows.shape, follows.figures) (behind (shape_of nodes child) _ f (settled (delayed 1 f)) (IsPlanResult nodes child)
+        gives = rw (follows.shape, follows.figures) (behind (shape_of nodes child) _ f (settled (delayed 1 f)) (IsPlanArrival nodes child) (IsPlanArrival nodes id) (IsPlanResult nodes child)
             (IsPlanResult nodes id) old new tick leaves below e _ _ _ (Mapped (keep_where column))
             h b refl (record { gt = omega arith; ge = omega arith })
             (λ x y s. settled_serves f (delayed 1 f) (Mapped (keep_where column)) x y (delayed_sound 1 f sound) (laws.steady_serves 1 (keep_where column) x y f s))
             (λ x y ls s p. tt)
-            (λ i xs ys p r m. (follows.results i ys p).1 (record { rows = xs; of_source = r; changed = m ∙ kept_rows column xs })));
+            (λ i xs ys p r m. (follows.results i ys p).1 (record { rows = xs; of_source = r; changed = m ∙ kept_rows column xs }))
+            (record {
+              before = λ t. t;
+              dates = λ t i p beats x y s d.
+                  dated_as (settled (delayed 1 f)) (λ u. IsChangedInPlace (IsPlanArrival nodes child (i u)) (stepped_at (keep_where column))) (λ u n. n) p beats (λ u. IsPlanArrival nodes id (i u)) y
+                  (λ u xs q r. (follows.arrivals (i u) xs q).1
+                  (record { rows = r.rows; of_source = r.of_source; changed = r.changed ∙ stepped_kept (λ row. nat_eq (slice_index row column) 1) r.rows }))
+                  (dated_steady f (λ u. IsPlanArrival nodes child (i u)) (λ u n. n) p beats x y 1 (keep_where column) s d);
+            }));
       }
 
   pub project_put : (child : ℕ) (items : List Operand) → slice_get nodes id ≡ Some (Project child items) → Gives nodes child old tick leaves below
@@ -150,14 +171,22 @@ module _ (laws : LawsBelow) (nodes : List PlanNode) (id : ℕ) (old new : Net) (
         cost = cost_behind nodes id _ _ _ old new _
             (record { weight' = parts.weight; lean' = omega (arith, parts.lean, parts.keys); store' = parts.store })
             b.cost (items_counted (map (kind_of_operand kinds) items));
-        gives = rw (follows.shape, follows.figures) (behind (shape_of nodes child) _ f (settled f) (IsPlanResult nodes child)
+        gives = rw (follows.shape, follows.figures) (behind (shape_of nodes child) _ f (settled f) (IsPlanArrival nodes child) (IsPlanArrival nodes id) (IsPlanResult nodes child)
             (IsPlanResult nodes id) old new tick leaves below e _ _ _ (Mapped step)
             h b refl (record { gt = omega arith; ge = omega arith })
             (λ x y s. settled_serves f f (Mapped step) x y sound
             (subst (λ (g : Figures). Serves f g (Mapped step) x y) (delayed_by_none f) (laws.steady_serves 0 step x y f s)))
             (λ x y ls s p. let n : f.a + 0 ≡ f.a = omega arith in
             subst (λ (a : ℕ). KeepsPace (shape_of nodes child).pace a ls y) n (steady_pace 0 (projected items) x y s (shape_of nodes child).pace f.a ls p))
-            (λ i xs ys p r m. (follows.results i ys p).1 (record { rows = xs; of_source = r; changed = m ∙ mapped_all (projected items) xs })));
+            (λ i xs ys p r m. (follows.results i ys p).1 (record { rows = xs; of_source = r; changed = m ∙ mapped_all (projected items) xs }))
+            (record {
+              before = λ t. t;
+              dates = λ t i p beats x y s d.
+                  subst (λ (g : Figures). Dated (settled g) (λ u. IsPlanArrival nodes id (i u)) (λ u n. n) p beats y) (delayed_by_none f)
+                  (dated_as (settled (delayed 0 f)) (λ u. IsChangedInPlace (IsPlanArrival nodes child (i u)) (stepped_at step)) (λ u n. n) p beats (λ u. IsPlanArrival nodes id (i u)) y
+                  (λ u xs q r. (follows.arrivals (i u) xs q).1 (record { rows = r.rows; of_source = r.of_source; changed = r.changed ∙ stepped_mapped (projected items) r.rows }))
+                  (dated_steady f (λ u. IsPlanArrival nodes child (i u)) (λ u n. n) p beats x y 0 step s d));
+            }));
       }
 
   pub frames_put : (child : ℕ) (items : List PlanFrame) → slice_get nodes id ≡ Some (Frames child None items) → Gives nodes child old tick leaves below
@@ -179,12 +208,19 @@ module _ (laws : LawsBelow) (nodes : List PlanNode) (id : ℕ) (old new : Net) (
         cost = cost_behind nodes id _ _ _ old new _
             (record { weight' = parts.weight; lean' = omega (arith, parts.lean, parts.keys); store' = parts.store })
             b.cost (frames_counted laws.frames_are_counted kinds items (laws.columns_have_kinds nodes child plan within) suits);
-        gives = rw (follows.shape, follows.figures) (behind (shape_of nodes child) _ f (settled (delayed m f)) (IsPlanResult nodes child)
+        gives = rw (follows.shape, follows.figures) (behind (shape_of nodes child) _ f (settled (delayed m f)) (IsPlanArrival nodes child) (IsPlanArrival nodes id) (IsPlanResult nodes child)
             (IsPlanResult nodes id) old new tick leaves below e _ _ _ (Each step)
             h b refl (record { gt = omega arith; ge = omega arith })
             (λ x y s. laws.running_settles m step x y f (delayed_sound m f sound) s)
             (λ x y ls s p. laws.followers_keep_pace m x y (laws.running_keeps_pace m (row_of_frames kinds items) x y s) (shape_of nodes child).pace f.a ls p)
-            (λ i xs ys p r made. (follows.results i ys p).1 (record { rows = xs; of_source = r; changed = made })));
+            (λ i xs ys p r made. (follows.results i ys p).1 (record { rows = xs; of_source = r; changed = made }))
+            (record {
+              before = λ t. t;
+              dates = λ t i p beats x y s d.
+                  dated_as (settled (delayed m f)) (λ u. IsChangedInPlace (IsPlanArrival nodes child (i u)) (each_at step [])) (λ u n. n) p beats (λ u. IsPlanArrival nodes id (i u)) y
+                  (λ u xs q r. (follows.arrivals (i u) xs q).1 r)
+                  (dated_runs f (λ u. IsPlanArrival nodes child (i u)) (λ u n. n) p beats x y m step s d);
+            }));
       }
 
   pub aggregate_put : (child : ℕ) (aggs : List PlanAgg) → slice_get nodes id ≡ Some (Aggregate child aggs) → Gives nodes child old tick leaves below
@@ -204,10 +240,11 @@ module _ (laws : LawsBelow) (nodes : List PlanNode) (id : ℕ) (old new : Net) (
         cost = cost_behind nodes id _ _ _ old new _
             (record { weight' = parts.weight; lean' = omega (arith, parts.lean, parts.keys); store' = parts.store })
             b.cost (aggs_counted kinds (laws.columns_have_kinds nodes child plan within) aggs suits);
-        gives = rw (follows.shape, follows.figures) (behind (shape_of nodes child) _ f (aggregate_figures m f) (IsPlanResult nodes child)
+        gives = rw (follows.shape, follows.figures) (behind (shape_of nodes child) _ f (aggregate_figures m f) (IsPlanArrival nodes child) (IsPlanArrival nodes id) (IsPlanResult nodes child)
             (IsPlanResult nodes id) old new tick leaves below e _ _ _ (Totalled (total_row kinds aggs))
             h b refl (record { gt = omega arith; ge = omega arith })
             (λ x y s. laws.ends_serve m (total_row kinds aggs) x y f s)
             (λ x y ls s p. laws.totals_come_with_ends m (total_row kinds aggs) x y s)
-            (λ i xs ys p r t. (follows.results i ys p).1 (record { rows = xs; of_source = r; changed = t })));
+            (λ i xs ys p r t. (follows.results i ys p).1 (record { rows = xs; of_source = r; changed = t }))
+            (record { before = λ t. absurd (cc); dates = λ t i p beats x y s d. absurd (cc) }));
       }

@@ -5,7 +5,7 @@ use Rattle.gl_values.specs.Results.{Row}
 use Rattle.gl_bits.proofs.Bools.{or_none}
 use Rattle.gl_algebra.specs.declared.figures.Figures.{Figures}
 use Rattle.gl_algebra.specs.FigureTable.{IsSound, NoCloser, needs_spacer, spaced, spacer_figures}
-use Rattle.gl_algebra.specs.Results.{Inputs, Meaning}
+use Rattle.gl_algebra.specs.Results.{Arriving, Inputs, Meaning}
 use Rattle.gl_algebra.specs.Shapes.{Shape}
 use Rattle.gl_net.specs.declared.node.Bit.{Bit}
 use Rattle.gl_net.specs.Net.{Net}
@@ -113,10 +113,10 @@ no_closer gap f = by (needs_spacer gap f)
     by false = record { gt = omega arith; ge = omega arith }
 
 -- a node's results behind a block with lines that changes no rows
-pub behind_same : (s : Shape) (f g : Figures) (means : Meaning) (mid new : Net) (tick : Option Bit) (leaves : List Wire) (below e : Emitted) (columns : List ℕ) (most : Cost)
-    → GivesAs s f means mid tick leaves below → IsBehindLines mid new f g (never Same) columns most below e → columns ≡ widths_of s.kinds → NoCloser f g
-    → GivesAs (paceless s) g means new tick leaves e
-behind_same s f g means mid new tick leaves below e columns most h b same closer = record {
+pub behind_same : (s : Shape) (f g : Figures) (arrivals : Arriving) (means : Meaning) (mid new : Net) (tick : Option Bit) (leaves : List Wire) (below e : Emitted) (columns : List ℕ) (most : Cost)
+    → GivesAs s f arrivals means mid tick leaves below → IsBehindLines mid new f g (never Same) columns most below e → columns ≡ widths_of s.kinds → NoCloser f g
+    → GivesAs (paceless s) g arrivals means new tick leaves e
+behind_same s f g arrivals means mid new tick leaves below e columns most h b same closer = record {
   wire = b.wire;
   same_widths = b.same_widths ∙ same;
   lines = b.lines;
@@ -133,4 +133,5 @@ behind_same s f g means mid new tick leaves below e columns most h b same closer
       subst (λ (x : List Row). means (ins t) x p) (sym n.0) (subst (means (ins t) w.0) (sym (w.5 ∙ ap (λ (q : Bool). w.1 || q) n.1 ∙ or_none w.1)) w.3))
       (serving_then f g (λ t. means (ins t)) (never Same) (lines_of run below.faults) z.0 beats (carried run below.wire) (carried run e.wire)
       before (z.2 beats apart before.fits)));
+  dated = λ run r beats apart fits came. absurd (cc);
 }

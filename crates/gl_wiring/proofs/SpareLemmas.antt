@@ -120,7 +120,7 @@ module _ (laws : LawsBelow) (nodes : List PlanNode) (w : SpareWindowOf) (plan : 
         parts_spill = v.parts_spill;
         of_source = v.of_source;
         of_parts = joined_as (OfBody nodes of_body) (λ slice. IsPlanResult nodes of_body (given inputs slice))
-            (λ slice zs q y. laws.bodies_read_their_input nodes of_body plan in_body (kinds_of nodes of_source) fits.suits.0.leaves (alone slice) (given inputs slice) refl zs q y)
+            (λ slice zs q y. laws.bodies_read_their_input nodes of_body plan in_body (kinds_of nodes of_source) fits.suits.0.leaves (alone slice) (given inputs slice) (record { rows = refl; places = refl }) zs q y)
             (slices w.window.size w.window.advance v.rows) ys v.parts_spill v.of_parts;
         any = v.any;
       })
@@ -137,7 +137,7 @@ module _ (laws : LawsBelow) (nodes : List PlanNode) (w : SpareWindowOf) (plan : 
       let rear : CostsAtMost o.behind new (cost_of_back w.spare.copies (widths_of (kinds_of nodes of_body))) =
       subst (λ (cs : List ℕ). CostsAtMost o.behind new (cost_of_back w.spare.copies cs)) columns b.cost in
       let given : Gives nodes of_source o.mid tick leaves o.front.source =
-      subst (λ (x : Emitted). Gives nodes of_source o.mid tick leaves x) (sym o.fronted.same) (gives_kept _ _ _ mid o.mid tick leaves below o.fronted.keeps h.gives) in
+      subst (λ (x : Emitted). Gives nodes of_source o.mid tick leaves x) (sym o.fronted.same) (gives_kept _ _ _ _ mid o.mid tick leaves below o.fronted.keeps h.gives) in
       record {
         keeps = keeps_then old mid new h.keeps (keeps_then mid o.mid new o.fronted.keeps (keeps_then o.mid o.behind new o.bodies.keeps b.keeps));
         cost = spare_cost laws nodes w plan is (laws.columns_have_kinds nodes of_source plan in_source) (laws.columns_have_kinds nodes of_body plan in_body)

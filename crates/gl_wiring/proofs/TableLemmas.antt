@@ -13,7 +13,7 @@ use Rattle.gl_algebra.specs.Cost.{keys_of, lean_of, store_of}
 use Rattle.gl_algebra.specs.FigureTable.{figures_of}
 use Rattle.gl_algebra.specs.Fits.{IsPlan}
 use Rattle.gl_algebra.specs.Laws.{NodesFollowTables}
-use Rattle.gl_algebra.specs.Results.{IsPlanResult}
+use Rattle.gl_algebra.specs.Results.{IsPlanArrival, IsPlanResult}
 use Rattle.gl_algebra.specs.Shapes.{shape_of}
 use Rattle.gl_algebra.specs.Views.{children_of}
 use Rattle.gl_algebra.specs.Weights.{weight_of}
@@ -60,7 +60,7 @@ circuit_kept : (nodes : List PlanNode) (old new : Net) (tick : Option Bit) (leav
 circuit_kept nodes old new tick leaves table more id below keeps h = record {
   circuit = h.circuit;
   there = get-append table more id below ∙ h.there;
-  gives = gives_kept (shape_of nodes id) (figures_of nodes id) (IsPlanResult nodes id) old new tick leaves h.circuit keeps h.gives;
+  gives = gives_kept (shape_of nodes id) (figures_of nodes id) (IsPlanArrival nodes id) (IsPlanResult nodes id) old new tick leaves h.circuit keeps h.gives;
 }
 
 pub put_none : (nodes : List PlanNode) (marks : List Bool) (net : Net) (tick : Option Bit) (leaves : List Wire) → ArePutTo nodes marks 0 net net tick leaves []

@@ -169,7 +169,7 @@ module _ (laws : LawsBelow) (nodes : List PlanNode) (w : TimeWindowOf) (plan : I
       let all = costs_then old mid new (plan_cost nodes w.source) (own_cost nodes w.id) h.cost own in
       let given : Gives nodes w.source o.mid (Some tick) leaves o.front.source =
       subst (λ (x : Emitted). Gives nodes w.source o.mid (Some tick) leaves x) (sym o.fronted.same)
-      (gives_kept _ _ _ mid o.mid (Some tick) leaves below o.fronted.keeps h.gives) in
+      (gives_kept _ _ _ _ mid o.mid (Some tick) leaves below o.fronted.keeps h.gives) in
       let stands : Keeps old o.mid = keeps_then old mid o.mid h.keeps o.fronted.keeps in
       let stream = Stream (times.number laws nodes w plan at) (times.kinds laws nodes w plan at) in
       let has : HasLeaf old leaves stream = (subst (HaveLeaves old leaves) (times.only_leaf laws nodes w plan at) leaved).0 in

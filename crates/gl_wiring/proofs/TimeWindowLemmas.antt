@@ -14,7 +14,7 @@ use Rattle.gl_algebra.specs.FigureTable.{AreSmall, IsSound, NoCloser, figures_of
 use Rattle.gl_algebra.specs.Fits.{Fits as FitsPlan, IsPlan}
 use Rattle.gl_algebra.specs.Views.{copies_of_time, is_time, reads_time}
 use Rattle.gl_algebra.specs.Laws.{FollowsTables}
-use Rattle.gl_algebra.specs.Results.{Inputs, IsPlanResult, given, times_with}
+use Rattle.gl_algebra.specs.Results.{Inputs, IsPlanArrival, IsPlanResult, given, times_with}
 use Rattle.gl_algebra.specs.Shapes.{Shape, kinds_of, shape_from, shape_of}
 use Rattle.gl_algebra.proofs.FigureLemmas.{one_in_time}
 use Rattle.gl_algebra.proofs.ListLemmas.{any_at}
@@ -144,7 +144,7 @@ module _ (laws : LawsBelow) (nodes : List PlanNode) (w : TimeWindowOf) (plan : I
     abbrev ins : ℕ → Inputs
     ins = inputs_at line (leaf run leaves) (leaf run leaves 0)
 
-    of_source : GivesAs stream_shape input_figures (IsPlanResult nodes w.source) net (Some tick) leaves e
+    of_source : GivesAs stream_shape input_figures (IsPlanArrival nodes w.source) (IsPlanResult nodes w.source) net (Some tick) leaves e
     of_source = rw (of_stream.shape, of_stream.figures) at gives
 
     pub source : Serving input_figures (λ t. IsPlanResult nodes w.source (ins t)) (lines_of run e.faults) beats a
@@ -185,7 +185,7 @@ module _ (laws : LawsBelow) (nodes : List PlanNode) (w : TimeWindowOf) (plan : I
         → IsPlanResult nodes w.id (ins t) ys p
     joined t ys p q v =
         let as_given = joined_as (OfBody nodes w.body) (λ slice. IsPlanResult nodes w.body (given (ins t) slice))
-        (λ slice zs b y. laws.bodies_read_their_input nodes w.body plan in_body (kinds_of nodes w.source) fits.suits.0.leaves (alone slice) (given (ins t) slice) refl zs b y)
+        (λ slice zs b y. laws.bodies_read_their_input nodes w.body plan in_body (kinds_of nodes w.source) fits.suits.0.leaves (alone slice) (given (ins t) slice) (record { rows = refl; places = refl }) zs b y)
         (tslices w.size w.advance (times_at line a t) (ticks_at line a t) (stream a t)) ys p v in
         (follows.results (ins t) ys p).1 (record {
           rows = stream a t;
@@ -213,7 +213,7 @@ module _ (laws : LawsBelow) (nodes : List PlanNode) (w : TimeWindowOf) (plan : I
       subst (λ (cs : List ℕ). CostsAtMost o.behind new (cost_of_back c cs)) columns b.cost in
       let given : Gives nodes w.source o.mid (Some tick) leaves o.front.source =
       subst (λ (x : Emitted). Gives nodes w.source o.mid (Some tick) leaves x) (sym o.fronted.same)
-      (gives_kept _ _ _ old o.mid (Some tick) leaves below o.fronted.keeps h) in
+      (gives_kept _ _ _ _ old o.mid (Some tick) leaves below o.fronted.keeps h) in
       let has : HasLeaf old leaves (Stream number kinds) = (subst (HaveLeaves old leaves) only_leaf leaved).0 in
       record {
         keeps = keeps_then old o.mid new o.fronted.keeps (keeps_then o.mid o.behind new o.bodies.keeps b.keeps);
@@ -245,5 +245,6 @@ module _ (laws : LawsBelow) (nodes : List PlanNode) (w : TimeWindowOf) (plan : I
               (lines_of run o.front.source.faults) own beats (carried run o.front.source.wire) (carried run e.wire) of_stream
               (no_spill o.mid run run_mid tick leaves o.front.source given here beats near fit) all
               (joined o.mid run run_mid tick leaves o.front.source given here beats near fit));
+          dated = λ run is beats spaced_beats fit came. absurd (cc);
         });
       }

@@ -1,5 +1,5 @@
 -- A plan's root over the beats of a file, shown one cycle later.
-use Rattle.std.proofs.Common.{◌≡◌, ℕ, zero, suc, ◌<◌, ◌≤◌, List, [], ◌++◌, length, Option, Some, None, Bool, true, false, slice_get, refl, sym, ap, ◌∙◌, subst}
+use Rattle.std.proofs.Common.{◌≡◌, ℕ, suc, ◌<◌, ◌≤◌, List, [], ◌++◌, length, map, Option, Some, None, Bool, true, false, slice_get, refl, sym, ap, ◌∙◌, subst}
 use mathlib.Core.Path.{fun_ext}
 use Rattle.gl_algebra.specs.Fits.{IsPlan}
 use Rattle.gl_algebra.specs.Results.{Inputs, IsPlanResult}
@@ -10,15 +10,18 @@ use Rattle.gl_values.specs.Results.{Row, Results}
 use Rattle.gl_net.specs.declared.node.Bit.{Bit}
 use Rattle.gl_net.specs.Net.{Run}
 use Rattle.gl_wiring.specs.Below.{LawsBelow}
-use Rattle.gl_wiring.specs.Leaves.{LeavesFit, carried_by, leaf, silent}
+use Rattle.gl_wiring.specs.Leaves.{LeavesFit, carried_by, leaf}
 use Rattle.gl_gaps.specs.declared.Gaps.{Gaps}
-use Rattle.gl_schema.specs.Beats.{Beat, AreInOrder, input_of, inputs_of, last_cycle, ticks_of, times_of}
+use Rattle.gl_schema.specs.Beats.{Beat, AreInOrder, input_of, inputs_of, last_cycle, places_of, ticks_of, times_of}
+use Rattle.gl_schema.proofs.Timed.{places_long}
+use Rattle.gl_arrival.specs.Changes.{moved}
+use Rattle.gl_arrival.specs.Places.{at_places}
 use Rattle.gl_gaps.specs.Keeps.{KeepsGaps}
 use Rattle.gl_wire.specs.Faults.{line_of, lines_of}
 use Rattle.gl_wire.specs.Serving.{inputs_at}
 use Rattle.gl_wire.specs.Shapes.{IsDelayed}
-use Rattle.gl_wire.specs.Ticks.{ticks_at, times_at}
-use Rattle.gl_wire.specs.Wire.{Carried, carried, pending, stream}
+use Rattle.gl_wire.specs.Ticks.{cycles_at, ticks_at, times_at}
+use Rattle.gl_wire.specs.Wire.{Carried, carried, stream}
 use Rattle.gl_wire.specs.declared.emitted.Emitted.{Emitted}
 use Rattle.gl_wire.specs.declared.wire.Wire.{Wire}
 use Rattle.gl_wiring.specs.Bringing.{Brings, BringsTicks, beats_in}
@@ -27,11 +30,9 @@ use Rattle.gl_wiring.specs.Root.{IsSticky, ShowsRight, later_line}
 use Rattle.gl_wiring.specs.Wired.{plan_inputs}
 use Rattle.gl_wiring.proofs.FileLemmas.{file_apart, file_one, file_spaced, file_fits, file_stream, ticks_fit}
 use Rattle.gl_wiring.proofs.ClockLemmas.{file_ticks, file_times, no_ticks, no_times}
+use Rattle.gl_wiring.proofs.CycleLemmas.{file_cycles, later_rises, no_cycles, places_later}
+use Rattle.gl_wiring.proofs.PositionLemmas.{quiet_stream}
 use Rattle.gl_wiring.proofs.RootLemmas.{once_shows}
-
-quiet_stream : (c : ℕ) → pending silent c ≡ []
-quiet_stream zero = refl
-quiet_stream (suc c) = ap (λ (l : List Row). l ++ []) (quiet_stream c)
 
 -- the same with another word for the results
 shows_as : (f : Figures) (m n : Results) (last : ℕ) (o : Carried) (group queue : ℕ → Bool) → ((out : List Row) (spill : Bool) → m out spill → n out spill)
@@ -59,6 +60,13 @@ module _ (laws : LawsBelow) (run : Run) (leaves : List Wire) (beats : List Beat)
       by None p = ap (λ (l : List Row). l ++ []) (quiet_stream (suc (last_cycle beats))) ∙ sym (others k p)
       by (Some w) p = file_stream beats order k (carried run w) (brings k w p)
 
+  leaf_cycles : (k : ℕ) → cycles_at (leaf run leaves k) (suc (last_cycle beats)) ≡ map suc (places_of k beats)
+  leaf_cycles k = by (slice_get leaves k) refl
+    where
+      by : (o : Option Wire) → slice_get leaves k ≡ o → cycles_at (carried_by run o) (suc (last_cycle beats)) ≡ map suc (places_of k beats)
+      by None p = no_cycles k beats (suc (last_cycle beats)) (others k p)
+      by (Some w) p = file_cycles k beats order (carried run w) (brings k w p)
+
   module _ (nodes : List PlanNode) (root : ℕ) (tick : Option Bit) (plan : IsPlan nodes) (within : root < length nodes)
       (come : BringsTicks (reads_time nodes) beats (line_of run tick)) where
     abbrev line : ℕ → Bool
@@ -81,12 +89,27 @@ module _ (laws : LawsBelow) (run : Run) (leaves : List Wire) (beats : List Beat)
         by None p = no_ticks beats order line come.first (come.ticks reads)
         by (Some w) p = file_ticks k beats order line come.first (come.ticks reads) (carried run w) (brings k w p)
 
+    -- the same with each row at the cycle of its beat in the file, which is one earlier
+    abbrev placed : Inputs
+    placed = record at_last { places = λ k. places_of k beats; body_places = places_of 0 beats }
+
+    leaf_later : (k : ℕ) → at_places (stream (leaf run leaves k) (suc (last_cycle beats))) (cycles_at (leaf run leaves k) (suc (last_cycle beats)))
+        ≡ moved suc (at_places (stream (leaf run leaves k) (suc (last_cycle beats))) (places_of k beats))
+    leaf_later k =
+        ap (λ (ps : List ℕ). at_places (stream (leaf run leaves k) (suc (last_cycle beats))) ps) (leaf_cycles k)
+        ∙ places_later (stream (leaf run leaves k) (suc (last_cycle beats))) (places_of k beats) (places_long k beats ∙ ap (λ (l : List Row). length l) (sym (leaf_stream k)))
+
+    placed_result : (out : List Row) (spill : Bool) → IsPlanResult nodes root at_last out spill → IsPlanResult nodes root placed out spill
+    placed_result out spill r =
+        laws.results_go_by_order nodes root plan within suc later_rises placed at_last
+        (record { streams = λ k. refl; places = leaf_later; times = λ k. refl; ticks = refl; body = refl; body_places = leaf_later 0 }) out spill r
+
     inputs_same : (streams streams' : ℕ → List Row) (times times' : ℕ → List ℕ) (ticks ticks' : ℕ) → streams ≡ streams' → times ≡ times' → ticks ≡ ticks'
-        → ◌≡◌ {A = Inputs} (record { streams = streams; times = times; ticks = ticks; body = streams 0 })
-        (record { streams = streams'; times = times'; ticks = ticks'; body = streams' 0 })
+        → ◌≡◌ {A = Inputs} (record { streams = streams; places = λ k. places_of k beats; times = times; ticks = ticks; body = streams 0; body_places = places_of 0 beats })
+        (record { streams = streams'; places = λ k. places_of k beats; times = times'; ticks = ticks'; body = streams' 0; body_places = places_of 0 beats })
     inputs_same streams streams' times times' ticks ticks' s t n = cc
 
-    same_inputs : reads_time nodes ≡ true → at_last ≡ plan_inputs (inputs_of beats)
+    same_inputs : reads_time nodes ≡ true → placed ≡ plan_inputs (inputs_of beats)
     same_inputs reads = inputs_same _ _ _ _ _ _ (fun_ext leaf_stream) (fun_ext (leaf_times reads)) (leaf_ticks reads 0)
 
     -- what the leaves give at the last beat has the results of what beats bring; where no time is read, whatever the times are
@@ -94,9 +117,9 @@ module _ (laws : LawsBelow) (run : Run) (leaves : List Wire) (beats : List Beat)
     same_results out spill r = by (reads_time nodes) refl
       where
         by : (b : Bool) → reads_time nodes ≡ b → IsPlanResult nodes root (plan_inputs (inputs_of beats)) out spill
-        by true reads = subst (λ (i : Inputs). IsPlanResult nodes root i out spill) (same_inputs reads) r
-        by false reads = laws.results_are_untimed nodes root plan within reads at_last (plan_inputs (inputs_of beats))
-            (record { streams = leaf_stream; body = leaf_stream 0 }) out spill r
+        by true reads = subst (λ (i : Inputs). IsPlanResult nodes root i out spill) (same_inputs reads) (placed_result out spill r)
+        by false reads = laws.results_are_untimed nodes root plan within reads placed (plan_inputs (inputs_of beats))
+            (record { streams = leaf_stream; places = λ k. refl; body = record { rows = leaf_stream 0; places = refl } }) out spill (placed_result out spill r)
 
     pub plan_right : (f : Figures) (ticks : ℕ) (gaps : Gaps) (e : Emitted) (o : Carried) (group queue : ℕ → Bool)
         → f.gt ≤ gaps.of_beats → ticks ≤ gaps.of_ticks → ServesOnceBy f ticks nodes root tick leaves e run → KeepsGaps gaps beats → IsDelayed 1 (carried run e.wire) o

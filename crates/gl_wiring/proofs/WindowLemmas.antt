@@ -145,11 +145,12 @@ module _ (laws : LawsBelow) (nodes : List PlanNode) (w : WindowOf) (plan : IsPla
                 parts_spill = v.2;
                 of_source = v.3;
                 of_parts = joined_as (OfBody nodes w.body) (λ slice. IsPlanResult nodes w.body (given (ins t) slice))
-                    (λ slice zs q y. laws.bodies_read_their_input nodes w.body plan in_body (kinds_of nodes w.source) fits.suits.0.leaves (alone slice) (given (ins t) slice) refl zs q y)
+                    (λ slice zs q y. laws.bodies_read_their_input nodes w.body plan in_body (kinds_of nodes w.source) fits.suits.0.leaves (alone slice) (given (ins t) slice) (record { rows = refl; places = refl }) zs q y)
                     (slices w.size w.advance v.0) ys v.2 v.4;
                 any = no_further p (v.1 || v.2) v.5;
               }))
               (serving_then f g (λ t. IsPlanResult nodes w.source (ins t)) (λ xs zs q. AreJoined (OfBody nodes w.body) (slices w.size w.advance xs) zs q)
               (lines_of run o.front.source.faults) own beats (carried run o.front.source.wire) (carried run e.wire) y.source' whole));
+          dated = λ run r beats spaced_beats has came. absurd (cc);
         });
       }

@@ -1,5 +1,5 @@
 -- What is cited here of the crates below.
-use Rattle.gl_algebra.specs.Laws.{BodiesReadTheirInput, ClosingNodesWait, ColumnsHaveKinds, FiguresAreSound, NodesFollowTables, PacesFixFigures, UntimedResults}
+use Rattle.gl_algebra.specs.Laws.{BodiesReadTheirInput, ClosingNodesWait, ColumnsHaveKinds, FiguresAreSound, NodesFollowTables, PacesFixFigures, ResultsGoByOrder, UntimedResults}
 use Rattle.gl_figures.specs.Reach.{OnceIsLess}
 use Rattle.gl_wire.specs.Laws.{EndsServe, FollowersKeepPace, OwnBeatsFit, SteadyServes, TotalsComeWithEnds, UnspacedIsApart}
 use Rattle.gl_wire_lanes.specs.Laws.{BeginsBehind}
@@ -16,6 +16,7 @@ use Rattle.gl_groups.specs.LaneLaws.{LanesServe}
 use Rattle.gl_groups.specs.Laws.{GroupsGroup}
 use Rattle.gl_partition.specs.Costs.{PartitioningsAreCounted}
 use Rattle.gl_partition.specs.Laws.{PartitionsPartition}
+use Rattle.gl_turns.specs.Counted.{TurnsAreCounted}
 use Rattle.gl_queue.specs.Counted.{JoinersAreCounted, SpacersAreCounted, UnionsAreCounted}
 
 -- the laws of plans, of wires, and of the blocks that stand between them
@@ -27,6 +28,7 @@ pub record LawsBelow : Type 0 where
   pub nodes_follow_tables : NodesFollowTables
   pub paces_fix_figures : PacesFixFigures
   pub results_are_untimed : UntimedResults
+  pub results_go_by_order : ResultsGoByOrder
   pub once_is_less : OnceIsLess
   pub ends_serve : EndsServe
   pub followers_keep_pace : FollowersKeepPace
@@ -53,3 +55,4 @@ pub record LawsBelow : Type 0 where
   pub joiners_are_counted : JoinersAreCounted
   pub spacers_are_counted : SpacersAreCounted
   pub unions_are_counted : UnionsAreCounted
+  pub turns_are_counted : TurnsAreCounted

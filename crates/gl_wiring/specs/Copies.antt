@@ -1,6 +1,6 @@
 -- Copies of a body behind a front, of windows and of groups alike: the source, spaced where its tuples may come too
 -- fast, and a circuit of the body behind each wire of the front.
-use Rattle.std.specs.Prelude.{◌≡◌, ℕ, ◌+◌, ◌-◌, ◌*◌, ◌<◌, ◌≤◌, Bool, true, List, [], ◌∷◌, length, Option, Some, None, is_some, slice_get, option_map}
+use Rattle.std.specs.Prelude.{◌≡◌, ℕ, ◌+◌, ◌-◌, ◌*◌, ◌<◌, ◌≤◌, Bool, true, false, List, [], ◌∷◌, length, Option, Some, None, is_some, slice_get, option_map}
 use Rattle.gl_algebra.specs.declared.figures.Figures.{Figures}
 use Rattle.gl_algebra.specs.declared.node.PlanNode.{PlanNode}
 use Rattle.gl_algebra.specs.Cost.{lean_of_spacer, store_of_spacer}
@@ -75,7 +75,7 @@ pub record IsSpacedSource (nodes : List PlanNode) (source gap : ℕ) (old new : 
 
 -- a node's shape, its pace left out
 abbrev pub paceless : Shape → Shape
-paceless s = record s { pace = unsteady }
+paceless s = record s { pace = unsteady; arrives = false }
 
 -- a body can be put behind each wire of these columns
 pub record CanStandBehind (nodes : List PlanNode) (figures : List Figures) (body : ℕ) (columns : List ℕ) : Type 0 where

@@ -3,7 +3,7 @@
 use Rattle.std.specs.Prelude.{◌≡◌, ℕ, List, length, Option}
 use Rattle.gl_algebra.specs.declared.node.PlanNode.{PlanNode}
 use Rattle.gl_algebra.specs.FigureTable.{figures_of, group_gap}
-use Rattle.gl_algebra.specs.Results.{IsPlanResult}
+use Rattle.gl_algebra.specs.Results.{IsPlanArrival, IsPlanResult}
 use Rattle.gl_algebra.specs.Shapes.{kinds_of, shape_of}
 use Rattle.gl_net.specs.declared.node.Bit.{Bit}
 use Rattle.gl_net.specs.Net.{Net, Run, IsRun, IsBit, IsBus, Keeps}
@@ -34,7 +34,7 @@ pub record IsGroupLane (nodes : List PlanNode) (g : GroupOf) (old new : Net) (ti
     (l : Laned) : Type 0 where
   pub keeps : Keeps old new
   pub cost : CostsAtMost old new (cost_to_lane nodes g)
-  pub gives : GivesAs (paceless (shape_of nodes g.source)) (spaced_source nodes g) (IsPlanResult nodes g.source)
+  pub gives : GivesAs (paceless (shape_of nodes g.source)) (spaced_source nodes g) (IsPlanArrival nodes g.source) (IsPlanResult nodes g.source)
       new tick leaves
       l.source
   pub apart : (run : Run) → IsRun new run → (beats : Beats) → Spaced (group_whole nodes g) beats

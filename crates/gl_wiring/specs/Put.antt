@@ -1,11 +1,11 @@
 -- What the circuit of a plan's node is: its wire gives the node's results over all beats that are spaced by the node's
 -- figures.
-use Rattle.std.specs.Prelude.{◌≡◌, ℕ, ◌+◌, ◌*◌, ◌<◌, List, length, Option}
+use Rattle.std.specs.Prelude.{◌≡◌, ℕ, ◌+◌, ◌*◌, ◌<◌, List, length, Option, IsTrue}
 use Rattle.gl_algebra.specs.declared.figures.Figures.{Figures}
 use Rattle.gl_algebra.specs.declared.node.PlanNode.{PlanNode}
 use Rattle.gl_algebra.specs.Cost.{keys_of, lean_of, store_of}
 use Rattle.gl_algebra.specs.FigureTable.{figures_of}
-use Rattle.gl_algebra.specs.Results.{Meaning, IsPlanResult}
+use Rattle.gl_algebra.specs.Results.{Arriving, IsPlanArrival, Meaning, IsPlanResult}
 use Rattle.gl_algebra.specs.Shapes.{Shape, kinds_of, shape_of}
 use Rattle.gl_algebra.specs.Small.{AreFigures}
 use Rattle.gl_algebra.specs.Views.{reads_time}
@@ -21,6 +21,7 @@ use Rattle.gl_wire.specs.Faults.{AreLines, IsLine, line_of, lines_of}
 use Rattle.gl_wire.specs.Pace.{KeepsPace}
 use Rattle.gl_wire.specs.Serving.{Serving, inputs_at}
 use Rattle.gl_wire.specs.Wire.{IsWire, carried, widths}
+use Rattle.gl_turns.specs.Dated.{Dated}
 use Rattle.gl_wiring.specs.Leaves.{HaveLeaves, HaveLine, LeavesFit, leaf, widths_of}
 
 -- what a plan counts for the circuit of a node and of all below it, for each use: nodes, bits of registers, bits of
@@ -57,8 +58,8 @@ pub record HasColumns (nodes : List PlanNode) (id : ℕ) (net : Net) (e : Emitte
   pub lines : AreLines net e.faults
 
 -- a wire and lines that give these results of the leaves' streams and of the ticks in every run, as a node of this shape
--- and with these figures
-pub record GivesAs (shape : Shape) (f : Figures) (means : Meaning) (net : Net) (tick : Option Bit) (leaves : List Wire)
+-- and with these figures. Where each row comes of one row that came, it is brought by the beat of that row
+pub record GivesAs (shape : Shape) (f : Figures) (arrivals : Arriving) (means : Meaning) (net : Net) (tick : Option Bit) (leaves : List Wire)
     (e : Emitted) : Type 0 where
   pub wire : IsWire net e.wire
   pub same_widths : widths e.wire.columns ≡ widths_of shape.kinds
@@ -67,11 +68,15 @@ pub record GivesAs (shape : Shape) (f : Figures) (means : Meaning) (net : Net) (
   pub serving : (run : Run) → IsRun net run → (beats : Beats) → Spaced f beats → LeavesFit run tick leaves beats
       → Serving f (λ t. means (inputs_at (line_of run tick) (leaf run leaves) (leaf run leaves 0) t))
       (lines_of run e.faults) beats (carried run e.wire)
+  pub dated : (run : Run) (is : IsRun net run) (beats : Beats) (apart : Spaced f beats) (fits : LeavesFit run tick leaves beats)
+      → IsTrue shape.arrives
+      → Dated f (λ t. arrivals (inputs_at (line_of run tick) (leaf run leaves) (leaf run leaves 0) t)) (λ t n. n)
+      (serving run is beats apart fits).spill beats (carried run e.wire)
 
 -- a wire and lines that give a node's results
 abbrev pub Gives : List PlanNode → ℕ → Net → Option Bit → List Wire → Emitted → Type 0
 Gives nodes id net tick leaves e =
-    GivesAs (shape_of nodes id) (figures_of nodes id) (IsPlanResult nodes id) net tick leaves e
+    GivesAs (shape_of nodes id) (figures_of nodes id) (IsPlanArrival nodes id) (IsPlanResult nodes id) net tick leaves e
 
 -- a node's circuit behind those of its children: it gives the node's results, what stood before is kept, and no more is
 -- added than the plan counts for the node itself

@@ -13,7 +13,7 @@ use Rattle.gl_algebra.specs.contracts.node.PlanNode as node
 use Rattle.gl_algebra.specs.declared.figures.Figures.{Figures}
 use Rattle.gl_algebra.specs.contracts.figures.Figures as figures
 use Rattle.gl_algebra.specs.declared.node.PlanNode.{PlanNode}
-use Rattle.gl_algebra.specs.declared.node.PlanNode.TheVariants.{Stream, Body, Compute, Select, Project, Frames, Aggregate, Union, Beside, Window, TimeWindow, Group, Partition}
+use Rattle.gl_algebra.specs.declared.node.PlanNode.TheVariants.{Stream, Body, Compute, Select, Project, Frames, Aggregate, Union, Merge, Beside, Window, TimeWindow, Group, Partition}
 use Rattle.gl_algebra.specs.declared.node.Operand.{Operand}
 use Rattle.gl_algebra.specs.declared.node.Operand.TheVariants.{Column, Literal}
 use Rattle.gl_algebra.specs.declared.node.ColOp.{ColOp}
@@ -99,6 +99,7 @@ suits_prop shapes (Project child items) = hlevel (sets, operand_prop)
 suits_prop shapes (Frames child by items) = hlevel (sets, frame_prop, key_prop)
 suits_prop shapes (Aggregate child aggs) = hlevel (sets, agg_prop)
 suits_prop shapes (Union left right) = hlevel sets
+suits_prop shapes (Merge left right) = hlevel sets
 suits_prop shapes (Beside left right) = hlevel sets
 suits_prop shapes (Window source body size advance) = hlevel sets
 suits_prop shapes (TimeWindow source body size advance) = hlevel sets
@@ -147,6 +148,7 @@ over_prop nodes (Project child items) = hlevel sets
 over_prop nodes (Frames child by items) = hlevel sets
 over_prop nodes (Aggregate child aggs) = hlevel sets
 over_prop nodes (Union left right) = hlevel sets
+over_prop nodes (Merge left right) = hlevel sets
 over_prop nodes (Beside left right) = hlevel sets
 over_prop nodes (Window source body size advance) = hlevel sets
 over_prop nodes (Group source body key groups) = hlevel sets

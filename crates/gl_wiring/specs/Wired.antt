@@ -29,7 +29,14 @@ use Rattle.gl_wiring.specs.declared.names.ResultNames.{ResultNames}
 -- what comes in to a query as what the leaves of its plan give; no leaf of a whole plan is a body's input
 abbrev pub plan_inputs : beats.Inputs → Inputs
 plan_inputs inputs =
-    record { streams = inputs.rows; times = inputs.times; ticks = inputs.ticks; body = inputs.rows 0 }
+    record {
+      streams = inputs.rows;
+      places = inputs.places;
+      times = inputs.times;
+      ticks = inputs.ticks;
+      body = inputs.rows 0;
+      body_places = inputs.places 0;
+    }
 
 -- what a plan means: the results of its root
 abbrev pub plan_means : List PlanNode → ℕ → Meaning

@@ -1,7 +1,7 @@
 //! The circuit of a node of each kind behind those of its children.
 
 ghost use Rattle.std.specs.Prelude.{◌≡◌, ◌<◌, None, Some, slice_get, IfOk, length};
-ghost use Rattle.gl_algebra.specs.declared.node.PlanNode.TheVariants.{Compute, Select, Project, Frames, Aggregate, Union, Beside};
+ghost use Rattle.gl_algebra.specs.declared.node.PlanNode.TheVariants.{Compute, Select, Project, Frames, Aggregate, Union, Merge, Beside};
 ghost use Rattle.gl_wire.specs.Faults.{no_faults};
 ghost use Rattle.gl_wiring.specs.Put.{IsPutBehind};
 ghost use Rattle.gl_wiring.specs.Tables.{HasCircuit};
@@ -16,6 +16,7 @@ use gl_net::{Buses, NetBuilder};
 use gl_queue::{Joiner, UnionOf};
 use gl_rows::{put_compute, put_project, put_select};
 use gl_totals::put_totals;
+use gl_turns::Turns;
 use gl_wire::{Emitted, Faults, Wire};
 use std::alloc::Global;
 
@@ -185,6 +186,35 @@ pub(crate) fn union_node(
     let first = circuit_at(site.alloc, table, left)?;
     let second = circuit_at(site.alloc, table, right)?;
     let sides = UnionOf {
+        left: site.figures_at(left),
+        right: site.figures_at(right),
+    };
+    let e = sides.emit(site.alloc, net, first, second)?;
+    Ok(e)
+}
+
+/// The rows of both children in the order in which they came, of one beat the left child's first.
+pub(crate) fn merge_node(
+    net: &mut NetBuilder,
+    site: Site<'_>,
+    id: PlanId,
+    left: PlanId,
+    right: PlanId,
+    table: &[Option<Emitted>],
+) -> Result<Emitted, Memory>
+    requires node { slice_get site.plan.now id ≡ Some (Merge left right) }
+    requires within { id < length site.plan.now }
+    requires first { HasCircuit site.plan.now net.old site.tick site.leaves.now table.now left }
+    requires second { HasCircuit site.plan.now net.old site.tick site.leaves.now table.now right }
+    ensures { let s = site.entry in
+        IfOk result (λ e. IsPutBehind s.plan.now id net.old net.new s.tick s.leaves.now e) }
+{
+    laws_below();
+    // That they are figures shows that those of the turns are small.
+    site.figures_at(id);
+    let first = circuit_at(site.alloc, table, left)?;
+    let second = circuit_at(site.alloc, table, right)?;
+    let sides = Turns {
         left: site.figures_at(left),
         right: site.figures_at(right),
     };

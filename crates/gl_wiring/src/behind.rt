@@ -6,7 +6,8 @@ ghost use Rattle.gl_wiring.specs.Put.{CanPut, IsPutBehind};
 ghost use Rattle.gl_wiring.specs.Tables.{HaveChildren};
 
 use crate::arms::{
-    aggregate_node, beside_node, compute_node, leaf_of, project_node, select_node, union_node,
+    aggregate_node, beside_node, compute_node, leaf_of, merge_node, project_node, select_node,
+    union_node,
 };
 use crate::below::laws_below;
 use crate::parted::{FramesOf, frames_by};
@@ -65,6 +66,7 @@ pub(crate) fn put_behind(
         }
         PlanNode::Aggregate { child, aggs } => aggregate_node(net, site, id, *child, aggs, table),
         PlanNode::Union { left, right } => union_node(net, site, id, *left, *right, table),
+        PlanNode::Merge { left, right } => merge_node(net, site, id, *left, *right, table),
         PlanNode::Beside { left, right } => beside_node(net, site, id, *left, *right, table),
         _ => unreachable!(),
     }

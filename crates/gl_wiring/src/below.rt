@@ -21,6 +21,7 @@ pub fn laws_below()
     plans::nodes_follow_tables();
     plans::paces_fix_figures();
     plans::results_are_untimed();
+    plans::results_go_by_order();
     once_is_less();
     wires::ends_serve();
     wires::followers_keep_pace();
@@ -44,4 +45,5 @@ pub fn laws_below()
     gl_partition::laws::partitions_partition();
     gl_partition::laws::costs_are_counted();
     gl_queue::laws::costs_are_counted();
+    gl_turns::laws::turns_are_counted();
 }

@@ -1,5 +1,5 @@
 use Rattle.std.proofs.Common.{◌∙◌, sym, ap, slice_get, Some}
-use Rattle.gl_algebra.specs.declared.node.PlanNode.TheVariants.{Compute, Select, Project, Frames, Aggregate, Union, Beside}
+use Rattle.gl_algebra.specs.declared.node.PlanNode.TheVariants.{Compute, Select, Project, Frames, Aggregate, Union, Merge, Beside}
 use Rattle.gl_wiring.proofs.LeafLemmas.{body_put, body_there, stream_put, stream_there}
 use Rattle.gl_wiring.proofs.behind.put_behind.Goals as goal
 
@@ -44,6 +44,15 @@ union_node-requires-clause-first c = (c.requires.children (Union c.in-Union.left
 
 pub union_node-requires-clause-second : goal.union_node-requires-clause-second
 union_node-requires-clause-second c = (c.requires.children (Union c.in-Union.left c.in-Union.right) (c.node.ensures.node ∙ ap Some c.in-Union.is)).1.0
+
+pub merge_node-requires-clause-within : goal.merge_node-requires-clause-within
+merge_node-requires-clause-within c = c.requires.can.within
+
+pub merge_node-requires-clause-first : goal.merge_node-requires-clause-first
+merge_node-requires-clause-first c = (c.requires.children (Merge c.in-Merge.left c.in-Merge.right) (c.node.ensures.node ∙ ap Some c.in-Merge.is)).0
+
+pub merge_node-requires-clause-second : goal.merge_node-requires-clause-second
+merge_node-requires-clause-second c = (c.requires.children (Merge c.in-Merge.left c.in-Merge.right) (c.node.ensures.node ∙ ap Some c.in-Merge.is)).1.0
 
 pub beside_node-requires-clause-first : goal.beside_node-requires-clause-first
 beside_node-requires-clause-first c = (c.requires.children (Beside c.in-Beside.left c.in-Beside.right) (c.node.ensures.node ∙ ap Some c.in-Beside.is)).0

@@ -9,6 +9,7 @@ returns c = record {
   nodes_follow_tables = c.nodes_follow_tables.ensures;
   paces_fix_figures = c.paces_fix_figures.ensures;
   results_are_untimed = c.results_are_untimed.ensures;
+  results_go_by_order = c.results_go_by_order.ensures;
   once_is_less = c.once_is_less.ensures;
   ends_serve = c.ends_serve.ensures;
   followers_keep_pace = c.followers_keep_pace.ensures;
@@ -35,4 +36,5 @@ returns c = record {
   joiners_are_counted = c.costs_are_counted-5.ensures.joiners;
   spacers_are_counted = c.costs_are_counted-5.ensures.spacers;
   unions_are_counted = c.costs_are_counted-5.ensures.unions;
+  turns_are_counted = c.turns_are_counted.ensures.weight;
 }
