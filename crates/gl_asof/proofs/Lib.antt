@@ -1,0 +1,4 @@
+pub mod EachLemmas
+pub mod FrameLemmas
+pub mod SentenceLemmas
+pub mod ResultLemmas

@@ -1,0 +1,4 @@
+pub mod AsOf
+pub mod Results
+pub mod Laws
+pub mod Worked
