@@ -1,6 +1,6 @@
 """What the random cases of checks/random-queries are drawn from: schemas, queries of every form, and tuples."""
 from common import width_of, word_of
-from meaning import number_of, shown
+from meaning import JOINS, number_of, shown
 
 CYCLES = 40000  # about how far a tuple file goes
 KEYWORDS = '''select from where group by groups each in size advance tuples time union concat into as and or not cast
@@ -8,7 +8,7 @@ count sum min max avg wsum end tick valid eos'''.split()
 FRAMES = 'own lag lag count sum min max avg last_value'.split()
 NAMES = '''a b c d x1 y_2 price volume symbol cost wire reg module begin endmodule always assign clk rst out input
 posedge if else q it w g stream n0_1 u8 text1 overflow a0123456789b0123456789c012345678 initial memory integer
-case lag rows over filter row current partition last_value between unbounded preceding'''.split()
+case lag rows over filter row current partition last_value between unbounded preceding arrival'''.split()
 UNSIGNED = 'u1 u1 u2 u3 u7 u8 u8 u16 u31 u32 u32 u33 u63 u64 u64'.split()
 SIGNED = 's2 s2 s3 s7 s8 s8 s16 s31 s32 s32 s33 s63 s64 s64'.split()
 TEXTS = 'text1 text2 text3 text4 text4 text7 text8'.split()
@@ -29,7 +29,7 @@ def weight_of(query):
     """About how large a circuit is, a body for each of its copies."""
     if query['sort'] == 'read':
         return 0
-    if query['sort'] in ('UNION', 'CONCAT'):
+    if query['sort'] in JOINS:
         return weight_of(query['left']) + weight_of(query['right'])
     size, advance, measure = query['window'] or (1, 1, 'TUPLES')
     copies = (-(-size // advance) if measure == 'TUPLES' else size // advance + 1) * (query['group'] or (0, 1))[1]
@@ -60,8 +60,9 @@ def may_have_spare(query):
 class Maker:
     """Draws schemas, queries and tuples. What it draws is accepted, unless its plan passes a limit."""
 
-    def __init__(self, draw, groups, signed, ticks, times, keyed, frames=False):
-        self.frames, self.many = frames, frames and draw.random() < 0.4
+    def __init__(self, draw, groups, signed, ticks, times, keyed, frames=False, arrival=False):
+        self.frames, self.many = frames or arrival and draw.random() < 0.4, frames and draw.random() < 0.4
+        self.arrival = arrival
         self.draw, self.groups, self.signed, self.ticks, self.times, self.keyed, self.words = (
             draw,
             groups,
@@ -296,8 +297,11 @@ class Maker:
             + ['group', 'by'] * (2 * self.groups)
             + ['keyed'] * (4 * self.keyed)
             + ['frames'] * (4 * self.frames)
+            + ['arrival'] * (8 * self.arrival * (depth > 0 and not closing))
         )
         way = self.draw.choice(ways if depth >= 0 else ['total'])
+        if way == 'arrival':
+            return self.by_arrival(scope, depth)
         if way in ('UNION', 'CONCAT'):
             return self.union(scope, depth, closing) if way == 'UNION' else self.concat(scope, depth, closing)
         timed = self.times and way in ('window', 'each') and scope is self.schema and not closing and self.often(0.5)
@@ -320,7 +324,10 @@ class Maker:
                 return self.select(source, totals=self.totals(columns, [key]), window=self.window(), group=group)
             return self.select(source, totals=self.totals(columns, [key]), group=group)
         var = self.names(1)[0] if self.often(0.7) else self.draw.choice(list(self.schema))
-        if self.frames and self.often(0.4):
+        if self.arrival and self.often(0.5):
+            rows = self.by_arrival({var: columns}, self.draw.choice([0, 1, 1, 2]))
+            body = self.select(rows, totals=self.totals(rows['columns']))
+        elif self.frames and self.often(0.4):
             body = self.framed_body({var: columns}, depth - 1)
         else:
             body = self.query({var: columns}, depth - 1, True)
@@ -371,6 +378,25 @@ class Maker:
             'columns': left['columns'],
             'closing': left['closing'] and right['closing'],
         }
+
+    def arriving(self, scope, depth, kinds=None):
+        """A select whose rows come each of one that came, with columns of given kinds or of any."""
+        source = self.read(scope) if depth < 1 or self.often(0.6) else self.by_arrival(scope, depth - 1)
+        if self.frames and self.often(0.5):
+            source = self.framed(source)
+            if kinds is None:
+                return source
+        if kinds is None and self.often(0.3):
+            return self.select(source)
+        return self.select(source, self.items(source['columns'], kinds))
+
+    def by_arrival(self, scope, depth):
+        """A union by arrival, at times of one query with itself; its right side has the kinds of the left one."""
+        nests = depth > 0 and self.often(0.4)
+        left = self.by_arrival(scope, depth - 1) if nests else self.arriving(scope, depth)
+        right = self.arriving(scope, depth, [kind for _, kind in left['columns']]) if self.often(0.9) else left
+        left, right = (right, left) if self.often(0.3) else (left, right)
+        return {'sort': 'ARRIVAL', 'left': left, 'right': right, 'columns': left['columns'], 'closing': False}
 
     def paced(self, scope, depth, base):
         """A query with a row at the end where `base` is None, else with one for each row of it."""

@@ -61,6 +61,11 @@ QUERIES = {
         TUPLES,
     ),
     'union': ('SELECT price FROM trades UNION SELECT bid AS price FROM quotes INTO r', APART),
+    'arrival': (
+        'SELECT price, lag(volume) OVER (PARTITION BY symbol GROUPS 1) AS v FROM trades '
+        'UNION BY ARRIVAL SELECT bid AS price, ask AS v FROM quotes INTO r',
+        APART,
+    ),
     'concat': ('SELECT sum(price) AS p FROM trades CONCAT SELECT count() AS n FROM quotes INTO r', TUPLES),
 }
 
@@ -77,7 +82,7 @@ def cases():
         texts = {'S': SCHEMA, 'Q': query + '\n', 'T': tuples}
         yield f'run, {name}', ['run', 'S', 'Q', 'T'], texts
     for word in ('compile', 'figures', 'explain'):
-        for name in ('windows', 'groups', 'spare copies', 'union'):
+        for name in ('windows', 'groups', 'spare copies', 'union', 'arrival'):
             yield f'{word}, {name}', [word, 'S', 'Q'], {'S': SCHEMA, 'Q': QUERIES[name][0] + '\n'}
     yield 'run --start, groups', ['run', 'S', 'Q', 'T', '--start', '7'], {
         'S': SCHEMA,

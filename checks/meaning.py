@@ -3,7 +3,7 @@ the crates.
 
 A query is a dict. Its 'sort' is
     read            the rows of 'name'
-    UNION, CONCAT   of 'left' and 'right'
+    UNION, CONCAT   of 'left' and 'right'; so ARRIVAL, which is UNION BY ARRIVAL
     select          'items' [(name, expression)], None for *; or 'totals' [(name, aggregate, expression, weights)];
                     or 'frames' [(name, sort, expression, condition, back)], whose sort is 'own', 'lag', 'last_value'
                     or an aggregate's, with 'part' (key, groups) or None;
@@ -26,6 +26,7 @@ from common import width_of
 MOST = 400  # lists of rows that are looked at where an order is open
 WORK = 20000  # rows of slices and groups that are looked at
 LEVELS = {'OR': 0, 'AND': 1, 'NOT': 2, '+': 4, '-': 4, '*': 5} | dict.fromkeys(['=', '<>', '<', '<=', '>', '>='], 3)
+JOINS = {'UNION': 'UNION', 'ARRIVAL': 'UNION BY ARRIVAL', 'CONCAT': 'CONCAT'}
 SPENT = [0]
 NONE = ('rows',)
 
@@ -229,18 +230,19 @@ def frame_of(item, rows):
 
 
 def framed(query, names, rows):
-    """The rows of a select of frames over rows, and whether a row of a further key was left out."""
+    """What a select of frames makes of each row, None of one of a further key, and whether there was such a one."""
     key, most = query['part'] or (None, 1)
     own, out, spill = {}, [], False
     for row in rows:
         mine = own.get(row[names.index(key)] if key else None)
         if mine is None and len(own) == most:
             spill = True
+            out.append(None)
             continue
         mine = own.setdefault(row[names.index(key)] if key else None, [])
         mine.append(dict(zip(names, row)))
         out.append(tuple(frame_of(item, mine) for item in query['frames']))
-    return spill, tuple(out)
+    return spill, out
 
 
 def over_frames(query, names, found):
@@ -249,7 +251,7 @@ def over_frames(query, names, found):
     for before, tree in found.items():
         for rows in lists(tree):
             spill, made = framed(query, names, rows)
-            out[before or spill].append(('rows', *made))
+            out[before or spill].append(('rows', *(row for row in made if row is not None)))
     return {spill: either(trees) for spill, trees in out.items()}
 
 
@@ -383,10 +385,51 @@ def selected(query, columns, found):
     return found
 
 
+Come = collections.namedtuple('Come', 'place reader row')  # a row, the cycle that it came in, and which source read it
+
+
+def arrives(query):
+    """Whether each row of a query comes of one row that came."""
+    if query['sort'] == 'select':
+        return not (query['totals'] or query['window'] or query['group']) and arrives(query['source'])
+    return query['sort'] in ('read', 'ARRIVAL')
+
+
+def readers(query):
+    """How many sources a query that arrives reads, each use counted."""
+    if query['sort'] == 'ARRIVAL':
+        return readers(query['left']) + readers(query['right'])
+    return 1 if query['sort'] == 'read' else readers(query['source'])
+
+
+def come(query, sources, clock=None, reader=0):
+    """The rows of a query that arrives, with places, and whether a row of a further key was left out. Where there is no
+    clock, a source's rows come one behind the other. Sources are numbered from the left, from `reader` on."""
+    if query['sort'] == 'read':
+        rows = sources[query['name']]
+        places = clock[2][query['name']] if clock else range(len(rows))
+        return False, [Come(place, reader, row) for place, row in zip(places, rows, strict=True)]
+    if query['sort'] == 'ARRIVAL':
+        spill, left = come(query['left'], sources, clock, reader)
+        other, right = come(query['right'], sources, clock, reader + readers(query['left']))
+        return spill or other, sorted(left + right, key=lambda it: it.place)
+    spill, found = come(query['source'], sources, clock, reader)
+    names, where = [name for name, _ in query['source']['columns']], query['filter']
+    found = [it for it in found if not where or value_of(where, dict(zip(names, it.row)))]
+    if query['frames']:
+        more, made = framed(query, names, [it.row for it in found])
+        return spill or more, [it._replace(row=row) for it, row in zip(found, made) if row is not None]
+    if query['items']:
+        found = [
+            it._replace(row=tuple(value_of(e, dict(zip(names, it.row))) for _, e in query['items'])) for it in found
+        ]
+    return spill, found
+
+
 def outcomes_of(query, sources, clock):
     """All right outcomes of a query over the rows of its sources, by name; TooMany where there are too many.
 
-    The clock is the times of the rows of each stream, by name, and the number of all ticks.
+    The clock is the times of the rows of each stream, by name, the number of all ticks, and the cycles of the rows.
     """
     SPENT[0] = 0
     return results(query, sources, clock)
@@ -397,6 +440,9 @@ def results(query, sources, clock=None):
     sort = query['sort']
     if sort == 'read':
         return {False: ('rows', *sources[query['name']])}
+    if sort == 'ARRIVAL':
+        spill, found = come(query, sources, clock)
+        return {spill: ('rows', *(it.row for it in found))}
     if sort in ('UNION', 'CONCAT'):
         left, right = results(query['left'], sources, clock), results(query['right'], sources, clock)
         return both(left, right, merge if sort == 'UNION' else beside)
@@ -479,11 +525,10 @@ def window_text(window):
 def query_text(query):
     """The text of a query."""
     sort = query['sort']
-    if sort in ('UNION', 'CONCAT'):
-        right = query['right']
-        return f"{query_text(query['left'])} {sort} " + (
-            source_text(right) if right['sort'] in ('UNION', 'CONCAT') else query_text(right)
-        )
+    if sort in JOINS:
+        left, right = query_text(query['left']), query['right']
+        word = 'UNION by arrival' if sort == 'ARRIVAL' and len(left) % 3 == 0 else JOINS[sort]
+        return f'{left} {word} ' + (source_text(right) if right['sort'] in JOINS else query_text(right))
     source, group = source_text(query['source']), query['group']
     if sort == 'each':
         parts = (f' BY {group[0]} GROUPS {group[1]}' if group else '') + window_text(query['window'])
@@ -504,8 +549,8 @@ def query_text(query):
 def forms_of(query):
     """The names of what stands in a query."""
     sort = query['sort']
-    if sort in ('UNION', 'CONCAT'):
-        return {sort} | forms_of(query['left']) | forms_of(query['right'])
+    if sort in JOINS:
+        return {JOINS[sort]} | forms_of(query['left']) | forms_of(query['right'])
     if sort == 'read':
         return set()
     out = {

@@ -27,8 +27,9 @@ WORK = 1000000  # about a file's cycles, times the bytes of the module
 CYCLES = 25, 1000  # the fewest and the most of a file, about
 BATCH = 16  # cases in one compilation
 MARGIN = 20  # cycles that a testbench goes on behind the last line of `run`
-SORTS = ('groups', 'groups', 'spare', 'keyed', 'times', 'union', 'concat', 'lists')
+SORTS = ('groups', 'groups', 'spare', 'keyed', 'times', 'union', 'concat', 'arrival', 'lists')
 WANTED = {'keyed': 'windows of each key', 'times': 'windows of time', 'union': 'UNION', 'concat': 'CONCAT'}
+WANTED['arrival'] = 'UNION BY ARRIVAL'
 LIMIT = 'refused by limit'
 TOLD = 20  # differences that are printed; the others are counted
 LINES = ('out', 'valid'), ('out', 'eos'), ('fault', 'group'), ('fault', 'queue')
@@ -55,7 +56,8 @@ def drawn(program, seed, room, number):
     """A case with what the program says of it, or a refusal's line."""
     draw = random.Random(f'{seed} {number} unknown')
     sort = draw.choice(SORTS)
-    maker = Maker(draw, True, draw.random() < 0.4, draw.random() < 0.3, sort == 'times', sort == 'keyed')
+    signed, ticks = draw.random() < 0.4, draw.random() < 0.3
+    maker = Maker(draw, True, signed, ticks, sort == 'times', sort == 'keyed', arrival=sort == 'arrival')
     query = query_of(maker, draw, sort)
     if sort == 'lists':
         statements, text = statements_of(maker, draw, query, draw.randint(2, 8), max(WEIGHTS))

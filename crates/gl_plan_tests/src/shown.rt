@@ -187,6 +187,9 @@ fn push_node(out: &mut String, schema: &Schema, node: &PlanNode) -> Result<(), A
         PlanNode::Union { left, right } => {
             write!(out, "union p{} p{}", left.number(), right.number())?
         }
+        PlanNode::Merge { left, right } => {
+            write!(out, "merge p{} p{}", left.number(), right.number())?
+        }
         PlanNode::Beside { left, right } => {
             write!(out, "beside p{} p{}", left.number(), right.number())?
         }

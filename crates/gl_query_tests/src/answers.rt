@@ -10,8 +10,8 @@ use gl_schema::{Column, Schema, read_schema};
 use gl_values::{Kind, Table};
 use std::alloc::{AllocError, Global};
 
-/// The text of the schema, the rows that come in on two streams, the times of the first one's, and
-/// how many ticks come in all.
+/// The text of the schema, the rows that come in on two streams, their places, the times of the first
+/// one's, and how many ticks come in all.
 #[derive(Drop)]
 pub struct Given {
     /// The text of the schema.
@@ -20,6 +20,9 @@ pub struct Given {
     pub trades: String,
     /// The rows of the second stream.
     pub other: String,
+    /// The places of the first stream's rows and, behind a stroke, of the second one's: their positions where
+    /// none stand there.
+    pub places: String,
     /// The times of the first stream's rows, in ticks.
     pub times: String,
     /// How many ticks come in all, in decimal.
@@ -106,27 +109,62 @@ fn times_on<'a>(given: &'a Given, name: &[u8]) -> &'a str {
     }
 }
 
+// The places of what comes in on the stream of a name.
+fn places_on<'a>(given: &'a Given, name: &[u8]) -> &'a str {
+    let text = given.places.as_str();
+    let (trades, other) = text.split_once('|').unwrap_or((text, ""));
+    match name {
+        b"trades" => trades,
+        b"other" => other,
+        _ => "",
+    }
+}
+
+// So many places: those of a text, if there are as many.
+fn places_of(alloc: Global, text: &str, count: usize) -> Result<Times, Memory> {
+    let places = times_of(alloc, text)?;
+    if places.len() == count {
+        Ok(places)
+    } else {
+        positions(alloc, count)
+    }
+}
+
 // What comes in on all streams.
 #[derive(Drop)]
 struct Inputs {
     tables: Listed<Table>,
+    places: Listed<Times>,
     times: Listed<Times>,
     ticks: u64,
+}
+
+// So many places from 0 on: the n-th rows of all streams come in one cycle.
+fn positions(alloc: Global, count: usize) -> Result<Times, Memory> {
+    let mut places = Listed::new(alloc);
+    for place in 0..count {
+        places.push(place as u64)?;
+    }
+    Ok(places)
 }
 
 // What comes in on each stream.
 fn inputs_of(alloc: Global, schema: &Schema, given: &Given) -> Result<Inputs, Memory> {
     let mut tables = Listed::new(alloc);
+    let mut places = Listed::new(alloc);
     let mut times = Listed::new(alloc);
     for stream in schema.streams.as_slice() {
         let rows = rows_on(given, stream.name.as_slice());
         let table = table_of(alloc, stream.columns.as_slice(), rows)?;
+        let text = places_on(given, stream.name.as_slice());
+        places.push(places_of(alloc, text, table.len())?)?;
         tables.push(table)?;
         times.push(times_of(alloc, times_on(given, stream.name.as_slice()))?)?;
     }
     let ticks = given.ticks.as_str().parse::<u64>().unwrap_or(0);
     Ok(Inputs {
         tables,
+        places,
         times,
         ticks,
     })
@@ -199,12 +237,21 @@ fn evaluated(
     inputs: &Inputs,
 ) -> Result<String, AllocError> {
     let tables = inputs.tables.as_slice();
+    let places = inputs.places.as_slice();
     let times = inputs.times.as_slice();
     let count = schema.streams.len();
-    if tables.len() != count || times.len() != count {
+    if tables.len() != count || places.len() != count || times.len() != count {
         return String::from_str(alloc, "no inputs");
     }
-    match evaluate(alloc, schema, statement, tables, times, inputs.ticks) {
+    match evaluate(
+        alloc,
+        schema,
+        statement,
+        tables,
+        places,
+        times,
+        inputs.ticks,
+    ) {
         Ok(answer) => answer_told(alloc, columns, &answer),
         Err(_) => String::from_str(alloc, "no answer"),
     }

@@ -6,9 +6,10 @@
 //! and of what. A line `schema T` sets the schema, and `check T` checks a statement over it: a fault and its
 //! place, or `accepted`. `print T` prints the canonical text of a statement, and `where C` that of a select
 //! with the condition C. A line `trades ROWS` or `other ROWS` sets the rows that come in on the stream of this
-//! name, a line `times T` the times of those on trades, and `ticks N` how many ticks come in all. `answer T`
-//! prints the rows of a statement over them, with `spill` where groups are left out. In a text `\009` is the
-//! byte 9, and `` `9*T` `` stands for nine times T. Every other line is a remark.
+//! name, `places P | P` in which cycles both streams' rows come, `times T` the times of those on trades, and
+//! `ticks N` how many ticks come in all. `answer T` prints the rows of a statement over them, with `spill` where
+//! groups are left out. In a text `\009` is the byte 9, and `` `9*T` `` stands for nine times T. Every other
+//! line is a remark.
 #![tactic(auto)]
 
 mod answers;
@@ -66,6 +67,7 @@ fn main(rt: HostRuntime) -> io::Result<()> {
         schema: String::new(rt.alloc()),
         trades: String::new(rt.alloc()),
         other: String::new(rt.alloc()),
+        places: String::new(rt.alloc()),
         times: String::new(rt.alloc()),
         ticks: String::new(rt.alloc()),
     };
@@ -76,6 +78,7 @@ fn main(rt: HostRuntime) -> io::Result<()> {
             "schema" => given.schema = text.to_string(rt.alloc())?,
             "trades" => given.trades = text.to_string(rt.alloc())?,
             "other" => given.other = text.to_string(rt.alloc())?,
+            "places" => given.places = text.to_string(rt.alloc())?,
             "times" => given.times = text.to_string(rt.alloc())?,
             "ticks" => given.ticks = text.to_string(rt.alloc())?,
             _ => print_told(&rt, &given, &line, command, text)?,

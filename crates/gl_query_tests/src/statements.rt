@@ -59,6 +59,7 @@ fn word_of(query: &Query) -> &'static str {
         | Query::PerGroup { .. }
         | Query::Partition { .. } => "EACH",
         Query::Union { .. } => "UNION",
+        Query::ByArrival { .. } => "UNION BY ARRIVAL",
         Query::Concat { .. } => "CONCAT",
     }
 }
@@ -67,7 +68,9 @@ fn word_of(query: &Query) -> &'static str {
 fn join_told(alloc: Global, statement: &Statement) -> Result<String, AllocError> {
     let word = word_of(&statement.query);
     match &statement.query {
-        Query::Union { left, right, .. } | Query::Concat { left, right, .. } => {
+        Query::Union { left, right, .. }
+        | Query::ByArrival { left, right, .. }
+        | Query::Concat { left, right, .. } => {
             let (left, right) = (word_of(left), word_of(right));
             format!(in alloc; "{word} of {left} and {right}")
         }
