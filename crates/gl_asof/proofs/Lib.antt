@@ -1,4 +1,5 @@
 pub mod EachLemmas
 pub mod FrameLemmas
 pub mod SentenceLemmas
+pub mod PlaceLemmas
 pub mod ResultLemmas

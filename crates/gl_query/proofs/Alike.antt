@@ -82,6 +82,7 @@ query_same (query.PerGroup' var b source key groups c body at) = rw (query_same 
 query_same (query.Partition' var b source key groups size advance c body at) = rw (query_same source, query_same body) refl
 query_same (query.Union' b l c r at) = rw (query_same l, query_same r) refl
 query_same (query.ByArrival' b l c r at) = rw (query_same l, query_same r) refl
+query_same (query.AsOf' b l c r slots at) = rw (query_same l, query_same r) refl
 query_same (query.Concat' b l c r at) = rw (query_same l, query_same r) refl
 
 pub statement_same : (s : Statement) → statement_alike (statement_tree s) ≡ statement_shape s

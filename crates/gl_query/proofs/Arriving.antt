@@ -10,10 +10,11 @@ use Rattle.gl_arrival.specs.Changes.{framed_at, framed_by_key_at, kept_at, mappe
 use Rattle.gl_arrival.specs.Results.{HasOneArrival}
 use Rattle.gl_arrival.proofs.ChangeLemmas.{rows_at_places, rows_each, rows_kept, rows_mapped}
 use Rattle.gl_arrival.proofs.ResultLemmas.{is_of_union, one_arrival, one_by_arrival, one_changed, one_parted}
+use Rattle.gl_asof.proofs.ResultLemmas.{one_as_of}
 use Rattle.gl_schema.specs.declared.schema.Column.{Column}
 use Rattle.gl_query.specs.Columns.{arrives}
 use Rattle.gl_query.specs.Laws.{ArrivalsAreResults}
-use Rattle.gl_query.specs.Results.{ArrivesIn, Env, IsResultIn, IsWithoutPlaces, Source, columns_in, frame_row, keeps, kept, picked, placed_rows_of, rows_of}
+use Rattle.gl_query.specs.Results.{ArrivesIn, Env, IsResultIn, IsWithoutPlaces, Source, columns_in, frame_row, join_by, keeps, kept, picked, placed_rows_of, rows_of}
 use Rattle.gl_query.specs.Shapes.{ExprShape, FrameItemShape, PickShape, QueryShape}
 use Rattle.gl_query.specs.Shapes as shape
 use Rattle.gl_query.specs.Values.{column_number}
@@ -75,6 +76,7 @@ arrived (shape.PerGroup var source key n body) env xs spill a = absurd a
 arrived (shape.Partition var source key n size advance body) env xs spill a = absurd a
 arrived (shape.Union l r) env xs spill a = absurd a
 arrived (shape.ByArrival l r) env xs spill a = record { rows = xs; of_source = a; without = refl }
+arrived (shape.AsOf l r slots) env xs spill a = record { rows = xs; of_source = a; without = refl }
 arrived (shape.Concat l r) env xs spill a = absurd a
 
 pub without_places : (q : QueryShape) (env : Env) (out : List Row) (spill : Bool) → IsWithoutPlaces (ArrivesIn q env) out spill → IsResultIn q env out spill
@@ -128,6 +130,7 @@ with_places (shape.PerGroup var source key n body) t env out spill r = absurd (c
 with_places (shape.Partition var source key n size advance body) t env out spill r = absurd (cc)
 with_places (shape.Union l r') t env out spill r = absurd (cc)
 with_places (shape.ByArrival l r') t env out spill r = r
+with_places (shape.AsOf l r' slots) t env out spill r = r
 with_places (shape.Concat l r') t env out spill r = absurd (cc)
 
 pub arrivals : ArrivalsAreResults
@@ -163,4 +166,6 @@ one_in_place (shape.PerGroup var source key n body) env = λ out out' spill spil
 one_in_place (shape.Partition var source key n size advance body) env = λ out out' spill spill' a b. absurd a
 one_in_place (shape.Union l r) env = λ out out' spill spill' a b. absurd a
 one_in_place (shape.ByArrival l r) env = one_by_arrival (ArrivesIn l env) (ArrivesIn r env) (one_in_place l env) (one_in_place r env)
+one_in_place (shape.AsOf l r slots) env =
+    one_as_of (join_by (columns_in env l) (columns_in env r) slots) (ArrivesIn l env) (ArrivesIn r env) (one_in_place l env) (one_in_place r env)
 one_in_place (shape.Concat l r) env = λ out out' spill spill' a b. absurd a

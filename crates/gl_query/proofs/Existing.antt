@@ -7,12 +7,13 @@ use Rattle.gl_values.specs.Lists.{IsInterleaving, nothing, from_first, from_seco
 use Rattle.gl_arrival.specs.Places as arrival
 use Rattle.gl_arrival.specs.Arrival.{by_arrival}
 use Rattle.gl_arrival.specs.Results.{Arrivals, IsByArrival}
+use Rattle.gl_asof.specs.AsOf.{JoinBy, as_of, more_keys}
 use Rattle.gl_frames.proofs.ListLemmas.{each_length}
 use Rattle.gl_query.specs.Shapes.{QueryShape}
 use Rattle.gl_query.specs.Shapes as shape
 use Rattle.gl_query.specs.Columns.{Pace, Once, Step, arrives, pace_of}
 use Rattle.gl_values.specs.Results.{Row, Results, IsChanged, AreJoined, IsOfParts, IsOfBoth, AreBeside, beside}
-use Rattle.gl_query.specs.Results.{ArrivesIn, Env, IsChangedInPart, IsResultIn, IsWithoutPlaces, columns_in, frame_row, rows_of}
+use Rattle.gl_query.specs.Results.{ArrivesIn, Env, IsAsOf, IsChangedInPart, IsResultIn, IsWithoutPlaces, columns_in, frame_row, join_by, rows_of}
 use Rattle.gl_query.specs.Accepted.{IsAcceptedOver}
 use Rattle.gl_query.specs.Laws.{AcceptedHaveResults, scope_of}
 use Rattle.gl_query.proofs.Arriving.{with_places}
@@ -60,6 +61,7 @@ paced (shape.PerGroup var source key n body) env out spill r = tt
 paced (shape.Partition var source key n size advance body) env out spill r = tt
 paced (shape.Union l r) env out spill both = tt
 paced (shape.ByArrival l r) env out spill both = tt
+paced (shape.AsOf l r slots) env out spill both = tt
 paced (shape.Concat l r) env out spill both =
     let same = ap length both.join.rows ∙ length_beside both.left both.right both.join.paired in
     paced_alike env (pace_of l) both.left out same (paced l env both.left both.left_spill both.of_left)
@@ -156,6 +158,29 @@ some_by_arrival Left Right xs ys p q x y =
       };
     }
 
+some_as_of : (by : JoinBy Row Row Row) (Left Right : Arrivals) (xs ys : List Row) (p q : Bool) → IsWithoutPlaces Left xs p → IsWithoutPlaces Right ys q
+    → HasSome (IsWithoutPlaces (IsAsOf by Left Right))
+some_as_of by Left Right xs ys p q x y =
+    let rows = as_of by x.rows y.rows in
+    record {
+      rows = arrival.rows_of rows;
+      spill = (q || p) || more_keys by x.rows y.rows;
+      is = record {
+        rows = rows;
+        of_source = record {
+          left = x.rows;
+          right = y.rows;
+          left_spill = p;
+          right_spill = q;
+          of_left = x.of_source;
+          of_right = y.of_source;
+          joined = refl;
+          any = refl;
+        };
+        without = refl;
+      };
+    }
+
 some_result : (q : QueryShape) (env : Env) (timed : Bool) → IsAcceptedOver (scope_of env timed) q → HasSome (IsResultIn q env)
 some_result (shape.Read name) env timed a = record { rows = rows_of env name; spill = false; is = record { rows = refl; kept = refl } }
 some_result (shape.Rows pick filter source) env timed a = some_changed (IsResultIn source env) _ (some_result source env timed a.0)
@@ -178,6 +203,12 @@ some_result (shape.ByArrival l r) env timed a =
     let y = some_result r env timed a.1 in
     some_by_arrival (ArrivesIn l env) (ArrivesIn r env) x.rows y.rows x.spill y.spill (with_places l come.0 env x.rows x.spill x.is)
     (with_places r come.1 env y.rows y.spill y.is)
+some_result (shape.AsOf l r slots) env timed a =
+    let come = and_parts (arrives l) (arrives r) a.2 in
+    let x = some_result l env timed a.0 in
+    let y = some_result r env timed a.1 in
+    some_as_of (join_by (columns_in env l) (columns_in env r) slots) (ArrivesIn l env) (ArrivesIn r env) x.rows y.rows x.spill y.spill
+    (with_places l come.0 env x.rows x.spill x.is) (with_places r come.1 env y.rows y.spill y.is)
 some_result (shape.Concat l r) env timed a =
     let x = some_result l env timed a.0 in
     let y = some_result r env timed a.1 in

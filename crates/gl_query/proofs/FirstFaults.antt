@@ -7,6 +7,8 @@ use Rattle.std.proofs.lemmas.Bool.{leb-true, le-leb, ltb-true, lt-ltb}
 use Rattle.std.proofs.lemmas.Map.Keys.{IsDistinct-cons, IsDistinct-head, IsDistinct-tail}
 use Rattle.gl_bits.proofs.AllLists.{length_map}
 use Rattle.gl_bits.proofs.Bools.{and_both, and_parts, bytes_own, bytes_same, neither, neither_parts, not_false, not_true}
+use Rattle.gl_values.specs.Operators.{same_kind}
+use Rattle.gl_values.proofs.KindLemmas.{equal_kinds, kinds_equal}
 use Rattle.gl_schema.specs.declared.schema.Column.{Column as NamedColumn}
 use Rattle.gl_schema.specs.Schemas.{column_names, has_column, has_stream, kinds_of}
 use Rattle.gl_query.specs.declared.tree.Measure.{Measure}
@@ -18,11 +20,11 @@ use Rattle.gl_query.specs.Trees as tree
 use Rattle.gl_query.specs.Trees.{ExprTree, ItemTree, AggItemTree, FrameItemTree, PickTree, QueryTree}
 use Rattle.gl_query.specs.Alike.{expr_alike, agg_alike, item_alike, agg_item_alike, frame_alike, frame_item_alike, pick_alike, query_alike}
 use Rattle.gl_query.specs.Shapes.{QueryShape, slots_shape}
-use Rattle.gl_query.specs.Values.{HasKind, kind_alone}
+use Rattle.gl_query.specs.Values.{HasKind, column_kind, kind_alone}
 use Rattle.gl_query.specs.Columns.{Pace, Once, Step, agg_column, arrives, frame_column, is_closing, item_column, pace_of}
-use Rattle.gl_query.specs.Accepted.{AreFrames, AreResultColumns, IsAcceptedOver, IsAgg, IsFrame, IsParted, IsPick, IsTotal, IsWindow, KeepPace, Scope, body_scope, can_measure, columns_under}
+use Rattle.gl_query.specs.Accepted.{AreFrames, AreJoined, AreResultColumns, IsAcceptedOver, IsAgg, IsFrame, IsParted, IsPick, IsTotal, IsWindow, KeepPace, Scope, body_scope, can_measure, columns_under}
 use Rattle.gl_query.specs.Windows.{copies_of}
-use Rattle.gl_query.specs.Faults.{or_else, unless, agg_fault, are_distinct, aggs_fault, beside_fault, filter_fault, frame_fault, frames_fault, is_within, key_fault, pick_fault, query_fault, same_kinds, same_pace, slots_fault, whole_fault, window_fault, windows_fault}
+use Rattle.gl_query.specs.Faults.{or_else, unless, agg_fault, are_distinct, aggs_fault, beside_fault, filter_fault, frame_fault, frames_fault, is_within, join_fault, key_fault, names_fault, pick_fault, query_fault, same_kinds, same_pace, slots_fault, whole_fault, window_fault, windows_fault}
 use Rattle.gl_query.specs.Laws.{FirstFaultsAreExact}
 use Rattle.gl_query.proofs.Deciding.{Decides, agg_decides, always, both, change, equal_lists, filter_decides, frame_decides, is_within_of, lists_equal, named_decides, rule, test, whole_decides, within}
 use Rattle.gl_query.proofs.Real.{IsScope, body_is, no_names, real, schema_is}
@@ -217,6 +219,26 @@ beside_decides l r columns at =
     (λ h. (record { paced = h.0.0; same = h.0.1 }, record { most = h.1.1; distinct = h.1.0 }))
     (λ k. ((k.0.paced, k.0.same), (k.1.distinct, k.1.most)))
 
+names_decide : (columns : List NamedColumn) (at : ℕ) → Decides (names_fault columns at) (AreResultColumns columns)
+names_decide columns at =
+    let names = column_names columns in
+    change _
+    (both (unless (are_distinct names) _) _ (rule (are_distinct names) _ (IsDistinct bytes_eq names) (distinct_is names) (is_distinct names))
+    (λ d. rule (nat_le (length columns) 32) _ (length columns ≤ 32) (leb-true (length columns) 32) (le-leb (length columns) 32)))
+    (λ h. record { most = h.1; distinct = h.0 }) (λ r. (r.distinct, r.most))
+
+join_decides : (lefts rights : List NamedColumn) (slots : Slots) (columns : List NamedColumn) (at : ℕ)
+    → Decides (join_fault lefts rights slots columns at) (AreJoined lefts rights (slots_shape slots) columns)
+join_decides lefts rights slots columns at =
+    let left = column_kind lefts slots.key.text in
+    let right = column_kind rights slots.key.text in
+    change _
+    (both (slots_fault lefts (Some slots)) _ (slots_decide (Some slots) lefts)
+    (λ a. both (slots_fault rights (Some slots)) _ (slots_decide (Some slots) rights)
+    (λ b. both (unless (same_kind left right) _) _ (rule (same_kind left right) _ (left ≡ right) (kinds_equal left right) (equal_kinds left right))
+    (λ c. names_decide columns at))))
+    (λ h. record { of_left = h.0; of_right = h.1.0; alike = h.1.1.0; columns = h.1.1.1 }) (λ j. (j.of_left, (j.of_right, (j.alike, j.columns))))
+
 -- ---- queries
 
 query_decides : (q : QueryTree) (scope : Scope) → IsScope scope → Decides (query_fault scope q) (IsAcceptedOver scope (query_alike q))
@@ -313,6 +335,15 @@ query_decides (tree.ByArrival l r at) scope s =
     (λ a. both (query_fault scope r) _ (query_decides r scope s)
     (λ b. both (unless come _) _ (test come _)
     (λ c. rule (same_kinds left right) _ (left ≡ right) (lists_equal left right) (equal_lists left right)))))
+    (λ h. (h.0, h.1.0, h.1.1.0, h.1.1.1)) (λ a. (a.0, (a.1, (a.2, a.3))))
+query_decides (tree.AsOf l r slots at) scope s =
+    let lefts = columns_under scope (query_alike l) in
+    let rights = columns_under scope (query_alike r) in
+    let come = arrives (query_alike l) && arrives (query_alike r) in
+    change _
+    (both (query_fault scope l) _ (query_decides l scope s)
+    (λ a. both (query_fault scope r) _ (query_decides r scope s)
+    (λ b. both (unless come _) _ (test come _) (λ c. join_decides lefts rights slots (columns_under scope (query_alike (tree.AsOf l r slots at))) at))))
     (λ h. (h.0, h.1.0, h.1.1.0, h.1.1.1)) (λ a. (a.0, (a.1, (a.2, a.3))))
 query_decides (tree.Concat l r at) scope s =
     let columns = columns_under scope (query_alike (tree.Concat l r at)) in

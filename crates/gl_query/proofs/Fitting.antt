@@ -1,6 +1,6 @@
 -- The rows of a result fit the kinds of the query's columns.
-use Rattle.std.proofs.Common.{◌≡◌, ℕ, suc, ◌+◌, ◌-◌, ◌*◌, ◌/◌, ◌%◌, ◌<◌, ◌≤◌, ◌^◌, Bool, true, List, [], ◌∷◌, ◌++◌, length, map, sym, ap, subst, ◌∙◌, arith}
-use Rattle.std.specs.Prelude.{◌||◌, IfSome, Option, None, Some, bytes_eq, bit_and, bit_or, neg_ℤ, nat_le, nat_lt, pos, replicate, sum, slice_get, slice_index, option_map, unwrap_or}
+use Rattle.std.proofs.Common.{◌≡◌, ℕ, zero, suc, ◌+◌, ◌-◌, ◌*◌, ◌/◌, ◌%◌, ◌<◌, ◌≤◌, ◌^◌, Bool, true, List, [], ◌∷◌, ◌++◌, length, map, sym, ap, subst, ◌∙◌, arith}
+use Rattle.std.specs.Prelude.{◌||◌, IfSome, Option, None, Some, bytes_eq, bit_and, bit_or, neg_ℤ, nat_le, nat_lt, pos, remove, replicate, sum, slice_get, slice_index, option_map, unwrap_or}
 use Rattle.std.specs.List.{AllByRecursion, fold, list_all, list_any}
 use Rattle.std.proofs.lemmas.Bool.{leb-true, ltb-true}
 use Rattle.std.proofs.Math.Nat.{mod-lt, div-lt_iff_lt-mul, mul_comm, mul-lt-mul_of_pos_right}
@@ -257,6 +257,18 @@ fit_joined [] rights (n ∷ ns) right h k = absurd h
 fit_joined (c ∷ cs) rights [] right h k = absurd h
 fit_joined (c ∷ cs) rights (n ∷ ns) right h k = (h.0, fit_joined cs rights ns right h.1 k)
 
+fit_but : (columns : List Column) (i : ℕ) (row : Row) → IsRowOf columns row → IsRowOf (remove columns i) (remove row i)
+fit_but [] zero [] h = tt
+fit_but [] (suc i) [] h = tt
+fit_but [] i (n ∷ row) h = absurd h
+fit_but (c ∷ columns) i [] h = absurd h
+fit_but (c ∷ columns) zero (n ∷ row) h = h.1
+fit_but (c ∷ columns) (suc i) (n ∷ row) h = (h.0, fit_but columns i row h.1)
+
+zeros_fit : (columns : List Column) → IsRowOf columns (map (λ (c : Column). 0) columns)
+zeros_fit [] = tt
+zeros_fit (c ∷ columns) = (pow_pos (width_of c.kind), zeros_fit columns)
+
 -- a row fits kinds
 FitsKinds : List Kind → Row → Type 0
 FitsKinds [] [] = Unit {0}
@@ -285,6 +297,8 @@ fit_kept = record {
   frames = fit_frames;
   keyed = λ columns more key row rest known h k. (column_below columns row key known h, k);
   joined = fit_joined;
+  without = fit_but;
+  zeros = zeros_fit;
   alike = λ columns others row e h. fits_columns columns row (subst (λ (ks : List Kind). FitsKinds ks row) (sym e) (fits_kinds others row h));
 }
 

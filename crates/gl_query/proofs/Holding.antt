@@ -1,6 +1,6 @@
 -- A property of rows that each step from the sources to the result of a query keeps holds of the rows of the result.
-use Rattle.std.proofs.Common.{◌≡◌, ℕ, zero, suc, ◌-◌, ◌+◌, ◌*◌, ◌%◌, ◌/◌, Bool, false, List, [], ◌∷◌, ◌++◌, length, refl, sym, subst, map, filter, take, drop, nat_lt, nat_eq}
-use Rattle.std.specs.Prelude.{◌&&◌, IfSome, Option, None, Some, nat_le, IsTrue, bytes_eq, flat_map, not, reverse, slice_get, slice_index}
+use Rattle.std.proofs.Common.{◌≡◌, ℕ, zero, suc, ◌-◌, ◌+◌, ◌*◌, ◌%◌, ◌/◌, Bool, false, List, [], ◌∷◌, ◌++◌, length, refl, sym, ap, ◌∙◌, subst, map, filter, take, drop, nat_lt, nat_eq}
+use Rattle.std.specs.Prelude.{◌&&◌, IfSome, Option, None, Some, nat_le, IsTrue, bytes_eq, flat_map, not, option_and_then, remove, reverse, slice_get, slice_index}
 use Rattle.std.specs.List.{AllByRecursion, cons_option, range_with_len}
 use Rattle.std.proofs.lemmas.List.{reverse-append}
 use Rattle.gl_values.specs.Lists.{Group, IsInterleaving, nothing, from_first, from_second, distinct, groups, keys_of, part, rows_with, slices}
@@ -8,6 +8,15 @@ use Rattle.gl_values.specs.Partitions.{completed, completed_by, fulls, has_key, 
 use Rattle.gl_values.specs.Results.{Row, Results, AreJoined, IsOfGroup, beside}
 use Rattle.gl_values.specs.Times.{tfirsts, tpart}
 use Rattle.gl_frames.specs.Frames.{by_key, each_of, frame_of, if_has_key, row_before, rows_preceding}
+use Rattle.gl_arrival.specs.Places.{Placed}
+use Rattle.gl_arrival.specs.Places as arrival
+use Rattle.gl_arrival.specs.Arrival.{by_arrival}
+use Rattle.gl_arrival.specs.Changes.{mapped_at}
+use Rattle.gl_arrival.proofs.ChangeLemmas.{rows_each}
+use Rattle.gl_arrival.proofs.OrderLemmas.{all_of_both}
+use Rattle.gl_arrival.proofs.ResultLemmas.{rows_interleave}
+use Rattle.gl_asof.specs.AsOf as asof
+use Rattle.gl_asof.proofs.EachLemmas.{each_stepped}
 use Rattle.gl_bits.proofs.AllLists.{all_append, all_weaker}
 use Rattle.gl_bits.proofs.Bools.{by_cases}
 use Rattle.gl_schema.specs.declared.schema.Column.{Column}
@@ -17,12 +26,12 @@ use Rattle.gl_query.specs.declared.tree.Measure.TheVariants.{Tuples, Time}
 use Rattle.gl_query.specs.Shapes.{AggItemShape, FrameItemShape, PickShape}
 use Rattle.gl_query.specs.Shapes as shape
 use Rattle.gl_query.specs.Values.{column_kind, column_number}
-use Rattle.gl_query.specs.Columns.{agg_column, columns_of, frame_column, picked_columns, source_columns, variable}
+use Rattle.gl_query.specs.Columns.{agg_column, but_key, columns_of, frame_column, picked_columns, source_columns, variable}
 use Rattle.gl_query.specs.Accepted.{IsAgg, IsFrame, IsPick}
-use Rattle.gl_query.specs.Results.{IsResultIn, columns_in, frame_row, keeps, kept, only, picked, streams_of, ticks_in, times_in, total_row}
+use Rattle.gl_query.specs.Results.{IsResultIn, beside_last, columns_in, frame_row, join_by, keeps, kept, only, picked, streams_of, ticks_in, times_in, total_row}
 use Rattle.gl_query.specs.Windows.{parts_of}
 use Rattle.gl_query.specs.Laws.{HoldsIn, HoldsOfResults}
-use Rattle.gl_query.proofs.Arriving.{as_union}
+use Rattle.gl_query.proofs.Arriving.{arrived, as_union}
 
 -- each step keeps it
 pub record IsKept (P : List Column → Row → Type 0) : Type 0 where
@@ -35,6 +44,8 @@ pub record IsKept (P : List Column → Row → Type 0) : Type 0 where
   pub keyed : (columns more : List Column) (key : List ℕ) (row rest : Row) → IsTrue (has_column columns key) → P columns row → P more rest
       → P (record { name = key; kind = column_kind columns key } ∷ more) (slice_index row (column_number columns key) ∷ rest)
   pub joined : (lefts rights : List Column) (left right : Row) → P lefts left → P rights right → P (lefts ++ rights) (left ++ right)
+  pub without : (columns : List Column) (i : ℕ) (row : Row) → P columns row → P (remove columns i) (remove row i)
+  pub zeros : (columns : List Column) → P columns (map (λ (c : Column). 0) columns)
   pub alike : (columns others : List Column) (row : Row) → kinds_of columns ≡ kinds_of others → P others row → P columns row
 
 -- ---- parts of a list
@@ -206,6 +217,69 @@ all_windows_of P n key_of size advance rows h =
     (flat_map (λ (g : Group Row). keyed g.key (short_slices size advance g.rows)) (groups n key_of rows))
     (all_fulls P n key_of size advance [] rows tt h) (all_shorts P key_of size advance (groups n key_of rows) (all_groups P n key_of rows h))
 
+-- ---- joins
+
+-- a row of either side has its side's property
+abbrev pub OfSide : (Row → Type 0) → (Row → Type 0) → asof.OfEither Row Row → Type 0
+OfSide P Q (asof.of_left a) = P a
+OfSide P Q (asof.of_right b) = Q b
+
+all_lefts : (P Q : Row → Type 0) (xs : List (Placed Row)) → AllByRecursion P (arrival.rows_of xs) → AllByRecursion (OfSide P Q) (arrival.rows_of (mapped_at asof.of_left xs))
+all_lefts P Q [] h = tt
+all_lefts P Q (x ∷ xs) h = (h.0, all_lefts P Q xs h.1)
+
+all_rights : (P Q : Row → Type 0) (ys : List (Placed Row)) → AllByRecursion Q (arrival.rows_of ys) → AllByRecursion (OfSide P Q) (arrival.rows_of (mapped_at asof.of_right ys))
+all_rights P Q [] h = tt
+all_rights P Q (y ∷ ys) h = (h.0, all_rights P Q ys h.1)
+
+pub all_sides : (P Q : Row → Type 0) (xs ys : List (Placed Row)) → AllByRecursion P (arrival.rows_of xs) → AllByRecursion Q (arrival.rows_of ys)
+    → AllByRecursion (OfSide P Q) (arrival.rows_of (asof.both_sides xs ys))
+all_sides P Q xs ys h k =
+    let lefts : List (Placed (asof.OfEither Row Row)) = mapped_at asof.of_left xs in
+    let rights : List (Placed (asof.OfEither Row Row)) = mapped_at asof.of_right ys in
+    all_of_both (OfSide P Q) (arrival.rows_of rights) (arrival.rows_of lefts) (arrival.rows_of (by_arrival rights lefts)) (rows_interleave rights lefts)
+    (all_rights P Q ys k) (all_lefts P Q xs h)
+
+rights_hold : (P Q : Row → Type 0) (zs : List (asof.OfEither Row Row)) → AllByRecursion (OfSide P Q) zs → AllByRecursion Q (asof.rights_in zs)
+rights_hold P Q [] h = tt
+rights_hold P Q (asof.of_left a ∷ zs) h = rights_hold P Q zs h.1
+rights_hold P Q (asof.of_right b ∷ zs) h = (h.0, rights_hold P Q zs h.1)
+
+pub last_holds : (P Q : Row → Type 0) (zs : List (asof.OfEither Row Row)) → AllByRecursion (OfSide P Q) zs → IfSome (asof.last_right zs) Q
+last_holds P Q zs h = all_before Q 0 (asof.rights_in zs) (rights_hold P Q zs h)
+
+module _ (P Q R : Row → Type 0) (by : asof.JoinBy Row Row Row) (joins : (a : Row) (o : Option Row) → P a → IfSome o Q → R (by.join a o)) where
+  joined_holds : (last : Option Row) (o : Option (asof.OfEither Row Row)) → IfSome last Q → IfSome o (OfSide P Q) → IfSome (asof.joined_last by last o) R
+  joined_holds last None h k = tt
+  joined_holds last (Some (asof.of_left a)) h k = joins a last k h
+  joined_holds last (Some (asof.of_right b)) h k = tt
+
+  of_key_holds : (zs : List (asof.OfEither Row Row)) (o : Option (asof.OfEither Row Row)) → AllByRecursion (OfSide P Q) zs
+      → IfSome (option_and_then (λ (p : Option Row). p) (if_has_key by.groups (asof.key_of_either by) (asof.joined by) zs o)) R
+  of_key_holds zs None h = tt
+  of_key_holds zs (Some z) h =
+      let own : List (asof.OfEither Row Row) = rows_with (asof.key_of_either by) zs (asof.key_of_either by z) in
+      let held = all_filter (OfSide P Q) (λ x. nat_eq (asof.key_of_either by x) (asof.key_of_either by z)) zs h in
+      by_cases (has_key by.groups (asof.key_of_either by) zs (asof.key_of_either by z))
+      (λ e. rw e (joined_holds (asof.last_right own) (row_before 0 own) (last_holds P Q own held) (all_before (OfSide P Q) 0 own held)))
+      (λ e. rw e tt)
+
+  all_as_of : (xs ys : List (Placed Row)) → AllByRecursion P (arrival.rows_of xs) → AllByRecursion Q (arrival.rows_of ys) → AllByRecursion R (arrival.rows_of (asof.as_of by xs ys))
+  all_as_of xs ys h k =
+      let zs : List (Placed (asof.OfEither Row Row)) = asof.both_sides xs ys in
+      let made : List (asof.OfEither Row Row) → Option Row =
+      λ l. option_and_then (λ (p : Option Row). p) (by_key by.groups (asof.key_of_either by) (asof.joined by) l) in
+      subst (λ (l : List (Placed Row)). AllByRecursion R (arrival.rows_of l))
+      (sym (each_stepped (λ (p : Option Row). p) (by_key by.groups (asof.key_of_either by) (asof.joined by)) [] zs))
+      (subst (AllByRecursion R) (sym (rows_each made [] zs))
+      (all_each R (OfSide P Q) made (λ l held. of_key_holds l (row_before 0 l) held) [] (arrival.rows_of zs) tt (all_sides P Q xs ys h k)))
+
+beside_holds : (P : List Column → Row → Type 0) → IsKept P → (lefts rights : List Column) (key : List ℕ) (a : Row) (o : Option Row) → P lefts a → IfSome o (P rights)
+    → P (lefts ++ but_key key rights) (beside_last rights key a o)
+beside_holds P k lefts rights key a None h q = k.joined lefts (but_key key rights) a (map (λ (c : Column). 0) (but_key key rights)) h (k.zeros (but_key key rights))
+beside_holds P k lefts rights key a (Some b) h q =
+    k.joined lefts (but_key key rights) a (remove b (column_number rights key)) h (k.without rights (column_number rights key) b q)
+
 -- ---- results of results
 
 all_joined : {A : Type 0} (P : Row → Type 0) (Part : A → Type 0) (body : A → Results)
@@ -306,6 +380,15 @@ results_hold P k (shape.ByArrival l r) env timed out spill a h is =
     let right = results_hold P k r env timed both.right both.right_spill a.1 h both.of_right in
     let alike = all_weaker (P (columns_in env r)) (P columns) (λ row p. k.alike columns (columns_in env r) row a.3 p) both.right right in
     all_interleaved (P columns) both.left both.right out left alike both.join
+results_hold P k (shape.AsOf l r slots) env timed out spill a h is =
+    let lefts = columns_in env l in
+    let rights = columns_in env r in
+    let u = is.of_source in
+    let left = results_hold P k l env timed (arrival.rows_of u.left) u.left_spill a.0 h (arrived l env u.left u.left_spill u.of_left) in
+    let right = results_hold P k r env timed (arrival.rows_of u.right) u.right_spill a.1 h (arrived r env u.right u.right_spill u.of_right) in
+    let Whole : Row → Type 0 = P (lefts ++ but_key slots.key rights) in
+    subst (AllByRecursion Whole) (sym (is.without ∙ ap (λ (l : List (Placed Row)). arrival.rows_of l) u.joined))
+    (all_as_of (P lefts) (P rights) Whole (join_by lefts rights slots) (λ x o p q. beside_holds P k lefts rights slots.key x o p q) u.left u.right left right)
 results_hold P k (shape.Concat l r) env timed out spill a h is =
     let left = results_hold P k l env timed is.left is.left_spill a.0 h is.of_left in
     let right = results_hold P k r env timed is.right is.right_spill a.1 h is.of_right in

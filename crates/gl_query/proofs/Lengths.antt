@@ -1,5 +1,6 @@
 -- The rows of a result are as long as the query's columns are many.
-use Rattle.std.proofs.Common.{◌≡◌, suc, ◌+◌, List, ◌++◌, length, map, sym, ap, ◌∙◌, length-append}
+use Rattle.std.proofs.Common.{◌≡◌, ℕ, zero, suc, ◌+◌, List, [], ◌∷◌, ◌++◌, length, map, refl, sym, ap, ◌∙◌, arith, length-append}
+use Rattle.std.specs.Prelude.{remove}
 use Rattle.gl_values.specs.Results.{Row}
 use Rattle.gl_bits.proofs.AllLists.{length_map}
 use Rattle.gl_schema.specs.declared.schema.Column.{Column}
@@ -29,6 +30,14 @@ long_joined : (lefts rights : List Column) (left right : Row) → IsLongAs lefts
 long_joined lefts rights left right h k =
     length-append left right ∙ ap (λ n. n + length right) h ∙ ap (λ n. length lefts + n) k ∙ sym (length-append lefts rights)
 
+long_but : (columns : List Column) (i : ℕ) (row : Row) → IsLongAs columns row → IsLongAs (remove columns i) (remove row i)
+long_but [] zero [] h = refl
+long_but [] (suc i) [] h = refl
+long_but [] i (n ∷ row) h = absurd (omega (arith, h))
+long_but (c ∷ columns) i [] h = absurd (omega (arith, h))
+long_but (c ∷ columns) zero (n ∷ row) h = omega (arith, h)
+long_but (c ∷ columns) (suc i) (n ∷ row) h = ap suc (long_but columns i row (omega (arith, h)))
+
 long_alike : (columns others : List Column) (row : Row) → kinds_of columns ≡ kinds_of others → IsLongAs others row → IsLongAs columns row
 long_alike columns others row e h =
     h ∙ sym (length_map (λ c. c.kind) others) ∙ sym (ap length e) ∙ length_map (λ c. c.kind) columns
@@ -40,6 +49,8 @@ long_kept = record {
   frames = λ columns items rows p h. long_frames columns items rows;
   keyed = λ columns more key row rest known h k. ap suc k;
   joined = long_joined;
+  without = long_but;
+  zeros = λ columns. length_map (λ (c : Column). 0) columns;
   alike = long_alike;
 }
 

@@ -1,4 +1,5 @@
 pub mod Arriving
+pub mod Rising
 pub mod Unique
 pub mod Existing
 pub mod Timeless
@@ -11,3 +12,4 @@ pub mod Real
 pub mod Deciding
 pub mod FirstFaults
 pub mod LongRows
+pub mod Without

@@ -1,6 +1,6 @@
 -- The columns of an accepted query are columns of a result: at most 32, no two of one name, and of kinds that are kinds.
 use Rattle.std.proofs.Common.{◌≡◌, ℕ, zero, suc, ◌≤◌, Bool, true, false, List, [], ◌∷◌, length, map, sym, subst, arith, lit≤, length-append}
-use Rattle.std.specs.Prelude.{◌||◌, IfSome, Option, None, Some, bytes_eq, slice_get, unwrap_or, option_map}
+use Rattle.std.specs.Prelude.{◌||◌, IfSome, Option, None, Some, bytes_eq, remove, slice_get, unwrap_or, option_map}
 use Rattle.std.specs.List.{AllByRecursion, IsDistinct, list_any}
 use Rattle.gl_values.specs.declared.kind.Kind.{Kind}
 use Rattle.gl_values.specs.declared.kind.Kind.TheVariants.{Unsigned}
@@ -19,7 +19,7 @@ use Rattle.gl_schema.specs.Schemas.{IsColumn, IsStream, has_stream}
 use Rattle.gl_query.specs.Shapes.{AggItemShape, AggShape, ExprShape, FrameAggShape, FrameItemShape, FrameShape, ItemShape, QueryShape}
 use Rattle.gl_query.specs.Shapes as shape
 use Rattle.gl_query.specs.Values.{HasKind, begins_with_text, column_number, has_minus, kind_alone, kind_of, loose_kind, operand_place, operator_kind, own_kind}
-use Rattle.gl_query.specs.Columns.{agg_column, agg_kind, frame_agg_kind, frame_column, frame_kind, item_column, source_columns}
+use Rattle.gl_query.specs.Columns.{agg_column, agg_kind, but_key, frame_agg_kind, frame_column, frame_kind, item_column, source_columns}
 use Rattle.gl_query.specs.Accepted.{AreResultColumns, IsAcceptedOver, IsAgg, IsFrame, IsFrameAgg, Scope, body_scope, columns_under}
 use Rattle.gl_query.specs.Sizes.{HasFrame, HasItems}
 use Rattle.gl_query.specs.Laws.{AcceptedHaveRealColumns, AreKinds}
@@ -153,6 +153,13 @@ pub record AreReal (columns : List Column) : Type 0 where
   pub result : AreResultColumns columns
   pub kinds : AreKinds columns
 
+-- the kinds of all columns but one
+kinds_but : (columns : List Column) (i : ℕ) → AreKinds columns → AreKinds (remove columns i)
+kinds_but [] zero h = tt
+kinds_but [] (suc i) h = tt
+kinds_but (c ∷ columns) zero h = h.1
+kinds_but (c ∷ columns) (suc i) h = (h.0, kinds_but columns i h.1)
+
 pub real : (q : QueryShape) (scope : Scope) → IsScope scope → IsAcceptedOver scope q → AreReal (columns_under scope q)
 real (shape.Read name) scope s a = record { result = s.columns name; kinds = s.kinds name }
 real (shape.Rows shape.All filter source) scope s a = real source scope s a.0
@@ -180,6 +187,16 @@ real (shape.Partition var source key groups size advance body) scope s a =
     record { result = a.1.grouping.columns; kinds = (kind_at columns (column_number columns key) r.kinds, inner.kinds) }
 real (shape.Union l r) scope s a = real l scope s a.0
 real (shape.ByArrival l r) scope s a = real l scope s a.0
+real (shape.AsOf l r slots) scope s a =
+    let x = real l scope s a.0 in
+    let y = real r scope s a.1 in
+    let rights : List Column = columns_under scope r in
+    record {
+      result = a.3.columns;
+      kinds =
+          all_append (λ (c : Column). IsKind c.kind) (columns_under scope l) (but_key slots.key rights) x.kinds
+          (kinds_but rights (column_number rights slots.key) y.kinds);
+    }
 real (shape.Concat l r) scope s a =
     let x = real l scope s a.0 in
     let y = real r scope s a.1 in
@@ -246,6 +263,10 @@ some (shape.PerGroup var source key groups body) scope s i a = omega arith
 some (shape.Partition var source key groups size advance body) scope s i a = omega arith
 some (shape.Union l r) scope s i a = some l scope s i.0 a.0
 some (shape.ByArrival l r) scope s i a = some l scope s i.0 a.0
+some (shape.AsOf l r slots) scope s i a =
+    let h = some l scope s i.0 a.0 in
+    let e = length-append (columns_under scope l) (but_key slots.key (columns_under scope r)) in
+    omega (arith, h, e)
 some (shape.Concat l r) scope s i a =
     let h = some l scope s i.0 a.0 in
     let e = length-append (columns_under scope l) (columns_under scope r) in

@@ -12,7 +12,7 @@ use Rattle.gl_schema.specs.Beats.{Inputs}
 use Rattle.gl_query.specs.declared.tree.Measure.TheVariants.{Tuples, Time}
 use Rattle.gl_query.specs.Columns.{columns_of}
 use Rattle.gl_query.specs.Laws.{ResultsGoByRows}
-use Rattle.gl_query.specs.Results.{Arrivals, ArrivesIn, Env, IsArrival, IsByArrival, IsChangedInPlace, IsFramed, IsFramedInPlace, IsResultIn, IsWithoutPlaces, env_of, keeps, kept, numbered, only, picked, placed_rows_of, rows_of, streams_of, total_row}
+use Rattle.gl_query.specs.Results.{Arrivals, ArrivesIn, Env, IsArrival, IsAsOf, IsByArrival, IsChangedInPlace, IsFramed, IsFramedInPlace, IsResultIn, IsWithoutPlaces, env_of, join_by, keeps, kept, numbered, only, picked, placed_rows_of, rows_of, streams_of, total_row}
 use Rattle.gl_query.specs.Shapes.{QueryShape, query_shape}
 use Rattle.gl_query.specs.Shapes as shape
 use Rattle.gl_query.specs.Values.{column_number}
@@ -42,6 +42,11 @@ same_arrivals (shape.Union l r) env other h = refl
 same_arrivals (shape.ByArrival l r) env other h =
     ap (λ (x : Arrivals). IsByArrival x (ArrivesIn r env)) (same_arrivals l env other h)
     ∙ ap (λ (x : Arrivals). IsByArrival (ArrivesIn l other) x) (same_arrivals r env other h)
+same_arrivals (shape.AsOf l r slots) env other h =
+    let step : List Stream → Arrivals → Arrivals → Arrivals = λ ss x y. IsAsOf (join_by (columns_of ss l) (columns_of ss r) slots) x y in
+    ap (λ (ss : List Stream). step ss (ArrivesIn l env) (ArrivesIn r env)) h.streams
+    ∙ ap (λ (x : Arrivals). step (streams_of other) x (ArrivesIn r env)) (same_arrivals l env other h)
+    ∙ ap (λ (x : Arrivals). step (streams_of other) (ArrivesIn l other) x) (same_arrivals r env other h)
 same_arrivals (shape.Concat l r) env other h = refl
 
 same_results : (q : QueryShape) → HasNoTime q → (env other : Env) → HaveRows env other → IsResultIn q env ≡ IsResultIn q other
@@ -81,6 +86,7 @@ same_results (shape.Union l r) t env other h =
     ap (λ (x : Results). IsOfBoth x (IsResultIn r env) IsInterleaving) (same_results l apart.0 env other h)
     ∙ ap (λ (x : Results). IsOfBoth (IsResultIn l other) x IsInterleaving) (same_results r apart.1 env other h)
 same_results (shape.ByArrival l r) t env other h = ap (λ (x : Arrivals). IsWithoutPlaces x) (same_arrivals (shape.ByArrival l r) env other h)
+same_results (shape.AsOf l r slots) t env other h = ap (λ (x : Arrivals). IsWithoutPlaces x) (same_arrivals (shape.AsOf l r slots) env other h)
 same_results (shape.Concat l r) t env other h =
     let apart = neither_parts (has_time l) (has_time r) t in
     ap (λ (x : Results). IsOfBoth x (IsResultIn r env) AreBeside) (same_results l apart.0 env other h)

@@ -15,7 +15,7 @@ use Rattle.gl_query.specs.declared.tree.Measure.TheVariants.{Tuples, Time}
 use Rattle.gl_query.specs.declared.tree.Statement.{Statement}
 use Rattle.gl_query.specs.Shapes.{ExprShape, AggShape, ItemShape, AggItemShape, FrameAggShape, FrameShape, FrameItemShape, PickShape, QueryShape, SlotsShape, query_shape}
 use Rattle.gl_query.specs.Shapes as shape
-use Rattle.gl_query.specs.Values.{HasKind, IsNumberOf, kind_alone, kind_of}
+use Rattle.gl_query.specs.Values.{HasKind, IsNumberOf, column_kind, kind_alone, kind_of}
 use Rattle.gl_query.specs.Columns.{arrives, columns_of, picked_columns, is_closing, pace_of, variable}
 use Rattle.gl_query.specs.Windows.{copies_of}
 
@@ -116,7 +116,7 @@ pub record IsTotal (source : List Column) (aggs : List AggItemShape) (result : L
   pub typed : AllByRecursion (λ (i : AggItemShape). IsAgg source i.agg) aggs
   pub columns : AreResultColumns result
 
--- the key of PARTITION is a column, and GROUPS is 1 to 4,096
+-- the key of PARTITION or ASOF is a column, and GROUPS is 1 to 4,096
 pub record AreSlots (source : List Column) (slots : SlotsShape) : Type 0 where
   pub known : IsTrue (has_column source slots.key)
   pub some_groups : 1 ≤ slots.groups
@@ -135,6 +135,13 @@ pub record AreFrames (source : List Column) (items : List FrameItemShape) (filte
   pub typed : AllByRecursion (λ (i : FrameItemShape). IsFrame source i.frame) items
   pub columns : AreResultColumns result
   pub filters : IsFilter source filter
+
+-- the key of ASOF is a column of both sides, of one kind, GROUPS is 1 to 4,096, and no other name is on both sides
+pub record AreJoined (lefts rights : List Column) (slots : SlotsShape) (result : List Column) : Type 0 where
+  pub of_left : AreSlots lefts slots
+  pub of_right : AreSlots rights slots
+  pub alike : column_kind lefts slots.key ≡ column_kind rights slots.key
+  pub columns : AreResultColumns result
 
 -- the key is a column, GROUPS is 1 to 256, and the key's name is no other column's
 pub record IsGrouping (source : List Column) (key : List ℕ) (groups : ℕ) (result : List Column) : Type 0 where
@@ -216,6 +223,9 @@ IsAcceptedOver scope (shape.Union l r) =
 IsAcceptedOver scope (shape.ByArrival l r) =
     IsAcceptedOver scope l × IsAcceptedOver scope r × IsTrue (arrives l && arrives r)
     × (kinds_of (columns_under scope l) ≡ kinds_of (columns_under scope r))
+IsAcceptedOver scope (shape.AsOf l r slots) =
+    IsAcceptedOver scope l × IsAcceptedOver scope r × IsTrue (arrives l && arrives r)
+    × AreJoined (columns_under scope l) (columns_under scope r) slots (columns_under scope (shape.AsOf l r slots))
 IsAcceptedOver scope (shape.Concat l r) =
     IsAcceptedOver scope l × IsAcceptedOver scope r × KeepPace l r
     × AreResultColumns (columns_under scope (shape.Concat l r))

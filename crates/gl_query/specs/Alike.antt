@@ -75,6 +75,7 @@ query_alike (tree.Partition var source key groups size advance body at) =
     shape.Partition var.text (query_alike source) key.text groups.value size.value advance.value (query_alike body)
 query_alike (tree.Union l r at) = shape.Union (query_alike l) (query_alike r)
 query_alike (tree.ByArrival l r at) = shape.ByArrival (query_alike l) (query_alike r)
+query_alike (tree.AsOf l r slots at) = shape.AsOf (query_alike l) (query_alike r) (slots_shape slots)
 query_alike (tree.Concat l r at) = shape.Concat (query_alike l) (query_alike r)
 
 -- what all statements that are equal but for their places share

@@ -1,12 +1,12 @@
 -- The columns of a query, when it closes, whether its rows come one by one, and its pace.
-use Rattle.std.specs.Prelude.{ℕ, Bool, true, false, not, ◌&&◌, List, [], ◌∷◌, ◌++◌, map, Option, Some, None, find, unwrap_or, option_map, bytes_eq}
+use Rattle.std.specs.Prelude.{ℕ, Bool, true, false, not, ◌&&◌, List, [], ◌∷◌, ◌++◌, map, Option, Some, None, find, remove, unwrap_or, option_map, bytes_eq}
 use Rattle.gl_values.specs.declared.kind.Kind.{Kind}
 use Rattle.gl_values.specs.declared.kind.Kind.TheVariants.{Unsigned}
 use Rattle.gl_schema.specs.declared.schema.Column.{Column}
 use Rattle.gl_schema.specs.declared.schema.Stream.{Stream}
 use Rattle.gl_query.specs.Shapes.{AggShape, ItemShape, AggItemShape, FrameAggShape, FrameShape, FrameItemShape, PickShape, QueryShape}
 use Rattle.gl_query.specs.Shapes as shape
-use Rattle.gl_query.specs.Values.{column_kind, kind_alone, kind_of}
+use Rattle.gl_query.specs.Values.{column_kind, column_number, kind_alone, kind_of}
 use Rattle.gl_query.specs.Windows.{is_time}
 
 -- the columns of a source by its name
@@ -58,6 +58,10 @@ abbrev pub picked_columns : List Column → PickShape → List Column
 picked_columns columns shape.All = columns
 picked_columns columns (shape.Items items) = map (item_column columns) items
 
+-- the columns of the right side of ASOF without the key's
+abbrev pub but_key : List ℕ → List Column → List Column
+but_key key columns = remove columns (column_number columns key)
+
 -- the columns of a query over the sources that it sees
 abbrev pub columns_of : List Stream → QueryShape → List Column
 columns_of sources (shape.Read name) = source_columns sources name
@@ -74,6 +78,7 @@ columns_of sources (shape.Partition var source key groups size advance body) =
     (variable var (columns_of sources source)) body
 columns_of sources (shape.Union l r) = columns_of sources l
 columns_of sources (shape.ByArrival l r) = columns_of sources l
+columns_of sources (shape.AsOf l r slots) = columns_of sources l ++ but_key slots.key (columns_of sources r)
 columns_of sources (shape.Concat l r) = columns_of sources l ++ columns_of sources r
 
 -- a closing query gives its rows at the end of its input
@@ -87,10 +92,11 @@ is_closing (shape.PerGroup var source key groups body) = true
 is_closing (shape.Partition var source key groups size advance body) = is_closing source
 is_closing (shape.Union l r) = is_closing l && is_closing r
 is_closing (shape.ByArrival l r) = false
+is_closing (shape.AsOf l r slots) = false
 is_closing (shape.Concat l r) = is_closing l && is_closing r
 
 -- whether each row of a query comes of one row that came: of a source, of a select over such a query, with frames or
--- without, and of a union by arrival
+-- without, of a union by arrival, and of an as-of join, whose rows come of the left side's
 abbrev pub arrives : QueryShape → Bool
 arrives (shape.Read name) = true
 arrives (shape.Rows pick filter source) = arrives source
@@ -101,6 +107,7 @@ arrives (shape.PerGroup var source key groups body) = false
 arrives (shape.Partition var source key groups size advance body) = false
 arrives (shape.Union l r) = false
 arrives (shape.ByArrival l r) = true
+arrives (shape.AsOf l r slots) = true
 arrives (shape.Concat l r) = false
 
 -- how many rows a query gives: one, or one for each row of a source
@@ -113,8 +120,8 @@ abbrev pub unfiltered : {A B : Type 0} → Option A → Option B → Option B
 unfiltered None pace = pace
 unfiltered (Some e) pace = None
 
--- the pace of a query, where it has one: filters, PARTITION, windows, groups and unions have none, and CONCAT has its
--- left side's
+-- the pace of a query, where it has one: filters, PARTITION, ASOF, windows, groups and unions have none, and CONCAT
+-- has its left side's
 abbrev pub pace_of : QueryShape → Option Pace
 pace_of (shape.Read name) = Some (Step name)
 pace_of (shape.Rows pick filter source) = unfiltered filter (pace_of source)
@@ -125,4 +132,5 @@ pace_of (shape.PerGroup var source key groups body) = None
 pace_of (shape.Partition var source key groups size advance body) = None
 pace_of (shape.Union l r) = None
 pace_of (shape.ByArrival l r) = None
+pace_of (shape.AsOf l r slots) = None
 pace_of (shape.Concat l r) = pace_of l

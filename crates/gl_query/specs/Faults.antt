@@ -20,10 +20,10 @@ use Rattle.gl_query.specs.declared.tree.Measure.TheVariants.{Tuples}
 use Rattle.gl_query.specs.declared.tree.Name.{Name}
 use Rattle.gl_query.specs.declared.tree.Num.{Num}
 use Rattle.gl_query.specs.declared.tree.Slots.{Slots}
-use Rattle.gl_query.specs.Trees.{ExprTree, AggTree, ItemTree, AggItemTree, FrameAggTree, FrameTree, FrameItemTree, PickTree, QueryTree, StatementTree, Column, Number, Minus, Letters, Not, Cast, Binary, Count, Sum, Min, Max, Avg, Wsum, CountOver, SumOver, MinOver, MaxOver, AvgOver, LastOver, Own, Lag, Over, All, Items, Read, Rows, Total, Frames, Each, PerGroup, Partition, Union, ByArrival, Concat}
+use Rattle.gl_query.specs.Trees.{ExprTree, AggTree, ItemTree, AggItemTree, FrameAggTree, FrameTree, FrameItemTree, PickTree, QueryTree, StatementTree, Column, Number, Minus, Letters, Not, Cast, Binary, Count, Sum, Min, Max, Avg, Wsum, CountOver, SumOver, MinOver, MaxOver, AvgOver, LastOver, Own, Lag, Over, All, Items, Read, Rows, Total, Frames, Each, PerGroup, Partition, Union, ByArrival, AsOf, Concat}
 use Rattle.gl_query.specs.Shapes.{QueryShape}
 use Rattle.gl_query.specs.Alike.{expr_alike, query_alike}
-use Rattle.gl_query.specs.Values.{is_loose, kind_alone, kind_of, letters_fit, operand_place}
+use Rattle.gl_query.specs.Values.{column_kind, is_loose, kind_alone, kind_of, letters_fit, operand_place}
 use Rattle.gl_query.specs.Columns.{Pace, Once, Step, arrives, is_closing, pace_of}
 use Rattle.gl_query.specs.Accepted.{Scope, body_scope, can_measure, columns_under, most_slots, schema_scope}
 use Rattle.gl_query.specs.Windows.{copies_of}
@@ -237,7 +237,7 @@ frames_fault columns earlier items =
     named_fault (λ (i : FrameItemTree). i.name) (λ (i : FrameItemTree). frame_fault columns i.frame i.name) earlier
     items
 
--- PARTITION's key and GROUPS, where there is one
+-- the key and GROUPS of PARTITION or ASOF, where there is one
 abbrev pub slots_fault : List NamedColumn → Option Slots → Option QueryFault
 slots_fault columns None = None
 slots_fault columns (Some s) =
@@ -264,12 +264,25 @@ key_fault key columns =
     or_else (unless (not (list_any (bytes_eq key.text) (column_names columns))) (TwiceNamed key.at))
     (unless (nat_lt (length columns) most_columns) (OutOfRange key.at))
 
+-- the fault of columns that are put beside each other: a name twice, or too many columns
+abbrev pub names_fault : List NamedColumn → ℕ → Option QueryFault
+names_fault columns at =
+    or_else (unless (are_distinct (column_names columns)) (TwiceNamed at))
+    (unless (nat_le (length columns) most_columns) (OutOfRange at))
+
 -- the fault of two sides put beside each other: unequal paces, a name on both, or too many columns
 abbrev pub beside_fault : QueryShape → QueryShape → List NamedColumn → ℕ → Option QueryFault
 beside_fault l r columns at =
-    or_else (unless (same_pace (pace_of l) (pace_of r)) (PaceDiffers at))
-    (or_else (unless (are_distinct (column_names columns)) (TwiceNamed at))
-    (unless (nat_le (length columns) most_columns) (OutOfRange at)))
+    or_else (unless (same_pace (pace_of l) (pace_of r)) (PaceDiffers at)) (names_fault columns at)
+
+-- the fault of ASOF's key and of its columns: the key and GROUPS over the left side, the key over the right one, its
+-- kinds on both, and then another name on both, or too many columns
+abbrev pub join_fault : List NamedColumn → List NamedColumn → Slots → List NamedColumn → ℕ → Option QueryFault
+join_fault lefts rights slots columns at =
+    or_else (slots_fault lefts (Some slots))
+    (or_else (slots_fault rights (Some slots))
+    (or_else (unless (same_kind (column_kind lefts slots.key.text) (column_kind rights slots.key.text))
+    (KindsDiffer slots.key.at)) (names_fault columns at)))
 
 -- the first rule of acceptance that a query breaks in a scope, with its place; sources are judged before what stands
 -- over them
@@ -320,6 +333,11 @@ query_fault scope (ByArrival l r at) =
     (or_else (unless (arrives (query_alike l) && arrives (query_alike r)) (NoArrival at))
     (unless (same_kinds (kinds_of (columns_under scope (query_alike l)))
     (kinds_of (columns_under scope (query_alike r)))) (ColumnsDiffer at))))
+query_fault scope (AsOf l r slots at) =
+    or_else (query_fault scope l) (or_else (query_fault scope r)
+    (or_else (unless (arrives (query_alike l) && arrives (query_alike r)) (NoArrival at))
+    (join_fault (columns_under scope (query_alike l)) (columns_under scope (query_alike r)) slots
+    (columns_under scope (query_alike (AsOf l r slots at))) at)))
 query_fault scope (Concat l r at) =
     or_else (query_fault scope l)
     (or_else (query_fault scope r) (beside_fault (query_alike l) (query_alike r)

@@ -1,7 +1,10 @@
 -- Laws of the meaning of queries.
-use Rattle.std.specs.Prelude.{◌≡◌, ◌↔◌, ℕ, ◌≤◌, Bool, List, length, None, IsTrue}
+use Rattle.std.specs.Prelude.{◌≡◌, ◌↔◌, ℕ, ◌≤◌, Bool, List, length, filter_map, None, IsTrue}
 use Rattle.std.specs.List.{AllByRecursion}
-use Rattle.gl_query.specs.Shapes.{QueryShape}
+use Rattle.gl_arrival.specs.Places.{NeverFall, Placed}
+use Rattle.gl_arrival.specs.Places as arrival
+use Rattle.gl_asof.specs.AsOf.{JoinBy, both_sides, row_for}
+use Rattle.gl_query.specs.Shapes.{QueryShape, SlotsShape}
 use Rattle.gl_query.specs.Shapes as shape
 use Rattle.gl_values.specs.Kinds.{IsKind}
 use Rattle.gl_values.specs.Results.{Row, AreSame}
@@ -11,12 +14,12 @@ use Rattle.gl_query.specs.Trees.{StatementTree, statement_tree}
 use Rattle.gl_query.specs.Alike.{query_alike, statement_alike}
 use Rattle.gl_schema.specs.declared.schema.Column.{Column}
 use Rattle.gl_schema.specs.declared.schema.Schema.{Schema}
-use Rattle.gl_schema.specs.Beats.{Inputs}
+use Rattle.gl_schema.specs.Beats.{HavePlaces, Inputs}
 use Rattle.gl_schema.specs.Schemas.{IsRowOf, IsSchema}
 use Rattle.gl_query.specs.Columns.{arrives, columns_of, source_columns}
 use Rattle.gl_query.specs.Sizes.{HasItems}
 use Rattle.gl_query.specs.Faults.{first_fault}
-use Rattle.gl_query.specs.Results.{ArrivesIn, Env, IsResult, IsResultIn, IsWithoutPlaces, columns_in, rows_of, streams_of}
+use Rattle.gl_query.specs.Results.{Arrivals, ArrivesIn, Env, IsResult, IsResultIn, IsWithoutPlaces, columns_in, env_of, join_by, only, placed_rows_of, rows_of, streams_of}
 use Rattle.gl_query.specs.Accepted.{AreResultColumns, Scope, IsAcceptedOver, schema_scope}
 use Rattle.gl_query.specs.Windows.{HasNoTime}
 
@@ -31,6 +34,7 @@ HasNoUnion (shape.PerGroup var source key groups body) = HasNoUnion source × Ha
 HasNoUnion (shape.Partition var source key groups size advance body) = HasNoUnion source × HasNoUnion body
 HasNoUnion (shape.Union l r) = ⊥
 HasNoUnion (shape.ByArrival l r) = HasNoUnion l × HasNoUnion r
+HasNoUnion (shape.AsOf l r slots) = HasNoUnion l × HasNoUnion r
 HasNoUnion (shape.Concat l r) = HasNoUnion l × HasNoUnion r
 
 -- without such a UNION there is at most one result
@@ -43,6 +47,37 @@ HasOneResult =
 abbrev pub ArrivalsAreResults : Type 0
 ArrivalsAreResults = (q : QueryShape) → IsTrue (arrives q) → (env : Env) (out : List Row) (spill : Bool)
     → IsResultIn q env out spill ↔ IsWithoutPlaces (ArrivesIn q env) out spill
+
+-- no row of a source stands behind one at a later place
+abbrev pub PlacesNeverFall : Env → Type 0
+PlacesNeverFall env = (name : List ℕ) → NeverFall (placed_rows_of env name)
+
+-- that is so of the streams of a schema where each row has a place, in their order, and of the variable of a body
+pub record SourcesNeverFall : Type 0 where
+  pub of_streams : (schema : Schema) (inputs : Inputs) → HavePlaces inputs → PlacesNeverFall (env_of schema inputs)
+  pub of_bodies : (var : List ℕ) (columns : List Column) (rows : List Row) → PlacesNeverFall (only var columns rows)
+
+-- where it is so of the sources, no row of a result stands behind one at a later place
+abbrev pub ArrivalsNeverFall : Type 0
+ArrivalsNeverFall = (q : QueryShape) (env : Env) (out : List (Placed Row)) (spill : Bool)
+    → PlacesNeverFall env → ArrivesIn q env out spill → NeverFall out
+
+-- for each row of the left side, in their order, whose key is among the first ones that come on either side, that row
+-- beside the last row of the right side that has its key and came no later
+pub record IsRowForRow (by : JoinBy Row Row Row) (Left Right : Arrivals) (out : List (Placed Row)) : Type 0 where
+  pub left : List (Placed Row)
+  pub right : List (Placed Row)
+  pub left_spill : Bool
+  pub right_spill : Bool
+  pub of_left : Left left left_spill
+  pub of_right : Right right right_spill
+  pub rows : out ≡ filter_map (row_for by (arrival.rows_of (both_sides left right)) right) left
+
+-- where no row of a source stands behind one at a later place, each result of ASOF is such
+abbrev pub AsOfIsRowForRow : Type 0
+AsOfIsRowForRow = (l r : QueryShape) (slots : SlotsShape) (env : Env) (out : List (Placed Row)) (spill : Bool)
+    → PlacesNeverFall env → ArrivesIn (shape.AsOf l r slots) env out spill
+    → IsRowForRow (join_by (columns_in env l) (columns_in env r) slots) (ArrivesIn l env) (ArrivesIn r env) out
 
 -- a result of a query in an environment
 pub record HasResult (q : QueryShape) (env : Env) : Type 0 where

@@ -68,4 +68,5 @@ InQuery E N (shape.Partition var source key groups size advance body) =
     InQuery E N source × InQuery E N body × N var × N key
 InQuery E N (shape.Union l r) = InQuery E N l × InQuery E N r
 InQuery E N (shape.ByArrival l r) = InQuery E N l × InQuery E N r
+InQuery E N (shape.AsOf l r slots) = InQuery E N l × InQuery E N r × N slots.key
 InQuery E N (shape.Concat l r) = InQuery E N l × InQuery E N r

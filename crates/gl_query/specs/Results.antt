@@ -1,6 +1,6 @@
 -- The results of a query: a relation between the rows of its sources, the rows of a result, and whether rows of further
 -- keys were left out. After the operators of Mueller, Teubner and Alonso, Streams on Wires, PVLDB 2(1), 2009.
-use Rattle.std.specs.Prelude.{ℕ, ◌+◌, Bool, true, false, List, [], ◌∷◌, length, map, filter, find, Option, Some, None, unwrap_or, option_map, bytes_eq, nat_eq, slice_index}
+use Rattle.std.specs.Prelude.{ℕ, ◌+◌, Bool, true, false, List, [], ◌∷◌, ◌++◌, length, remove, map, filter, find, Option, Some, None, unwrap_or, option_map, bytes_eq, nat_eq, slice_index}
 use Rattle.std.specs.List.{range_with_len}
 use Rattle.gl_values.specs.declared.kind.Kind.TheVariants.{Unsigned}
 use Rattle.gl_values.specs.Kinds.{width_of}
@@ -12,6 +12,8 @@ use Rattle.gl_values.specs.Results.{Row, Results, IsInput, IsChanged, IsOfBoth, 
 use Rattle.gl_arrival.specs.Places.{Placed, at_places}
 use Rattle.gl_arrival.specs.Changes.{framed_at, framed_by_key_at, kept_at, mapped_at}
 pub use Rattle.gl_arrival.specs.Results.{Arrivals, IsArrival, IsByArrival, IsChangedInPlace, IsPartedInPlace, IsWithoutPlaces}
+use Rattle.gl_asof.specs.AsOf.{JoinBy}
+pub use Rattle.gl_asof.specs.Results.{IsAsOf}
 use Rattle.gl_values.specs.Totals.{average_of, count_of, greatest_of, least_of, sum_total, weighted_sum}
 use Rattle.gl_schema.specs.declared.schema.Column.{Column}
 use Rattle.gl_schema.specs.declared.schema.Stream.{Stream}
@@ -21,7 +23,7 @@ use Rattle.gl_query.specs.declared.tree.Statement.{Statement}
 use Rattle.gl_query.specs.Shapes.{ExprShape, AggShape, ItemShape, AggItemShape, FrameAggShape, FrameShape, FrameItemShape, PickShape, QueryShape, SlotsShape, query_shape}
 use Rattle.gl_query.specs.Shapes as shape
 use Rattle.gl_query.specs.Values.{column_number, kind_alone, kind_of, value_of}
-use Rattle.gl_query.specs.Columns.{columns_of}
+use Rattle.gl_query.specs.Columns.{but_key, columns_of}
 use Rattle.gl_query.specs.Windows.{parts_of}
 
 -- ---- one step on rows
@@ -105,6 +107,22 @@ IsFramedInPlace columns items filter (Some s) source =
     (λ xs. framed_by_key_at s.groups key_of (frame_row columns items) (kept_at (keeps columns filter) xs))
     (λ rows. has_further s.groups key_of (kept columns filter rows))
 
+-- ---- joins
+
+-- a row of the left side, and the last one of the right side without its key; zeros where there is none
+abbrev pub beside_last : List Column → List ℕ → Row → Option Row → Row
+beside_last rights key row None = row ++ map (λ (c : Column). 0) (but_key key rights)
+beside_last rights key row (Some last) = row ++ remove last (column_number rights key)
+
+-- how ASOF joins rows of these columns: by the key's column of each side, for the first keys that come on either
+abbrev pub join_by : List Column → List Column → SlotsShape → JoinBy Row Row Row
+join_by lefts rights slots = record {
+  groups = slots.groups;
+  left_key = λ row. slice_index row (column_number lefts slots.key);
+  right_key = λ row. slice_index row (column_number rights slots.key);
+  join = beside_last rights slots.key;
+}
+
 -- ---- what a query sees
 
 -- a source that a query may read, and its rows with their places; a stream's have times, and there are so many ticks
@@ -184,7 +202,7 @@ abbrev pub NoArrivals : Arrivals
 NoArrivals out spill = ⊥
 
 -- the results of a query each of whose rows comes of one row that came, with the places of those rows; another query
--- has none
+-- has none. The right side of a union by arrival comes behind the left one's rows of its place, and that of ASOF before
 abbrev pub ArrivesIn : QueryShape → Env → Arrivals
 ArrivesIn (shape.Read name) env = IsArrival (placed_rows_of env name)
 ArrivesIn (shape.Rows pick filter source) env =
@@ -199,6 +217,8 @@ ArrivesIn (shape.PerGroup var source key n body) env = NoArrivals
 ArrivesIn (shape.Partition var source key n size advance body) env = NoArrivals
 ArrivesIn (shape.Union l r) env = NoArrivals
 ArrivesIn (shape.ByArrival l r) env = IsByArrival (ArrivesIn l env) (ArrivesIn r env)
+ArrivesIn (shape.AsOf l r slots) env =
+    IsAsOf (join_by (columns_in env l) (columns_in env r) slots) (ArrivesIn l env) (ArrivesIn r env)
 ArrivesIn (shape.Concat l r) env = NoArrivals
 
 -- the results of a query in an environment
@@ -228,6 +248,8 @@ IsResultIn (shape.Partition var source key n size advance body) env =
     (IsOfGroup (λ rows. IsResultIn body (only var columns rows))) (has_further n key_of)
 IsResultIn (shape.Union l r) env = IsOfBoth (IsResultIn l env) (IsResultIn r env) IsInterleaving
 IsResultIn (shape.ByArrival l r) env = IsWithoutPlaces (IsByArrival (ArrivesIn l env) (ArrivesIn r env))
+IsResultIn (shape.AsOf l r slots) env =
+    IsWithoutPlaces (IsAsOf (join_by (columns_in env l) (columns_in env r) slots) (ArrivesIn l env) (ArrivesIn r env))
 IsResultIn (shape.Concat l r) env = IsOfBoth (IsResultIn l env) (IsResultIn r env) AreBeside
 
 -- what a statement means over a schema and its inputs

@@ -72,7 +72,7 @@ pub record FrameItemShape : Type 0 where
   pub frame : FrameShape
   pub name : List ℕ
 
--- PARTITION: the key by which rows are parted, and of how many keys they are kept
+-- PARTITION, or BY of ASOF: the key by which rows are parted, and of how many keys they are kept
 pub record SlotsShape : Type 0 where
   pub key : List ℕ
   pub groups : ℕ
@@ -82,7 +82,7 @@ pub data PickShape : Type 0 where
   All : PickShape
   Items : (items : List ItemShape) → PickShape
 
--- a query in its ten forms
+-- a query in its eleven forms
 pub data QueryShape : Type 0 where
   Read : (name : List ℕ) → QueryShape
   Rows : (pick : PickShape) (filter : Option ExprShape) (source : QueryShape) → QueryShape
@@ -95,6 +95,7 @@ pub data QueryShape : Type 0 where
       → QueryShape
   Union : (l r : QueryShape) → QueryShape
   ByArrival : (l r : QueryShape) → QueryShape
+  AsOf : (l r : QueryShape) (slots : SlotsShape) → QueryShape
   Concat : (l r : QueryShape) → QueryShape
 
 -- a statement: a query and the name of its result
@@ -179,6 +180,7 @@ query_shape (query.Partition' var p source key groups size advance q body at) =
     Partition var.text (query_shape source) key.text groups.value size.value advance.value (query_shape body)
 query_shape (query.Union' p l q r at) = Union (query_shape l) (query_shape r)
 query_shape (query.ByArrival' p l q r at) = ByArrival (query_shape l) (query_shape r)
+query_shape (query.AsOf' p l q r slots at) = AsOf (query_shape l) (query_shape r) (slots_shape slots)
 query_shape (query.Concat' p l q r at) = Concat (query_shape l) (query_shape r)
 
 -- the shape of a statement that code holds

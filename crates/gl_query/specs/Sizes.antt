@@ -49,4 +49,5 @@ HasItems (shape.PerGroup var source key groups body) = HasItems source × HasIte
 HasItems (shape.Partition var source key groups size advance body) = HasItems source × HasItems body
 HasItems (shape.Union l r) = HasItems l × HasItems r
 HasItems (shape.ByArrival l r) = HasItems l × HasItems r
+HasItems (shape.AsOf l r slots) = HasItems l × HasItems r
 HasItems (shape.Concat l r) = HasItems l × HasItems r

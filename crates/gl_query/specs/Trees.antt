@@ -78,7 +78,7 @@ pub data PickTree : Type 0 where
   All : PickTree
   Items : (items : List ItemTree) → PickTree
 
--- a query in its ten forms, with the places of its names, its numbers and its keywords
+-- a query in its eleven forms, with the places of its names, its numbers and its keywords
 pub data QueryTree : Type 0 where
   Read : (name : Name) → QueryTree
   Rows : (pick : PickTree) (filter : Option ExprTree) (source : QueryTree) → QueryTree
@@ -90,6 +90,7 @@ pub data QueryTree : Type 0 where
       → QueryTree
   Union : (l r : QueryTree) (at : ℕ) → QueryTree
   ByArrival : (l r : QueryTree) (at : ℕ) → QueryTree
+  AsOf : (l r : QueryTree) (slots : Slots) (at : ℕ) → QueryTree
   Concat : (l r : QueryTree) (at : ℕ) → QueryTree
 
 -- a statement with its places: a query and the name of its result
@@ -169,6 +170,7 @@ query_tree (query.Partition' var p source key groups size advance q body at) =
     Partition var (query_tree source) key groups size advance (query_tree body) at
 query_tree (query.Union' p l q r at) = Union (query_tree l) (query_tree r) at
 query_tree (query.ByArrival' p l q r at) = ByArrival (query_tree l) (query_tree r) at
+query_tree (query.AsOf' p l q r slots at) = AsOf (query_tree l) (query_tree r) slots at
 query_tree (query.Concat' p l q r at) = Concat (query_tree l) (query_tree r) at
 
 -- the tree of a statement that code holds

@@ -37,6 +37,7 @@ has_time (shape.PerGroup var source key groups body) = has_time source || has_ti
 has_time (shape.Partition var source key groups size advance body) = has_time source || has_time body
 has_time (shape.Union l r) = has_time l || has_time r
 has_time (shape.ByArrival l r) = has_time l || has_time r
+has_time (shape.AsOf l r slots) = has_time l || has_time r
 has_time (shape.Concat l r) = has_time l || has_time r
 
 -- no window of time stands in a query

@@ -4,10 +4,10 @@ ghost use Rattle.std.specs.Prelude.{◌≡◌, ◌∷◌, ◌++◌, IfOk, map};
 ghost use Rattle.gl_schema.specs.Schemas.{column_names, kinds_of};
 ghost use Rattle.gl_query.specs.Shapes.{agg_item_shape, agg_shape, frame_agg_shape, frame_item_shape, frame_shape, item_shape, pick_shape, query_shape};
 ghost use Rattle.gl_query.specs.Values.{column_kind};
-ghost use Rattle.gl_query.specs.Columns.{agg_column, agg_kind, columns_of, frame_agg_kind, frame_column, frame_kind, item_column, picked_columns, source_columns, variable};
+ghost use Rattle.gl_query.specs.Columns.{agg_column, agg_kind, but_key, columns_of, frame_agg_kind, frame_column, frame_kind, item_column, picked_columns, source_columns, variable};
 ghost use Rattle.gl_query.specs.Sources.{scope_of};
 
-use crate::kinds::{column_kind, kind_alone, kind_of};
+use crate::kinds::{column_kind, column_number, kind_alone, kind_of};
 use crate::tree::{Agg, AggItem, Frame, FrameAgg, FrameItem, Item, Pick, Query};
 use gl_bits::{Listed, Memory};
 use gl_schema::{Column, Columns, NameText, Stream};
@@ -186,7 +186,8 @@ pub fn frame_columns(
     columns: &[Column],
     items: &[FrameItem],
 ) -> Result<Columns, Memory>
-    ensures { IfOk result (λ v. v ≡ map (frame_column columns.now) (map frame_item_shape items.now)) }
+    ensures { let shapes = map frame_item_shape items.now in
+        IfOk result (λ v. v ≡ map (frame_column columns.now) shapes) }
 {
     let mut out = Listed::new(alloc);
     for item in items {
@@ -207,6 +208,19 @@ pub fn joined_columns(first: Columns, second: Columns) -> Result<Columns, Memory
         Ok(()) => Ok(Listed::from_vec(out)),
         Err(_) => Err(Memory),
     }
+}
+
+/// Columns without that of a key.
+#[tactic(auto, using(crate::proofs::Without::nothing_there))]
+pub fn but_key(columns: Columns, key: &[u8]) -> Columns
+    ensures { result ≡ but_key key.now columns }
+{
+    let number = column_number(columns.as_slice(), key);
+    let mut out = columns.into_vec();
+    if number < out.len() {
+        let _ = out.remove(number);
+    }
+    Listed::from_vec(out)
 }
 
 /// The key's column, then the columns of the body of each group.
@@ -284,6 +298,16 @@ pub fn columns_of(alloc: Global, sources: Sources<'_>, query: &Query) -> Result<
         }
         Query::Union { left, .. } | Query::ByArrival { left, .. } => {
             columns_of(alloc, sources, left)
+        }
+        Query::AsOf {
+            left,
+            right,
+            slots,
+            ..
+        } => {
+            let first = columns_of(alloc, sources, left)?;
+            let second = columns_of(alloc, sources, right)?;
+            joined_columns(first, but_key(second, slots.key.text.as_slice()))
         }
         Query::Concat { left, right, .. } => {
             let first = columns_of(alloc, sources, left)?;

@@ -51,7 +51,7 @@ pub enum QueryFault {
     /// A window of time over what is no stream of the schema.
     #[error("no time at byte {at}")]
     NoTime { at: u64 },
-    /// A side of UNION BY ARRIVAL that has a row which does not come of one row that came.
+    /// A side of UNION BY ARRIVAL or of ASOF that has a row which does not come of one row that came.
     #[error("no arrival at byte {at}")]
     NoArrival { at: u64 },
     /// Memory ran out.

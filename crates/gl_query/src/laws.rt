@@ -1,6 +1,6 @@
 //! Laws of the meaning of queries. The contract of each function is the law; it does nothing.
 
-ghost use Rattle.gl_query.specs.Laws.{AcceptedHaveRealColumns, AcceptedHaveResults, ArrivalsAreResults, FirstFaultsAreExact, HasOneResult, ResultsAreLong, ResultsFit, ResultsGoByRows, TreesAreAlike};
+ghost use Rattle.gl_query.specs.Laws.{AcceptedHaveRealColumns, AcceptedHaveResults, ArrivalsAreResults, ArrivalsNeverFall, AsOfIsRowForRow, FirstFaultsAreExact, HasOneResult, ResultsAreLong, ResultsFit, ResultsGoByRows, SourcesNeverFall, TreesAreAlike};
 
 /// A query without UNION, or with BY ARRIVAL behind each, has at most one result over given rows: its
 /// rows and its spill.
@@ -11,6 +11,19 @@ pub fn results_are_unique()
 /// Where each row of a query comes of one row that came, its results are those with places.
 pub fn arrivals_are_results()
     ensures { ArrivalsAreResults }
+{}
+
+/// No row of a stream stands behind one at a later place, and none of a body's variable; so none of a
+/// result with places does.
+pub fn arrivals_never_fall()
+    ensures sources { SourcesNeverFall }
+    ensures results { ArrivalsNeverFall }
+{}
+
+/// So a result of ASOF has a row for each row of its left side whose key is among the first ones that
+/// come. It is beside the last row of the right side that has its key and came no later.
+pub fn as_of_is_row_for_row()
+    ensures { AsOfIsRowForRow }
 {}
 
 /// An accepted query has a result over any rows; so one without UNION has exactly one.

@@ -174,7 +174,8 @@ pub struct FrameItem {
 /// How many keys PARTITION may keep at most: GROUPS.
 pub const MOST_SLOTS: u128 = 4_096;
 
-/// PARTITION: the frames of a row are over the rows of its key alone.
+/// A key, and of how many keys rows are kept: PARTITION, where the frames of a row are over the rows of
+/// its key alone, and BY of ASOF.
 #[derive(Drop, Debug)]
 pub struct Slots {
     /// The column of the source that is the key.
@@ -313,6 +314,18 @@ pub enum Query {
         /// The query on the right.
         right: Box<Query>,
         /// The place of UNION.
+        at: u64,
+    },
+    /// Each row of the left side beside the last row of the right one that has its key and came no
+    /// later.
+    AsOf {
+        /// The query on the left.
+        left: Box<Query>,
+        /// The query on the right.
+        right: Box<Query>,
+        /// The column of both sides that is the key, and of how many keys rows are kept.
+        slots: Slots,
+        /// The place of ASOF.
         at: u64,
     },
     /// The rows of both sides side by side.

@@ -3,3 +3,4 @@ pub mod Passing
 pub mod Listing
 pub mod Accepting
 pub mod Judging
+pub mod Joining

@@ -1,6 +1,6 @@
 //! Faults of frames.
 
-ghost use Rattle.std.specs.Prelude.{◌≡◌, ◌≤◌, ◌&&◌, bytes_eq, drop, length, map, nat_le, nat_lt, take};
+ghost use Rattle.std.specs.Prelude.{◌≡◌, ◌≤◌, ◌&&◌, Some, bytes_eq, drop, length, map, nat_le, nat_lt, take};
 ghost use Rattle.std.specs.List.{list_any};
 ghost use Rattle.gl_bits.specs.Limits.{most_rows};
 ghost use Rattle.gl_query.specs.Faults as faults;
@@ -83,21 +83,26 @@ fn frame_fault(columns: &[Column], frame: &Frame, name: &Name) -> Option<QueryFa
     }
 }
 
+/// The first fault of a key and of how many keys there are.
+pub fn parts_fault(columns: &[Column], slots: &Slots) -> Option<QueryFault>
+    ensures { result ≡ faults.slots_fault columns.now (Some slots.now) }
+{
+    let at = slots.groups.at;
+    let known = has_column(columns, slots.key.text.as_slice());
+    let within = is_within(slots.groups.value, MOST_SLOTS);
+    or_else(
+        unless(known, QueryFault::UnknownColumn { at: slots.key.at }),
+        unless(within, QueryFault::OutOfRange { at }),
+    )
+}
+
 /// The first fault of PARTITION, where there is one.
 pub fn slots_fault(columns: &[Column], slots: &Option<Slots>) -> Option<QueryFault>
     ensures { result ≡ faults.slots_fault columns.now slots.now }
 {
     match slots {
         None => None,
-        Some(slots) => {
-            let at = slots.groups.at;
-            let known = has_column(columns, slots.key.text.as_slice());
-            let within = is_within(slots.groups.value, MOST_SLOTS);
-            or_else(
-                unless(known, QueryFault::UnknownColumn { at: slots.key.at }),
-                unless(within, QueryFault::OutOfRange { at }),
-            )
-        }
+        Some(slots) => parts_fault(columns, slots),
     }
 }
 

@@ -6,6 +6,7 @@ pub mod checking;
 mod expressions;
 mod frames;
 mod items;
+mod joins;
 mod paces;
 mod queries;
 mod rules;

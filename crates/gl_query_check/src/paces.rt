@@ -46,7 +46,8 @@ pub fn pace_of(query: &Query) -> Option<Pace<'_>>
         | Query::PerGroup { .. }
         | Query::Partition { .. }
         | Query::Union { .. }
-        | Query::ByArrival { .. } => None,
+        | Query::ByArrival { .. }
+        | Query::AsOf { .. } => None,
         Query::Concat { left, .. } => pace_of(left),
     }
 }
@@ -76,7 +77,7 @@ fn arrives(query: &Query) -> bool
         | Query::PerGroup { .. }
         | Query::Partition { .. }
         | Query::Union { .. } => false,
-        Query::ByArrival { .. } => true,
+        Query::ByArrival { .. } | Query::AsOf { .. } => true,
         Query::Concat { .. } => false,
     }
 }

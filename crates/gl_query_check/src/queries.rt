@@ -17,9 +17,10 @@ ghost use Rattle.gl_query_check.specs.Answers.{Answers};
 use crate::expressions::filter_fault;
 use crate::frames::{frames_fault, slots_fault};
 use crate::items::{aggs_fault, pick_fault};
-use crate::paces::{both_arrive, pace_of, same_pace};
+use crate::joins::{beside_fault, join_checked};
+use crate::paces::both_arrive;
 use crate::rules::{
-    are_distinct, has_column, has_source, is_among, is_within, or_else, refuse, same_kinds, unless,
+    has_column, has_source, is_among, is_within, or_else, refuse, same_kinds, unless,
 };
 use gl_bits::Memory;
 use gl_bits::limits::{MOST_COLUMNS, MOST_COPIES, MOST_GROUPS, MOST_ROWS, MOST_WINDOWS};
@@ -48,7 +49,7 @@ fn is_closing(query: &Query) -> bool
         Query::PerGroup { .. } => true,
         Query::Partition { source, .. } => is_closing(source),
         Query::Union { left, right, .. } => is_closing(left) && is_closing(right),
-        Query::ByArrival { .. } => false,
+        Query::ByArrival { .. } | Query::AsOf { .. } => false,
         Query::Concat { left, right, .. } => is_closing(left) && is_closing(right),
     }
 }
@@ -73,6 +74,7 @@ fn has_times(sources: Sources<'_>, query: &Query) -> bool
         | Query::Partition { .. }
         | Query::Union { .. }
         | Query::ByArrival { .. }
+        | Query::AsOf { .. }
         | Query::Concat { .. } => false,
     }
 }
@@ -128,22 +130,6 @@ fn windows_fault(groups: Num, size: Num, advance: Num) -> Option<QueryFault>
     unless(
         groups.value * open <= MOST_WINDOWS,
         QueryFault::OutOfRange { at: groups.at },
-    )
-}
-
-// The first fault of two queries side by side, of their columns together.
-fn beside_fault(left: &Query, right: &Query, columns: &[Column], at: u64) -> Option<QueryFault>
-    ensures { let l = query_alike (query_tree left.now) in
-        let r = query_alike (query_tree right.now) in
-        result ≡ faults.beside_fault l r columns.now at }
-{
-    let paced = same_pace(pace_of(left), pace_of(right));
-    or_else(
-        unless(paced, QueryFault::PaceDiffers { at }),
-        or_else(
-            unless(are_distinct(columns), QueryFault::TwiceNamed { at }),
-            unless(columns.len() <= MOST_COLUMNS, QueryFault::OutOfRange { at }),
-        ),
     )
 }
 
@@ -365,6 +351,16 @@ pub fn columns_checked(
             let same = same_kinds(first.as_slice(), second.as_slice());
             refuse(unless(same, QueryFault::ColumnsDiffer { at: *at }))?;
             Ok(first)
+        }
+        Query::AsOf {
+            left,
+            right,
+            slots,
+            at,
+        } => {
+            let first = columns_checked(alloc, sources, left)?;
+            let second = columns_checked(alloc, sources, right)?;
+            join_checked(left, right, first, second, slots, *at)
         }
         Query::Concat { left, right, at } => {
             let first = columns_checked(alloc, sources, left)?;

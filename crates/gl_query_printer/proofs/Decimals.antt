@@ -124,7 +124,7 @@ not_both true b c d = refl
 not_both false b c d = refl
 
 no_frame_word : (c : ℕ) (cs : List ℕ) (at : ℕ) → IsInRange 48 57 c → IsNone' (frame_word_of (c ∷ cs) at)
-no_frame_word c cs at r = passes (is_keyword (c ∷ cs) (codes "over")) (token.Word word.Over at) _ (no_keyword c cs 111 (codes "ver") r refl (lit≤ tt)) (passes (is_keyword (c ∷ cs) (codes "filter")) (token.Word word.Filter at) _ (no_keyword c cs 102 (codes "ilter") r refl (lit≤ tt)) (passes (is_keyword (c ∷ cs) (codes "partition")) (token.Word word.Partition at) _ (no_keyword c cs 112 (codes "artition") r refl (lit≤ tt)) (passes (is_keyword (c ∷ cs) (codes "rows")) (token.Word word.Rows at) _ (no_keyword c cs 114 (codes "ows") r refl (lit≤ tt)) (passes (is_keyword (c ∷ cs) (codes "preceding")) (token.Word word.Preceding at) _ (no_keyword c cs 112 (codes "receding") r refl (lit≤ tt)) (passes (is_keyword (c ∷ cs) (codes "unbounded")) (token.Word word.Unbounded at) _ (no_keyword c cs 117 (codes "nbounded") r refl (lit≤ tt)) (passes (is_keyword (c ∷ cs) (codes "between")) (token.Word word.Between at) _ (no_keyword c cs 98 (codes "etween") r refl (lit≤ tt)) (passes (is_keyword (c ∷ cs) (codes "current")) (token.Word word.Current at) _ (no_keyword c cs 99 (codes "urrent") r refl (lit≤ tt)) (passes (is_keyword (c ∷ cs) (codes "row")) (token.Word word.Row at) _ (no_keyword c cs 114 (codes "ow") r refl (lit≤ tt)) (passes (is_keyword (c ∷ cs) (codes "lag")) (token.Word word.Lag at) _ (no_keyword c cs 108 (codes "ag") r refl (lit≤ tt)) (passes (is_keyword (c ∷ cs) (codes "last_value")) (token.Word word.LastValue at) _ (no_keyword c cs 108 (codes "ast_value") r refl (lit≤ tt)) (passes (is_keyword (c ∷ cs) (codes "arrival")) (token.Word word.Arrival at) _ (no_keyword c cs 97 (codes "rrival") r refl (lit≤ tt)) none)))))))))))
+no_frame_word c cs at r = passes (is_keyword (c ∷ cs) (codes "over")) (token.Word word.Over at) _ (no_keyword c cs 111 (codes "ver") r refl (lit≤ tt)) (passes (is_keyword (c ∷ cs) (codes "filter")) (token.Word word.Filter at) _ (no_keyword c cs 102 (codes "ilter") r refl (lit≤ tt)) (passes (is_keyword (c ∷ cs) (codes "partition")) (token.Word word.Partition at) _ (no_keyword c cs 112 (codes "artition") r refl (lit≤ tt)) (passes (is_keyword (c ∷ cs) (codes "rows")) (token.Word word.Rows at) _ (no_keyword c cs 114 (codes "ows") r refl (lit≤ tt)) (passes (is_keyword (c ∷ cs) (codes "preceding")) (token.Word word.Preceding at) _ (no_keyword c cs 112 (codes "receding") r refl (lit≤ tt)) (passes (is_keyword (c ∷ cs) (codes "unbounded")) (token.Word word.Unbounded at) _ (no_keyword c cs 117 (codes "nbounded") r refl (lit≤ tt)) (passes (is_keyword (c ∷ cs) (codes "between")) (token.Word word.Between at) _ (no_keyword c cs 98 (codes "etween") r refl (lit≤ tt)) (passes (is_keyword (c ∷ cs) (codes "current")) (token.Word word.Current at) _ (no_keyword c cs 99 (codes "urrent") r refl (lit≤ tt)) (passes (is_keyword (c ∷ cs) (codes "row")) (token.Word word.Row at) _ (no_keyword c cs 114 (codes "ow") r refl (lit≤ tt)) (passes (is_keyword (c ∷ cs) (codes "lag")) (token.Word word.Lag at) _ (no_keyword c cs 108 (codes "ag") r refl (lit≤ tt)) (passes (is_keyword (c ∷ cs) (codes "last_value")) (token.Word word.LastValue at) _ (no_keyword c cs 108 (codes "ast_value") r refl (lit≤ tt)) (passes (is_keyword (c ∷ cs) (codes "arrival")) (token.Word word.Arrival at) _ (no_keyword c cs 97 (codes "rrival") r refl (lit≤ tt)) (passes (is_keyword (c ∷ cs) (codes "asof")) (token.Word word.AsOf at) _ (no_keyword c cs 97 (codes "sof") r refl (lit≤ tt)) none))))))))))))
 
 no_name : (c : ℕ) (cs : List ℕ) → IsInRange 48 57 c → is_name (c ∷ cs) ≡ false
 unfolding is_name begins_with_letter

@@ -12,6 +12,7 @@ pub mod ReadBack
 pub mod ReadBackWindows
 pub mod ReadBackFrames
 pub mod ReadBackSelects
+pub mod ReadBackSides
 pub mod ReadBackQueries
 pub mod ReadBackStatement
 pub mod RoundTrip

@@ -1,5 +1,5 @@
 -- A canonical text is read back: queries.
-use Rattle.std.proofs.Common.{◌≡◌, ℕ, Bool, true, false, List, [], ◌∷◌, ◌++◌, map, Option, Some, None, option_map, refl, sym, ap, ◌∙◌}
+use Rattle.std.proofs.Common.{◌≡◌, ℕ, true, List, [], ◌∷◌, ◌++◌, map, Option, Some, None, option_map, refl, sym, ap, ◌∙◌}
 use Rattle.std.proofs.lemmas.Bool.{true≢false}
 use Rattle.gl_query.specs.declared.tree.Measure.{Measure}
 use Rattle.gl_query.specs.declared.tree.Measure.TheVariants.{Tuples}
@@ -14,101 +14,19 @@ use Rattle.gl_query_tokens.specs.declared.token.Plain.TheVariants as plain
 use Rattle.gl_query_tokens.specs.declared.token.Token.{Token}
 use Rattle.gl_query_tokens.specs.declared.token.Token.TheVariants as token
 use Rattle.gl_query_reader.specs.Written as written
-use Rattle.gl_query_reader.specs.Written.{IsQuery, IsSource, IsTerm, spell_items, spell_pick, spell_window, spell_row_window, spell_filter, spell_grouping, spell_join, spell_query}
+use Rattle.gl_query_reader.specs.Written.{IsQuery, IsSource, spell_items, spell_pick, spell_window, spell_row_window, spell_filter, spell_grouping, spell_join, spell_query}
 use Rattle.gl_query.specs.Trees as meant
 use Rattle.gl_query_reader.specs.Meaning.{expr_meaning, by_pick, query_meaning, join_meaning}
-use Rattle.gl_query_reader.specs.Mixed.{mixed_pick, mixed_in, least}
+use Rattle.gl_query_reader.specs.Mixed.{mixed_pick, mixed_in}
 use Rattle.gl_query.specs.Alike.{expr_alike, query_alike}
-use Rattle.gl_query_printer.specs.Brackets.{is_stream, is_term}
-use Rattle.gl_query_printer.specs.Canonical.{name_of, expr_of, agg_item_of, frame_item_of, partition_of, pick_of, bracketed_unless, source_of, term_of, window_of, grouping_of, query_of}
+use Rattle.gl_query_printer.specs.Brackets.{is_side, is_stream, is_term}
+use Rattle.gl_query_printer.specs.Canonical.{name_of, expr_of, agg_item_of, frame_item_of, partition_of, pick_of, side_of, source_of, term_of, window_of, grouping_of, query_of}
 use Rattle.gl_query_printer.proofs.Places.{placeless, parts, first, alone, nothing}
 use Rattle.gl_query_printer.proofs.Writable.{CanBeSource, IsNoStream}
 use Rattle.gl_query_printer.proofs.ReadBackWindows.{read_window, read_row_window, read_grouping}
 use Rattle.gl_query_printer.proofs.ReadBack.{cons, two}
 use Rattle.gl_query_printer.proofs.ReadBackSelects.{read_pick, read_aggs, read_frames, read_filter}
-
--- ---- queries
-
-pub record ReadQuery (us : List Token) (q : QueryShape) : Type 0 where
-  pub tree : written.Query
-  pub spelled : spell_query tree ≡ us
-  pub grammar : IsNoStream q → IsQuery tree
-  pub bare : is_stream (query_of q) ≡ true → IsSource tree
-  pub term : IsNoStream q → is_term (query_of q) ≡ true → IsTerm tree
-  pub mixed : mixed_in tree ≡ None
-  pub alike : query_alike (query_meaning tree) ≡ q
-
-pub record ReadSource (us : List Token) (q : QueryShape) : Type 0 where
-  pub tree : written.Query
-  pub spelled : spell_query tree ≡ us
-  pub grammar : IsSource tree
-  pub mixed : mixed_in tree ≡ None
-  pub alike : query_alike (query_meaning tree) ≡ q
-
-pub record ReadTerm (us : List Token) (q : QueryShape) : Type 0 where
-  pub tree : written.Query
-  pub spelled : spell_query tree ≡ us
-  pub grammar : IsTerm tree
-  pub mixed : mixed_in tree ≡ None
-  pub alike : query_alike (query_meaning tree) ≡ q
-
--- how a query is read
-abbrev Reads : QueryShape → Type 0
-Reads q = (us : List Token) → map placeless us ≡ spell_query (query_of q) → ReadQuery us q
-
-no_stream : (q : QueryShape) → is_stream (query_of q) ≡ false → IsNoStream q
-no_stream (shape.Read name) h = absurd (true≢false h)
-no_stream (shape.Rows pick filter source) h = tt
-no_stream (shape.Total aggs source) h = tt
-no_stream (shape.Frames items filter slots source) h = tt
-no_stream (shape.Each measure var source size advance body) h = tt
-no_stream (shape.PerGroup var source key groups body) h = tt
-no_stream (shape.Partition var source key groups size advance body) h = tt
-no_stream (shape.Union l r) h = tt
-no_stream (shape.ByArrival l r) h = tt
-no_stream (shape.Concat l r) h = tt
-
-pub record InBrackets' (us : List Token) (q : QueryShape) : Type 0 where
-  pub at : ℕ
-  pub inner : written.Query
-  pub spelled : spell_query (written.InBrackets at inner) ≡ us
-  pub grammar : IsNoStream q → IsQuery inner
-  pub mixed : mixed_in inner ≡ None
-  pub alike : query_alike (query_meaning inner) ≡ q
-
-in_brackets : (q : QueryShape) → Reads q → (us : List Token) → map placeless us ≡ token.Open 0 ∷ (spell_query (query_of q) ++ token.Plain plain.Close ∷ []) → InBrackets' us q
-in_brackets q r us h =
-    let a = first us (token.Open 0) (spell_query (query_of q) ++ token.Plain plain.Close ∷ []) h in
-    let p = parts a.rest (spell_query (query_of q)) (token.Plain plain.Close ∷ []) a.rest_is in
-    let k = alone p.back (token.Plain plain.Close) p.back_is in
-    let x = r p.front p.front_is in
-    record {
-      at = a.at;
-      inner = x.tree;
-      spelled = cons (token.Open a.at) us a.rest _ a.whole (two a.rest p.front p.back (spell_query x.tree) _ p.whole x.spelled (sym k.whole));
-      grammar = x.grammar;
-      mixed = x.mixed;
-      alike = x.alike;
-    }
-
-read_source : (b : Bool) (q : QueryShape) → is_stream (query_of q) ≡ b → Reads q → (us : List Token) → map placeless us ≡ spell_query (bracketed_unless b (query_of q)) → ReadSource us q
-read_source true q e r us h = let x = r us h in record { tree = x.tree; spelled = x.spelled; grammar = x.bare e; mixed = x.mixed; alike = x.alike }
-read_source false q e r us h =
-    let x = in_brackets q r us h in
-    record { tree = written.InBrackets x.at x.inner; spelled = x.spelled; grammar = x.grammar (no_stream q e); mixed = x.mixed; alike = x.alike }
-
-read_term : (b : Bool) (q : QueryShape) → is_term (query_of q) ≡ b → IsNoStream q → Reads q → (us : List Token) → map placeless us ≡ spell_query (bracketed_unless b (query_of q)) → ReadTerm us q
-read_term true q e n r us h = let x = r us h in record { tree = x.tree; spelled = x.spelled; grammar = x.term n e; mixed = x.mixed; alike = x.alike }
-read_term false q e n r us h =
-    let x = in_brackets q r us h in
-    record { tree = written.InBrackets x.at x.inner; spelled = x.spelled; grammar = x.grammar n; mixed = x.mixed; alike = x.alike }
-
-some_none : (n : ℕ) → None ≡ Some n → ⊥
-some_none n h = absurd (cc)
-
-none_mixed : (a b : Option ℕ) → a ≡ None → b ≡ None → least a b ≡ None
-none_mixed None b e f = f
-none_mixed (Some a) b e f = absurd (some_none a (sym e))
+use Rattle.gl_query_printer.proofs.ReadBackSides.{Reads, in_brackets, read_source, read_side, read_term, none_mixed}
 
 -- what stands between two queries, which it makes one of
 record ReadJoining (us : List Token) (make : QueryShape → QueryShape → QueryShape) : Type 0 where
@@ -207,6 +125,10 @@ alike_groups var k key a n x y source body e f g h = rw (e, f, g, h) refl
 alike_partition : (var k key : List ℕ) (a n b s d m : ℕ) (x y source body : QueryShape) → x ≡ source → k ≡ key → a ≡ n → b ≡ s → d ≡ m → y ≡ body
     → shape.Partition var x k a b d y ≡ shape.Partition var source key n s m body
 alike_partition var k key a n b s d m x y source body e f g h i j = rw (e, f, g, h, i, j) refl
+
+alike_joins : (x y l r : QueryShape) (k key : List ℕ) (a n : ℕ) → x ≡ l → y ≡ r → k ≡ key → a ≡ n
+    → shape.AsOf x y (record { key = k; groups = a }) ≡ shape.AsOf l r (record { key = key; groups = n })
+alike_joins x y l r k key a n e f g h = rw (e, f, g, h) refl
 
 -- the part of an EACH in front of its window or its key
 pub record ReadHead (us : List Token) (var : List ℕ) (source : QueryShape) (more : List Token) : Type 0 where
@@ -380,6 +302,26 @@ read_query (shape.Union l r) c us h =
 read_query (shape.ByArrival l r) c us h =
     let x = read_join (λ x y. shape.ByArrival x y) arrival_tokens read_arrival l r c.1 c.3 (λ vs k. read_query l c.0 vs k) (λ vs k. read_query r c.2 vs k) us h in
     record { tree = written.Join' x.join x.at x.left x.right; spelled = x.spelled; grammar = λ n. x.grammar; bare = λ e. absurd (true≢false (sym e)); term = λ n e. absurd (true≢false (sym e)); mixed = x.mixed; alike = x.alike }
+read_query (shape.AsOf l r s) c us h =
+    let left = spell_query (side_of (query_of l)) in
+    let right = spell_query (side_of (query_of r)) in
+    let by = spell_grouping (grouping_of s.key s.groups) in
+    let p = parts us left (token.Word word.AsOf 0 ∷ (right ++ by)) h in
+    let x = read_side (is_side (query_of l)) l refl c.1 (λ vs k. read_query l c.0 vs k) p.front p.front_is in
+    let a = first p.back (token.Word word.AsOf 0) (right ++ by) p.back_is in
+    let d = parts a.rest right by a.rest_is in
+    let y = read_side (is_side (query_of r)) r refl c.3 (λ vs k. read_query r c.2 vs k) d.front d.front_is in
+    let g = read_grouping s.key s.groups d.back d.back_is in
+    record {
+      tree = written.AsOf' (Capital a.at) x.tree y.tree g.grouping;
+      spelled = two us p.front p.back (spell_query x.tree) _ p.whole x.spelled
+          (cons (token.Word word.AsOf a.at) p.back a.rest _ a.whole (two a.rest d.front d.back (spell_query y.tree) _ d.whole y.spelled g.spelled));
+      grammar = λ n. absurd n;
+      bare = λ e. (x.grammar, y.grammar);
+      term = λ n e. absurd n;
+      mixed = none_mixed (mixed_in x.tree) (mixed_in y.tree) x.mixed y.mixed;
+      alike = alike_joins (query_alike (query_meaning x.tree)) (query_alike (query_meaning y.tree)) l r g.grouping.key.text s.key g.grouping.groups.value s.groups x.alike y.alike g.key_is g.groups_is;
+    }
 read_query (shape.Concat l r) c us h =
     let x = read_join (λ x y. shape.Concat x y) (token.Join Concat 0 ∷ []) read_concat l r c.1 c.3 (λ vs k. read_query l c.0 vs k) (λ vs k. read_query r c.2 vs k) us h in
     record { tree = written.Join' x.join x.at x.left x.right; spelled = x.spelled; grammar = λ n. x.grammar; bare = λ e. absurd (true≢false (sym e)); term = λ n e. absurd (true≢false (sym e)); mixed = x.mixed; alike = x.alike }

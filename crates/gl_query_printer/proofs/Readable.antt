@@ -22,13 +22,13 @@ use Rattle.gl_query_tokens.specs.Tokens.{class_of, follow_of, sign_token}
 use Rattle.gl_query_tokens.specs.Words.{is_keyword, word_text, word_token}
 use Rattle.gl_query_reader.specs.Written as written
 use Rattle.gl_query_reader.specs.Written.{measure_word, spell, spell_numbers, spell_agg, spell_over_agg, spell_filtering, spell_bound, spell_head, spell_part, spell_rows, spell_over, spell_item, spell_items, spell_pick, spell_window, spell_filter, spell_grouping, spell_query}
-use Rattle.gl_query_printer.specs.Canonical.{name_of, num_of, fitted, expr_of, agg_of, is_bare, item_of, agg_item_of, over_agg_of, filtering_of, bound_of, rows_of, partition_of, frame_by, frame_item_of, pick_of, bracketed_unless, source_of, term_of, window_of, grouping_of, query_of, canonical_tokens}
+use Rattle.gl_query_printer.specs.Canonical.{name_of, num_of, fitted, expr_of, agg_of, is_bare, item_of, agg_item_of, over_agg_of, filtering_of, bound_of, rows_of, partition_of, frame_by, frame_item_of, pick_of, bracketed_unless, side_of, source_of, term_of, window_of, grouping_of, query_of, canonical_tokens}
 use Rattle.gl_query_printer.specs.declared.text.Behind.{Behind}
 use Rattle.gl_query_printer.specs.declared.text.Behind.TheVariants.{Opening, Named, Operand, Sign, Other}
 use Rattle.gl_query_printer.specs.Spaced.{token_text, plain_text, operator_text, fold_text, join_text, place_behind}
 use Rattle.gl_query_printer.proofs.Lexed.{Readable, ReadAs, Apart, Ends, EndsIn, dash_ends, ends_apart, half_ends, letters_readable, no_number, read_word}
 use Rattle.gl_query_tokens.proofs.Sound.{is_word}
-use Rattle.gl_query_printer.proofs.ReadableWords.{over_readable, filter_word_readable, partition_word_readable, rows_word_readable, preceding_readable, unbounded_readable, arrival_readable, lag_word, last_value_word}
+use Rattle.gl_query_printer.proofs.ReadableWords.{over_readable, filter_word_readable, partition_word_readable, rows_word_readable, preceding_readable, unbounded_readable, arrival_readable, as_of_readable, lag_word, last_value_word}
 use Rattle.gl_query_printer.proofs.Places.{placeless}
 use Rattle.gl_query_tokens.proofs.Sound.{IsNameWord, IsSmall}
 use Rattle.gl_bits.proofs.AllLists.{all_append}
@@ -351,6 +351,13 @@ query_readable (shape.Union l r) c = join (spell_query (query_of l)) (token.Join
 query_readable (shape.ByArrival l r) c =
     join (spell_query (query_of l)) (token.Join Union 0 ∷ token.By 0 ∷ token.Word word.Arrival 0 ∷ spell_query (term_of (query_of r))) (query_readable l c.0)
     (join_readable Union, (by_readable, (arrival_readable, bracketed _ (query_of r) (query_readable r c.2))))
+query_readable (shape.AsOf l r s) c =
+    let tail : List Token = spell_query (side_of (query_of r)) ++ spell_grouping (grouping_of s.key s.groups) in
+    join (spell_query (side_of (query_of l))) (token.Word word.AsOf 0 ∷ tail) (bracketed _ (query_of l) (query_readable l c.0)) (
+      as_of_readable,
+      join (spell_query (side_of (query_of r))) (spell_grouping (grouping_of s.key s.groups)) (bracketed _ (query_of r) (query_readable r c.2))
+          (grouping_readable s.key s.groups c.4 c.5),
+    )
 query_readable (shape.Concat l r) c = join (spell_query (query_of l)) (token.Join Concat 0 ∷ spell_query (term_of (query_of r))) (query_readable l c.0) (join_readable Concat, bracketed _ (query_of r) (query_readable r c.2))
 
 pub statement_readable : (s : StatementShape) → CanBeStatement s → AreReadable (canonical_tokens s)

@@ -35,6 +35,11 @@ pub unbounded_readable : Readable (token.Word word.Unbounded 0)
 unfolding token_text capitals place_behind class_of word_token is_keyword is_name has_name_bytes begins_with_letter has_loose_underscore is_taken keywords reserved
 unbounded_readable = no_number refl (λ p at bs e. read_word (codes "UNBOUNDED") (token.Word word.Unbounded 0) refl (λ a. refl) at bs e)
 
+-- ASOF in capitals
+pub as_of_readable : Readable (token.Word word.AsOf 0)
+unfolding token_text capitals place_behind class_of word_token is_keyword is_name has_name_bytes begins_with_letter has_loose_underscore is_taken keywords reserved
+as_of_readable = no_number refl (λ p at bs e. read_word (codes "ASOF") (token.Word word.AsOf 0) refl (λ a. refl) at bs e)
+
 -- the word of a union by arrival in capitals
 pub arrival_readable : Readable (token.Word word.Arrival 0)
 unfolding token_text capitals place_behind class_of word_token is_keyword is_name has_name_bytes begins_with_letter has_loose_underscore is_taken keywords reserved

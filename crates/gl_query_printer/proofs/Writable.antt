@@ -105,7 +105,22 @@ IsNoStream (shape.PerGroup var source key groups body) = Unit {0}
 IsNoStream (shape.Partition var source key groups size advance body) = Unit {0}
 IsNoStream (shape.Union l r) = Unit {0}
 IsNoStream (shape.ByArrival l r) = Unit {0}
+IsNoStream (shape.AsOf l r slots) = ⊥
 IsNoStream (shape.Concat l r) = Unit {0}
+
+-- what may stand on a side of ASOF: anything but another such join
+abbrev pub IsNoJoin : QueryShape → Type 0
+IsNoJoin (shape.Read name) = Unit {0}
+IsNoJoin (shape.Rows pick filter source) = Unit {0}
+IsNoJoin (shape.Total aggs source) = Unit {0}
+IsNoJoin (shape.Frames items filter slots source) = Unit {0}
+IsNoJoin (shape.Each measure var source size advance body) = Unit {0}
+IsNoJoin (shape.PerGroup var source key groups body) = Unit {0}
+IsNoJoin (shape.Partition var source key groups size advance body) = Unit {0}
+IsNoJoin (shape.Union l r) = Unit {0}
+IsNoJoin (shape.ByArrival l r) = Unit {0}
+IsNoJoin (shape.AsOf l r slots) = ⊥
+IsNoJoin (shape.Concat l r) = Unit {0}
 
 abbrev pub CanBeSource : QueryShape → Type 0
 CanBeSource (shape.Read name) = IsNameWord name
@@ -117,6 +132,7 @@ CanBeSource (shape.PerGroup var source key groups body) = IsNameWord var × CanB
 CanBeSource (shape.Partition var source key groups size advance body) = IsNameWord var × CanBeSource source × IsNameWord key × IsSmall groups × IsSmall size × IsSmall advance × CanBeSource body × IsNoStream body
 CanBeSource (shape.Union l r) = CanBeSource l × IsNoStream l × CanBeSource r × IsNoStream r
 CanBeSource (shape.ByArrival l r) = CanBeSource l × IsNoStream l × CanBeSource r × IsNoStream r
+CanBeSource (shape.AsOf l r s) = CanBeSource l × IsNoJoin l × CanBeSource r × IsNoJoin r × IsNameWord s.key × IsSmall s.groups
 CanBeSource (shape.Concat l r) = CanBeSource l × IsNoStream l × CanBeSource r × IsNoStream r
 
 abbrev pub CanBeQuery : QueryShape → Type 0

@@ -4,6 +4,8 @@ use Rattle.std.specs.Prelude.{codes, nat_le, if◌then◌else◌}
 use Rattle.std.specs.List.{AllByRecursion}
 use Rattle.std.proofs.lemmas.Bool.{or_parts, true≢false}
 use Rattle.gl_query.specs.Shapes as shape
+use Rattle.gl_query.specs.Shapes.{QueryShape}
+use Rattle.gl_query_tokens.specs.declared.token.Word.TheVariants as word
 use Rattle.gl_query_reader.specs.declared.joins.Joining.{Joining}
 use Rattle.gl_query_reader.specs.declared.joins.Joining.TheVariants.{Union, Arrival, Concat}
 use Rattle.gl_query_tokens.specs.Tokens.{class_of}
@@ -23,7 +25,7 @@ use Rattle.gl_query_tokens.proofs.Sound.{IsNameWord, IsSmall, is_word}
 use Rattle.gl_bits.proofs.Options.{not_some, some_same}
 use Rattle.gl_query_reader.proofs.Meanings.{back_is_over}
 use Rattle.gl_query_reader.proofs.Regular.{sound_parts, AreSound}
-use Rattle.gl_query_printer.proofs.Writable.{CanBeFilter, CanBeSource, CanBeQuery, Some', IsSoundItem, expr_can, each_sound, plain_can, aggs_can, some_plain, some_aggs, frames_can, slots_can}
+use Rattle.gl_query_printer.proofs.Writable.{CanBeFilter, CanBeSource, CanBeQuery, IsNoJoin, IsNoStream, Some', IsSoundItem, expr_can, each_sound, plain_can, aggs_can, some_plain, some_aggs, frames_can, slots_can}
 
 -- ---- selects
 
@@ -143,12 +145,45 @@ query_of_term (written.InBrackets at q) g = g
 query_of_term (written.Select pick source window filter grouping) g = g
 query_of_term (written.Windows at var source window open' body) g = g
 query_of_term (written.Groups at var source grouping window open' body) g = g
+query_of_term (written.AsOf' w l r grouping) g = absurd g
 query_of_term (written.Join' join at l r) g = absurd g
+
+source_of_side : (q : written.Query) → written.IsSide q → written.IsSource q
+source_of_side (written.Stream name) g = tt
+source_of_side (written.InBrackets at q) g = g
+source_of_side (written.Select pick source window filter grouping) g = absurd g
+source_of_side (written.Windows at var source window open' body) g = absurd g
+source_of_side (written.Groups at var source grouping window open' body) g = absurd g
+source_of_side (written.AsOf' w l r grouping) g = absurd g
+source_of_side (written.Join' join at l r) g = absurd g
+
+-- what is no bare source is no as-of join
+no_join : (q : QueryShape) → IsNoStream q → IsNoJoin q
+no_join (shape.Read name) n = tt
+no_join (shape.Rows pick filter source) n = tt
+no_join (shape.Total aggs source) n = tt
+no_join (shape.Frames items filter slots source) n = tt
+no_join (shape.Each measure var source size advance body) n = tt
+no_join (shape.PerGroup var source key groups body) n = tt
+no_join (shape.Partition var source key groups size advance body) n = tt
+no_join (shape.Union l r) n = tt
+no_join (shape.ByArrival l r) n = tt
+no_join (shape.AsOf l r slots) n = absurd n
+no_join (shape.Concat l r) n = tt
 
 -- a source, and a query
 record Can (q : written.Query) : Type 0 where
   source : written.IsSource q → CanBeSource (query_alike (query_meaning q))
   query : written.IsQuery q → CanBeQuery (query_alike (query_meaning q))
+
+side_alone : (q : written.Query) → Can q → written.IsSide q → IsNoJoin (query_alike (query_meaning q))
+side_alone (written.Stream name) c g = tt
+side_alone (written.InBrackets at q) c g = no_join (query_alike (query_meaning q)) (c.query g).1
+side_alone (written.Select pick source window filter grouping) c g = absurd g
+side_alone (written.Windows at var source window open' body) c g = absurd g
+side_alone (written.Groups at var source grouping window open' body) c g = absurd g
+side_alone (written.AsOf' w l r grouping) c g = absurd g
+side_alone (written.Join' join at l r) c g = absurd g
 
 query_can : (q : written.Query) → AreSound (written.spell_query q) → mixed_in q ≡ None → Can q
 query_can (written.Stream name) h m = record { source = λ g. h.0; query = λ g. absurd g }
@@ -202,6 +237,23 @@ query_can (written.Groups at var source grouping (Some w) open' body) h m =
     record {
       source = λ g. absurd g;
       query = λ g. ((h.1.0, s.source g.0, b.0.1.0, b.0.1.1.1.0, d.0.1.1.0, d.0.1.1.1.1.0, (i.query g.1).0, (i.query g.1).1), tt);
+    }
+query_can (written.AsOf' w l r grouping) h m =
+    let tail : List Token = written.spell_query r ++ written.spell_grouping grouping in
+    let a = sound_parts (written.spell_query l) (written.spell_word word.AsOf w ∷ tail) h in
+    let b = sound_parts (written.spell_query r) (written.spell_grouping grouping) a.1.1 in
+    let x = query_can l a.0 (least_left (mixed_in l) (mixed_in r) m) in
+    let y = query_can r b.0 (least_right (mixed_in l) (mixed_in r) m) in
+    record {
+      source = λ g. (
+        x.source (source_of_side l g.0),
+        side_alone l x g.0,
+        y.source (source_of_side r g.1),
+        side_alone r y g.1,
+        b.1.1.0,
+        b.1.1.1.1.0,
+      );
+      query = λ g. absurd g;
     }
 query_can (written.Join' join at l r) h m =
     let a = sound_parts (written.spell_query l) (written.spell_join join at ++ written.spell_query r) h in

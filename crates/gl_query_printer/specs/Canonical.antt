@@ -18,8 +18,8 @@ use Rattle.gl_query_reader.specs.declared.written.RowWindow.{RowWindow}
 use Rattle.gl_query_reader.specs.declared.written.Window.{Window}
 use Rattle.gl_query_reader.specs.declared.written.Grouping.{Grouping}
 use Rattle.gl_query_reader.specs.declared.written.Part.{Part}
-use Rattle.gl_query_reader.specs.Written.{Expr, Column, Number, Minus, Letters, Brackets, Cast, Not, Binary, Agg, Count, Fold', Wsum, OverAgg, CountOf, FoldOf, LastOf, Filtering, FilterOf, LagOf, Ranged, OverOf, Item, Bare, Named, Total, Framed, Pick, All, Items, Query, Stream, InBrackets, Select, Windows, Groups, Join', Statement, level, looseness, left_looseness, spell_statement}
-use Rattle.gl_query_printer.specs.Brackets.{is_stream, is_term}
+use Rattle.gl_query_reader.specs.Written.{Expr, Column, Number, Minus, Letters, Brackets, Cast, Not, Binary, Agg, Count, Fold', Wsum, OverAgg, CountOf, FoldOf, LastOf, Filtering, FilterOf, LagOf, Ranged, OverOf, Item, Bare, Named, Total, Framed, Pick, All, Items, Query, Stream, InBrackets, Select, Windows, Groups, AsOf', Join', Statement, level, looseness, left_looseness, spell_statement}
+use Rattle.gl_query_printer.specs.Brackets.{is_side, is_stream, is_term}
 
 -- what has no place of its own yet has place 0
 abbrev pub name_of : List ℕ → Name
@@ -128,9 +128,13 @@ abbrev pub bracketed_unless : Bool → Query → Query
 bracketed_unless true q = q
 bracketed_unless false q = InBrackets 0 q
 
--- a source is in brackets unless it is a stream
+-- a source is in brackets unless it is a stream or an as-of join
 abbrev pub source_of : Query → Query
 source_of q = bracketed_unless (is_stream q) q
+
+-- a side of an as-of join is in brackets unless it is a stream
+abbrev pub side_of : Query → Query
+side_of q = bracketed_unless (is_side q) q
 
 -- the right side of a union and of CONCAT is in brackets where it is itself one of these
 abbrev pub term_of : Query → Query
@@ -163,6 +167,8 @@ query_of (shape.Partition var source key groups size advance body) =
     (Some (row_window_of size advance)) 0 (query_of body)
 query_of (shape.Union l r) = Join' Union 0 (query_of l) (term_of (query_of r))
 query_of (shape.ByArrival l r) = Join' (Arrival 0 (Capital 0)) 0 (query_of l) (term_of (query_of r))
+query_of (shape.AsOf l r s) =
+    AsOf' (Capital 0) (side_of (query_of l)) (side_of (query_of r)) (grouping_of s.key s.groups)
 query_of (shape.Concat l r) = Join' Concat 0 (query_of l) (term_of (query_of r))
 
 -- no `;` ends it

@@ -60,7 +60,7 @@ plain_text plain.RightSquare = codes "]"
 plain_text plain.Comma = codes ","
 plain_text plain.Semicolon = codes ";"
 
--- a word of frames, or of a union by arrival, that is no name is in capitals
+-- a word of frames, of a union by arrival, or ASOF, that is no name is in capitals
 unfoldable pub capitals : Word → List ℕ
 capitals word.Over = codes "OVER"
 capitals word.Filter = codes "FILTER"
@@ -74,6 +74,7 @@ capitals word.Row = codes "ROW"
 capitals word.Lag = codes "LAG"
 capitals word.LastValue = codes "LAST_VALUE"
 capitals word.Arrival = codes "ARRIVAL"
+capitals word.AsOf = codes "ASOF"
 
 -- a number is written in decimal
 abbrev pub number_text : ℕ → List ℕ

@@ -25,9 +25,34 @@ fn is_stream(query: &Query) -> bool
     ensures { result ≡ brackets.is_stream (query_of (query_shape query.now)) }
 {
     match query {
+        Query::Read(_) | Query::AsOf { .. } => true,
+        _ => false,
+    }
+}
+
+// A side of ASOF that stands without brackets.
+fn is_side(query: &Query) -> bool
+    ensures { result ≡ brackets.is_side (query_of (query_shape query.now)) }
+{
+    match query {
         Query::Read(_) => true,
         _ => false,
     }
+}
+
+// Puts ASOF, and the bracket of its right side.
+fn put_as_of(tokens: &mut Vec<Token>, bare: bool) -> Result<(), Memory>
+    ensures { OnOk result (tokens.new.items ≡ tokens.old.items ++ token.Word words.AsOf 0
+        ∷ opening bare) }
+{
+    put(
+        tokens,
+        Token::Word {
+            word: Word::AsOf,
+            at: 0,
+        },
+    )?;
+    open_unless(tokens, bare)
 }
 
 // A right side of a union or CONCAT that stands without brackets.
@@ -284,6 +309,20 @@ fn put_query(alloc: Global, tokens: &mut Vec<Token>, query: &Query) -> Result<()
             put_arrival(tokens, is_term(right))?;
             put_query(alloc, tokens, right)?;
             close_unless(tokens, is_term(right))
+        }
+        Query::AsOf {
+            left,
+            right,
+            slots,
+            ..
+        } => {
+            open_unless(tokens, is_side(left))?;
+            put_query(alloc, tokens, left)?;
+            close_unless(tokens, is_side(left))?;
+            put_as_of(tokens, is_side(right))?;
+            put_query(alloc, tokens, right)?;
+            close_unless(tokens, is_side(right))?;
+            put_grouping(alloc, tokens, &slots.key, slots.groups)
         }
         Query::Concat { left, right, .. } => {
             put_query(alloc, tokens, left)?;

@@ -123,6 +123,7 @@ fn capitals(word: Word) -> &'static [u8]
         Word::Lag => b"LAG",
         Word::LastValue => b"LAST_VALUE",
         Word::Arrival => b"ARRIVAL",
+        Word::AsOf => b"ASOF",
     }
 }
 

@@ -11,11 +11,13 @@ use Rattle.gl_query_tokens.specs.declared.token.Token.TheVariants as token
 use Rattle.gl_query_tokens.specs.Sorts.{plain_eq}
 use Rattle.gl_query_reader.specs.declared.written.Window.{Window}
 use Rattle.gl_query_reader.specs.declared.written.Grouping.{Grouping}
-use Rattle.gl_query_reader.specs.Written.{Expr, Agg, Wsum, Item, Pick, All, Items, Query, Stream, InBrackets, Select, Groups, Join', Statement}
-use Rattle.gl_query_reader.specs.States.{after_window, measured, row_window, State, Frame, Head, WindowHead, BodyHead, Unnamed, SelectHead, EachHead, SelectWindow, EachWindow, GroupsWindow, WindowsHead, GroupsHead', UnnamedAgg, JoinOf, InQuery, InSource, InBody, WantWeightsOpen, WantWeight, HaveWeight, WantWsumClose, HaveAgg, WantItemName, HaveItem, WantSource, HaveSource, HaveEachSource, WantSize, WantSizeNumber, WantAdvance, WantAdvanceNumber, WantMeasure, WantWindowClose, WantBody, HaveTerm, WantName, HaveName, WantEnd}
+use Rattle.gl_query_reader.specs.Written.{Expr, Agg, Wsum, Item, Pick, All, Items, Query, Stream, InBrackets, Select, Groups, AsOf', Join', Statement}
+use Rattle.gl_query_reader.specs.States.{after_window, measured, row_window, State, Frame, Head, WindowHead, BodyHead, Unnamed, SelectHead, EachHead, RightHead, JoinHead, SelectJoin, EachJoin, EachGroups, WantKey, WantJoinBy, SelectWindow, EachWindow, GroupsWindow, WindowsHead, GroupsHead', UnnamedAgg, JoinOf, InQuery, InSource, InBody, WantWeightsOpen, WantWeight, HaveWeight, WantWsumClose, HaveAgg, WantItemName, HaveItem, WantSource, HaveSource, HaveEachSource, WantSize, WantSizeNumber, WantAdvance, WantAdvanceNumber, WantMeasure, WantWindowClose, WantBody, HaveTerm, WantName, HaveName, WantEnd}
+use Rattle.gl_query_reader.specs.Windowed.{after_join}
 use Rattle.gl_query_reader.specs.Machine.{have_term, after_source, body_of, under_name, step, finish}
 use Rattle.gl_query_reader.proofs.Steps.{steps, state, is-machine}
 use Rattle.gl_query_reader.proofs.ReadQueries.{Follows, close-follows, into-follows, have-source, have-whole, term-alone}
+use Rattle.gl_query_reader.proofs.ReadSides.{each_by, key_groups}
 use Rattle.gl_query_reader.proofs.Said.{InTerm, Fits}
 use Rattle.gl_bits.proofs.Machines.{machine-append}
 
@@ -77,11 +79,29 @@ abbrev pub some_grouping : ℕ → Grouping
 some_grouping at = record { at = at; key = some_name; groups = some_number }
 
 each_steps : (fs : List Frame) (at : ℕ) (var : Name) (source : Query) → steps (state (HaveEachSource at var source) fs) (token.By 0 ∷ token.Name some_name ∷ token.Plain plain.Groups ∷ token.Number some_number ∷ []) ≡ Some (state (WantBody (GroupsHead' at var source (some_grouping 0) None)) fs)
-unfolding steps step plain_eq
-each_steps fs at var source = refl
+each_steps fs at var source =
+    is-machine.goes (state (HaveEachSource at var source) fs) (state (WantKey (EachGroups at var source) 0) fs) (token.By 0) (token.Name some_name ∷ token.Plain plain.Groups ∷ token.Number some_number ∷ []) (each_by at var source 0 fs)
+    ∙ key_groups at var source (some_grouping 0) fs []
+    ∙ is-machine.none_left (state (WantBody (GroupsHead' at var source (some_grouping 0) None)) fs)
 
 each_ends : (fs : List Frame) (at : ℕ) (var : Name) (source : Query) → TermEnds fs (Groups at var source (some_grouping 0) None 0 all_of_one) → Ends (state (HaveEachSource at var source) fs)
 each_ends fs at var source x = by_tokens (state (HaveEachSource at var source) fs) (state (WantBody (GroupsHead' at var source (some_grouping 0) None)) fs) (token.By 0 ∷ token.Name some_name ∷ token.Plain plain.Groups ∷ token.Number some_number ∷ []) (each_steps fs at var source) (body_ends fs (GroupsHead' at var source (some_grouping 0) None) x)
+
+-- what ends with a join
+abbrev pub closing : JoinHead → Query → Query
+closing (SelectJoin pick l w) r = Select pick (AsOf' w l r (some_grouping 0)) None None None
+closing (EachJoin at var l w) r = Groups at var (AsOf' w l r (some_grouping 0)) (some_grouping 0) None 0 all_of_one
+
+join_steps : (fs : List Frame) (join : JoinHead) (r : Query) → steps (state (WantJoinBy join r) fs) (token.By 0 ∷ token.Name some_name ∷ token.Plain plain.Groups ∷ token.Number some_number ∷ []) ≡ Some (state (after_join join r (some_grouping 0)) fs)
+unfolding steps step plain_eq
+join_steps fs join r = refl
+
+joined_ends : (fs : List Frame) (join : JoinHead) (r : Query) → TermEnds fs (closing join r) → Ends (state (after_join join r (some_grouping 0)) fs)
+joined_ends fs (SelectJoin pick l w) r x = source_ends fs pick (AsOf' w l r (some_grouping 0)) None x
+joined_ends fs (EachJoin at var l w) r x = each_ends fs at var (AsOf' w l r (some_grouping 0)) x
+
+join_ends : (fs : List Frame) (join : JoinHead) (r : Query) → TermEnds fs (closing join r) → Ends (state (WantJoinBy join r) fs)
+join_ends fs join r x = by_tokens (state (WantJoinBy join r) fs) (state (after_join join r (some_grouping 0)) fs) (token.By 0 ∷ token.Name some_name ∷ token.Plain plain.Groups ∷ token.Number some_number ∷ []) (join_steps fs join r) (joined_ends fs join r x)
 
 pub named_ends : (q : Query) (name : Name) → Ends (state (HaveName q name) [])
 unfolding steps finish
@@ -125,6 +145,13 @@ term_ends (InSource (EachHead at' var) at ∷ fs) q f i = record {
   goes = refl;
   ends = each_ends fs at' var (InBrackets at q) (term_ends fs (Groups at' var (InBrackets at q) (some_grouping 0) None 0 all_of_one) f.1 f.0.0);
 }
+term_ends (InSource (RightHead join) at ∷ fs) q f i = record {
+  next = token.Plain plain.Close;
+  follows = close-follows;
+  there = state (WantJoinBy join (InBrackets at q)) fs;
+  goes = refl;
+  ends = join_ends fs join (InBrackets at q) (term_ends fs (closing join (InBrackets at q)) f.1 f.0.0);
+}
 term_ends (InBody head open' ∷ fs) q f i = record {
   next = token.Plain plain.Close;
   follows = close-follows;
@@ -146,6 +173,14 @@ want_body_ends fs head f i = body_ends fs head (term_ends fs (body_of head 0 all
 
 pub have_each_ends : (fs : List Frame) (at : ℕ) (var : Name) (source : Query) → Fits fs → InTerm fs → Ends (state (HaveEachSource at var source) fs)
 have_each_ends fs at var source f i = each_ends fs at var source (term_ends fs (Groups at var source (some_grouping 0) None 0 all_of_one) f i)
+
+-- a join that still wants its key, or has one
+pub join_by_ends : (fs : List Frame) (join : JoinHead) (right : Query) → Fits fs → InTerm fs → Ends (state (WantJoinBy join right) fs)
+join_by_ends fs join right f i = join_ends fs join right (term_ends fs (closing join right) f i)
+
+pub after_join_ends : (fs : List Frame) (join : JoinHead) (right : Query) (g : Grouping) → Fits fs → InTerm fs → Ends (state (after_join join right g) fs)
+after_join_ends fs (SelectJoin pick l w) right g f i = have_source_ends fs pick (AsOf' w l right g) None f i
+after_join_ends fs (EachJoin at var l w) right g f i = have_each_ends fs at var (AsOf' w l right g) f i
 
 -- ---- items
 
@@ -207,6 +242,7 @@ source_step fs head = refl
 after_source_ends : (fs : List Frame) (head : Head) → Fits fs → InTerm fs → Ends (state (after_source head (Stream some_name)) fs)
 after_source_ends fs (SelectHead pick) f i = have_source_ends fs pick (Stream some_name) None f i
 after_source_ends fs (EachHead at var) f i = have_each_ends fs at var (Stream some_name) f i
+after_source_ends fs (RightHead join) f i = join_by_ends fs join (Stream some_name) f i
 
 pub want_source_ends : (fs : List Frame) (head : Head) → Fits fs → InTerm fs → Ends (state (WantSource head) fs)
 want_source_ends fs head f i = by_token _ (state (after_source head (Stream some_name)) fs) (token.Name some_name) (source_step fs head) (after_source_ends fs head f i)

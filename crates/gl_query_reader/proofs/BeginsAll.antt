@@ -15,7 +15,7 @@ use Rattle.gl_query_reader.specs.declared.joins.Joining.TheVariants as joining
 use Rattle.gl_query_reader.specs.declared.over_state.Call.{Call}
 use Rattle.gl_query_reader.specs.declared.written.Window.{Window}
 use Rattle.gl_query_reader.specs.Written.{Expr, Column, Minus, Cast, Count, OverAgg, Item, Pick, All, Query, Stream}
-use Rattle.gl_query_reader.specs.States.{State, Control, Frame, SelectHead, EachHead, SelectGroups, InCast, InItem, InFold, InWsum, InCall, InCondition, WantTerm, WantItem, WantOperand, WantMinus, HaveExpr, WantCastOpen, WantKind, WantCastClose, WantCountOpen, WantCountClose, WantFoldOpen, WantWsumOpen, WantWeightsOpen, WantWeight, HaveWeight, WantWsumClose, HaveAgg, WantCallOpen, WantBack, WantLagClose, WantOver, WantFilterOpen, WantFilterWhere, WantOverOpen, WantPart, WantPartBy, InOver, WantOverAs, WantItemName, HaveItem, WantFrom, WantSource, HaveSource, HaveEachSource, WantSize, WantSizeNumber, WantAdvance, WantAdvanceNumber, WantMeasure, WantWindowClose, WantBy, WantKey, WantGroups, WantGroupsNumber, WantVar, WantIn, WantBody, HaveTerm, WantName, HaveName, WantEnd, JoinOf, WantArrival}
+use Rattle.gl_query_reader.specs.States.{State, Control, Frame, SelectHead, EachHead, SelectGroups, InCast, InItem, InFold, InWsum, InCall, InCondition, WantTerm, WantItem, WantOperand, WantMinus, HaveExpr, WantCastOpen, WantKind, WantCastClose, WantCountOpen, WantCountClose, WantFoldOpen, WantWsumOpen, WantWeightsOpen, WantWeight, HaveWeight, WantWsumClose, HaveAgg, WantCallOpen, WantBack, WantLagClose, WantOver, WantFilterOpen, WantFilterWhere, WantOverOpen, WantPart, WantPartBy, InOver, WantOverAs, WantItemName, HaveItem, WantFrom, WantSource, HaveSource, HaveEachSource, WantSize, WantSizeNumber, WantAdvance, WantAdvanceNumber, WantMeasure, WantWindowClose, WantBy, WantKey, WantGroups, WantGroupsNumber, WantVar, WantIn, WantBody, HaveTerm, WantName, HaveName, WantEnd, JoinOf, WantArrival, JoinHead, JoinGroups, WantJoinBy}
 use Rattle.gl_query_reader.specs.Machine.{step}
 use Rattle.gl_query_reader.proofs.Steps.{steps, state}
 use Rattle.gl_query_reader.proofs.ReadExpressions.{wanting, having}
@@ -86,6 +86,10 @@ var_step : (fs : List Frame) (at : ℕ) → step (state (WantVar at) fs) (token.
 unfolding step
 var_step fs at = refl
 
+join_by_step : (fs : List Frame) (join : JoinHead) (right : Query) → step (state (WantJoinBy join right) fs) (token.By 0) ≡ Some (state (WantKey (JoinGroups join right) 0) fs)
+unfolding step
+join_by_step fs join right = refl
+
 call_open_step : (fs : List Frame) (items : List Item) (c : Call) (at : ℕ) → step (state (WantCallOpen items c at) fs) (token.Open 0) ≡ Some (wanting (InCall items c (Capital at) 0 ∷ fs))
 unfolding step
 call_open_step fs items c at = refl
@@ -155,6 +159,7 @@ state_ends (WantKey head at) fs f h = key_ends fs head at f h.0
 state_ends (WantGroups head at key) fs f h = groups_ends fs head at key f h.0
 state_ends (WantGroupsNumber head at key) fs f h = groups_number_ends fs head at key f h.0
 state_ends (WantArrival l at by') fs f h = by_token _ (state WantTerm (JoinOf l (joining.Arrival by' (Capital 0)) at ∷ fs)) (token.Word word.Arrival 0) (arrival_step fs l at by') (want_term_ends (JoinOf l (joining.Arrival by' (Capital 0)) at ∷ fs) (h, f) tt)
+state_ends (WantJoinBy join right) fs f h = by_token _ (state (WantKey (JoinGroups join right) 0) fs) (token.By 0) (join_by_step fs join right) (key_ends fs (JoinGroups join right) 0 f h.0)
 state_ends (WantVar at) fs f h = by_token _ (state (WantIn at some_name) fs) (token.Name some_name) (var_step fs at) (in_ends fs at some_name f h)
 state_ends (WantIn at var) fs f h = in_ends fs at var f h
 state_ends (WantBody head) fs f h = want_body_ends fs head f h.0

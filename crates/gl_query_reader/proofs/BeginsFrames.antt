@@ -19,12 +19,12 @@ use Rattle.gl_query_reader.specs.declared.written.FrameRows.{FrameRows}
 use Rattle.gl_query_reader.specs.declared.written.FrameRows.TheVariants as rows
 use Rattle.gl_query_reader.specs.Written.{Expr, OverHead, LagOf, Ranged, Over, OverOf, Item, Select}
 use Rattle.gl_query_reader.specs.Framing.{front_of, rows_first}
-use Rattle.gl_query_reader.specs.States.{Frame, GroupsHead, GroupsHead', SelectGroups, EachGroups, OverGroups, UnnamedOver, WantBack, WantLagClose, WantOver, WantOverOpen, WantPart, WantPartBy, InOver, WantOverAs, WantItemName, WantKey, WantGroups, WantGroupsNumber}
+use Rattle.gl_query_reader.specs.States.{Frame, GroupsHead, GroupsHead', SelectGroups, EachGroups, OverGroups, JoinGroups, UnnamedOver, WantBack, WantLagClose, WantOver, WantOverOpen, WantPart, WantPartBy, InOver, WantOverAs, WantItemName, WantKey, WantGroups, WantGroupsNumber}
 use Rattle.gl_query_reader.specs.Windowed.{after_groups}
 use Rattle.gl_query_reader.specs.Machine.{step}
 use Rattle.gl_query_reader.proofs.Steps.{steps, state}
 use Rattle.gl_query_reader.proofs.Said.{InTerm, Fits}
-use Rattle.gl_query_reader.proofs.Begins.{some_name, some_number, Ends, by_token, by_tokens, have_term_ends, item_name_ends, want_body_ends}
+use Rattle.gl_query_reader.proofs.Begins.{some_name, some_number, Ends, by_token, by_tokens, after_join_ends, have_term_ends, item_name_ends, want_body_ends}
 
 over_as_step : (fs : List Frame) (items : List Item) (over : Over) → step (state (WantOverAs items over) fs) (token.Plain plain.As) ≡ Some (state (WantItemName items (UnnamedOver over)) fs)
 unfolding step plain_eq
@@ -128,6 +128,7 @@ after_groups_ends : (fs : List Frame) (head : GroupsHead) (g : Grouping) → Fit
 after_groups_ends fs (SelectGroups pick source window filter) g f i = have_term_ends fs (Select pick source window filter (Some g)) f i
 after_groups_ends fs (EachGroups at var source) g f i = want_body_ends fs (GroupsHead' at var source g None) f i
 after_groups_ends fs (OverGroups items head w open' p) g f i = in_over_ends fs items head w open' (Some (record { word = p; grouping = g })) (rows_first head) f i
+after_groups_ends fs (JoinGroups join right) g f i = after_join_ends fs join right g f i
 
 groups_number_step : (fs : List Frame) (head : GroupsHead) (at : ℕ) (key : Name) → step (state (WantGroupsNumber head at key) fs) (token.Number some_number) ≡ Some (state (after_groups head (grouping_at at key)) fs)
 unfolding step

@@ -10,6 +10,7 @@ use Rattle.gl_query_reader.specs.declared.written.WrittenEach.{WrittenEach}
 use Rattle.gl_query_reader.specs.Written.{Query}
 use Rattle.gl_query_reader.specs.Begun.{open_body, want_body}
 use Rattle.gl_query_reader.specs.Machine.{body_of}
+use Rattle.gl_query_reader.specs.Windowed.{is_joined}
 use Rattle.gl_query_reader.specs.States.{Frame}
 use Rattle.gl_query_reader.specs.Trees.{over_of, each_of, over_tree, each_tree, over_head_of}
 use Rattle.gl_query_reader.specs.Meaning.{query_meaning}
@@ -44,4 +45,12 @@ pub each-mixes : (e : WrittenEach) (s b : Query) → mixed_in (each_of e s b) �
 unfolding each_of
 each-mixes e s b = over-mixes e.over e.at e.var e.open s b
 
-pub ruleset eaches = (each-means, each-mixes)
+over-alone : (o : Over) (at : ℕ) (var : Name) (open' : ℕ) (s b : Query) → is_joined (over_of o at var open' s b) ≡ false
+over-alone (over.Windows w) at var open' s b = refl
+over-alone (over.Groups g w) at var open' s b = refl
+
+pub each-alone : (e : WrittenEach) (s b : Query) → is_joined (each_of e s b) ≡ false
+unfolding each_of
+each-alone e s b = over-alone e.over e.at e.var e.open s b
+
+pub ruleset eaches = (each-means, each-mixes, each-alone)

@@ -6,6 +6,7 @@ pub mod Steps
 pub mod RowsSaid
 pub mod ReadExpressions
 pub mod ReadItems
+pub mod ReadSides
 pub mod ReadQueries
 pub mod Said
 pub mod SoundTerms

@@ -8,7 +8,7 @@ use Rattle.gl_query_reader.specs.declared.joins.Joining.{Joining}
 use Rattle.gl_query_reader.specs.declared.joins.Joining.TheVariants as joining
 use Rattle.gl_query_reader.specs.Limits.{IsSmall, none_counted, operators_open, keeps_limits}
 use Rattle.gl_query_reader.specs.Sizes.{pick_depth, filter_depth, depth_of, joins_of, AreShort, IsWithinLimits, LimitsAreCounted}
-use Rattle.gl_query_reader.specs.Written.{Query, Stream, InBrackets, Select, Windows, Groups, Join', Statement, spell_pick, spell_window, spell_if_window, spell_row_window, spell_filter, spell_grouping, spell_if_grouping, spell_join, spell_query, spell_end, spell_statement}
+use Rattle.gl_query_reader.specs.Written.{Query, Stream, InBrackets, Select, Windows, Groups, AsOf', Join', Statement, spell_word, spell_pick, spell_window, spell_if_window, spell_row_window, spell_filter, spell_grouping, spell_if_grouping, spell_join, spell_query, spell_end, spell_statement}
 use Rattle.gl_query_reader.proofs.Limiting.{counts, Keeps, over, under, parted, paired, keeps_at, small_at, close, Any}
 use Rattle.gl_query_reader.proofs.LimitingFrames.{word_over, word_under}
 use Rattle.gl_query_reader.proofs.LimitingItems.{limited_pick, limits_pick, window_to, window_from, row_window_to, row_window_from, grouping_to, grouping_from, if_window_to, if_window_from, if_grouping_to, if_grouping_from, limited_filter, limits_filter}
@@ -121,6 +121,24 @@ limited_in (Groups at var source grouping window open' body) b o j d rest f h =
       small = z.small;
       rest' = keeps_at {b = b + 1 - 1} {j = k + joins_of body} b z.operators (j + (joins_of source + joins_of body)) (omega arith) refl (omega arith) (over z.rest').1;
     }
+limited_in (AsOf' w l r grouping) b o j d rest f h =
+    let groups : List Token = spell_grouping grouping in
+    let right : List Token = spell_query r ++ groups in
+    let k = j + joins_of l in
+    let x = limited_in l b o j d ((spell_word word.AsOf w ∷ right) ++ rest) f (parted (spell_query l) (spell_word word.AsOf w ∷ right) rest h) in
+    let p = word_over word.AsOf w b x.operators k x.operand (right ++ rest) x.rest' in
+    let c = small_at b x.operators k false (let t : b + depth_of l ≤ 32 = x.depth' in omega arith) x.small x.joins' in
+    let y = limited_in r b x.operators k false (groups ++ rest) c (parted (spell_query r) groups rest p) in
+    let g = grouping_to grouping b y.operators (k + joins_of r) y.operand rest y.rest' in
+    record {
+      depth' = (let t : b + depth_of l ≤ 32 = x.depth' in let u : b + depth_of r ≤ 32 = y.depth' in omega arith);
+      joins' = (let t : j + joins_of l + joins_of r ≤ 64 = y.joins' in omega arith);
+      short' = (x.short', y.short');
+      operators = y.operators;
+      operand = false;
+      small = y.small;
+      rest' = keeps_at {j = k + joins_of r} b y.operators (j + (joins_of l + joins_of r)) refl refl (omega arith) g;
+    }
 limited_in (Join' join at l r) b o j d rest f h =
     let right : List Token = spell_join join at ++ spell_query r in
     let k = j + joins_of l in
@@ -201,6 +219,21 @@ limits_in (Groups at var source grouping window open' body) b o j d rest f m n s
     let grouped : Any b k (tail ++ rest) = λ o' d' v. paired (spell_grouping grouping) behind rest (grouping_from grouping b o' k d' (behind ++ rest) e v g (windowed o' v)) in
     let c = small_at b o j false e f (omega arith) in
     under c (under c (under c (paired (spell_query source) tail rest (limits_in source b o j false (tail ++ rest) f (omega arith) g s.0 grouped))))
+limits_in (AsOf' w l r grouping) b o j d rest f m n s h =
+    let t : b + max (depth_of l) (depth_of r) ≤ 32 = m in
+    let u : j + (joins_of l + joins_of r) ≤ 64 = n in
+    let groups : List Token = spell_grouping grouping in
+    let right : List Token = spell_query r ++ groups in
+    let k = j + joins_of l in
+    let i = k + joins_of r in
+    let e : b ≤ 32 = omega arith in
+    let g : k ≤ 64 = omega arith in
+    let p : i ≤ 64 = omega arith in
+    let last : Any b i (groups ++ rest) = λ o' d' v. grouping_from grouping b o' i d' rest e v p (keeps_at b o' i refl refl (omega arith) (h o' false v)) in
+    let righted : (o' : ℕ) → o' ≤ 256 → Keeps (counts b o' k false) (right ++ rest) =
+    λ o' v. paired (spell_query r) groups rest (limits_in r b o' k false (groups ++ rest) v (omega arith) p s.1 last) in
+    let joined : Any b k ((spell_word word.AsOf w ∷ right) ++ rest) = λ o' d' v. word_under word.AsOf w b o' k d' (right ++ rest) (small_at b o' k false e v g) (righted o' v) in
+    paired (spell_query l) (spell_word word.AsOf w ∷ right) rest (limits_in l b o j d ((spell_word word.AsOf w ∷ right) ++ rest) f (omega arith) g s.0 joined)
 limits_in (Join' join at l r) b o j d rest f m n s h =
     let t : b + max (depth_of l) (depth_of r) ≤ 32 = m in
     let u : j + (joins_of l + joins_of r + 1) ≤ 64 = n in

@@ -71,6 +71,7 @@ QueryHolds E N (written.InBrackets at q) = QueryHolds E N q
 QueryHolds E N (written.Select pick source window filter grouping) = QueryHolds E N source × PickHolds E N pick × FilterHolds E filter × GroupingHolds N grouping
 QueryHolds E N (written.Windows at var source window open' body) = QueryHolds E N source × QueryHolds E N body × N var.text
 QueryHolds E N (written.Groups at var source grouping window open' body) = QueryHolds E N source × QueryHolds E N body × N var.text × N grouping.key.text
+QueryHolds E N (written.AsOf' w l r grouping) = QueryHolds E N l × QueryHolds E N r × N grouping.key.text
 QueryHolds E N (written.Join' j at l r) = QueryHolds E N l × QueryHolds E N r
 
 -- the frames that look back are those with OVER
@@ -196,4 +197,5 @@ module _ (E : ExprShape → Type 0) (N : List ℕ → Type 0) (own : N (codes "i
   query_in (written.Windows at var source window open' body) h = (query_in source h.0, query_in body h.1, h.2)
   query_in (written.Groups at var source grouping None open' body) h = (query_in source h.0, query_in body h.1, h.2, h.3)
   query_in (written.Groups at var source grouping (Some w) open' body) h = (query_in source h.0, query_in body h.1, h.2, h.3)
+  query_in (written.AsOf' w l r grouping) h = (query_in l h.0, query_in r h.1, h.2)
   query_in (written.Join' j at l r) h = join_in j (query_meaning l) (query_meaning r) at (query_in l h.0) (query_in r h.1)

@@ -14,18 +14,20 @@ use Rattle.gl_query_reader.specs.declared.joins.Joining.TheVariants as joining
 use Rattle.gl_query_tokens.specs.declared.token.Plain.TheVariants as plain
 use Rattle.gl_query_tokens.specs.declared.token.Token.{Token}
 use Rattle.gl_query_tokens.specs.declared.token.Token.TheVariants as token
-use Rattle.gl_query_tokens.specs.Sorts.{plain_eq, is_plain}
+use Rattle.gl_query_tokens.specs.Sorts.{plain_eq, is_plain, word_in}
 use Rattle.gl_query_reader.specs.declared.written.RowWindow.{RowWindow}
 use Rattle.gl_query_reader.specs.declared.written.Window.{Window}
 use Rattle.gl_query_reader.specs.declared.written.Grouping.{Grouping}
-use Rattle.gl_query_reader.specs.Written.{Expr, Pick, Query, Stream, InBrackets, Select, Windows, Groups, Join', Statement, IsPick, IsQuery, IsSource, IsTerm, IsFilter, measure_word, spell, spell_pick, spell_window, spell_if_window, spell_row_window, spell_filter, spell_grouping, spell_if_grouping, spell_join, spell_word, spell_query, spell_end, spell_statement}
-use Rattle.gl_query_reader.specs.States.{after_window, measure_in, measure_for, measured, State, Frame, InFilter, JoinOf, InQuery, InSource, InBody, Head, SelectHead, EachHead, WindowHead, SelectWindow, EachWindow, GroupsWindow, WindowsHead, GroupsHead', WantSize, WantTerm, WantSource, HaveSource, HaveEachSource, WantArrival, HaveTerm, WantName, HaveName, WantEnd, goes, start}
+use Rattle.gl_query_reader.specs.Written.{Expr, Pick, Query, Stream, InBrackets, Select, Windows, Groups, AsOf', Join', Statement, IsPick, IsQuery, IsSide, IsSource, IsTerm, IsFilter, measure_word, spell, spell_pick, spell_window, spell_if_window, spell_row_window, spell_filter, spell_grouping, spell_if_grouping, spell_join, spell_word, spell_query, spell_end, spell_statement}
+use Rattle.gl_query_reader.specs.States.{after_window, measure_in, measure_for, measured, State, Frame, InFilter, JoinOf, InQuery, InSource, InBody, Head, SelectHead, EachHead, RightHead, JoinHead, SelectJoin, EachJoin, WindowHead, SelectWindow, EachWindow, GroupsWindow, WindowsHead, GroupsHead', EachGroups, WantKey, WantBody, WantSize, WantTerm, WantSource, HaveSource, HaveEachSource, WantArrival, HaveTerm, WantName, HaveName, WantEnd, goes, start}
+use Rattle.gl_query_reader.specs.Windowed.{after_join, can_join}
 use Rattle.gl_query_reader.specs.Machine.{Joined, reduced, joined, after_source, after_query, have_term, is_operator, step, finish}
 use Rattle.gl_query_reader.specs.Grammar.{Derives}
 use Rattle.gl_query_reader.proofs.Steps.{steps, state, is-machine}
 use Rattle.gl_query_reader.proofs.ReadExpressions.{waits, last_of, pair, wanting, having, reads_expr, reduced-whole, level-lt}
 use Rattle.gl_query_reader.proofs.ReadItems.{wanting_item, reads_pick}
 use Rattle.gl_query_reader.proofs.RowsSaid.{word-in}
+use Rattle.gl_query_reader.proofs.ReadSides.{IsFirst, each_by, each_joins, ends_alone, join_grouping, key_groups, select_joins}
 use Rattle.gl_bits.proofs.Options.{some_same}
 
 -- the state at a query's end: a select waits for what may stand behind it
@@ -41,21 +43,22 @@ pub record Follows (t : Token) : Type 0 where
   pub window : is_plain plain.LeftSquare t ≡ false
   pub filter : is_plain plain.Where t ≡ false
   pub group : is_plain plain.Group t ≡ false
+  pub as_of : word_in word.AsOf t ≡ None
 
 pub close-follows : Follows (token.Plain plain.Close)
 unfolding plain_eq
-close-follows = record { operator = refl; window = refl; filter = refl; group = refl }
+close-follows = record { operator = refl; window = refl; filter = refl; group = refl; as_of = refl }
 
 pub into-follows : Follows (token.Plain plain.Into)
 unfolding plain_eq
-into-follows = record { operator = refl; window = refl; filter = refl; group = refl }
+into-follows = record { operator = refl; window = refl; filter = refl; group = refl; as_of = refl }
 
 join-follows : (join : Join) (at : ℕ) → Follows (token.Join join at)
-join-follows join at = record { operator = refl; window = refl; filter = refl; group = refl }
+join-follows join at = record { operator = refl; window = refl; filter = refl; group = refl; as_of = refl }
 
 pub have-source : (pick : Pick) (source : Query) (window : Option Window) (fs : List Frame) (t : Token) → Follows t → step (state (HaveSource pick source window) fs) t ≡ have_term fs (Select pick source window None None) t
 unfolding step
-have-source pick source window fs t f = rw (f.window, f.filter, f.group) refl
+have-source pick source window fs t f = rw (f.window, f.filter, f.group) (ends_alone pick source window fs t (can_join source window) f.as_of)
 
 have-filter : (pick : Pick) (source : Query) (window : Option Window) (e0 e : Expr) (fs0 fs : List Frame) (t : Token) → Follows t → reduced 6 fs0 e0 ≡ pair (InFilter pick source window ∷ fs) e → step (having e0 fs0) t ≡ have_term fs (Select pick source window (Some e) None) t
 unfolding step
@@ -75,6 +78,7 @@ end_term (Select pick source window None (Some n)) fs t g f = have-whole (Select
 end_term (Select pick source window (Some e) (Some n)) fs t g f = have-whole (Select pick source window (Some e) (Some n)) fs t
 end_term (Windows at var source window open' body) fs t g f = have-whole (Windows at var source window open' body) fs t
 end_term (Groups at var source grouping window open' body) fs t g f = have-whole (Groups at var source grouping window open' body) fs t
+end_term (AsOf' w l r grouping) fs t g f = absurd g
 end_term (Join' join at l r) fs t g f = absurd g
 
 -- no UNION or CONCAT waits on top
@@ -100,6 +104,7 @@ end_query (InBrackets at q) fs t g n f = end_term (InBrackets at q) fs t g f ∙
 end_query (Select pick source window filter grouping) fs t g n f = end_term (Select pick source window filter grouping) fs t g f ∙ term-alone fs (Select pick source window filter grouping) t n
 end_query (Windows at var source window open' body) fs t g n f = end_term (Windows at var source window open' body) fs t g f ∙ term-alone fs (Windows at var source window open' body) t n
 end_query (Groups at var source grouping window open' body) fs t g n f = end_term (Groups at var source grouping window open' body) fs t g f ∙ term-alone fs (Groups at var source grouping window open' body) t n
+end_query (AsOf' w l r grouping) fs t g n f = absurd g
 end_query (Join' join at l r) fs t g n f = end_term r (JoinOf l join at ∷ fs) t g.1 f
 
 -- ---- parts of a select
@@ -172,11 +177,19 @@ each-window : (at : ℕ) (var : Name) (source : Query) (w : Window) (open' : ℕ
 unfolding steps step plain_eq
 each-window at var source w open' fs rest = reads_words (EachWindow at var) source w.at w.size w.advance w.measure fs (token.Open open' ∷ rest) (takes_word w.measure)
 
+groups_body : (at : ℕ) (var : Name) (source : Query) (g : Grouping) (w : Option RowWindow) (open' : ℕ) (fs : List Frame) (rest : List Token)
+    → steps (state (WantBody (GroupsHead' at var source g None)) fs) (spell_row_window w ++ token.Open open' ∷ rest) ≡ steps (state WantTerm (InBody (GroupsHead' at var source g w) open' ∷ fs)) rest
+unfolding steps step plain_eq
+groups_body at var source g None open' fs rest = refl
+groups_body at var source g (Some w) open' fs rest = reads_words (GroupsWindow at var g) source w.at w.size w.advance Tuples fs (token.Open open' ∷ rest) refl
+
 each-groups : (at : ℕ) (var : Name) (source : Query) (g : Grouping) (w : Option RowWindow) (open' : ℕ) (fs : List Frame) (rest : List Token)
     → steps (state (HaveEachSource at var source) fs) (spell_grouping g ++ (spell_row_window w ++ token.Open open' ∷ rest)) ≡ steps (state WantTerm (InBody (GroupsHead' at var source g w) open' ∷ fs)) rest
-unfolding steps step plain_eq
-each-groups at var source g None open' fs rest = refl
-each-groups at var source g (Some w) open' fs rest = reads_words (GroupsWindow at var g) source w.at w.size w.advance Tuples fs (token.Open open' ∷ rest) refl
+each-groups at var source g w open' fs rest =
+    let behind : List Token = spell_row_window w ++ token.Open open' ∷ rest in
+    is-machine.goes (state (HaveEachSource at var source) fs) (state (WantKey (EachGroups at var source) g.at) fs) (token.By g.at) (token.Name g.key ∷ token.Plain plain.Groups ∷ token.Number g.groups ∷ behind) (each_by at var source g.at fs)
+    ∙ key_groups at var source g fs behind
+    ∙ groups_body at var source g w open' fs rest
 
 -- ---- whole queries
 
@@ -196,7 +209,8 @@ regroup_groups b g w body rest o c = simp append_assoc
 pub record IsRead (q : Query) : Type 0 where
   pub as_term : IsTerm q → (fs : List Frame) (rest : List Token) → steps (state WantTerm fs) (spell_query q ++ rest) ≡ steps (ended q fs) rest
   pub as_query : IsQuery q → (fs : List Frame) (rest : List Token) → NoJoin fs → steps (state WantTerm fs) (spell_query q ++ rest) ≡ steps (ended q fs) rest
-  pub as_source : IsSource q → (head : Head) (fs : List Frame) (rest : List Token) → steps (state (WantSource head) fs) (spell_query q ++ rest) ≡ steps (state (after_source head q) fs) rest
+  pub as_side : IsSide q → (head : Head) (fs : List Frame) (rest : List Token) → steps (state (WantSource head) fs) (spell_query q ++ rest) ≡ steps (state (after_source head q) fs) rest
+  pub as_source : IsSource q → (head : Head) → IsFirst head → (fs : List Frame) (rest : List Token) → steps (state (WantSource head) fs) (spell_query q ++ rest) ≡ steps (state (after_source head q) fs) rest
 
 -- a query in brackets, whatever they are
 closes : (q : Query) (f : Frame) (fs : List Frame) (s : State) (rest : List Token) → IsRead q → IsQuery q → NoJoin (f ∷ fs) → after_query (f ∷ fs) q (token.Plain plain.Close) ≡ Some s
@@ -223,7 +237,7 @@ reads_select pick source w filter grouping fs rest r p s f =
     begin-select fs ((spell_pick pick ++ token.Plain plain.From ∷ (spell_query source ++ (spell_if_window w ++ (spell_filter filter ++ spell_if_grouping grouping)))) ++ rest)
     ∙ ap (steps (wanting_item [] fs)) (regroup_select (spell_pick pick) (spell_query source) (spell_if_window w) (spell_filter filter) (spell_if_grouping grouping) rest (token.Plain plain.From))
     ∙ reads_pick pick fs (spell_query source ++ (spell_if_window w ++ (spell_filter filter ++ (spell_if_grouping grouping ++ rest)))) p
-    ∙ r.as_source s (SelectHead pick) fs (spell_if_window w ++ (spell_filter filter ++ (spell_if_grouping grouping ++ rest)))
+    ∙ r.as_source s (SelectHead pick) tt fs (spell_if_window w ++ (spell_filter filter ++ (spell_if_grouping grouping ++ rest)))
     ∙ reads_window pick source w fs (spell_filter filter ++ (spell_if_grouping grouping ++ rest))
     ∙ reads_tail pick source w filter grouping fs rest f
 
@@ -232,7 +246,7 @@ reads_windows : (at : ℕ) (var : Name) (source : Query) (w : Window) (open' : �
 reads_windows at var source w open' body fs rest r b s g =
     begin-each at var fs ((spell_query source ++ (spell_window w ++ token.Open open' ∷ (spell_query body ++ token.Plain plain.Close ∷ []))) ++ rest)
     ∙ ap (steps (state (WantSource (EachHead at var)) fs)) (regroup_each (spell_query source) (spell_window w) (spell_query body) rest (token.Open open') (token.Plain plain.Close))
-    ∙ r.as_source s (EachHead at var) fs (spell_window w ++ token.Open open' ∷ (spell_query body ++ token.Plain plain.Close ∷ rest))
+    ∙ r.as_source s (EachHead at var) tt fs (spell_window w ++ token.Open open' ∷ (spell_query body ++ token.Plain plain.Close ∷ rest))
     ∙ each-window at var source w open' fs (spell_query body ++ token.Plain plain.Close ∷ rest)
     ∙ closes body (InBody (WindowsHead at var source w) open') fs (state (HaveTerm (Windows at var source w open' body)) fs) rest b g tt refl
 
@@ -241,7 +255,7 @@ reads_groups : (at : ℕ) (var : Name) (source : Query) (n : Grouping) (window :
 reads_groups at var source n window open' body fs rest r b s g =
     begin-each at var fs ((spell_query source ++ (spell_grouping n ++ (spell_row_window window ++ token.Open open' ∷ (spell_query body ++ token.Plain plain.Close ∷ [])))) ++ rest)
     ∙ ap (steps (state (WantSource (EachHead at var)) fs)) (regroup_groups (spell_query source) (spell_grouping n) (spell_row_window window) (spell_query body) rest (token.Open open') (token.Plain plain.Close))
-    ∙ r.as_source s (EachHead at var) fs (spell_grouping n ++ (spell_row_window window ++ token.Open open' ∷ (spell_query body ++ token.Plain plain.Close ∷ rest)))
+    ∙ r.as_source s (EachHead at var) tt fs (spell_grouping n ++ (spell_row_window window ++ token.Open open' ∷ (spell_query body ++ token.Plain plain.Close ∷ rest)))
     ∙ each-groups at var source n window open' fs (spell_query body ++ token.Plain plain.Close ∷ rest)
     ∙ closes body (InBody (GroupsHead' at var source n window) open') fs (state (HaveTerm (Groups at var source n window open' body)) fs) rest b g tt refl
 
@@ -278,33 +292,66 @@ reads_join join at l r fs rest a b g h n =
     ∙ reads_joining join at l fs (spell_query r ++ rest) g n
     ∙ b.as_term h (JoinOf l join at ∷ fs) rest
 
+regroup_as_of : (l r g rest : List Token) (t : Token) → (l ++ t ∷ (r ++ g)) ++ rest ≡ l ++ t ∷ (r ++ (g ++ rest))
+regroup_as_of l r g rest t = simp append_assoc
+
+reads_right : (join : JoinHead) (r : Query) (g : Grouping) (fs : List Frame) (rest : List Token) → IsRead r → IsSide r
+    → steps (state (WantSource (RightHead join)) fs) (spell_query r ++ (spell_grouping g ++ rest)) ≡ steps (state (after_join join r g) fs) rest
+reads_right join r g fs rest a h = a.as_side h (RightHead join) fs (spell_grouping g ++ rest) ∙ join_grouping join r g fs rest
+
+-- an as-of join is read where a source may stand
+reads_as_of : (w : Spelling) (l r : Query) (g : Grouping) (head : Head) (fs : List Frame) (rest : List Token) → IsRead l → IsRead r → IsSide l → IsSide r → IsFirst head
+    → steps (state (WantSource head) fs) (spell_query (AsOf' w l r g) ++ rest) ≡ steps (state (after_source head (AsOf' w l r g)) fs) rest
+reads_as_of w l r g (SelectHead pick) fs rest a b h k i =
+    ap (steps (state (WantSource (SelectHead pick)) fs)) (regroup_as_of (spell_query l) (spell_query r) (spell_grouping g) rest (spell_word word.AsOf w))
+    ∙ a.as_side h (SelectHead pick) fs (spell_word word.AsOf w ∷ (spell_query r ++ (spell_grouping g ++ rest)))
+    ∙ is-machine.goes (state (HaveSource pick l None) fs) (state (WantSource (RightHead (SelectJoin pick l w))) fs) (spell_word word.AsOf w) (spell_query r ++ (spell_grouping g ++ rest)) (select_joins pick l w fs h)
+    ∙ reads_right (SelectJoin pick l w) r g fs rest b k
+reads_as_of w l r g (EachHead at var) fs rest a b h k i =
+    ap (steps (state (WantSource (EachHead at var)) fs)) (regroup_as_of (spell_query l) (spell_query r) (spell_grouping g) rest (spell_word word.AsOf w))
+    ∙ a.as_side h (EachHead at var) fs (spell_word word.AsOf w ∷ (spell_query r ++ (spell_grouping g ++ rest)))
+    ∙ is-machine.goes (state (HaveEachSource at var l) fs) (state (WantSource (RightHead (EachJoin at var l w))) fs) (spell_word word.AsOf w) (spell_query r ++ (spell_grouping g ++ rest)) (each_joins at var l w fs h)
+    ∙ reads_right (EachJoin at var l w) r g fs rest b k
+reads_as_of w l r g (RightHead join) fs rest a b h k i = absurd i
+
 -- a term, a query and a source are read, and then what follows them
 pub reads : (q : Query) → IsRead q
-reads (Stream name) = record { as_term = λ g fs rest. absurd g; as_query = λ g fs rest n. absurd g; as_source = λ g head fs rest. source-name head name fs rest }
+reads (Stream name) = record { as_term = λ g fs rest. absurd g; as_query = λ g fs rest n. absurd g; as_side = λ g head fs rest. source-name head name fs rest; as_source = λ g head i fs rest. source-name head name fs rest }
 reads (InBrackets at q) = record {
   as_term = λ g fs rest. reads_brackets at q fs rest (reads q) g;
   as_query = λ g fs rest n. reads_brackets at q fs rest (reads q) g;
-  as_source = λ g head fs rest. reads_source_brackets head at q fs rest (reads q) g;
+  as_side = λ g head fs rest. reads_source_brackets head at q fs rest (reads q) g;
+  as_source = λ g head i fs rest. reads_source_brackets head at q fs rest (reads q) g;
 }
 reads (Select pick source w filter grouping) = record {
   as_term = λ g fs rest. reads_select pick source w filter grouping fs rest (reads source) g.0 g.1 g.2;
   as_query = λ g fs rest n. reads_select pick source w filter grouping fs rest (reads source) g.0 g.1 g.2;
-  as_source = λ g head fs rest. absurd g;
+  as_side = λ g head fs rest. absurd g;
+  as_source = λ g head i fs rest. absurd g;
 }
 reads (Windows at var source w open' body) = record {
   as_term = λ g fs rest. reads_windows at var source w open' body fs rest (reads source) (reads body) g.0 g.1;
   as_query = λ g fs rest n. reads_windows at var source w open' body fs rest (reads source) (reads body) g.0 g.1;
-  as_source = λ g head fs rest. absurd g;
+  as_side = λ g head fs rest. absurd g;
+  as_source = λ g head i fs rest. absurd g;
 }
 reads (Groups at var source n window open' body) = record {
   as_term = λ g fs rest. reads_groups at var source n window open' body fs rest (reads source) (reads body) g.0 g.1;
   as_query = λ g fs rest m. reads_groups at var source n window open' body fs rest (reads source) (reads body) g.0 g.1;
-  as_source = λ g head fs rest. absurd g;
+  as_side = λ g head fs rest. absurd g;
+  as_source = λ g head i fs rest. absurd g;
+}
+reads (AsOf' w l r grouping) = record {
+  as_term = λ g fs rest. absurd g;
+  as_query = λ g fs rest n. absurd g;
+  as_side = λ g head fs rest. absurd g;
+  as_source = λ g head i fs rest. reads_as_of w l r grouping head fs rest (reads l) (reads r) g.0 g.1 i;
 }
 reads (Join' join at l r) = record {
   as_term = λ g fs rest. absurd g;
   as_query = λ g fs rest n. reads_join join at l r fs rest (reads l) (reads r) g.0 g.1 n;
-  as_source = λ g head fs rest. absurd g;
+  as_side = λ g head fs rest. absurd g;
+  as_source = λ g head i fs rest. absurd g;
 }
 
 -- ---- whole statements

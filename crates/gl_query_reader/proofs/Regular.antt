@@ -138,6 +138,11 @@ query_names (written.Groups at var source grouping window open' body) h =
     let c = sound_parts (written.spell_row_window window) (token.Open open' ∷ tail) b.1 in
     let d = sound_parts (written.spell_query body) (token.Plain plain.Close ∷ []) c.1.1 in
     (query_names source a.0, query_names body d.0, h.1.0.name, b.0.1.0.name)
+query_names (written.AsOf' w l r grouping) h =
+    let right : List Token = written.spell_query r ++ written.spell_grouping grouping in
+    let a = sound_parts (written.spell_query l) (written.spell_word word.AsOf w ∷ right) h in
+    let b = sound_parts (written.spell_query r) (written.spell_grouping grouping) a.1.1 in
+    (query_names l a.0, query_names r b.0, b.1.1.0.name)
 query_names (written.Join' join at l r) h =
     let a = sound_parts (written.spell_query l) (written.spell_join join at ++ written.spell_query r) h in
     let b = sound_parts (written.spell_join join at) (written.spell_query r) a.1 in

@@ -41,6 +41,7 @@ word_same word.Row word.Row e = refl
 word_same word.Lag word.Lag e = refl
 word_same word.LastValue word.LastValue e = refl
 word_same word.Arrival word.Arrival e = refl
+word_same word.AsOf word.AsOf e = refl
 word_same v w e = absurd (false≢true e)
 
 word_refl : (w : Word) → word_eq w w ≡ true
@@ -57,6 +58,7 @@ word_refl word.Row = refl
 word_refl word.Lag = refl
 word_refl word.LastValue = refl
 word_refl word.Arrival = refl
+word_refl word.AsOf = refl
 
 -- the token of a name that is a word in small letters
 small_token : (w : Word) (n : Name) → is_small w n ≡ true → spell_word w (Small n.at) ≡ token.Name n

@@ -18,8 +18,8 @@ use Rattle.gl_query_tokens.specs.declared.token.Word.TheVariants as word
 use Rattle.gl_query_tokens.specs.declared.token.Token.{Token}
 use Rattle.gl_query_tokens.specs.declared.token.Token.TheVariants as token
 use Rattle.gl_query_tokens.specs.Sorts.{plain_eq, is_plain, name_in, number_in, open_in, size_in, by_in, word_in}
-use Rattle.gl_query_reader.specs.Written.{Wsum, Item, Items, Query, left_looseness, looseness, level, IsExpr, IsAgg, IsOverAgg, IsOverHead, IsOver, AreItems, IsPick, IsFilter, IsQuery, IsSource, IsTerm, spell, spell_numbers, spell_agg, spell_word, spell_over_agg, spell_head, spell_part, spell_over, spell_items, measure_word, spell_pick, spell_window, spell_if_window, spell_row_window, spell_filter, spell_grouping, spell_query, spell_join}
-use Rattle.gl_query_reader.specs.States.{measure_in, measure_for, State, Control, Frame, Head, WindowHead, BodyHead, GroupsHead, Unnamed, SelectHead, EachHead, SelectWindow, EachWindow, GroupsWindow, WindowsHead, GroupsHead', SelectGroups, EachGroups, OverGroups, UnnamedExpr, UnnamedAgg, UnnamedOver, LeftOf, NotOf, BracketOf, InCast, InItem, InFold, InWsum, InCall, InCondition, InFilter, JoinOf, InQuery, InSource, InBody, WantTerm, WantItem, WantOperand, WantMinus, HaveExpr, WantCastOpen, WantKind, WantCastClose, WantCountOpen, WantCountClose, WantFoldOpen, WantWsumOpen, WantWeightsOpen, WantWeight, HaveWeight, WantWsumClose, HaveAgg, WantCallOpen, WantBack, WantLagClose, WantOver, WantFilterOpen, WantFilterWhere, WantOverOpen, WantPart, WantPartBy, InOver, WantOverAs, WantItemName, HaveItem, WantFrom, WantSource, HaveSource, HaveEachSource, WantSize, WantSizeNumber, WantAdvance, WantAdvanceNumber, WantMeasure, WantWindowClose, WantBy, WantKey, WantGroups, WantGroupsNumber, WantVar, WantIn, WantBody, HaveTerm, WantName, HaveName, WantEnd, WantArrival}
+use Rattle.gl_query_reader.specs.Written.{Wsum, Item, Items, Query, left_looseness, looseness, level, IsExpr, IsAgg, IsOverAgg, IsOverHead, IsOver, AreItems, IsPick, IsFilter, IsQuery, IsSide, IsSource, IsTerm, spell, spell_numbers, spell_agg, spell_word, spell_over_agg, spell_head, spell_part, spell_over, spell_items, measure_word, spell_pick, spell_window, spell_if_window, spell_row_window, spell_filter, spell_grouping, spell_query, spell_join}
+use Rattle.gl_query_reader.specs.States.{measure_in, measure_for, State, Control, Frame, Head, WindowHead, BodyHead, GroupsHead, Unnamed, SelectHead, EachHead, SelectWindow, EachWindow, GroupsWindow, WindowsHead, GroupsHead', SelectGroups, EachGroups, OverGroups, UnnamedExpr, UnnamedAgg, UnnamedOver, LeftOf, NotOf, BracketOf, InCast, InItem, InFold, InWsum, InCall, InCondition, InFilter, JoinOf, InQuery, InSource, InBody, WantTerm, WantItem, WantOperand, WantMinus, HaveExpr, WantCastOpen, WantKind, WantCastClose, WantCountOpen, WantCountClose, WantFoldOpen, WantWsumOpen, WantWeightsOpen, WantWeight, HaveWeight, WantWsumClose, HaveAgg, WantCallOpen, WantBack, WantLagClose, WantOver, WantFilterOpen, WantFilterWhere, WantOverOpen, WantPart, WantPartBy, InOver, WantOverAs, WantItemName, HaveItem, WantFrom, WantSource, HaveSource, HaveEachSource, WantSize, WantSizeNumber, WantAdvance, WantAdvanceNumber, WantMeasure, WantWindowClose, WantBy, WantKey, WantGroups, WantGroupsNumber, WantVar, WantIn, WantBody, HaveTerm, WantName, HaveName, WantEnd, WantArrival, JoinHead, SelectJoin, EachJoin, RightHead, JoinGroups, WantJoinBy}
 use Rattle.gl_query_reader.specs.Machine.{room}
 use Rattle.gl_query_reader.proofs.Steps.{state}
 use Rattle.gl_query_reader.proofs.ReadQueries.{NoJoin}
@@ -37,9 +37,14 @@ abbrev pub numbers_before : List Num → List Token
 numbers_before [] = []
 numbers_before (n ∷ ns) = spell_numbers (n ∷ ns) ++ token.Plain plain.Comma ∷ []
 
+abbrev pub join_text : JoinHead → List Token
+join_text (SelectJoin pick l w) = token.Plain plain.Select ∷ (spell_pick pick ++ token.Plain plain.From ∷ (spell_query l ++ spell_word word.AsOf w ∷ []))
+join_text (EachJoin at var l w) = token.Each at ∷ token.Name var ∷ token.Plain plain.In ∷ (spell_query l ++ spell_word word.AsOf w ∷ [])
+
 abbrev pub head_text : Head → List Token
 head_text (SelectHead pick) = token.Plain plain.Select ∷ (spell_pick pick ++ token.Plain plain.From ∷ [])
 head_text (EachHead at var) = token.Each at ∷ token.Name var ∷ token.Plain plain.In ∷ []
+head_text (RightHead join) = join_text join
 
 abbrev pub body_text : BodyHead → List Token
 body_text (WindowsHead at var source window) = token.Each at ∷ token.Name var ∷ token.Plain plain.In ∷ (spell_query source ++ spell_window window)
@@ -59,6 +64,7 @@ abbrev pub groups_text : GroupsHead → List Token
 groups_text (SelectGroups pick source window filter) = token.Plain plain.Select ∷ (spell_pick pick ++ token.Plain plain.From ∷ (spell_query source ++ (spell_if_window window ++ (spell_filter filter ++ token.Plain plain.Group ∷ []))))
 groups_text (EachGroups at var source) = token.Each at ∷ token.Name var ∷ token.Plain plain.In ∷ spell_query source
 groups_text (OverGroups items head w open' p) = in_items items (spell_head head ++ spell_word word.Over w ∷ token.Open open' ∷ spell_word word.Partition p ∷ [])
+groups_text (JoinGroups join r) = join_text join ++ spell_query r
 
 -- what has a window, and what was read behind it
 abbrev pub in_source : WindowHead → Query → List Token → List Token
@@ -122,6 +128,7 @@ control_text (WantFrom at) = token.Plain plain.Select ∷ token.Operator op.Mul 
 control_text (WantSource head) = head_text head
 control_text (HaveSource pick source window) = token.Plain plain.Select ∷ (spell_pick pick ++ token.Plain plain.From ∷ (spell_query source ++ spell_if_window window))
 control_text (HaveEachSource at var source) = token.Each at ∷ token.Name var ∷ token.Plain plain.In ∷ spell_query source
+control_text (WantJoinBy join r) = join_text join ++ spell_query r
 control_text (WantSize head source) = in_source head source (token.Plain plain.LeftSquare ∷ [])
 control_text (WantSizeNumber head source at) = in_source head source (token.Plain plain.LeftSquare ∷ token.Size at ∷ [])
 control_text (WantAdvance head source at size) = in_source head source (token.Plain plain.LeftSquare ∷ token.Size at ∷ token.Number size ∷ [])
@@ -143,9 +150,14 @@ control_text (WantEnd q name) = spell_query q ++ token.Plain plain.Into ∷ toke
 
 -- ---- that it keeps trees of the grammar
 
+abbrev pub IsJoinHead : JoinHead → Type 0
+IsJoinHead (SelectJoin pick l w) = IsPick pick × IsSide l
+IsJoinHead (EachJoin at var l w) = IsSide l
+
 abbrev pub IsHead : Head → Type 0
 IsHead (SelectHead pick) = IsPick pick
 IsHead (EachHead at var) = Unit {0}
+IsHead (RightHead join) = IsJoinHead join
 
 abbrev pub IsWindowHead : WindowHead → Type 0
 IsWindowHead (SelectWindow pick) = IsPick pick
@@ -166,6 +178,7 @@ abbrev pub IsGroupsHead : GroupsHead → Type 0
 IsGroupsHead (SelectGroups pick source window filter) = IsPick pick × IsSource source × IsFilter filter
 IsGroupsHead (EachGroups at var source) = IsSource source
 IsGroupsHead (OverGroups items head w open' p) = AreItems items × IsOverHead head
+IsGroupsHead (JoinGroups join r) = IsJoinHead join × IsSide r
 
 abbrev pub IsUnnamed : Unnamed → Type 0
 IsUnnamed (UnnamedExpr e) = IsExpr e
@@ -250,6 +263,7 @@ Holds (WantFrom at) fs = InTerm fs
 Holds (WantSource head) fs = InTerm fs × IsHead head
 Holds (HaveSource pick source window) fs = InTerm fs × IsPick pick × IsSource source
 Holds (HaveEachSource at var source) fs = InTerm fs × IsSource source
+Holds (WantJoinBy join r) fs = InTerm fs × IsJoinHead join × IsSide r
 Holds (WantSize head source) fs = InTerm fs × IsWindowHead head × IsSource source
 Holds (WantSizeNumber head source at) fs = InTerm fs × IsWindowHead head × IsSource source
 Holds (WantAdvance head source at size) fs = InTerm fs × IsWindowHead head × IsSource source

@@ -250,6 +250,12 @@ query_small (written.Groups at var source grouping window open' body) more n w =
     let b = along (written.spell_row_window window) (token.Open open' ∷ bodies) more _ d in
     let c = first_part (written.spell_query body) tail more _ (within_more _ (token.Open open') _ b) in
     (query_small source (rest ++ more) _ s, query_small body (tail ++ more) _ c, tt, tt)
+query_small (written.AsOf' v l r grouping) more n w =
+    let groups : List Token = written.spell_grouping grouping in
+    let rest : List Token = written.spell_word word.AsOf v ∷ (written.spell_query r ++ groups) in
+    let a = first_part (written.spell_query l) rest more n w in
+    let b = within_more _ (written.spell_word word.AsOf v) _ (along (written.spell_query l) rest more n w) in
+    (query_small l (rest ++ more) n a, query_small r (groups ++ more) _ (first_part (written.spell_query r) groups more _ b), tt)
 query_small (written.Join' j at l r) more n w =
     let rest : List Token = written.spell_join j at ++ written.spell_query r in
     let a = first_part (written.spell_query l) rest more n w in

@@ -1,24 +1,28 @@
 -- What follows a term, and the parts of sources, windows and groups, are read as the grammar has them.
-use Rattle.std.proofs.Common.{◌≡◌, ℕ, List, [], ◌∷◌, ◌++◌, Option, Some, None, refl, ap, subst, ◌∙◌, append_assoc}
-use Rattle.std.specs.Prelude.{option_and_then}
+use Rattle.std.proofs.Common.{◌≡◌, ℕ, Bool, true, false, List, [], ◌∷◌, ◌++◌, Option, Some, None, refl, ap, subst, ◌∙◌, append_assoc}
+use Rattle.std.specs.Prelude.{not, option_and_then}
 use Rattle.std.proofs.lemmas.List.{append-nil}
 use Rattle.gl_query.specs.declared.tree.Measure.{Measure}
 use Rattle.gl_query.specs.declared.tree.Name.{Name}
 use Rattle.gl_query.specs.declared.tree.Num.{Num}
 use Rattle.gl_query_tokens.specs.declared.token.Join.TheVariants as join
 use Rattle.gl_query_tokens.specs.declared.token.Plain.TheVariants as plain
+use Rattle.gl_query_tokens.specs.declared.token.Spelling.{Spelling}
 use Rattle.gl_query_tokens.specs.declared.token.Word.TheVariants as word
 use Rattle.gl_query_tokens.specs.declared.token.Token.{Token}
 use Rattle.gl_query_tokens.specs.declared.token.Token.TheVariants as token
+use Rattle.gl_query_tokens.specs.Sorts.{by_in}
 use Rattle.gl_query_reader.specs.declared.over_state.RowsSoFar.TheVariants as so_far
 use Rattle.gl_query_reader.specs.declared.joins.Joining.TheVariants as joining
 use Rattle.gl_query_reader.specs.declared.written.Window.{Window}
-use Rattle.gl_query_reader.specs.Written.{Expr, LagOf, Ranged, Pick, Query, Stream, InBrackets, Select, Windows, Groups, Join', IsQuery, IsTerm, measure_word, spell_word, spell_head, spell_pick, spell_window, spell_if_window, spell_row_window, spell_filter, spell_grouping, spell_join, spell_query}
-use Rattle.gl_query_reader.specs.States.{measured, row_window, State, Control, Frame, Head, WindowHead, BodyHead, GroupsHead, SelectHead, EachHead, SelectWindow, EachWindow, GroupsWindow, WindowsHead, GroupsHead', SelectGroups, EachGroups, OverGroups, InFilter, JoinOf, InQuery, InSource, InBody, WantTerm, WantItem, WantOperand, WantSource, HaveSource, HaveEachSource, WantSize, WantSizeNumber, WantAdvance, WantAdvanceNumber, WantMeasure, WantWindowClose, WantBy, WantKey, WantGroups, WantGroupsNumber, InOver, WantArrival, WantVar, WantIn, WantBody, HaveTerm, WantName, HaveName, WantEnd, goes}
+use Rattle.gl_query_reader.specs.Written.{Expr, LagOf, Ranged, Pick, Query, Stream, InBrackets, Select, Windows, Groups, AsOf', Join', IsSide, IsSource, IsQuery, IsTerm, measure_word, spell_word, spell_head, spell_pick, spell_window, spell_if_window, spell_row_window, spell_filter, spell_grouping, spell_join, spell_query}
+use Rattle.gl_query_reader.specs.States.{measured, row_window, State, Control, Frame, Head, WindowHead, BodyHead, GroupsHead, SelectHead, EachHead, SelectWindow, EachWindow, GroupsWindow, WindowsHead, GroupsHead', SelectGroups, EachGroups, OverGroups, InFilter, JoinOf, InQuery, InSource, InBody, WantTerm, WantItem, WantOperand, WantSource, HaveSource, HaveEachSource, WantSize, WantSizeNumber, WantAdvance, WantAdvanceNumber, WantMeasure, WantWindowClose, WantBy, WantKey, WantGroups, WantGroupsNumber, InOver, WantArrival, WantVar, WantIn, WantBody, HaveTerm, WantName, HaveName, WantEnd, goes, JoinHead, SelectJoin, EachJoin, RightHead, JoinGroups, WantJoinBy}
 use Rattle.gl_query_reader.specs.Begun.{open_body}
-use Rattle.gl_query_reader.specs.Machine.{have_term, after_query, close_query, end_query, begin_window, step_at}
+use Rattle.gl_query_reader.specs.Machine.{have_term, after_query, close_query, end_query, end_source, join_or_end, step_at}
+use Rattle.gl_query_reader.specs.Windowed.{begin_window, can_join, is_joined, join_or_by, join_word}
 use Rattle.gl_query_reader.proofs.ReadQueries.{NoJoin}
-use Rattle.gl_query_reader.proofs.Said.{items_before, head_text, body_text, groups_text, in_source, before, control_text, InTerm, Fits, Holds, Read, by_some, by_if, by_plain, by_name, by_number, by_open, by_measure, by_size, by_by, by_word_or, go_on, go_in}
+use Rattle.gl_query_reader.proofs.Said.{items_before, join_text, head_text, body_text, groups_text, in_source, before, control_text, InTerm, Fits, Holds, Read, by_some, by_if, by_plain, by_name, by_number, by_open, by_measure, by_size, by_by, by_word_or, go_on, go_in}
+use Rattle.gl_bits.proofs.Bools.{not_true}
 
 -- a control that keeps what was read, whatever token comes
 abbrev pub Keeps : Control → Type 0
@@ -32,6 +36,7 @@ term_is_query (InBrackets at q) h = h
 term_is_query (Select pick source window filter grouping) h = h
 term_is_query (Windows at var source window open' body) h = h
 term_is_query (Groups at var source grouping window open' body) h = h
+term_is_query (AsOf' w l r grouping) h = absurd h
 term_is_query (Join' join at l r) h = absurd h
 
 close_brackets : (b q : List Token) (o c : Token) → b ++ (o ∷ (q ++ c ∷ [])) ≡ ((b ++ o ∷ []) ++ q) ++ c ∷ []
@@ -57,6 +62,11 @@ closes_query (InSource (EachHead at' var) at ∷ fs) q s' f h e = by_some _ s' _
   text = close_source (before fs) (head_text (EachHead at' var)) (spell_query q) (token.Open at) (token.Plain plain.Close);
   fits = f.1;
   holds = (f.0.0, h);
+})
+closes_query (InSource (RightHead join) at ∷ fs) q s' f h e = by_some _ s' _ e (record {
+  text = close_source (before fs) (join_text join) (spell_query q) (token.Open at) (token.Plain plain.Close);
+  fits = f.1;
+  holds = (f.0.0, f.0.1, h);
 })
 closes_query (InBody (WindowsHead at var source window) open' ∷ fs) q s' f h e = by_some _ s' _ e (record {
   text = text (before fs) (spell_query source) (spell_window window) (spell_query q);
@@ -149,6 +159,7 @@ keeps_source (SelectHead pick) fs (token.Name n) s' f h e = by_some _ s' _ e (go
     text : (p : List Token) → (token.Plain plain.Select ∷ (p ++ token.Plain plain.From ∷ [])) ++ token.Name n ∷ [] ≡ token.Plain plain.Select ∷ (p ++ token.Plain plain.From ∷ token.Name n ∷ [])
     text p = simp append_assoc
 keeps_source (EachHead at var) fs (token.Name n) s' f h e = by_some _ s' _ e (go_on (head_text (EachHead at var)) (HaveEachSource at var (Stream n)) fs (token.Name n) f (h.0, tt) refl)
+keeps_source (RightHead join) fs (token.Name n) s' f h e = by_some _ s' _ e (go_on (join_text join) (WantJoinBy join (Stream n)) fs (token.Name n) f (h.0, h.1, tt) refl)
 keeps_source head fs (token.Open at) s' f h e = by_some _ s' _ e (go_in (head_text head) WantTerm (InSource head at) fs (token.Open at) f (h.0, h.1) tt refl refl)
 keeps_source head fs t s' f h e = absurd cc
 
@@ -168,17 +179,71 @@ begin_filter p q w t = simp append_assoc
 select_alone : (b p q w : List Token) → b ++ (token.Plain plain.Select ∷ (p ++ token.Plain plain.From ∷ (q ++ (w ++ ([] ++ []))))) ≡ b ++ (token.Plain plain.Select ∷ (p ++ token.Plain plain.From ∷ (q ++ w)))
 select_alone b p q w = rw (append-nil w) refl
 
+-- ---- ASOF behind a source
+
+plain_side : (q : Query) → IsSource q → is_joined q ≡ false → IsSide q
+plain_side (Stream name) h e = tt
+plain_side (InBrackets at q) h e = h
+plain_side (Select pick source window filter grouping) h e = absurd h
+plain_side (Windows at var source window open' body) h e = absurd h
+plain_side (Groups at var source grouping window open' body) h e = absurd h
+plain_side (AsOf' w l r grouping) h e = absurd cc
+plain_side (Join' join at l r) h e = absurd h
+
+ends_source : (pick : Pick) (source : Query) (window : Option Window) (fs : List Frame) (t : Token) (s' : State) → Fits fs → Holds (HaveSource pick source window) fs
+    → end_source fs pick source window t ≡ Some s' → Read s' ((before fs ++ control_text (HaveSource pick source window)) ++ t ∷ [])
+ends_source pick source window fs t s' f h e =
+    subst (λ (x : List Token). Read s' (x ++ t ∷ [])) (select_alone (before fs) (spell_pick pick) (spell_query source) (spell_if_window window)) (keeps_term fs (Select pick source window None None) t s' f h.0 (h.1, h.2, tt) e)
+
+-- ASOF, where it may stand, or else
+by_join : (can : Bool) (t : Token) (f : Option Spelling → Option State) (s' : State) (done : List Token) → f (join_word can t) ≡ Some s'
+    → ((w : Spelling) → can ≡ true → f (Some w) ≡ Some s' → Read s' (done ++ spell_word word.AsOf w ∷ [])) → (f None ≡ Some s' → Read s' (done ++ t ∷ [])) → Read s' (done ++ t ∷ [])
+by_join true t f s' done e here there = by_word_or word.AsOf t f s' done e (λ w d. here w refl d) there
+by_join false t f s' done e here there = there e
+
+-- a source that may be the left side of ASOF
+left_side : (source : Query) (window : Option Window) → IsSource source → can_join source window ≡ true → IsSide source × (window ≡ None)
+left_side source None h c = (plain_side source h (not_true (is_joined source) c), refl)
+left_side source (Some window) h c = absurd cc
+
+joined_text : (p q x : List Token) (w : Token) → x ≡ [] → (token.Plain plain.Select ∷ (p ++ token.Plain plain.From ∷ (q ++ x))) ++ w ∷ [] ≡ token.Plain plain.Select ∷ (p ++ token.Plain plain.From ∷ (q ++ w ∷ []))
+joined_text p q x w e = begin_filter p q x w ∙ ap (λ (y : List Token). token.Plain plain.Select ∷ (p ++ token.Plain plain.From ∷ (q ++ (y ++ w ∷ [])))) e
+
+joins_or_ends : (pick : Pick) (source : Query) (window : Option Window) (fs : List Frame) (t : Token) (s' : State) → Fits fs → Holds (HaveSource pick source window) fs
+    → join_or_end fs pick source window (join_word (can_join source window) t) t ≡ Some s' → Read s' ((before fs ++ control_text (HaveSource pick source window)) ++ t ∷ [])
+joins_or_ends pick source window fs t s' f h e =
+    by_join (can_join source window) t (λ o. join_or_end fs pick source window o t) s' _ e
+    (λ w c d. let side = left_side source window h.2 c in
+    by_some _ s' _ d (go_on (control_text (HaveSource pick source window)) (WantSource (RightHead (SelectJoin pick source w))) fs (spell_word word.AsOf w) f (h.0, (h.1, side.0))
+    (joined_text (spell_pick pick) (spell_query source) (spell_if_window window) (spell_word word.AsOf w) (ap spell_if_window side.1))))
+    (λ d. ends_source pick source window fs t s' f h d)
+
+begins_groups : (at : ℕ) (var : Name) (source : Query) (fs : List Frame) (t : Token) (s' : State) → Fits fs → Holds (HaveEachSource at var source) fs
+    → option_and_then (λ n. goes (WantKey (EachGroups at var source) n) fs) (by_in t) ≡ Some s' → Read s' ((before fs ++ control_text (HaveEachSource at var source)) ++ t ∷ [])
+begins_groups at var source fs t s' f h e =
+    by_by t _ s' _ e (λ n d. by_some _ s' _ d (go_on (control_text (HaveEachSource at var source)) (WantKey (EachGroups at var source) n) fs (token.By n) f (h.0, h.1) refl))
+
+joins_or_by : (at : ℕ) (var : Name) (source : Query) (fs : List Frame) (t : Token) (s' : State) → Fits fs → Holds (HaveEachSource at var source) fs
+    → join_or_by fs at var source (join_word (not (is_joined source)) t) t ≡ Some s' → Read s' ((before fs ++ control_text (HaveEachSource at var source)) ++ t ∷ [])
+joins_or_by at var source fs t s' f h e =
+    by_join (not (is_joined source)) t (λ o. join_or_by fs at var source o t) s' _ e
+    (λ w c d. by_some _ s' _ d (go_on (control_text (HaveEachSource at var source)) (WantSource (RightHead (EachJoin at var source w))) fs (spell_word word.AsOf w) f (h.0, plain_side source h.1 (not_true (is_joined source) c)) refl))
+    (λ d. begins_groups at var source fs t s' f h d)
+
+pub keeps_join_by : (join : JoinHead) (right : Query) → Keeps (WantJoinBy join right)
+keeps_join_by join right fs t s' f h e = by_by t _ s' _ e (λ n d. by_some _ s' _ d (go_on (control_text (WantJoinBy join right)) (WantKey (JoinGroups join right) n) fs (token.By n) f (h.0, (h.1, h.2)) refl))
+
 pub keeps_have_source : (pick : Pick) (source : Query) (window : Option Window) → Keeps (HaveSource pick source window)
 keeps_have_source pick source window fs t s' f h e =
     by_if plain.LeftSquare t _ _ s' _ e (λ d. begins_window pick source window fs s' f h d)
     (λ e1. by_if plain.Where t _ _ s' _ e1 (λ d. by_some _ s' _ d (go_in (control_text (HaveSource pick source window)) WantOperand (InFilter pick source window) fs (token.Plain plain.Where) f (h.0, h.1, h.2) tt refl (begin_filter (spell_pick pick) (spell_query source) (spell_if_window window) (token.Plain plain.Where))))
     (λ e2. by_if plain.Group t _ _ s' _ e2 (λ d. by_some _ s' _ d (go_on (control_text (HaveSource pick source window)) (WantBy pick source window None) fs (token.Plain plain.Group) f (h.0, (h.1, h.2, tt)) (begin_filter (spell_pick pick) (spell_query source) (spell_if_window window) (token.Plain plain.Group))))
-    (λ e3. subst (λ (x : List Token). Read s' (x ++ t ∷ [])) (select_alone (before fs) (spell_pick pick) (spell_query source) (spell_if_window window)) (keeps_term fs (Select pick source window None None) t s' f h.0 (h.1, h.2, tt) e3))))
+    (λ e3. joins_or_ends pick source window fs t s' f h e3)))
 
 pub keeps_each_source : (at : ℕ) (var : Name) (source : Query) → Keeps (HaveEachSource at var source)
 keeps_each_source at var source fs t s' f h e =
     by_if plain.LeftSquare t _ _ s' _ e (λ d. by_some _ s' _ d (go_on (control_text (HaveEachSource at var source)) (WantSize (EachWindow at var) source) fs (token.Plain plain.LeftSquare) f (h.0, tt, h.1) refl))
-    (λ e1. by_by t _ s' _ e1 (λ n d. by_some _ s' _ d (go_on (control_text (HaveEachSource at var source)) (WantKey (EachGroups at var source) n) fs (token.By n) f (h.0, h.1) refl)))
+    (λ e1. joins_or_by at var source fs t s' f h e1)
 
 -- ---- windows
 
@@ -249,8 +314,20 @@ group_each q more a b c t = simp append_assoc
 group_over : (b h : List Token) (s u v w : Token) (more : List Token) (t : Token) → ((s ∷ (b ++ (h ++ u ∷ v ∷ w ∷ []))) ++ more) ++ t ∷ [] ≡ s ∷ (b ++ (h ++ u ∷ v ∷ w ∷ (more ++ t ∷ [])))
 group_over b h s u v w more t = simp append_assoc
 
+joined_select : (p q x : List Token) (s r w b k g n : Token) → (((s ∷ (p ++ r ∷ (q ++ w ∷ []))) ++ x) ++ b ∷ k ∷ g ∷ []) ++ n ∷ [] ≡ s ∷ (p ++ r ∷ ((q ++ w ∷ (x ++ b ∷ k ∷ g ∷ n ∷ [])) ++ []))
+joined_select p q x s r w b k g n = simp append_assoc
+
+joined_each : (q x : List Token) (s v i w b k g n : Token) → (((s ∷ v ∷ i ∷ (q ++ w ∷ [])) ++ x) ++ b ∷ k ∷ g ∷ []) ++ n ∷ [] ≡ s ∷ v ∷ i ∷ (q ++ w ∷ (x ++ b ∷ k ∷ g ∷ n ∷ []))
+joined_each q x s v i w b k g n = simp append_assoc
+
 pub keeps_groups_number : (head : GroupsHead) (at : ℕ) (key : Name) → Keeps (WantGroupsNumber head at key)
 keeps_groups_number (SelectGroups pick source window filter) at key fs t s' f h e = by_number t _ s' _ e (λ n d. by_some _ s' _ d (go_on (control_text (WantGroupsNumber (SelectGroups pick source window filter) at key)) (HaveTerm (Select pick source window filter (Some (record { at = at; key = key; groups = n })))) fs (token.Number n) f h (group_select (spell_pick pick) (spell_query source) (spell_if_window window) (spell_filter filter) (token.Plain plain.Group) (token.By at ∷ token.Name key ∷ token.Plain plain.Groups ∷ []) (token.Number n))))
+keeps_groups_number (JoinGroups (SelectJoin pick l w) r) at key fs t s' f h e = by_number t _ s' _ e (λ n d. by_some _ s' _ d
+    (go_on (control_text (WantGroupsNumber (JoinGroups (SelectJoin pick l w) r) at key)) (HaveSource pick (AsOf' w l r (record { at = at; key = key; groups = n })) None) fs (token.Number n) f (h.0, h.1.0.0, (h.1.0.1, h.1.1))
+    (joined_select (spell_pick pick) (spell_query l) (spell_query r) (token.Plain plain.Select) (token.Plain plain.From) (spell_word word.AsOf w) (token.By at) (token.Name key) (token.Plain plain.Groups) (token.Number n))))
+keeps_groups_number (JoinGroups (EachJoin at' var l w) r) at key fs t s' f h e = by_number t _ s' _ e (λ n d. by_some _ s' _ d
+    (go_on (control_text (WantGroupsNumber (JoinGroups (EachJoin at' var l w) r) at key)) (HaveEachSource at' var (AsOf' w l r (record { at = at; key = key; groups = n }))) fs (token.Number n) f (h.0, (h.1.0, h.1.1))
+    (joined_each (spell_query l) (spell_query r) (token.Each at') (token.Name var) (token.Plain plain.In) (spell_word word.AsOf w) (token.By at) (token.Name key) (token.Plain plain.Groups) (token.Number n))))
 keeps_groups_number (EachGroups at' var source) at key fs t s' f h e = by_number t _ s' _ e (λ n d. by_some _ s' _ d (go_on (control_text (WantGroupsNumber (EachGroups at' var source) at key)) (WantBody (GroupsHead' at' var source (record { at = at; key = key; groups = n }) None)) fs (token.Number n) f h (group_each (spell_query source) (token.By at ∷ token.Name key ∷ token.Plain plain.Groups ∷ []) (token.Each at') (token.Name var) (token.Plain plain.In) (token.Number n))))
 keeps_groups_number (OverGroups items (LagOf v begin arg back) w open' p) at key fs t s' f h e = by_number t _ s' _ e (λ n d. by_some _ s' _ d (go_on (control_text (WantGroupsNumber (OverGroups items (LagOf v begin arg back) w open' p) at key)) (InOver items (LagOf v begin arg back) w open' (Some (record { word = p; grouping = record { at = at; key = key; groups = n } })) (so_far.WantClose None)) fs (token.Number n) f (h.0, h.1.0, h.1.1, tt) (group_over (items_before items) (spell_head (LagOf v begin arg back)) (token.Plain plain.Select) (spell_word word.Over w) (token.Open open') (spell_word word.Partition p) (token.By at ∷ token.Name key ∷ token.Plain plain.Groups ∷ []) (token.Number n))))
 keeps_groups_number (OverGroups items (Ranged a filter) w open' p) at key fs t s' f h e = by_number t _ s' _ e (λ n d. by_some _ s' _ d (go_on (control_text (WantGroupsNumber (OverGroups items (Ranged a filter) w open' p) at key)) (InOver items (Ranged a filter) w open' (Some (record { word = p; grouping = record { at = at; key = key; groups = n } })) so_far.WantRows) fs (token.Number n) f (h.0, h.1.0, h.1.1, tt) (group_over (items_before items) (spell_head (Ranged a filter)) (token.Plain plain.Select) (spell_word word.Over w) (token.Open open') (spell_word word.Partition p) (token.By at ∷ token.Name key ∷ token.Plain plain.Groups ∷ []) (token.Number n))))

@@ -12,14 +12,15 @@ use Rattle.gl_query_tokens.specs.declared.token.Plain.{Plain}
 use Rattle.gl_query_tokens.specs.declared.token.Plain.TheVariants as plain
 use Rattle.gl_query_tokens.specs.declared.token.Token.{Token}
 use Rattle.gl_query_tokens.specs.declared.token.Token.TheVariants as token
-use Rattle.gl_query_tokens.specs.Sorts.{is_plain, name_in, number_in, open_in, by_in}
+use Rattle.gl_query_tokens.specs.declared.token.Spelling.{Spelling}
+use Rattle.gl_query_tokens.specs.Sorts.{is_plain, name_in, number_in, open_in}
 use Rattle.gl_query_reader.specs.declared.written.Window.{Window}
 use Rattle.gl_query_reader.specs.Written.{Expr, Column, Number, Minus, Letters, Brackets, Cast, Not, Binary, Count, Fold', Wsum, LagOf, Item, Bare, Named, Total, Framed, Pick, All, Items, Query, Stream, InBrackets, Select, Windows, Groups, Join', Statement, looseness, left_looseness}
 use Rattle.gl_query_reader.specs.Begun.{begin_arrival, want_arrival, want_body}
 use Rattle.gl_query_reader.specs.Joins.{joining_of}
 use Rattle.gl_query_reader.specs.Framing.{begin_call, want_call, want_call_open, after_call, want_back, want_over, have_agg, want_filter_open, want_filter_where, after_condition, want_over_open, in_over, want_part, want_part_by}
-use Rattle.gl_query_reader.specs.Windowed.{want_size, want_size_number, want_advance_number, want_measure, want_by, want_key, want_groups_number}
-use Rattle.gl_query_reader.specs.States.{Head, after_window, SelectHead, EachHead, SelectWindow, EachWindow, BodyHead, WindowsHead, GroupsHead', EachGroups, Unnamed, UnnamedExpr, UnnamedAgg, UnnamedOver, Frame, Control, State, goes, expected, LeftOf, NotOf, BracketOf, InCast, InItem, InFold, InWsum, InCall, InCondition, InFilter, JoinOf, InQuery, InSource, InBody, WantTerm, WantItem, WantOperand, WantMinus, HaveExpr, WantCastOpen, WantKind, WantCastClose, WantCountOpen, WantCountClose, WantFoldOpen, WantWsumOpen, WantWeightsOpen, WantWeight, HaveWeight, WantWsumClose, HaveAgg, WantCallOpen, WantBack, WantLagClose, WantOver, WantFilterOpen, WantFilterWhere, WantOverOpen, WantPart, WantPartBy, InOver, WantOverAs, WantItemName, HaveItem, WantFrom, WantSource, HaveSource, HaveEachSource, WantSize, WantSizeNumber, WantAdvance, WantAdvanceNumber, WantMeasure, WantWindowClose, WantBy, WantKey, WantGroups, WantGroupsNumber, WantArrival, WantVar, WantIn, WantBody, HaveTerm, WantName, HaveName, WantEnd}
+use Rattle.gl_query_reader.specs.Windowed.{begin_window, can_join, join_word, have_each_source, want_size, want_size_number, want_advance_number, want_measure, want_by, want_join_by, want_key, want_groups_number}
+use Rattle.gl_query_reader.specs.States.{Head, after_window, SelectHead, EachHead, RightHead, SelectJoin, WantJoinBy, BodyHead, WindowsHead, GroupsHead', Unnamed, UnnamedExpr, UnnamedAgg, UnnamedOver, Frame, Control, State, goes, expected, LeftOf, NotOf, BracketOf, InCast, InItem, InFold, InWsum, InCall, InCondition, InFilter, JoinOf, InQuery, InSource, InBody, WantTerm, WantItem, WantOperand, WantMinus, HaveExpr, WantCastOpen, WantKind, WantCastClose, WantCountOpen, WantCountClose, WantFoldOpen, WantWsumOpen, WantWeightsOpen, WantWeight, HaveWeight, WantWsumClose, HaveAgg, WantCallOpen, WantBack, WantLagClose, WantOver, WantFilterOpen, WantFilterWhere, WantOverOpen, WantPart, WantPartBy, InOver, WantOverAs, WantItemName, HaveItem, WantFrom, WantSource, HaveSource, HaveEachSource, WantSize, WantSizeNumber, WantAdvance, WantAdvanceNumber, WantMeasure, WantWindowClose, WantBy, WantKey, WantGroups, WantGroupsNumber, WantArrival, WantVar, WantIn, WantBody, HaveTerm, WantName, HaveName, WantEnd}
 
 -- ---- expressions
 
@@ -132,6 +133,7 @@ body_of (GroupsHead' at var source grouping window) open' q = Groups at var sour
 abbrev pub after_source : Head → Query → Control
 after_source (SelectHead pick) source = HaveSource pick source None
 after_source (EachHead at var) source = HaveEachSource at var source
+after_source (RightHead join) source = WantJoinBy join source
 
 abbrev pub close_query : List Frame → Query → Option State
 close_query (InQuery at ∷ fs) q = goes (HaveTerm (InBrackets at q)) fs
@@ -287,23 +289,19 @@ want_source fs head (token.Name name) = goes (after_source head (Stream name)) f
 want_source fs head (token.Open at) = goes WantTerm (InSource head at ∷ fs)
 want_source fs head t = None
 
--- a window stands at most once
-abbrev pub begin_window : List Frame → Pick → Query → Option Window → Option State
-begin_window fs pick source None = goes (WantSize (SelectWindow pick) source) fs
-begin_window fs pick source (Some w) = None
-
 abbrev pub end_source : List Frame → Pick → Query → Option Window → Token → Option State
 end_source fs pick source window t = have_term fs (Select pick source window None None) t
+
+-- ASOF behind the source of a select, or what ends the select
+abbrev pub join_or_end : List Frame → Pick → Query → Option Window → Option Spelling → Token → Option State
+join_or_end fs pick source window (Some w) t = goes (WantSource (RightHead (SelectJoin pick source w))) fs
+join_or_end fs pick source window None t = end_source fs pick source window t
 
 abbrev pub have_source : List Frame → Pick → Query → Option Window → Token → Option State
 have_source fs pick source window t = if is_plain plain.LeftSquare t then begin_window fs pick source window else
     if is_plain plain.Where t then goes WantOperand (InFilter pick source window ∷ fs) else
-    if is_plain plain.Group t then goes (WantBy pick source window None) fs else end_source fs pick source window t
-
-abbrev pub have_each_source : List Frame → ℕ → Name → Query → Token → Option State
-have_each_source fs at var source t =
-    if is_plain plain.LeftSquare t then goes (WantSize (EachWindow at var) source) fs else
-    option_and_then (λ n. goes (WantKey (EachGroups at var source) n) fs) (by_in t)
+    if is_plain plain.Group t then goes (WantBy pick source window None) fs else
+    join_or_end fs pick source window (join_word (can_join source window) t) t
 
 -- ---- terms and the statement
 
@@ -336,6 +334,7 @@ step_at (HaveName q name) fs t = expected plain.Semicolon (WantEnd q name) fs t
 step_at (WantSource head) fs t = want_source fs head t
 step_at (HaveSource pick source window) fs t = have_source fs pick source window t
 step_at (HaveEachSource at var source) fs t = have_each_source fs at var source t
+step_at (WantJoinBy join right) fs t = want_join_by fs join right t
 step_at (WantSize head source) fs t = want_size fs head source t
 step_at (WantSizeNumber head source at) fs t = want_size_number fs head source at t
 step_at (WantAdvance head source at size) fs t = expected plain.Advance (WantAdvanceNumber head source at size) fs t

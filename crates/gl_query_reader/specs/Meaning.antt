@@ -4,7 +4,7 @@ use Rattle.std.specs.List.{list_any}
 use Rattle.gl_query.specs.declared.tree.Name.{Name}
 use Rattle.gl_query.specs.declared.tree.Num.{Num}
 use Rattle.gl_query.specs.declared.tree.Slots.{Slots}
-use Rattle.gl_query.specs.Trees.{ExprTree, AggTree, ItemTree, AggItemTree, FrameAggTree, FrameTree, FrameItemTree, QueryTree, StatementTree, Column, Number, Minus, Letters, Not, Cast, Binary, Count, Sum, Min, Max, Avg, Wsum, CountOver, SumOver, MinOver, MaxOver, AvgOver, LastOver, Own, Lag, Over, All, Items, Read, Rows, Total, Frames, Each, PerGroup, Partition, Union, ByArrival, Concat}
+use Rattle.gl_query.specs.Trees.{ExprTree, AggTree, ItemTree, AggItemTree, FrameAggTree, FrameTree, FrameItemTree, QueryTree, StatementTree, Column, Number, Minus, Letters, Not, Cast, Binary, Count, Sum, Min, Max, Avg, Wsum, CountOver, SumOver, MinOver, MaxOver, AvgOver, LastOver, Own, Lag, Over, All, Items, Read, Rows, Total, Frames, Each, PerGroup, Partition, Union, ByArrival, AsOf, Concat}
 use Rattle.gl_query_tokens.specs.declared.token.Fold.{Fold}
 use Rattle.gl_query_tokens.specs.declared.token.Fold.TheVariants as fold
 use Rattle.gl_query_reader.specs.declared.joins.Joining.{Joining}
@@ -219,6 +219,10 @@ join_meaning joining.Union l r at = Union l r at
 join_meaning (joining.Arrival by' w) l r at = ByArrival l r at
 join_meaning joining.Concat l r at = Concat l r at
 
+-- two sources are joined by the key behind BY; the place of the join is that of ASOF
+abbrev pub join_as_of : Spelling → QueryTree → QueryTree → Grouping → QueryTree
+join_as_of w l r g = AsOf l r (record { key = g.key; groups = g.groups }) (spelled_at w)
+
 -- a body for each group, or for each window of each group
 abbrev pub each_group : Name → QueryTree → Grouping → Option RowWindow → QueryTree → ℕ → QueryTree
 each_group var source g None body at = PerGroup var source g.key g.groups body at
@@ -234,6 +238,7 @@ query_meaning (written.Windows at var source window open' body) =
     Each window.measure var (query_meaning source) window.size window.advance (query_meaning body) at
 query_meaning (written.Groups at var source grouping window open' body) =
     each_group var (query_meaning source) grouping window (query_meaning body) at
+query_meaning (written.AsOf' w l r grouping) = join_as_of w (query_meaning l) (query_meaning r) grouping
 query_meaning (written.Join' j at l r) = join_meaning j (query_meaning l) (query_meaning r) at
 
 -- the statement that a written one means: its query under its name

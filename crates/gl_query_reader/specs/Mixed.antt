@@ -3,7 +3,7 @@ use Rattle.std.specs.Prelude.{ℕ, Bool, true, false, not, ◌&&◌, List, [], �
 use Rattle.gl_query.specs.declared.tree.Name.{Name}
 use Rattle.gl_query_reader.specs.declared.written.Grouping.{Grouping}
 use Rattle.gl_query_reader.specs.declared.written.Part.{Part}
-use Rattle.gl_query_reader.specs.Written.{Expr, Column, Number, Minus, Letters, Brackets, Cast, Not, Binary, Agg, Count, Fold', Wsum, OverHead, LagOf, Ranged, Over, OverOf, Item, Bare, Named, Total, Framed, Pick, All, Items, Query, Stream, InBrackets, Select, Windows, Groups, Join'}
+use Rattle.gl_query_reader.specs.Written.{Expr, Column, Number, Minus, Letters, Brackets, Cast, Not, Binary, Agg, Count, Fold', Wsum, OverHead, LagOf, Ranged, Over, OverOf, Item, Bare, Named, Total, Framed, Pick, All, Items, Query, Stream, InBrackets, Select, Windows, Groups, AsOf', Join'}
 use Rattle.gl_query_reader.specs.Meaning.{first_over, is_total, over_agg_at, part_in, part_of, spelled_at}
 
 -- the place of an expression's first token
@@ -116,4 +116,5 @@ mixed_in (InBrackets at q) = mixed_in q
 mixed_in (Select pick source window filter grouping) = least (mixed_pick pick grouping) (mixed_in source)
 mixed_in (Windows at var source window open' body) = least (mixed_in source) (mixed_in body)
 mixed_in (Groups at var source grouping window open' body) = least (mixed_in source) (mixed_in body)
+mixed_in (AsOf' w l r grouping) = least (mixed_in l) (mixed_in r)
 mixed_in (Join' join at l r) = least (mixed_in l) (mixed_in r)

@@ -3,7 +3,7 @@ use Rattle.std.specs.Prelude.{◌≡◌, ℕ, ◌+◌, ◌≤◌, max, true, ◌
 use Rattle.std.specs.List.{AllByRecursion}
 use Rattle.gl_bits.specs.Limits.{most_brackets, most_joins, most_operators}
 use Rattle.gl_query_reader.specs.Limits.{none_counted, keeps_limits}
-use Rattle.gl_query_reader.specs.Written.{Expr, Column, Number, Minus, Letters, Brackets, Cast, Not, Binary, Agg, Count, Fold', Wsum, OverAgg, CountOf, FoldOf, LastOf, Filtering, FilterOf, OverHead, LagOf, Ranged, Over, OverOf, Item, Bare, Named, Total, Framed, Pick, All, Items, Query, Stream, InBrackets, Select, Windows, Groups, Join', Statement, spell_statement}
+use Rattle.gl_query_reader.specs.Written.{Expr, Column, Number, Minus, Letters, Brackets, Cast, Not, Binary, Agg, Count, Fold', Wsum, OverAgg, CountOf, FoldOf, LastOf, Filtering, FilterOf, OverHead, LagOf, Ranged, Over, OverOf, Item, Bare, Named, Total, Framed, Pick, All, Items, Query, Stream, InBrackets, Select, Windows, Groups, AsOf', Join', Statement, spell_statement}
 
 -- how many round brackets are open at once
 abbrev pub expr_depth : Expr → ℕ
@@ -72,6 +72,7 @@ depth_of (Select pick source window filter grouping) =
     max (pick_depth pick) (max (depth_of source) (filter_depth filter))
 depth_of (Windows at var source window open' body) = max (depth_of source) (depth_of body + 1)
 depth_of (Groups at var source grouping window open' body) = max (depth_of source) (depth_of body + 1)
+depth_of (AsOf' w l r grouping) = max (depth_of l) (depth_of r)
 depth_of (Join' join at l r) = max (depth_of l) (depth_of r)
 
 -- how many UNION and CONCAT there are
@@ -81,6 +82,7 @@ joins_of (InBrackets at q) = joins_of q
 joins_of (Select pick source window filter grouping) = joins_of source
 joins_of (Windows at var source window open' body) = joins_of source + joins_of body
 joins_of (Groups at var source grouping window open' body) = joins_of source + joins_of body
+joins_of (AsOf' w l r grouping) = joins_of l + joins_of r
 joins_of (Join' join at l r) = joins_of l + joins_of r + 1
 
 -- how many operators, NOT and CAST an expression has
@@ -148,6 +150,7 @@ AreShort (InBrackets at q) = AreShort q
 AreShort (Select pick source window filter grouping) = PickIsShort pick × AreShort source × FilterIsShort filter
 AreShort (Windows at var source window open' body) = AreShort source × AreShort body
 AreShort (Groups at var source grouping window open' body) = AreShort source × AreShort body
+AreShort (AsOf' w l r grouping) = AreShort l × AreShort r
 AreShort (Join' join at l r) = AreShort l × AreShort r
 
 -- a statement keeps all limits: brackets, joins, and the operators of each expression

@@ -22,10 +22,16 @@ use Rattle.gl_query_reader.specs.declared.over_state.Call.{Call}
 use Rattle.gl_query_reader.specs.declared.over_state.RowsSoFar.{RowsSoFar}
 use Rattle.gl_query_reader.specs.Written.{Expr, Agg, OverAgg, OverHead, Over, Item, Pick, Query}
 
--- what reads a source: a select of these items, or an EACH with its variable
+-- what stands before the right side of ASOF: a select of these items, or an EACH with its variable, and the left side
+pub data JoinHead : Type 0 where
+  SelectJoin : (pick : Pick) (left' : Query) (word : Spelling) → JoinHead
+  EachJoin : (at : ℕ) (var : Name) (left' : Query) (word : Spelling) → JoinHead
+
+-- what reads a source: a select of these items, an EACH with its variable, or ASOF
 pub data Head : Type 0 where
   SelectHead : (pick : Pick) → Head
   EachHead : (at : ℕ) (var : Name) → Head
+  RightHead : (join : JoinHead) → Head
 
 -- what stands before a window: a select, an EACH, or an EACH with its BY
 pub data WindowHead : Type 0 where
@@ -38,11 +44,12 @@ pub data BodyHead : Type 0 where
   WindowsHead : (at : ℕ) (var : Name) (source : Query) (window : Window) → BodyHead
   GroupsHead' : (at : ℕ) (var : Name) (source : Query) (grouping : Grouping) (window : Option RowWindow) → BodyHead
 
--- what stands before BY: a select with GROUP, an EACH, or a function with OVER and PARTITION
+-- what stands before BY: a select with GROUP, an EACH, a function with OVER and PARTITION, or both sides of ASOF
 pub data GroupsHead : Type 0 where
   SelectGroups : (pick : Pick) (source : Query) (window : Option Window) (filter : Option Expr) → GroupsHead
   EachGroups : (at : ℕ) (var : Name) (source : Query) → GroupsHead
   OverGroups : (items : List Item) (head : OverHead) (word : Spelling) (open' : ℕ) (part : Spelling) → GroupsHead
+  JoinGroups : (join : JoinHead) (right' : Query) → GroupsHead
 
 -- an expression, an aggregate or a function with OVER that waits for its name
 pub data Unnamed : Type 0 where
@@ -104,6 +111,7 @@ pub data Control : Type 0 where
   WantSource : (head : Head) → Control
   HaveSource : (pick : Pick) (source : Query) (window : Option Window) → Control
   HaveEachSource : (at : ℕ) (var : Name) (source : Query) → Control
+  WantJoinBy : (join : JoinHead) (right' : Query) → Control
   WantSize : (head : WindowHead) (source : Query) → Control
   WantSizeNumber : (head : WindowHead) (source : Query) (at : ℕ) → Control
   WantAdvance : (head : WindowHead) (source : Query) (at : ℕ) (size : Num) → Control

@@ -23,8 +23,12 @@ use Rattle.gl_query_reader.specs.declared.written.WrittenEach.{WrittenEach}
 use Rattle.gl_query_reader.specs.declared.written.WrittenSelect.{WrittenSelect}
 use Rattle.gl_query_reader.specs.declared.written.WrittenQuery as query
 use Rattle.gl_query_reader.specs.declared.written.WrittenStatement.{WrittenStatement}
-use Rattle.gl_query_reader.specs.Written.{Expr, Column, Number, Minus, Letters, Brackets, Cast, Not, Binary, Agg, Count, Fold', Wsum, OverAgg, CountOf, FoldOf, LastOf, Filtering, FilterOf, OverHead, LagOf, Ranged, Over, OverOf, Item, Bare, Named, Total, Framed, Pick, All, Items, Query, Stream, InBrackets, Select, Windows, Groups, Join', Statement}
+use Rattle.gl_query_reader.specs.Written.{Expr, Column, Number, Minus, Letters, Brackets, Cast, Not, Binary, Agg, Count, Fold', Wsum, OverAgg, CountOf, FoldOf, LastOf, Filtering, FilterOf, OverHead, LagOf, Ranged, Over, OverOf, Item, Bare, Named, Total, Framed, Pick, All, Items, Query, Stream, InBrackets, Select, Windows, Groups, AsOf', Join', Statement}
 use Rattle.gl_query_reader.specs.declared.frames.Head.{Head}
+use Rattle.gl_query_tokens.specs.declared.token.Spelling.{Spelling}
+use Rattle.gl_query_reader.specs.declared.frames.JoinBy.{JoinBy}
+use Rattle.gl_query_reader.specs.declared.frames.JoinBy.TheVariants as join_by
+use Rattle.gl_query_reader.specs.declared.frames.JoinHead.{JoinHead}
 use Rattle.gl_query_reader.specs.declared.frames.WindowBy.{WindowBy}
 use Rattle.gl_query_reader.specs.declared.frames.WindowBy.TheVariants as window_by
 use Rattle.gl_query_reader.specs.declared.frames.Head.TheVariants as head
@@ -130,6 +134,7 @@ query_of (query.Stream name) = Stream name
 query_of (query.Brackets' at p q) = InBrackets at (query_of q)
 query_of (query.Select' s p source) = select_of s (query_of source)
 query_of (query.Each' e p source q body) = each_of e (query_of source) (query_of body)
+query_of (query.AsOf' word grouping p l q r) = AsOf' word (query_of l) (query_of r) grouping
 query_of (query.Join' join at p l q r) = Join' join at (query_of l) (query_of r)
 
 -- what an EACH means over what its source means, with what its body means
@@ -145,10 +150,19 @@ each_tree e source body = over_tree e.over e.at e.var source body
 abbrev pub statement_of : WrittenStatement → Statement
 statement_of s = record { query = query_of s.query; name = s.name; closed = s.closed }
 
+-- what stands before the right side of ASOF, from the reader's value
+abbrev pub join_by_of : JoinBy → Query → Spelling → states.JoinHead
+join_by_of (join_by.Select pick) left word = states.SelectJoin (pick_of pick) left word
+join_by_of (join_by.Each at var) left word = states.EachJoin at var left word
+
+abbrev pub join_head_of : JoinHead → states.JoinHead
+join_head_of h = join_by_of h.by (query_of h.left) h.word
+
 -- what reads a source, from the reader's value
 abbrev pub head_of : Head → states.Head
 head_of (head.Select pick) = states.SelectHead (pick_of pick)
 head_of (head.Each at var) = states.EachHead at var
+head_of (head.Join h) = states.RightHead (join_head_of h)
 
 -- what stands before a window, from the reader's value
 abbrev pub window_head_of : WindowBy → states.WindowHead
@@ -172,6 +186,7 @@ groups_head_of (groups_head.Select from filter) =
 groups_head_of (groups_head.Each at var source) = states.EachGroups at var (query_of source)
 groups_head_of (groups_head.Over h) =
     states.OverGroups (items_of h.over.items) (written_head_of h.over.head) h.over.word h.open h.word
+groups_head_of (groups_head.Join h right) = states.JoinGroups (join_head_of h) (query_of right)
 
 -- what waits for its name, from the reader's value
 abbrev pub unnamed_of : Unnamed → states.Unnamed
@@ -253,6 +268,7 @@ source_control_of (source_control.WantSource head) = states.WantSource (head_of 
 source_control_of (source_control.HaveSource from) =
     states.HaveSource (pick_of from.pick) (query_of from.source) from.window
 source_control_of (source_control.HaveEachSource at var source) = states.HaveEachSource at var (query_of source)
+source_control_of (source_control.WantJoinBy h right) = states.WantJoinBy (join_head_of h) (query_of right)
 
 -- what was read last inside a window, from the reader's value
 abbrev pub window_control_of : WindowControl → states.Control

@@ -74,7 +74,7 @@ pub data Pick : Type 0 where
   All : (at : ℕ) → Pick
   Items : (items : List Item) → Pick
 
--- a query as it is written: a stream is a source alone, and other sources and bodies stand in brackets
+-- a query as it is written: a stream and an as-of join are sources alone, and other sources and bodies stand in brackets
 pub data Query : Type 0 where
   Stream : (name : Name) → Query
   InBrackets : (at : ℕ) (q : Query) → Query
@@ -83,6 +83,7 @@ pub data Query : Type 0 where
   Windows : (at : ℕ) (var : Name) (source : Query) (window : Window) (open' : ℕ) (body : Query) → Query
   Groups : (at : ℕ) (var : Name) (source : Query) (grouping : Grouping) (window : Option RowWindow) (open' : ℕ)
       (body : Query) → Query
+  AsOf' : (word : Spelling) (l r : Query) (grouping : Grouping) → Query
   Join' : (join : Joining) (at : ℕ) (l r : Query) → Query
 
 -- a written statement: a query, the name of its result, and whether a semicolon ends it
@@ -200,25 +201,31 @@ abbrev pub IsFilter : Option Expr → Type 0
 IsFilter None = Unit {0}
 IsFilter (Some e) = IsExpr e
 
--- a source is a stream or stands in brackets, and so does a term of UNION and CONCAT, or it is a select or an EACH
+-- a source is a stream or stands in brackets, or joins two of these; a term of UNION and CONCAT stands in brackets, or is
+-- a select or an EACH
 abbrev mutual
-  -- what may stand as a whole query: anything but a stream's bare name, with its parts by the grammar
+  -- what may stand as a whole query: anything but what is a source alone, with its parts by the grammar
   pub IsQuery : Query → Type 0
   IsQuery (Stream name) = ⊥
   IsQuery (InBrackets at q) = IsQuery q
   IsQuery (Select pick source window filter grouping) = IsPick pick × IsSource source × IsFilter filter
   IsQuery (Windows at var source window open' body) = IsSource source × IsQuery body
   IsQuery (Groups at var source grouping window open' body) = IsSource source × IsQuery body
+  IsQuery (AsOf' w l r grouping) = ⊥
   IsQuery (Join' join at l r) = IsQuery l × IsTerm r
 
-  -- what may stand behind FROM or IN: a stream, or a query in brackets
+  -- what may stand on a side of ASOF: a stream, or a query in brackets
+  pub IsSide : Query → Type 0
+  IsSide (Stream name) = Unit {0}
+  IsSide (InBrackets at q) = IsQuery q
+  IsSide q = ⊥
+
+  -- what may stand behind FROM or IN: a stream, a query in brackets, or two of these with ASOF between them
   pub IsSource : Query → Type 0
   IsSource (Stream name) = Unit {0}
   IsSource (InBrackets at q) = IsQuery q
-  IsSource (Select pick source window filter grouping) = ⊥
-  IsSource (Windows at var source window open' body) = ⊥
-  IsSource (Groups at var source grouping window open' body) = ⊥
-  IsSource (Join' join at l r) = ⊥
+  IsSource (AsOf' w l r grouping) = IsSide l × IsSide r
+  IsSource q = ⊥
 
   -- what may stand on the right of a join: a query in brackets, a select, or an EACH
   pub IsTerm : Query → Type 0
@@ -227,6 +234,7 @@ abbrev mutual
   IsTerm (Select pick source window filter grouping) = IsPick pick × IsSource source × IsFilter filter
   IsTerm (Windows at var source window open' body) = IsSource source × IsQuery body
   IsTerm (Groups at var source grouping window open' body) = IsSource source × IsQuery body
+  IsTerm (AsOf' w l r grouping) = ⊥
   IsTerm (Join' join at l r) = ⊥
 
 -- ---- the tokens
@@ -376,6 +384,8 @@ spell_query (Groups at var source grouping window open' body) =
     token.Each at ∷ token.Name var ∷ token.Plain plain.In
     ∷ (spell_query source ++ (spell_grouping grouping ++ (spell_row_window window ++ token.Open open'
     ∷ (spell_query body ++ token.Plain plain.Close ∷ []))))
+spell_query (AsOf' w l r grouping) =
+    spell_query l ++ spell_word word.AsOf w ∷ (spell_query r ++ spell_grouping grouping)
 spell_query (Join' join at l r) = spell_query l ++ (spell_join join at ++ spell_query r)
 
 -- a closing semicolon, or nothing

@@ -9,6 +9,26 @@ use crate::written::{
 use gl_query::{Name, Op};
 use gl_query_tokens::{Fold, Spelling};
 
+/// What reads an as-of join.
+#[derive(Drop)]
+pub enum JoinBy {
+    /// A select of these items.
+    Select(WrittenPick),
+    /// An EACH with its variable.
+    Each { at: u64, var: Name },
+}
+
+/// What stands before the right side of ASOF.
+#[derive(Drop)]
+pub struct JoinHead {
+    /// What reads the join.
+    pub by: JoinBy,
+    /// The left side.
+    pub left: WrittenQuery,
+    /// How ASOF is spelled.
+    pub word: Spelling,
+}
+
 /// What reads a source.
 #[derive(Drop)]
 pub enum Head {
@@ -16,6 +36,8 @@ pub enum Head {
     Select(WrittenPick),
     /// An EACH with its variable.
     Each { at: u64, var: Name },
+    /// ASOF, whose right side it is.
+    Join(JoinHead),
 }
 
 /// A select with its source, and with its window where it has one.
@@ -95,6 +117,13 @@ pub enum GroupsHead {
     },
     /// A function with OVER and PARTITION.
     Over(PartHead),
+    /// ASOF with both its sides.
+    Join {
+        /// What stands before the right side.
+        head: JoinHead,
+        /// The right side.
+        right: WrittenQuery,
+    },
 }
 
 /// A CAST with its expression.

@@ -4,19 +4,21 @@ ghost use Rattle.std.specs.Prelude.{◌≡◌, List, IfOk};
 ghost use Rattle.gl_query_reader.specs.States as states;
 ghost use Rattle.gl_query_reader.specs.Machine as machine;
 ghost use Rattle.gl_query_reader.specs.Windowed as windowed;
-ghost use Rattle.gl_query_reader.specs.Trees.{pick_of, query_of, filter_of, groups_head_of, groups_control_of, leads};
+ghost use Rattle.gl_query_reader.specs.Written.{AsOf'};
+ghost use Rattle.gl_query_reader.specs.Trees.{join_head_of, pick_of, query_of, filter_of, groups_head_of, groups_control_of, leads};
 
-use crate::frames::{BodyHead, GroupsHead, SelectFrom};
-use crate::keeping::Beside;
+use crate::frames::{BodyHead, GroupsHead, JoinBy, JoinHead, SelectFrom};
+use crate::keeping::{Beside, keep_beside};
 use crate::over_state::{OverControl, PartHead};
 use crate::over_steps::rows_first;
 use crate::parts::{expect, keep_named, refuse};
-use crate::state::{Control, GroupsControl, QueryControl};
+use crate::state::{Control, GroupsControl, QueryControl, SourceControl};
 use crate::terms::selected;
-use crate::written::{Grouping, Over, Part, WrittenExpr};
+use crate::written::{Grouping, Over, Part, WrittenExpr, WrittenQuery};
+use gl_bits::boxes::{TwoBoxes, two_boxes};
 use gl_query::Name;
 use gl_query_tokens::sorts::{by_in, number_in};
-use gl_query_tokens::{Plain, Token};
+use gl_query_tokens::{Plain, Spelling, Token};
 use std::alloc::{AllocError, Global};
 
 // BY behind GROUP.
@@ -55,6 +57,58 @@ fn want_key(
     }
 }
 
+// An as-of join as a source.
+fn of_sides(
+    alloc: Global,
+    word: Spelling,
+    left: WrittenQuery,
+    right: WrittenQuery,
+    grouping: Grouping,
+) -> Result<WrittenQuery, AllocError>
+    ensures { IfOk result (λ q. query_of q ≡ AsOf' word (query_of left) (query_of right) grouping) }
+{
+    let TwoBoxes {
+        kept: grouping,
+        first: left,
+        second: right,
+    } = two_boxes(alloc, grouping, left, right)?;
+    Ok(WrittenQuery::AsOf {
+        word,
+        grouping,
+        left,
+        right,
+    })
+}
+
+// Behind both sides of ASOF, its key and its number.
+fn after_join(
+    alloc: Global,
+    head: JoinHead,
+    right: WrittenQuery,
+    grouping: Grouping,
+) -> Result<Option<Control>, AllocError>
+    ensures { IfOk result (λ o. (fs : List states.Frame) → leads o fs
+        ≡ states.goes (windowed.after_join (join_head_of head) (query_of right) grouping) fs) }
+{
+    let JoinHead { by, left, word } = head;
+    let Beside {
+        kept: by,
+        made: source,
+    } = keep_beside(by, of_sides(alloc, word, left, right, grouping))?;
+    match by {
+        JoinBy::Select(pick) => Ok(Some(Control::Source(SourceControl::HaveSource(SelectFrom {
+            pick,
+            source,
+            window: None,
+        })))),
+        JoinBy::Each { at, var } => Ok(Some(Control::Source(SourceControl::HaveEachSource {
+            at,
+            var,
+            source,
+        }))),
+    }
+}
+
 // Behind what makes groups.
 fn after_groups(
     alloc: Global,
@@ -78,6 +132,7 @@ fn after_groups(
             };
             Ok(Some(Control::Query(QueryControl::WantBody { head })))
         }
+        GroupsHead::Join { head, right } => after_join(alloc, head, right, grouping),
         GroupsHead::Over(head) => {
             let PartHead { over, open, word } = head;
             let rows = rows_first(&over.head);

@@ -7,10 +7,12 @@ ghost use Rattle.gl_query_reader.specs.Trees.{each_tree, query_of, statement_of}
 
 use crate::joins::Joining;
 use crate::keeping::{Beside, Both, keep_beside, take_both};
+use crate::mixed::spelled_at;
 use crate::select_meaning::{each_over, select_meaning};
 use crate::written::{Grouping, Over, RowWindow, WrittenEach, WrittenQuery, WrittenStatement};
 use gl_bits::boxes::{TwoBoxes, two_boxes};
-use gl_query::{Name, Query, Statement};
+use gl_query::{Name, Query, Slots, Statement};
+use gl_query_tokens::Spelling;
 use std::alloc::{AllocError, Global};
 
 // A body for each group, or for each window of each group.
@@ -100,6 +102,33 @@ fn join_meaning(
     }
 }
 
+// Two sources joined by the key behind BY.
+fn join_as_of(
+    alloc: Global,
+    word: Spelling,
+    left: Query,
+    right: Query,
+    grouping: Grouping,
+) -> Result<Query, AllocError>
+    ensures { IfOk result (λ q. query_tree q
+        ≡ meaning.join_as_of word (query_tree left) (query_tree right) grouping) }
+{
+    let TwoBoxes {
+        kept: grouping,
+        first: left,
+        second: right,
+    } = two_boxes(alloc, grouping, left, right)?;
+    let Grouping { at: _, key, groups } = grouping;
+    let at = spelled_at(word);
+    let slots = Slots { key, groups };
+    Ok(Query::AsOf {
+        left,
+        right,
+        slots,
+        at,
+    })
+}
+
 #[tactic(auto, using(crate::proofs::Eaches::eaches))]
 fn query_meaning(alloc: Global, written: WrittenQuery) -> Result<Query, AllocError>
     ensures { IfOk result (λ q. query_tree q ≡ meaning.query_meaning (query_of written)) }
@@ -120,6 +149,20 @@ fn query_meaning(alloc: Global, written: WrittenQuery) -> Result<Query, AllocErr
             let body = query_meaning(alloc, Box::into_inner(body));
             let Beside { kept: each, made } = keep_beside(each, take_both(source, body))?;
             each_meaning(alloc, each, made.first, made.second)
+        }
+        WrittenQuery::AsOf {
+            word,
+            grouping,
+            left,
+            right,
+        } => {
+            let left = query_meaning(alloc, Box::into_inner(left));
+            let right = query_meaning(alloc, Box::into_inner(right));
+            let Beside {
+                kept: grouping,
+                made,
+            } = keep_beside(grouping, take_both(left, right))?;
+            join_as_of(alloc, word, made.first, made.second, grouping)
         }
         WrittenQuery::Join {
             join,

@@ -296,6 +296,8 @@ pub fn mixed_in(query: &WrittenQuery) -> Option<u64>
             least(mixed_pick(&select.pick, &select.grouping), mixed_in(source))
         }
         WrittenQuery::Each { source, body, .. } => least(mixed_in(source), mixed_in(body)),
-        WrittenQuery::Join { left, right, .. } => least(mixed_in(left), mixed_in(right)),
+        WrittenQuery::AsOf { left, right, .. } | WrittenQuery::Join { left, right, .. } => {
+            least(mixed_in(left), mixed_in(right))
+        }
     }
 }

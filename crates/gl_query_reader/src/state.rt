@@ -1,7 +1,7 @@
 //! Where the reader stands: what may come next.
 
 use crate::frames::{
-    BodyHead, CastHead, GroupsHead, Head, SelectFrom, Unnamed, WindowHead, WsumHead,
+    BodyHead, CastHead, GroupsHead, Head, JoinHead, SelectFrom, Unnamed, WindowHead, WsumHead,
 };
 use crate::over_state::OverControl;
 use crate::written::{Window, WrittenAgg, WrittenExpr, WrittenItems, WrittenQuery};
@@ -154,6 +154,13 @@ pub enum SourceControl {
         var: Name,
         /// What stands behind IN.
         source: WrittenQuery,
+    },
+    /// BY behind the right side of ASOF.
+    WantJoinBy {
+        /// What stands before the right side.
+        head: JoinHead,
+        /// The right side.
+        right: WrittenQuery,
     },
 }
 

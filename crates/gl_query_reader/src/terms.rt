@@ -161,6 +161,10 @@ pub fn after_source(head: Head, source: WrittenQuery) -> Control
             var,
             source,
         }),
+        Head::Join(head) => Control::Source(SourceControl::WantJoinBy {
+            head,
+            right: source,
+        }),
     }
 }
 

@@ -362,6 +362,17 @@ pub enum WrittenQuery {
         /// What stands in the body's brackets.
         body: Box<WrittenQuery>,
     },
+    /// Two sources with ASOF between them, as a source alone.
+    AsOf {
+        /// How ASOF is spelled.
+        word: Spelling,
+        /// The key behind BY, and of how many keys rows are kept.
+        grouping: Grouping,
+        /// The source before it.
+        left: Box<WrittenQuery>,
+        /// The source behind it.
+        right: Box<WrittenQuery>,
+    },
     /// Two queries with UNION, UNION BY ARRIVAL or CONCAT between them.
     Join {
         /// Which of the three it is.

@@ -19,7 +19,7 @@ use Rattle.gl_query_reader.specs.Grammar.{HasStatement}
 use Rattle.gl_query_reader.specs.Meaning.{agg_items, by_items, by_over, has_over, is_framed, each_group, expr_meaning, filtered, grouped, is_total, it, join_meaning, plain_items, query_meaning, select_meaning}
 use Rattle.gl_query_reader.specs.Mixed.{behind_key, first_other, is_key, item_at, least, mixed_in, mixed_pick}
 use Rattle.gl_query_reader.proofs.Meanings.{back_is_over}
-use Rattle.gl_query_reader.specs.Written.{IsPick, IsQuery, IsSource, IsTerm}
+use Rattle.gl_query_reader.specs.Written.{IsPick, IsQuery, IsSide, IsSource, IsTerm}
 use Rattle.gl_query_reader.specs.Written as written
 use Rattle.gl_query_texts.specs.Judged.{AcceptedTextsHaveColumns}
 
@@ -111,6 +111,16 @@ each_group_have : (var : Name) (g : Grouping) (w : Option RowWindow) (source bod
 each_group_have var g None source body at s b = (s, b)
 each_group_have var g (Some w) source body at s b = (s, b)
 
+-- a side of a join may stand where a source does
+side_source : (q : written.Query) → IsSide q → IsSource q
+side_source (written.Stream name) h = tt
+side_source (written.InBrackets at q) h = h
+side_source (written.Select p source w f g) h = absurd h
+side_source (written.Windows at var source w open' body) h = absurd h
+side_source (written.Groups at var source g w open' body) h = absurd h
+side_source (written.AsOf' w l r grouping) h = absurd h
+side_source (written.Join' j at l r) h = absurd h
+
 query_have : (q : written.Query) → IsPart q → mixed_in q ≡ None → HasItems (query_alike (query_meaning q))
 query_have (written.Stream name) h m = tt
 query_have (written.InBrackets at q) (inl h) m = query_have q (inl h) m
@@ -133,6 +143,10 @@ query_have (written.Groups at var source g w open' body) (inl h) m =
 query_have (written.Groups at var source g w open' body) (inr (inl h)) m = absurd h
 query_have (written.Groups at var source g w open' body) (inr (inr h)) m =
     let n = least_none (mixed_in source) (mixed_in body) m in each_group_have var g w (query_meaning source) (query_meaning body) at (query_have source (inr (inl h.0)) n.0) (query_have body (inl h.1) n.1)
+query_have (written.AsOf' w l r grouping) (inl h) m = absurd h
+query_have (written.AsOf' w l r grouping) (inr (inl h)) m =
+    let n = least_none (mixed_in l) (mixed_in r) m in (query_have l (inr (inl (side_source l h.0))) n.0, query_have r (inr (inl (side_source r h.1))) n.1)
+query_have (written.AsOf' w l r grouping) (inr (inr h)) m = absurd h
 query_have (written.Join' j at l r) (inl h) m =
     let n = least_none (mixed_in l) (mixed_in r) m in
     join_have j (query_meaning l) (query_meaning r) at (query_have l (inl h.0) n.0) (query_have r (inr (inr h.1)) n.1)

@@ -105,7 +105,7 @@ keywords_agree w a b =
     (agree_or (window_of w a) (window_of w b) (operator_of w a) (operator_of w b) (windows_agree w a b) (operators_agree w a b))
 
 frame_words_agree : (w : List ℕ) (a b : ℕ) → Agrees (frame_word_of w a) (frame_word_of w b)
-frame_words_agree w a b = agree_if (is_keyword w (codes "over")) (token.Word word.Over a) (token.Word word.Over b) _ _ tt (agree_if (is_keyword w (codes "filter")) (token.Word word.Filter a) (token.Word word.Filter b) _ _ tt (agree_if (is_keyword w (codes "partition")) (token.Word word.Partition a) (token.Word word.Partition b) _ _ tt (agree_if (is_keyword w (codes "rows")) (token.Word word.Rows a) (token.Word word.Rows b) _ _ tt (agree_if (is_keyword w (codes "preceding")) (token.Word word.Preceding a) (token.Word word.Preceding b) _ _ tt (agree_if (is_keyword w (codes "unbounded")) (token.Word word.Unbounded a) (token.Word word.Unbounded b) _ _ tt (agree_if (is_keyword w (codes "between")) (token.Word word.Between a) (token.Word word.Between b) _ _ tt (agree_if (is_keyword w (codes "current")) (token.Word word.Current a) (token.Word word.Current b) _ _ tt (agree_if (is_keyword w (codes "row")) (token.Word word.Row a) (token.Word word.Row b) _ _ tt (agree_if (is_keyword w (codes "lag")) (token.Word word.Lag a) (token.Word word.Lag b) _ _ tt (agree_if (is_keyword w (codes "last_value")) (token.Word word.LastValue a) (token.Word word.LastValue b) _ _ tt (agree_if (is_keyword w (codes "arrival")) (token.Word word.Arrival a) (token.Word word.Arrival b) _ _ tt (none_agree))))))))))))
+frame_words_agree w a b = agree_if (is_keyword w (codes "over")) (token.Word word.Over a) (token.Word word.Over b) _ _ tt (agree_if (is_keyword w (codes "filter")) (token.Word word.Filter a) (token.Word word.Filter b) _ _ tt (agree_if (is_keyword w (codes "partition")) (token.Word word.Partition a) (token.Word word.Partition b) _ _ tt (agree_if (is_keyword w (codes "rows")) (token.Word word.Rows a) (token.Word word.Rows b) _ _ tt (agree_if (is_keyword w (codes "preceding")) (token.Word word.Preceding a) (token.Word word.Preceding b) _ _ tt (agree_if (is_keyword w (codes "unbounded")) (token.Word word.Unbounded a) (token.Word word.Unbounded b) _ _ tt (agree_if (is_keyword w (codes "between")) (token.Word word.Between a) (token.Word word.Between b) _ _ tt (agree_if (is_keyword w (codes "current")) (token.Word word.Current a) (token.Word word.Current b) _ _ tt (agree_if (is_keyword w (codes "row")) (token.Word word.Row a) (token.Word word.Row b) _ _ tt (agree_if (is_keyword w (codes "lag")) (token.Word word.Lag a) (token.Word word.Lag b) _ _ tt (agree_if (is_keyword w (codes "last_value")) (token.Word word.LastValue a) (token.Word word.LastValue b) _ _ tt (agree_if (is_keyword w (codes "arrival")) (token.Word word.Arrival a) (token.Word word.Arrival b) _ _ tt (agree_if (is_keyword w (codes "asof")) (token.Word word.AsOf a) (token.Word word.AsOf b) _ _ tt (none_agree)))))))))))))
 
 agree_none : (o : Option Token) → Agree None o → o ≡ None
 agree_none None h = refl

@@ -77,6 +77,7 @@ word_eq word.Row word.Row = true
 word_eq word.Lag word.Lag = true
 word_eq word.LastValue word.LastValue = true
 word_eq word.Arrival word.Arrival = true
+word_eq word.AsOf word.AsOf = true
 word_eq a b = false
 
 -- a name is a word of frames in small letters

@@ -60,7 +60,7 @@ operator_of w at = if is_keyword w (codes "and") then Some (token.Operator And a
 abbrev pub keyword_of : List ℕ → ℕ → Option Token
 keyword_of w at = or_else (clause_of w at) (or_else (window_of w at) (operator_of w at))
 
--- the words of frames, and of a union by arrival, which are names in small letters
+-- the words of frames, of a union by arrival, and ASOF, which are names in small letters
 abbrev pub frame_word_of : List ℕ → ℕ → Option Token
 frame_word_of w at = if is_keyword w (codes "over") then Some (token.Word word.Over at) else
     if is_keyword w (codes "filter") then Some (token.Word word.Filter at) else
@@ -73,7 +73,8 @@ frame_word_of w at = if is_keyword w (codes "over") then Some (token.Word word.O
     if is_keyword w (codes "row") then Some (token.Word word.Row at) else
     if is_keyword w (codes "lag") then Some (token.Word word.Lag at) else
     if is_keyword w (codes "last_value") then Some (token.Word word.LastValue at) else
-    if is_keyword w (codes "arrival") then Some (token.Word word.Arrival at) else None
+    if is_keyword w (codes "arrival") then Some (token.Word word.Arrival at) else
+    if is_keyword w (codes "asof") then Some (token.Word word.AsOf at) else None
 
 -- the letters of such a word
 unfoldable pub word_text : Word → List ℕ
@@ -89,6 +90,7 @@ word_text word.Row = codes "row"
 word_text word.Lag = codes "lag"
 word_text word.LastValue = codes "last_value"
 word_text word.Arrival = codes "arrival"
+word_text word.AsOf = codes "asof"
 
 -- a number and one more byte: None where that is no digit, or the number would reach 2 ^ 128
 abbrev pub with_digit : Option ℕ → ℕ → Option ℕ

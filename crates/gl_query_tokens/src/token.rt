@@ -61,8 +61,8 @@ pub enum Plain {
     Semicolon,
 }
 
-/// A word of the frames of a select, or of a union by arrival: one where the grammar asks for it, and a
-/// name elsewhere.
+/// A word of the frames of a select, of a union by arrival, or of an as-of join: one where the grammar asks
+/// for it, and a name elsewhere.
 #[derive(Clone, Copy, PartialEq, Eq, Debug)]
 pub enum Word {
     /// OVER
@@ -89,6 +89,8 @@ pub enum Word {
     LastValue,
     /// ARRIVAL
     Arrival,
+    /// ASOF
+    AsOf,
 }
 
 /// How such a word is spelled, and the byte of the text where it begins.
@@ -131,7 +133,7 @@ pub enum Token {
     By { at: u64 },
     /// SIZE
     Size { at: u64 },
-    /// A word of frames, or of a union by arrival, with a capital, so that it is no name.
+    /// A word of frames, of a union by arrival, or ASOF, with a capital, so that it is no name.
     Word { word: Word, at: u64 },
     /// A keyword or a sign of whose place no statement knows.
     Plain(Plain),

@@ -151,50 +151,42 @@ fn framed(word: Word, at: u64) -> Option<Token>
     Some(Token::Word { word, at })
 }
 
-// The words of the frames of a select, and of a union by arrival.
+// The words of the frames of a select, of a union by arrival, and ASOF.
 fn frame_word_of(word: &[u8], at: u64) -> Option<Token>
     ensures { result ≡ frame_word_of word.now at }
 {
     if is_keyword(word, b"over") {
-        return framed(Word::Over, at);
+        framed(Word::Over, at)
+    } else if is_keyword(word, b"filter") {
+        framed(Word::Filter, at)
+    } else if is_keyword(word, b"partition") {
+        framed(Word::Partition, at)
+    } else if is_keyword(word, b"rows") {
+        framed(Word::Rows, at)
+    } else if is_keyword(word, b"preceding") {
+        framed(Word::Preceding, at)
+    } else if is_keyword(word, b"unbounded") {
+        framed(Word::Unbounded, at)
+    } else if is_keyword(word, b"between") {
+        framed(Word::Between, at)
+    } else if is_keyword(word, b"current") {
+        framed(Word::Current, at)
+    } else if is_keyword(word, b"row") {
+        framed(Word::Row, at)
+    } else if is_keyword(word, b"lag") {
+        framed(Word::Lag, at)
+    } else if is_keyword(word, b"last_value") {
+        framed(Word::LastValue, at)
+    } else if is_keyword(word, b"arrival") {
+        framed(Word::Arrival, at)
+    } else if is_keyword(word, b"asof") {
+        framed(Word::AsOf, at)
+    } else {
+        None
     }
-    if is_keyword(word, b"filter") {
-        return framed(Word::Filter, at);
-    }
-    if is_keyword(word, b"partition") {
-        return framed(Word::Partition, at);
-    }
-    if is_keyword(word, b"rows") {
-        return framed(Word::Rows, at);
-    }
-    if is_keyword(word, b"preceding") {
-        return framed(Word::Preceding, at);
-    }
-    if is_keyword(word, b"unbounded") {
-        return framed(Word::Unbounded, at);
-    }
-    if is_keyword(word, b"between") {
-        return framed(Word::Between, at);
-    }
-    if is_keyword(word, b"current") {
-        return framed(Word::Current, at);
-    }
-    if is_keyword(word, b"row") {
-        return framed(Word::Row, at);
-    }
-    if is_keyword(word, b"lag") {
-        return framed(Word::Lag, at);
-    }
-    if is_keyword(word, b"last_value") {
-        return framed(Word::LastValue, at);
-    }
-    if is_keyword(word, b"arrival") {
-        return framed(Word::Arrival, at);
-    }
-    None
 }
 
-/// The letters of a word of frames, or of a union by arrival.
+/// The letters of a word of frames, of a union by arrival, or of ASOF.
 #[tactic(auto, unfolding(crate::specs::Words::word_text))]
 pub fn word_text(word: Word) -> &'static [u8]
     ensures { result.now ≡ word_text word }
@@ -212,6 +204,7 @@ pub fn word_text(word: Word) -> &'static [u8]
         Word::Lag => b"lag",
         Word::LastValue => b"last_value",
         Word::Arrival => b"arrival",
+        Word::AsOf => b"asof",
     }
 }
 

@@ -146,7 +146,7 @@ const SELECTS: [Row; 4] = [
             b"join", b"asof", b"on", b"using", b"left", b"right", b"inner", b"outer", b"full",
             b"cross", b"natural", b"lateral", b"apply",
         ],
-        cure: "There are no joins: CONCAT pairs two totals. The quote in force at each trade is last_value(bid) OVER (PARTITION BY symbol GROUPS 64 ROWS UNBOUNDED PRECEDING) over a UNION BY ARRIVAL of both. Totals of two streams by one key are groups over a UNION. Each side has zeros for what its stream has not.",
+        cure: "The one join is ASOF, and CONCAT pairs two totals. The quote in force at each trade is in FROM trades ASOF quotes BY symbol GROUPS 64. Totals of two streams by one key are groups over a UNION. Each side has zeros for what its stream has not.",
     },
     Row {
         words: &[b"with", b"recursive"],

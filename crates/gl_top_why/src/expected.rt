@@ -1,6 +1,7 @@
 //! What can stand at a piece.
 
 use crate::frames::frame_words;
+use crate::joins::is_behind_join;
 use crate::pieces::{Pieces, is_one_of, is_sign, is_spelled};
 use crate::states::{State, is_of_query, state_at};
 use crate::words::is_name;
@@ -94,6 +95,7 @@ fn source_words(state: State) -> &'static str {
         State::GroupBody => "a window or (",
         State::By => "BY",
         State::Arrival => "ARRIVAL",
+        State::JoinBy => "BY",
         State::Key => "a column's name",
         State::Groups => "GROUPS",
         State::BehindName => "a ; or the end of the text",
@@ -134,12 +136,18 @@ pub(crate) fn put_expected(
         State::BehindOperand => put_behind_operand(out, pieces, at)?,
         State::Measure => out.push_str(measures(pieces, at))?,
         State::BehindSource => {
+            if !is_behind_join(pieces, at) {
+                out.push_str("ASOF, ")?;
+            }
             out.push_str("a window, WHERE, GROUP BY, ")?;
             out.push_str(query_ends(pieces, at))?;
         }
         State::BehindWindow => {
             out.push_str("WHERE, GROUP BY, ")?;
             out.push_str(query_ends(pieces, at))?;
+        }
+        State::BehindEach if !is_behind_join(pieces, at) => {
+            out.push_str("ASOF, a window or BY")?;
         }
         State::BehindQuery => out.push_str(query_ends(pieces, at))?,
         _ => out.push_str(item_words(state).unwrap_or(source_words(state)))?,

@@ -34,6 +34,9 @@ pub(crate) const ONE_STATEMENT: &str =
 pub(crate) const ARRIVAL: &str =
     "UNION BY ARRIVAL has the rows of both sides in the order in which they came. UNION alone has them in some order.";
 
+pub(crate) const JOIN_BY: &str =
+    "Behind the right side of ASOF stand BY, a column of both sides, GROUPS and a number: FROM trades ASOF quotes BY symbol GROUPS 64.";
+
 const INTO: &str =
     "INTO and a name are lacking: a statement ends in INTO r, which names the module.";
 
@@ -129,6 +132,7 @@ fn source(state: State) -> &'static str {
             "A body in brackets is lacking: (SELECT sum(price) AS p FROM w), where w is the variable.",
         State::By => "BY is lacking behind GROUP: GROUP BY symbol GROUPS 64.",
         State::Arrival => ARRIVAL,
+        State::JoinBy => JOIN_BY,
         State::Key => KEY,
         State::Groups => GROUPS,
         State::ResultName => "A name is lacking behind INTO.",
@@ -171,6 +175,7 @@ pub(crate) fn is_lacking(pieces: &Pieces<'_>, at: usize, state: State) -> bool {
         | State::Source
         | State::By
         | State::Arrival
+        | State::JoinBy
         | State::Number
         | State::Body
         | State::GroupBody

@@ -13,6 +13,7 @@ pub mod explaining;
 mod fields;
 mod frames;
 mod functions;
+mod joins;
 mod kinds;
 mod lacking;
 mod lines;

@@ -2,6 +2,7 @@
 //!
 //! The query is one that the reader takes, so that its pieces are where the grammar has them.
 
+use crate::joins::{is_join_key, is_left_side};
 use crate::lines::put_bytes;
 use crate::pieces::{Pieces, is_sign, is_spelled};
 use crate::words::{is_name, is_number};
@@ -111,8 +112,12 @@ pub(crate) fn has_over(pieces: &Pieces<'_>, at: usize) -> bool {
     }
 }
 
-/// Where the source begins that has the columns of a piece: behind FROM, or behind IN for the key of an EACH.
+/// Where the source begins that has the columns of a piece: behind FROM, or behind IN for the key of an EACH. The
+/// key of an ASOF has two.
 pub(crate) fn source_around(pieces: &Pieces<'_>, at: usize) -> Option<usize> {
+    if is_join_key(pieces, at) {
+        return None;
+    }
     let is_key = is_spelled(pieces.before(at, 1), b"by")
         && !is_spelled(pieces.before(at, 2), b"group");
     let front = if is_key {
@@ -170,6 +175,9 @@ fn name_shape<'a>(pieces: &Pieces<'_>, place: usize, schema: &'a Schema) -> Shap
 // The columns of an EACH: its key and those of its body, or those of its body.
 fn each_shape<'a>(pieces: &Pieces<'_>, each: usize) -> Shape<'a> {
     let source = each.saturating_add(3);
+    if is_left_side(pieces, source) {
+        return Shape::Unknown;
+    }
     let mut open = 0u64;
     let mut key = None;
     for place in source..pieces.len() {
@@ -207,6 +215,9 @@ fn is_joined(pieces: &Pieces<'_>, first: usize) -> bool {
 // The columns of the query whose first piece this is.
 fn shape_of<'a>(pieces: &Pieces<'_>, place: usize, schema: &'a Schema) -> Shape<'a> {
     let (word, next) = (pieces.get(place), place.saturating_add(1));
+    if is_left_side(pieces, place) {
+        return Shape::Unknown;
+    }
     if is_sign(word, b'(') {
         return if is_joined(pieces, next) {
             Shape::Unknown

@@ -2,6 +2,7 @@
 
 use crate::elsewhere::value_cure;
 use crate::expected::put_expected;
+use crate::joins::is_join_key;
 use crate::lines::put_bytes;
 use crate::names::{each_around, put_columns_around, put_kind, put_streams, stream_around};
 use crate::pieces::{Pieces, is_one_of, is_sign, is_spelled};
@@ -67,6 +68,9 @@ fn put_column(
     let word = pieces.get(at);
     out.push_str("There is no column ")?;
     put_bytes(out, word)?;
+    if is_join_key(pieces, at) {
+        return out.push_str(" on both sides of ASOF, whose key is a column of each.");
+    }
     put_columns_around(out, pieces, at, schema)?;
     out.push_str(". ")?;
     out.push_str(value_cure(word).unwrap_or("A select below has the columns that it names."))
@@ -91,6 +95,11 @@ fn put_kinds(
         );
     }
     put_bytes(out, word)?;
+    if is_join_key(pieces, at) {
+        return out.push_str(
+            " has another kind on the right of ASOF than on its left: make them one by CAST in a select on one side.",
+        );
+    }
     out.push_str(kinds_cure(pieces, at))?;
     let is_signed = state_at(pieces, at.saturating_add(1)) == State::SignedNumber;
     if is_number(word) || word.starts_with(b"'") || is_signed {
@@ -246,7 +255,7 @@ fn put_range(out: &mut String, pieces: &Pieces<'_>, at: usize) -> Result<(), All
     }
     if is_spelled(before, b"groups") {
         return out.push_str(
-            " is out of range: GROUPS is 1 to 256, and so are the groups by the windows of each that are open at once. Behind PARTITION BY it is 1 to 4,096.",
+            " is out of range: GROUPS is 1 to 256, and so are the groups by the windows of each that are open at once. Of PARTITION BY and ASOF it is 1 to 4,096.",
         );
     }
     if is_one_of(before, &[b"rows", b"between"]) {

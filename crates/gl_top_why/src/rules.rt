@@ -1,5 +1,6 @@
 //! Which rule a statement breaks that is read, in a sentence that names what stands there.
 
+use crate::joins::{is_behind_asof, is_behind_join, is_left_side};
 use crate::lines::put_bytes;
 use crate::names::{first_item, from_around, has_over};
 use crate::pieces::{Pieces, is_one_of, is_sign, is_spelled};
@@ -90,6 +91,11 @@ fn put_twice(out: &mut String, pieces: &Pieces<'_>, at: usize) -> Result<(), All
             "A column left of CONCAT and one right of it have the same name: write AS and another one.",
         );
     }
+    if is_behind_asof(pieces, at.saturating_add(1)) {
+        return out.push_str(
+            "A column left of ASOF and one right of it have the same name, which is not its key: write AS and another one.",
+        );
+    }
     put_bytes(out, word)?;
     out.push_str(if is_spelled(pieces.before(at, 1), b"by") {
         " is the key, and an item behind it has this name too: write AS and another one."
@@ -117,12 +123,16 @@ fn put_open(out: &mut String, pieces: &Pieces<'_>, at: usize) -> Result<(), Allo
 
 // A window of time over what has no times.
 fn put_timeless(out: &mut String, pieces: &Pieces<'_>, at: usize) -> Result<(), AllocError> {
-    let source = if is_spelled(pieces.get(at), b"each") {
-        pieces.get(at.saturating_add(3))
+    let is_each = is_spelled(pieces.get(at), b"each");
+    let (first, window) = (at.saturating_add(3), at.saturating_sub(1));
+    let source = if is_each {
+        pieces.get(first)
     } else {
         pieces.before(at, 2)
     };
-    if is_sign(source, b'(') || is_sign(source, b')') {
+    if is_each && is_left_side(pieces, first) || !is_each && is_behind_join(pieces, window) {
+        out.push_str("The source is a join of two, whose rows have no times.")?;
+    } else if is_sign(source, b'(') || is_sign(source, b')') {
         out.push_str("The source is a query, whose rows have no times.")?;
     } else {
         put_bytes(out, source)?;
@@ -164,7 +174,7 @@ pub(crate) fn put_rule(
             "The two sides of UNION differ in the number, the kinds or the order of their columns: CAST, or name the columns in one order.",
         ),
         QueryFault::NoArrival { .. } => out.push_str(
-            "Each row of a side of UNION BY ARRIVAL comes of one row that came. So a side is a select of plain items or frames, or another UNION BY ARRIVAL. Let windows, groups and totals go over the whole.",
+            "Each row of a side of UNION BY ARRIVAL or ASOF comes of one row that came. So a side is a stream, a select of plain items or frames, or another of these. Let windows, groups and totals go over the whole.",
         ),
         QueryFault::PaceDiffers { .. } => out.push_str(
             "CONCAT pairs rows, so both sides give one for each row of one stream, or one each at the end. Take two selects of one stream without WHERE, or two totals.",

@@ -4,6 +4,7 @@
 //! bracket around.
 
 use crate::frames::frame_state;
+use crate::joins::{behind_asof, is_behind_asof};
 use crate::pieces::{Pieces, is_one_of, is_sign, is_spelled};
 use crate::unions::{behind_union, is_behind_arrival};
 use crate::words::{is_name, is_number, is_total};
@@ -43,6 +44,8 @@ pub(crate) enum State {
     By,
     /// ARRIVAL behind UNION BY.
     Arrival,
+    /// BY behind the right side of ASOF.
+    JoinBy,
     /// The key behind BY.
     Key,
     /// GROUPS behind a key.
@@ -217,7 +220,8 @@ pub(crate) fn is_of_query(pieces: &Pieces<'_>, open: usize) -> bool {
         if !is_sign(word, b'(') {
             return is_one_of(word, &[b"from", b"in", b"union", b"concat", b"]"])
                 || is_number(word)
-                || is_behind_arrival(pieces, place.saturating_add(1));
+                || is_behind_arrival(pieces, place.saturating_add(1))
+                || is_behind_asof(pieces, place.saturating_add(1));
         }
     }
     true
@@ -260,7 +264,9 @@ fn behind_square(pieces: &Pieces<'_>, at: usize) -> State {
     };
     if is_sign(pieces.before(open, 1), b',') {
         State::WeightsEnd
-    } else if is_spelled(pieces.clause(open), b"from") {
+    } else if is_spelled(pieces.clause(open), b"from")
+        || matches!(behind_asof(pieces, open), Some(State::BehindSource))
+    {
         State::BehindWindow
     } else {
         State::Body
@@ -375,6 +381,9 @@ pub(crate) fn state_at(pieces: &Pieces<'_>, at: usize) -> State {
         return state;
     }
     if let Some(state) = behind_union(pieces, at) {
+        return state;
+    }
+    if let Some(state) = behind_asof(pieces, at) {
         return state;
     }
     if let Some(state) = state_in(&BEHIND, before) {

@@ -4,7 +4,7 @@ use crate::calls::calls_cure;
 use crate::elsewhere::cure_of;
 use crate::expected::expression_call;
 use crate::lacking::{
-    EACH_WINDOW, GROUPS, ITEM_NAMES, KEY, ONE_STATEMENT, SIGN, WINDOW, is_lacking, lacking,
+    EACH_WINDOW, GROUPS, ITEM_NAMES, JOIN_BY, KEY, ONE_STATEMENT, SIGN, WINDOW, is_lacking, lacking,
 };
 use crate::pieces::{Pieces, is_one_of, is_sign, is_spelled};
 use crate::states::{State, state_at};
@@ -121,6 +121,9 @@ fn foreign_cure(pieces: &Pieces<'_>, at: usize, state: State) -> Option<&'static
     ) {
         return cure_of(before);
     }
+    if state == State::JoinBy && is_spelled(before, b"join") {
+        return cure_of(before);
+    }
     if state == State::Key && is_spelled(pieces.get(at), b"all") {
         return Some(KEY);
     }
@@ -165,7 +168,7 @@ fn source_cure(pieces: &Pieces<'_>, at: usize, state: State) -> Option<&'static 
     let word = pieces.get(at);
     if !matches!(
         state,
-        State::BehindSource | State::BehindWindow | State::BehindEach
+        State::BehindSource | State::BehindWindow | State::BehindEach | State::JoinBy
     ) {
         return None;
     }
@@ -179,10 +182,11 @@ fn source_cure(pieces: &Pieces<'_>, at: usize, state: State) -> Option<&'static 
             "A source has no other name: leave the alias out, and its front before columns.",
         );
     }
-    if state == State::BehindEach {
-        return Some(EACH_WINDOW);
+    match state {
+        State::BehindEach => Some(EACH_WINDOW),
+        State::JoinBy => Some(JOIN_BY),
+        _ => None,
     }
-    None
 }
 
 // Items: AS and a name, a star alone, none lacking.
@@ -226,7 +230,9 @@ fn order_cure(pieces: &Pieces<'_>, at: usize, state: State) -> Option<&'static s
     ) {
         return Some(WINDOW);
     }
-    if is_sign(word, b'[') && !matches!(state, State::Operand | State::TightOperand) {
+    if is_sign(word, b'[')
+        && !matches!(state, State::Operand | State::TightOperand | State::JoinBy)
+    {
         return Some("A window stands right behind its source, in front of WHERE and GROUP BY.");
     }
     if is_spelled(word, b"where") && is_one_of(clause, &[b"groups", b"by"]) {

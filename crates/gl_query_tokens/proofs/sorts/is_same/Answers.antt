@@ -20,6 +20,7 @@ same word.Row word.Row = refl
 same word.Lag word.Lag = refl
 same word.LastValue word.LastValue = refl
 same word.Arrival word.Arrival = refl
+same word.AsOf word.AsOf = refl
 same a b = refl
 
 pub returns : goal.returns
