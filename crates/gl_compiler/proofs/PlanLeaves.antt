@@ -61,5 +61,7 @@ leaves_are_streams schema (shape.Union l r) a =
     join_streams schema (leaves_of (stream_node schema.streams) l) (leaves_of (stream_node schema.streams) r) (leaves_are_streams schema l a.0) (leaves_are_streams schema r a.1)
 leaves_are_streams schema (shape.ByArrival l r) a =
     join_streams schema (leaves_of (stream_node schema.streams) l) (leaves_of (stream_node schema.streams) r) (leaves_are_streams schema l a.0) (leaves_are_streams schema r a.1)
+leaves_are_streams schema (shape.AsOf l r slots) a =
+    join_streams schema (leaves_of (stream_node schema.streams) r) (leaves_of (stream_node schema.streams) l) (leaves_are_streams schema r a.1) (leaves_are_streams schema l a.0)
 leaves_are_streams schema (shape.Concat l r) a =
     join_streams schema (leaves_of (stream_node schema.streams) l) (leaves_of (stream_node schema.streams) r) (leaves_are_streams schema l a.0) (leaves_are_streams schema r a.1)

@@ -1,14 +1,15 @@
 -- The names of a result's columns are names.
-use Rattle.std.proofs.Common.{ℕ, Bool, true, false, List, [], ◌∷◌, ◌++◌, map, Some}
-use Rattle.std.specs.Prelude.{bytes_eq, find, option_map, unwrap_or, if◌then◌else◌}
+use Rattle.std.proofs.Common.{ℕ, zero, suc, Bool, true, false, List, [], ◌∷◌, ◌++◌, map, Some}
+use Rattle.std.specs.Prelude.{bytes_eq, find, option_map, remove, unwrap_or, if◌then◌else◌}
 use Rattle.std.specs.List.{AllByRecursion}
 use Rattle.gl_schema.specs.declared.schema.Column.{Column}
 use Rattle.gl_schema.specs.declared.schema.Stream.{Stream}
 use Rattle.gl_schema.specs.declared.schema.Schema.{Schema}
 use Rattle.gl_schema.specs.Names.{IsName}
 use Rattle.gl_schema.specs.Schemas.{IsColumn, IsSchema, IsStream, column_names}
-use Rattle.gl_query.specs.Columns.{agg_column, columns_of, frame_column, item_column, picked_columns, source_columns, variable}
+use Rattle.gl_query.specs.Columns.{agg_column, but_key, columns_of, frame_column, item_column, picked_columns, source_columns, variable}
 use Rattle.gl_query.specs.Names.{HasNames, QueryHasNames}
+use Rattle.gl_query.specs.Values.{column_number}
 use Rattle.gl_query.specs.Parts.{InAggItem, InFrameItem, InItem, InPick}
 use Rattle.gl_query.specs.Shapes.{AggItemShape, FrameItemShape, ItemShape, PickShape, QueryShape}
 use Rattle.gl_query.specs.Shapes as shape
@@ -56,6 +57,13 @@ join_named : (xs ys : List Column) → AreNamed xs → AreNamed ys → AreNamed 
 join_named [] ys h k = k
 join_named (x ∷ xs) ys h k = (h.0, join_named xs ys h.1 k)
 
+-- all columns but one
+but_named : (cs : List Column) (i : ℕ) → AreNamed cs → AreNamed (remove cs i)
+but_named [] zero h = tt
+but_named [] (suc i) h = tt
+but_named (c ∷ cs) zero h = h.1
+but_named (c ∷ cs) (suc i) h = (h.0, but_named cs i h.1)
+
 query_named : (q : QueryShape) (sources : List Stream) → SourcesAreNamed sources → QueryHasNames q → AreNamed (columns_of sources q)
 query_named (shape.Read name) sources h q = source_named sources name h
 query_named (shape.Rows pick filter source) sources h q =
@@ -70,6 +78,9 @@ query_named (shape.Partition var source key groups size advance body) sources h 
     (q.3, query_named body (variable var (columns_of sources source)) (query_named source sources h q.0, tt) q.1)
 query_named (shape.Union l r) sources h q = query_named l sources h q.0
 query_named (shape.ByArrival l r) sources h q = query_named l sources h q.0
+query_named (shape.AsOf l r slots) sources h q =
+    let rights = columns_of sources r in
+    join_named (columns_of sources l) (but_key slots.key rights) (query_named l sources h q.0) (but_named rights (column_number rights slots.key) (query_named r sources h q.1))
 query_named (shape.Concat l r) sources h q =
     join_named (columns_of sources l) (columns_of sources r) (query_named l sources h q.0) (query_named r sources h q.1)
 

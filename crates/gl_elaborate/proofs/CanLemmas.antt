@@ -241,6 +241,27 @@ can (shape.Partition var source key count size advance body) sources timed most 
     )
 can (shape.Union l r) sources timed most is a s = (can l sources timed most is a.0 s.0, can r sources timed most is a.1 s.1)
 can (shape.ByArrival l r) sources timed most is a s = (can l sources timed most is a.0 s.0, can r sources timed most is a.1 s.1)
+can (shape.AsOf l r slots) sources timed most is a s =
+    let lefts = columns_of sources l in
+    let rights = columns_of sources r in
+    let first = real l (record { sources = sources; timed = timed }) is a.0 in
+    let second = real r (record { sources = sources; timed = timed }) is a.1 in
+    let at_left = column-fits lefts first.kinds slots.key a.3.of_left.known in
+    let at_right = column-fits rights second.kinds slots.key a.3.of_right.known in
+    let long = length-map lefts (λ (c : NamedColumn). c.kind) in
+    let long' = length-map rights (λ (c : NamedColumn). c.kind) in (
+      can l sources timed most is a.0 s.0,
+      can r sources timed most is a.1 s.1,
+      record {
+        left_kinds = first.kinds;
+        right_kinds = second.kinds;
+        few_lefts = first.result.most;
+        few_rights = second.result.most;
+        left_key = omega (arith, at_left, long);
+        right_key = omega (arith, at_right, long');
+        groups = a.3.of_left.most_groups;
+      },
+    )
 can (shape.Concat l r) sources timed most is a s = (can l sources timed most is a.0 s.0, can r sources timed most is a.1 s.1)
 
 pub can-place : (schema : Schema) (statement : Statement) → IsChecked schema statement → CanPlace schema.streams (query_shape statement.query)

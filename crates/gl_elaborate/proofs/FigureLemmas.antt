@@ -27,16 +27,18 @@ use Rattle.gl_algebra.proofs.FigureLemmas.{figures-kept}
 use Rattle.gl_algebra.proofs.PlanLemmas.{in_order}
 use Rattle.gl_elaborate.specs.Terms.{Term, Column, depth_of, depth_of_all, term_of}
 use Rattle.gl_elaborate.specs.Levels.{level_of, reduced, operand_of}
-use Rattle.gl_algebra.specs.Added.{Placed, added}
+use Rattle.gl_algebra.specs.Added.{Placed, added, placed_at}
+use Rattle.gl_algebra.specs.Keys.{delay_by_key}
 use Rattle.gl_elaborate.specs.Plans.{levels, levelled, placed, condition_of, filter_of, frame_arguments, frame_terms, frames_of, frames_over, frames_terms, key_over, picked_terms, aggs_of, arguments_of, arguments_of_all, selected, rows_over, totals_over, column_under, window_node, with_filter}
-use Rattle.gl_elaborate.specs.Fitting.{FitsNext, FramesFit, LevelsFit, SelectFits, RowsFit, TotalsFit}
-use Rattle.gl_elaborate.specs.Figures.{expr_depth, filter_depth, items_depth, pick_depth, condition_depth, agg_depth, aggs_depth, aggs_delay, frame_agg_depth, frame_depth, frames_depth, frames_delay, parted_delay, computed_figures, filtered_figures, query_figures}
-use Rattle.gl_elaborate.proofs.PlacedLemmas.{IsOver, is_added}
+use Rattle.gl_elaborate.specs.Fitting.{FitsNext, FramesFit, JoinFits, LevelsFit, SelectFits, RowsFit, TotalsFit}
+use Rattle.gl_elaborate.specs.Figures.{expr_depth, filter_depth, items_depth, pick_depth, condition_depth, agg_depth, aggs_depth, aggs_delay, frame_agg_depth, frame_depth, frames_depth, frames_delay, parted_delay, computed_figures, filtered_figures, join_figures, query_figures}
+use Rattle.gl_elaborate.specs.Joins.{as_of_over, both_placed, columns_from, join_framed, join_frames, join_kept, join_key, joined_columns, left_items, left_side, right_items, right_side}
+use Rattle.gl_elaborate.proofs.PlacedLemmas.{IsOver, is_added, over-then}
 use Rattle.gl_elaborate.proofs.DepthLemmas.{depth-both}
 use Rattle.gl_elaborate.proofs.TotalsLemmas.{HasDelay}
 use Rattle.gl_elaborate.proofs.FramesLemmas.{HasFrameDelay}
 use Rattle.gl_elaborate.proofs.ReadLemmas.{IsLeafOf, IsReader, body-reader}
-use Rattle.gl_elaborate.proofs.QueryLemmas.{right, total-delay, frames-delay, columns-are}
+use Rattle.gl_elaborate.proofs.QueryLemmas.{right, total-delay, frames-delay, join-right, columns-are}
 
 -- ---- depths
 
@@ -224,6 +226,39 @@ both-figures l r f g n row h k within over fits local =
       is = new.figures ∙ local (shape_of r.nodes) (figures_of r.nodes) ∙ (λ i. row (still i) (k.is i));
     }
 
+-- the nodes of an as-of join
+join-figures : (lefts rights : List NamedColumn) (slots : SlotsShape) (l r : Placed) (f g : Figures) → HasFigures l f → HasFigures r g → l.root < length l.nodes → IsOver l.nodes r
+    → JoinFits lefts rights slots l.root r
+    → (let both = both_placed lefts rights slots.key l.root r in
+    delay_by_key (shape_of both.nodes both.root).kinds (Some (join_key lefts slots)) (join_frames lefts rights slots.key) ≡ parted_delay lefts (Some slots) 1)
+    → HasFigures (as_of_over lefts rights slots l.root r) (join_figures lefts slots f g)
+join-figures lefts rights slots l r f g h k within over fits delay =
+    let c = right_side lefts rights slots.key r in
+    let d = left_side lefts rights slots.key l.root r in
+    let e = both_placed lefts rights slots.key l.root r in
+    let items = join_frames lefts rights slots.key in
+    let new_c = is_added r.nodes (node.Project r.root (right_items lefts rights slots.key)) k.plan fits.of_right in
+    let on_c = more r g (node.Project r.root (right_items lefts rights slots.key)) settled k fits.of_right (λ s v. refl) in
+    let wider = over-then l.nodes r c over new_c.over in
+    let still : HasFigures (placed_at c.nodes l.root) f =
+    record {
+      plan = on_c.plan;
+      is = sym (figures-kept l.nodes c.nodes (length l.nodes) (in_order l.nodes h.plan (length l.nodes)) wider.kept l.root within) ∙ h.is;
+    } in
+    let new_d = is_added c.nodes (node.Project l.root (left_items lefts rights slots.key)) on_c.plan fits.of_left in
+    let on_d = more (placed_at c.nodes l.root) f (node.Project l.root (left_items lefts rights slots.key)) settled still fits.of_left (λ s v. refl) in
+    let on_e = both-figures c d (settled g) (settled f) (node.Merge c.root d.root) turn_figures on_c on_d new_c.over.within new_d.over fits.of_both (λ s v. refl) in
+    let new_f = is_added e.nodes (node.Frames e.root (Some (join_key lefts slots)) items) on_e.plan fits.of_frames in
+    let turned = turn_figures (settled g) (settled f) in
+    let framed = settled (delayed (parted_delay lefts (Some slots) 1) turned) in
+    let on_f : HasFigures (join_framed lefts rights slots l.root r) framed =
+    record { plan = new_f.over.plan; is = new_f.figures ∙ (λ i. settled (delayed (delay i) (on_e.is i))) } in
+    let all = joined_columns lefts rights slots.key in
+    let select = node.Select (join_framed lefts rights slots l.root r).root all in
+    let on_g = more (join_framed lefts rights slots l.root r) framed select (λ x. settled (delayed 1 x)) on_f fits.of_select (λ s v. refl) in
+    let project = node.Project (join_kept lefts rights slots l.root r).root (columns_from 0 all) in
+    more (join_kept lefts rights slots l.root r) (settled (delayed 1 framed)) project settled on_g fits.of_project (λ s v. refl)
+
 read-figures : (n : PlanNode) (kinds : List Kind) (s : ℕ → Shape) (v : ℕ → Figures) → IsLeafOf n kinds → figures_from s v n ≡ input_figures
 read-figures (node.Stream k own) kinds s v h = refl
 read-figures (node.Body own) kinds s v h = refl
@@ -324,6 +359,14 @@ figures-right lengths (shape.ByArrival l r) read sources timed nodes reader a pl
     both-figures left both (query_figures sources l) (query_figures sources r) (node.Merge left.root both.root) turn_figures
     (figures-right lengths l read sources timed nodes reader a.0 plan) (figures-right lengths r read sources timed left.nodes reader a.1 first.1.over.plan)
     first.1.over.within second.1.over done.0.2 (λ s v. refl)
+figures-right lengths (shape.AsOf l r slots) read sources timed nodes reader a plan =
+    let done = join-right lengths l r slots read sources timed nodes reader a plan in
+    let first = right lengths l read sources timed nodes reader a.0 plan in
+    let left = placed read sources l nodes in
+    let second = right lengths r read sources timed left.nodes reader a.1 first.1.over.plan in
+    join-figures (columns_of sources l) (columns_of sources r) slots left (placed read sources r left.nodes) (query_figures sources l) (query_figures sources r)
+    (figures-right lengths l read sources timed nodes reader a.0 plan) (figures-right lengths r read sources timed left.nodes reader a.1 first.1.over.plan)
+    first.1.over.within second.1.over done.fit done.delay
 figures-right lengths (shape.Concat l r) read sources timed nodes reader a plan =
     let done = right lengths (shape.Concat l r) read sources timed nodes reader a plan in
     let first = right lengths l read sources timed nodes reader a.0 plan in

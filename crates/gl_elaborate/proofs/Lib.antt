@@ -8,6 +8,10 @@ pub mod FramesLemmas
 pub mod LongLemmas
 pub mod ReadLemmas
 pub mod TwoLemmas
+pub mod JoinItems
+pub mod JoinValues
+pub mod JoinKinds
+pub mod JoinStands
 pub mod RightLemmas
 pub mod QueryLemmas
 pub mod FigureLemmas

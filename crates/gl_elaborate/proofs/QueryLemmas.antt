@@ -32,7 +32,9 @@ use Rattle.gl_elaborate.specs.Right.{plan_pace, leaves_of, shape_for}
 use Rattle.gl_elaborate.proofs.LongLemmas.{AreLong, in-groups, in-parts, results-long}
 use Rattle.gl_elaborate.proofs.ReadLemmas.{IsReader, means_for, all-kinds, read-arrives, read-shape, read-fits, read-means, body-reader, body-sees, body-leaves}
 use Rattle.gl_elaborate.proofs.StandsLemmas.{Stands, weaker}
-use Rattle.gl_elaborate.proofs.RightLemmas.{ComeOf, joined-means, rows-pace, frames-pace, some-pace, over-stream, same-parts, framed-means, picked-arrives, framed-arrives, merged-arrives}
+use Rattle.gl_elaborate.specs.Joins.{as_of_over}
+use Rattle.gl_elaborate.proofs.JoinStands.{IsJoin, join-stands}
+use Rattle.gl_elaborate.proofs.RightLemmas.{ComeOf, joined-arrives, joined-means, rows-pace, frames-pace, some-pace, over-stream, same-parts, framed-means, picked-arrives, framed-arrives, merged-arrives}
 use Rattle.gl_elaborate.proofs.RowsLemmas.{IsPicked, rows-stand}
 use Rattle.gl_elaborate.proofs.TotalsLemmas.{IsTotalled, HasDelay, totals-stand}
 use Rattle.gl_elaborate.proofs.KeyedLemmas.{AreFramed}
@@ -54,6 +56,19 @@ module _ (read : List ℕ → PlanNode) (sources : List Stream) (timed : Bool) w
   abbrev pub IsRight : QueryShape → List PlanNode → Type 0
   IsRight q nodes = PlacedFit read sources q nodes × Stands nodes (placed read sources q nodes) (shape_for read sources q) (means_for read sources timed q)
       × HasArrivals q (placed read sources q nodes)
+
+-- the nodes of an as-of join over both sides' nodes
+join-of : ResultsAreLong → (l r : QueryShape) (slots : SlotsShape) (read : List ℕ → PlanNode) (sources : List Stream) (timed : Bool) (nodes : List PlanNode) → IsReader read sources timed
+    → IsAcceptedOver (record { sources = sources; timed = timed }) (shape.AsOf l r slots) → IsTrue (arrives l) × IsTrue (arrives r)
+    → Stands nodes (placed read sources l nodes) (shape_for read sources l) (means_for read sources timed l)
+    → (let left = placed read sources l nodes in Stands left.nodes (placed read sources r left.nodes) (shape_for read sources r) (means_for read sources timed r))
+    → (let left = placed read sources l nodes in
+    IsJoin (columns_of sources l) (columns_of sources r) slots nodes left (placed read sources r left.nodes) (shape_for read sources (shape.AsOf l r slots)))
+join-of lengths l r slots read sources timed nodes reader a come s t =
+    let left = placed read sources l nodes in
+    join-stands (columns_of sources l) (columns_of sources r) slots (columns-are l read sources timed reader a.0).kinds (columns-are r read sources timed reader a.1).kinds a.3
+    nodes left (placed read sources r left.nodes) (shape_for read sources l) (shape_for read sources r) (means_for read sources timed l) (means_for read sources timed r)
+    refl refl come.0 come.1 s t
 
 -- the plan of an accepted query
 pub right : ResultsAreLong → (q : QueryShape) (read : List ℕ → PlanNode) (sources : List Stream) (timed : Bool) (nodes : List PlanNode) → IsReader read sources timed
@@ -300,6 +315,20 @@ right lengths (shape.ByArrival l r) read sources timed nodes reader a plan =
           (λ inputs out spill x env sees. record { rows = x.rows; of_source = made inputs x.rows spill x.of_source env sees; without = x.without }),
       λ t inputs out spill x. made inputs out spill (new.comes inputs out spill x),
     )
+right lengths (shape.AsOf l r slots) read sources timed nodes reader a plan =
+    let first = right lengths l read sources timed nodes reader a.0 plan in
+    let left = placed read sources l nodes in
+    let second = right lengths r read sources timed left.nodes reader a.1 first.1.over.plan in
+    let both = placed read sources r left.nodes in
+    let come = and_parts (arrives l) (arrives r) a.2 in
+    let done = join-of lengths l r slots read sources timed nodes reader a come first.1 second.1 in
+    let of_query = joined-arrives lengths l r slots read sources timed a.0 a.1 (λ i. IsPlanArrival left.nodes left.root i) (λ i. IsPlanArrival both.nodes both.root i) (first.2 come.0) (second.2 come.1) in (
+      (first.0, second.0, done.fit),
+      weaker nodes (as_of_over (columns_of sources l) (columns_of sources r) slots left.root both) (shape_for read sources (shape.AsOf l r slots)) _
+          (means_for read sources timed (shape.AsOf l r slots)) done.stands
+          (λ inputs out spill x env sees. record { rows = x.rows; of_source = of_query inputs x.rows spill x.of_source env sees; without = x.without }),
+      λ t inputs out spill x. of_query inputs out spill (done.comes inputs out spill x),
+    )
 right lengths (shape.Concat l r) read sources timed nodes reader a plan =
     let first = right lengths l read sources timed nodes reader a.0 plan in
     let left = placed read sources l nodes in
@@ -349,3 +378,12 @@ frames-delay lengths items condition slots source read sources timed nodes reade
     let are = columns-are source read sources timed reader a.0 in
     (frames-stand columns are.kinds nodes (placed read sources source nodes) (shape_for read sources source) (means_for read sources timed source) refl
     items a.1.typed slots a.1.parted condition a.1.filters below.1).1
+
+pub join-right : ResultsAreLong → (l r : QueryShape) (slots : SlotsShape) (read : List ℕ → PlanNode) (sources : List Stream) (timed : Bool) (nodes : List PlanNode)
+    → IsReader read sources timed → IsAcceptedOver (record { sources = sources; timed = timed }) (shape.AsOf l r slots) → IsPlan nodes
+    → (let left = placed read sources l nodes in
+    IsJoin (columns_of sources l) (columns_of sources r) slots nodes left (placed read sources r left.nodes) (shape_for read sources (shape.AsOf l r slots)))
+join-right lengths l r slots read sources timed nodes reader a plan =
+    let first = right lengths l read sources timed nodes reader a.0 plan in
+    let second = right lengths r read sources timed (placed read sources l nodes).nodes reader a.1 first.1.over.plan in
+    join-of lengths l r slots read sources timed nodes reader a (and_parts (arrives l) (arrives r) a.2) first.1 second.1

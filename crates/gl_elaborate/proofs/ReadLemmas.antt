@@ -219,4 +219,5 @@ body-leaves n (shape.PerGroup var source key groups body) = body-leaves n source
 body-leaves n (shape.Partition var source key groups size advance body) = body-leaves n source
 body-leaves n (shape.Union l r) = all_append (λ leaf. leaf ≡ n) (leaves_of (λ name. n) l) (leaves_of (λ name. n) r) (body-leaves n l) (body-leaves n r)
 body-leaves n (shape.ByArrival l r) = all_append (λ leaf. leaf ≡ n) (leaves_of (λ name. n) l) (leaves_of (λ name. n) r) (body-leaves n l) (body-leaves n r)
+body-leaves n (shape.AsOf l r slots) = all_append (λ leaf. leaf ≡ n) (leaves_of (λ name. n) r) (leaves_of (λ name. n) l) (body-leaves n r) (body-leaves n l)
 body-leaves n (shape.Concat l r) = all_append (λ leaf. leaf ≡ n) (leaves_of (λ name. n) l) (leaves_of (λ name. n) r) (body-leaves n l) (body-leaves n r)

@@ -18,7 +18,7 @@ use Rattle.gl_query.specs.Columns.{columns_of, source_columns, pace_of, unfilter
 use Rattle.gl_query.specs.Columns as query
 use Rattle.gl_query.specs.Accepted.{IsAcceptedOver, can_measure}
 use Rattle.gl_query.specs.Laws.{ResultsAreLong}
-use Rattle.gl_query.specs.Results.{ArrivesIn, Env, IsFramed, IsFramedInPlace, IsResultIn, frame_row, keeps, kept, picked, ticks_in, times_in}
+use Rattle.gl_query.specs.Results.{ArrivesIn, Env, IsAsOf, IsFramed, IsFramedInPlace, IsResultIn, frame_row, join_by, keeps, kept, picked, ticks_in, times_in}
 use Rattle.gl_query.specs.Windows.{parts_of}
 use Rattle.gl_query.proofs.Arriving.{arrived}
 use Rattle.gl_algebra.specs.declared.node.PlanNode.{PlanNode}
@@ -28,6 +28,7 @@ use Rattle.gl_algebra.specs.Results.{Arriving, Inputs, times_with}
 use Rattle.gl_algebra.specs.Shapes.{unsteady, pace_by_key}
 use Rattle.gl_elaborate.specs.Plans.{key_over, placed, window_node}
 use Rattle.gl_elaborate.specs.Right.{plan_pace}
+use Rattle.gl_elaborate.proofs.JoinStands.{IsJoinedHere}
 use Rattle.gl_elaborate.proofs.KeyedLemmas.{AreFramed, AreFramedHere}
 use Rattle.gl_elaborate.proofs.LongLemmas.{results-long}
 use Rattle.gl_elaborate.proofs.PlacedLemmas.{IsOver, is_added}
@@ -160,3 +161,25 @@ merged-arrives l r read sources timed left right first second inputs out spill x
   in_order = x.in_order;
   either = x.either;
 }
+
+-- and what an as-of join makes of both sides
+pub joined-arrives : ResultsAreLong → (l r : QueryShape) (slots : SlotsShape) (read : List ℕ → PlanNode) (sources : List Stream) (timed : Bool)
+    → IsAcceptedOver (record { sources = sources; timed = timed }) l → IsAcceptedOver (record { sources = sources; timed = timed }) r → (left right : Arriving)
+    → ComeOf read sources timed l left → ComeOf read sources timed r right
+    → ComeOf read sources timed (shape.AsOf l r slots) (λ inputs. IsJoinedHere (columns_of sources l) (columns_of sources r) slots (left inputs) (right inputs))
+joined-arrives lengths l r slots read sources timed a b left right first second inputs out spill x env sees =
+    let of_left = first inputs x.left x.left_spill x.of_left env sees in
+    let of_right = second inputs x.right x.right_spill x.of_right env sees in
+    let h = results-long lengths l sources timed env (arrival.rows_of x.left) x.left_spill a sees.streams sees.are_long (arrived l env x.left x.left_spill of_left) in
+    let k = results-long lengths r sources timed env (arrival.rows_of x.right) x.right_spill b sees.streams sees.are_long (arrived r env x.right x.right_spill of_right) in
+    subst (λ (s : List Stream). IsAsOf (join_by (columns_of s l) (columns_of s r) slots) (ArrivesIn l env) (ArrivesIn r env) out spill) (sym sees.streams)
+    (record {
+      left = x.left;
+      right = x.right;
+      left_spill = x.left_spill;
+      right_spill = x.right_spill;
+      of_left = of_left;
+      of_right = of_right;
+      joined = x.made h k;
+      any = x.told h k;
+    })

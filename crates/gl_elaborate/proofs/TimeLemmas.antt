@@ -24,6 +24,7 @@ use Rattle.gl_algebra.proofs.PlanLemmas.{node_inserted}
 use Rattle.gl_elaborate.specs.Terms.{Term, depth_of_all}
 use Rattle.gl_elaborate.specs.Levels.{level_of, operand_of, reduced}
 use Rattle.gl_elaborate.specs.Plans.{aggs_of, arguments_of_all, column_under, filter_of, frames_of, frames_over, frames_terms, key_over, levelled, levels, picked_terms, placed, rows_over, selected, stream_node, totals_over, window_node, with_filter}
+use Rattle.gl_elaborate.specs.Joins.{both_placed, columns_from, join_framed, join_frames, join_kept, join_key, joined_columns, left_items, left_side, right_items, right_side}
 use Rattle.gl_elaborate.specs.Laws.{PlansTellTime}
 
 -- ---- one node more
@@ -147,6 +148,22 @@ placed-time (shape.ByArrival l r) read sources nodes h =
     let left = placed read sources l nodes in
     let right = placed read sources r left.nodes in
     quiet right.nodes (node.Merge left.root right.root) refl ∙ placed-time r read sources left.nodes h
+    ∙ ap (λ (b : Bool). b || has_time r) (placed-time l read sources nodes h) ∙ or_join (reads_time nodes) (has_time l) (has_time r)
+placed-time (shape.AsOf l r slots) read sources nodes h =
+    let lefts = columns_of sources l in
+    let rights = columns_of sources r in
+    let left = placed read sources l nodes in
+    let right = placed read sources r left.nodes in
+    let both = both_placed lefts rights slots.key left.root right in
+    let framed = join_framed lefts rights slots left.root right in
+    let kept = join_kept lefts rights slots left.root right in
+    let all = joined_columns lefts rights slots.key in
+    let first = right_side lefts rights slots.key right in
+    let second = left_side lefts rights slots.key left.root right in
+    quiet kept.nodes (node.Project kept.root (columns_from 0 all)) refl ∙ quiet framed.nodes (node.Select framed.root all) refl
+    ∙ quiet both.nodes (node.Frames both.root (Some (join_key lefts slots)) (join_frames lefts rights slots.key)) refl
+    ∙ quiet second.nodes (node.Merge first.root second.root) refl ∙ quiet first.nodes (node.Project left.root (left_items lefts rights slots.key)) refl
+    ∙ quiet right.nodes (node.Project right.root (right_items lefts rights slots.key)) refl ∙ placed-time r read sources left.nodes h
     ∙ ap (λ (b : Bool). b || has_time r) (placed-time l read sources nodes h) ∙ or_join (reads_time nodes) (has_time l) (has_time r)
 placed-time (shape.Concat l r) read sources nodes h =
     let left = placed read sources l nodes in

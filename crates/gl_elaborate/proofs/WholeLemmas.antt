@@ -199,6 +199,9 @@ module _ (lengths : ResultsAreLong) (schema : Schema) (fine : IsSchema schema) w
   whole (shape.ByArrival l r) a =
       let p = plain _ (node.Merge _ _) refl in
       record { spare = p.none; figures = p.own ∙ own_figures (shape.ByArrival l r) a; ticks = untimed _ (node.Merge _ _) refl }
+  whole (shape.AsOf l r slots) a =
+      let p = plain _ (node.Project _ _) refl in
+      record { spare = p.none; figures = p.own ∙ own_figures (shape.AsOf l r slots) a; ticks = untimed _ (node.Project _ _) refl }
   whole (shape.Concat l r) a =
       let p = plain _ (node.Beside _ _) refl in
       record { spare = p.none; figures = p.own ∙ own_figures (shape.Concat l r) a; ticks = untimed _ (node.Beside _ _) refl }

@@ -19,6 +19,8 @@ use Rattle.gl_algebra.specs.Fits.{Fits}
 use Rattle.gl_algebra.specs.Added.{Placed, added}
 use Rattle.gl_elaborate.specs.Terms.{Term, depth_of_all, ops_in_all, term_of, IsTerm}
 use Rattle.gl_elaborate.specs.Levels.{level_of, reduced, operand_of}
+use Rattle.gl_query.specs.Laws.{AreKinds}
+use Rattle.gl_elaborate.specs.Joins.{both_placed, columns_from, join_framed, join_frames, join_kept, join_key, joined_columns, left_items, left_side, right_items, right_side}
 use Rattle.gl_elaborate.specs.Plans.{levelled, selected, column_under, picked_terms, filter_of, with_filter, arguments_of_all, aggs_of, frame_arguments, frames_of, frames_terms, key_over, placed, window_node}
 
 -- a node fits behind these
@@ -88,6 +90,25 @@ pub record FramesFit (columns : List NamedColumn) (items : List FrameItemShape) 
       let over = levelled (length columns) at (frames_terms columns items) (filter_of columns filter) in
       FramedFits (selected over.at over.filter) by items over.items
 
+-- the nodes of an as-of join
+pub record JoinFits (lefts rights : List NamedColumn) (slots : SlotsShape) (left : ℕ) (right : Placed) : Type 0 where
+  pub of_right : FitsNext right.nodes (node.Project right.root (right_items lefts rights slots.key))
+  pub of_left :
+      FitsNext (right_side lefts rights slots.key right).nodes
+      (node.Project left (left_items lefts rights slots.key))
+  pub of_both :
+      let before = left_side lefts rights slots.key left right in
+      FitsNext before.nodes (node.Merge (right_side lefts rights slots.key right).root before.root)
+  pub of_frames :
+      let both = both_placed lefts rights slots.key left right in
+      FitsNext both.nodes (node.Frames both.root (Some (join_key lefts slots)) (join_frames lefts rights slots.key))
+  pub of_select :
+      let framed = join_framed lefts rights slots left right in
+      FitsNext framed.nodes (node.Select framed.root (joined_columns lefts rights slots.key))
+  pub of_project :
+      let kept = join_kept lefts rights slots left right in
+      FitsNext kept.nodes (node.Project kept.root (columns_from 0 (joined_columns lefts rights slots.key)))
+
 -- the nodes of a query
 abbrev pub PlacedFit : (List ℕ → PlanNode) → List Stream → QueryShape → List PlanNode → Type 0
 PlacedFit read sources (shape.Read name) nodes = FitsNext nodes (read name)
@@ -132,6 +153,10 @@ PlacedFit read sources (shape.ByArrival l r) nodes =
     let right = placed read sources r left.nodes in
     PlacedFit read sources l nodes × PlacedFit read sources r left.nodes
     × FitsNext right.nodes (node.Merge left.root right.root)
+PlacedFit read sources (shape.AsOf l r slots) nodes =
+    let left = placed read sources l nodes in
+    PlacedFit read sources l nodes × PlacedFit read sources r left.nodes
+    × JoinFits (columns_of sources l) (columns_of sources r) slots left.root (placed read sources r left.nodes)
 PlacedFit read sources (shape.Concat l r) nodes =
     let left = placed read sources l nodes in
     let right = placed read sources r left.nodes in
@@ -178,6 +203,16 @@ abbrev pub CanPlaceSlots : List NamedColumn → Option SlotsShape → Type 0
 CanPlaceSlots columns None = Unit {0}
 CanPlaceSlots columns (Some s) = (column_number columns s.key ≤ 255) × (s.groups ≤ 4096)
 
+-- both sides of an as-of join have at most 32 columns, of kinds that are kinds, and the key among them
+pub record CanJoin (lefts rights : List NamedColumn) (slots : SlotsShape) : Type 0 where
+  pub left_kinds : AreKinds lefts
+  pub right_kinds : AreKinds rights
+  pub few_lefts : length lefts ≤ 32
+  pub few_rights : length rights ≤ 32
+  pub left_key : column_number lefts slots.key < length lefts
+  pub right_key : column_number rights slots.key < length rights
+  pub groups : slots.groups ≤ 4096
+
 -- what code that places a query needs
 abbrev pub CanPlace : List Stream → QueryShape → Type 0
 CanPlace sources (shape.Read name) = length sources ≤ 8
@@ -199,4 +234,6 @@ CanPlace sources (shape.Partition var source key groups size advance body) =
     × (advance ≤ 65536)
 CanPlace sources (shape.Union l r) = CanPlace sources l × CanPlace sources r
 CanPlace sources (shape.ByArrival l r) = CanPlace sources l × CanPlace sources r
+CanPlace sources (shape.AsOf l r slots) =
+    CanPlace sources l × CanPlace sources r × CanJoin (columns_of sources l) (columns_of sources r) slots
 CanPlace sources (shape.Concat l r) = CanPlace sources l × CanPlace sources r

@@ -1,3 +1,4 @@
+pub mod Joins
 pub mod Plans
 pub mod Fitting
 pub mod Right

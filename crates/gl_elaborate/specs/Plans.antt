@@ -30,6 +30,7 @@ use Rattle.gl_algebra.specs.declared.node.PlanNode.TheVariants as node
 use Rattle.gl_algebra.specs.Added.{Placed, added, placed_at}
 use Rattle.gl_elaborate.specs.Terms.{Term, Column, Literal, Not, Cast, Binary, term_of, depth_of_all}
 use Rattle.gl_elaborate.specs.Levels.{level_of, reduced, operand_of}
+use Rattle.gl_elaborate.specs.Joins.{as_of_over}
 
 -- what the levels give over a node: the last of their nodes, and terms that are left of the items and of the filter, if
 -- there is one
@@ -278,6 +279,9 @@ placed read sources (shape.ByArrival l r) nodes =
     let left = placed read sources l nodes in
     let right = placed read sources r left.nodes in
     added right.nodes (node.Merge left.root right.root)
+placed read sources (shape.AsOf l r slots) nodes =
+    let left = placed read sources l nodes in
+    as_of_over (columns_of sources l) (columns_of sources r) slots left.root (placed read sources r left.nodes)
 placed read sources (shape.Concat l r) nodes =
     let left = placed read sources l nodes in
     let right = placed read sources r left.nodes in

@@ -44,6 +44,7 @@ leaves_of read (shape.PerGroup var source key groups body) = leaves_of read sour
 leaves_of read (shape.Partition var source key groups size advance body) = leaves_of read source
 leaves_of read (shape.Union l r) = leaves_of read l ++ leaves_of read r
 leaves_of read (shape.ByArrival l r) = leaves_of read l ++ leaves_of read r
+leaves_of read (shape.AsOf l r slots) = leaves_of read r ++ leaves_of read l
 leaves_of read (shape.Concat l r) = leaves_of read l ++ leaves_of read r
 
 -- the shape that a query's node must have: its columns, closing, pace, whether its rows come one by one, and leaves

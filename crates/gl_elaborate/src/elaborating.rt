@@ -13,6 +13,7 @@ ghost use Rattle.gl_elaborate.specs.Plans.{placed, plan_behind, plan_of, window_
 ghost use Rattle.gl_elaborate.specs.Sources.{read_of};
 
 use crate::frames::{Parted, frames_over, key_over};
+use crate::joins::{Sides, as_of_over};
 use crate::levels::put;
 use crate::rows::rows_over;
 use crate::sources::source_node;
@@ -20,7 +21,8 @@ use crate::totals::totals_over;
 use gl_algebra::{Plan, PlanId, PlanNode};
 use gl_bits::Memory;
 use gl_query::columns::{
-    agg_columns, frame_columns, group_columns, joined_columns, picked_columns, source_columns,
+    agg_columns, but_key, frame_columns, group_columns, joined_columns, picked_columns,
+    source_columns,
 };
 use gl_query::kinds::column_number;
 use gl_query::laws::results_are_long;
@@ -283,6 +285,23 @@ pub fn query_into(
             let (right, _) = query_into(alloc, sources, right, plan)?;
             let root = put(plan, PlanNode::Merge { left, right })?;
             Ok((root, columns))
+        }
+        Query::AsOf {
+            left,
+            right,
+            slots,
+            ..
+        } => {
+            let (left, lefts) = query_into(alloc, sources, left, plan)?;
+            let (right, rights) = query_into(alloc, sources, right, plan)?;
+            let sides = Sides {
+                lefts: lefts.as_slice(),
+                rights: rights.as_slice(),
+                slots,
+            };
+            let root = as_of_over(alloc, plan, sides, left, right)?;
+            let others = but_key(rights, slots.key.text.as_slice());
+            Ok((root, joined_columns(lefts, others)?))
         }
         Query::Concat { left, right, .. } => {
             let (left, columns) = query_into(alloc, sources, left, plan)?;

@@ -32,8 +32,8 @@ pub struct Parted {
     pub by: Option<PlanKey>,
 }
 
-// The column of this number as a key of so many groups.
-fn key_at(column: usize, groups: u128) -> PlanKey
+/// The column of this number as a key of so many groups.
+pub fn key_at(column: usize, groups: u128) -> PlanKey
     requires column { column ≤ 255 }
     requires groups { groups ≤ 4096 }
     ensures { result ≡ record { key = column; groups = groups } }

@@ -7,6 +7,7 @@
 
 pub mod elaborating;
 mod frames;
+mod joins;
 pub mod laws;
 pub mod leveling;
 mod levels;

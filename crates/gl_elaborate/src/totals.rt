@@ -113,8 +113,8 @@ pub(crate) fn rest_of(trees: &[Tree]) -> &[Tree]
     }
 }
 
-// A number as a word of a kind.
-fn word_of(kind: Kind, bits: u128) -> Word
+/// A number as a word of a kind.
+pub fn word_of(kind: Kind, bits: u128) -> Word
     requires kind { IsKind kind }
     requires fits { bits < 2 ^ width_of kind }
     ensures { result ≡ record { bits = bits; width = width_of kind } }
