@@ -4,7 +4,7 @@ use gl_bits::{Listed, Memory};
 use gl_query::columns::columns_of;
 use gl_query::{Sources, Statement};
 use gl_query_reader::read_query;
-use gl_reference::{Answer, Times, evaluate};
+use gl_reference::{Answer, Brought, Times, evaluate};
 use gl_schema::value::text_number;
 use gl_schema::{Column, Schema, read_schema};
 use gl_values::{Kind, Table};
@@ -236,22 +236,20 @@ fn evaluated(
     columns: &[Column],
     inputs: &Inputs,
 ) -> Result<String, AllocError> {
-    let tables = inputs.tables.as_slice();
-    let places = inputs.places.as_slice();
-    let times = inputs.times.as_slice();
+    let brought = Brought {
+        rows: inputs.tables.as_slice(),
+        places: inputs.places.as_slice(),
+        times: inputs.times.as_slice(),
+        ticks: inputs.ticks,
+    };
     let count = schema.streams.len();
-    if tables.len() != count || places.len() != count || times.len() != count {
+    if brought.rows.len() != count
+        || brought.places.len() != count
+        || brought.times.len() != count
+    {
         return String::from_str(alloc, "no inputs");
     }
-    match evaluate(
-        alloc,
-        schema,
-        statement,
-        tables,
-        places,
-        times,
-        inputs.ticks,
-    ) {
+    match evaluate(alloc, schema, statement, brought) {
         Ok(answer) => answer_told(alloc, columns, &answer),
         Err(_) => String::from_str(alloc, "no answer"),
     }

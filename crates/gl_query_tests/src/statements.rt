@@ -60,6 +60,7 @@ fn word_of(query: &Query) -> &'static str {
         | Query::Partition { .. } => "EACH",
         Query::Union { .. } => "UNION",
         Query::ByArrival { .. } => "UNION BY ARRIVAL",
+        Query::AsOf { .. } => "ASOF",
         Query::Concat { .. } => "CONCAT",
     }
 }
@@ -70,6 +71,7 @@ fn join_told(alloc: Global, statement: &Statement) -> Result<String, AllocError>
     match &statement.query {
         Query::Union { left, right, .. }
         | Query::ByArrival { left, right, .. }
+        | Query::AsOf { left, right, .. }
         | Query::Concat { left, right, .. } => {
             let (left, right) = (word_of(left), word_of(right));
             format!(in alloc; "{word} of {left} and {right}")

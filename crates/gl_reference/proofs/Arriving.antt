@@ -1,14 +1,15 @@
 -- The result with places of a form, from those of its parts, and that its rows fit.
 use Rattle.std.proofs.Common.{◌≡◌, List, Bool, map, refl, sym, ap, subst, ◌∙◌}
-use Rattle.std.specs.Prelude.{IsTrue, Option, None, Some}
+use Rattle.std.specs.Prelude.{◌||◌, IsTrue, Option, None, Some}
 use Rattle.gl_arrival.specs.Places.{Placed, rows_of}
 use Rattle.gl_arrival.specs.Changes.{kept_at, mapped_at}
+use Rattle.gl_asof.specs.AsOf.{as_of, more_keys}
 use Rattle.gl_values.specs.Results.{Row}
 use Rattle.gl_schema.specs.declared.schema.Column.{Column}
 use Rattle.gl_query.specs.Accepted.{IsAcceptedOver}
 use Rattle.gl_query.specs.Columns.{arrives}
 use Rattle.gl_query.specs.Laws.{ArrivalsAreResults, ResultsFit, scope_of}
-use Rattle.gl_query.specs.Results.{ArrivesIn, Env, IsFramedInPlace, columns_in, keeps, kept, picked}
+use Rattle.gl_query.specs.Results.{ArrivesIn, Env, IsFramedInPlace, columns_in, join_by, keeps, kept, picked}
 use Rattle.gl_query.specs.Shapes.{ExprShape, FrameItemShape, PickShape, QueryShape, SlotsShape}
 use Rattle.gl_query.specs.Shapes as shape
 use Rattle.gl_reference.specs.Arrivals.{framed_in, rows_in, spills}
@@ -45,6 +46,21 @@ frames_arrived env items filter slots source from before columns xs spill is ec 
     (eo ∙ ap (λ (k : List Column). framed_in k items slots (kept_at (keeps k filter) (map placed_of from))) ec)
     (es ∙ ap (λ (k : List Column). spills k slots before (kept k filter (rows_in from))) ec
     ∙ ap (λ (l : List Row). spills (columns_in env source) slots before (kept (columns_in env source) filter l)) (sym (rows_of_placed from)))
+
+pub as_of_arrived : (env : Env) (l r : QueryShape) (slots : SlotsShape) (xs ys : List (Placed Row)) (p q : Bool) (lefts rights : List Column) (out : List (Placed Row)) (further spill : Bool)
+    → ArrivesIn l env xs p → ArrivesIn r env ys q → lefts ≡ columns_in env l → rights ≡ columns_in env r
+    → (out ≡ as_of (join_by lefts rights slots) xs ys) × (further ≡ more_keys (join_by lefts rights slots) xs ys) → spill ≡ ((q || p) || further)
+    → ArrivesIn (shape.AsOf l r slots) env out spill
+as_of_arrived env l r slots xs ys p q lefts rights out further spill of_l of_r el er (eo, ef) es = record {
+  left = xs;
+  right = ys;
+  left_spill = p;
+  right_spill = q;
+  of_left = of_l;
+  of_right = of_r;
+  joined = eo ∙ (λ t. as_of (join_by (el t) (er t) slots) xs ys);
+  any = es ∙ ap (λ (b : Bool). (q || p) || b) (ef ∙ (λ t. more_keys (join_by (el t) (er t) slots) xs ys));
+}
 
 -- the rows of a result with places of an accepted query fit its columns
 pub arrived_fit : ArrivalsAreResults → ResultsFit → (env : Env) (timed : Bool) (q : QueryShape) (rows : List PlacedRow) (spill : Bool) → IsTrue (arrives q) → AreSources env → IsAcceptedOver (scope_of env timed) q

@@ -127,3 +127,12 @@ arrived_made env l r xs out p spill is (e, s) = record {
   of_source = subst (λ (b : Bool). IsByArrival (ArrivesIn l env) (ArrivesIn r env) xs b) (sym s) is;
   without = e;
 }
+
+-- so has an as-of join
+pub as_of_made : (env : Env) (l r : QueryShape) (slots : SlotsShape) (xs : List (Placed Row)) (out : List Row) (p spill : Bool)
+    → ArrivesIn (shape.AsOf l r slots) env xs p → (out ≡ rows_of xs) × (spill ≡ p) → IsResultIn (shape.AsOf l r slots) env out spill
+as_of_made env l r slots xs out p spill is (e, s) = record {
+  rows = xs;
+  of_source = subst (λ (b : Bool). ArrivesIn (shape.AsOf l r slots) env xs b) (sym s) is;
+  without = e;
+}

@@ -13,3 +13,4 @@ pub mod Partitioning
 pub mod Framing
 pub mod Placing
 pub mod Arriving
+pub mod Marking

@@ -82,7 +82,7 @@ placed_picked columns pick (x ∷ xs) = ap (λ l. at_place (picked columns pick 
 
 -- ---- frames, one row more
 
-each_at_more : (f : List Row → Option Row) (seen : List Row) (xs : List (Placed Row)) (x : Placed Row)
+pub each_at_more : (f : List Row → Option Row) (seen : List Row) (xs : List (Placed Row)) (x : Placed Row)
     → each_at f seen (xs ++ x ∷ []) ≡ each_at f seen xs ++ option_to_list (option_map (λ (y : Row). at_place y x.place) (f ((seen ++ rows_of xs) ++ x.row ∷ [])))
 each_at_more f seen [] x =
     alone (option_map (λ (y : Row). at_place y x.place) (f (seen ++ x.row ∷ [])))
@@ -103,7 +103,7 @@ each_at_more f seen (y ∷ xs) x =
     moved None ys zs = refl
     moved (Some z) ys zs = refl
 
-seen_next : (rows : List PlacedRow) (i : ℕ) (x : PlacedRow) → i < length rows → x ≡ get_or rows i x → rows_of (map placed_of (take i rows)) ++ x.row ∷ [] ≡ take (i + 1) (rows_in rows)
+pub seen_next : (rows : List PlacedRow) (i : ℕ) (x : PlacedRow) → i < length rows → x ≡ get_or rows i x → rows_of (map placed_of (take i rows)) ++ x.row ∷ [] ≡ take (i + 1) (rows_in rows)
 seen_next rows i x lt is =
     ap (λ (l : List Row). l ++ x.row ∷ []) (rows_of_placed (take i rows)) ∙ sym (map_taken (λ (r : PlacedRow). r.row) rows i x lt is) ∙ sym (take-map (λ (r : PlacedRow). r.row) (i + 1) rows)
 

@@ -13,4 +13,5 @@ size_of (shape.PerGroup var source key n body) = size_of source + size_of body +
 size_of (shape.Partition var source key n size advance body) = size_of source + size_of body + 1
 size_of (shape.Union l r) = size_of l + size_of r + 1
 size_of (shape.ByArrival l r) = size_of l + size_of r + 1
+size_of (shape.AsOf l r slots) = size_of l + size_of r + 1
 size_of (shape.Concat l r) = size_of l + size_of r + 1

@@ -5,3 +5,4 @@ pub mod Fits
 pub mod Partitions
 pub mod Frames
 pub mod Arrivals
+pub mod Sides

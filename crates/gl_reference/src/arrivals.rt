@@ -1,6 +1,6 @@
 //! Results of queries each of whose rows comes of one row that came: rows with their places.
 
-ghost use Rattle.std.specs.Prelude.{◌≡◌, Bool, IfOk, IsTrue, map, option_map};
+ghost use Rattle.std.specs.Prelude.{◌≡◌, ◌||◌, Bool, IfOk, IsTrue, map, option_map};
 ghost use Rattle.gl_arrival.specs.Changes.{kept_at, mapped_at};
 ghost use Rattle.gl_arrival.specs.Places.{rows_of};
 ghost use Rattle.gl_query.specs.Accepted.{IsAcceptedOver, IsFilter, IsParted, IsRows};
@@ -16,6 +16,7 @@ ghost use Rattle.gl_reference.specs.Sources.{HasArrived, env_view, placed_of};
 use crate::answers::Answer;
 use crate::columns::{Source, columns_of, source_named};
 use crate::frames::keys_of;
+use crate::joins::{Sides, join_placed};
 use crate::placed::{
     PlacedRow, framed_placed, kept_placed, keyed_placed, merged, picked_placed, placed_rows,
     rows_alone,
@@ -143,10 +144,9 @@ fn rows_placed(
 #[cycle(arrivals)]
 fn arrival_of(alloc: Global, sources: &[Source<'_>], query: &Query) -> Result<Arrived, Fault>
     ensures value { IfOk result (HasArrived sources.now (query_shape query.now)) }
-    ensures fits { (timed : Bool) → IsTrue (arrives (query_shape query.now))
-        → AreSources (env_view sources.now)
-        → IsAcceptedOver (scope_of (env_view sources.now) timed) (query_shape query.now)
-        → IsOrMemory result }
+    ensures fits { let env = env_view sources.now in let q = query_shape query.now in
+        (timed : Bool) → IsTrue (arrives q) → AreSources env
+        → IsAcceptedOver (scope_of env timed) q → IsOrMemory result }
 {
     results_fit();
     arrivals_are_results();
@@ -173,6 +173,12 @@ fn arrival_of(alloc: Global, sources: &[Source<'_>], query: &Query) -> Result<Ar
             frames_placed(alloc, columns.as_slice(), items, filter, slots, from)
         }
         Query::ByArrival { left, right, .. } => by_arrival(alloc, sources, left, right),
+        Query::AsOf {
+            left,
+            right,
+            slots,
+            ..
+        } => as_of(alloc, sources, left, right, slots),
         _ => Err(Fault::Unfit),
     }
 }
@@ -198,6 +204,50 @@ pub fn by_arrival(
     Ok(Arrived {
         rows,
         spill: first.spill || second.spill,
+    })
+}
+
+// Whether any of these is so.
+fn is_any(first: bool, second: bool, third: bool) -> bool
+    ensures { result ≡ ((first || second) || third) }
+{
+    first || second || third
+}
+
+/// The rows of two queries that arrive, joined.
+#[cycle(arrivals)]
+pub fn as_of(
+    alloc: Global,
+    sources: &[Source<'_>],
+    left: &Query,
+    right: &Query,
+    slots: &Slots,
+) -> Result<Arrived, Fault>
+    ensures value { IfOk result (HasArrived sources.now
+        (shape.AsOf (query_shape left.now) (query_shape right.now) (slots_shape slots.now))) }
+    ensures fits { (timed : Bool) → AreSources (env_view sources.now)
+        → IsAcceptedOver (scope_of (env_view sources.now) timed)
+        (shape.AsOf (query_shape left.now) (query_shape right.now) (slots_shape slots.now))
+        → IsOrMemory result }
+{
+    let first = arrival_of(alloc, sources, left)?;
+    let second = arrival_of(alloc, sources, right)?;
+    let lefts = columns_of(alloc, sources, left)?;
+    let rights = columns_of(alloc, sources, right)?;
+    let of_left = lefts.as_slice();
+    let of_right = rights.as_slice();
+    let sides = Sides {
+        lefts: of_left,
+        rights: of_right,
+        slots,
+    };
+    let left_rows = first.rows.as_slice();
+    let right_rows = second.rows.as_slice();
+    let made = join_placed(alloc, sides, left_rows, right_rows)?;
+    let spill = is_any(second.spill, first.spill, made.further);
+    Ok(Arrived {
+        rows: made.rows,
+        spill,
     })
 }
 

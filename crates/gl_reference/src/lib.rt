@@ -7,6 +7,7 @@ pub mod answers;
 pub mod arrivals;
 pub mod columns;
 pub mod frames;
+pub mod joins;
 pub mod partitions;
 pub mod placed;
 pub mod results;
@@ -17,5 +18,5 @@ pub mod worked;
 
 pub use answers::Answer;
 pub use columns::{Clock, Source};
-pub use results::{Times, evaluate};
+pub use results::{Brought, Times, evaluate};
 pub use rows::Fault;

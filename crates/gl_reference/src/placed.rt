@@ -155,8 +155,8 @@ pub(crate) fn framed_placed(
     Ok(out)
 }
 
-// Adds a row at a place, if there is one.
-fn push_placed(
+/// Adds a row at a place, if there is one.
+pub(crate) fn push_placed(
     out: &mut Listed<PlacedRow>,
     row: Option<Listed<u128>>,
     place: u64,

@@ -16,7 +16,7 @@ use crate::answers::{
     Answer, concat_of, frames_from, groups_wanted, of_parts, read, rows_from, total_from, union_of,
     windows_of,
 };
-use crate::arrivals::{by_arrival, without_places};
+use crate::arrivals::{as_of, by_arrival, without_places};
 use crate::columns::{Clock, Source, columns_of};
 use crate::partitions::partitions_of;
 use crate::rows::{Fault, joined, with_key};
@@ -243,6 +243,16 @@ pub fn result_of(alloc: Global, sources: &[Source<'_>], query: &Query) -> Result
             let answer = without_places(alloc, both)?;
             Ok(answer)
         }
+        Query::AsOf {
+            left,
+            right,
+            slots,
+            ..
+        } => {
+            let both = as_of(alloc, sources, left, right, slots)?;
+            let answer = without_places(alloc, both)?;
+            Ok(answer)
+        }
         Query::Concat { left, right, .. } => {
             let first = result_of(alloc, sources, left)?;
             let second = result_of(alloc, sources, right)?;
@@ -285,32 +295,43 @@ fn sources_of<'a>(
     Ok(out)
 }
 
-/// One result of an accepted statement over a schema: the inputs, their places and their times are
-/// those of the streams, in order, and `ticks` ticks come in all.
+/// What came over the streams of a schema, of each stream in order.
+#[derive(Clone, Copy)]
+pub struct Brought<'a> {
+    /// The rows of each stream.
+    pub rows: &'a [Table],
+    /// The places of the rows of each stream.
+    pub places: &'a [Times],
+    /// The times of the rows of each stream.
+    pub times: &'a [Times],
+    /// How many ticks came in all.
+    pub ticks: u64,
+}
+
+/// One result of an accepted statement over a schema and what came over its streams.
 pub fn evaluate(
     alloc: Global,
     schema: &Schema,
     statement: &Statement,
-    inputs: &[Table],
-    places: &[Times],
-    times: &[Times],
-    ticks: u64,
+    brought: Brought<'_>,
 ) -> Result<Answer, Fault>
-    requires inputs { length inputs.now ≡ length schema.now.streams }
-    requires places { length places.now ≡ length schema.now.streams }
-    requires times { length times.now ≡ length schema.now.streams }
-    ensures value { IfOk result (λ a. IsResult schema.now statement.now
-        (given_inputs inputs.now places.now times.now ticks) a.rows a.spill) }
-    ensures fits { IsFit schema.now statement.now inputs.now places.now times.now ticks
+    requires rows { length brought.rows.now ≡ length schema.now.streams }
+    requires places { length brought.places.now ≡ length schema.now.streams }
+    requires times { length brought.times.now ≡ length schema.now.streams }
+    ensures value { let b = brought.entry in
+        let inputs = given_inputs b.rows.now b.places.now b.times.now b.ticks in
+        IfOk result (λ a. IsResult schema.now statement.now inputs a.rows a.spill) }
+    ensures fits { let b = brought.entry in
+        IsFit schema.now statement.now b.rows.now b.places.now b.times.now b.ticks
         → IsOrMemory result }
 {
     let sources = sources_of(
         alloc,
         schema.streams.as_slice(),
-        inputs,
-        places,
-        times,
-        ticks,
+        brought.rows,
+        brought.places,
+        brought.times,
+        brought.ticks,
     )?;
     result_of(alloc, sources.as_slice(), &statement.query)
 }

@@ -37,6 +37,7 @@ pub fn clock_of<'a>(sources: &[Source<'a>], query: &Query) -> Option<Clock<'a>>
         | Query::Partition { .. }
         | Query::Union { .. }
         | Query::ByArrival { .. }
+        | Query::AsOf { .. }
         | Query::Concat { .. } => None,
     }
 }

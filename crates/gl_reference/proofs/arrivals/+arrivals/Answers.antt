@@ -2,13 +2,15 @@ use Rattle.std.proofs.Common.{◌≡◌, ◌∙◌, List, Bool, map, sym, ap, su
 use Rattle.std.specs.Prelude.{IsTrue, option_map}
 use Rattle.std.proofs.lemmas.Result.{IfOk-weaker}
 use Rattle.gl_arrival.specs.Changes.{kept_at, mapped_at}
+use Rattle.gl_values.specs.Results.{Row}
+use Rattle.gl_asof.specs.AsOf.{JoinBy, as_of, more_keys}
 use Rattle.gl_schema.specs.declared.schema.Column.{Column}
 use Rattle.gl_query.specs.declared.tree.FrameItem.{FrameItem}
 use Rattle.gl_query.specs.declared.tree.Query.{Query}
-use Rattle.gl_query.specs.Accepted.{IsAcceptedOver, IsFilter, IsParted, IsRows}
+use Rattle.gl_query.specs.Accepted.{AreSlots, IsAcceptedOver, IsFilter, IsParted, IsRows}
 use Rattle.gl_query.specs.Columns.{arrives}
 use Rattle.gl_query.specs.Laws.{scope_of}
-use Rattle.gl_query.specs.Results.{ArrivesIn, columns_in, keeps, kept, picked}
+use Rattle.gl_query.specs.Results.{ArrivesIn, columns_in, join_by, keeps, kept, picked}
 use Rattle.gl_query.specs.Shapes.{expr_shape, frame_item_shape, pick_shape, query_shape, slots_shape}
 use Rattle.gl_query.specs.Shapes as shape
 use Rattle.gl_reference.specs.declared.arrivals.Arrived.{Arrived}
@@ -16,7 +18,7 @@ use Rattle.gl_reference.specs.declared.columns.Source.{Source as Given}
 use Rattle.gl_reference.specs.Arrivals.{framed_in, rows_in, spills}
 use Rattle.gl_reference.specs.Fits.{AreFramesOf, AreRows, IsOrMemory}
 use Rattle.gl_reference.specs.Sources.{HasArrived, env_view, placed_of}
-use Rattle.gl_reference.proofs.Arriving.{arrived_fit, frames_arrived, rows_arrived}
+use Rattle.gl_reference.proofs.Arriving.{arrived_fit, as_of_arrived, frames_arrived, rows_arrived}
 use Rattle.gl_reference.proofs.Passing.{passes}
 use Rattle.gl_reference.proofs.arrivals.+arrivals.Goals as goal
 
@@ -104,3 +106,28 @@ arrival_of-returns-in_ok-columns-in-Frames-clause-fits t c = λ timed r s a.
     let pass = subst (λ (k : List Column). AreFramesOf k (map frame_item_shape c.as_slice-items.result.now) → IsFilter k (option_map expr_shape c.in-Frames.filter) → IsParted k (option_map slots_shape c.in-Frames.slots) → AreRows k (rows_in from.rows) → IsOrMemory c.frames_placed.result) known c.frames_placed.ensures.fits in
     let items = subst (λ (l : List FrameItem). AreFramesOf (columns_in env source) (map frame_item_shape l)) (sym c.as_slice-items.ensures) whole.1.typed in
     pass items whole.1.filters whole.1.parted (arrived_fit c.arrivals_are_results.ensures c.results_fit.ensures env timed source from.rows from.spill came s whole.0 is)
+
+pub as_of-returns-clause-value : goal.as_of-returns-clause-value
+as_of-returns-clause-value t c =
+    let env = env_view c.args.sources.now in
+    let l = query_shape c.args.left.now in
+    let r = query_shape c.args.right.now in
+    let slots = slots_shape c.args.slots.now in
+    let first = c.in_ok-first.first in
+    let second = c.in_ok-second.second in
+    let of_left = c.as_slice-of_left.ensures ∙ c.in_ok-lefts.ensures in
+    let of_right = c.as_slice-of_right.ensures ∙ c.in_ok-rights.ensures in
+    let by : JoinBy Row Row Row = join_by c.as_slice-of_left.result.now c.as_slice-of_right.result.now slots in
+    let made = c.in_ok-made.made in
+    let both : (map placed_of made.rows ≡ as_of by (map placed_of first.rows) (map placed_of second.rows)) × (made.further ≡ more_keys by (map placed_of first.rows) (map placed_of second.rows)) = (
+      c.in_ok-made.ensures.value.0 ∙ (λ j. as_of by (map placed_of (c.as_slice-left_rows.ensures j)) (map placed_of (c.as_slice-right_rows.ensures j))),
+      c.in_ok-made.ensures.value.1 ∙ (λ j. more_keys by (map placed_of (c.as_slice-left_rows.ensures j)) (map placed_of (c.as_slice-right_rows.ensures j))),
+    ) in
+    as_of_arrived env l r slots (map placed_of first.rows) (map placed_of second.rows) first.spill second.spill c.as_slice-of_left.result.now c.as_slice-of_right.result.now
+    (map placed_of made.rows) made.further c.is_any-spill.result c.in_ok-first.ensures.value c.in_ok-second.ensures.value of_left of_right both c.is_any-spill.ensures
+
+pub as_of-returns-in_err-made-clause-fits : goal.as_of-returns-in_err-made-clause-fits
+as_of-returns-in_err-made-clause-fits t c = λ timed s a.
+    let known = c.as_slice-of_left.ensures ∙ c.in_ok-lefts.ensures in
+    let kept = subst (λ (k : List Column). AreSlots k (slots_shape c.args.slots.now)) (sym known) a.3.of_left in
+    passes _ c.from_residual-in_err-made.ensures.1 (λ y e. e ∙ c.in_err-made.ensures.fits kept)

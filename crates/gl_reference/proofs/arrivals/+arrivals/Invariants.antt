@@ -8,3 +8,6 @@ decreases-arrival_of l = 2 * size_of (query_shape l.query.now)
 
 abbrev pub decreases-by_arrival : goal.decreases-by_arrival
 decreases-by_arrival l = 2 * (size_of (query_shape l.left.now) + size_of (query_shape l.right.now)) + 1
+
+abbrev pub decreases-as_of : goal.decreases-as_of
+decreases-as_of l = 2 * (size_of (query_shape l.left.now) + size_of (query_shape l.right.now)) + 1

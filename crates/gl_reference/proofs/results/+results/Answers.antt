@@ -1,49 +1,47 @@
-use Rattle.std.proofs.Common.{◌≡◌, ◌+◌, ◌++◌, ◌∙◌, List, ◌∷◌, Bool, false, take, map, sym, ap, subst, IfOk, Bor, slice_index}
+mod Said
+mod Windows
+mod Groups
+use Rattle.std.proofs.Common.{◌≡◌, ◌+◌, ◌++◌, ◌∙◌, List, ◌∷◌, Bool, false, take, map, sym, ap, subst, IfOk, Bor}
 use Rattle.std.specs.Prelude.{◌||◌, option_map}
 use Rattle.std.proofs.lemmas.List.{take_all}
 use Rattle.std.proofs.lemmas.Result.{IfOk-weaker}
 use Rattle.std.specs.List.{AllByRecursion}
-use Rattle.gl_values.specs.Lists.{has_further, slices}
-use Rattle.gl_values.specs.Tables.{keyed_groups}
-use Rattle.gl_values.specs.Times.{tslices}
+use Rattle.gl_values.specs.Lists.{slices}
 use Rattle.gl_values.specs.declared.lists.Group.{Group}
 use Rattle.gl_schema.specs.declared.schema.Column.{Column}
-use Rattle.gl_query.specs.declared.tree.Measure.TheVariants.{Tuples, Time}
 use Rattle.gl_query.specs.declared.tree.Query.{Query}
 use Rattle.gl_query.specs.declared.tree.AggItem.{AggItem}
 use Rattle.gl_query.specs.declared.tree.FrameItem.{FrameItem}
+use Rattle.gl_query.specs.declared.tree.Slots.{Slots}
 use Rattle.gl_query.specs.Shapes.{agg_item_shape, expr_shape, frame_item_shape, pick_shape, query_shape, slots_shape}
 use Rattle.gl_query.specs.Shapes as shape
-use Rattle.gl_query.specs.Values.{column_number}
 use Rattle.gl_values.specs.Results.{Row, AreBeside, AreJoined}
 use Rattle.gl_bits.proofs.AllLists.{all_of_mapped, taken_next}
 use Rattle.gl_schema.specs.Schemas.{IsRowOf}
 use Rattle.gl_query.specs.Accepted.{IsAcceptedOver, IsFilter, IsParted, IsRows}
 use Rattle.gl_query.specs.Laws.{scope_of}
-use Rattle.gl_query.specs.Results.{IsResultIn, columns_in, kept, only, ticks_in, times_in}
+use Rattle.gl_query.specs.Results.{IsResultIn, columns_in, kept, only}
 use Rattle.gl_reference.specs.declared.answers.Answer.{Answer}
 use Rattle.gl_reference.specs.declared.arrivals.Arrived.{Arrived}
 use Rattle.gl_reference.specs.Sources.{HasArrived, env_view, placed_of}
 use Rattle.gl_reference.specs.Joins.{AreOverGroups, AreOverSlices, IsOverGroup}
-use Rattle.gl_reference.specs.Partitions.{table_parts}
 use Rattle.gl_reference.specs.Frames.{framed_rows, left_out}
 use Rattle.gl_reference.specs.Fits.{AreAggs, AreFramesOf, AreRows, IsOrMemory}
 use Rattle.gl_reference.proofs.Fitting.{all_place, inside_fits, one_length, rows_fit}
-use Rattle.gl_reference.proofs.Passing.{each_passes, groups_pass, partitions_pass, passes}
+use Rattle.gl_reference.proofs.Passing.{passes}
 use Rattle.gl_reference.proofs.Joining.{joined_push, map_taken}
-use Rattle.gl_reference.proofs.Forms.{arrived_made, concat_made, each_made, frames_made, groups_made, partitions_made, union_made}
+use Rattle.gl_reference.proofs.Forms.{arrived_made, as_of_made, concat_made, frames_made, union_made}
 use Rattle.gl_reference.proofs.results.+results.Goals as goal
 use Rattle.gl_reference.specs.declared.columns.Source.{Source as Given}
-
--- a query is accepted over sources, and an answer is a result of a query over them
-abbrev Accepted : List Given → Bool → Query → Type 0
-Accepted sources timed q = IsAcceptedOver (scope_of (env_view sources) timed) (query_shape q)
+use Rattle.gl_reference.proofs.results.+results.Answers.Said.{Accepted, Gives}
+use Rattle.gl_reference.proofs.results.+results.Answers.Windows as windows
+use Rattle.gl_reference.proofs.results.+results.Answers.Groups as groups
 
 abbrev IsArrivedIn : List Given → Arrived → Query → Query → Type 0
 IsArrivedIn sources a l r = HasArrived sources (shape.ByArrival (query_shape l) (query_shape r)) a
 
-abbrev Gives : List Given → Answer → Query → Type 0
-Gives sources a q = IsResultIn (query_shape q) (env_view sources) a.rows a.spill
+abbrev IsJoinedIn : List Given → Arrived → Query → Query → Slots → Type 0
+IsJoinedIn sources a l r s = HasArrived sources (shape.AsOf (query_shape l) (query_shape r) (slots_shape s)) a
 
 pub over_groups-loop-group-preserved : goal.over_groups-loop-group-preserved
 over_groups-loop-group-preserved t c =
@@ -104,36 +102,10 @@ result_of-returns-in_ok-columns-in-Frames-clause-value t c =
     subst (λ (q : Query). IfOk c.frames_from.result (λ a. IsResultIn (query_shape q) (env_view c.args.sources.now) a.rows a.spill)) (sym c.in-Frames.is) all
 
 pub result_of-returns-in_ok-inside-in-Each-clause-value : goal.result_of-returns-in_ok-inside-in-Each-clause-value
-result_of-returns-in_ok-inside-in-Each-clause-value t c =
-    let env = env_view c.args.sources.now in
-    let from = c.in_ok-from-in-Each.from in
-    let is = subst (Gives c.args.sources.now from) c.deref-in-Each.ensures c.in_ok-from-in-Each.ensures.value in
-    let columns : c.as_slice-in-Each-3.result.now ≡ columns_in env (query_shape c.in-Each.source.value) =
-    c.as_slice-in-Each-3.ensures ∙ c.in_ok-columns-in-Each.ensures ∙ ap (λ (q : Query). columns_in env (query_shape q)) c.deref-in-Each-2.ensures in
-    let parts : map (λ (s : Bor (List Row)). s.now) c.as_slice-in-Each-4.result.now ≡ slices c.in-Each.size.value c.in-Each.advance.value from.rows =
-    ap (map (λ (s : Bor (List Row)). s.now)) c.as_slice-in-Each-4.ensures.value ∙ c.in_ok-slices-in-Each.ensures.value
-    ∙ ap (slices c.in-Each.size.value c.in-Each.advance.value) c.as_slice-in-Each.ensures in
-    let made = each_made Tuples env c.in-Each.var.text (query_shape c.in-Each.source.value) c.in-Each.size.value c.in-Each.advance.value (query_shape c.in-Each.body.value) from.rows from.spill _ _ _ _ _ _ _ _ is (ap query_shape c.deref-in-Each-3.ensures) c.as_slice-in-Each-2.ensures columns parts c.in_ok-inside-in-Each.ensures.value c.of_parts.ensures.rows c.of_parts.ensures.spill in
-    subst (λ (q : Query). IsResultIn (query_shape q) env c.of_parts.result.rows c.of_parts.result.spill) (sym c.in-Each.is) made
+result_of-returns-in_ok-inside-in-Each-clause-value = windows.result_of-returns-in_ok-inside-in-Each-clause-value
 
 pub result_of-returns-in_ok-further-in-PerGroup-clause-value : goal.result_of-returns-in_ok-further-in-PerGroup-clause-value
-result_of-returns-in_ok-further-in-PerGroup-clause-value t c =
-    let env = env_view c.args.sources.now in
-    let from = c.in_ok-from-in-PerGroup.from in
-    let most = c.in_ok-most-in-PerGroup.most in
-    let column = c.column_number-column.result in
-    let is = subst (Gives c.args.sources.now from) c.deref-in-PerGroup.ensures c.in_ok-from-in-PerGroup.ensures.value in
-    let of_source = c.in_ok-columns-in-PerGroup.ensures ∙ ap (λ (q : Query). columns_in env (query_shape q)) c.deref-in-PerGroup-2.ensures in
-    let columns : c.as_slice-in-PerGroup-5.result.now ≡ columns_in env (query_shape c.in-PerGroup.source.value) = c.as_slice-in-PerGroup-5.ensures ∙ of_source in
-    let place : column ≡ column_number c.as_slice-in-PerGroup-5.result.now c.in-PerGroup.key.text =
-    c.column_number-column.ensures.value ∙ ap (λ (k : List Column). column_number k c.as_slice-in-PerGroup-2.result.now) (c.as_slice-in-PerGroup.ensures ∙ sym c.as_slice-in-PerGroup-5.ensures)
-    ∙ ap (column_number c.as_slice-in-PerGroup-5.result.now) c.as_slice-in-PerGroup-2.ensures in
-    let parts : c.as_slice-in-PerGroup-6.result.now ≡ keyed_groups most column from.rows =
-    c.as_slice-in-PerGroup-6.ensures ∙ c.in_ok-parts-in-PerGroup.ensures ∙ ap (keyed_groups most column) c.as_slice-in-PerGroup-3.ensures in
-    let further : c.in_ok-further-in-PerGroup.further ≡ has_further most (λ (r : Row). slice_index r column) from.rows =
-    c.in_ok-further-in-PerGroup.ensures ∙ ap (has_further most (λ (r : Row). slice_index r column)) c.as_slice-in-PerGroup-7.ensures in
-    let made = groups_made env c.in-PerGroup.var.text (query_shape c.in-PerGroup.source.value) c.in-PerGroup.key.text c.in-PerGroup.groups.value (query_shape c.in-PerGroup.body.value) from.rows from.spill _ _ _ most column _ _ _ _ _ _ is (ap query_shape c.deref-in-PerGroup-3.ensures) c.as_slice-in-PerGroup-4.ensures columns c.in_ok-most-in-PerGroup.ensures.value place parts c.in_ok-inside-in-PerGroup.ensures.value further c.of_parts-in-PerGroup.ensures.rows c.of_parts-in-PerGroup.ensures.spill in
-    subst (λ (q : Query). IsResultIn (query_shape q) env c.of_parts-in-PerGroup.result.rows c.of_parts-in-PerGroup.result.spill) (sym c.in-PerGroup.is) made
+result_of-returns-in_ok-further-in-PerGroup-clause-value = groups.result_of-returns-in_ok-further-in-PerGroup-clause-value
 
 pub result_of-returns-in_ok-second-in-Union-clause-value : goal.result_of-returns-in_ok-second-in-Union-clause-value
 result_of-returns-in_ok-second-in-Union-clause-value t c =
@@ -164,6 +136,27 @@ result_of-returns-in_err-both-in-ByArrival-clause-fits t c = λ timed s a.
     let r = subst (λ (q : Query). IsAcceptedOver (scope_of (env_view c.args.sources.now) timed) (shape.ByArrival (query_shape c.in-ByArrival.left.value) (query_shape q))) (sym c.deref-in-ByArrival-2.ensures) whole in
     let l = subst (λ (q : Query). IsAcceptedOver (scope_of (env_view c.args.sources.now) timed) (shape.ByArrival (query_shape q) (query_shape c.deref-in-ByArrival-2.result.now))) (sym c.deref-in-ByArrival.ensures) r in
     passes _ c.from_residual-in_err-both-in-ByArrival.ensures.1 (λ y e. e ∙ c.in_err-both-in-ByArrival.ensures.fits timed s l)
+
+pub result_of-returns-in_ok-answer-in-AsOf-clause-value : goal.result_of-returns-in_ok-answer-in-AsOf-clause-value
+result_of-returns-in_ok-answer-in-AsOf-clause-value t c =
+    let env = env_view c.args.sources.now in
+    let both = c.in_ok-both-in-AsOf.both in
+    let slots = c.in-AsOf.slots in
+    let r : IsJoinedIn c.args.sources.now both c.in-AsOf.left.value c.deref-in-AsOf-2.result.now slots =
+    subst (λ (q : Query). IsJoinedIn c.args.sources.now both q c.deref-in-AsOf-2.result.now slots) c.deref-in-AsOf.ensures c.in_ok-both-in-AsOf.ensures.value in
+    let l : IsJoinedIn c.args.sources.now both c.in-AsOf.left.value c.in-AsOf.right.value slots =
+    subst (λ (q : Query). IsJoinedIn c.args.sources.now both c.in-AsOf.left.value q slots) c.deref-in-AsOf-2.ensures r in
+    let made = as_of_made env (query_shape c.in-AsOf.left.value) (query_shape c.in-AsOf.right.value) (slots_shape slots) (map placed_of both.rows) c.in_ok-answer-in-AsOf.answer.rows both.spill
+    c.in_ok-answer-in-AsOf.answer.spill l c.in_ok-answer-in-AsOf.ensures in
+    subst (λ (q : Query). IsResultIn (query_shape q) env c.in_ok-answer-in-AsOf.answer.rows c.in_ok-answer-in-AsOf.answer.spill) (sym c.in-AsOf.is) made
+
+pub result_of-returns-in_err-both-in-AsOf-clause-fits : goal.result_of-returns-in_err-both-in-AsOf-clause-fits
+result_of-returns-in_err-both-in-AsOf-clause-fits t c = λ timed s a.
+    let whole = subst (Accepted c.args.sources.now timed) c.in-AsOf.is a in
+    let slots = slots_shape c.in-AsOf.slots in
+    let r = subst (λ (q : Query). IsAcceptedOver (scope_of (env_view c.args.sources.now) timed) (shape.AsOf (query_shape c.in-AsOf.left.value) (query_shape q) slots)) (sym c.deref-in-AsOf-2.ensures) whole in
+    let l = subst (λ (q : Query). IsAcceptedOver (scope_of (env_view c.args.sources.now) timed) (shape.AsOf (query_shape q) (query_shape c.deref-in-AsOf-2.result.now) slots)) (sym c.deref-in-AsOf.ensures) r in
+    passes _ c.from_residual-in_err-both-in-AsOf.ensures.1 (λ y e. e ∙ c.in_err-both-in-AsOf.ensures.fits timed s l)
 
 pub result_of-returns-in_ok-second-in-Concat-clause-value : goal.result_of-returns-in_ok-second-in-Concat-clause-value
 result_of-returns-in_ok-second-in-Concat-clause-value t c =
@@ -256,33 +249,10 @@ result_of-returns-in_err-most-in-PerGroup-clause-fits t c = λ timed s a.
     passes _ c.from_residual-in_err-most-in-PerGroup.ensures.1 (λ y e. e ∙ c.in_err-most-in-PerGroup.ensures.fits whole.1.most_groups)
 
 pub result_of-returns-in_err-inside-in-Each-clause-fits : goal.result_of-returns-in_err-inside-in-Each-clause-fits
-result_of-returns-in_err-inside-in-Each-clause-fits t c = λ timed s a.
-    let env = env_view c.args.sources.now in
-    let from = c.in_ok-from-in-Each.from in
-    let whole = subst (Accepted c.args.sources.now timed) c.in-Each.is a in
-    let is = subst (Gives c.args.sources.now from) c.deref-in-Each.ensures c.in_ok-from-in-Each.ensures.value in
-    let columns : c.as_slice-in-Each-3.result.now ≡ columns_in env (query_shape c.in-Each.source.value) =
-    c.as_slice-in-Each-3.ensures ∙ c.in_ok-columns-in-Each.ensures ∙ ap (λ (q : Query). columns_in env (query_shape q)) c.deref-in-Each-2.ensures in
-    let parts : map (λ (s : Bor (List Row)). s.now) c.as_slice-in-Each-4.result.now ≡ slices c.in-Each.size.value c.in-Each.advance.value from.rows =
-    ap (map (λ (s : Bor (List Row)). s.now)) c.as_slice-in-Each-4.ensures.value ∙ c.in_ok-slices-in-Each.ensures.value
-    ∙ ap (slices c.in-Each.size.value c.in-Each.advance.value) c.as_slice-in-Each.ensures in
-    let want = each_passes c.results_fit.ensures Tuples env timed c.in-Each.var.text (query_shape c.in-Each.source.value) c.in-Each.size.value c.in-Each.advance.value (query_shape c.in-Each.body.value) from.rows from.spill _ _ _ _ _ s whole is (ap query_shape c.deref-in-Each-3.ensures) c.as_slice-in-Each-2.ensures columns parts c.in_err-inside-in-Each.ensures.fits in
-    passes _ c.from_residual-in_err-inside-in-Each.ensures.1 (λ y e. e ∙ want)
+result_of-returns-in_err-inside-in-Each-clause-fits = windows.result_of-returns-in_err-inside-in-Each-clause-fits
 
 pub result_of-returns-in_err-inside-in-PerGroup-clause-fits : goal.result_of-returns-in_err-inside-in-PerGroup-clause-fits
-result_of-returns-in_err-inside-in-PerGroup-clause-fits t c = λ timed s a.
-    let env = env_view c.args.sources.now in
-    let from = c.in_ok-from-in-PerGroup.from in
-    let most = c.in_ok-most-in-PerGroup.most in
-    let column = c.column_number-column.result in
-    let whole = subst (Accepted c.args.sources.now timed) c.in-PerGroup.is a in
-    let is = subst (Gives c.args.sources.now from) c.deref-in-PerGroup.ensures c.in_ok-from-in-PerGroup.ensures.value in
-    let columns : c.as_slice-in-PerGroup-5.result.now ≡ columns_in env (query_shape c.in-PerGroup.source.value) =
-    c.as_slice-in-PerGroup-5.ensures ∙ c.in_ok-columns-in-PerGroup.ensures ∙ ap (λ (q : Query). columns_in env (query_shape q)) c.deref-in-PerGroup-2.ensures in
-    let parts : c.as_slice-in-PerGroup-6.result.now ≡ keyed_groups most column from.rows =
-    c.as_slice-in-PerGroup-6.ensures ∙ c.in_ok-parts-in-PerGroup.ensures ∙ ap (keyed_groups most column) c.as_slice-in-PerGroup-3.ensures in
-    let want = groups_pass c.results_fit.ensures env timed c.in-PerGroup.var.text (query_shape c.in-PerGroup.source.value) c.in-PerGroup.key.text c.in-PerGroup.groups.value (query_shape c.in-PerGroup.body.value) from.rows from.spill _ _ _ most column _ _ s whole is (ap query_shape c.deref-in-PerGroup-3.ensures) c.as_slice-in-PerGroup-4.ensures columns parts c.in_err-inside-in-PerGroup.ensures.fits in
-    passes _ c.from_residual-in_err-inside-in-PerGroup.ensures.1 (λ y e. e ∙ want)
+result_of-returns-in_err-inside-in-PerGroup-clause-fits = groups.result_of-returns-in_err-inside-in-PerGroup-clause-fits
 
 pub result_of-returns-in_ok-from-in-Rows-clause-fits : goal.result_of-returns-in_ok-from-in-Rows-clause-fits
 result_of-returns-in_ok-from-in-Rows-clause-fits t c = λ timed s a.
@@ -327,19 +297,7 @@ result_of-returns-in_ok-second-in-Concat-clause-fits t c = λ timed s a.
     c.concat_of.ensures.fits (one_length env (query_shape c.in-Concat.left.value) (query_shape c.in-Concat.right.value) first.rows second.rows first.spill second.spill whole.2 l r)
 
 pub result_of-returns-in_ok-inside-in-EachTime-clause-value : goal.result_of-returns-in_ok-inside-in-EachTime-clause-value
-result_of-returns-in_ok-inside-in-EachTime-clause-value t c =
-    let env = env_view c.args.sources.now in
-    let from = c.in_ok-from-in-EachTime.from in
-    let is = subst (Gives c.args.sources.now from) c.deref-in-EachTime.ensures c.in_ok-from-in-EachTime.ensures.value in
-    let columns : c.as_slice-in-EachTime-3.result.now ≡ columns_in env (query_shape c.in-EachTime.source.value) =
-    c.as_slice-in-EachTime-3.ensures ∙ c.in_ok-columns-in-EachTime.ensures ∙ ap (λ (q : Query). columns_in env (query_shape q)) c.deref-in-EachTime-2.ensures in
-    let parts : map (λ (s : Bor (List Row)). s.now) c.as_slice-in-EachTime-4.result.now
-    ≡ tslices c.in-EachTime.size.value c.in-EachTime.advance.value (times_in env (query_shape c.in-EachTime.source.value)) (ticks_in env (query_shape c.in-EachTime.source.value)) from.rows =
-    ap (map (λ (s : Bor (List Row)). s.now)) c.as_slice-in-EachTime-4.ensures.value ∙ c.in_ok-parts-in-EachTime.ensures ∙ c.as_slice-in-EachTime.ensures ∙ c.in_ok-tables-in-EachTime.ensures.value
-    ∙ (λ i. tslices c.in-EachTime.size.value c.in-EachTime.advance.value ((c.clock_of-clock.ensures.times ∙ ap (λ (q : Query). times_in env (query_shape q)) c.deref-in-EachTime-3.ensures) i)
-    ((c.clock_of-clock.ensures.ticks ∙ ap (λ (q : Query). ticks_in env (query_shape q)) c.deref-in-EachTime-3.ensures) i) (c.as_slice-rows.ensures i)) in
-    let made = each_made Time env c.in-EachTime.var.text (query_shape c.in-EachTime.source.value) c.in-EachTime.size.value c.in-EachTime.advance.value (query_shape c.in-EachTime.body.value) from.rows from.spill _ _ _ _ _ _ _ _ is (ap query_shape c.deref-in-EachTime-4.ensures) c.as_slice-in-EachTime-2.ensures columns parts c.in_ok-inside-in-EachTime.ensures.value c.of_parts-in-EachTime.ensures.rows c.of_parts-in-EachTime.ensures.spill in
-    subst (λ (q : Query). IsResultIn (query_shape q) env c.of_parts-in-EachTime.result.rows c.of_parts-in-EachTime.result.spill) (sym c.in-EachTime.is) made
+result_of-returns-in_ok-inside-in-EachTime-clause-value = windows.result_of-returns-in_ok-inside-in-EachTime-clause-value
 
 pub result_of-returns-in_err-from-in-EachTime-clause-fits : goal.result_of-returns-in_err-from-in-EachTime-clause-fits
 result_of-returns-in_err-from-in-EachTime-clause-fits t c = λ timed s a.
@@ -353,39 +311,10 @@ result_of-returns-in_err-tables-in-EachTime-clause-fits t c = λ timed s a.
     passes _ c.from_residual-in_err-tables-in-EachTime.ensures.1 (λ y e. e ∙ c.in_err-tables-in-EachTime.ensures.fits whole.1)
 
 pub result_of-returns-in_err-inside-in-EachTime-clause-fits : goal.result_of-returns-in_err-inside-in-EachTime-clause-fits
-result_of-returns-in_err-inside-in-EachTime-clause-fits t c = λ timed s a.
-    let env = env_view c.args.sources.now in
-    let from = c.in_ok-from-in-EachTime.from in
-    let whole = subst (Accepted c.args.sources.now timed) c.in-EachTime.is a in
-    let is = subst (Gives c.args.sources.now from) c.deref-in-EachTime.ensures c.in_ok-from-in-EachTime.ensures.value in
-    let columns : c.as_slice-in-EachTime-3.result.now ≡ columns_in env (query_shape c.in-EachTime.source.value) =
-    c.as_slice-in-EachTime-3.ensures ∙ c.in_ok-columns-in-EachTime.ensures ∙ ap (λ (q : Query). columns_in env (query_shape q)) c.deref-in-EachTime-2.ensures in
-    let parts : map (λ (s : Bor (List Row)). s.now) c.as_slice-in-EachTime-4.result.now
-    ≡ tslices c.in-EachTime.size.value c.in-EachTime.advance.value (times_in env (query_shape c.in-EachTime.source.value)) (ticks_in env (query_shape c.in-EachTime.source.value)) from.rows =
-    ap (map (λ (s : Bor (List Row)). s.now)) c.as_slice-in-EachTime-4.ensures.value ∙ c.in_ok-parts-in-EachTime.ensures ∙ c.as_slice-in-EachTime.ensures ∙ c.in_ok-tables-in-EachTime.ensures.value
-    ∙ (λ i. tslices c.in-EachTime.size.value c.in-EachTime.advance.value ((c.clock_of-clock.ensures.times ∙ ap (λ (q : Query). times_in env (query_shape q)) c.deref-in-EachTime-3.ensures) i)
-    ((c.clock_of-clock.ensures.ticks ∙ ap (λ (q : Query). ticks_in env (query_shape q)) c.deref-in-EachTime-3.ensures) i) (c.as_slice-rows.ensures i)) in
-    let want = each_passes c.results_fit.ensures Time env timed c.in-EachTime.var.text (query_shape c.in-EachTime.source.value) c.in-EachTime.size.value c.in-EachTime.advance.value (query_shape c.in-EachTime.body.value) from.rows from.spill _ _ _ _ _ s whole is (ap query_shape c.deref-in-EachTime-4.ensures) c.as_slice-in-EachTime-2.ensures columns parts c.in_err-inside-in-EachTime.ensures.fits in
-    passes _ c.from_residual-in_err-inside-in-EachTime.ensures.1 (λ y e. e ∙ want)
+result_of-returns-in_err-inside-in-EachTime-clause-fits = windows.result_of-returns-in_err-inside-in-EachTime-clause-fits
 
 pub result_of-returns-in_ok-further-in-Partition-clause-value : goal.result_of-returns-in_ok-further-in-Partition-clause-value
-result_of-returns-in_ok-further-in-Partition-clause-value t c =
-    let env = env_view c.args.sources.now in
-    let from = c.in_ok-from-in-Partition.from in
-    let most = c.in_ok-most-in-Partition.most in
-    let column = c.column_number-column-in-Partition.result in
-    let is = subst (Gives c.args.sources.now from) c.deref-in-Partition.ensures c.in_ok-from-in-Partition.ensures.value in
-    let of_source = c.in_ok-columns-in-Partition.ensures ∙ ap (λ (q : Query). columns_in env (query_shape q)) c.deref-in-Partition-2.ensures in
-    let columns : c.as_slice-in-Partition-5.result.now ≡ columns_in env (query_shape c.in-Partition.source.value) = c.as_slice-in-Partition-5.ensures ∙ of_source in
-    let place : column ≡ column_number c.as_slice-in-Partition-5.result.now c.in-Partition.key.text =
-    c.column_number-column-in-Partition.ensures.value ∙ ap (λ (k : List Column). column_number k c.as_slice-in-Partition-2.result.now) (c.as_slice-in-Partition.ensures ∙ sym c.as_slice-in-Partition-5.ensures)
-    ∙ ap (column_number c.as_slice-in-Partition-5.result.now) c.as_slice-in-Partition-2.ensures in
-    let parts : c.as_slice-in-Partition-6.result.now ≡ table_parts most column c.in-Partition.size.value c.in-Partition.advance.value from.rows =
-    c.as_slice-in-Partition-6.ensures ∙ c.in_ok-parts-in-Partition.ensures.value ∙ ap (table_parts most column c.in-Partition.size.value c.in-Partition.advance.value) c.as_slice-in-Partition-3.ensures in
-    let further : c.in_ok-further-in-Partition.further ≡ has_further most (λ (r : Row). slice_index r column) from.rows =
-    c.in_ok-further-in-Partition.ensures ∙ ap (has_further most (λ (r : Row). slice_index r column)) c.as_slice-in-Partition-7.ensures in
-    let made = partitions_made env c.in-Partition.var.text (query_shape c.in-Partition.source.value) c.in-Partition.key.text c.in-Partition.groups.value c.in-Partition.size.value c.in-Partition.advance.value (query_shape c.in-Partition.body.value) from.rows from.spill _ _ _ most column _ _ _ _ _ _ is (ap query_shape c.deref-in-Partition-3.ensures) c.as_slice-in-Partition-4.ensures columns c.in_ok-most-in-Partition.ensures.value place parts c.in_ok-inside-in-Partition.ensures.value further c.of_parts-in-Partition.ensures.rows c.of_parts-in-Partition.ensures.spill in
-    subst (λ (q : Query). IsResultIn (query_shape q) env c.of_parts-in-Partition.result.rows c.of_parts-in-Partition.result.spill) (sym c.in-Partition.is) made
+result_of-returns-in_ok-further-in-Partition-clause-value = groups.result_of-returns-in_ok-further-in-Partition-clause-value
 
 pub result_of-returns-in_err-from-in-Partition-clause-fits : goal.result_of-returns-in_err-from-in-Partition-clause-fits
 result_of-returns-in_err-from-in-Partition-clause-fits t c = λ timed s a.
@@ -399,19 +328,7 @@ result_of-returns-in_err-most-in-Partition-clause-fits t c = λ timed s a.
     passes _ c.from_residual-in_err-most-in-Partition.ensures.1 (λ y e. e ∙ c.in_err-most-in-Partition.ensures.fits whole.1.grouping.most_groups)
 
 pub result_of-returns-in_err-inside-in-Partition-clause-fits : goal.result_of-returns-in_err-inside-in-Partition-clause-fits
-result_of-returns-in_err-inside-in-Partition-clause-fits t c = λ timed s a.
-    let env = env_view c.args.sources.now in
-    let from = c.in_ok-from-in-Partition.from in
-    let most = c.in_ok-most-in-Partition.most in
-    let column = c.column_number-column-in-Partition.result in
-    let whole = subst (Accepted c.args.sources.now timed) c.in-Partition.is a in
-    let is = subst (Gives c.args.sources.now from) c.deref-in-Partition.ensures c.in_ok-from-in-Partition.ensures.value in
-    let columns : c.as_slice-in-Partition-5.result.now ≡ columns_in env (query_shape c.in-Partition.source.value) =
-    c.as_slice-in-Partition-5.ensures ∙ c.in_ok-columns-in-Partition.ensures ∙ ap (λ (q : Query). columns_in env (query_shape q)) c.deref-in-Partition-2.ensures in
-    let parts : c.as_slice-in-Partition-6.result.now ≡ table_parts most column c.in-Partition.size.value c.in-Partition.advance.value from.rows =
-    c.as_slice-in-Partition-6.ensures ∙ c.in_ok-parts-in-Partition.ensures.value ∙ ap (table_parts most column c.in-Partition.size.value c.in-Partition.advance.value) c.as_slice-in-Partition-3.ensures in
-    let want = partitions_pass c.results_fit.ensures env timed c.in-Partition.var.text (query_shape c.in-Partition.source.value) c.in-Partition.key.text c.in-Partition.groups.value c.in-Partition.size.value c.in-Partition.advance.value (query_shape c.in-Partition.body.value) from.rows from.spill _ _ _ most column _ _ s whole is (ap query_shape c.deref-in-Partition-3.ensures) c.as_slice-in-Partition-4.ensures columns parts c.in_err-inside-in-Partition.ensures.fits in
-    passes _ c.from_residual-in_err-inside-in-Partition.ensures.1 (λ y e. e ∙ want)
+result_of-returns-in_err-inside-in-Partition-clause-fits = groups.result_of-returns-in_err-inside-in-Partition-clause-fits
 
 pub result_of-returns-in_err-parts-in-Partition-clause-fits : goal.result_of-returns-in_err-parts-in-Partition-clause-fits
 result_of-returns-in_err-parts-in-Partition-clause-fits t c = λ timed s a.
