@@ -8,7 +8,7 @@ count sum min max avg wsum end tick valid eos'''.split()
 FRAMES = 'own lag lag count sum min max avg last_value'.split()
 NAMES = '''a b c d x1 y_2 price volume symbol cost wire reg module begin endmodule always assign clk rst out input
 posedge if else q it w g stream n0_1 u8 text1 overflow a0123456789b0123456789c012345678 initial memory integer
-case lag rows over filter row current partition last_value between unbounded preceding arrival'''.split()
+case lag rows over filter row current partition last_value between unbounded preceding arrival asof'''.split()
 UNSIGNED = 'u1 u1 u2 u3 u7 u8 u8 u16 u31 u32 u32 u33 u63 u64 u64'.split()
 SIGNED = 's2 s2 s3 s7 s8 s8 s16 s31 s32 s32 s33 s63 s64 s64'.split()
 TEXTS = 'text1 text2 text3 text4 text4 text7 text8'.split()
@@ -31,6 +31,10 @@ def weight_of(query):
         return 0
     if query['sort'] in JOINS:
         return weight_of(query['left']) + weight_of(query['right'])
+    if query['sort'] == 'ASOF':
+        key, most = query['by']
+        of_key = most // (8 if width_of(dict(query['columns'])[key]) > 10 else 256)
+        return weight_of(query['left']) + weight_of(query['right']) + 1 + of_key
     size, advance, measure = query['window'] or (1, 1, 'TUPLES')
     copies = (-(-size // advance) if measure == 'TUPLES' else size // advance + 1) * (query['group'] or (0, 1))[1]
     inside = (
@@ -60,9 +64,12 @@ def may_have_spare(query):
 class Maker:
     """Draws schemas, queries and tuples. What it draws is accepted, unless its plan passes a limit."""
 
-    def __init__(self, draw, groups, signed, ticks, times, keyed, frames=False, arrival=False):
+    def __init__(self, draw, groups, signed, ticks, times, keyed, frames=False, arrival=False, asof=False):
         self.frames, self.many = frames or arrival and draw.random() < 0.4, frames and draw.random() < 0.4
-        self.arrival = arrival
+        self.arrival, self.asof = arrival, asof
+        if asof:
+            self.frames, self.arrival = (it or draw.random() < 0.4 for it in (frames, arrival))
+            self.many = draw.random() < 0.4
         self.draw, self.groups, self.signed, self.ticks, self.times, self.keyed, self.words = (
             draw,
             groups,
@@ -75,6 +82,18 @@ class Maker:
         self.schema = {
             name: [(column, self.kind()) for column in self.names(draw.randint(1, 4))]
             for name in self.names(draw.choice([1, 1, 2, 2, 3]))
+        }
+        if asof and self.often(0.7):
+            self.schema = self.of_one_key()
+
+    def of_one_key(self):
+        """A schema whose streams have one column in common, of one kind, and no other."""
+        (key, *names), kind = self.names(11), self.kind()
+        of_streams = [[names.pop() for _ in range(self.draw.randint(0, 3))] for _ in self.schema]
+        of_streams = [self.draw.sample(own + [key], len(own) + 1) for own in of_streams]
+        return {
+            name: [(column, kind if column == key else self.kind()) for column in own]
+            for name, own in zip(self.schema, of_streams)
         }
 
     def often(self, chance):
@@ -282,7 +301,9 @@ class Maker:
         return size, self.draw.randint(max(1, -(-size // 8)), 60 if far else 6), measure
 
     def source(self, scope, depth, closing=False):
-        """What stands behind FROM or IN: a name, or a query in brackets."""
+        """What stands behind FROM or IN: a name, a query in brackets, or an as-of join."""
+        if self.asof and not closing and self.often(0.5):
+            return self.joined(scope, depth - 1)
         return (
             self.read(scope)
             if not closing and (depth < 1 or self.often(0.5))
@@ -324,7 +345,10 @@ class Maker:
                 return self.select(source, totals=self.totals(columns, [key]), window=self.window(), group=group)
             return self.select(source, totals=self.totals(columns, [key]), group=group)
         var = self.names(1)[0] if self.often(0.7) else self.draw.choice(list(self.schema))
-        if self.arrival and self.often(0.5):
+        if self.asof and self.often(0.5):
+            rows = self.joined({var: columns}, self.draw.choice([0, 1, 1]))
+            body = self.select(rows, totals=self.totals(rows['columns']))
+        elif self.arrival and self.often(0.5):
             rows = self.by_arrival({var: columns}, self.draw.choice([0, 1, 1, 2]))
             body = self.select(rows, totals=self.totals(rows['columns']))
         elif self.frames and self.often(0.4):
@@ -382,6 +406,8 @@ class Maker:
     def arriving(self, scope, depth, kinds=None):
         """A select whose rows come each of one that came, with columns of given kinds or of any."""
         source = self.read(scope) if depth < 1 or self.often(0.6) else self.by_arrival(scope, depth - 1)
+        if self.asof and depth > 0 and self.often(0.3):
+            source = self.joined(scope, depth - 1)
         if self.frames and self.often(0.5):
             source = self.framed(source)
             if kinds is None:
@@ -397,6 +423,45 @@ class Maker:
         right = self.arriving(scope, depth, [kind for _, kind in left['columns']]) if self.often(0.9) else left
         left, right = (right, left) if self.often(0.3) else (left, right)
         return {'sort': 'ARRIVAL', 'left': left, 'right': right, 'columns': left['columns'], 'closing': False}
+
+    def side(self, scope, depth):
+        """A side of an as-of join: a name, a select or a union by arrival."""
+        if self.often(0.5):
+            return self.read(scope)
+        return self.by_arrival(scope, depth) if depth > 0 and self.often(0.3) else self.arriving(scope, depth)
+
+    def fitting(self, scope, depth, key, kind, taken):
+        """A side with a key of this name and kind, where no other column has a name that is taken."""
+        streams = [name for name, its in scope.items() if (key, kind) in its and not set(dict(its)) & taken - {key}]
+        if streams and self.often(0.8):
+            name = self.draw.choice(streams)
+            source = {'sort': 'read', 'name': name, 'columns': scope[name], 'closing': False}
+            return source if self.often(0.6) else self.select(source, filter_=0.8)
+        source = self.side(scope, depth)
+        items = self.items(source['columns'], taken=taken | {key}) if self.often(0.9) else []
+        same = [name for name, its in source['columns'] if its == kind]
+        of_key = ('column', kind, *[self.draw.choice(same)] * 2) if same and self.often(0.9) else None
+        items.insert(self.draw.randint(0, len(items)), (key, of_key or self.alone(source['columns'], kind, 1)))
+        return self.select(source, items)
+
+    def joined(self, scope, depth):
+        """An as-of join of two sides, at times of one stream twice; GROUPS is mostly so low that further keys come."""
+        first = self.side(scope, depth)
+        if len(first['columns']) > 8:
+            first = self.renamed(first, [])
+        shared = [it for it in first['columns'] if sum(it in its for its in scope.values()) > 1]
+        key, kind = self.draw.choice(shared if shared and self.often(0.7) else first['columns'])
+        second = self.fitting(scope, depth, key, kind, set(dict(first['columns'])))
+        left, right = (first, second) if self.often(0.6) else (second, first)
+        most = self.draw.choice([1, 1, 2, 2, 3, 4, 7, 9, 64, 65, 1024, 4096, self.draw.randint(1, 4096)])
+        return {
+            'sort': 'ASOF',
+            'left': left,
+            'right': right,
+            'by': (key, most),
+            'columns': left['columns'] + [it for it in right['columns'] if it[0] != key],
+            'closing': False,
+        }
 
     def paced(self, scope, depth, base):
         """A query with a row at the end where `base` is None, else with one for each row of it."""

@@ -66,6 +66,11 @@ QUERIES = {
         'UNION BY ARRIVAL SELECT bid AS price, ask AS v FROM quotes INTO r',
         APART,
     ),
+    'asof': (
+        'SELECT symbol, price, bid FROM trades ASOF (SELECT symbol, bid FROM quotes WHERE ask > 1) '
+        'BY symbol GROUPS 1 WHERE price > 0 INTO r',
+        APART + '170,quotes,NESN,3,4\n200,trades,UBSN,5,6\n',
+    ),
     'concat': ('SELECT sum(price) AS p FROM trades CONCAT SELECT count() AS n FROM quotes INTO r', TUPLES),
 }
 
@@ -82,7 +87,7 @@ def cases():
         texts = {'S': SCHEMA, 'Q': query + '\n', 'T': tuples}
         yield f'run, {name}', ['run', 'S', 'Q', 'T'], texts
     for word in ('compile', 'figures', 'explain'):
-        for name in ('windows', 'groups', 'spare copies', 'union', 'arrival'):
+        for name in ('windows', 'groups', 'spare copies', 'union', 'arrival', 'asof'):
             yield f'{word}, {name}', [word, 'S', 'Q'], {'S': SCHEMA, 'Q': QUERIES[name][0] + '\n'}
     yield 'run --start, groups', ['run', 'S', 'Q', 'T', '--start', '7'], {
         'S': SCHEMA,

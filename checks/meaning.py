@@ -4,6 +4,7 @@ the crates.
 A query is a dict. Its 'sort' is
     read            the rows of 'name'
     UNION, CONCAT   of 'left' and 'right'; so ARRIVAL, which is UNION BY ARRIVAL
+    ASOF            of 'left' and 'right' with 'by' (key, groups); it is a source alone
     select          'items' [(name, expression)], None for *; or 'totals' [(name, aggregate, expression, weights)];
                     or 'frames' [(name, sort, expression, condition, back)], whose sort is 'own', 'lag', 'last_value'
                     or an aggregate's, with 'part' (key, groups) or None;
@@ -392,19 +393,26 @@ def arrives(query):
     """Whether each row of a query comes of one row that came."""
     if query['sort'] == 'select':
         return not (query['totals'] or query['window'] or query['group']) and arrives(query['source'])
-    return query['sort'] in ('read', 'ARRIVAL')
+    return query['sort'] in ('read', 'ARRIVAL', 'ASOF')
 
 
 def readers(query):
     """How many sources a query that arrives reads, each use counted."""
-    if query['sort'] == 'ARRIVAL':
+    if query['sort'] in ('ARRIVAL', 'ASOF'):
         return readers(query['left']) + readers(query['right'])
     return 1 if query['sort'] == 'read' else readers(query['source'])
 
 
+def kept(query, found):
+    """The rows with places that pass the condition of a select."""
+    names, where = [name for name, _ in query['source']['columns']], query['filter']
+    return [it for it in found if not where or value_of(where, dict(zip(names, it.row)))]
+
+
 def come(query, sources, clock=None, reader=0):
     """The rows of a query that arrives, with places, and whether a row of a further key was left out. Where there is no
-    clock, a source's rows come one behind the other. Sources are numbered from the left, from `reader` on."""
+    clock, a source's rows come one behind the other. Sources are numbered in the order in which their rows of one place
+    come: from the left, but those of the right side of ASOF before those of its left side; from `reader` on."""
     if query['sort'] == 'read':
         rows = sources[query['name']]
         places = clock[2][query['name']] if clock else range(len(rows))
@@ -413,9 +421,12 @@ def come(query, sources, clock=None, reader=0):
         spill, left = come(query['left'], sources, clock, reader)
         other, right = come(query['right'], sources, clock, reader + readers(query['left']))
         return spill or other, sorted(left + right, key=lambda it: it.place)
+    if query['sort'] == 'ASOF':
+        spill, right = come(query['right'], sources, clock, reader)
+        other, left = come(query['left'], sources, clock, reader + readers(query['right']))
+        return spill or other or len(first_places(query, left, right)) > query['by'][1], joined(query, left, right)
     spill, found = come(query['source'], sources, clock, reader)
-    names, where = [name for name, _ in query['source']['columns']], query['filter']
-    found = [it for it in found if not where or value_of(where, dict(zip(names, it.row)))]
+    names, found = [name for name, _ in query['source']['columns']], kept(query, found)
     if query['frames']:
         more, made = framed(query, names, [it.row for it in found])
         return spill or more, [it._replace(row=row) for it, row in zip(found, made) if row is not None]
@@ -424,6 +435,34 @@ def come(query, sources, clock=None, reader=0):
             it._replace(row=tuple(value_of(e, dict(zip(names, it.row))) for _, e in query['items'])) for it in found
         ]
     return spill, found
+
+
+def keys_of(query):
+    """Where the key of an as-of join stands in rows of its left side, and in rows of its right side."""
+    return [[name for name, _ in query[side]['columns']].index(query['by'][0]) for side in ('left', 'right')]
+
+
+def first_places(query, left, right):
+    """Of each key of an as-of join when it came first, on either side: its place, the right side's before the left
+    side's, and its number on the side."""
+    came = collections.defaultdict(list)
+    for side, (at, rows) in enumerate(reversed(list(zip(keys_of(query), (left, right))))):
+        for number, it in enumerate(rows):
+            came[it.row[at]].append((it.place, side, number))
+    return {key: min(times) for key, times in came.items()}
+
+
+def joined(query, left, right):
+    """An as-of join: a row for each left row whose key is among the first ones that came on either side, in order. Beside
+    it stands the last right row of its key whose place is no later, without its key, or zeros."""
+    (own, other), firsts = keys_of(query), first_places(query, left, right)
+    known, out = sorted(firsts, key=firsts.get)[: query['by'][1]], []
+    for it in left:
+        if it.row[own] in known:
+            seen = [by.row for by in right if by.row[other] == it.row[own] and by.place <= it.place]
+            last = seen[-1] if seen else (0,) * len(query['right']['columns'])
+            out.append(it._replace(row=it.row + last[:other] + last[other + 1 :]))
+    return out
 
 
 def outcomes_of(query, sources, clock):
@@ -440,7 +479,7 @@ def results(query, sources, clock=None):
     sort = query['sort']
     if sort == 'read':
         return {False: ('rows', *sources[query['name']])}
-    if sort == 'ARRIVAL':
+    if sort in ('ARRIVAL', 'ASOF'):
         spill, found = come(query, sources, clock)
         return {spill: ('rows', *(it.row for it in found))}
     if sort in ('UNION', 'CONCAT'):
@@ -513,7 +552,10 @@ def frame_text(item, part):
 
 
 def source_text(query):
-    """The text of what stands behind FROM or IN."""
+    """The text of what stands behind FROM or IN; the case of ASOF goes by the number of letters of its left side."""
+    if query['sort'] == 'ASOF':
+        (key, most), left, right = query['by'], source_text(query['left']), source_text(query['right'])
+        return f"{left} {'ASOF asof AsOf'.split()[len(left) % 3]} {right} BY {key} GROUPS {most}"
     return query['name'] if query['sort'] == 'read' else f'({query_text(query)})'
 
 
@@ -553,6 +595,9 @@ def forms_of(query):
         return {JOINS[sort]} | forms_of(query['left']) | forms_of(query['right'])
     if sort == 'read':
         return set()
+    if sort == 'ASOF':
+        inside = forms_of(query['left']) | forms_of(query['right'])
+        return {'ASOF'} | inside | ({'ASOF in ASOF'} if 'ASOF' in inside else set())
     out = {
         name
         for name, found in (

@@ -27,9 +27,9 @@ WORK = 1000000  # about a file's cycles, times the bytes of the module
 CYCLES = 25, 1000  # the fewest and the most of a file, about
 BATCH = 16  # cases in one compilation
 MARGIN = 20  # cycles that a testbench goes on behind the last line of `run`
-SORTS = ('groups', 'groups', 'spare', 'keyed', 'times', 'union', 'concat', 'arrival', 'lists')
+SORTS = ('groups', 'groups', 'spare', 'keyed', 'times', 'union', 'concat', 'arrival', 'asof', 'lists')
 WANTED = {'keyed': 'windows of each key', 'times': 'windows of time', 'union': 'UNION', 'concat': 'CONCAT'}
-WANTED['arrival'] = 'UNION BY ARRIVAL'
+WANTED |= {'arrival': 'UNION BY ARRIVAL', 'asof': 'ASOF'}
 LIMIT = 'refused by limit'
 TOLD = 20  # differences that are printed; the others are counted
 LINES = ('out', 'valid'), ('out', 'eos'), ('fault', 'group'), ('fault', 'queue')
@@ -57,7 +57,8 @@ def drawn(program, seed, room, number):
     draw = random.Random(f'{seed} {number} unknown')
     sort = draw.choice(SORTS)
     signed, ticks = draw.random() < 0.4, draw.random() < 0.3
-    maker = Maker(draw, True, signed, ticks, sort == 'times', sort == 'keyed', arrival=sort == 'arrival')
+    keyed, arrival, asof = (sort == it for it in ('keyed', 'arrival', 'asof'))
+    maker = Maker(draw, True, signed, ticks, sort == 'times', keyed, arrival=arrival, asof=asof)
     query = query_of(maker, draw, sort)
     if sort == 'lists':
         statements, text = statements_of(maker, draw, query, draw.randint(2, 8), max(WEIGHTS))
