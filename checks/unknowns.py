@@ -1,4 +1,5 @@
-"""Random queries under Icarus with registers and memories unknown at the start, beside `run` of the program.
+"""Random queries under Icarus with registers and memories unknown at the start, beside `run` of the program. Slots by key
+alone have contents (docs/MODULE.md).
 
 Of each case the schema, the query or several of them, and the tuple file are drawn from the seed and the case's number.
 The module stands in a testbench of its own, which resets it for one cycle or two. In half of the cases it begins with a
@@ -18,7 +19,7 @@ import re
 import tempfile
 
 from cases import Case, called, schema_text, statements_of, tuples_text, written
-from common import ended, has_tick, inputs_of, width_of, word_of
+from common import contents_of, ended, has_tick, inputs_of, width_of, word_of
 from drawing import Maker, may_have_spare, weight_of
 from meaning import forms_of, query_text
 
@@ -27,9 +28,9 @@ WORK = 1000000  # about a file's cycles, times the bytes of the module
 CYCLES = 25, 1000  # the fewest and the most of a file, about
 BATCH = 16  # cases in one compilation
 MARGIN = 20  # cycles that a testbench goes on behind the last line of `run`
-SORTS = ('groups', 'groups', 'spare', 'keyed', 'times', 'union', 'concat', 'arrival', 'asof', 'lists')
+SORTS = ('groups', 'groups', 'spare', 'keyed', 'times', 'union', 'concat', 'arrival', 'asof', 'frames', 'lists')
 WANTED = {'keyed': 'windows of each key', 'times': 'windows of time', 'union': 'UNION', 'concat': 'CONCAT'}
-WANTED |= {'arrival': 'UNION BY ARRIVAL', 'asof': 'ASOF'}
+WANTED |= {'arrival': 'UNION BY ARRIVAL', 'asof': 'ASOF', 'frames': 'frames'}
 LIMIT = 'refused by limit'
 TOLD = 20  # differences that are printed; the others are counted
 LINES = ('out', 'valid'), ('out', 'eos'), ('fault', 'group'), ('fault', 'queue')
@@ -57,8 +58,8 @@ def drawn(program, seed, room, number):
     draw = random.Random(f'{seed} {number} unknown')
     sort = draw.choice(SORTS)
     signed, ticks = draw.random() < 0.4, draw.random() < 0.3
-    keyed, arrival, asof = (sort == it for it in ('keyed', 'arrival', 'asof'))
-    maker = Maker(draw, True, signed, ticks, sort == 'times', keyed, arrival=arrival, asof=asof)
+    keyed, frames, arrival, asof = (sort == it for it in ('keyed', 'frames', 'arrival', 'asof'))
+    maker = Maker(draw, True, signed, ticks, sort == 'times', keyed, frames, arrival, asof)
     query = query_of(maker, draw, sort)
     if sort == 'lists':
         statements, text = statements_of(maker, draw, query, draw.randint(2, 8), max(WEIGHTS))
@@ -194,7 +195,7 @@ def bench(drawn, want, unknown):
     lines += [f'wire [{width or 0}:0] {name};' for width, name in outs]
     lines += [f'reg [{len(results) - 1}:0] told = 0, stopped = 0;']
     lines += [f'unit{drawn.number} unit(' + ', '.join(f'.{name}({name})' for name in ports) + ');']
-    lines += ['initial begin', *idle, 'while (!done) #5 clk = ~clk;', 'end', 'always @(negedge clk) if (at > 0) begin']
+    lines += [*contents_of(drawn.design), 'initial begin', *idle, 'while (!done) #5 clk = ~clk;', 'end', 'always @(negedge clk) if (at > 0) begin']
     lines += [f"if (^{{{', '.join(steering)}}} === 1'bx) $display(\"{number} unknown %0d\", cycle);"]
     lines += ['if (cycle >= 0) begin']
     for at, result in enumerate(results):

@@ -204,6 +204,14 @@ def inputs_of(schema, ticks=False):
     return ports + [('tick', 1)] * ticks
 
 
+def contents_of(text, unit='unit'):
+    """The lines that give each word of a memory of slots by key its first contents. Any will do; a simulator with four
+    values knows nothing of a row whose key is looked up in a word without."""
+    memories = re.findall(r'^ *reg (?:\[\d+:0\] )?(\w*_slot_mem_n\d+) \[0:(\d+)\];', text, re.M)
+    loops = [f'for (word = 0; word <= {last}; word = word + 1) {unit}.{name}[word] = $random;' for name, last in memories]
+    return ['integer word;', 'initial begin', *loops, 'end'] if loops else []
+
+
 def harness(module, schema, outs, shown, steps, more=(), ticks=False, results=('',)):
     """A testbench: `shown` is what is done with outputs in the middle of a cycle, `steps` sets the inputs right behind
     the edge that begins one, `more` stands behind the declarations, `ticks` says whether the module has the port of
