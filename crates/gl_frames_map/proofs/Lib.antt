@@ -1,6 +1,6 @@
-mod PlaceLemmas
+pub mod PlaceLemmas
 mod MapLemmas
 mod ToldLemmas
-mod SeenNet
+pub mod SeenNet
 mod PassNet
 mod MapNet

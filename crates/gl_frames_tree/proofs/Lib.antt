@@ -1,0 +1,17 @@
+mod NameLemmas
+mod WordLemmas
+mod GrowLemmas
+mod LateNumbers
+mod LeadLemmas
+mod LaneLemmas
+mod RootLemmas
+mod PartLemmas
+mod PartNet
+mod TakeNet
+mod StandNet
+mod LevelNet
+mod ClimbNet
+mod RootNet
+mod RaiseNet
+mod TreeNet
+mod WorkedRows

@@ -1,0 +1,5 @@
+pub mod Growing
+pub mod Laws
+pub mod LevelNets
+pub mod TreeNets
+pub mod Worked
