@@ -7,7 +7,7 @@ use Rattle.gl_values.specs.declared.kind.Kind.{Kind}
 use Rattle.gl_values.specs.declared.kind.Kind.TheVariants.{Unsigned}
 use Rattle.gl_values.specs.Kinds.{IsKind, width_of}
 use Rattle.gl_schema.specs.declared.schema.Schema.{Schema}
-use Rattle.gl_schema.specs.Beats.{Beat, AreBeats}
+use Rattle.gl_schema.specs.Beats.{Beats, AreBeats}
 use Rattle.gl_verilog.specs.Module.{Module, Declaration}
 use Rattle.gl_verilog.specs.Valid.{IsValid}
 use Rattle.gl_verilog.specs.Widths.{HasSize}
@@ -45,5 +45,5 @@ decimal_widths : (widths : List ℕ) → widths ≡ map width_of (map Unsigned w
 decimal_widths [] = refl
 decimal_widths (w ∷ ws) = ap (λ (all : List ℕ). w ∷ all) (decimal_widths ws)
 
-pub can_trace : (m : Module) (schema : Schema) (beats : List Beat) → IsValid m → HasInputPorts m → FitsSchema m schema → AreBeats schema beats → CanFollow m schema (decimal_kinds m) beats
+pub can_trace : (m : Module) (schema : Schema) (beats : Beats) → IsValid m → HasInputPorts m → FitsSchema m schema → AreBeats schema beats → CanFollow m schema (decimal_kinds m) beats
 can_trace m schema beats valid inputs f are = record { valid = valid; inputs = inputs; fits = f; widths = decimal_widths (result_widths m); beats' = are }

@@ -3,7 +3,7 @@ use Rattle.std.proofs.Common.{◌≡◌, ℕ, suc, inl, inr, List, ◌++◌, Opt
 use Rattle.gl_outside.specs.declared.writing.WriteFault.{WriteFault as Failure}
 use Rattle.gl_outside.specs.States.{Appends, AppendsFront, Broke, SinkState, Took, Wrote}
 use Rattle.gl_outside.proofs.Takes.{appends_then, front_more, front_then}
-use Rattle.gl_schema.specs.Beats.{Beat}
+use Rattle.gl_schema.specs.Beats.{Beats}
 use Rattle.gl_schema.specs.Ports.{PortValues}
 use Rattle.gl_vcd.specs.Written.{header, ports_of, time_line}
 use Rattle.gl_verilog.specs.Module.{Module}
@@ -34,15 +34,15 @@ abbrev pub cycles_of : Module → PortValues → ℕ → List ℕ
 cycles_of m port n = bytes_to dump_of_cycle m port n
 
 -- the dump of a run that ends there
-dump_to : (m : Module) (beats : List Beat) (port : PortValues) (n : ℕ) → IsEnd beats (result_names m) port n → IsDumpOf m beats port (front_of m ++ (cycles_of m port n ++ time_line (suc n)))
+dump_to : (m : Module) (beats : Beats) (port : PortValues) (n : ℕ) → IsEnd beats (result_names m) port n → IsDumpOf m beats port (front_of m ++ (cycles_of m port n ++ time_line (suc n)))
 dump_to m beats port n is = record { ended = n; is = is; all = sym (dump_is m port n) }
 
-record IsEndIn (m : Module) (beats : List Beat) (port : PortValues) (extra : ℕ) : Type 0 where
+record IsEndIn (m : Module) (beats : Beats) (port : PortValues) (extra : ℕ) : Type 0 where
   place : ℕ
   is : IsEnd beats (result_names m) port place
 
 -- a run that ends in time ends somewhere first
-first_of : (m : Module) (beats : List Beat) (port : PortValues) (extra : ℕ) → EndsWithin extra beats (result_names m) port → IsEndIn m beats port extra
+first_of : (m : Module) (beats : Beats) (port : PortValues) (extra : ℕ) → EndsWithin extra beats (result_names m) port → IsEndIn m beats port extra
 first_of m beats port extra ends =
     let last = last_from beats (end_of_cycle m port) extra 0 (λ k le lt. absurd (omega arith)) (omega arith) in
     (elim last.is [
@@ -51,7 +51,7 @@ first_of m beats port extra ends =
     ])
 
 -- the sink failed in front of the cycles
-pub cut_in_front : (m : Module) (beats : List Beat) (port : PortValues) (extra : ℕ) (old new : Option (List ℕ)) → EndsWithin extra beats (result_names m) port → AppendsFront old new (front_of m) → DumpsFront m beats port old new
+pub cut_in_front : (m : Module) (beats : Beats) (port : PortValues) (extra : ℕ) (old new : Option (List ℕ)) → EndsWithin extra beats (result_names m) port → AppendsFront old new (front_of m) → DumpsFront m beats port old new
 cut_in_front m beats port extra old new ends taken =
     let e = first_of m beats port extra ends in
     record {
@@ -61,7 +61,7 @@ cut_in_front m beats port extra old new ends taken =
     }
 
 -- among them
-pub cut_among : (m : Module) (beats : List Beat) (port : PortValues) (extra : ℕ) (old mid new : Option (List ℕ)) → EndsWithin extra beats (result_names m) port → Appends old mid (front_of m) → WatchesFront dump_of_cycle end_of_cycle beats extra m port mid new → DumpsFront m beats port old new
+pub cut_among : (m : Module) (beats : Beats) (port : PortValues) (extra : ℕ) (old mid new : Option (List ℕ)) → EndsWithin extra beats (result_names m) port → Appends old mid (front_of m) → WatchesFront dump_of_cycle end_of_cycle beats extra m port mid new → DumpsFront m beats port old new
 cut_among m beats port extra old mid new ends before w = (elim w.is [
   | inl e ↦ record {
     bytes = front_of m ++ (cycles_of m port w.last ++ time_line (suc w.last));
@@ -72,7 +72,7 @@ cut_among m beats port extra old mid new ends before w = (elim w.is [
 ])
 
 -- behind them
-pub cut_behind : (m : Module) (lines : DumpLines) (beats : List Beat) (port : PortValues) (extra : ℕ) (old mid late new : Option (List ℕ)) → Appends old mid (front_of m) → WatchesToEnd dump_of_cycle end_of_cycle (StandsDumped lines) beats extra m port mid late → AppendsFront late new (time_line lines.next) → DumpsFront m beats port old new
+pub cut_behind : (m : Module) (lines : DumpLines) (beats : Beats) (port : PortValues) (extra : ℕ) (old mid late new : Option (List ℕ)) → Appends old mid (front_of m) → WatchesToEnd dump_of_cycle end_of_cycle (StandsDumped lines) beats extra m port mid late → AppendsFront late new (time_line lines.next) → DumpsFront m beats port old new
 cut_behind m lines beats port extra old mid late new before w taken =
     let taken' : AppendsFront late new (time_line (suc w.last)) = subst (λ (n : ℕ). AppendsFront late new (time_line n)) w.watched.behind.next' taken in
     record {
@@ -82,7 +82,7 @@ cut_behind m lines beats port extra old mid late new before w taken =
     }
 
 -- all was taken
-pub dumped_whole : (m : Module) (lines : DumpLines) (beats : List Beat) (port : PortValues) (extra : ℕ) (old mid late new : Option (List ℕ)) → Appends old mid (front_of m) → WatchesToEnd dump_of_cycle end_of_cycle (StandsDumped lines) beats extra m port mid late → Appends late new (time_line lines.next) → DumpsWhole m beats port old new
+pub dumped_whole : (m : Module) (lines : DumpLines) (beats : Beats) (port : PortValues) (extra : ℕ) (old mid late new : Option (List ℕ)) → Appends old mid (front_of m) → WatchesToEnd dump_of_cycle end_of_cycle (StandsDumped lines) beats extra m port mid late → Appends late new (time_line lines.next) → DumpsWhole m beats port old new
 dumped_whole m lines beats port extra old mid late new before w taken =
     let taken' : Appends late new (time_line (suc w.last)) = subst (λ (n : ℕ). Appends late new (time_line n)) w.watched.behind.next' taken in
     record {
@@ -138,16 +138,16 @@ dump_written d lines old mid late new (Err e) front' through wrote = dump_cut_be
 
 -- ---- from what is driven to each run
 
-of_timely : (m : Module) (schema : Schema) (beats : List Beat) (start : Start) (extra : ℕ) (d : Driven) (P : List Beat → Module → PortValues → Type 0) → IsStarted m schema beats start extra d → OfTimelyDriven d (P d.beats) → OfTimelyPorts extra m schema beats start (P beats)
+of_timely : (m : Module) (schema : Schema) (beats : Beats) (start : Start) (extra : ℕ) (d : Driven) (P : Beats → Module → PortValues → Type 0) → IsStarted m schema beats start extra d → OfTimelyDriven d (P d.beats) → OfTimelyPorts extra m schema beats start (P beats)
 of_timely m schema beats start extra d P is h = λ value word over ends.
     let ends' : EndsWithin d.extra d.beats (result_names (design_of d)) (port_of (design_of d) value) =
     subst (λ (x : Module). EndsWithin d.extra d.beats (result_names x) (port_of x value)) (sym is.design')
-    (subst (λ (x : List Beat). EndsWithin d.extra x (result_names m) (port_of m value)) (sym is.beats')
+    (subst (λ (x : Beats). EndsWithin d.extra x (result_names m) (port_of m value)) (sym is.beats')
     (subst (λ (x : ℕ). EndsWithin x beats (result_names m) (port_of m value)) (sym is.extra') ends)) in
-    subst (λ (x : List Beat). P x m (port_of m value)) is.beats'
+    subst (λ (x : Beats). P x m (port_of m value)) is.beats'
     (subst (λ (x : Module). P d.beats x (port_of x value)) is.design' (h value word (is.before value word over) ends'))
 
-pub dumped_started : (m : Module) (schema : Schema) (beats : List Beat) (start : Start) (extra : ℕ) (d : Driven) (old new : SinkState) (r : Outcome) → IsStarted m schema beats start extra d → Dumped (OfTimelyDriven d) d.beats old new r → Dumped (OfTimelyPorts extra m schema beats start) beats old new r
+pub dumped_started : (m : Module) (schema : Schema) (beats : Beats) (start : Start) (extra : ℕ) (d : Driven) (old new : SinkState) (r : Outcome) → IsStarted m schema beats start extra d → Dumped (OfTimelyDriven d) d.beats old new r → Dumped (OfTimelyPorts extra m schema beats start) beats old new r
 dumped_started m schema beats start extra d old new Done is h = (h.0, of_timely m schema beats start extra d (λ bs m' port. DumpsWhole m' bs port old.taken new.taken) is h.1)
 dumped_started m schema beats start extra d old new WriteFault is h = (h.0, of_timely m schema beats start extra d (λ bs m' port. DumpsFront m' bs port old.taken new.taken) is h.1)
 dumped_started m schema beats start extra d old new Memory is h = h

@@ -5,7 +5,7 @@ use Rattle.std.proofs.lemmas.Bool.{cases_eq}
 use Rattle.gl_bits.proofs.Bools.{or_right}
 use Rattle.gl_outside.specs.States.{Appends, AppendsFront, SinkState}
 use Rattle.gl_schema.specs.declared.schema.Schema.{Schema}
-use Rattle.gl_schema.specs.Beats.{Beat, last_cycle}
+use Rattle.gl_schema.specs.Beats.{Beats, last_cycle}
 use Rattle.gl_schema.specs.Ports.{PortValues}
 use Rattle.gl_verilog.specs.Module.{Module, Nets, Memories}
 use Rattle.gl_verilog.specs.Run.{port_of}
@@ -32,7 +32,7 @@ seen_before last ends e (suc n) late is lt = (elim (cases_eq e n) [
 ])
 
 -- so all were seen by the last cycle that is waited for
-all_in_time : (latency : ℕ) (beats : List Beat) (faces : List Face) (port : PortValues) → AllEndWithin latency beats faces port → all_ended faces (last_cycle beats) port (last_cycle beats + latency) ≡ true
+all_in_time : (latency : ℕ) (beats : Beats) (faces : List Face) (port : PortValues) → AllEndWithin latency beats faces port → all_ended faces (last_cycle beats) port (last_cycle beats + latency) ≡ true
 all_in_time latency beats [] port h = refl
 all_in_time latency beats (f ∷ fs) port h =
     let e = h.0 in
@@ -42,7 +42,7 @@ all_in_time latency beats (f ∷ fs) port h =
     ap (λ (b : Bool). b && all_ended fs (last_cycle beats) port (last_cycle beats + latency)) here ∙ all_in_time latency beats fs port h.1
 
 -- such a run is not one that is waited for in vain
-not_never : {P : Type 0} (latency n : ℕ) (beats : List Beat) (faces : List Face) (port : PortValues) → NeverEnds beats (all_ended faces (last_cycle beats) port) latency n → AllEndWithin latency beats faces port → P
+not_never : {P : Type 0} (latency n : ℕ) (beats : Beats) (faces : List Face) (port : PortValues) → NeverEnds beats (all_ended faces (last_cycle beats) port) latency n → AllEndWithin latency beats faces port → P
 not_never latency n beats faces port out h =
     let last : ℕ = last_cycle beats in
     let low : last ≤ last + latency = omega arith in
@@ -60,10 +60,10 @@ lines_are faces m port (suc n) = ap (λ (x : List ℕ). x ++ all_lines faces por
 
 -- ---- each run
 
-of_runs : (m : Module) (schema : Schema) (beats : List Beat) (start : Start) (extra : ℕ) (d : Driven) (P : Module → PortValues → Type 0) → IsStarted m schema beats start extra d → OfDrivenPorts d P → (value : ℕ → Nets) (word : ℕ → Memories) → IsRunOver m schema beats start value word → P m (port_of m value)
+of_runs : (m : Module) (schema : Schema) (beats : Beats) (start : Start) (extra : ℕ) (d : Driven) (P : Module → PortValues → Type 0) → IsStarted m schema beats start extra d → OfDrivenPorts d P → (value : ℕ → Nets) (word : ℕ → Memories) → IsRunOver m schema beats start value word → P m (port_of m value)
 of_runs m schema beats start extra d P is h value word over = subst (λ (x : Module). P x (port_of x value)) is.design' (h value word (is.before value word over))
 
-ran_by : (m : Module) (schema : Schema) (beats : List Beat) (start : Start) (extra : ℕ) (faces : List Face) (stands : Module → PortValues → ℕ → Type 0) (d : Driven) (old new : SinkState) (r : Ending) → IsStarted m schema beats start extra d
+ran_by : (m : Module) (schema : Schema) (beats : Beats) (start : Start) (extra : ℕ) (faces : List Face) (stands : Module → PortValues → ℕ → Type 0) (d : Driven) (old new : SinkState) (r : Ending) → IsStarted m schema beats start extra d
     → Watched (OfDrivenPorts d) (λ x. all_lines faces) (λ x. all_ended faces (last_cycle beats)) stands beats extra old new r → RanAll (OfTimelyFaces extra m schema beats start faces) faces beats old new (outcome_of r)
 ran_by m schema beats start extra faces stands d old new ending.Done is h = (
   h.0,
@@ -88,11 +88,11 @@ ran_by m schema beats start extra faces stands d old new ending.WriteFault is h 
 )
 ran_by m schema beats start extra faces stands d old new ending.Memory is h = absurd h
 
-pub ran_all : (m : Module) (schema : Schema) (beats : List Beat) (start : Start) (extra last : ℕ) (faces faces' : List Face) (stands : Module → PortValues → ℕ → Type 0) (d : Driven) (old new : SinkState) (r : Ending) → IsStarted m schema beats start extra d → last ≡ last_cycle beats → faces' ≡ faces
+pub ran_all : (m : Module) (schema : Schema) (beats : Beats) (start : Start) (extra last : ℕ) (faces faces' : List Face) (stands : Module → PortValues → ℕ → Type 0) (d : Driven) (old new : SinkState) (r : Ending) → IsStarted m schema beats start extra d → last ≡ last_cycle beats → faces' ≡ faces
     → Watched (OfDrivenPorts d) (λ x. all_lines faces') (λ x. all_ended faces' last) stands d.beats d.extra old new r → RanAll (OfTimelyFaces extra m schema beats start faces) faces beats old new (outcome_of r)
 ran_all m schema beats start extra last faces faces' stands d old new r is late same h =
     ran_by m schema beats start extra faces stands d old new r is
     (subst (λ (x : ℕ). Watched (OfDrivenPorts d) (λ y. all_lines faces) (λ y. all_ended faces x) stands beats extra old new r) late
     (subst (λ (x : List Face). Watched (OfDrivenPorts d) (λ y. all_lines x) (λ y. all_ended x last) stands beats extra old new r) same
     (subst (λ (x : ℕ). Watched (OfDrivenPorts d) (λ y. all_lines faces') (λ y. all_ended faces' last) stands beats x old new r) is.extra'
-    (subst (λ (x : List Beat). Watched (OfDrivenPorts d) (λ y. all_lines faces') (λ y. all_ended faces' last) stands x d.extra old new r) is.beats' h))))
+    (subst (λ (x : Beats). Watched (OfDrivenPorts d) (λ y. all_lines faces') (λ y. all_ended faces' last) stands x d.extra old new r) is.beats' h))))

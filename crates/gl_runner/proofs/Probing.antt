@@ -9,7 +9,7 @@ use Rattle.gl_values.specs.declared.kind.Kind.{Kind}
 use Rattle.gl_values.specs.Kinds.{IsKind}
 use Rattle.gl_bits.specs.Words.{Word, bits_of, widths_of}
 use Rattle.gl_schema.specs.declared.schema.Schema.{Schema}
-use Rattle.gl_schema.specs.Beats.{Beat}
+use Rattle.gl_schema.specs.Beats.{Beats}
 use Rattle.gl_schema.specs.Ports.{PortValues, fault_group, out_eos, out_valid}
 use Rattle.gl_schema.specs.Seen.{Shown, cycle_lines, shown, value_at}
 use Rattle.gl_sim.specs.Simulation.{Simulation}
@@ -147,7 +147,7 @@ names_plain : (m : Module) → map (name_at m.declarations) (columns_from 0 (por
 names_plain m = columns_are (name_at m.declarations) (λ (d : Declaration). d.name) 0 (ports_of m)
     (λ n d e. let same : 0 + n ≡ n = omega arith in rw same (name_there m.declarations n d (get_take m.ports m.declarations n d e)))
 
-pub probe_plain : (m : Module) (schema : Schema) (kinds : List Kind) (beats : List Beat) (shows : Shows) (w : ResultLines) → CanFollow m schema kinds beats → AreShows m shows → length kinds ≤ 32 → AllByRecursion IsKind kinds → AreFirst kinds shows w → IsProbe m (plain_names m) w.kinds.now w.shows w.row
+pub probe_plain : (m : Module) (schema : Schema) (kinds : List Kind) (beats : Beats) (shows : Shows) (w : ResultLines) → CanFollow m schema kinds beats → AreShows m shows → length kinds ≤ 32 → AllByRecursion IsKind kinds → AreFirst kinds shows w → IsProbe m (plain_names m) w.kinds.now w.shows w.row
 probe_plain m schema kinds beats shows w can are many kinds' first =
     subst (λ (x : List Kind). IsProbe m (plain_names m) x w.shows w.row) (sym first.kinds') (
     subst (λ (x : Shows). IsProbe m (plain_names m) kinds x w.row) (sym first.shows') (record {

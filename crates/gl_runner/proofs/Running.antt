@@ -11,7 +11,7 @@ use Rattle.gl_outside.specs.Counts.{Rose}
 use Rattle.gl_outside.proofs.Takes.{appends_none, appends_then, front_then, front_more}
 use Rattle.gl_vcd.specs.Signals.{seen_below}
 use Rattle.gl_schema.specs.declared.schema.Schema.{Schema}
-use Rattle.gl_schema.specs.Beats.{Beat, last_cycle}
+use Rattle.gl_schema.specs.Beats.{Beats, last_cycle}
 use Rattle.gl_schema.specs.Ports.{PortValues}
 use Rattle.gl_schema.specs.Seen.{Shown, shown, seen, lines, lines_after, cycle_lines}
 use Rattle.gl_verilog.specs.Module.{Module, Nets, Memories}
@@ -192,7 +192,7 @@ made_next d e f n value word at design made followed =
     subst (λ (m : Rust). IsMade (module_of m) f.sim d.schema d.beats n value word) design (all followed)
 
 -- what was made is this of the ports in a run
-pub made_of : (made : Made) (m : Module) (s : Simulation) (schema : Schema) (beats : List Beat) (value : ℕ → Nets) (word : ℕ → Memories)
+pub made_of : (made : Made) (m : Module) (s : Simulation) (schema : Schema) (beats : Beats) (value : ℕ → Nets) (word : ℕ → Memories)
     → m ≡ module_in made → s ≡ made.sim.now → IsMade m s schema beats made.cycle value word → IsMadeOf made (port_of m value)
 made_of made m s schema beats value word same at h =
     let h' : IsMade m made.sim.now schema beats made.cycle value word = subst (λ (x : Simulation). IsMade m x schema beats made.cycle value word) at h in
@@ -226,20 +226,20 @@ over_is {now} {initial} {m} {port} {n} {over} same is = sym (is ∙ ap (λ (f : 
 -- ---- on the way
 
 -- file cycle n comes next; so many bytes were written, the watcher stands in front of it, and no end was seen from the last beat on
-pub record IsUnderWay (m : Module) (s : Simulation) (schema : Schema) (bytes : Module → PortValues → ℕ → List ℕ) (ends : Module → PortValues → ℕ → Bool) (stands : Module → PortValues → ℕ → Type 0) (beats : List Beat) (n : ℕ) (old new : Option (List ℕ)) (value : ℕ → Nets) (word : ℕ → Memories) : Type 0 where
+pub record IsUnderWay (m : Module) (s : Simulation) (schema : Schema) (bytes : Module → PortValues → ℕ → List ℕ) (ends : Module → PortValues → ℕ → Bool) (stands : Module → PortValues → ℕ → Type 0) (beats : Beats) (n : ℕ) (old new : Option (List ℕ)) (value : ℕ → Nets) (word : ℕ → Memories) : Type 0 where
   pub followed : IsFollowed s schema beats value word (n + 1)
   pub stands' : stands m (port_of m value) n
   pub written : Appends old new (bytes_below bytes m (port_of m value) n)
   pub none : (k : ℕ) → last_cycle beats ≤ k → k < n → ends m (port_of m value) k ≡ false
 
-pub under_way_first : (m : Module) (s : Simulation) (schema : Schema) (bytes : Module → PortValues → ℕ → List ℕ) (ends : Module → PortValues → ℕ → Bool) (stands : Module → PortValues → ℕ → Type 0) (beats : List Beat) (old : Option (List ℕ)) (value : ℕ → Nets) (word : ℕ → Memories) → IsFollowed s schema beats value word 1 → stands m (port_of m value) 0 → IsUnderWay m s schema bytes ends stands beats 0 old old value word
+pub under_way_first : (m : Module) (s : Simulation) (schema : Schema) (bytes : Module → PortValues → ℕ → List ℕ) (ends : Module → PortValues → ℕ → Bool) (stands : Module → PortValues → ℕ → Type 0) (beats : Beats) (old : Option (List ℕ)) (value : ℕ → Nets) (word : ℕ → Memories) → IsFollowed s schema beats value word 1 → stands m (port_of m value) 0 → IsUnderWay m s schema bytes ends stands beats 0 old old value word
 under_way_first m s schema bytes ends stands beats old value word h at = record { followed = h; stands' = at; written = appends_none old; none = λ k le lt. absurd (omega arith) }
 
 -- what a cycle writes behind the others
 all_written : (m : Module) (bytes : Module → PortValues → ℕ → List ℕ) (port : PortValues) (n : ℕ) (old mid new : Option (List ℕ)) → Appends old mid (bytes_below bytes m port n) → Appends mid new (bytes m port n) → Appends old new (bytes_to bytes m port n)
 all_written m bytes port n old mid new before w = subst (Appends old new) (sym (bytes_more bytes m port n)) (appends_then old mid new (bytes_below bytes m port n) (bytes m port n) before w)
 
-pub under_way_more : (m : Module) (s s' : Simulation) (schema : Schema) (bytes : Module → PortValues → ℕ → List ℕ) (ends : Module → PortValues → ℕ → Bool) (stands stands' : Module → PortValues → ℕ → Type 0) (beats : List Beat) (n : ℕ) (old mid new : Option (List ℕ)) (value : ℕ → Nets) (word : ℕ → Memories)
+pub under_way_more : (m : Module) (s s' : Simulation) (schema : Schema) (bytes : Module → PortValues → ℕ → List ℕ) (ends : Module → PortValues → ℕ → Bool) (stands stands' : Module → PortValues → ℕ → Type 0) (beats : Beats) (n : ℕ) (old mid new : Option (List ℕ)) (value : ℕ → Nets) (word : ℕ → Memories)
     → IsUnderWay m s schema bytes ends stands beats n old mid value word → IsMade m s' schema beats n value word → Appends mid new (bytes m (port_of m value) n)
     → stands' m (port_of m value) (n + 1) → (last_cycle beats ≤ n → ends m (port_of m value) n ≡ false) → IsUnderWay m s' schema bytes ends stands' beats (n + 1) old new value word
 under_way_more m s s' schema bytes ends stands stands' beats n old mid new value word u made w behind open' =
@@ -257,7 +257,7 @@ under_way_more m s s' schema bytes ends stands stands' beats n old mid new value
     }
 
 -- the end
-pub under_way_done : (m : Module) (s s' : Simulation) (schema : Schema) (bytes : Module → PortValues → ℕ → List ℕ) (ends : Module → PortValues → ℕ → Bool) (stands stands' : Module → PortValues → ℕ → Type 0) (beats : List Beat) (n extra : ℕ) (old mid new : Option (List ℕ)) (value : ℕ → Nets) (word : ℕ → Memories)
+pub under_way_done : (m : Module) (s s' : Simulation) (schema : Schema) (bytes : Module → PortValues → ℕ → List ℕ) (ends : Module → PortValues → ℕ → Bool) (stands stands' : Module → PortValues → ℕ → Type 0) (beats : Beats) (n extra : ℕ) (old mid new : Option (List ℕ)) (value : ℕ → Nets) (word : ℕ → Memories)
     → IsUnderWay m s schema bytes ends stands beats n old mid value word → IsMade m s' schema beats n value word → Appends mid new (bytes m (port_of m value) n)
     → stands' m (port_of m value) (n + 1) → ends m (port_of m value) n ≡ true → last_cycle beats ≤ n → n ≤ last_cycle beats + extra → WatchesToEnd bytes ends stands' beats extra m (port_of m value) old new
 under_way_done m s s' schema bytes ends stands stands' beats n extra old mid new value word u made w behind is le soon =
@@ -275,7 +275,7 @@ under_way_done m s s' schema bytes ends stands stands' beats n extra old mid new
     }
 
 -- no end came in any of the cycles
-pub under_way_out : (m : Module) (s : Simulation) (schema : Schema) (bytes : Module → PortValues → ℕ → List ℕ) (ends : Module → PortValues → ℕ → Bool) (stands : Module → PortValues → ℕ → Type 0) (beats : List Beat) (n extra far : ℕ) (old new : Option (List ℕ)) (value : ℕ → Nets) (word : ℕ → Memories)
+pub under_way_out : (m : Module) (s : Simulation) (schema : Schema) (bytes : Module → PortValues → ℕ → List ℕ) (ends : Module → PortValues → ℕ → Bool) (stands : Module → PortValues → ℕ → Type 0) (beats : Beats) (n extra far : ℕ) (old new : Option (List ℕ)) (value : ℕ → Nets) (word : ℕ → Memories)
     → IsUnderWay m s schema bytes ends stands beats n old new value word → far ≡ last_cycle beats + extra → n ≡ suc far → WatchesOut bytes ends stands beats extra far m (port_of m value) old new
 under_way_out m s schema bytes ends stands beats n extra far old new value word u last next = record {
   is = record { last = last; none = λ k le up. u.none k le (omega (arith, last, next, up)) };
@@ -286,12 +286,12 @@ under_way_out m s schema bytes ends stands beats n extra far old new value word 
 }
 
 -- the last cycle that is run, where no end came before cycle n
-pub record IsLastFrom (beats : List Beat) (ends : ℕ → Bool) (extra n : ℕ) : Type 0 where
+pub record IsLastFrom (beats : Beats) (ends : ℕ → Bool) (extra n : ℕ) : Type 0 where
   pub place : ℕ
   pub is : IsLastCycle beats ends extra place
   pub here : n ≤ place
 
-pub last_from : (beats : List Beat) (ends : ℕ → Bool) (extra n : ℕ) → ((k : ℕ) → last_cycle beats ≤ k → k < n → ends k ≡ false) → n ≤ last_cycle beats + extra → IsLastFrom beats ends extra n
+pub last_from : (beats : Beats) (ends : ℕ → Bool) (extra n : ℕ) → ((k : ℕ) → last_cycle beats ≤ k → k < n → ends k ≡ false) → n ≤ last_cycle beats + extra → IsLastFrom beats ends extra n
 unfolding IsNone
 last_from beats ends extra n none soon = (elim (first_end ends (last_cycle beats) extra) [
   | inl e ↦ record {
@@ -312,7 +312,7 @@ bytes_up_to bytes m port n last le =
     subst (λ (k : ℕ). IsFront (bytes_to bytes m port n) (bytes_below bytes m port k)) reach (bytes_front bytes m port (suc n) (last - n))
 
 -- the sink failed
-pub under_way_cut : (m : Module) (s : Simulation) (schema : Schema) (bytes : Module → PortValues → ℕ → List ℕ) (ends : Module → PortValues → ℕ → Bool) (stands : Module → PortValues → ℕ → Type 0) (beats : List Beat) (n extra : ℕ) (old mid new : Option (List ℕ)) (value : ℕ → Nets) (word : ℕ → Memories)
+pub under_way_cut : (m : Module) (s : Simulation) (schema : Schema) (bytes : Module → PortValues → ℕ → List ℕ) (ends : Module → PortValues → ℕ → Bool) (stands : Module → PortValues → ℕ → Type 0) (beats : Beats) (n extra : ℕ) (old mid new : Option (List ℕ)) (value : ℕ → Nets) (word : ℕ → Memories)
     → IsUnderWay m s schema bytes ends stands beats n old mid value word → AppendsFront mid new (bytes m (port_of m value) n)
     → n ≤ last_cycle beats + extra → WatchesFront bytes ends beats extra m (port_of m value) old new
 under_way_cut m s schema bytes ends stands beats n extra old mid new value word u w soon =

@@ -4,7 +4,7 @@ use Rattle.std.specs.Prelude.{◌≡◌, ℕ, suc, ◌+◌, ◌<◌, ◌≤◌, 
 use Rattle.gl_values.specs.declared.kind.Kind.{Kind}
 use Rattle.gl_values.specs.Kinds.{width_of}
 use Rattle.gl_schema.specs.declared.schema.Schema.{Schema}
-use Rattle.gl_schema.specs.Beats.{Beat, AreBeats}
+use Rattle.gl_schema.specs.Beats.{Beats, AreBeats}
 use Rattle.gl_schema.specs.Ports.{PortValues, IsStimulus}
 use Rattle.gl_schema.specs.Seen.{value_at}
 use Rattle.gl_verilog.specs.Module.{Declaration, Input, Module, Nets, Memories, number_of}
@@ -33,14 +33,14 @@ TakesSchema m schema =
 
 -- what is asked of a module and of the beats that it is driven over, whatever it shows: the module is valid, each of its
 -- inputs is a port and one of the schema's, and the beats are the schema's
-pub record CanDrive (m : Module) (schema : Schema) (beats : List Beat) : Type 0 where
+pub record CanDrive (m : Module) (schema : Schema) (beats : Beats) : Type 0 where
   pub valid : IsValid m
   pub inputs : HasInputPorts m
   pub takes : TakesSchema m schema
   pub beats' : AreBeats schema beats
 
 -- a module can be driven where the lines of one result are written: its ports are those of the schema and the result
-pub record CanFollow (m : Module) (schema : Schema) (kinds : List Kind) (beats : List Beat) : Type 0 where
+pub record CanFollow (m : Module) (schema : Schema) (kinds : List Kind) (beats : Beats) : Type 0 where
   pub valid : IsValid m
   pub inputs : HasInputPorts m
   pub fits : FitsSchema m schema
@@ -48,7 +48,7 @@ pub record CanFollow (m : Module) (schema : Schema) (kinds : List Kind) (beats :
   pub beats' : AreBeats schema beats
 
 -- the simulator is before cycle t of this run over these beats
-pub record IsFollowed (s : Simulation) (schema : Schema) (beats : List Beat) (value : ℕ → Nets) (word : ℕ → Memories)
+pub record IsFollowed (s : Simulation) (schema : Schema) (beats : Beats) (value : ℕ → Nets) (word : ℕ → Memories)
     (t : ℕ) : Type 0 where
   pub run : IsRun (module_of s.design) value word
   pub stimulus : IsStimulus schema beats (input_values (module_of s.design) value)
@@ -70,7 +70,7 @@ abbrev pub HasNoOther : Module → PortValues → ℕ → Type 0
 HasNoOther m port t = (name : List ℕ) → number_of (ports_of m) name ≡ None → port t name ≡ None
 
 -- file cycle n of the module was made: its ports have what they have in the run, and the simulator is before the next
-pub record IsMade (m : Module) (s : Simulation) (schema : Schema) (beats : List Beat) (n : ℕ) (value : ℕ → Nets)
+pub record IsMade (m : Module) (s : Simulation) (schema : Schema) (beats : Beats) (n : ℕ) (value : ℕ → Nets)
     (word : ℕ → Memories) : Type 0 where
   pub followed : IsFollowed s schema beats value word (n + 2)
   pub ports' : HasOnPorts m s (port_of m value) (suc n)
@@ -82,7 +82,7 @@ pub record IsMade (m : Module) (s : Simulation) (schema : Schema) (beats : List 
 pub record Driven : Type 0 where
   pub sim : Simulation
   pub schema : Schema
-  pub beats : List Beat
+  pub beats : Beats
   pub extra : ℕ
   pub cycle : ℕ
 
@@ -91,12 +91,12 @@ abbrev pub design_of : Driven → Module
 design_of d = module_of d.sim.design
 
 -- a simulation can be driven, each input is set to what its port carries, and the beats from one place on are due
-pub record IsSetUp (sim : Simulation) (schema : Schema) (beats : List Beat) (extra : ℕ) (pins : List Pin)
+pub record IsSetUp (sim : Simulation) (schema : Schema) (beats : Beats) (extra : ℕ) (pins : List Pin)
     (values : List ℕ) (cycle next : ℕ) : Type 0 where
   pub can : CanDrive (module_of sim.design) schema beats
   pub pins' : pins ≡ map (pin_at schema (module_of sim.design).declarations) (inputs_of (module_of sim.design))
   pub room : length values ≡ length pins
-  pub due : AreDue beats next cycle
+  pub due : AreDue beats.list next cycle
   pub short : extra ≤ 2 ^ 32
 
 -- the simulation is before its next cycle of this run: cycle t + 1 of a run is cycle t of the file
@@ -104,7 +104,7 @@ abbrev pub IsBefore : Driven → (ℕ → Nets) → (ℕ → Memories) → Type 
 IsBefore d value word = IsFollowed d.sim d.schema d.beats value word (d.cycle + 1)
 
 -- the module of a task, behind its reset: it is before the first cycle of the file in each run from this start
-pub record IsStarted (m : Module) (schema : Schema) (beats : List Beat) (start : Start) (extra : ℕ) (d : Driven)
+pub record IsStarted (m : Module) (schema : Schema) (beats : Beats) (start : Start) (extra : ℕ) (d : Driven)
     : Type 0 where
   pub design' : design_of d ≡ m
   pub schema' : d.schema ≡ schema
@@ -134,7 +134,7 @@ OfDriven d P =
 -- ---- to an end in time
 
 -- a fact of each run of a module from this start over these beats that ends in time
-abbrev pub OfTimely : ℕ → Module → Schema → List Beat → Start → (List (List ℕ) → PortValues → Type 0) → Type 0
+abbrev pub OfTimely : ℕ → Module → Schema → Beats → Start → (List (List ℕ) → PortValues → Type 0) → Type 0
 OfTimely latency m schema beats start P =
     (value : ℕ → Nets) (word : ℕ → Memories) → IsRunOver m schema beats start value word
     → EndsWithin latency beats (result_names m) (port_of m value) → P (result_names m) (port_of m value)

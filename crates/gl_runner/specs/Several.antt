@@ -7,7 +7,7 @@ use Rattle.gl_outside.specs.Counts.{Rose}
 use Rattle.gl_outside.specs.States.{SinkState, Appends, AppendsFront}
 use Rattle.gl_schema.specs.declared.schema.Column.{Column}
 use Rattle.gl_schema.specs.declared.schema.Schema.{Schema}
-use Rattle.gl_schema.specs.Beats.{Beat, last_cycle}
+use Rattle.gl_schema.specs.Beats.{Beats, last_cycle}
 use Rattle.gl_schema.specs.Ports.{PortValues, out_column}
 use Rattle.gl_schema.specs.Schemas.{kinds_of}
 use Rattle.gl_schema.specs.Seen.{Shown, shown, values_text}
@@ -81,33 +81,33 @@ all_ended faces last port n = list_all (λ f. ended_before last (λ k. (shown_by
 -- ---- what was written
 
 -- the lines of all results were written, through the cycle by which each result has ended
-pub record WritesAll (faces : List Face) (beats : List Beat) (port : PortValues) (old new : Option (List ℕ)) : Type 0
+pub record WritesAll (faces : List Face) (beats : Beats) (port : PortValues) (old new : Option (List ℕ)) : Type 0
   where
     pub ended : ℕ
     pub is : IsFirstEnd beats (all_ended faces (last_cycle beats) port) ended
     pub taken : Appends old new (lines_through faces port ended)
 
 -- the first bytes of all results' lines were written, perhaps none and perhaps all
-pub record WritesAllFront (faces : List Face) (beats : List Beat) (port : PortValues) (old new : Option (List ℕ))
+pub record WritesAllFront (faces : List Face) (beats : Beats) (port : PortValues) (old new : Option (List ℕ))
     : Type 0 where
   pub ended : ℕ
   pub is : IsFirstEnd beats (all_ended faces (last_cycle beats) port) ended
   pub taken : AppendsFront old new (lines_through faces port ended)
 
 -- the end of each result is seen in a cycle from the last beat's on, at most so many cycles after it
-abbrev pub AllEndWithin : ℕ → List Beat → List Face → PortValues → Type 0
+abbrev pub AllEndWithin : ℕ → Beats → List Face → PortValues → Type 0
 AllEndWithin latency beats faces port =
     AllByRecursion (λ f. EndsWithin latency beats (outs_of f) (seen_as f.name port)) faces
 
 -- a fact of the ports in each run of a module from this start over these beats in which the ends come in time
-abbrev pub OfTimelyFaces : ℕ → Module → Schema → List Beat → Start → List Face → (PortValues → Type 0) → Type 0
+abbrev pub OfTimelyFaces : ℕ → Module → Schema → Beats → Start → List Face → (PortValues → Type 0) → Type 0
 OfTimelyFaces latency m schema beats start faces P =
     (value : ℕ → Nets) (word : ℕ → Memories) → IsRunOver m schema beats start value word
     → AllEndWithin latency beats faces (port_of m value) → P (port_of m value)
 
 -- how a run ended: the lines of each run were written and nothing failed, or the sink failed behind a front of them, or
 -- memory ran out and nothing was put
-abbrev pub RanAll : ((PortValues → Type 0) → Type 0) → List Face → List Beat → SinkState → SinkState → Outcome → Type 0
+abbrev pub RanAll : ((PortValues → Type 0) → Type 0) → List Face → Beats → SinkState → SinkState → Outcome → Type 0
 RanAll OfRuns faces beats old new Done =
     (new.faults ≡ old.faults) × OfRuns (λ port. WritesAll faces beats port old.taken new.taken)
 RanAll OfRuns faces beats old new WriteFault =

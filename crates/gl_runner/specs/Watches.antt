@@ -14,7 +14,7 @@ use Rattle.gl_verilog.specs.View.{module_of}
 use Rattle.gl_verilog_ports.specs.Profile.{result_names}
 use Rattle.gl_outside.specs.Counts.{Rose}
 use Rattle.gl_outside.specs.States.{SinkState, Appends, AppendsFront}
-use Rattle.gl_schema.specs.Beats.{Beat}
+use Rattle.gl_schema.specs.Beats.{Beats}
 use Rattle.gl_runner.specs.Cycles.{Driven, HasNoOther, HasOnPorts, IsBefore, design_of}
 use Rattle.gl_runner.specs.Ends.{EndsBy, IsLastCycle, NeverEnds}
 use Rattle.gl_runner.specs.declared.tracing.Ending.{Ending}
@@ -103,14 +103,14 @@ pub record WatchesTo (bytes : Module → PortValues → ℕ → List ℕ) (stand
 
 -- the first bytes of the cycles that are run were written, perhaps none and perhaps all
 pub record WatchesFront (bytes : Module → PortValues → ℕ → List ℕ) (ends : Module → PortValues → ℕ → Bool)
-    (beats : List Beat) (extra : ℕ) (m : Module) (port : PortValues) (old new : Option (List ℕ)) : Type 0 where
+    (beats : Beats) (extra : ℕ) (m : Module) (port : PortValues) (old new : Option (List ℕ)) : Type 0 where
   pub last : ℕ
   pub is : IsLastCycle beats (ends m port) extra last
   pub taken : AppendsFront old new (bytes_to bytes m port last)
 
 -- the bytes of all cycles were written up to the one in which the end is seen
 pub record WatchesToEnd (bytes : Module → PortValues → ℕ → List ℕ) (ends : Module → PortValues → ℕ → Bool)
-    (stands : Module → PortValues → ℕ → Type 0) (beats : List Beat) (extra : ℕ) (m : Module) (port : PortValues)
+    (stands : Module → PortValues → ℕ → Type 0) (beats : Beats) (extra : ℕ) (m : Module) (port : PortValues)
     (old new : Option (List ℕ)) : Type 0 where
   pub last : ℕ
   pub is : EndsBy beats (ends m port) extra last
@@ -118,7 +118,7 @@ pub record WatchesToEnd (bytes : Module → PortValues → ℕ → List ℕ) (en
 
 -- the bytes of all cycles that are waited were written, and no end was seen
 pub record WatchesOut (bytes : Module → PortValues → ℕ → List ℕ) (ends : Module → PortValues → ℕ → Bool)
-    (stands : Module → PortValues → ℕ → Type 0) (beats : List Beat) (extra n : ℕ) (m : Module) (port : PortValues)
+    (stands : Module → PortValues → ℕ → Type 0) (beats : Beats) (extra n : ℕ) (m : Module) (port : PortValues)
     (old new : Option (List ℕ)) : Type 0 where
   pub is : NeverEnds beats (ends m port) extra n
   pub watched : WatchesTo bytes stands m port n old new
@@ -126,7 +126,7 @@ pub record WatchesOut (bytes : Module → PortValues → ℕ → List ℕ) (ends
 -- how watching ended: the bytes of all cycles to the end, or to the last that is waited for, were written and nothing
 -- failed, and the watcher stands behind them; or the sink failed behind a front of them
 abbrev pub Watched : ((Module → PortValues → Type 0) → Type 0) → (Module → PortValues → ℕ → List ℕ)
-    → (Module → PortValues → ℕ → Bool) → (Module → PortValues → ℕ → Type 0) → List Beat → ℕ → SinkState → SinkState
+    → (Module → PortValues → ℕ → Bool) → (Module → PortValues → ℕ → Type 0) → Beats → ℕ → SinkState → SinkState
     → Ending → Type 0
 Watched OfRuns bytes ends stands beats extra old new Done =
     (new.faults ≡ old.faults) × OfRuns (λ m port. WatchesToEnd bytes ends stands beats extra m port old.taken new.taken)

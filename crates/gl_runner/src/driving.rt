@@ -2,7 +2,7 @@
 
 ghost use Rattle.std.specs.Prelude.{◌≡◌, ◌+◌, ◌<◌, ◌≤◌, ◌^◌, map, option_map, IfOk};
 ghost use Rattle.gl_schema.specs.Beats.{beat_at, last_cycle};
-ghost use Rattle.gl_tuples.specs.Gaps.{plain_beat, plain_beats};
+ghost use Rattle.gl_tuples.specs.Gaps.{plain_beat, plain_beats, plain_list};
 ghost use Rattle.gl_verilog.specs.Runnable.{inputs_of};
 ghost use Rattle.gl_verilog.specs.View.{module_of};
 ghost use Rattle.gl_testbench.specs.Carried.{pin_at};
@@ -99,10 +99,10 @@ fn behind(place: usize, many: usize) -> usize
 
 // The beat of this cycle, and the place behind it.
 fn due<'a>(beats: &'a Beats, next: &mut usize, cycle: u64) -> Option<BeatView<'a>>
-    requires { AreDue (plain_beats beats.now) next.old cycle }
+    requires { AreDue (plain_list beats.now.list) next.old cycle }
     ensures beat { option_map plain_beat result
-        ≡ beat_at (plain_beats beats.now) cycle }
-    ensures due { AreDue (plain_beats beats.now) next.new (cycle + 1) }
+        ≡ beat_at (plain_list beats.now.list) cycle }
+    ensures due { AreDue (plain_list beats.now.list) next.new (cycle + 1) }
 {
     let Some(beat) = beats.get(*next) else {
         return None;
@@ -147,7 +147,7 @@ impl<'a> Drive<'a> {
         let mut values = zeros(alloc, pins.len())?;
         let mut sim = Sim::new(alloc, design, task.start)?;
         let inputs = values.as_mut_slice();
-        set_reset(&pins, inputs);
+        set_reset(&pins, task.beats.sets(), inputs);
         sim.step(inputs);
         Ok(Drive {
             task,
@@ -184,7 +184,7 @@ impl<'a> Drive<'a> {
     {
         let beat = due(self.task.beats, &mut self.next, self.cycle);
         let values = self.values.as_mut_slice();
-        set_beat(&self.pins, beat.as_ref(), values);
+        set_beat(&self.pins, self.task.beats.sets(), beat.as_ref(), values);
         self.sim.step(values);
         self.cycle += 1;
     }

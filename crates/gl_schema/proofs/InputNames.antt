@@ -10,8 +10,8 @@ use Rattle.gl_schema.specs.declared.schema.Stream.{Stream}
 use Rattle.gl_schema.specs.declared.schema.Schema.{Schema}
 use Rattle.gl_schema.specs.Names.{IsName, is_name, is_taken, reserved, keywords, has_loose_underscore, begins_with_letter, has_name_bytes}
 use Rattle.gl_schema.specs.Schemas.{IsColumn, IsStream, IsSchema, column_names, stream_names}
-use Rattle.gl_schema.specs.Ports.{rst, eos, tick, in_valid, in_column}
-use Rattle.gl_schema.specs.Profile.{ProfilePort, clk, input, column_inputs, stream_inputs, streams_inputs, input_ports, port_names}
+use Rattle.gl_schema.specs.Ports.{rst, eos, tick, in_valid, in_column, in_parameter}
+use Rattle.gl_schema.specs.Profile.{ProfilePort, clk, column_inputs, stream_inputs, streams_inputs, parameter_inputs, last_inputs, input_ports, port_names}
 
 -- ---- lists of names
 
@@ -157,41 +157,105 @@ streams_first (s ∷ ss) all = subst (AllByRecursion (λ n. first_byte n ≡ 105
     (all_weaker (IsOf s.name) (λ n. first_byte n ≡ 105) (λ n is. is.first) (port_names (stream_inputs s)) (inputs_of s all.0))
     (streams_first ss all.1))
 
+-- ---- of the parameters
+
+pub parameter_first : (n : List ℕ) → first_byte (in_parameter n) ≡ 115
+unfolding in_parameter
+parameter_first n = refl
+
+same_parameter : (n m : List ℕ) → in_parameter n ≡ in_parameter m → n ≡ m
+unfolding in_parameter
+same_parameter n m e = append_cancel_left (codes "set__") n m e
+
+pub parameters_first : (ps : List Column) → AllByRecursion (λ n. first_byte n ≡ 115) (port_names (parameter_inputs ps))
+parameters_first [] = tt
+parameters_first (p ∷ ps) = (parameter_first p.name, parameters_first ps)
+
+parameter_apart : (n : List ℕ) (ps : List Column) → Apart n (column_names ps) → Apart (in_parameter n) (port_names (parameter_inputs ps))
+parameter_apart n [] h = tt
+parameter_apart n (p ∷ ps) h = (λ e. h.0 (same_parameter n p.name e), parameter_apart n ps h.1)
+
+pub parameters_apart : (ps : List Column) → AreApart (column_names ps) → AreApart (port_names (parameter_inputs ps))
+parameters_apart [] h = tt
+parameters_apart (p ∷ ps) h = (parameter_apart p.name ps h.0, parameters_apart ps h.1)
+
+-- a name with another first byte is none of theirs
+no_parameter : (n : List ℕ) (ps : List Column) → (first_byte n ≡ 115 → ⊥) → Apart n (port_names (parameter_inputs ps))
+no_parameter n ps other = all_weaker (λ m. first_byte m ≡ 115) (λ m. n ≡ m → ⊥) (λ m h e. other (ap first_byte e ∙ h)) (port_names (parameter_inputs ps)) (parameters_first ps)
+
 -- ---- all inputs, the clock before them
 
-names_are : (schema : Schema) → port_names (input_ports true schema) ≡ rst ∷ (port_names (streams_inputs schema.streams) ++ eos ∷ tick ∷ [])
-names_are schema = ap (λ (ns : List (List ℕ)). rst ∷ ns) (map-append (λ (p : ProfilePort). p.name) (streams_inputs schema.streams) (input eos 1 ∷ input tick 1 ∷ []))
+-- the names behind those of the streams
+abbrev last_names : List Column → List (List ℕ)
+last_names ps = eos ∷ tick ∷ port_names (parameter_inputs ps)
 
--- a name with another first byte, and neither that of the end nor of the tick, is apart from what stands behind the reset
-front_apart : (n : List ℕ) (ss : List Stream) → AllByRecursion IsStream ss → (first_byte n ≡ 105 → ⊥) → (n ≡ eos → ⊥) → (n ≡ tick → ⊥) → Apart n (port_names (streams_inputs ss) ++ eos ∷ tick ∷ [])
-front_apart n ss all other end last =
-    all_append (λ m. n ≡ m → ⊥) (port_names (streams_inputs ss)) (eos ∷ tick ∷ [])
-    (all_weaker (λ m. first_byte m ≡ 105) (λ m. n ≡ m → ⊥) (λ m h e. other (ap first_byte e ∙ h)) (port_names (streams_inputs ss)) (streams_first ss all)) (end, (last, tt))
+names_are : (schema : Schema) → port_names (input_ports true schema) ≡ rst ∷ (port_names (streams_inputs schema.streams) ++ last_names schema.parameters)
+names_are schema = ap (λ (ns : List (List ℕ)). rst ∷ ns) (map-append (λ (p : ProfilePort). p.name) (streams_inputs schema.streams) (last_inputs true schema))
 
-rst_differs : (first_byte rst ≡ 105 → ⊥) × (rst ≡ eos → ⊥) × (rst ≡ tick → ⊥)
+-- what tells a name from the inputs behind the reset: it begins otherwise, and is neither that of the end nor of the tick
+record Differs (n : List ℕ) : Type 0 where
+  streams : first_byte n ≡ 105 → ⊥
+  end : n ≡ eos → ⊥
+  last : n ≡ tick → ⊥
+  parameters : first_byte n ≡ 115 → ⊥
+
+front_apart : (n : List ℕ) (ss : List Stream) (ps : List Column) → AllByRecursion IsStream ss → Differs n → Apart n (port_names (streams_inputs ss) ++ last_names ps)
+front_apart n ss ps all other =
+    all_append (λ m. n ≡ m → ⊥) (port_names (streams_inputs ss)) (last_names ps)
+    (all_weaker (λ m. first_byte m ≡ 105) (λ m. n ≡ m → ⊥) (λ m h e. other.streams (ap first_byte e ∙ h)) (port_names (streams_inputs ss)) (streams_first ss all))
+    (other.end, (other.last, no_parameter n ps other.parameters))
+
+rst_differs : Differs rst
 unfolding rst eos tick
-rst_differs = (λ e. absurd (omega (arith, e)), bytes_differ rst eos refl, bytes_differ rst tick refl)
+rst_differs = record {
+  streams = λ e. absurd (omega (arith, e));
+  end = bytes_differ rst eos refl;
+  last = bytes_differ rst tick refl;
+  parameters = λ e. absurd (omega (arith, e));
+}
 
-clk_differs : (first_byte clk ≡ 105 → ⊥) × (clk ≡ rst → ⊥) × (clk ≡ eos → ⊥) × (clk ≡ tick → ⊥)
-unfolding clk rst eos tick
-clk_differs = (λ e. absurd (omega (arith, e)), bytes_differ clk rst refl, bytes_differ clk eos refl, bytes_differ clk tick refl)
+clk_differs : Differs clk
+unfolding clk eos tick
+clk_differs = record {
+  streams = λ e. absurd (omega (arith, e));
+  end = bytes_differ clk eos refl;
+  last = bytes_differ clk tick refl;
+  parameters = λ e. absurd (omega (arith, e));
+}
 
-eos_differs : (first_byte eos ≡ 105 → ⊥) × (eos ≡ tick → ⊥)
+clk_not_rst : clk ≡ rst → ⊥
+unfolding clk rst
+clk_not_rst = bytes_differ clk rst refl
+
+eos_differs : (first_byte eos ≡ 105 → ⊥) × (eos ≡ tick → ⊥) × (first_byte eos ≡ 115 → ⊥)
 unfolding eos tick
-eos_differs = (λ e. absurd (omega (arith, e)), bytes_differ eos tick refl)
+eos_differs = (λ e. absurd (omega (arith, e)), bytes_differ eos tick refl, λ e. absurd (omega (arith, e)))
 
-tick_differs : first_byte tick ≡ 105 → ⊥
+pub tick_differs : (first_byte tick ≡ 105 → ⊥) × (first_byte tick ≡ 115 → ⊥)
 unfolding tick
-tick_differs = λ e. absurd (omega (arith, e))
+tick_differs = (λ e. absurd (omega (arith, e)), λ e. absurd (omega (arith, e)))
+
+-- the end, the tick and the parameters are apart
+last_apart : (ps : List Column) → AreApart (column_names ps) → AreApart (last_names ps)
+last_apart ps apart = ((eos_differs.1, no_parameter eos ps eos_differs.2), (no_parameter tick ps tick_differs.1, parameters_apart ps apart))
+
+no_both : (a : ℕ) → a ≡ 105 → a ≡ 115 → ⊥
+no_both a h e = absurd (omega (arith, h, e))
+
+-- and an input of a stream is none of them
+stream_not_last : (n : List ℕ) (ps : List Column) → first_byte n ≡ 105 → Apart n (last_names ps)
+stream_not_last n ps h = (λ e. eos_differs.0 (sym (ap first_byte e) ∙ h), (λ e. tick_differs.0 (sym (ap first_byte e) ∙ h), no_parameter n ps (no_both (first_byte n) h)))
 
 pub names_apart : (schema : Schema) → IsSchema schema → AreApart (clk ∷ port_names (input_ports true schema))
 names_apart schema is =
     let streams = port_names (streams_inputs schema.streams) in
+    let others = last_names schema.parameters in
     subst (λ (ns : List (List ℕ)). AreApart (clk ∷ ns)) (sym (names_are schema)) (
-      (clk_differs.1, front_apart clk schema.streams is.streams clk_differs.0 clk_differs.2 clk_differs.3),
+      (clk_not_rst, front_apart clk schema.streams schema.parameters is.streams clk_differs),
       (
-        front_apart rst schema.streams is.streams rst_differs.0 rst_differs.1 rst_differs.2,
-        both_apart streams (eos ∷ tick ∷ []) (streams_apart schema.streams is.streams (apart_distinct (stream_names schema.streams) is.distinct)) ((eos_differs.1, tt), (tt, tt))
-            (all_weaker (λ m. first_byte m ≡ 105) (λ m. Apart m (eos ∷ tick ∷ [])) (λ m h. (λ e. eos_differs.0 (sym (ap first_byte e) ∙ h), (λ e. tick_differs (sym (ap first_byte e) ∙ h), tt))) streams (streams_first schema.streams is.streams)),
+        front_apart rst schema.streams schema.parameters is.streams rst_differs,
+        both_apart streams others (streams_apart schema.streams is.streams (apart_distinct (stream_names schema.streams) is.distinct))
+            (last_apart schema.parameters (apart_distinct (column_names schema.parameters) is.declared.distinct))
+            (all_weaker (λ m. first_byte m ≡ 105) (λ m. Apart m others) (λ m h. stream_not_last m schema.parameters h) streams (streams_first schema.streams is.streams)),
       ),
     )

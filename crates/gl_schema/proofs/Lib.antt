@@ -2,6 +2,7 @@ pub mod Words
 pub mod Steps
 pub mod KindTable
 pub mod Distinct
+pub mod Declared
 pub mod Complete
 pub mod Sound
 pub mod Readings

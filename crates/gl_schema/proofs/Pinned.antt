@@ -13,9 +13,9 @@ use Rattle.gl_schema.specs.declared.schema.Column.{Column}
 use Rattle.gl_schema.specs.declared.schema.Stream.{Stream}
 use Rattle.gl_schema.specs.declared.schema.Schema.{Schema}
 use Rattle.gl_schema.specs.Schemas.{IsRowOf}
-use Rattle.gl_schema.specs.Beats.{Beat, AreBeats, AreRowsOf, IsBeat, beat_at, rows_at, ends_at, ticks_at}
-use Rattle.gl_schema.specs.Ports.{rst, eos, tick, in_valid, in_column, Pin, pin, pin_names, column_pins, stream_pins, streams_pins, pins}
-use Rattle.gl_schema.specs.Profile.{ProfilePort, input, column_inputs, stream_inputs, streams_inputs, input_ports, port_names, CanCarry}
+use Rattle.gl_schema.specs.Beats.{Beat, Beats, AreBeats, AreRowsOf, IsBeat, beat_at, rows_at, ends_at, ticks_at}
+use Rattle.gl_schema.specs.Ports.{rst, eos, tick, in_valid, in_column, in_parameter, Pin, pin, pin_names, column_pins, stream_pins, streams_pins, parameter_pins, pins}
+use Rattle.gl_schema.specs.Profile.{ProfilePort, column_inputs, stream_inputs, streams_inputs, parameter_inputs, last_inputs, input_ports, port_names, CanCarry}
 
 -- ---- the names
 
@@ -37,14 +37,21 @@ streams_named [] rows = refl
 streams_named (s ∷ ss) [] = both_named (stream_pins s None) (streams_pins ss []) (stream_inputs s) (streams_inputs ss) (stream_named s None) (streams_named ss [])
 streams_named (s ∷ ss) (r ∷ rs) = both_named (stream_pins s r) (streams_pins ss rs) (stream_inputs s) (streams_inputs ss) (stream_named s r) (streams_named ss rs)
 
-whole_named : (schema : Schema) (reset : ℕ) (rows : List (Option (List ℕ))) (end ticked : ℕ) → pin_names (pin rst reset ∷ (streams_pins schema.streams rows ++ pin eos end ∷ pin tick ticked ∷ [])) ≡ port_names (input_ports true schema)
-whole_named schema reset rows end ticked =
-    ap (λ (x : List (List ℕ)). rst ∷ x)
-    (both_named (streams_pins schema.streams rows) (pin eos end ∷ pin tick ticked ∷ []) (streams_inputs schema.streams) (input eos 1 ∷ input tick 1 ∷ []) (streams_named schema.streams rows) refl)
+parameters_named : (ps : List Column) (sets : List ℕ) → pin_names (parameter_pins ps sets) ≡ port_names (parameter_inputs ps)
+parameters_named [] sets = refl
+parameters_named (p ∷ ps) [] = ap (λ (x : List (List ℕ)). in_parameter p.name ∷ x) (parameters_named ps [])
+parameters_named (p ∷ ps) (n ∷ ns) = ap (λ (x : List (List ℕ)). in_parameter p.name ∷ x) (parameters_named ps ns)
 
-pub pins_named : (schema : Schema) (beats : List Beat) (t : ℕ) → pin_names (pins schema beats t) ≡ port_names (input_ports true schema)
-pins_named schema beats zero = whole_named schema 1 [] 0 0
-pins_named schema beats (suc n) = whole_named schema 0 (rows_at beats n) (bit (ends_at beats n)) (bit (ticks_at beats n))
+whole_named : (schema : Schema) (reset : ℕ) (rows : List (Option (List ℕ))) (end ticked : ℕ) (sets : List ℕ)
+    → pin_names (pin rst reset ∷ (streams_pins schema.streams rows ++ pin eos end ∷ pin tick ticked ∷ parameter_pins schema.parameters sets)) ≡ port_names (input_ports true schema)
+whole_named schema reset rows end ticked sets =
+    ap (λ (x : List (List ℕ)). rst ∷ x)
+    (both_named (streams_pins schema.streams rows) (pin eos end ∷ pin tick ticked ∷ parameter_pins schema.parameters sets) (streams_inputs schema.streams) (last_inputs true schema)
+    (streams_named schema.streams rows) (ap (λ (x : List (List ℕ)). eos ∷ tick ∷ x) (parameters_named schema.parameters sets)))
+
+pub pins_named : (schema : Schema) (beats : Beats) (t : ℕ) → pin_names (pins schema beats t) ≡ port_names (input_ports true schema)
+pins_named schema beats zero = whole_named schema 1 [] 0 0 beats.sets
+pins_named schema beats (suc n) = whole_named schema 0 (rows_at beats.list n) (bit (ends_at beats.list n)) (bit (ticks_at beats.list n)) beats.sets
 
 -- ---- the values
 
@@ -70,10 +77,18 @@ streams_fit [] rows h = tt
 streams_fit (s ∷ ss) [] h = absurd h
 streams_fit (s ∷ ss) (r ∷ rs) h = zip_append CanCarry (stream_inputs s) (streams_inputs ss) (stream_pins s r) (streams_pins ss rs) (stream_fits s r h.0) (streams_fit ss rs h.1)
 
-whole_fits : (schema : Schema) (reset : ℕ) (rows : List (Option (List ℕ))) (ends ticks : Bool) → reset < 2 ^ 1 → AllZip CanCarry (streams_inputs schema.streams) (streams_pins schema.streams rows)
-    → AllZip CanCarry (input_ports true schema) (pin rst reset ∷ (streams_pins schema.streams rows ++ pin eos (bit ends) ∷ pin tick (bit ticks) ∷ []))
-whole_fits schema reset rows ends ticks small h =
-    (small, zip_append CanCarry (streams_inputs schema.streams) (input eos 1 ∷ input tick 1 ∷ []) (streams_pins schema.streams rows) (pin eos (bit ends) ∷ pin tick (bit ticks) ∷ []) h (bit_fits ends, (bit_fits ticks, tt)))
+parameters_fit : (ps : List Column) (sets : List ℕ) → IsRowOf ps sets → AllZip CanCarry (parameter_inputs ps) (parameter_pins ps sets)
+parameters_fit [] sets h = tt
+parameters_fit (p ∷ ps) [] h = absurd h
+parameters_fit (p ∷ ps) (n ∷ ns) h = (h.0, parameters_fit ps ns h.1)
+
+whole_fits : (schema : Schema) (reset : ℕ) (rows : List (Option (List ℕ))) (ends ticks : Bool) (sets : List ℕ) → reset < 2 ^ 1 → AllZip CanCarry (streams_inputs schema.streams) (streams_pins schema.streams rows) → IsRowOf schema.parameters sets
+    → AllZip CanCarry (input_ports true schema) (pin rst reset ∷ (streams_pins schema.streams rows ++ pin eos (bit ends) ∷ pin tick (bit ticks) ∷ parameter_pins schema.parameters sets))
+whole_fits schema reset rows ends ticks sets small h held = (
+  small,
+  zip_append CanCarry (streams_inputs schema.streams) (last_inputs true schema) (streams_pins schema.streams rows) (pin eos (bit ends) ∷ pin tick (bit ticks) ∷ parameter_pins schema.parameters sets) h
+      (bit_fits ends, (bit_fits ticks, parameters_fit schema.parameters sets held)),
+)
 
 -- what holds of each beat holds of the one of a cycle
 found_beat : (P : Beat → Type 0) (beats : List Beat) (n : ℕ) → AllByRecursion P beats → IfSome (beat_at beats n) P
@@ -84,11 +99,11 @@ found_beat P (b ∷ beats) n h = pick (b.cycle == n) (found_beat P beats n h.1)
     pick true later = h.0
     pick false later = later
 
-cycle_fits : (schema : Schema) (beat : Option Beat) → IfSome beat (IsBeat schema)
-    → AllZip CanCarry (input_ports true schema) (pin rst 0 ∷ (streams_pins schema.streams (option_map_or (λ (b : Beat). b.rows) beat []) ++ pin eos (bit (option_map_or (λ (b : Beat). b.end) beat false)) ∷ pin tick (bit (option_map_or (λ (b : Beat). b.tick) beat false)) ∷ []))
-cycle_fits schema None h = whole_fits schema 0 [] false false (omega arith) (no_streams schema.streams)
-cycle_fits schema (Some b) h = whole_fits schema 0 b.rows b.end b.tick (omega arith) (streams_fit schema.streams b.rows h.rows)
+cycle_fits : (schema : Schema) (beat : Option Beat) (sets : List ℕ) → IfSome beat (IsBeat schema) → IsRowOf schema.parameters sets
+    → AllZip CanCarry (input_ports true schema) (pin rst 0 ∷ (streams_pins schema.streams (option_map_or (λ (b : Beat). b.rows) beat []) ++ pin eos (bit (option_map_or (λ (b : Beat). b.end) beat false)) ∷ pin tick (bit (option_map_or (λ (b : Beat). b.tick) beat false)) ∷ parameter_pins schema.parameters sets))
+cycle_fits schema None sets h held = whole_fits schema 0 [] false false sets (omega arith) (no_streams schema.streams) held
+cycle_fits schema (Some b) sets h held = whole_fits schema 0 b.rows b.end b.tick sets (omega arith) (streams_fit schema.streams b.rows h.rows) held
 
-pub pins_fit : (schema : Schema) (beats : List Beat) (t : ℕ) → AreBeats schema beats → AllZip CanCarry (input_ports true schema) (pins schema beats t)
-pins_fit schema beats zero h = whole_fits schema 1 [] false false (omega arith) (no_streams schema.streams)
-pins_fit schema beats (suc n) h = cycle_fits schema (beat_at beats n) (found_beat (IsBeat schema) beats n h.each)
+pub pins_fit : (schema : Schema) (beats : Beats) (t : ℕ) → AreBeats schema beats → AllZip CanCarry (input_ports true schema) (pins schema beats t)
+pins_fit schema beats zero h = whole_fits schema 1 [] false false beats.sets (omega arith) (no_streams schema.streams) h.held
+pins_fit schema beats (suc n) h = cycle_fits schema (beat_at beats.list n) beats.sets (found_beat (IsBeat schema) beats.list n h.each) h.held

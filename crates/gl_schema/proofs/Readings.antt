@@ -1,6 +1,6 @@
 -- Each text has one reading, and no fault of a text is want of memory.
 use Rattle.std.proofs.Common.{◌≡◌, ◌↔◌, ◌⊎◌, inl, inr, ℕ, Bool, true, false, cond, List, [], ◌∷◌, Option, Some, None, Result, Ok, Err, refl, sym, ◌∙◌}
-use Rattle.std.specs.Prelude.{bytes_eq, codes, nat_le, not, length, ◌==◌}
+use Rattle.std.specs.Prelude.{bytes_eq, codes, nat_le, nat_lt, not, length, ◌==◌}
 use Rattle.gl_values.specs.declared.kind.Kind.{Kind}
 use Rattle.gl_schema.specs.declared.fault.SchemaFault.{SchemaFault}
 use Rattle.gl_schema.specs.declared.fault.SchemaFault.TheVariants.{Syntax, BadName, BadKind, Twice, TooMany, Memory}
@@ -12,7 +12,7 @@ use Rattle.gl_schema.specs.declared.reading.Place.TheVariants as place
 use Rattle.gl_schema.specs.Names.{is_name}
 use Rattle.gl_schema.specs.Schemas.{has_stream, has_column}
 use Rattle.gl_schema.specs.SchemaText.{Mark, Word, Sign, Token, tokens_of, IsSchemaText}
-use Rattle.gl_schema.specs.SchemaFaults.{mark_at, word_at, sign_at, kind_next, kind_named, end_at, schema_from, schema_of, IsFirstFault, ◌>>=◌}
+use Rattle.gl_schema.specs.SchemaFaults.{mark_at, word_at, sign_at, kind_next, parameter_kind, kind_named, end_at, schema_from, schema_of, IsFirstFault, ◌>>=◌}
 use Rattle.gl_schema.proofs.Complete.{read_again}
 use Rattle.gl_schema.proofs.Sound.{read_is}
 
@@ -56,37 +56,50 @@ kind_of_text : (r : Reading) (s : Stream) (name : List ℕ) (at : ℕ) (k : Opti
 kind_of_text r s name at None = tt
 kind_of_text r s name at (Some kind) = tt
 
+parameter_kind_of_text : (r : Reading) (name : List ℕ) (at : ℕ) (k : Option Kind) → IsOfText (parameter_kind r name at k)
+parameter_kind_of_text r name at None = tt
+parameter_kind_of_text r name at (Some kind) = tt
+
 word_of_text : (p : Place) (r : Reading) (at : ℕ) (w : List ℕ) → IsOfText (word_at p r at w)
-word_of_text place.Stream r at w = text_if (not (bytes_eq w (codes "stream"))) _ _ tt (text_if (nat_le 8 (length r.streams)) _ _ tt tt)
-word_of_text place.Name r at w = text_if (not (is_name w)) _ _ tt (text_if (has_stream r.streams w) _ _ tt tt)
+word_of_text place.Declaration r at w = text_if (bytes_eq w (codes "stream")) _ _ (text_if (nat_le 8 (length r.schema.streams)) _ _ tt tt)
+    (text_if (bytes_eq w (codes "parameter")) _ _ (text_if (nat_le 32 (length r.schema.parameters)) _ _ tt tt) tt)
+word_of_text place.Name r at w = text_if (not (is_name w)) _ _ tt (text_if (has_stream r.schema.streams w) _ _ tt tt)
 word_of_text (place.Opening name) r at w = tt
 word_of_text (place.Column s) r at w = text_if (not (is_name w)) _ _ tt (text_if (nat_le 32 (length s.columns)) _ _ tt (text_if (has_column s.columns w) _ _ tt tt))
 word_of_text (place.Kind s name) r at w = kind_of_text r s name at (kind_named w)
 word_of_text (place.Comma s) r at w = tt
 word_of_text (place.Close s) r at w = tt
+word_of_text place.Parameter r at w = text_if (not (is_name w)) _ _ tt (text_if (has_column r.schema.parameters w) _ _ tt tt)
+word_of_text (place.ParameterKind name) r at w = parameter_kind_of_text r name at (kind_named w)
+word_of_text (place.ParameterClose p) r at w = tt
 
 sign_of_text : (p : Place) (r : Reading) (at b : ℕ) → IsOfText (sign_at p r at b)
-sign_of_text place.Stream r at b = tt
+sign_of_text place.Declaration r at b = tt
 sign_of_text place.Name r at b = tt
 sign_of_text (place.Opening name) r at b = text_if (b == 40) _ _ tt tt
 sign_of_text (place.Column s) r at b = tt
 sign_of_text (place.Kind s name) r at b = tt
 sign_of_text (place.Comma s) r at b = text_if (b == 44) _ _ tt (text_if (b == 41) _ _ tt tt)
 sign_of_text (place.Close s) r at b = text_if (b == 59) _ _ tt tt
+sign_of_text place.Parameter r at b = tt
+sign_of_text (place.ParameterKind name) r at b = tt
+sign_of_text (place.ParameterClose p) r at b = text_if (b == 59) _ _ tt tt
 
 mark_of_text : (m : Mark) (r : Reading) (at : ℕ) → IsOfText (mark_at m r at)
 mark_of_text (Word w) r at = word_of_text r.place r at w
 mark_of_text (Sign b) r at = sign_of_text r.place r at b
 
-end_of_text : (p : Place) (ss : List Stream) (at : ℕ) → IsOfText (end_at p ss at)
-end_of_text place.Stream [] at = tt
-end_of_text place.Stream (s ∷ ss) at = tt
-end_of_text place.Name ss at = tt
-end_of_text (place.Opening name) ss at = tt
-end_of_text (place.Column s) ss at = tt
-end_of_text (place.Kind s name) ss at = tt
-end_of_text (place.Comma s) ss at = tt
-end_of_text (place.Close s) ss at = tt
+end_of_text : (p : Place) (schema : Schema) (at : ℕ) → IsOfText (end_at p schema at)
+end_of_text place.Declaration schema at = text_if (nat_lt 0 (length schema.streams)) _ _ tt tt
+end_of_text place.Name schema at = tt
+end_of_text (place.Opening name) schema at = tt
+end_of_text (place.Column s) schema at = tt
+end_of_text (place.Kind s name) schema at = tt
+end_of_text (place.Comma s) schema at = tt
+end_of_text (place.Close s) schema at = tt
+end_of_text place.Parameter schema at = tt
+end_of_text (place.ParameterKind name) schema at = tt
+end_of_text (place.ParameterClose p) schema at = tt
 
 then_of_text : {A B : Type 0} (x : Result A SchemaFault) (f : A → Result B SchemaFault) → IsOfText x → ((y : A) → IsOfText (f y)) → IsOfText (x >>= f)
 then_of_text (Ok x) f h k = k x
@@ -98,7 +111,7 @@ then_of_text (Err (TooMany at)) f h k = tt
 then_of_text (Err Memory) f h k = absurd h
 
 read_of_text : (len : ℕ) (ts : List Token) (r : Reading) → IsOfText (schema_from len ts r)
-read_of_text len [] r = end_of_text r.place r.streams len
+read_of_text len [] r = end_of_text r.place r.schema len
 read_of_text len (t ∷ ts) r = then_of_text (mark_at t.mark r t.at) (schema_from len ts) (mark_of_text t.mark r t.at) (read_of_text len ts)
 
 no_memory : (r : Result Schema SchemaFault) → IsOfText r → r ≡ Err Memory → ⊥

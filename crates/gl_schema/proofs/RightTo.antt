@@ -5,7 +5,7 @@ use Rattle.std.specs.List.{AllByRecursion, cons_option}
 use Rattle.std.proofs.lemmas.Bool.{cases_lt, false_from_ne_true}
 use Rattle.std.proofs.lemmas.List.{append-nil}
 use Rattle.gl_bits.proofs.AllLists.{all_append}
-use Rattle.gl_schema.specs.Beats.{Beat, last_cycle, inputs_of}
+use Rattle.gl_schema.specs.Beats.{Beats, last_cycle, inputs_of}
 use Rattle.gl_schema.specs.Ports.{PortValues}
 use Rattle.gl_schema.specs.Seen.{Shown, shown, seen}
 use Rattle.gl_schema.specs.Right.{Meaning, IsRight, IsRightTo, end_in}
@@ -76,7 +76,7 @@ row_in_time outs port e f n s = elim (cases_lt e n) [
 ]
 
 -- at each cycle from the latency after the last beat on
-pub right_to : (means : Meaning) (latency : ℕ) (beats : List Beat) (outs : List (List ℕ)) (port : PortValues) (n : ℕ) → last_cycle beats + latency ≤ n → IsRight means latency beats outs port → IsRightTo means latency beats outs port n
+pub right_to : (means : Meaning) (latency : ℕ) (beats : Beats) (outs : List (List ℕ)) (port : PortValues) (n : ℕ) → last_cycle beats + latency ≤ n → IsRight means latency beats outs port → IsRightTo means latency beats outs port n
 right_to means latency beats outs port n late r =
     let f : Facts outs port r.ended = record { ends = r.ends; once = r.once; none_later = r.none_later } in
     let le : r.ended ≤ n = omega (arith, r.in_time) in

@@ -4,7 +4,7 @@ use Rattle.std.specs.Prelude.{option_map}
 use Rattle.std.specs.List.{AllByRecursion, cons_option}
 use Rattle.gl_bits.proofs.AllLists.{all_weaker}
 use Rattle.gl_bits.specs.Words.{bit}
-use Rattle.gl_schema.specs.Beats.{AreInOrder, Beat, HavePlaces, HaveTimes, NeverFall, input_of, inputs_of, places_of, row_in, ticks_of, times_from}
+use Rattle.gl_schema.specs.Beats.{AreInOrder, Beat, Beats, HavePlaces, HaveTimes, NeverFall, input_of, inputs_of, places_of, row_in, ticks_of, times_from}
 
 -- one row more, or none
 long_cons : (o : Option (List ℕ)) (t : ℕ) (ts : List ℕ) (rows : List (List ℕ)) → length ts ≡ length rows → length (cons_option (option_map (λ row. t) o) ts) ≡ length (cons_option o rows)
@@ -48,12 +48,14 @@ times_high before k (b ∷ bs) =
     all_cons (λ t. t ≤ all) (row_in k b) now (times_from now k bs) (omega arith)
     (all_weaker (λ t. t ≤ now + ticks_of bs) (λ t. t ≤ all) (λ t h. omega (arith, h)) (times_from now k bs) (times_high now k bs))
 
-pub have_times : (beats : List Beat) → HaveTimes (inputs_of beats)
-have_times beats = record {
-  each = λ k. times_long 0 k beats;
-  order = λ k. times_order 0 k beats;
-  last = λ k. all_weaker (λ t. t ≤ 0 + ticks_of beats) (λ t. t ≤ ticks_of beats) (λ t h. omega (arith, h)) (times_from 0 k beats) (times_high 0 k beats);
-}
+pub have_times : (beats : Beats) → HaveTimes (inputs_of beats)
+have_times beats =
+    let all = beats.list in
+    record {
+      each = λ k. times_long 0 k all;
+      order = λ k. times_order 0 k all;
+      last = λ k. all_weaker (λ t. t ≤ 0 + ticks_of all) (λ t. t ≤ ticks_of all) (λ t h. omega (arith, h)) (times_from 0 k all) (times_high 0 k all);
+    }
 
 -- ---- places
 
@@ -74,5 +76,6 @@ places_order k (b ∷ []) h = never_cons (row_in k b) b.cycle [] tt tt
 places_order k (b ∷ c ∷ bs) h =
     never_cons (row_in k b) b.cycle (places_of k (c ∷ bs)) (places_above k b (c ∷ bs) h) (places_order k (c ∷ bs) h.2)
 
-pub have_places : (beats : List Beat) → AreInOrder beats → HavePlaces (inputs_of beats)
-have_places beats h = record { each = λ k. places_long k beats; order = λ k. places_order k beats h }
+pub have_places : (beats : Beats) → AreInOrder beats.list → HavePlaces (inputs_of beats)
+have_places beats h =
+    record { each = λ k. places_long k beats.list; order = λ k. places_order k beats.list h }

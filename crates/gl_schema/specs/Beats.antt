@@ -1,4 +1,4 @@
--- Beats: the cycles in which tuples come, ticks of the clock, and the end.
+-- Beats: the cycles in which tuples come, ticks of the clock, and the end; and the words of the parameters.
 use Rattle.std.specs.Prelude.{◌≡◌, ℕ, ◌+◌, ◌<◌, ◌≤◌, Bool, false, List, [], ◌∷◌, length, Option, None, IfSome, is_some, option_map, unwrap_or, slice_get, IsTrue, IsFalse, filter_map, find, ◌==◌}
 use Rattle.std.specs.List.{AllByRecursion, cons_option, list_any}
 use Rattle.std.specs.Option.{option_map_or}
@@ -14,6 +14,11 @@ pub record Beat : Type 0 where
   pub rows : List (Option (List ℕ))
   pub tick : Bool
   pub end : Bool
+
+-- beats in order, and a word for each parameter of the schema, which holds in all cycles of the run
+pub record Beats : Type 0 where
+  pub list : List Beat
+  pub sets : List ℕ
 
 -- one entry for each stream, and what is there is a row of it
 abbrev pub AreRowsOf : List Stream → List (Option (List ℕ)) → Type 0
@@ -33,10 +38,11 @@ AreInOrder [] = ⊥
 AreInOrder (b ∷ []) = IsTrue b.end
 AreInOrder (b ∷ c ∷ bs) = IsFalse b.end × (b.cycle < c.cycle) × AreInOrder (c ∷ bs)
 
--- the beats of a schema
-pub record AreBeats (schema : Schema) (beats : List Beat) : Type 0 where
-  pub each : AllByRecursion (IsBeat schema) beats
-  pub order : AreInOrder beats
+-- the beats of a schema, with a word for each of its parameters, as wide as the parameter
+pub record AreBeats (schema : Schema) (beats : Beats) : Type 0 where
+  pub each : AllByRecursion (IsBeat schema) beats.list
+  pub order : AreInOrder beats.list
+  pub held : IsRowOf schema.parameters beats.sets
 
 -- the row of stream k in a beat
 abbrev pub row_in : ℕ → Beat → Option (List ℕ)
@@ -65,22 +71,25 @@ times_of k beats = times_from 0 k beats
 abbrev pub places_of : ℕ → List Beat → List ℕ
 places_of k beats = filter_map (λ b. option_map (λ row. b.cycle) (row_in k b)) beats
 
--- what comes in to a query: the rows of each stream, by the streams' numbers, with their places and times, and how many
--- ticks
+-- what comes in to a query: the rows of each stream, by the streams' numbers, with their places and times, how many
+-- ticks, and the words of the parameters
 pub record Inputs : Type 0 where
   pub rows : ℕ → List (List ℕ)
   pub places : ℕ → List ℕ
   pub times : ℕ → List ℕ
   pub ticks : ℕ
+  pub sets : List ℕ
 
 -- the inputs that beats bring
-abbrev pub inputs_of : List Beat → Inputs
-inputs_of beats = record {
-  rows = λ k. input_of k beats;
-  places = λ k. places_of k beats;
-  times = λ k. times_of k beats;
-  ticks = ticks_of beats;
-}
+abbrev pub inputs_of : Beats → Inputs
+inputs_of beats =
+    record {
+      rows = λ k. input_of k beats.list;
+      places = λ k. places_of k beats.list;
+      times = λ k. times_of k beats.list;
+      ticks = ticks_of beats.list;
+      sets = beats.sets;
+    }
 
 -- no time, and no place, is above a later one
 abbrev pub NeverFall : List ℕ → Type 0
@@ -98,17 +107,25 @@ pub record HavePlaces (inputs : Inputs) : Type 0 where
   pub each : (k : ℕ) → length (inputs.places k) ≡ length (inputs.rows k)
   pub order : (k : ℕ) → NeverFall (inputs.places k)
 
+-- the cycle of the last beat of a list
+abbrev pub last_in : List Beat → ℕ
+last_in [] = 0
+last_in (b ∷ []) = b.cycle
+last_in (b ∷ c ∷ bs) = last_in (c ∷ bs)
+
 -- the cycle of the last beat
-abbrev pub last_cycle : List Beat → ℕ
-last_cycle [] = 0
-last_cycle (b ∷ []) = b.cycle
-last_cycle (b ∷ c ∷ bs) = last_cycle (c ∷ bs)
+abbrev pub last_cycle : Beats → ℕ
+last_cycle beats = last_in beats.list
+
+-- each beat of a list is at least gap cycles after the one before
+abbrev pub AreSpaced : ℕ → List Beat → Type 0
+AreSpaced gap [] = Unit {0}
+AreSpaced gap (b ∷ []) = Unit {0}
+AreSpaced gap (b ∷ c ∷ bs) = (b.cycle + gap ≤ c.cycle) × AreSpaced gap (c ∷ bs)
 
 -- each beat is at least gap cycles after the one before
-abbrev pub KeepsGap : ℕ → List Beat → Type 0
-KeepsGap gap [] = Unit {0}
-KeepsGap gap (b ∷ []) = Unit {0}
-KeepsGap gap (b ∷ c ∷ bs) = (b.cycle + gap ≤ c.cycle) × KeepsGap gap (c ∷ bs)
+abbrev pub KeepsGap : ℕ → Beats → Type 0
+KeepsGap gap beats = AreSpaced gap beats.list
 
 -- the beat of a cycle
 abbrev pub beat_at : List Beat → ℕ → Option Beat

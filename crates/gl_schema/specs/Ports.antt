@@ -6,7 +6,7 @@ use Rattle.gl_bits.specs.Words.{bit}
 use Rattle.gl_schema.specs.declared.schema.Column.{Column}
 use Rattle.gl_schema.specs.declared.schema.Stream.{Stream}
 use Rattle.gl_schema.specs.declared.schema.Schema.{Schema}
-use Rattle.gl_schema.specs.Beats.{Beat, rows_at, ends_at, ticks_at}
+use Rattle.gl_schema.specs.Beats.{Beats, rows_at, ends_at, ticks_at}
 
 -- the input port of the reset
 unfoldable pub rst : List ℕ
@@ -27,6 +27,10 @@ in_valid stream = codes "in__" ++ stream ++ codes "__valid"
 -- the input port of a column of a stream
 unfoldable pub in_column : List ℕ → List ℕ → List ℕ
 in_column stream column = codes "in__" ++ stream ++ codes "__" ++ column
+
+-- the input port of a parameter
+unfoldable pub in_parameter : List ℕ → List ℕ
+in_parameter name = codes "set__" ++ name
 
 -- the output port that says whether a row of the result leaves
 unfoldable pub out_valid : List ℕ
@@ -73,13 +77,21 @@ streams_pins [] rows = []
 streams_pins (s ∷ ss) [] = stream_pins s None ++ streams_pins ss []
 streams_pins (s ∷ ss) (r ∷ rs) = stream_pins s r ++ streams_pins ss rs
 
--- all input ports but the clock, with their values in a simulation cycle: in reset rst alone is 1
-abbrev pub pins : Schema → List Beat → ℕ → List Pin
-pins schema beats zero = pin rst 1 ∷ (streams_pins schema.streams [] ++ pin eos 0 ∷ pin tick 0 ∷ [])
+-- the parameters with their words, 0 on each that has no word
+abbrev pub parameter_pins : List Column → List ℕ → List Pin
+parameter_pins [] sets = []
+parameter_pins (p ∷ ps) [] = pin (in_parameter p.name) 0 ∷ parameter_pins ps []
+parameter_pins (p ∷ ps) (n ∷ ns) = pin (in_parameter p.name) n ∷ parameter_pins ps ns
+
+-- all input ports but the clock, with their values in a simulation cycle: in reset rst is 1 and nothing comes, and the
+-- parameters have their words in every cycle
+abbrev pub pins : Schema → Beats → ℕ → List Pin
+pins schema beats zero =
+    pin rst 1 ∷ (streams_pins schema.streams [] ++ pin eos 0 ∷ pin tick 0 ∷ parameter_pins schema.parameters beats.sets)
 pins schema beats (suc n) =
-    pin rst 0 ∷ (streams_pins schema.streams (rows_at beats n) ++ pin eos (bit (ends_at beats n)) ∷ pin tick
-    (bit (ticks_at beats n))
-    ∷ [])
+    pin rst 0 ∷ (streams_pins schema.streams (rows_at beats.list n) ++ pin eos (bit (ends_at beats.list n)) ∷ pin tick
+    (bit (ticks_at beats.list n))
+    ∷ parameter_pins schema.parameters beats.sets)
 
 -- the names of ports with values, in their order
 abbrev pub pin_names : List Pin → List (List ℕ)
@@ -90,5 +102,5 @@ abbrev pub PortValues : Type 0
 PortValues = ℕ → List ℕ → Option ℕ
 
 -- in every cycle each of these ports that the module has carries its value
-pub record IsStimulus (schema : Schema) (beats : List Beat) (port : PortValues) : Type 0 where
+pub record IsStimulus (schema : Schema) (beats : Beats) (port : PortValues) : Type 0 where
   pub carries : (t : ℕ) → AllByRecursion (λ p. IfSome (port t p.name) (λ v. v ≡ p.value)) (pins schema beats t)

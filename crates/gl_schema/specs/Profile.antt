@@ -4,7 +4,7 @@ use Rattle.gl_values.specs.Kinds.{width_of}
 use Rattle.gl_schema.specs.declared.schema.Column.{Column}
 use Rattle.gl_schema.specs.declared.schema.Stream.{Stream}
 use Rattle.gl_schema.specs.declared.schema.Schema.{Schema}
-use Rattle.gl_schema.specs.Ports.{rst, eos, tick, in_valid, in_column, out_valid, out_column, out_eos, fault_group, fault_queue, Pin}
+use Rattle.gl_schema.specs.Ports.{rst, eos, tick, in_valid, in_column, in_parameter, out_valid, out_column, out_eos, fault_group, fault_queue, Pin}
 
 -- the name of the clock
 unfoldable pub clk : List ℕ
@@ -48,9 +48,18 @@ abbrev pub tick_input : Bool → List ProfilePort
 tick_input true = input tick 1 ∷ []
 tick_input false = []
 
--- all inputs of a schema: reset, those of the streams, the end, and the tick where it is asked for
+-- the input ports of parameters, in the order of the schema
+abbrev pub parameter_inputs : List Column → List ProfilePort
+parameter_inputs [] = []
+parameter_inputs (p ∷ ps) = input (in_parameter p.name) (width_of p.kind) ∷ parameter_inputs ps
+
+-- the inputs behind those of the streams: the end, the tick where it is asked for, and the parameters
+abbrev pub last_inputs : Bool → Schema → List ProfilePort
+last_inputs ticks schema = input eos 1 ∷ (tick_input ticks ++ parameter_inputs schema.parameters)
+
+-- all inputs of a schema: reset, those of the streams, the end, the tick where it is asked for, and the parameters
 abbrev pub input_ports : Bool → Schema → List ProfilePort
-input_ports ticks schema = input rst 1 ∷ (streams_inputs schema.streams ++ input eos 1 ∷ tick_input ticks)
+input_ports ticks schema = input rst 1 ∷ (streams_inputs schema.streams ++ last_inputs ticks schema)
 
 -- an output for each column of a result
 abbrev pub column_outputs : List Column → List ProfilePort

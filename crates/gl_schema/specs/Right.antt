@@ -1,7 +1,7 @@
 -- A run is right: its rows are a result of what came in, and it ends in time.
 use Rattle.std.specs.Prelude.{◌≡◌, ℕ, ◌+◌, ◌<◌, ◌≤◌, Bool, List, [], ◌∷◌, Option, Some, None, IsSome, IsTrue, IsFalse, filter_map, if◌then◌else◌}
 use Rattle.std.specs.List.{AllByRecursion}
-use Rattle.gl_schema.specs.Beats.{Beat, Inputs, last_cycle, inputs_of}
+use Rattle.gl_schema.specs.Beats.{Beats, Inputs, last_cycle, inputs_of}
 use Rattle.gl_schema.specs.Ports.{PortValues}
 use Rattle.gl_schema.specs.Seen.{Shown, shown, seen, rows_of}
 
@@ -15,7 +15,7 @@ IsTold test inputs rows spill = IsTrue (test inputs rows spill)
 
 -- in file cycles: the end is seen once, in the latency after the last beat, no row is later, no queue overflows, and
 -- the rows with the group line at the end are a result of what the beats bring
-pub record IsRight (means : Meaning) (latency : ℕ) (beats : List Beat) (outs : List (List ℕ)) (port : PortValues)
+pub record IsRight (means : Meaning) (latency : ℕ) (beats : Beats) (outs : List (List ℕ)) (port : PortValues)
     : Type 0 where
   pub ended : ℕ
   pub soonest : last_cycle beats ≤ ended
@@ -31,7 +31,7 @@ abbrev pub end_in : Shown → Option ℕ
 end_in s = if s.end then Some s.cycle else None
 
 -- the same, told of the file cycles 0 to n: the end is seen in one of them, and so on
-pub record IsRightTo (means : Meaning) (latency : ℕ) (beats : List Beat) (outs : List (List ℕ)) (port : PortValues)
+pub record IsRightTo (means : Meaning) (latency : ℕ) (beats : Beats) (outs : List (List ℕ)) (port : PortValues)
     (n : ℕ) : Type 0 where
   pub ended : ℕ
   pub soonest : last_cycle beats ≤ ended

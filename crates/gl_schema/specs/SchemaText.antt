@@ -1,5 +1,5 @@
--- The text of a schema: `stream name ( name kind , .. ) ;`, once or more.
-use Rattle.std.specs.Prelude.{◌≡◌, ℕ, ◌+◌, ◌/◌, ◌∷◌, Bool, ◌&&◌, ◌||◌, List, [], ◌++◌, map, codes, decimal, find, nat_le, unwrap_or, ◌==◌, if◌then◌else◌}
+-- The text of a schema: `stream name ( name kind , .. ) ;`, once or more, and `parameter name kind ;` between them.
+use Rattle.std.specs.Prelude.{◌≡◌, ℕ, ◌+◌, ◌/◌, ◌∷◌, Bool, ◌&&◌, ◌||◌, List, [], ◌++◌, map, filter_map, Option, Some, None, codes, decimal, find, nat_le, unwrap_or, ◌==◌, if◌then◌else◌}
 use Rattle.std.specs.List.{flat_map}
 use Rattle.gl_values.specs.declared.kind.Kind.{Kind}
 use Rattle.gl_values.specs.Kinds.{width_of}
@@ -125,11 +125,41 @@ spell_columns (c ∷ d ∷ cs) = spell_column c ++ (Sign 44 ∷ spell_columns (d
 abbrev pub spell_stream : Stream → List Mark
 spell_stream s = Word (codes "stream") ∷ Word s.name ∷ Sign 40 ∷ (spell_columns s.columns ++ Sign 41 ∷ Sign 59 ∷ [])
 
--- the marks that spell a schema, stream by stream
-abbrev pub spell : Schema → List Mark
-spell schema = flat_map spell_stream schema.streams
+-- `parameter name kind ;`
+abbrev pub spell_parameter : Column → List Mark
+spell_parameter p = Word (codes "parameter") ∷ (spell_column p ++ Sign 59 ∷ [])
 
--- the text has this schema: its tokens spell it
+-- what a text declares: a stream, or a parameter
+pub data Declaration : Type 0 where
+  OfStream : (stream : Stream) → Declaration
+  OfParameter : (parameter : Column) → Declaration
+
+-- the stream that is declared, if it is one
+abbrev pub stream_in : Declaration → Option Stream
+stream_in (OfStream s) = Some s
+stream_in (OfParameter p) = None
+
+-- the parameter that is declared, if it is one
+abbrev pub parameter_in : Declaration → Option Column
+parameter_in (OfStream s) = None
+parameter_in (OfParameter p) = Some p
+
+-- the marks that spell a declaration
+abbrev pub spell_declaration : Declaration → List Mark
+spell_declaration (OfStream s) = spell_stream s
+spell_declaration (OfParameter p) = spell_parameter p
+
+-- the marks that spell declarations, one behind another
+abbrev pub spell : List Declaration → List Mark
+spell all = flat_map spell_declaration all
+
+-- the schema of declarations: their streams and their parameters, each in their order
+abbrev pub schema_in : List Declaration → Schema
+schema_in all = record { streams = filter_map stream_in all; parameters = filter_map parameter_in all }
+
+-- the text has this schema: its tokens spell declarations, streams and parameters in any order, that are the schema's
 pub record IsSchemaText (text : List ℕ) (schema : Schema) : Type 0 where
   pub schema' : IsSchema schema
-  pub spelled : map (λ t. t.mark) (tokens_of text) ≡ spell schema
+  pub all : List Declaration
+  pub same : schema_in all ≡ schema
+  pub spelled : map (λ t. t.mark) (tokens_of text) ≡ spell all

@@ -1,4 +1,4 @@
--- Schemas: streams of named columns, and the rows of a stream.
+-- Schemas: streams of named columns, parameters, and the rows of a stream.
 use Rattle.std.specs.Prelude.{ℕ, ◌+◌, ◌*◌, ◌^◌, ◌<◌, ◌≤◌, ◌-◌, Bool, List, [], ◌∷◌, ◌++◌, length, map, replicate, bytes_eq, IsTrue}
 use Rattle.std.specs.List.{AllByRecursion, IsDistinct, fold, list_any}
 use Rattle.gl_bits.specs.Limits.{most_columns, most_streams}
@@ -30,7 +30,7 @@ has_stream streams name = list_any (λ s. bytes_eq name s.name) streams
 abbrev pub kinds_of : List Column → List Kind
 kinds_of columns = map (λ c. c.kind) columns
 
--- a column has a name and a kind that is written
+-- a column, or a parameter, has a name and a kind that is written
 pub record IsColumn (c : Column) : Type 0 where
   pub name : IsName c.name
   pub kind : IsTrue (is_written c.kind)
@@ -43,14 +43,21 @@ pub record IsStream (s : Stream) : Type 0 where
   pub columns : AllByRecursion IsColumn s.columns
   pub distinct : IsDistinct bytes_eq (column_names s.columns)
 
--- a schema has 1 to 8 streams, no two of one name
+-- parameters are at most 32, each with a name and a kind, no two of one name
+pub record AreParameters (parameters : List Column) : Type 0 where
+  pub most : length parameters ≤ most_columns
+  pub each : AllByRecursion IsColumn parameters
+  pub distinct : IsDistinct bytes_eq (column_names parameters)
+
+-- a schema has 1 to 8 streams, no two of one name, and parameters
 pub record IsSchema (schema : Schema) : Type 0 where
   pub some' : 1 ≤ length schema.streams
   pub most : length schema.streams ≤ most_streams
   pub streams : AllByRecursion IsStream schema.streams
   pub distinct : IsDistinct bytes_eq (stream_names schema.streams)
+  pub declared : AreParameters schema.parameters
 
--- the numbers of a row's words, one for each column, each as wide as its column
+-- the numbers of a row's words, one for each column, or parameter, each as wide as that
 abbrev pub IsRowOf : List Column → List ℕ → Type 0
 IsRowOf [] [] = Unit {0}
 IsRowOf [] (n ∷ ns) = ⊥

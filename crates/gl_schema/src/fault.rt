@@ -18,10 +18,10 @@ pub enum SchemaFault {
     /// A word in a kind's place that is no kind.
     #[error("no kind at {at}")]
     BadKind { at: u64 },
-    /// A name that its stream, or the schema, has already.
+    /// A name that another column of its stream, another stream or another parameter has.
     #[error("a name that is taken at {at}")]
     Twice { at: u64 },
-    /// The 33rd column of a stream, or the ninth stream.
+    /// The 33rd column of a stream, the ninth stream, or the 33rd parameter.
     #[error("too many at {at}")]
     TooMany { at: u64 },
     /// There is no memory left.

@@ -17,8 +17,8 @@ use std::alloc::Global;
 /// What may come next.
 #[derive(Drop, Debug)]
 pub enum Place {
-    /// `stream`, or the end of the text.
-    Stream,
+    /// `stream`, `parameter`, or the end of the text.
+    Declaration,
     /// The name of a stream.
     Name,
     /// The bracket behind the name of a stream.
@@ -31,13 +31,19 @@ pub enum Place {
     Comma(Stream),
     /// The semicolon behind a stream.
     Close(Stream),
+    /// The name of a parameter.
+    Parameter,
+    /// The kind of the parameter of this name.
+    ParameterKind(NameText),
+    /// The semicolon behind a parameter.
+    ParameterClose(Column),
 }
 
-/// The streams so far, and what may come next.
+/// The streams and parameters so far, and what may come next.
 #[derive(Drop, Debug)]
 pub struct Reading {
-    /// The streams that are read whole.
-    pub streams: Streams,
+    /// The streams and parameters that are read whole.
+    pub schema: Schema,
     /// What may come next.
     pub place: Place,
 }
@@ -48,8 +54,11 @@ impl Reading {
         ensures { result ≡ spec.start }
     {
         Reading {
-            streams: Streams::new(alloc),
-            place: Place::Stream,
+            schema: Schema {
+                streams: Streams::new(alloc),
+                parameters: Columns::new(alloc),
+            },
+            place: Place::Declaration,
         }
     }
 
@@ -57,15 +66,17 @@ impl Reading {
     pub fn word(self, alloc: Global, at: u64, word: &[u8]) -> Result<Reading, SchemaFault>
         ensures { Gives result (spec.mark_at (Word word.now) self at) }
     {
-        let Reading { streams, place } = self;
+        let Reading { schema, place } = self;
         match place {
-            Place::Stream => begin_stream(streams, at, word),
-            Place::Name => name_stream(alloc, streams, at, word),
-            Place::Column(stream) => name_column(alloc, streams, stream, at, word),
-            Place::Kind(stream, name) => end_column(streams, stream, name, at, word),
-            Place::Opening(_) | Place::Comma(_) | Place::Close(_) => Err(SchemaFault::Syntax {
-                at,
-            }),
+            Place::Declaration => begin(schema, at, word),
+            Place::Name => name_stream(alloc, schema, at, word),
+            Place::Column(stream) => name_column(alloc, schema, stream, at, word),
+            Place::Kind(stream, name) => end_column(schema, stream, name, at, word),
+            Place::Parameter => name_parameter(alloc, schema, at, word),
+            Place::ParameterKind(name) => end_parameter(schema, name, at, word),
+            Place::Opening(_) | Place::Comma(_) | Place::Close(_) | Place::ParameterClose(_) => {
+                Err(SchemaFault::Syntax { at })
+            }
         }
     }
 
@@ -73,7 +84,7 @@ impl Reading {
     pub fn sign(self, alloc: Global, at: u64, sign: u8) -> Result<Reading, SchemaFault>
         ensures { Gives result (spec.mark_at (Sign sign) self at) }
     {
-        let Reading { mut streams, place } = self;
+        let Reading { mut schema, place } = self;
         let place = match (place, sign) {
             (Place::Opening(name), b'(') => Place::Column(Stream {
                 name,
@@ -82,73 +93,95 @@ impl Reading {
             (Place::Comma(stream), b',') => Place::Column(stream),
             (Place::Comma(stream), b')') => Place::Close(stream),
             (Place::Close(stream), b';') => {
-                streams.push(stream)?;
-                Place::Stream
+                schema.streams.push(stream)?;
+                Place::Declaration
+            }
+            (Place::ParameterClose(parameter), b';') => {
+                schema.parameters.push(parameter)?;
+                Place::Declaration
             }
             _ => return Err(SchemaFault::Syntax { at }),
         };
-        Ok(Reading { streams, place })
+        Ok(Reading { schema, place })
     }
 
     /// The schema at the end of a text of this length.
     pub fn end(self, len: u64) -> Result<Schema, SchemaFault>
-        ensures { Gives result (spec.end_at self.place self.streams len) }
+        ensures { Gives result (spec.end_at self.place self.schema len) }
     {
-        let Reading { streams, place } = self;
+        let Reading { schema, place } = self;
         match place {
-            Place::Stream if streams.len() > 0 => Ok(Schema { streams }),
+            Place::Declaration if schema.streams.len() > 0 => Ok(schema),
             _ => Err(SchemaFault::Syntax { at: len }),
         }
     }
 }
 
-fn begin_stream(streams: Streams, at: u64, word: &[u8]) -> Result<Reading, SchemaFault>
-    ensures { Gives result (spec.stream_next (record { streams = streams; place = Place.Stream }) at
-        word.now) }
+fn begin(schema: Schema, at: u64, word: &[u8]) -> Result<Reading, SchemaFault>
+    ensures { Gives result (spec.declaration_next
+        (record { schema = schema; place = Place.Declaration }) at word.now) }
 {
-    if word != b"stream".as_slice() {
-        return Err(SchemaFault::Syntax { at });
+    if word == b"stream".as_slice() {
+        return begin_stream(schema, at);
     }
-    if streams.len() >= MOST_STREAMS {
+    if word == b"parameter".as_slice() {
+        return begin_parameter(schema, at);
+    }
+    Err(SchemaFault::Syntax { at })
+}
+
+fn begin_stream(schema: Schema, at: u64) -> Result<Reading, SchemaFault>
+    ensures { Gives result
+        (spec.stream_next (record { schema = schema; place = Place.Declaration }) at) }
+{
+    if schema.streams.len() >= MOST_STREAMS {
         return Err(SchemaFault::TooMany { at });
     }
     Ok(Reading {
-        streams,
+        schema,
         place: Place::Name,
     })
 }
 
-fn name_stream(
-    alloc: Global,
-    streams: Streams,
-    at: u64,
-    word: &[u8],
-) -> Result<Reading, SchemaFault>
-    ensures { Gives result (spec.name_next (record { streams = streams; place = Place.Name }) at
+fn begin_parameter(schema: Schema, at: u64) -> Result<Reading, SchemaFault>
+    ensures { Gives result
+        (spec.parameter_next (record { schema = schema; place = Place.Declaration }) at) }
+{
+    if schema.parameters.len() >= MOST_COLUMNS {
+        return Err(SchemaFault::TooMany { at });
+    }
+    Ok(Reading {
+        schema,
+        place: Place::Parameter,
+    })
+}
+
+fn name_stream(alloc: Global, schema: Schema, at: u64, word: &[u8]) -> Result<Reading, SchemaFault>
+    ensures { Gives result (spec.name_next (record { schema = schema; place = Place.Name }) at
         word.now) }
 {
     if !is_name(word) {
         return Err(SchemaFault::BadName { at });
     }
-    if has_stream(streams.as_slice(), word) {
+    if has_stream(schema.streams.as_slice(), word) {
         return Err(SchemaFault::Twice { at });
     }
     let name = NameText::from_vec(Vec::from_slice(alloc, word)?);
     Ok(Reading {
-        streams,
+        schema,
         place: Place::Opening(name),
     })
 }
 
 fn name_column(
     alloc: Global,
-    streams: Streams,
+    schema: Schema,
     stream: Stream,
     at: u64,
     word: &[u8],
 ) -> Result<Reading, SchemaFault>
     ensures { Gives result (spec.column_next
-        (record { streams = streams; place = Place.Column stream }) stream at word.now) }
+        (record { schema = schema; place = Place.Column stream }) stream at word.now) }
 {
     if !is_name(word) {
         return Err(SchemaFault::BadName { at });
@@ -161,20 +194,20 @@ fn name_column(
     }
     let name = NameText::from_vec(Vec::from_slice(alloc, word)?);
     Ok(Reading {
-        streams,
+        schema,
         place: Place::Kind(stream, name),
     })
 }
 
 fn end_column(
-    streams: Streams,
+    schema: Schema,
     mut stream: Stream,
     name: NameText,
     at: u64,
     word: &[u8],
 ) -> Result<Reading, SchemaFault>
     ensures { Gives result (spec.kind_next
-        (record { streams = streams; place = Place.Kind stream name }) stream name at
+        (record { schema = schema; place = Place.Kind stream name }) stream name at
         (spec.kind_named word.now)) }
 {
     let Some(kind) = kind_named(word) else {
@@ -182,8 +215,49 @@ fn end_column(
     };
     stream.columns.push(Column { name, kind })?;
     Ok(Reading {
-        streams,
+        schema,
         place: Place::Comma(stream),
+    })
+}
+
+fn name_parameter(
+    alloc: Global,
+    schema: Schema,
+    at: u64,
+    word: &[u8],
+) -> Result<Reading, SchemaFault>
+    ensures { Gives result (spec.parameter_named
+        (record { schema = schema; place = Place.Parameter }) at word.now) }
+{
+    if !is_name(word) {
+        return Err(SchemaFault::BadName { at });
+    }
+    if has_column(schema.parameters.as_slice(), word) {
+        return Err(SchemaFault::Twice { at });
+    }
+    let name = NameText::from_vec(Vec::from_slice(alloc, word)?);
+    Ok(Reading {
+        schema,
+        place: Place::ParameterKind(name),
+    })
+}
+
+fn end_parameter(
+    schema: Schema,
+    name: NameText,
+    at: u64,
+    word: &[u8],
+) -> Result<Reading, SchemaFault>
+    ensures { Gives result (spec.parameter_kind
+        (record { schema = schema; place = Place.ParameterKind name }) name at
+        (spec.kind_named word.now)) }
+{
+    let Some(kind) = kind_named(word) else {
+        return Err(SchemaFault::BadKind { at });
+    };
+    Ok(Reading {
+        schema,
+        place: Place::ParameterClose(Column { name, kind }),
     })
 }
 

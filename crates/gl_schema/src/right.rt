@@ -10,7 +10,7 @@ ghost use Rattle.gl_schema.specs.Right.{IsTold, IsRight, IsRightTo};
 /// the two only this direction is needed: who sees the cycles up to one of those sees a result.
 pub fn right_at_each_cycle()
     ensures { (test : beats.Inputs → List (List ℕ) → Bool → Bool) (latency : ℕ)
-        (all : List beats.Beat) (outs : List (List ℕ)) (port : PortValues) (n : ℕ)
+        (all : beats.Beats) (outs : List (List ℕ)) (port : PortValues) (n : ℕ)
         → beats.last_cycle all + latency ≤ n
         → IsRight (IsTold test) latency all outs port
         → IsRightTo (IsTold test) latency all outs port n }

@@ -13,8 +13,9 @@ use crate::reading::Reading;
 use crate::schema::Schema;
 use std::alloc::Global;
 
-/// The schema of a text: `stream name ( name kind , .. ) ;`, once or more, with comments from `--`
-/// to the end of a line. The fault is the first one from the left.
+/// The schema of a text: `stream name ( name kind , .. ) ;`, once or more, and
+/// `parameter name kind ;` between them, with comments from `--` to the end of a line. The fault is
+/// the first one from the left.
 pub fn read_schema(alloc: Global, text: &[u8]) -> Result<Schema, SchemaFault>
     // What is read is the schema of the text.
     ensures found { IfOk result (IsSchemaText text.now) }

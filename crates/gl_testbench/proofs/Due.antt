@@ -2,8 +2,8 @@
 use Rattle.std.proofs.Common.{◌≡◌, ℕ, zero, suc, ◌+◌, ◌-◌, ◌<◌, ◌≤◌, inl, inr, List, [], ◌∷◌, drop, length, Option, Some, None, refl, sym, ap, ◌∙◌, subst, arith}
 use Rattle.std.specs.Prelude.{slice_get}
 use Rattle.std.proofs.lemmas.Bool.Decides.{eqb_tells}
-use Rattle.gl_schema.specs.Beats.{Beat, AreInOrder, beat_at, last_cycle}
-use Rattle.gl_tuples.specs.Gaps.{plain_beat, plain_beats}
+use Rattle.gl_schema.specs.Beats.{Beat, AreInOrder, beat_at, last_in}
+use Rattle.gl_tuples.specs.Gaps.{plain_beat, plain_list}
 use Rattle.gl_tuples.specs.declared.beats.Beat.{Beat as Rust}
 use Rattle.gl_bits.proofs.AllLists.{get_mapped}
 use Rattle.gl_sim.proofs.Settling.{drop_here}
@@ -49,24 +49,24 @@ due_later bs next n b d e c =
       due = record { same = λ k le. d.same k (omega (arith, le)); later = subst (AreFrom (n + 1)) (sym rest) beyond };
     }
 
-plain_at : (beats : List Rust) (next : ℕ) (b : Rust) → Some b ≡ slice_get beats next → slice_get (plain_beats beats) next ≡ Some (plain_beat b)
+plain_at : (beats : List Rust) (next : ℕ) (b : Rust) → Some b ≡ slice_get beats next → slice_get (plain_list beats) next ≡ Some (plain_beat b)
 plain_at beats next b e = get_mapped plain_beat beats next b (sym e)
 
-pub taken_here : (beats : List Rust) (next n : ℕ) (b : Rust) → AreDue (plain_beats beats) next n → Some b ≡ slice_get beats next → b.cycle ≡ n → AfterBeat (plain_beats beats) (next + 1) n (Some (plain_beat b))
-taken_here beats next n b d e c = due_here (plain_beats beats) next n (plain_beat b) d (plain_at beats next b e) c
+pub taken_here : (beats : List Rust) (next n : ℕ) (b : Rust) → AreDue (plain_list beats) next n → Some b ≡ slice_get beats next → b.cycle ≡ n → AfterBeat (plain_list beats) (next + 1) n (Some (plain_beat b))
+taken_here beats next n b d e c = due_here (plain_list beats) next n (plain_beat b) d (plain_at beats next b e) c
 
-pub taken_later : (beats : List Rust) (next n : ℕ) (b : Rust) → AreDue (plain_beats beats) next n → Some b ≡ slice_get beats next → (b.cycle ≡ n → ⊥) → AfterBeat (plain_beats beats) next n None
-taken_later beats next n b d e c = due_later (plain_beats beats) next n (plain_beat b) d (plain_at beats next b e) c
+pub taken_later : (beats : List Rust) (next n : ℕ) (b : Rust) → AreDue (plain_list beats) next n → Some b ≡ slice_get beats next → (b.cycle ≡ n → ⊥) → AfterBeat (plain_list beats) next n None
+taken_later beats next n b d e c = due_later (plain_list beats) next n (plain_beat b) d (plain_at beats next b e) c
 
-none_left : (beats : List Rust) (next : ℕ) → None ≡ slice_get beats next → drop next (plain_beats beats) ≡ []
+none_left : (beats : List Rust) (next : ℕ) → None ≡ slice_get beats next → drop next (plain_list beats) ≡ []
 none_left [] zero e = refl
 none_left [] (suc next) e = refl
 none_left (b ∷ beats) zero e = absurd cc
 none_left (b ∷ beats) (suc next) e = none_left beats next e
 
-pub taken_none : (beats : List Rust) (next n : ℕ) → AreDue (plain_beats beats) next n → None ≡ slice_get beats next → AfterBeat (plain_beats beats) next n None
+pub taken_none : (beats : List Rust) (next n : ℕ) → AreDue (plain_list beats) next n → None ≡ slice_get beats next → AfterBeat (plain_list beats) next n None
 taken_none beats next n d e =
-    let none : drop next (plain_beats beats) ≡ [] = none_left beats next e in
+    let none : drop next (plain_list beats) ≡ [] = none_left beats next e in
     record {
       beat = sym (d.same n (omega arith) ∙ ap (λ (bs : List Beat). beat_at bs n) none);
       due = record { same = λ k le. d.same k (omega (arith, le)); later = subst (AreFrom (n + 1)) (sym none) tt };
@@ -85,7 +85,7 @@ due_first bs h = record { same = λ k le. refl; later = from_first bs h }
 
 -- ---- the last beat
 
-last_at : (bs : List Rust) (k : ℕ) (b : Rust) → suc k ≡ length bs → slice_get bs k ≡ Some b → last_cycle (plain_beats bs) ≡ b.cycle
+last_at : (bs : List Rust) (k : ℕ) (b : Rust) → suc k ≡ length bs → slice_get bs k ≡ Some b → last_in (plain_list bs) ≡ b.cycle
 last_at [] k b e same = absurd cc
 last_at (x ∷ []) zero b e same = let here : x ≡ b = cc in ap (λ (y : Rust). y.cycle) here
 last_at (x ∷ []) (suc k) b e same = absurd cc
@@ -97,10 +97,10 @@ in_list [] k e = omega arith
 in_list (x ∷ bs) zero e = absurd cc
 in_list (x ∷ bs) (suc k) e = let h : length bs ≤ k = in_list bs k e in omega arith
 
-pub last_some : (bs : List Rust) (b : Rust) → Some b ≡ slice_get bs (length bs - 1) → b.cycle ≡ last_cycle (plain_beats bs)
+pub last_some : (bs : List Rust) (b : Rust) → Some b ≡ slice_get bs (length bs - 1) → b.cycle ≡ last_in (plain_list bs)
 last_some [] b e = absurd cc
 last_some (x ∷ bs) b e = let same : length (x ∷ bs) - 1 ≡ length bs = omega arith in sym (last_at (x ∷ bs) (length bs) b (omega arith) (sym (rw same at e)))
 
-pub last_none : (bs : List Rust) → None ≡ slice_get bs (length bs - 1) → 0 ≡ last_cycle (plain_beats bs)
+pub last_none : (bs : List Rust) → None ≡ slice_get bs (length bs - 1) → 0 ≡ last_in (plain_list bs)
 last_none [] e = refl
 last_none (x ∷ bs) e = absurd (omega (arith, in_list (x ∷ bs) (length (x ∷ bs) - 1) e))

@@ -4,7 +4,7 @@ use Rattle.std.specs.Prelude.{slice_get, IfSome, if◌then◌else◌}
 use Rattle.std.specs.Option.{option_and_then, option_map, option_map_or}
 use Rattle.std.specs.List.{AllByRecursion, AllZip}
 use Rattle.gl_schema.specs.declared.schema.Schema.{Schema}
-use Rattle.gl_schema.specs.Beats.{Beat, AreBeats, beat_at, rows_at, ends_at, ticks_at}
+use Rattle.gl_schema.specs.Beats.{Beats, AreBeats, beat_at, rows_at, ends_at, ticks_at}
 use Rattle.gl_schema.specs.Ports.{Pin, pins, IsStimulus}
 use Rattle.gl_verilog.specs.Module.{Module, Declaration, Input, Nets, number_of}
 use Rattle.gl_verilog.specs.Run.{input_values, input_number, is_input_at}
@@ -30,14 +30,14 @@ zip_maps R f g [] h = tt
 zip_maps R f g (n ∷ ns) h = (h.0, zip_maps R f g ns h.1)
 
 -- what a pin carries in a cycle
-abbrev pub carried_at : List Beat → ℕ → Carried → ℕ
-carried_at beats zero p = at_reset p
-carried_at beats (suc n) p = with_beat (beat_at beats n) p
+abbrev pub carried_at : Beats → ℕ → Carried → ℕ
+carried_at beats zero p = at_reset beats.sets p
+carried_at beats (suc n) p = with_beat beats.sets (beat_at beats.list n) p
 
 -- a fact of all of the schema's ports holds of what an input port carries
-pub found_at : (R : Fact) (schema : Schema) (beats : List Beat) (t : ℕ) (name : List ℕ) (w : ℕ) → AllZip (OfBoth R) (input_ports true schema) (pins schema beats t) → input_width schema name ≡ Some w → R w name (carried_at beats t (pin_named schema name))
-found_at R schema beats zero name w z e = found R schema name 1 [] false false w z e
-found_at R schema beats (suc n) name w z e = found R schema name 0 (rows_at beats n) (ends_at beats n) (ticks_at beats n) w z e
+pub found_at : (R : Fact) (schema : Schema) (beats : Beats) (t : ℕ) (name : List ℕ) (w : ℕ) → AllZip (OfBoth R) (input_ports true schema) (pins schema beats t) → input_width schema name ≡ Some w → R w name (carried_at beats t (pin_named schema name))
+found_at R schema beats zero name w z e = found R schema name 1 [] false false beats.sets w z e
+found_at R schema beats (suc n) name w z e = found R schema name 0 (rows_at beats.list n) (ends_at beats.list n) (ticks_at beats.list n) beats.sets w z e
 
 -- the input port of a name
 pub input_there : (m : Module) (n : ℕ) (d : Declaration) → slice_get m.declarations n ≡ Some d → d.kind ≡ Input → number_of (ports_of m) d.name ≡ Some n → input_number m d.name ≡ Some n
@@ -73,7 +73,7 @@ pin_is : (schema : Schema) (m : Module) (n : ℕ) (d : Declaration) → slice_ge
 pin_is schema m n d e = ap (λ (o : Option Declaration). pin_named schema (option_map_or (λ (x : Declaration). x.name) o [])) e
 
 -- they fit
-pub inputs_fit : (schema : Schema) (m : Module) (beats : List Beat) (t : ℕ) → IsValid m → HasInputPorts m → AreAsked m schema → AreBeats schema beats → FitInputs m (map (carried_at beats t) (map (pin_at schema m.declarations) (inputs_of m)))
+pub inputs_fit : (schema : Schema) (m : Module) (beats : Beats) (t : ℕ) → IsValid m → HasInputPorts m → AreAsked m schema → AreBeats schema beats → FitInputs m (map (carried_at beats t) (map (pin_at schema m.declarations) (inputs_of m)))
 inputs_fit schema m beats t valid among asked are =
     zip_maps (λ n x. x < 2 ^ width_at m.declarations n) (pin_at schema m.declarations) (carried_at beats t) (inputs_of m)
     (all_weaker (IsInputPort m.declarations) (λ n. carried_at beats t (pin_at schema m.declarations n) < 2 ^ width_at m.declarations n)
@@ -84,7 +84,7 @@ inputs_fit schema m beats t valid among asked are =
     (inputs_of m) (inputs_of-ports m))
 
 -- in a run over the beats a port carries its value
-pub input_carries : (schema : Schema) (m : Module) (beats : List Beat) (value : ℕ → Nets) (t : ℕ) → IsValid m → HasInputPorts m → AreAsked m schema → AreBeats schema beats → IsStimulus schema beats (input_values m value) → (n : ℕ) → IsInputPort m.declarations n → value t n ≡ carried_at beats t (pin_at schema m.declarations n)
+pub input_carries : (schema : Schema) (m : Module) (beats : Beats) (value : ℕ → Nets) (t : ℕ) → IsValid m → HasInputPorts m → AreAsked m schema → AreBeats schema beats → IsStimulus schema beats (input_values m value) → (n : ℕ) → IsInputPort m.declarations n → value t n ≡ carried_at beats t (pin_at schema m.declarations n)
 input_carries schema m beats value t valid among asked are stimulus n p =
     let a = is_asked schema m n valid among asked p in
     let carries : IfSome (input_values m value t a.d.name) (λ v. v ≡ carried_at beats t (pin_named schema a.d.name)) =
@@ -95,11 +95,11 @@ input_carries schema m beats value t valid among asked are stimulus n p =
     there ∙ sym (ap (carried_at beats t) (pin_is schema m n a.d a.there))
 
 -- and so in the module of a text
-pub port_carries : ((text : List ℕ) (m : Module) → HasModule text m → HasInputPorts m) → (text : List ℕ) (schema : Schema) (m : Module) (beats : List Beat) (value : ℕ → Nets) (t : ℕ) → HasModule text m → AreAsked m schema → AreBeats schema beats → IsStimulus schema beats (input_values m value) → (n : ℕ) → IsInputPort m.declarations n → value t n ≡ carried_at beats t (pin_at schema m.declarations n)
+pub port_carries : ((text : List ℕ) (m : Module) → HasModule text m → HasInputPorts m) → (text : List ℕ) (schema : Schema) (m : Module) (beats : Beats) (value : ℕ → Nets) (t : ℕ) → HasModule text m → AreAsked m schema → AreBeats schema beats → IsStimulus schema beats (input_values m value) → (n : ℕ) → IsInputPort m.declarations n → value t n ≡ carried_at beats t (pin_at schema m.declarations n)
 port_carries inputs_are_ports text schema m beats value t has asked are stimulus n p = input_carries schema m beats value t has.valid (inputs_are_ports text m has) asked are stimulus n p
 
 -- and the inputs have theirs
-pub run_has_inputs : (schema : Schema) (m : Module) (beats : List Beat) (value : ℕ → Nets) (t : ℕ) → IsValid m → HasInputPorts m → AreAsked m schema → AreBeats schema beats → IsStimulus schema beats (input_values m value) → HasInputs m (value t) (map (carried_at beats t) (map (pin_at schema m.declarations) (inputs_of m)))
+pub run_has_inputs : (schema : Schema) (m : Module) (beats : Beats) (value : ℕ → Nets) (t : ℕ) → IsValid m → HasInputPorts m → AreAsked m schema → AreBeats schema beats → IsStimulus schema beats (input_values m value) → HasInputs m (value t) (map (carried_at beats t) (map (pin_at schema m.declarations) (inputs_of m)))
 run_has_inputs schema m beats value t valid among asked are stimulus =
     zip_maps (λ n x. value t n ≡ x) (pin_at schema m.declarations) (carried_at beats t) (inputs_of m)
     (all_weaker (IsInputPort m.declarations) (λ n. value t n ≡ carried_at beats t (pin_at schema m.declarations n))

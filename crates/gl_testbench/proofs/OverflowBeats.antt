@@ -9,10 +9,10 @@ use Rattle.gl_bits.specs.Words.{bit}
 use Rattle.gl_gaps.specs.declared.Gaps.{Gaps}
 use Rattle.gl_schema.specs.declared.schema.Stream.{Stream}
 use Rattle.gl_schema.specs.declared.schema.Schema.{Schema}
-use Rattle.gl_schema.specs.Beats.{Beat, Inputs, IsBeat, AreBeats, AreInOrder, AreRowsOf, KeepsGap, beat_at, inputs_of, input_of, places_of, row_in, ticks_of, times_from}
+use Rattle.gl_schema.specs.Beats.{Beat, Inputs, IsBeat, AreBeats, AreInOrder, AreRowsOf, beat_at, inputs_of, input_of, places_of, row_in, ticks_of, times_from, Beats, AreSpaced}
 use Rattle.gl_gaps.specs.Keeps.{KeepsGaps, KeepsTicks}
 use Rattle.gl_testbench.specs.Dues.{AreFrom}
-use Rattle.gl_testbench.specs.Overflow.{beats_to}
+use Rattle.gl_testbench.specs.Overflow.{beats_to, list_to}
 use Rattle.gl_testbench.proofs.Due.{other_beat, this_beat, none_before, from_first}
 
 -- ---- the end alone
@@ -71,17 +71,17 @@ module _ (c : ℕ) (e : Beat) where
     ])
   ]
 
-  cut_gap : (gap : ℕ) (bs : List Beat) → c + gap ≤ e.cycle → KeepsGap gap bs → KeepsGap gap (cut_at c e bs)
+  cut_gap : (gap : ℕ) (bs : List Beat) → c + gap ≤ e.cycle → AreSpaced gap bs → AreSpaced gap (cut_at c e bs)
   cut_gap gap [] far h = tt
   cut_gap gap (b ∷ []) far h = elim (cases_lt c b.cycle) [
-    | inl lt ↦ subst (KeepsGap gap) (sym (cut_here c e b [] lt)) tt
-    | inr le ↦ subst (KeepsGap gap) (sym (cut_later c e b [] le)) tt
+    | inl lt ↦ subst (AreSpaced gap) (sym (cut_here c e b [] lt)) tt
+    | inr le ↦ subst (AreSpaced gap) (sym (cut_later c e b [] le)) tt
   ]
   cut_gap gap (b ∷ d ∷ bs) far h = elim (cases_lt c b.cycle) [
-    | inl lt ↦ subst (KeepsGap gap) (sym (cut_here c e b (d ∷ bs) lt)) tt
-    | inr le ↦ subst (KeepsGap gap) (sym (cut_later c e b (d ∷ bs) le)) (elim (cases_lt c d.cycle) [
-      | inl lt ↦ subst (λ (xs : List Beat). KeepsGap gap (b ∷ xs)) (sym (cut_here c e d bs lt)) (omega (arith, le, far), tt)
-      | inr le' ↦ subst (λ (xs : List Beat). KeepsGap gap (b ∷ xs)) (sym (cut_later c e d bs le')) (h.0, subst (KeepsGap gap) (cut_later c e d bs le') (cut_gap gap (d ∷ bs) far h.1))
+    | inl lt ↦ subst (AreSpaced gap) (sym (cut_here c e b (d ∷ bs) lt)) tt
+    | inr le ↦ subst (AreSpaced gap) (sym (cut_later c e b (d ∷ bs) le)) (elim (cases_lt c d.cycle) [
+      | inl lt ↦ subst (λ (xs : List Beat). AreSpaced gap (b ∷ xs)) (sym (cut_here c e d bs lt)) (omega (arith, le, far), tt)
+      | inr le' ↦ subst (λ (xs : List Beat). AreSpaced gap (b ∷ xs)) (sym (cut_later c e d bs le')) (h.0, subst (AreSpaced gap) (cut_later c e d bs le') (cut_gap gap (d ∷ bs) far h.1))
     ])
   ]
 
@@ -110,17 +110,17 @@ module _ (c : ℕ) (e : Beat) where
   ]
 
   -- and it brings what they bring by the cycle
-  to_here : (b : Beat) (bs : List Beat) → b.cycle ≤ c → beats_to c (b ∷ bs) ≡ b ∷ beats_to c bs
+  to_here : (b : Beat) (bs : List Beat) → b.cycle ≤ c → list_to c (b ∷ bs) ≡ b ∷ list_to c bs
   to_here b bs le = (elim (leb_tells b.cycle c) [ inl yes' ↦ rw yes'.0 refl | inr no' ↦ absurd (omega (arith, le, no'.1)) ])
 
-  to_none : (bs : List Beat) (n : ℕ) → AreFrom n bs → c < n → beats_to c bs ≡ []
+  to_none : (bs : List Beat) (n : ℕ) → AreFrom n bs → c < n → list_to c bs ≡ []
   to_none [] n h lt = refl
   to_none (b ∷ bs) n h lt = (elim (leb_tells b.cycle c) [
     | inl yes' ↦ absurd (omega (arith, lt, h.0, yes'.1))
     | inr no' ↦ rw no'.0 (to_none bs (b.cycle + 1) h.1 (omega (arith, lt, h.0)))
   ])
 
-  cut_input : (j : ℕ) (bs : List Beat) (k : ℕ) → row_in j e ≡ None → AreFrom k bs → input_of j (cut_at c e bs) ≡ input_of j (beats_to c bs)
+  cut_input : (j : ℕ) (bs : List Beat) (k : ℕ) → row_in j e ≡ None → AreFrom k bs → input_of j (cut_at c e bs) ≡ input_of j (list_to c bs)
   cut_input j [] k none h = refl
   cut_input j (b ∷ bs) k none h = elim (cases_lt c b.cycle) [
     | inl lt ↦
@@ -131,7 +131,7 @@ module _ (c : ℕ) (e : Beat) where
         ∙ sym (ap (input_of j) (to_here b bs le))
   ]
 
-  cut_places : (j : ℕ) (bs : List Beat) (k : ℕ) → row_in j e ≡ None → AreFrom k bs → places_of j (cut_at c e bs) ≡ places_of j (beats_to c bs)
+  cut_places : (j : ℕ) (bs : List Beat) (k : ℕ) → row_in j e ≡ None → AreFrom k bs → places_of j (cut_at c e bs) ≡ places_of j (list_to c bs)
   cut_places j [] k none h = refl
   cut_places j (b ∷ bs) k none h = elim (cases_lt c b.cycle) [
     | inl lt ↦
@@ -142,7 +142,7 @@ module _ (c : ℕ) (e : Beat) where
         ∙ sym (ap (places_of j) (to_here b bs le))
   ]
 
-  cut_times : (j : ℕ) (bs : List Beat) (k before : ℕ) → row_in j e ≡ None → AreFrom k bs → times_from before j (cut_at c e bs) ≡ times_from before j (beats_to c bs)
+  cut_times : (j : ℕ) (bs : List Beat) (k before : ℕ) → row_in j e ≡ None → AreFrom k bs → times_from before j (cut_at c e bs) ≡ times_from before j (list_to c bs)
   cut_times j [] k before none h = refl
   cut_times j (b ∷ bs) k before none h = elim (cases_lt c b.cycle) [
     | inl lt ↦
@@ -154,7 +154,7 @@ module _ (c : ℕ) (e : Beat) where
         ∙ sym (ap (times_from before j) (to_here b bs le))
   ]
 
-  cut_ticks : (bs : List Beat) (k : ℕ) → e.tick ≡ false → AreFrom k bs → ticks_of (cut_at c e bs) ≡ ticks_of (beats_to c bs)
+  cut_ticks : (bs : List Beat) (k : ℕ) → e.tick ≡ false → AreFrom k bs → ticks_of (cut_at c e bs) ≡ ticks_of (list_to c bs)
   cut_ticks [] k still h = refl
   cut_ticks (b ∷ bs) k still h = elim (cases_lt c b.cycle) [
     | inl lt ↦
@@ -165,39 +165,44 @@ module _ (c : ℕ) (e : Beat) where
         ∙ sym (ap ticks_of (to_here b bs le))
   ]
 
-inputs_same : (rows rows' : ℕ → List (List ℕ)) (places places' times times' : ℕ → List ℕ) (ticks ticks' : ℕ) → rows ≡ rows' → places ≡ places'
+inputs_same : (rows rows' : ℕ → List (List ℕ)) (places places' times times' : ℕ → List ℕ) (ticks ticks' : ℕ) (sets : List ℕ) → rows ≡ rows' → places ≡ places'
     → times ≡ times' → ticks ≡ ticks'
-    → ◌≡◌ {A = Inputs} (record { rows = rows; places = places; times = times; ticks = ticks })
-    (record { rows = rows'; places = places'; times = times'; ticks = ticks' })
-inputs_same rows rows' places places' times times' ticks ticks' r p t n = cc
+    → ◌≡◌ {A = Inputs} (record { rows = rows; places = places; times = times; ticks = ticks; sets = sets })
+    (record { rows = rows'; places = places'; times = times'; ticks = ticks'; sets = sets })
+inputs_same rows rows' places places' times times' ticks ticks' sets r p t n = cc
 
 -- beats that keep the gaps, and agree with these up to a cycle, of which they bring what has come by then
-pub record IsCut (schema : Schema) (gaps : Gaps) (c : ℕ) (beats cut : List Beat) : Type 0 where
+pub record IsCut (schema : Schema) (gaps : Gaps) (c : ℕ) (beats cut : Beats) : Type 0 where
   pub are : AreBeats schema cut
   pub keeps : KeepsGaps gaps cut
-  pub same : (n : ℕ) → n ≤ c → beat_at cut n ≡ beat_at beats n
+  pub same : (n : ℕ) → n ≤ c → beat_at cut.list n ≡ beat_at beats.list n
+  pub held : cut.sets ≡ beats.sets
   pub brings : inputs_of cut ≡ inputs_of (beats_to c beats)
 
 -- the end comes behind both gaps
-abbrev pub cut_of : Schema → Gaps → ℕ → List Beat → List Beat
-cut_of schema gaps c beats = cut_at c (end_alone schema (suc (c + (gaps.of_beats + gaps.of_ticks)))) beats
+abbrev pub cut_of : Schema → Gaps → ℕ → Beats → Beats
+cut_of schema gaps c beats =
+    record beats { list = cut_at c (end_alone schema (suc (c + (gaps.of_beats + gaps.of_ticks)))) beats.list }
 
-pub is_cut : (schema : Schema) (gaps : Gaps) (c : ℕ) (beats : List Beat) → AreBeats schema beats → KeepsGaps gaps beats → IsCut schema gaps c beats (cut_of schema gaps c beats)
+pub is_cut : (schema : Schema) (gaps : Gaps) (c : ℕ) (beats : Beats) → AreBeats schema beats → KeepsGaps gaps beats → IsCut schema gaps c beats (cut_of schema gaps c beats)
 is_cut schema gaps c beats are keeps =
     let e : Beat = end_alone schema (suc (c + (gaps.of_beats + gaps.of_ticks))) in
-    let from : AreFrom 0 beats = from_first beats are.order in
+    let all : List Beat = beats.list in
+    let from : AreFrom 0 all = from_first all are.order in
     record {
       are = record {
-        each = cut_each c e (IsBeat schema) beats (end_is_beat schema (suc (c + (gaps.of_beats + gaps.of_ticks)))) are.each;
-        order = cut_order c e beats refl (omega arith) are.order;
+        each = cut_each c e (IsBeat schema) all (end_is_beat schema (suc (c + (gaps.of_beats + gaps.of_ticks)))) are.each;
+        order = cut_order c e all refl (omega arith) are.order;
+        held = are.held;
       };
       keeps = record {
-        each = cut_gap c e gaps.of_beats beats (omega arith) keeps.each;
-        ticks = cut_timed c e gaps.of_ticks 0 beats (omega arith) (omega arith) keeps.ticks;
+        each = cut_gap c e gaps.of_beats all (omega arith) keeps.each;
+        ticks = cut_timed c e gaps.of_ticks 0 all (omega arith) (omega arith) keeps.ticks;
       };
-      same = λ n le. cut_same c e beats 0 n le (omega arith) from;
+      same = λ n le. cut_same c e all 0 n le (omega arith) from;
+      held = refl;
       brings =
-          inputs_same _ _ _ _ _ _ _ _ (fun_ext (λ j. cut_input c e j beats 0 (no_row schema.streams j) from))
-          (fun_ext (λ j. cut_places c e j beats 0 (no_row schema.streams j) from))
-          (fun_ext (λ j. cut_times c e j beats 0 0 (no_row schema.streams j) from)) (cut_ticks c e beats 0 refl from);
+          inputs_same _ _ _ _ _ _ _ _ beats.sets (fun_ext (λ j. cut_input c e j all 0 (no_row schema.streams j) from))
+          (fun_ext (λ j. cut_places c e j all 0 (no_row schema.streams j) from))
+          (fun_ext (λ j. cut_times c e j all 0 0 (no_row schema.streams j) from)) (cut_ticks c e all 0 refl from);
     }

@@ -7,7 +7,7 @@ use Rattle.std.proofs.lemmas.Bool.{cases_lt}
 use Rattle.gl_bits.proofs.Bools.{bytes_same}
 use Rattle.gl_gaps.specs.declared.Gaps.{Gaps}
 use Rattle.gl_schema.specs.declared.schema.Schema.{Schema}
-use Rattle.gl_schema.specs.Beats.{Beat, Inputs, AreBeats, beat_at, inputs_of}
+use Rattle.gl_schema.specs.Beats.{Beat, Beats, Inputs, AreBeats, beat_at, inputs_of}
 use Rattle.gl_schema.specs.Ports.{PortValues, IsStimulus}
 use Rattle.gl_schema.specs.Seen.{Shown, shown, seen, rows_of}
 use Rattle.gl_schema.specs.Right.{Meaning, IsRight}
@@ -22,7 +22,7 @@ use Rattle.gl_verilog_ports.specs.Profile.{HasInputPorts, ports_of}
 use Rattle.gl_verilog_ports.proofs.Declared.{get_take}
 use Rattle.gl_sim.proofs.Settling.{IsInputPort}
 use Rattle.gl_testbench.specs.declared.pins.Pin.{Pin as Carried}
-use Rattle.gl_testbench.specs.Carried.{pin_at, with_beat}
+use Rattle.gl_testbench.specs.Carried.{at_reset, pin_at, with_beat}
 use Rattle.gl_testbench.specs.Runs.{RunsOver}
 use Rattle.gl_testbench.proofs.Inputs.{carried_at, port_carries}
 use Rattle.gl_testbench.specs.Driven.{Drives, OverRuns}
@@ -70,20 +70,21 @@ keeps_past outs none = λ beats port port' carry keeps.
 
 -- ---- two runs over beats that are the same up to a cycle
 
-carried_same : (beats beats' : List Beat) (c : ℕ) → ((n : ℕ) → n ≤ c → beat_at beats' n ≡ beat_at beats n) → (t : ℕ) → t ≤ suc c → (p : Carried) → carried_at beats' t p ≡ carried_at beats t p
-carried_same beats beats' c same zero le p = refl
-carried_same beats beats' c same (suc n) le p = ap (λ (o : Option Beat). with_beat o p) (same n (omega (arith, le)))
+carried_same : (beats beats' : Beats) (c : ℕ) → beats'.sets ≡ beats.sets → ((n : ℕ) → n ≤ c → beat_at beats'.list n ≡ beat_at beats.list n) → (t : ℕ) → t ≤ suc c → (p : Carried) → carried_at beats' t p ≡ carried_at beats t p
+carried_same beats beats' c held same zero le p = ap (λ (sets : List ℕ). at_reset sets p) held
+carried_same beats beats' c held same (suc n) le p =
+    ap (λ (o : Option Beat). with_beat beats'.sets o p) (same n (omega (arith, le))) ∙ ap (λ (sets : List ℕ). with_beat sets (beat_at beats.list n) p) held
 
 module _ (laws : RunLaws) (net : Net) (schema : Schema) (text : List ℕ) (e : IsEmission net schema text) where
   abbrev m : Module
   m = e.design
 
-  inputs_same : (beats beats' : List Beat) (value value' : ℕ → Nets) (c : ℕ) → AreBeats schema beats → AreBeats schema beats' → IsStimulus schema beats (input_values m value) → IsStimulus schema beats' (input_values m value')
-      → ((n : ℕ) → n ≤ c → beat_at beats' n ≡ beat_at beats n) → (t : ℕ) → t ≤ suc c → SameInputs m.declarations (value t) (value' t)
-  inputs_same beats beats' value value' c are are' stimulus stimulus' same t le = λ n d there kind clock.
+  inputs_same : (beats beats' : Beats) (value value' : ℕ → Nets) (c : ℕ) → AreBeats schema beats → AreBeats schema beats' → IsStimulus schema beats (input_values m value) → IsStimulus schema beats' (input_values m value')
+      → beats'.sets ≡ beats.sets → ((n : ℕ) → n ≤ c → beat_at beats'.list n ≡ beat_at beats.list n) → (t : ℕ) → t ≤ suc c → SameInputs m.declarations (value t) (value' t)
+  inputs_same beats beats' value value' c are are' stimulus stimulus' held same t le = λ n d there kind clock.
       let port : IsInputPort m.declarations n = record { declaration = d; is = there; input = ap is_input kind; no_clock = clock } in
       port_carries laws.inputs_are_ports text schema m beats value t e.has (inputs_are_asked net schema text e) are stimulus n port
-      ∙ sym (carried_same beats beats' c same t le (pin_at schema m.declarations n))
+      ∙ sym (carried_same beats beats' c held same t le (pin_at schema m.declarations n))
       ∙ sym (port_carries laws.inputs_are_ports text schema m beats' value' t e.has (inputs_are_asked net schema text e) are' stimulus' n port)
 
   -- where the nets are the same, the ports carry the same
@@ -106,13 +107,13 @@ module _ (laws : RunLaws) (net : Net) (schema : Schema) (text : List ℕ) (e : I
       (keeps : OverRuns m schema gaps (λ beats port. KeepsLine outs (view port))) where
     spilled : (c : ℕ) → OverRuns m schema gaps (λ beats port. IsTrue (shown (view port) outs c).group → HasSpill means (inputs_of (beats_to c beats)))
     spilled c = λ beats value word driven h.
-        let cut : List Beat = cut_of schema gaps c beats in
+        let cut : Beats = cut_of schema gaps c beats in
         let is : IsCut schema gaps c beats cut = is_cut schema gaps c beats driven.are driven.keep in
         let first = laws.event_runs_are_runs m e.has.valid value word driven.run in
         let r : RunsOver m schema cut (value 0) (word 0) = e.runs cut (value 0) (word 0) is.are (first.fits 0) in
         let port : PortValues = view (port_of m r.value) in
         let both = laws.runs_are_causal m (laws.valid_modules_run m e.has.valid) value r.value word r.word first (laws.event_runs_are_runs m e.has.valid r.value r.word r.run) r.starts (suc c)
-        (inputs_same beats cut value r.value c driven.are is.are driven.stimulus r.stimulus is.same) (suc c) (omega arith) in
+        (inputs_same beats cut value r.value c driven.are is.are driven.stimulus r.stimulus is.held is.same) (suc c) (omega arith) in
         let same = steady (suc c) (port_of m value) (port_of m r.value) (nets_carry value r.value (suc c) both.0) in
         let here : IsTrue (shown port outs c).group = subst (λ (s : Shown). IsTrue s.group) (shown_same (view (port_of m value)) port outs c same none) h in
         let again : Drives m schema gaps cut r.value r.word = record { are = is.are; keep = is.keeps; run = r.run; stimulus = r.stimulus } in

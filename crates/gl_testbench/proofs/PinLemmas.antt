@@ -5,8 +5,8 @@ use Rattle.std.specs.List.{AllByRecursion}
 use Rattle.gl_schema.specs.declared.schema.Column.{Column}
 use Rattle.gl_schema.specs.declared.schema.Stream.{Stream}
 use Rattle.gl_schema.specs.declared.schema.Schema.{Schema}
-use Rattle.gl_schema.specs.Beats.{Beat, rows_at}
-use Rattle.gl_schema.specs.Ports.{Pin, pin, pins, column_pins, stream_pins, streams_pins, rst, eos, tick, in_valid, in_column, out_column}
+use Rattle.gl_schema.specs.Beats.{Beats, rows_at}
+use Rattle.gl_schema.specs.Ports.{Pin, pins, column_pins, stream_pins, streams_pins, parameter_pins, rst, eos, tick, in_valid, in_column, in_parameter, out_column}
 use Rattle.gl_testbench.proofs.Showing.{NoClock}
 
 -- ---- what beats put on ports
@@ -40,10 +40,19 @@ streams_other [] rows = tt
 streams_other (s ∷ ss) [] = Other-join (stream_pins s None) (streams_pins ss []) (stream_other s None) (streams_other ss [])
 streams_other (s ∷ ss) (r ∷ rows) = Other-join (stream_pins s r) (streams_pins ss rows) (stream_other s r) (streams_other ss rows)
 
-pub pins_other : (schema : Schema) (beats : List Beat) (t : ℕ) → AllByRecursion IsOther (pins schema beats t)
+parameter_other : (p : List ℕ) → bytes_eq (in_parameter p) (codes "clk") ≡ false
+unfolding in_parameter
+parameter_other p = refl
+
+parameters_other : (ps : List Column) (sets : List ℕ) → AllByRecursion IsOther (parameter_pins ps sets)
+parameters_other [] sets = tt
+parameters_other (p ∷ ps) [] = (parameter_other p.name, parameters_other ps [])
+parameters_other (p ∷ ps) (n ∷ ns) = (parameter_other p.name, parameters_other ps ns)
+
+pub pins_other : (schema : Schema) (beats : Beats) (t : ℕ) → AllByRecursion IsOther (pins schema beats t)
 unfolding rst eos tick
-pins_other schema beats zero = (refl, Other-join (streams_pins schema.streams []) (pin eos 0 ∷ pin tick 0 ∷ []) (streams_other schema.streams []) (refl, (refl, tt)))
-pins_other schema beats (suc n) = (refl, Other-join (streams_pins schema.streams (rows_at beats n)) _ (streams_other schema.streams (rows_at beats n)) (refl, (refl, tt)))
+pins_other schema beats zero = (refl, Other-join (streams_pins schema.streams []) _ (streams_other schema.streams []) (refl, (refl, parameters_other schema.parameters beats.sets)))
+pins_other schema beats (suc n) = (refl, Other-join (streams_pins schema.streams (rows_at beats.list n)) _ (streams_other schema.streams (rows_at beats.list n)) (refl, (refl, parameters_other schema.parameters beats.sets)))
 
 -- ---- the columns of a result
 

@@ -5,7 +5,7 @@ use Rattle.std.specs.List.{AllByRecursion}
 use Rattle.gl_bits.proofs.AllLists.{all_weaker}
 use Rattle.gl_bits.proofs.Bools.{bytes_other}
 use Rattle.gl_schema.specs.declared.schema.Schema.{Schema}
-use Rattle.gl_schema.specs.Beats.{Beat}
+use Rattle.gl_schema.specs.Beats.{Beats}
 use Rattle.gl_schema.specs.Schemas.{IsSchema}
 use Rattle.gl_schema.specs.Ports.{Pin, pins, pin_names}
 use Rattle.gl_schema.specs.Profile.{clk}
@@ -32,15 +32,15 @@ each_one (p ∷ ps) h =
       before_others p ps ps others (each_one ps h.1),
     )
 
-pins_apart : (schema : Schema) (beats : List Beat) (t : ℕ) → IsSchema schema → AreApart (clk ∷ pin_names (pins schema beats t))
+pins_apart : (schema : Schema) (beats : Beats) (t : ℕ) → IsSchema schema → AreApart (clk ∷ pin_names (pins schema beats t))
 pins_apart schema beats t is = subst (λ (ns : List (List ℕ)). AreApart (clk ∷ ns)) (sym (pins_named schema beats t)) (names_apart schema is)
 
-pub pins_one : (schema : Schema) (beats : List Beat) (t : ℕ) → IsSchema schema → AllByRecursion (OneValue (pins schema beats t)) (pins schema beats t)
+pub pins_one : (schema : Schema) (beats : Beats) (t : ℕ) → IsSchema schema → AllByRecursion (OneValue (pins schema beats t)) (pins schema beats t)
 pins_one schema beats t is = each_one (pins schema beats t) (pins_apart schema beats t is).1
 
 no_clocks : (ps : List Pin) → Apart clk (pin_names ps) → AllByRecursion (λ (p : Pin). bytes_eq p.name clk ≡ false) ps
 no_clocks [] h = tt
 no_clocks (p ∷ ps) h = (bytes_other p.name clk (λ e. h.0 (sym e)), no_clocks ps h.1)
 
-pub pins_no_clock : (schema : Schema) (beats : List Beat) (t : ℕ) → IsSchema schema → AllByRecursion (λ (p : Pin). bytes_eq p.name clk ≡ false) (pins schema beats t)
+pub pins_no_clock : (schema : Schema) (beats : Beats) (t : ℕ) → IsSchema schema → AllByRecursion (λ (p : Pin). bytes_eq p.name clk ≡ false) (pins schema beats t)
 pins_no_clock schema beats t is = no_clocks (pins schema beats t) (pins_apart schema beats t is).0

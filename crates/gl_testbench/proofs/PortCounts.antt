@@ -1,4 +1,4 @@
--- How many ports a netlist has that takes the beats of a schema: at most 267 inputs, and its outputs.
+-- How many ports a netlist has that takes the beats of a schema: at most 299 inputs, and its outputs.
 use Rattle.std.proofs.Common.{◌≡◌, ℕ, suc, ◌+◌, ◌*◌, ◌≤◌, Bool, true, false, List, [], ◌∷◌, length, length-append, refl, ap, ◌∙◌, arith}
 use Rattle.std.specs.List.{AllByRecursion}
 use Rattle.gl_bits.proofs.AllLists.{length_map}
@@ -6,8 +6,8 @@ use Rattle.gl_values.specs.Kinds.{width_of}
 use Rattle.gl_schema.specs.declared.schema.Column.{Column}
 use Rattle.gl_schema.specs.declared.schema.Stream.{Stream}
 use Rattle.gl_schema.specs.declared.schema.Schema.{Schema}
-use Rattle.gl_schema.specs.Ports.{eos, out_column, out_eos, fault_group, fault_queue}
-use Rattle.gl_schema.specs.Profile.{ProfilePort, column_inputs, column_outputs, input, input_ports, output, output_ports, stream_inputs, streams_inputs, tick_input}
+use Rattle.gl_schema.specs.Ports.{out_column, out_eos, fault_group, fault_queue}
+use Rattle.gl_schema.specs.Profile.{ProfilePort, column_inputs, column_outputs, input_ports, output, output_ports, stream_inputs, streams_inputs, parameter_inputs, tick_input, last_inputs}
 use Rattle.gl_schema.specs.Schemas.{IsSchema, IsStream}
 use Rattle.gl_net.specs.Net.{Net}
 use Rattle.gl_net.specs.PortValues.{port_shape, port_shapes}
@@ -27,10 +27,15 @@ tick_few : (ticks : Bool) → length (tick_input ticks) ≤ 1
 tick_few true = omega arith
 tick_few false = omega arith
 
--- a schema has at most 267
-pub inputs_few : (ticks : Bool) (schema : Schema) → IsSchema schema → length (input_ports ticks schema) ≤ 267
+parameters_many : (ps : List Column) → length (parameter_inputs ps) ≡ length ps
+parameters_many [] = refl
+parameters_many (p ∷ ps) = ap suc (parameters_many ps)
+
+-- a schema has at most 299
+pub inputs_few : (ticks : Bool) (schema : Schema) → IsSchema schema → length (input_ports ticks schema) ≤ 299
 inputs_few ticks schema is =
-    omega (arith, length-append (streams_inputs schema.streams) (input eos 1 ∷ tick_input ticks), tick_few ticks, streams_many schema.streams is.streams, is.most)
+    let parameters = schema.parameters in
+    omega (arith, length-append (streams_inputs schema.streams) (last_inputs ticks schema), length-append (tick_input ticks) (parameter_inputs parameters), tick_few ticks, parameters_many parameters, is.declared.most, streams_many schema.streams is.streams, is.most)
 
 -- ---- outputs
 
@@ -48,6 +53,6 @@ unfolding port_shapes
 as_many net = length_map port_like (port_shapes net) ∙ length_map (port_shape net) net.ports
 
 pub ports_few : (ticks : Bool) (schema : Schema) (outputs : List ProfilePort) (net : Net) → IsSchema schema → TakesBeats ticks schema outputs net
-    → length net.ports ≤ 267 + length outputs
+    → length net.ports ≤ 299 + length outputs
 ports_few ticks schema outputs net is takes =
     omega (arith, as_many net, ap length takes.ports, length-append (input_ports ticks schema) outputs, inputs_few ticks schema is)

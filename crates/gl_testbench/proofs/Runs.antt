@@ -7,7 +7,7 @@ use Rattle.std.proofs.lemmas.Nat.{pow_pos}
 use Rattle.gl_bits.proofs.AllLists.{all_at, all_by_place}
 use Rattle.gl_bits.proofs.Bools.{and_both, and_left, and_right, bytes_same, not_false, not_true}
 use Rattle.gl_schema.specs.declared.schema.Schema.{Schema}
-use Rattle.gl_schema.specs.Beats.{Beat, AreBeats}
+use Rattle.gl_schema.specs.Beats.{Beats, AreBeats}
 use Rattle.gl_schema.specs.Ports.{Pin, pins}
 use Rattle.gl_schema.specs.Profile.{clk, input_ports}
 use Rattle.gl_schema.specs.Schemas.{IsSchema}
@@ -39,14 +39,14 @@ takes_beats : Declaration → Bool
 takes_beats d = is_input d.kind && not (is_clock d)
 
 -- what the ports carry, 0 where none carries anything
-given : Module → Schema → List Beat → ℕ → Nets
+given : Module → Schema → Beats → ℕ → Nets
 given m schema beats t n = option_map_or (λ (d : Declaration). if takes_beats d then carried_at beats t (pin_named schema d.name) else 0) (slice_get (ports_of m) n) 0
 
 named_clock : (name : List ℕ) → bytes_eq name clk ≡ false → bytes_eq name (codes "clk") ≡ false
 unfolding clk
 named_clock name e = e
 
-module _ (m : Module) (schema : Schema) (valid : IsValid m) (is : IsSchema schema) (asked : AreAsked m schema) (beats : List Beat) (are : AreBeats schema beats) where
+module _ (m : Module) (schema : Schema) (valid : IsValid m) (is : IsSchema schema) (asked : AreAsked m schema) (beats : Beats) (are : AreBeats schema beats) where
   -- they fit
   port_fits : (t n : ℕ) (d : Declaration) → slice_get (ports_of m) n ≡ Some d → (if takes_beats d then carried_at beats t (pin_named schema d.name) else 0) < 2 ^ d.width
   unfolding takes_beats

@@ -3,7 +3,7 @@ use Rattle.std.proofs.Common.{◌≡◌, ℕ, zero, suc, Bool, false, List, [], 
 use Rattle.std.specs.Prelude.{IsTrue, IsFalse, IfSome, bytes_eq, codes}
 use Rattle.std.specs.List.{AllByRecursion}
 use Rattle.gl_schema.specs.declared.schema.Schema.{Schema}
-use Rattle.gl_schema.specs.Beats.{Beat, inputs_of}
+use Rattle.gl_schema.specs.Beats.{Beats, inputs_of}
 use Rattle.gl_schema.specs.Ports.{PortValues, Pin, pins, IsStimulus, out_valid, out_eos, fault_group, fault_queue}
 use Rattle.gl_schema.specs.Seen.{Shown, shown, seen, rows_of, value_at, row_shown}
 use Rattle.gl_schema.specs.Right.{Meaning, IsRight}
@@ -35,7 +35,7 @@ seen_same port port' outs same zero = ap (λ (s : Shown). s ∷ []) (same 0)
 seen_same port port' outs same (suc n) =
     ap (λ (all : List Shown). all ++ shown port outs (suc n) ∷ []) (seen_same port port' outs same n) ∙ ap (λ (s : Shown). seen port' outs n ++ s ∷ []) (same (suc n))
 
-module _ (means means' : Meaning) (latency : ℕ) (beats : List Beat) (outs : List (List ℕ)) (wider : (rows : List (List ℕ)) (spill : Bool) → means (inputs_of beats) rows spill → means' (inputs_of beats) rows spill) where
+module _ (means means' : Meaning) (latency : ℕ) (beats : Beats) (outs : List (List ℕ)) (wider : (rows : List (List ℕ)) (spill : Bool) → means (inputs_of beats) rows spill → means' (inputs_of beats) rows spill) where
   right_same : (port port' : PortValues) → ((n : ℕ) → shown port outs n ≡ shown port' outs n) → IsRight means latency beats outs port → IsRight means' latency beats outs port'
   right_same port port' same r = record {
     ended = r.ended;
@@ -65,5 +65,5 @@ pins_same : (port port' : PortValues) (t : ℕ) (ps : List Pin) → SameAt t por
 pins_same port port' t [] same h all = tt
 pins_same port port' t (p ∷ ps) same h all = (subst (λ (o : Option ℕ). IfSome o (λ v. v ≡ p.value)) (same p.name h.0) all.0, pins_same port port' t ps same h.1 all.1)
 
-pub stimulus_same : (schema : Schema) (beats : List Beat) (port port' : PortValues) → SameButClock port port' → ((t : ℕ) → AllByRecursion (λ (p : Pin). bytes_eq p.name (codes "clk") ≡ false) (pins schema beats t)) → IsStimulus schema beats port → IsStimulus schema beats port'
+pub stimulus_same : (schema : Schema) (beats : Beats) (port port' : PortValues) → SameButClock port port' → ((t : ℕ) → AllByRecursion (λ (p : Pin). bytes_eq p.name (codes "clk") ≡ false) (pins schema beats t)) → IsStimulus schema beats port → IsStimulus schema beats port'
 stimulus_same schema beats port port' same h s = record { carries = λ t. pins_same port port' t (pins schema beats t) (same t) (h t) (s.carries t) }

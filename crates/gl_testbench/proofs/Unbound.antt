@@ -6,7 +6,7 @@ use Rattle.std.specs.List.{AllByRecursion}
 use Rattle.std.proofs.lemmas.Bool.{true≢false}
 use Rattle.std.proofs.lemmas.Slice.Eq.{bytes_eq-Decides}
 use Rattle.gl_schema.specs.declared.schema.Schema.{Schema}
-use Rattle.gl_schema.specs.Beats.{Beat}
+use Rattle.gl_schema.specs.Beats.{Beats}
 use Rattle.gl_schema.specs.Ports.{Pin, pins, IsStimulus}
 use Rattle.gl_verilog.specs.Module.{Module, Declaration, Nets, number_of}
 use Rattle.gl_verilog.specs.Run.{is_input, is_input_at, input_number, input_values}
@@ -38,5 +38,5 @@ unbound m value [] only h = tt
 unbound m value (p ∷ ps) only h =
     (subst (λ (o : Option ℕ). IfSome (option_map value o) (λ v. v ≡ p.value)) (sym (none_named m p.name only h.0)) tt, unbound m value ps only h.1)
 
-pub binds_nothing : (m : Module) (schema : Schema) (beats : List Beat) (value : ℕ → Nets) → HasOnlyClock m → IsStimulus schema beats (input_values m value)
+pub binds_nothing : (m : Module) (schema : Schema) (beats : Beats) (value : ℕ → Nets) → HasOnlyClock m → IsStimulus schema beats (input_values m value)
 binds_nothing m schema beats value only = record { carries = λ t. unbound m (value t) (pins schema beats t) only (pins_other schema beats t) }

@@ -4,7 +4,7 @@ use Rattle.std.specs.Prelude.{◌≡◌, ℕ, Bool, false, List, ◌∷◌, ◌+
 use Rattle.std.specs.List.{AllByRecursion}
 use Rattle.gl_gaps.specs.declared.Gaps.{Gaps}
 use Rattle.gl_schema.specs.declared.schema.Schema.{Schema}
-use Rattle.gl_schema.specs.Beats.{Beat, AreBeats}
+use Rattle.gl_schema.specs.Beats.{Beats, AreBeats}
 use Rattle.gl_gaps.specs.Keeps.{KeepsGaps}
 use Rattle.gl_schema.specs.Ports.{IsStimulus, PortValues}
 use Rattle.gl_schema.specs.Profile.{Direction, In, Out, ProfilePort, clk, input, input_ports}
@@ -30,12 +30,12 @@ SameButClock port port' =
 -- a property that does not look at the clock
 abbrev pub IsPastClock : Property → Type 0
 IsPastClock P =
-    (beats : List Beat) (port port' : PortValues) → SameButClock port port' → P beats port → P beats port'
+    (beats : Beats) (port port' : PortValues) → SameButClock port port' → P beats port → P beats port'
 
 -- a property holds of each trace of the netlist over beats of the schema that keep the gaps
 abbrev pub OverTraces : Net → Schema → Gaps → Property → Type 0
 OverTraces net schema gaps P =
-    (run : Run) (beats : List Beat) → IsTrace net run → AreBeats schema beats → KeepsGaps gaps beats
+    (run : Run) (beats : Beats) → IsTrace net run → AreBeats schema beats → KeepsGaps gaps beats
     → IsStimulus schema beats (input_values net run) → P beats (port_values net run)
 
 -- the law: what does not look at the clock, and holds of all traces of the netlist over beats that keep these gaps,
@@ -45,7 +45,7 @@ HoldsOfRuns net schema m =
     (gaps : Gaps) (P : Property) → IsPastClock P → OverTraces net schema gaps P → OverRuns m schema gaps P
 
 -- some trace of the netlist over these beats has ports that carry this, the clock aside
-pub record IsTraced (net : Net) (schema : Schema) (beats : List Beat) (port : PortValues) : Type 0 where
+pub record IsTraced (net : Net) (schema : Schema) (beats : Beats) (port : PortValues) : Type 0 where
   pub run : Run
   pub trace : IsTrace net run
   pub stimulus : IsStimulus schema beats (input_values net run)

@@ -5,7 +5,7 @@ ghost use Rattle.gl_tuples.specs.Gaps.{plain_beat};
 ghost use Rattle.gl_verilog.specs.View.{declaration_of};
 ghost use Rattle.gl_testbench.specs.Carried.{at_reset, name_at, pin_at, with_beat};
 
-use crate::pins::{Pin, pin_of, value_of};
+use crate::pins::{Pin, pin_of, value_at_reset, value_of};
 use gl_bits::Memory;
 use gl_schema::Schema;
 use gl_tuples::BeatView;
@@ -39,23 +39,24 @@ pub fn pins_at(
     Ok(pins)
 }
 
-/// Sets the values of the pins for the reset.
-pub fn set_reset(pins: &[Pin], values: &mut [u128])
+/// Sets the values of the pins for the reset, with these words of the parameters.
+pub fn set_reset(pins: &[Pin], sets: &[u64], values: &mut [u128])
     requires { length values.old ≡ length pins.now }
-    ensures { values.new ≡ map at_reset pins.now }
+    ensures { values.new ≡ map (at_reset sets.now) pins.now }
 {
     for (at, pin) in pins.iter().enumerate() {
-        values[at] = u128::from(*pin == Pin::Reset);
+        values[at] = value_at_reset(*pin, sets);
     }
 }
 
-/// Sets the values of the pins for a cycle of the file with this beat, or with none.
-pub fn set_beat(pins: &[Pin], beat: Option<&BeatView<'_>>, values: &mut [u128])
+/// Sets the values of the pins for a cycle of the file with this beat, or with none, and with these
+/// words of the parameters.
+pub fn set_beat(pins: &[Pin], sets: &[u64], beat: Option<&BeatView<'_>>, values: &mut [u128])
     requires { length values.old ≡ length pins.now }
     ensures { values.new
-        ≡ map (with_beat (option_map (λ b. plain_beat b.now) beat.entry)) pins.now }
+        ≡ map (with_beat sets.now (option_map (λ b. plain_beat b.now) beat.entry)) pins.now }
 {
     for (at, pin) in pins.iter().enumerate() {
-        values[at] = value_of(*pin, beat);
+        values[at] = value_of(*pin, sets, beat);
     }
 }

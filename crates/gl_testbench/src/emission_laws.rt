@@ -1,8 +1,8 @@
 //! Laws about the runs of a module over beats, and about the names of its ports.
 
-ghost use Rattle.std.specs.Prelude.{ℕ, List};
+ghost use Rattle.std.specs.Prelude.{ℕ};
 ghost use Rattle.gl_schema.specs.declared.schema.Schema.{Schema};
-ghost use Rattle.gl_schema.specs.Beats.{Beat};
+ghost use Rattle.gl_schema.specs.Beats.{Beats};
 ghost use Rattle.gl_schema.specs.Ports.{IsStimulus};
 ghost use Rattle.gl_verilog.specs.Module.{Module, Nets};
 ghost use Rattle.gl_verilog.specs.Run.{input_values};
@@ -12,7 +12,7 @@ ghost use Rattle.gl_testbench.specs.Views.{WorkedViews};
 /// Beats are put on inputs alone: every run of a module with no input but the clock is one over any
 /// beats, whatever its outputs are called.
 pub fn outputs_bind_nothing()
-    ensures { (m : Module) (schema : Schema) (beats : List Beat) (value : ℕ → Nets)
+    ensures { (m : Module) (schema : Schema) (beats : Beats) (value : ℕ → Nets)
         → HasOnlyClock m → IsStimulus schema beats (input_values m value) }
 {}
 

@@ -1,11 +1,11 @@
 //! Which port of a module is what: the inputs of the streams, and what shows the result.
 
-ghost use Rattle.std.specs.Prelude.{◌≡◌, ◌∷◌, [], ◌<◌, Some, map, option_map, IfOk, slice_index};
+ghost use Rattle.std.specs.Prelude.{◌≡◌, ◌∷◌, [], ◌<◌, None, Some, map, option_map, IfOk, slice_index};
 ghost use Rattle.gl_schema.specs.Ports.{out_valid, out_eos, fault_group};
 ghost use Rattle.gl_tuples.specs.Gaps.{plain_beat};
 ghost use Rattle.gl_verilog.specs.View.{declaration_of, module_of};
 ghost use Rattle.gl_verilog.specs.Module as spec;
-ghost use Rattle.gl_testbench.specs.Carried.{column_pin, stream_pin, pin_named, with_beat};
+ghost use Rattle.gl_testbench.specs.Carried.{at_reset, column_pin, parameter_pin, pin_named, stream_pin, with_beat};
 ghost use Rattle.gl_verilog_ports.specs.Profile as profile;
 ghost use Rattle.gl_testbench.specs.Benches.{columns_from, AreShows};
 
@@ -13,7 +13,7 @@ use gl_bits::Memory;
 use gl_schema::{Column, Schema, Stream};
 use gl_tuples::BeatView;
 use gl_verilog::{Declaration, Module};
-use gl_verilog_ports::{Ports, is_in_column, is_in_valid, ports_of, shows_column};
+use gl_verilog_ports::{Ports, is_in_column, is_in_parameter, is_in_valid, ports_of, shows_column};
 use std::alloc::Global;
 
 /// What an input port carries.
@@ -29,6 +29,8 @@ pub enum Pin {
     End,
     /// Whether a tick comes.
     Tick,
+    /// The word of the parameter of this number.
+    Parameter(usize),
     /// Nothing that the beats tell of.
     Unknown,
 }
@@ -81,6 +83,18 @@ fn stream_pin_of(streams: &[Stream], name: &[u8]) -> Pin
     Pin::Unknown
 }
 
+// The parameter that the port of this name carries, if it is one.
+fn parameter_pin_of(parameters: &[Column], name: &[u8]) -> Pin
+    ensures { result ≡ parameter_pin name.now 0 parameters.now }
+{
+    for (number, parameter) in parameters.iter().enumerate() {
+        if is_in_parameter(parameter.name.as_slice(), name) {
+            return Pin::Parameter(number);
+        }
+    }
+    Pin::Unknown
+}
+
 /// What an input port carries, by its name.
 #[tactic(auto, unfolding(gl_schema::specs::Ports::rst, gl_schema::specs::Ports::eos, gl_schema::specs::Ports::tick))]
 pub fn pin_of(schema: &Schema, name: &[u8]) -> Pin
@@ -92,27 +106,50 @@ pub fn pin_of(schema: &Schema, name: &[u8]) -> Pin
     match stream_pin_of(schema.streams.as_slice(), name) {
         Pin::Unknown if b"eos".as_slice() == name => Pin::End,
         Pin::Unknown if b"tick".as_slice() == name => Pin::Tick,
+        Pin::Unknown => parameter_pin_of(schema.parameters.as_slice(), name),
         pin => pin,
     }
 }
 
-// The number of a column of a row.
+// The number at a place of a row, or of the parameters.
 #[tactic(auto, using(crate::proofs::Words::number_steps))]
-fn number_at(row: &[u64], column: usize) -> u128
-    ensures { result ≡ slice_index row.now column }
+fn number_at(row: &[u64], place: usize) -> u128
+    ensures { result ≡ slice_index row.now place }
 {
-    match row.get(column).copied() {
+    match row.get(place).copied() {
         Some(number) => u128::from(number),
         None => 0,
     }
 }
 
-/// What a pin carries in a file cycle with this beat, or with none.
-pub fn value_of(pin: Pin, beat: Option<&BeatView<'_>>) -> u128
-    ensures { result ≡ with_beat (option_map (λ b. plain_beat b.now) beat.entry) pin }
+/// What a pin carries in the cycle of the reset, with these words of the parameters.
+pub fn value_at_reset(pin: Pin, sets: &[u64]) -> u128
+    ensures { result ≡ at_reset sets.now pin }
+{
+    match pin {
+        Pin::Reset => 1,
+        Pin::Parameter(parameter) => number_at(sets, parameter),
+        Pin::Valid(_) | Pin::Column(_, _) | Pin::End | Pin::Tick | Pin::Unknown => 0,
+    }
+}
+
+// What a pin carries in a file cycle without a beat.
+fn value_between(pin: Pin, sets: &[u64]) -> u128
+    ensures { result ≡ with_beat sets.now None pin }
+{
+    match pin {
+        Pin::Parameter(parameter) => number_at(sets, parameter),
+        Pin::Reset | Pin::Valid(_) | Pin::Column(_, _) | Pin::End | Pin::Tick | Pin::Unknown => 0,
+    }
+}
+
+/// What a pin carries in a file cycle with this beat, or with none, and these words of the
+/// parameters.
+pub fn value_of(pin: Pin, sets: &[u64], beat: Option<&BeatView<'_>>) -> u128
+    ensures { result ≡ with_beat sets.now (option_map (λ b. plain_beat b.now) beat.entry) pin }
 {
     let Some(beat) = beat else {
-        return 0;
+        return value_between(pin, sets);
     };
     match pin {
         Pin::Valid(stream) => u128::from(beat.row(stream).is_some()),
@@ -122,6 +159,7 @@ pub fn value_of(pin: Pin, beat: Option<&BeatView<'_>>) -> u128
         },
         Pin::End => u128::from(beat.ends()),
         Pin::Tick => u128::from(beat.ticks()),
+        Pin::Parameter(parameter) => number_at(sets, parameter),
         Pin::Reset | Pin::Unknown => 0,
     }
 }

@@ -1,61 +1,45 @@
 -- Each file has one reading: beats, or a first fault of its own.
-use Rattle.std.proofs.Common.{◌≡◌, ◌↔◌, ◌⊎◌, inl, inr, ℕ, ◌+◌, Bool, true, false, cond, List, [], ◌∷◌, length, drop, Option, Some, None, Result, Ok, Err, refl, sym, ap, ◌∙◌, subst}
-use Rattle.std.specs.Prelude.{slice_get, nat_lt, ◌==◌, bytes_eq, codes, not}
+use Rattle.std.proofs.Common.{◌≡◌, ◌↔◌, ◌⊎◌, inl, inr, ℕ, ◌+◌, Bool, true, false, cond, List, [], ◌∷◌, length, drop, Option, Some, None, Result, Ok, Err, refl, sym, ◌∙◌, subst}
+use Rattle.std.specs.Prelude.{slice_get, nat_lt, ◌==◌, bytes_eq, codes, not, is_some}
 use Rattle.gl_bits.specs.Words.{Word}
 use Rattle.gl_schema.specs.declared.schema.Column.{Column}
 use Rattle.gl_schema.specs.declared.schema.Schema.{Schema}
+use Rattle.gl_tuples.specs.Flat.{BeatList}
 use Rattle.gl_tuples.specs.declared.beats.Beat.{Beat}
 use Rattle.gl_tuple_reader.specs.declared.entry.Entry.{Entry}
 use Rattle.gl_tuple_reader.specs.declared.entry.Entry.TheVariants.{Tuple, Tick, End}
 use Rattle.gl_tuple_reader.specs.declared.filing.Filing.{Filing}
+use Rattle.gl_tuple_reader.specs.declared.progress.Progress.{Progress}
+use Rattle.gl_tuple_reader.specs.declared.setting.Setting.{Setting}
 use Rattle.gl_tuples.specs.declared.fault.TupleFault.{TupleFault}
-use Rattle.gl_tuples.specs.declared.fault.TupleFault.TheVariants.{NotUtf8, BadCycle, CycleFalls, CycleTooLarge, UnknownStream, FieldCount, BadValue, StreamTwice, TickTwice, AfterEnd, TooClose, Memory}
+use Rattle.gl_tuples.specs.declared.fault.TupleFault.TheVariants.{NotUtf8, BadCycle, CycleFalls, CycleTooLarge, UnknownStream, FieldCount, BadValue, StreamTwice, TickTwice, AfterEnd, TooClose, UnknownParameter, SetTwice, NotSet, Memory}
 use Rattle.gl_tuples.specs.Values.{number_of}
 use Rattle.gl_tuple_reader.specs.Entries.{◌>>=◌, are_utf8, text_checked, words_of, row_of, row_found, columns_at, entry_of, entry_named, tuple_of, stream_named, cycle_of, cycle_below, option_bind}
-use Rattle.gl_tuple_reader.specs.Filing.{filing_after, next_filing, no_records, ended, beats_of, beat_with, beat_of, has_row, open_checked, cycle_checked, IsFirstFault}
-use Rattle.gl_tuple_reader.specs.FileBeats.{AreBeatsOf, number_at, row_at, tick_at}
-use Rattle.gl_tuple_reader.proofs.Filings.{bind_ok, ok_is}
-use Rattle.gl_tuple_reader.proofs.Beatings.{beats_sound}
-use Rattle.gl_tuple_reader.proofs.FileBeating.{shown_numbers, shown_rows, shown_ticks}
-use Rattle.gl_tuple_reader.proofs.Ruled.{rules_kept, rules_give}
-use Rattle.gl_tuple_reader.proofs.OneFile.{one_list, agreed}
+use Rattle.gl_tuple_reader.specs.Filing.{next_filing, beat_with, beat_of, has_row, open_checked, cycle_checked}
+use Rattle.gl_tuple_reader.specs.Settings.{says_set, parameter_named, value_in, setting_found, setting_at, setting_named, setting_of, has_value, set_with, all_set, sets_checked, filed, set_added, first_filed, front_added, next_progress, progress_after, no_progress, finished, beats_of, IsFirstFault}
+use Rattle.gl_tuple_reader.specs.FileBeats.{AreBeatsOf}
+use Rattle.gl_tuple_reader.proofs.WholeFiles.{beats_are, beats_again}
 
 -- ---- beats or a fault
 
-pub beats_are : (schema : Schema) (rs : List (List (List ℕ))) (beats : List Beat) → beats_of schema rs ≡ Ok beats → AreBeatsOf schema rs beats
-unfolding beats_of
-beats_are schema rs beats h =
-    let b = bind_ok (filing_after schema rs (no_records schema)) (λ f. Ok (ended (length schema.streams) f)) beats h in
-    let e = ok_is (ended (length schema.streams) b.0) beats b.2 in
-    record {
-      fine = beats_sound schema rs beats h;
-      numbers = λ c. ap (λ (bs : List Beat). number_at bs c) (sym e) ∙ shown_numbers schema rs b.0 c b.1;
-      rows = λ c k. ap (λ (bs : List Beat). row_at bs c k) (sym e) ∙ shown_rows schema rs b.0 c k b.1;
-      ticks = λ c. ap (λ (bs : List Beat). tick_at bs c) (sym e) ∙ shown_ticks schema rs b.0 c b.1;
-      rules = rules_kept schema rs b.0 b.1;
-    }
+same_ok : (a b : BeatList) → ◌≡◌ {A = Result BeatList TupleFault} (Ok a) (Ok b) → a ≡ b
+same_ok a b e = cc
 
-pub one_beats : (schema : Schema) (rs : List (List (List ℕ))) (a b : List Beat) → AreBeatsOf schema rs a → AreBeatsOf schema rs b → a ≡ b
-one_beats schema rs a b x y =
-    one_list schema a b (agreed a b (λ c. x.numbers c ∙ sym (y.numbers c)) (λ c k. x.rows c k ∙ sym (y.rows c k)) (λ c. x.ticks c ∙ sym (y.ticks c))) x.fine.beats'.order y.fine.beats'.order x.fine.beats'.each y.fine.beats'.each
+pub one_beats : (schema : Schema) (rs : List (List (List ℕ))) (a b : BeatList) → AreBeatsOf schema rs a → AreBeatsOf schema rs b → a ≡ b
+one_beats schema rs a b x y = same_ok a b (sym (beats_again schema rs a x) ∙ beats_again schema rs b y)
 
-pub beats_again : (schema : Schema) (rs : List (List (List ℕ))) (beats : List Beat) → AreBeatsOf schema rs beats → beats_of schema rs ≡ Ok beats
-beats_again schema rs beats h =
-    let g = rules_give schema rs h.rules in
-    g.1 ∙ ap Ok (one_beats schema rs g.0 beats (beats_are schema rs g.0 g.1) h)
-
-pub beats_are_read : (schema : Schema) (rs : List (List (List ℕ))) (beats : List Beat) → (beats_of schema rs ≡ Ok beats) ↔ AreBeatsOf schema rs beats
+pub beats_are_read : (schema : Schema) (rs : List (List (List ℕ))) (beats : BeatList) → (beats_of schema rs ≡ Ok beats) ↔ AreBeatsOf schema rs beats
 beats_are_read schema rs beats = (beats_are schema rs beats, beats_again schema rs beats)
 
-either_in : (schema : Schema) (rs : List (List (List ℕ))) (r : Result (List Beat) TupleFault) → beats_of schema rs ≡ r → ((beats : List Beat) × AreBeatsOf schema rs beats) ⊎ ((e : TupleFault) × IsFirstFault schema rs e)
+either_in : (schema : Schema) (rs : List (List (List ℕ))) (r : Result BeatList TupleFault) → beats_of schema rs ≡ r → ((beats : BeatList) × AreBeatsOf schema rs beats) ⊎ ((e : TupleFault) × IsFirstFault schema rs e)
 either_in schema rs (Ok beats) h = inl (beats, beats_are schema rs beats h)
 either_in schema rs (Err e) h = inr (e, h)
 
-pub beats_or_fault : (schema : Schema) (rs : List (List (List ℕ))) → ((beats : List Beat) × AreBeatsOf schema rs beats) ⊎ ((e : TupleFault) × IsFirstFault schema rs e)
+pub beats_or_fault : (schema : Schema) (rs : List (List (List ℕ))) → ((beats : BeatList) × AreBeatsOf schema rs beats) ⊎ ((e : TupleFault) × IsFirstFault schema rs e)
 beats_or_fault schema rs = either_in schema rs (beats_of schema rs) refl
 
-pub not_both : (schema : Schema) (rs : List (List (List ℕ))) (beats : List Beat) (e : TupleFault) → AreBeatsOf schema rs beats → IsFirstFault schema rs e → ⊥
-not_both schema rs beats e are fault = let z : ◌≡◌ {A = Result (List Beat) TupleFault} (Ok beats) (Err e) = sym (beats_again schema rs beats are) ∙ fault in absurd cc
+pub not_both : (schema : Schema) (rs : List (List (List ℕ))) (beats : BeatList) (e : TupleFault) → AreBeatsOf schema rs beats → IsFirstFault schema rs e → ⊥
+not_both schema rs beats e are fault = let z : ◌≡◌ {A = Result BeatList TupleFault} (Ok beats) (Err e) = sym (beats_again schema rs beats are) ∙ fault in absurd cc
 
 -- ---- a fault of the records is neither want of memory nor a gap
 
@@ -73,6 +57,9 @@ IsOfFile (Err (BadValue n)) = Unit {0}
 IsOfFile (Err (StreamTwice n)) = Unit {0}
 IsOfFile (Err (TickTwice n)) = Unit {0}
 IsOfFile (Err (AfterEnd n)) = Unit {0}
+IsOfFile (Err (UnknownParameter n)) = Unit {0}
+IsOfFile (Err (SetTwice n)) = Unit {0}
+IsOfFile (Err (NotSet n)) = Unit {0}
 
 file_if : {A : Type 0} (b : Bool) (x y : Result A TupleFault) → IsOfFile x → IsOfFile y → IsOfFile (cond b x y)
 file_if true x y h k = h
@@ -92,6 +79,9 @@ file_then (Err (BadValue n)) f h k = tt
 file_then (Err (StreamTwice n)) f h k = tt
 file_then (Err (TickTwice n)) f h k = tt
 file_then (Err (AfterEnd n)) f h k = tt
+file_then (Err (UnknownParameter n)) f h k = tt
+file_then (Err (SetTwice n)) f h k = tt
+file_then (Err (NotSet n)) f h k = tt
 
 text_of_file : (number : ℕ) (r : List (List ℕ)) → IsOfFile (text_checked number r)
 unfolding text_checked
@@ -150,13 +140,61 @@ next_of_file schema f r =
     (λ entry. file_then (beat_with (f.records + 1) (beat_of (length schema.streams) cycle (f.records + 1) f.current) entry) _ (beat_of_file (f.records + 1) (beat_of (length schema.streams) cycle (f.records + 1) f.current) entry)
     (λ beat. tt))))))
 
-all_of_file : (schema : Schema) (rs : List (List (List ℕ))) (f : Filing) → IsOfFile (filing_after schema rs f)
-all_of_file schema [] f = tt
-all_of_file schema (r ∷ rs) f = file_then (next_filing schema f r) _ (next_of_file schema f r) (all_of_file schema rs)
+found_setting : (number k : ℕ) (o : Option ℕ) → IsOfFile (setting_found number k o)
+found_setting number k None = tt
+found_setting number k (Some value) = tt
+
+setting_at_file : (number : ℕ) (schema : Schema) (r : List (List ℕ)) (o : Option ℕ) → IsOfFile (setting_at number schema r o)
+setting_at_file number schema r None = tt
+setting_at_file number schema r (Some k) = found_setting number k (value_in schema k r)
+
+setting_named_file : (number : ℕ) (schema : Schema) (r : List (List ℕ)) (o : Option (List ℕ)) → IsOfFile (setting_named number schema r o)
+setting_named_file number schema r None = tt
+setting_named_file number schema r (Some name) = setting_at_file number schema r (parameter_named schema name)
+
+setting_of_file : (number : ℕ) (schema : Schema) (r : List (List ℕ)) → IsOfFile (setting_of number schema r)
+unfolding setting_of
+setting_of_file number schema r = file_if (length r == 3) _ _ (setting_named_file number schema r (slice_get r 1)) tt
+
+set_of_file : (number : ℕ) (sets : List (Option ℕ)) (s : Setting) → IsOfFile (set_with number sets s)
+set_of_file number sets s = file_if (has_value sets s.parameter) _ _ tt tt
+
+checked_of_file : (number : ℕ) (sets : List (Option ℕ)) → IsOfFile (sets_checked number sets)
+unfolding sets_checked
+checked_of_file number sets = file_if (all_set sets) _ _ tt tt
+
+filed_of_file : (schema : Schema) (p : Progress) (r : List (List ℕ)) → IsOfFile (filed p (next_filing schema p.filing r))
+filed_of_file schema p r = file_then (next_filing schema p.filing r) _ (next_of_file schema p.filing r) (λ f. tt)
+
+added_of_file : (schema : Schema) (p : Progress) (r : List (List ℕ)) → IsOfFile (set_added schema p r)
+added_of_file schema p r =
+    file_then (setting_of (p.filing.records + 1) schema r) _ (setting_of_file (p.filing.records + 1) schema r)
+    (λ s. file_then (set_with (p.filing.records + 1) p.sets s) _ (set_of_file (p.filing.records + 1) p.sets s) (λ sets. tt))
+
+first_of_file : (schema : Schema) (p : Progress) (r : List (List ℕ)) → IsOfFile (first_filed schema p r)
+first_of_file schema p r =
+    file_then (cycle_of (p.filing.records + 1) r) _ (cycle_of_file (p.filing.records + 1) r)
+    (λ _. file_then (sets_checked (p.filing.records + 1) p.sets) _ (checked_of_file (p.filing.records + 1) p.sets) (λ _. filed_of_file schema p r))
+
+front_of_file : (schema : Schema) (p : Progress) (r : List (List ℕ)) → IsOfFile (front_added schema p r)
+front_of_file schema p r =
+    file_then (text_checked (p.filing.records + 1) r) _ (text_of_file (p.filing.records + 1) r)
+    (λ _. file_if (says_set r) _ _ (added_of_file schema p r) (first_of_file schema p r))
+
+progress_of_file : (schema : Schema) (p : Progress) (r : List (List ℕ)) → IsOfFile (next_progress schema p r)
+unfolding next_progress
+progress_of_file schema p r = file_if (is_some p.filing.current) _ _ (filed_of_file schema p r) (front_of_file schema p r)
+
+all_of_file : (schema : Schema) (rs : List (List (List ℕ))) (p : Progress) → IsOfFile (progress_after schema rs p)
+all_of_file schema [] p = tt
+all_of_file schema (r ∷ rs) p = file_then (next_progress schema p r) _ (progress_of_file schema p r) (all_of_file schema rs)
+
+end_of_file : (schema : Schema) (p : Progress) → IsOfFile (finished schema p)
+end_of_file schema p = file_then (sets_checked (p.filing.records + 1) p.sets) _ (checked_of_file (p.filing.records + 1) p.sets) (λ _. tt)
 
 beats_of_file : (schema : Schema) (rs : List (List (List ℕ))) → IsOfFile (beats_of schema rs)
 unfolding beats_of
-beats_of_file schema rs = file_then (filing_after schema rs (no_records schema)) _ (all_of_file schema rs (no_records schema)) (λ f. tt)
+beats_of_file schema rs = file_then (progress_after schema rs (no_progress schema)) (finished schema) (all_of_file schema rs (no_progress schema)) (end_of_file schema)
 
 pub no_memory : (schema : Schema) (rs : List (List (List ℕ))) → IsFirstFault schema rs Memory → ⊥
 no_memory schema rs h = subst IsOfFile h (beats_of_file schema rs)

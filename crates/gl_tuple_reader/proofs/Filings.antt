@@ -1,5 +1,5 @@
 -- Beats while records are added.
-use Rattle.std.proofs.Common.{◌≡◌, ℕ, ◌+◌, Bool, true, false, cond, List, [], ◌∷◌, ◌++◌, length, Option, Some, None, Result, Ok, Err, refl, sym, ap, ◌∙◌, subst, arith, append_assoc}
+use Rattle.std.proofs.Common.{◌≡◌, ℕ, ◌+◌, Bool, true, false, cond, List, [], ◌∷◌, ◌++◌, length, Option, Some, None, Result, Ok, Err, refl, sym, ap, ◌∙◌, subst}
 use Rattle.std.specs.Prelude.{IfSome, replicate, ◌==◌}
 use Rattle.std.proofs.lemmas.List.{length-replicate, length-set}
 use Rattle.gl_bits.specs.Words.{Word}
@@ -10,9 +10,8 @@ use Rattle.gl_tuples.specs.declared.fault.TupleFault.TheVariants.{StreamTwice, T
 use Rattle.gl_schema.specs.declared.schema.Schema.{Schema}
 use Rattle.gl_tuples.specs.declared.fault.TupleFault.{TupleFault}
 use Rattle.gl_tuple_reader.specs.declared.filing.Filing.{Filing}
-use Rattle.gl_tuple_reader.specs.Entries.{Fails, ◌>>=◌, text_checked, cycle_of, entry_of}
-use Rattle.gl_tuple_reader.specs.Filing.{beat_of, beat_with, empty_beat, grown_before, open_checked, cycle_checked, has_row, filing_after, next_filing, no_records, ended, beats_of}
-use Rattle.gl_tuple_reader.proofs.Fields.{fails_then}
+use Rattle.gl_tuple_reader.specs.Entries.{◌>>=◌, text_checked, cycle_of, entry_of}
+use Rattle.gl_tuple_reader.specs.Filing.{beat_of, beat_with, empty_beat, grown_before, open_checked, cycle_checked, has_row, filing_after, next_filing}
 
 -- the current beat has one entry for each stream
 abbrev pub HasRows : ℕ → Option Beat → Type 0
@@ -82,14 +81,7 @@ pub next_rows : (schema : Schema) (f : Filing) (fields : List (List ℕ)) (g : F
 next_rows schema f fields g h n = subst (λ (g : Filing). HasRows (length schema.streams) g.current) n.is
     (filled_long (f.records + 1) (beat_of (length schema.streams) n.cycle (f.records + 1) f.current) n.entry n.beat n.filled ∙ beat_long (length schema.streams) n.cycle (f.records + 1) f.current h)
 
--- all records are counted
-pub filing_counts : (schema : Schema) (rs : List (List (List ℕ))) (f g : Filing) → filing_after schema rs f ≡ Ok g → g.records ≡ f.records + length rs
-filing_counts schema [] f g e = ap (λ (g : Filing). g.records) (sym (ok_is f g e)) ∙ (let z : f.records ≡ f.records + 0 = omega arith in z)
-filing_counts schema (r ∷ rs) f g e = let b = bind_ok (next_filing schema f r) (filing_after schema rs) g e in
-    let n = ap (λ (g : Filing). g.records) (next_tells schema f r b.0 b.1).is in
-    omega (arith, n, filing_counts schema rs b.0 g b.2)
-
-bind_more : {A B C : Type 0} (x : Result A TupleFault) (f : A → Result C TupleFault) (g : A → Result B TupleFault) (h : B → Result C TupleFault) → ((a : A) → f a ≡ (g a >>= h)) → (x >>= f) ≡ ((x >>= g) >>= h)
+pub bind_more : {A B C : Type 0} (x : Result A TupleFault) (f : A → Result C TupleFault) (g : A → Result B TupleFault) (h : B → Result C TupleFault) → ((a : A) → f a ≡ (g a >>= h)) → (x >>= f) ≡ ((x >>= g) >>= h)
 bind_more (Ok a) f g h same = same a
 bind_more (Err e) f g h same = refl
 
@@ -97,19 +89,3 @@ bind_more (Err e) f g h same = refl
 pub filing_after-append : (schema : Schema) (rs us : List (List (List ℕ))) (f : Filing) → filing_after schema (rs ++ us) f ≡ (filing_after schema rs f >>= filing_after schema us)
 filing_after-append schema [] us f = refl
 filing_after-append schema (r ∷ rs) us f = bind_more (next_filing schema f r) (filing_after schema (rs ++ us)) (filing_after schema rs) (filing_after schema us) (λ g. filing_after-append schema rs us g)
-
--- a record more
-pub filing_more : (schema : Schema) (rs : List (List (List ℕ))) (r : List (List ℕ)) (f g h : Filing) → filing_after schema rs f ≡ Ok g → next_filing schema g r ≡ Ok h → filing_after schema (rs ++ r ∷ []) f ≡ Ok h
-filing_more schema rs r f g h a b = filing_after-append schema rs (r ∷ []) f ∙ ap (λ (x : Result Filing TupleFault). x >>= filing_after schema (r ∷ [])) a ∙ ap (λ (x : Result Filing TupleFault). x >>= filing_after schema []) b
-
--- a record that breaks a rule, whatever follows it
-pub filing_fails : (schema : Schema) (rs us : List (List (List ℕ))) (r : List (List ℕ)) (g : Filing) (e : TupleFault) → filing_after schema rs (no_records schema) ≡ Ok g → Fails e (next_filing schema g r) → Fails e (beats_of schema ((rs ++ r ∷ []) ++ us))
-unfolding beats_of
-filing_fails schema rs us r g e a b =
-    fails_then e (filing_after schema ((rs ++ r ∷ []) ++ us) (no_records schema)) (λ f. Ok (ended (length schema.streams) f))
-    (subst (Fails e) (sym (ap (λ (x : List (List (List ℕ))). filing_after schema x (no_records schema)) (append_assoc rs (r ∷ []) us) ∙ filing_after-append schema rs (r ∷ us) (no_records schema) ∙ ap (λ (x : Result Filing TupleFault). x >>= filing_after schema (r ∷ us)) a))
-    (fails_then e (next_filing schema g r) (filing_after schema us) b))
-
-pub all_filed : (schema : Schema) (rs : List (List (List ℕ))) (g : Filing) → filing_after schema rs (no_records schema) ≡ Ok g → beats_of schema rs ≡ Ok (ended (length schema.streams) g)
-unfolding beats_of
-all_filed schema rs g a = ap (λ (x : Result Filing TupleFault). x >>= λ f. Ok (ended (length schema.streams) f)) a

@@ -9,3 +9,7 @@ pub mod Ruled
 pub mod OneFile
 pub mod FileReadings
 mod Columns
+mod Steps
+mod Settings
+mod Listings
+mod WholeFiles

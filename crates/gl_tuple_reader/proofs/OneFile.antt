@@ -11,7 +11,7 @@ use Rattle.gl_schema.specs.declared.schema.Schema.{Schema}
 use Rattle.gl_schema.specs.Beats.{AreRowsOf, IsBeat, AreInOrder}
 use Rattle.gl_tuples.specs.declared.beats.Beat.{Beat}
 use Rattle.gl_tuple_reader.specs.Entries.{option_bind}
-use Rattle.gl_tuples.specs.Gaps.{plain_beat, plain_beats}
+use Rattle.gl_tuples.specs.Gaps.{plain_beat, plain_list}
 use Rattle.gl_tuple_reader.specs.FileBeats.{number_at, row_among, row_at, tick_at}
 
 abbrev at_cycle : List Beat → ℕ → Option Beat
@@ -20,7 +20,7 @@ at_cycle bs c = find (λ b. b.cycle == c) bs
 -- ---- beats in order
 
 -- all beats behind the first are later
-first_before : (b : Beat) (bs : List Beat) (c : ℕ) → AreInOrder (plain_beats (b ∷ bs)) → c ≤ b.cycle → at_cycle bs c ≡ None
+first_before : (b : Beat) (bs : List Beat) (c : ℕ) → AreInOrder (plain_list (b ∷ bs)) → c ≤ b.cycle → at_cycle bs c ≡ None
 first_before b [] c h le = refl
 first_before b (d ∷ bs) c h le = rw (ne_eqb d.cycle c (λ e. absurd (apart d.cycle b.cycle c h.1 le e))) (first_before d bs c h.2 (later d.cycle b.cycle c h.1 le))
   where
@@ -52,12 +52,12 @@ agree_back bs ds a = record { numbers = λ c. sym (a.numbers c); rows = λ c k. 
 missing : (ds : List Beat) (c : ℕ) → at_cycle ds c ≡ None → number_at ds c ≡ None
 missing ds c h = ap (option_map (λ (b : Beat). b.number)) h
 
-not_before : (b d : Beat) (bs ds : List Beat) → Agree (b ∷ bs) (d ∷ ds) → AreInOrder (plain_beats (d ∷ ds)) → b.cycle < d.cycle → ⊥
+not_before : (b d : Beat) (bs ds : List Beat) → Agree (b ∷ bs) (d ∷ ds) → AreInOrder (plain_list (d ∷ ds)) → b.cycle < d.cycle → ⊥
 not_before b d bs ds a order lt =
     let none : at_cycle (d ∷ ds) b.cycle ≡ None = rest_at d ds b.cycle (ne_eqb d.cycle b.cycle (λ e. absurd (omega (arith, e)))) ∙ first_before d ds b.cycle order (omega arith) in
     there_not b.number (sym (ap (option_map (λ (x : Beat). x.number)) (first_here b bs)) ∙ a.numbers b.cycle ∙ missing (d ∷ ds) b.cycle none)
 
-same_cycle : (b d : Beat) (bs ds : List Beat) → Agree (b ∷ bs) (d ∷ ds) → AreInOrder (plain_beats (b ∷ bs)) → AreInOrder (plain_beats (d ∷ ds)) → b.cycle ≡ d.cycle
+same_cycle : (b d : Beat) (bs ds : List Beat) → Agree (b ∷ bs) (d ∷ ds) → AreInOrder (plain_list (b ∷ bs)) → AreInOrder (plain_list (d ∷ ds)) → b.cycle ≡ d.cycle
 same_cycle b d bs ds a first second = meet b.cycle d.cycle (not_before b d bs ds a second) (not_before d b ds bs (agree_back (b ∷ bs) (d ∷ ds) a) first)
   where
     meet : (x y : ℕ) → (x < y → ⊥) → (y < x → ⊥) → x ≡ y
@@ -70,10 +70,10 @@ abbrev tick_in : Option Beat → Bool
 tick_in o = option_map_or (λ (b : Beat). b.tick) o false
 
 -- behind beats of one cycle the others agree
-rest_none : (b : Beat) (bs : List Beat) (c : ℕ) → AreInOrder (plain_beats (b ∷ bs)) → (b.cycle == c) ≡ true → at_cycle bs c ≡ None
+rest_none : (b : Beat) (bs : List Beat) (c : ℕ) → AreInOrder (plain_list (b ∷ bs)) → (b.cycle == c) ≡ true → at_cycle bs c ≡ None
 rest_none b bs c order t = first_before b bs c order (let e = eqb-true b.cycle c t in omega (arith, e))
 
-rest_agree : (b d : Beat) (bs ds : List Beat) → Agree (b ∷ bs) (d ∷ ds) → AreInOrder (plain_beats (b ∷ bs)) → AreInOrder (plain_beats (d ∷ ds)) → b.cycle ≡ d.cycle → Agree bs ds
+rest_agree : (b d : Beat) (bs ds : List Beat) → Agree (b ∷ bs) (d ∷ ds) → AreInOrder (plain_list (b ∷ bs)) → AreInOrder (plain_list (d ∷ ds)) → b.cycle ≡ d.cycle → Agree bs ds
 rest_agree b d bs ds a first second same = record {
   numbers = λ c. elim (cases_Bool (b.cycle == c)) [
     | inl t ↦ missing bs c (rest_none b bs c first t) ∙ sym (missing ds c (rest_none d ds c second (ap (λ (x : ℕ). x == c) (sym same) ∙ t)))
@@ -132,7 +132,7 @@ beat_same schema b d bs ds a same x y e =
 no_rest : (d : Beat) (ds : List Beat) → Agree [] (d ∷ ds) → ⊥
 no_rest d ds a = there_not d.number (sym (ap (option_map (λ (x : Beat). x.number)) (first_here d ds)) ∙ sym (a.numbers d.cycle))
 
-pub one_list : (schema : Schema) (bs ds : List Beat) → Agree bs ds → AreInOrder (plain_beats bs) → AreInOrder (plain_beats ds) → AllByRecursion (IsBeat schema) (plain_beats bs) → AllByRecursion (IsBeat schema) (plain_beats ds) → bs ≡ ds
+pub one_list : (schema : Schema) (bs ds : List Beat) → Agree bs ds → AreInOrder (plain_list bs) → AreInOrder (plain_list ds) → AllByRecursion (IsBeat schema) (plain_list bs) → AllByRecursion (IsBeat schema) (plain_list ds) → bs ≡ ds
 one_list schema [] ds a first second x y = absurd first
 one_list schema (b ∷ bs) [] a first second x y = absurd second
 one_list schema (b ∷ []) (d ∷ []) a first second x y =

@@ -13,7 +13,7 @@ use Rattle.gl_tuple_reader.specs.declared.filing.Filing.{Filing}
 use Rattle.gl_tuples.specs.declared.fault.TupleFault.{TupleFault}
 use Rattle.gl_tuples.specs.declared.fault.TupleFault.TheVariants.{NotUtf8, StreamTwice, TickTwice, CycleTooLarge, AfterEnd, CycleFalls}
 use Rattle.gl_tuple_reader.specs.Entries.{◌>>=◌, are_utf8, text_checked, entry_of, cycle_of, cycle_below}
-use Rattle.gl_tuple_reader.specs.Filing.{filing_after, next_filing, no_records, ended, beats_of, beat_with, beat_of, grown_before, empty_beat, has_row, open_checked, cycle_checked}
+use Rattle.gl_tuple_reader.specs.Filing.{filing_after, next_filing, behind, beat_with, beat_of, grown_before, empty_beat, has_row, open_checked, cycle_checked}
 use Rattle.gl_tuple_reader.specs.FileBeats.{cycle_said, says_end, says_tick, tick_of_records, IsBy, Brings, MayFollow, KeepRules, row_of_records, row_among}
 use Rattle.gl_tuple_reader.proofs.Filings.{Next, next_tells, bind_ok, ok_is, guard_ok, filing_after-append}
 use Rattle.gl_tuple_reader.proofs.Beatings.{ok_true}
@@ -72,12 +72,12 @@ text_true : (number : ℕ) (b : Bool) → ◌≡◌ {A = Result (Unit {0}) Tuple
 text_true number true h = refl
 text_true number false h = absurd cc
 
-is_text : (number : ℕ) (r : List (List ℕ)) (u : Unit {0}) → text_checked number r ≡ Ok u → IsTrue (are_utf8 r)
+pub is_text : (number : ℕ) (r : List (List ℕ)) (u : Unit {0}) → text_checked number r ≡ Ok u → IsTrue (are_utf8 r)
 unfolding text_checked
 is_text number r u h = text_true number (are_utf8 r) h
 
 -- what a record that is added tells of its text
-next_text : (schema : Schema) (f : Filing) (r : List (List ℕ)) (g : Filing) → next_filing schema f r ≡ Ok g → IsTrue (are_utf8 r)
+pub next_text : (schema : Schema) (f : Filing) (r : List (List ℕ)) (g : Filing) → next_filing schema f r ≡ Ok g → IsTrue (are_utf8 r)
 unfolding next_filing
 next_text schema f r g h = let a = bind_ok (text_checked (f.records + 1) r) _ g h in is_text (f.records + 1) r a.0 a.1
 
@@ -136,12 +136,12 @@ still_out schema r (Tuple k row) e h is f = is
 
 -- ---- the beats so far, and what they tell
 
-record Keeps (schema : Schema) (rs : List (List (List ℕ))) (f : Filing) : Type 0 where
-  stands : Stands schema rs f
+record Keeps (skipped : ℕ) (schema : Schema) (rs : List (List (List ℕ))) (f : Filing) : Type 0 where
+  stands : Stands skipped schema rs f
   latest : Latest rs f.current
 
-beat_cycle_is : (schema : Schema) (rs : List (List (List ℕ))) (f : Filing) (r : List (List ℕ)) (g : Filing) → Keeps schema rs f → (n : Next schema f r g) → n.beat.cycle ≡ n.cycle
-beat_cycle_is schema rs f r g k n =
+beat_cycle_is : (skipped : ℕ) (schema : Schema) (rs : List (List (List ℕ))) (f : Filing) (r : List (List ℕ)) (g : Filing) → Keeps skipped schema rs f → (n : Next schema f r g) → n.beat.cycle ≡ n.cycle
+beat_cycle_is skipped schema rs f r g k n =
     beat_cycle (f.records + 1) (beat_of (length schema.streams) n.cycle (f.records + 1) f.current) n.entry n.beat n.filled
     ∙ (turn_is schema (f.records + 1) f.whole.beats f.current n.cycle k.stands.filed.current n.opened n.rises).cycled
 
@@ -150,9 +150,9 @@ beat_end_is schema f r g n =
     beat_end (f.records + 1) (beat_of (length schema.streams) n.cycle (f.records + 1) f.current) n.entry n.beat n.filled
     ∙ ap (ends n.entry) (base_open (length schema.streams) n.cycle (f.records + 1) f.current n.opened)
 
-latest_next : (schema : Schema) (rs : List (List (List ℕ))) (f : Filing) (r : List (List ℕ)) (g : Filing) → Keeps schema rs f → (n : Next schema f r g) → Latest (rs ++ r ∷ []) (Some n.beat)
-latest_next schema rs f r g k n =
-    let same = beat_cycle_is schema rs f r g k n in
+latest_next : (skipped : ℕ) (schema : Schema) (rs : List (List (List ℕ))) (f : Filing) (r : List (List ℕ)) (g : Filing) → Keeps skipped schema rs f → (n : Next schema f r g) → Latest (rs ++ r ∷ []) (Some n.beat)
+latest_next skipped schema rs f r g k n =
+    let same = beat_cycle_is skipped schema rs f r g k n in
     let said = said_cycle (f.records + 1) r n.cycle n.cycled in
     let entering = enters (f.records + 1) schema r n.entry n.entered in
     let is = beat_end_is schema f r g n in (
@@ -162,33 +162,33 @@ latest_next schema rs f r g k n =
       λ all. still_out schema r n.entry n.beat.end entering is (all_last (λ r. IsFalse (says_end r)) rs r all),
     )
 
-keeps_next : (schema : Schema) (rs : List (List (List ℕ))) (f : Filing) (r : List (List ℕ)) (g : Filing) → Keeps schema rs f → Next schema f r g → Keeps schema (rs ++ r ∷ []) g
-keeps_next schema rs f r g k n = record {
-  stands = stands_next schema rs f r g k.stands n;
-  latest = subst (λ (g : Filing). Latest (rs ++ r ∷ []) g.current) n.is (latest_next schema rs f r g k n);
+keeps_next : (skipped : ℕ) (schema : Schema) (rs : List (List (List ℕ))) (f : Filing) (r : List (List ℕ)) (g : Filing) → Keeps skipped schema rs f → Next schema f r g → Keeps skipped schema (rs ++ r ∷ []) g
+keeps_next skipped schema rs f r g k n = record {
+  stands = stands_next skipped schema rs f r g k.stands n;
+  latest = subst (λ (g : Filing). Latest (rs ++ r ∷ []) g.current) n.is (latest_next skipped schema rs f r g k n);
 }
 
-keeps_after : (schema : Schema) (rs us : List (List (List ℕ))) (f g : Filing) → Keeps schema rs f → filing_after schema us f ≡ Ok g → Keeps schema (rs ++ us) g
-keeps_after schema rs [] f g k e = subst (λ (x : List (List (List ℕ))). Keeps schema x g) (sym (append-nil rs)) (subst (Keeps schema rs) (ok_is f g e) k)
-keeps_after schema rs (u ∷ us) f g k e =
+keeps_after : (skipped : ℕ) (schema : Schema) (rs us : List (List (List ℕ))) (f g : Filing) → Keeps skipped schema rs f → filing_after schema us f ≡ Ok g → Keeps skipped schema (rs ++ us) g
+keeps_after skipped schema rs [] f g k e = subst (λ (x : List (List (List ℕ))). Keeps skipped schema x g) (sym (append-nil rs)) (subst (Keeps skipped schema rs) (ok_is f g e) k)
+keeps_after skipped schema rs (u ∷ us) f g k e =
     let b = bind_ok (next_filing schema f u) (filing_after schema us) g e in
-    subst (λ (x : List (List (List ℕ))). Keeps schema x g) (append_assoc rs (u ∷ []) us)
-    (keeps_after schema (rs ++ u ∷ []) us b.0 g (keeps_next schema rs f u b.0 k (next_tells schema f u b.0 b.1)) b.2)
+    subst (λ (x : List (List (List ℕ))). Keeps skipped schema x g) (append_assoc rs (u ∷ []) us)
+    (keeps_after skipped schema (rs ++ u ∷ []) us b.0 g (keeps_next skipped schema rs f u b.0 k (next_tells schema f u b.0 b.1)) b.2)
 
-keeps_first : (schema : Schema) → Keeps schema [] (no_records schema)
-keeps_first schema = record { stands = stands_first schema; latest = refl }
+keeps_first : (skipped : ℕ) (schema : Schema) → Keeps skipped schema [] (behind skipped schema)
+keeps_first skipped schema = record { stands = stands_first skipped schema; latest = refl }
 
 -- the row of a stream in the beat of a cycle is that of the records before
-row_before : (schema : Schema) (rs : List (List (List ℕ))) (f : Filing) (cycle k : ℕ) → Keeps schema rs f → open_checked (f.records + 1) f.current ≡ Ok tt → cycle_checked (f.records + 1) cycle f.current ≡ Ok tt
+row_before : (skipped : ℕ) (schema : Schema) (rs : List (List (List ℕ))) (f : Filing) (cycle k : ℕ) → Keeps skipped schema rs f → open_checked (f.records + 1) f.current ≡ Ok tt → cycle_checked (f.records + 1) cycle f.current ≡ Ok tt
     → row_among (beat_of (length schema.streams) cycle (f.records + 1) f.current).rows k ≡ row_of_records schema cycle k rs
-row_before schema rs f cycle k s opened rises =
+row_before skipped schema rs f cycle k s opened rises =
     let turn = turn_is schema (f.records + 1) f.whole.beats f.current cycle s.stands.filed.current opened rises in
     row_here (f.records + 1) (length schema.streams) (at_cycle (filed_beats f.whole.beats f.current) cycle) (beat_of (length schema.streams) cycle (f.records + 1) f.current) k turn.was ∙ s.stands.shows.rows cycle k
 
 -- and so is its tick
-tick_before : (schema : Schema) (rs : List (List (List ℕ))) (f : Filing) (cycle : ℕ) → Keeps schema rs f → open_checked (f.records + 1) f.current ≡ Ok tt → cycle_checked (f.records + 1) cycle f.current ≡ Ok tt
+tick_before : (skipped : ℕ) (schema : Schema) (rs : List (List (List ℕ))) (f : Filing) (cycle : ℕ) → Keeps skipped schema rs f → open_checked (f.records + 1) f.current ≡ Ok tt → cycle_checked (f.records + 1) cycle f.current ≡ Ok tt
     → (beat_of (length schema.streams) cycle (f.records + 1) f.current).tick ≡ tick_of_records cycle rs
-tick_before schema rs f cycle s opened rises =
+tick_before skipped schema rs f cycle s opened rises =
     let turn = turn_is schema (f.records + 1) f.whole.beats f.current cycle s.stands.filed.current opened rises in
     tick_here (f.records + 1) (length schema.streams) (at_cycle (filed_beats f.whole.beats f.current) cycle) (beat_of (length schema.streams) cycle (f.records + 1) f.current) turn.was ∙ s.stands.shows.ticks cycle
 
@@ -198,14 +198,14 @@ tick_before schema rs f cycle s opened rises =
 brings_by : (schema : Schema) (rs : List (List (List ℕ))) (r : List (List ℕ)) (cycle : ℕ) (b c : Bool) → says_end r ≡ b → says_tick r ≡ c → Brings schema rs cycle r b c → Brings schema rs cycle r (says_end r) (says_tick r)
 brings_by schema rs r cycle b c e t h = subst (λ (x : Bool). Brings schema rs cycle r x (says_tick r)) (sym e) (subst (Brings schema rs cycle r b) (sym t) h)
 
-brings_of : (schema : Schema) (rs : List (List (List ℕ))) (f : Filing) (r : List (List ℕ)) (cycle : ℕ) (entry : Entry) (beat : Beat) → Keeps schema rs f → open_checked (f.records + 1) f.current ≡ Ok tt → cycle_checked (f.records + 1) cycle f.current ≡ Ok tt
+brings_of : (skipped : ℕ) (schema : Schema) (rs : List (List (List ℕ))) (f : Filing) (r : List (List ℕ)) (cycle : ℕ) (entry : Entry) (beat : Beat) → Keeps skipped schema rs f → open_checked (f.records + 1) f.current ≡ Ok tt → cycle_checked (f.records + 1) cycle f.current ≡ Ok tt
     → Enters schema r entry → beat_with (f.records + 1) (beat_of (length schema.streams) cycle (f.records + 1) f.current) entry ≡ Ok beat → Brings schema rs cycle r (says_end r) (says_tick r)
-brings_of schema rs f r cycle End beat k opened rises h filled = brings_by schema rs r cycle true (says_tick r) h.0 refl h.1
-brings_of schema rs f r cycle Tick beat k opened rises h filled =
+brings_of skipped schema rs f r cycle End beat k opened rises h filled = brings_by schema rs r cycle true (says_tick r) h.0 refl h.1
+brings_of skipped schema rs f r cycle Tick beat k opened rises h filled =
     let base = beat_of (length schema.streams) cycle (f.records + 1) f.current in
     let p = guard_ok base.tick (TickTwice (f.records + 1)) _ beat filled in
-    brings_by schema rs r cycle false true h.0 h.1 (record { alone' = h.2; new = sym (tick_before schema rs f cycle k opened rises) ∙ p.0 })
-brings_of schema rs f r cycle (Tuple j row) beat k opened rises h filled =
+    brings_by schema rs r cycle false true h.0 h.1 (record { alone' = h.2; new = sym (tick_before skipped schema rs f cycle k opened rises) ∙ p.0 })
+brings_of skipped schema rs f r cycle (Tuple j row) beat k opened rises h filled =
     let base = beat_of (length schema.streams) cycle (f.records + 1) f.current in
     let p = guard_ok (has_row base.rows j) (StreamTwice (f.records + 1)) _ beat filled in
     brings_by schema rs r cycle false false h.0 h.1 (record {
@@ -216,11 +216,11 @@ brings_of schema rs f r cycle (Tuple j row) beat k opened rises h filled =
       row = row;
       values = h.5;
       many = h.6;
-      new = sym (row_before schema rs f cycle j k opened rises) ∙ none_is (row_among base.rows j) p.0;
+      new = sym (row_before skipped schema rs f cycle j k opened rises) ∙ none_is (row_among base.rows j) p.0;
     })
 
-may_follow : (schema : Schema) (rs : List (List (List ℕ))) (f : Filing) (r : List (List ℕ)) (g : Filing) → Keeps schema rs f → next_filing schema f r ≡ Ok g → MayFollow schema rs r
-may_follow schema rs f r g k h =
+may_follow : (skipped : ℕ) (schema : Schema) (rs : List (List (List ℕ))) (f : Filing) (r : List (List ℕ)) (g : Filing) → Keeps skipped schema rs f → next_filing schema f r ≡ Ok g → MayFollow schema rs r
+may_follow skipped schema rs f r g k h =
     let n = next_tells schema f r g h in
     let said = said_cycle (f.records + 1) r n.cycle n.cycled in
     record {
@@ -230,23 +230,23 @@ may_follow schema rs f r g k h =
       early = said.1;
       rises = before_by rs f.current (f.records + 1) n.cycle k.latest n.rises;
       still = before_still rs f.current (f.records + 1) k.latest n.opened;
-      brings = brings_of schema rs f r n.cycle n.entry n.beat k n.opened n.rises (enters (f.records + 1) schema r n.entry n.entered) n.filled;
+      brings = brings_of skipped schema rs f r n.cycle n.entry n.beat k n.opened n.rises (enters (f.records + 1) schema r n.entry n.entered) n.filled;
     }
 
 -- all records of a file that has beats keep the rules
-pub rules_kept : (schema : Schema) (rs : List (List (List ℕ))) (g : Filing) → filing_after schema rs (no_records schema) ≡ Ok g → KeepRules schema rs
-rules_kept schema rs g h before r after e =
-    let split : (filing_after schema before (no_records schema) >>= filing_after schema (r ∷ after)) ≡ Ok g = sym (filing_after-append schema before (r ∷ after) (no_records schema)) ∙ ap (λ (x : List (List (List ℕ))). filing_after schema x (no_records schema)) (sym e) ∙ h in
-    let a = bind_ok (filing_after schema before (no_records schema)) (filing_after schema (r ∷ after)) g split in
+pub rules_kept : (skipped : ℕ) (schema : Schema) (rs : List (List (List ℕ))) (g : Filing) → filing_after schema rs (behind skipped schema) ≡ Ok g → KeepRules schema rs
+rules_kept skipped schema rs g h before r after e =
+    let split : (filing_after schema before (behind skipped schema) >>= filing_after schema (r ∷ after)) ≡ Ok g = sym (filing_after-append schema before (r ∷ after) (behind skipped schema)) ∙ ap (λ (x : List (List (List ℕ))). filing_after schema x (behind skipped schema)) (sym e) ∙ h in
+    let a = bind_ok (filing_after schema before (behind skipped schema)) (filing_after schema (r ∷ after)) g split in
     let b = bind_ok (next_filing schema a.0 r) (filing_after schema after) g a.2 in
-    may_follow schema before a.0 r b.0 (keeps_after schema [] before (no_records schema) a.0 (keeps_first schema) a.1) b.1
+    may_follow skipped schema before a.0 r b.0 (keeps_after skipped schema [] before (behind skipped schema) a.0 (keeps_first skipped schema) a.1) b.1
 
 -- ---- a record that may stand there is added
 
-bind_given : {A B : Type 0} (x : Result A TupleFault) (f : A → Result B TupleFault) (y : A) → x ≡ Ok y → (x >>= f) ≡ f y
+pub bind_given : {A B : Type 0} (x : Result A TupleFault) (f : A → Result B TupleFault) (y : A) → x ≡ Ok y → (x >>= f) ≡ f y
 bind_given x f y h = ap (λ (z : Result _ TupleFault). z >>= f) h
 
-text_given : (number : ℕ) (r : List (List ℕ)) → IsTrue (are_utf8 r) → text_checked number r ≡ Ok tt
+pub text_given : (number : ℕ) (r : List (List ℕ)) → IsTrue (are_utf8 r) → text_checked number r ≡ Ok tt
 unfolding text_checked
 text_given number r h = rw h refl
 
@@ -266,21 +266,21 @@ record HasEntry (schema : Schema) (f : Filing) (r : List (List ℕ)) (cycle : �
   beat : Beat
   filled : beat_with (f.records + 1) (beat_of (length schema.streams) cycle (f.records + 1) f.current) entry ≡ Ok beat
 
-entry_given : (schema : Schema) (rs : List (List (List ℕ))) (f : Filing) (r : List (List ℕ)) (cycle : ℕ) (b c : Bool) → says_end r ≡ b → says_tick r ≡ c → Keeps schema rs f → open_checked (f.records + 1) f.current ≡ Ok tt → cycle_checked (f.records + 1) cycle f.current ≡ Ok tt
+entry_given : (skipped : ℕ) (schema : Schema) (rs : List (List (List ℕ))) (f : Filing) (r : List (List ℕ)) (cycle : ℕ) (b c : Bool) → says_end r ≡ b → says_tick r ≡ c → Keeps skipped schema rs f → open_checked (f.records + 1) f.current ≡ Ok tt → cycle_checked (f.records + 1) cycle f.current ≡ Ok tt
     → Brings schema rs cycle r b c → HasEntry schema f r cycle
-entry_given schema rs f r cycle true c s u k opened rises h = record { entry = End; entered = end_entered (f.records + 1) schema r s h; beat = _; filled = refl }
-entry_given schema rs f r cycle false true s u k opened rises h =
+entry_given skipped schema rs f r cycle true c s u k opened rises h = record { entry = End; entered = end_entered (f.records + 1) schema r s h; beat = _; filled = refl }
+entry_given skipped schema rs f r cycle false true s u k opened rises h =
     let base = beat_of (length schema.streams) cycle (f.records + 1) f.current in
-    let none : base.tick ≡ false = tick_before schema rs f cycle k opened rises ∙ h.new in
+    let none : base.tick ≡ false = tick_before skipped schema rs f cycle k opened rises ∙ h.new in
     record {
       entry = Tick;
       entered = tick_entered (f.records + 1) schema r s u h.alone';
       beat = record base { tick = true };
       filled = rw none refl;
     }
-entry_given schema rs f r cycle false false s u k opened rises h =
+entry_given skipped schema rs f r cycle false false s u k opened rises h =
     let base = beat_of (length schema.streams) cycle (f.records + 1) f.current in
-    let none : has_row base.rows h.stream ≡ false = ap is_some (row_before schema rs f cycle h.stream k opened rises ∙ h.new) in
+    let none : has_row base.rows h.stream ≡ false = ap is_some (row_before skipped schema rs f cycle h.stream k opened rises ∙ h.new) in
     record {
       entry = Tuple h.stream h.row;
       entered = tuple_entered (f.records + 1) schema r h.name h.stream h.row h.second s u h.named (row_given (f.records + 1) schema h.stream r h.row h.values h.many);
@@ -292,31 +292,28 @@ record IsAdded (schema : Schema) (f : Filing) (r : List (List ℕ)) : Type 0 whe
   after : Filing
   is : next_filing schema f r ≡ Ok after
 
-is_added : (schema : Schema) (rs : List (List (List ℕ))) (f : Filing) (r : List (List ℕ)) → Keeps schema rs f → MayFollow schema rs r → IsAdded schema f r
-is_added schema rs f r k m =
+is_added : (skipped : ℕ) (schema : Schema) (rs : List (List (List ℕ))) (f : Filing) (r : List (List ℕ)) → Keeps skipped schema rs f → MayFollow schema rs r → IsAdded schema f r
+is_added skipped schema rs f r k m =
     let opened = open_given rs f.current (f.records + 1) k.latest m.still in
     let rises = rises_given rs f.current (f.records + 1) m.cycle k.latest m.rises in
-    let e = entry_given schema rs f r m.cycle (says_end r) (says_tick r) refl refl k opened rises m.brings in
+    let e = entry_given skipped schema rs f r m.cycle (says_end r) (says_tick r) refl refl k opened rises m.brings in
     record {
       after = record { whole = grown_before m.cycle f.whole f.current; current = Some e.beat; records = f.records + 1 };
       is = next_given schema f r m.cycle e.entry e.beat (text_given (f.records + 1) r m.text) opened (cycle_given (f.records + 1) r m.cycle m.said m.early) rises e.entered e.filled;
     }
 
-record AreAdded (schema : Schema) (f : Filing) (rs : List (List (List ℕ))) : Type 0 where
-  after : Filing
-  is : filing_after schema rs f ≡ Ok after
+pub record AreAdded (schema : Schema) (f : Filing) (rs : List (List (List ℕ))) : Type 0 where
+  pub after : Filing
+  pub is : filing_after schema rs f ≡ Ok after
 
-are_added : (schema : Schema) (before rs : List (List (List ℕ))) (f : Filing) → Keeps schema before f → KeepRules schema (before ++ rs) → AreAdded schema f rs
-are_added schema before [] f k rules = record { after = f; is = refl }
-are_added schema before (r ∷ rs) f k rules =
-    let one = is_added schema before f r k (rules before r rs refl) in
+are_added : (skipped : ℕ) (schema : Schema) (before rs : List (List (List ℕ))) (f : Filing) → Keeps skipped schema before f → KeepRules schema (before ++ rs) → AreAdded schema f rs
+are_added skipped schema before [] f k rules = record { after = f; is = refl }
+are_added skipped schema before (r ∷ rs) f k rules =
+    let one = is_added skipped schema before f r k (rules before r rs refl) in
     let same = append_assoc before (r ∷ []) rs in
-    let more = are_added schema (before ++ r ∷ []) rs one.after (keeps_next schema before f r one.after k (next_tells schema f r one.after one.is)) (subst (KeepRules schema) (sym same) rules) in
+    let more = are_added skipped schema (before ++ r ∷ []) rs one.after (keeps_next skipped schema before f r one.after k (next_tells schema f r one.after one.is)) (subst (KeepRules schema) (sym same) rules) in
     record { after = more.after; is = bind_given (next_filing schema f r) (filing_after schema rs) one.after one.is ∙ more.is }
 
--- records that keep the rules have beats
-pub rules_give : (schema : Schema) (rs : List (List (List ℕ))) → KeepRules schema rs → (beats : List Beat) × (beats_of schema rs ≡ Ok beats)
-unfolding beats_of
-rules_give schema rs rules =
-    let all = are_added schema [] rs (no_records schema) (keeps_first schema) rules in
-    (ended (length schema.streams) all.after, bind_given (filing_after schema rs (no_records schema)) (λ f. Ok (ended (length schema.streams) f)) all.after all.is)
+-- records that keep the rules are all added
+pub rules_give : (skipped : ℕ) (schema : Schema) (rs : List (List (List ℕ))) → KeepRules schema rs → AreAdded schema (behind skipped schema) rs
+rules_give skipped schema rs rules = are_added skipped schema [] rs (behind skipped schema) (keeps_first skipped schema) rules

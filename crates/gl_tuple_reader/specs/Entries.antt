@@ -8,7 +8,7 @@ use Rattle.gl_schema.specs.declared.schema.Column.{Column}
 use Rattle.gl_schema.specs.declared.schema.Stream.{Stream}
 use Rattle.gl_schema.specs.declared.schema.Schema.{Schema}
 use Rattle.gl_tuples.specs.declared.fault.TupleFault.{TupleFault}
-use Rattle.gl_tuples.specs.declared.fault.TupleFault.TheVariants.{NotUtf8, BadCycle, CycleFalls, CycleTooLarge, UnknownStream, FieldCount, BadValue, StreamTwice, TickTwice, AfterEnd, TooClose, Memory}
+use Rattle.gl_tuples.specs.declared.fault.TupleFault.TheVariants.{NotUtf8, BadCycle, CycleFalls, CycleTooLarge, UnknownStream, FieldCount, BadValue, StreamTwice, TickTwice, AfterEnd, TooClose, UnknownParameter, SetTwice, NotSet, Memory}
 use Rattle.gl_tuple_reader.specs.declared.entry.Entry.{Entry}
 use Rattle.gl_tuple_reader.specs.declared.entry.Entry.TheVariants.{Tuple, Tick, End}
 use Rattle.gl_tuples.specs.Values.{is_utf8, number_of, word_of}
@@ -33,6 +33,9 @@ Fails (StreamTwice n) read = read ≡ Err (StreamTwice n)
 Fails (TickTwice n) read = read ≡ Err (TickTwice n)
 Fails (AfterEnd n) read = read ≡ Err (AfterEnd n)
 Fails (TooClose n) read = read ≡ Err (TooClose n)
+Fails (UnknownParameter n) read = read ≡ Err (UnknownParameter n)
+Fails (SetTwice n) read = read ≡ Err (SetTwice n)
+Fails (NotSet n) read = read ≡ Err (NotSet n)
 
 -- what code answers is what the fields say; want of memory may come with any record
 abbrev pub Gives : {A : Type 0} → Result A TupleFault → Result A TupleFault → Type 0

@@ -1,5 +1,5 @@
 -- The beats of a tuple file, told of its records without an order of work.
--- Proved equal to `Filing` (`one_reading`), on which what the program promises rests.
+-- Proved equal to `Settings` and `Filing` (`one_reading`), on which what the program promises rests.
 use Rattle.std.specs.Prelude.{◌≡◌, ℕ, ◌+◌, ◌≤◌, Bool, true, false, not, ◌&&◌, List, [], ◌∷◌, ◌++◌, length, drop, Option, Some, None, IfSome, IsTrue, IsFalse, option_map, unwrap_or, find, slice_get, codes, bytes_eq, ◌==◌, if◌then◌else◌}
 use Rattle.std.specs.List.{AllByRecursion, list_any}
 use Rattle.std.specs.Option.{option_map_or}
@@ -7,8 +7,12 @@ use Rattle.gl_bits.specs.Words.{Word}
 use Rattle.gl_schema.specs.declared.schema.Schema.{Schema}
 use Rattle.gl_tuples.specs.declared.beats.Beat.{Beat}
 use Rattle.gl_tuples.specs.Values.{number_of}
+use Rattle.gl_schema.specs.Beats.{IsBeat, AreInOrder, last_in}
+use Rattle.gl_schema.specs.Schemas.{IsRowOf}
 use Rattle.gl_tuple_reader.specs.Entries.{are_utf8, option_bind, words_of, columns_at, stream_named}
-use Rattle.gl_tuples.specs.Gaps.{AreFileBeats}
+use Rattle.gl_tuple_reader.specs.Settings.{says_set, parameter_named, value_in}
+use Rattle.gl_tuples.specs.Flat.{BeatList}
+use Rattle.gl_tuples.specs.Gaps.{plain_list}
 
 -- an optional number is this one
 abbrev pub is_number : ℕ → Option ℕ → Bool
@@ -112,10 +116,11 @@ abbrev pub number_from : ℕ → ℕ → List (List (List ℕ)) → Option ℕ
 number_from n cycle [] = None
 number_from n cycle (r ∷ rs) = if in_cycle cycle r then Some n else number_from (n + 1) cycle rs
 
--- a file without a record has one beat, in cycle 0, with the number 0; any other one for each cycle of a record
-abbrev pub number_of_records : ℕ → List (List (List ℕ)) → Option ℕ
-number_of_records cycle [] = if 0 == cycle then Some 0 else None
-number_of_records cycle (r ∷ rs) = number_from 1 cycle (r ∷ rs)
+-- without a record there is one beat, in cycle 0, with the number 0; else one for each cycle of a record, counted
+-- behind so many others
+abbrev pub number_of_records : ℕ → ℕ → List (List (List ℕ)) → Option ℕ
+number_of_records count cycle [] = if 0 == cycle then Some 0 else None
+number_of_records count cycle (r ∷ rs) = number_from (count + 1) cycle (r ∷ rs)
 
 -- the number of the beat of a cycle, if there is one
 abbrev pub number_at : List Beat → ℕ → Option ℕ
@@ -133,11 +138,70 @@ row_at beats cycle k = option_bind (find (λ b. b.cycle == cycle) beats) (λ b. 
 abbrev pub tick_at : List Beat → ℕ → Bool
 tick_at beats cycle = option_map_or (λ b. b.tick) (find (λ b. b.cycle == cycle) beats) false
 
+-- beats of the schema in order, the last in cycle 10,000,000 at most
+pub record AreListBeats (schema : Schema) (beats : List Beat) : Type 0 where
+  pub each : AllByRecursion (IsBeat schema) (plain_list beats)
+  pub order : AreInOrder (plain_list beats)
+  pub last : last_in (plain_list beats) ≤ 10000000
+
 -- beats of the schema, one for each cycle of a record, with the records' rows and ticks; the last alone has the end; and
--- the records keep the rules
-pub record AreBeatsOf (schema : Schema) (rs : List (List (List ℕ))) (beats : List Beat) : Type 0 where
-  pub fine : AreFileBeats schema beats
-  pub numbers : (cycle : ℕ) → number_at beats cycle ≡ number_of_records cycle rs
+-- the records, which stand behind so many others, keep the rules
+pub record AreListed (count : ℕ) (schema : Schema) (rs : List (List (List ℕ))) (beats : List Beat) : Type 0 where
+  pub fine : AreListBeats schema beats
+  pub numbers : (cycle : ℕ) → number_at beats cycle ≡ number_of_records count cycle rs
   pub rows : (cycle k : ℕ) → row_at beats cycle k ≡ row_of_records schema cycle k rs
   pub ticks : (cycle : ℕ) → tick_at beats cycle ≡ tick_of_records cycle rs
   pub rules : KeepRules schema rs
+
+-- ---- the records in front
+
+-- the records in front that set parameters
+abbrev pub settings : List (List (List ℕ)) → List (List (List ℕ))
+settings [] = []
+settings (r ∷ rs) = if says_set r then r ∷ settings rs else []
+
+-- the records behind them
+abbrev pub others : List (List (List ℕ)) → List (List (List ℕ))
+others [] = []
+others (r ∷ rs) = if says_set r then others rs else r ∷ rs
+
+-- the parameter that a record's second field names
+abbrev pub parameter_said : Schema → List (List ℕ) → Option ℕ
+parameter_said schema fields = option_bind (slice_get fields 1) (parameter_named schema)
+
+-- the value that a record gives to parameter k, if it names it
+unfoldable pub value_for : Schema → ℕ → List (List ℕ) → Option ℕ
+value_for schema k fields = if is_number k (parameter_said schema fields) then value_in schema k fields else None
+
+-- the value of parameter k, of the first record that gives one
+abbrev pub value_of_records : Schema → ℕ → List (List (List ℕ)) → Option ℕ
+value_of_records schema k [] = None
+value_of_records schema k (r ∷ rs) = either (value_for schema k r) (value_of_records schema k rs)
+
+-- a record may set a parameter behind these: it is text, its three fields name a parameter and a value of it, and none
+-- before gave it one
+pub record MaySet (schema : Schema) (before : List (List (List ℕ))) (fields : List (List ℕ)) : Type 0 where
+  pub text : IsTrue (are_utf8 fields)
+  pub many : length fields ≡ 3
+  pub parameter : ℕ
+  pub named : parameter_said schema fields ≡ Some parameter
+  pub value : ℕ
+  pub is : value_in schema parameter fields ≡ Some value
+  pub new : value_of_records schema parameter before ≡ None
+
+-- each of the records may set a parameter behind those before it
+abbrev pub MayAllSet : Schema → List (List (List ℕ)) → Type 0
+MayAllSet schema rs =
+    (before : List (List (List ℕ))) (r : List (List ℕ)) (after : List (List (List ℕ))) → rs ≡ before ++ r ∷ after
+    → MaySet schema before r
+
+-- each parameter has the value that one of the records gives it
+pub record AreSet (schema : Schema) (rs : List (List (List ℕ))) (sets : List ℕ) : Type 0 where
+  pub held : IsRowOf schema.parameters sets
+  pub values : (k : ℕ) → slice_get sets k ≡ value_of_records schema k rs
+  pub rules : MayAllSet schema rs
+
+-- the records in front set the parameters, and the others are the beats
+pub record AreBeatsOf (schema : Schema) (rs : List (List (List ℕ))) (beats : BeatList) : Type 0 where
+  pub set' : AreSet schema (settings rs) beats.sets
+  pub listed : AreListed (length (settings rs)) schema (others rs) beats.list

@@ -1,6 +1,6 @@
--- Records, one after another, made into beats, or the first rule that one of them breaks.
+-- Records with a cycle, one after another, made into beats, or the first rule that one of them breaks.
 -- What the program promises of a tuple file rests on this text.
-use Rattle.std.specs.Prelude.{◌≡◌, ℕ, ◌+◌, ◌<◌, Bool, true, false, List, [], ◌∷◌, ◌++◌, length, Option, Some, None, Result, Ok, Err, nat_lt, ◌==◌, slice_get, slice_set, replicate, is_some, IfSome, unwrap_or, if◌then◌else◌}
+use Rattle.std.specs.Prelude.{ℕ, ◌+◌, ◌<◌, Bool, true, false, List, [], ◌∷◌, ◌++◌, length, Option, Some, None, Result, Ok, Err, nat_lt, ◌==◌, slice_get, slice_set, replicate, is_some, IfSome, unwrap_or, if◌then◌else◌}
 use Rattle.gl_bits.specs.Words.{Word}
 use Rattle.gl_schema.specs.declared.schema.Schema.{Schema}
 use Rattle.gl_tuples.specs.declared.fault.TupleFault.{TupleFault}
@@ -83,9 +83,13 @@ abbrev pub filing_after : Schema → List (List (List ℕ)) → Filing → Resul
 filing_after schema [] f = Ok f
 filing_after schema (r ∷ rs) f = next_filing schema f r >>= filing_after schema rs
 
+-- before the first record with a cycle, behind so many others
+abbrev pub behind : ℕ → Schema → Filing
+behind count schema = record { whole = no_beats schema; current = None; records = count }
+
 -- before the first record
 abbrev pub no_records : Schema → Filing
-no_records schema = record { whole = no_beats schema; current = None; records = 0 }
+no_records schema = behind 0 schema
 
 -- the last beat has the end; without a record it is that of cycle 0
 abbrev pub ended : ℕ → Filing → List Beat
@@ -95,10 +99,6 @@ ended streams f = f.whole.beats ++ record (unwrap_or f.current (empty_beat strea
 unfoldable pub records_of : List ℕ → List (List (List ℕ))
 records_of text = records default_config (strip_bom text)
 
--- the beats of records, or the first rule that one of them breaks
-unfoldable pub beats_of : Schema → List (List (List ℕ)) → Result (List Beat) TupleFault
-beats_of schema rs = filing_after schema rs (no_records schema) >>= λ f. Ok (ended (length schema.streams) f)
-
--- the first rule that is broken by records that have no beats
-abbrev pub IsFirstFault : Schema → List (List (List ℕ)) → TupleFault → Type 0
-IsFirstFault schema rs fault = beats_of schema rs ≡ Err fault
+-- the beats of records with a cycle, behind so many others, or the first rule that one of them breaks
+unfoldable pub list_of : ℕ → Schema → List (List (List ℕ)) → Result (List Beat) TupleFault
+list_of count schema rs = filing_after schema rs (behind count schema) >>= λ f. Ok (ended (length schema.streams) f)

@@ -1,3 +1,4 @@
 pub mod Entries
 pub mod Filing
+pub mod Settings
 pub mod FileBeats

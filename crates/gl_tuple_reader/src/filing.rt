@@ -1,4 +1,4 @@
-//! Records, one after another, made into beats.
+//! Records with a cycle, one after another, made into beats.
 
 ghost use Rattle.std.specs.Prelude.{◌≡◌, ◌+◌, ◌<◌, ◌^◌, length, replicate, unwrap_or, None, Ok, IfOk};
 ghost use Rattle.gl_schema.specs.Schemas.{IsSchema};
@@ -20,7 +20,7 @@ use std::alloc::Global;
 pub struct Filing {
     /// The beats of cycles before the last record's.
     pub whole: GrowingBeats,
-    /// The beat of the last record's cycle; none before the first record.
+    /// The beat of the last record's cycle; none before the first record with a cycle.
     pub current: Option<Beat>,
     /// How many records were read.
     pub records: u64,
@@ -89,11 +89,13 @@ impl Filing {
         })
     }
 
-    /// The beats of all records. The last one has the end.
-    pub fn end(self, alloc: Global, streams: usize) -> Result<Beats, TupleFault>
+    /// The beats of all records, of which the last one has the end, with these values of the
+    /// parameters.
+    pub fn end(self, alloc: Global, streams: usize, values: Vec<u64>) -> Result<Beats, TupleFault>
         requires many { streams ≡ length self.whole.columns }
         requires rows { spec.CurrentFit self.whole.columns self.current }
-        ensures { Gives result (Ok (spec.ended streams self)) }
+        ensures { Gives result
+            (Ok (record { list = spec.ended streams self; sets = values.items })) }
     {
         let Filing {
             mut whole,
@@ -103,7 +105,7 @@ impl Filing {
         let mut last = last_beat(alloc, streams, current)?;
         last.end = true;
         whole.push(&last)?;
-        Ok(whole.done())
+        Ok(whole.done(values))
     }
 }
 

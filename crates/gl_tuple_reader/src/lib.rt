@@ -6,7 +6,9 @@
 
 mod entry;
 mod filing;
+mod progress;
 pub mod reading;
 mod record;
+mod setting;
 
 pub use reading::{one_reading, read_tuples};

@@ -20,7 +20,7 @@ use std::alloc::Global;
 
 /// The field at a place.
 #[tactic(auto, using(crate::proofs::Fields::field_at_is))]
-fn field(fields: &ByteRecord, at: usize) -> Option<&[u8]>
+pub fn field(fields: &ByteRecord, at: usize) -> Option<&[u8]>
     ensures { option_map (λ f. f.now) result ≡ slice_get (fields_of fields.now) at }
 {
     fields.get(at)
@@ -181,8 +181,8 @@ fn row_of(
     Ok(row)
 }
 
-/// The word of a field in a column.
-fn word_at(fields: &ByteRecord, at: usize, column: &Column) -> Option<Word>
+/// The word of a field in a column, or in a parameter.
+pub fn word_at(fields: &ByteRecord, at: usize, column: &Column) -> Option<Word>
     requires { IsColumn column.now }
     ensures { result ≡ spec.option_bind (slice_get (fields_of fields.now) at)
         (values.word_of column.now.kind) }

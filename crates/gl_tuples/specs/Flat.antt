@@ -5,6 +5,11 @@ use Rattle.gl_gaps.specs.declared.Gaps.{Gaps}
 use Rattle.gl_tuples.specs.declared.beats.Beat.{Beat}
 use Rattle.gl_tuples.specs.declared.beats.Head.{Head}
 
+-- beats in order, and a word for each parameter
+pub record BeatList : Type 0 where
+  pub list : List Beat
+  pub sets : List ℕ
+
 -- a row of columns of these bits, whose numbers begin a list
 abbrev pub words_in : List ℕ → List ℕ → List Word
 words_in [] ns = []

@@ -8,14 +8,19 @@ use Rattle.gl_schema.specs.Beats.{AreBeats, last_cycle}
 use Rattle.gl_tuples.specs.declared.beats.Beat.{Beat}
 use Rattle.gl_tuples.specs.declared.fault.TupleFault.{TupleFault}
 use Rattle.gl_tuples.specs.declared.fault.TupleFault.TheVariants.{TooClose}
+use Rattle.gl_tuples.specs.Flat.{BeatList}
 
 -- a beat without the number of its record, the words of its rows as numbers
 abbrev pub plain_beat : Beat → plain.Beat
 plain_beat b = record { cycle = b.cycle; rows = map (λ r. option_map bits_of r) b.rows; tick = b.tick; end = b.end }
 
--- beats that code holds, as plain data
-abbrev pub plain_beats : List Beat → List plain.Beat
-plain_beats beats = map plain_beat beats
+-- a list of beats as plain data
+abbrev pub plain_list : List Beat → List plain.Beat
+plain_list beats = map plain_beat beats
+
+-- beats that code holds, with the words of the parameters, as plain data
+abbrev pub plain_beats : BeatList → plain.Beats
+plain_beats beats = record { list = plain_list beats.list; sets = beats.sets }
 
 -- the number of the first beat that comes too early: one may come from the first of these cycles on, and one with a
 -- tick or the end from the second on too
@@ -31,6 +36,6 @@ close_answer None = Ok tt
 close_answer (Some number) = Err (TooClose number)
 
 -- the beats of a file are beats of the schema, the last in cycle 10,000,000 at most
-pub record AreFileBeats (schema : Schema) (beats : List Beat) : Type 0 where
+pub record AreFileBeats (schema : Schema) (beats : BeatList) : Type 0 where
   pub beats' : AreBeats schema (plain_beats beats)
   pub last : last_cycle (plain_beats beats) ≤ 10000000

@@ -1,4 +1,5 @@
-//! Beats: the cycles in which tuples come, ticks of the clock, and the end.
+//! Beats: the cycles in which tuples come, ticks of the clock, and the end; and the words of the
+//! parameters.
 
 ghost use Rattle.std.specs.Prelude.{◌≡◌, ◌+◌, ◌^◌, ◌≤◌, ◌↔◌, ◌&&◌, ◌||◌, Some, length, map, nat_lt, option_map, slice_get, IfOk, IsOk, OnOk, MatchResult};
 ghost use Rattle.gl_values.specs.Kinds.{width_of};
@@ -48,24 +49,25 @@ struct Head {
     end: bool,
 }
 
-/// Beats in order, in two flat lists: 16 bytes for each, and 8 for each word of a row.
+/// Beats in order, in two flat lists: 16 bytes for each, and 8 for each word of a row. And the word
+/// of each parameter of the schema.
 #[derive(Drop, Debug)]
 pub struct Beats {
     // The bits of the columns of each stream, the same for all beats.
     shape: Listed<Columns>,
     heads: Vec<Head>,
     numbers: Vec<u64>,
+    sets: Vec<u64>,
 }
 
 impl Model for Beats {
-    ghost use Rattle.std.specs.Prelude.{List};
     ghost use Rattle.std.specs.List.{AllByRecursion};
-    ghost use Rattle.gl_tuples.specs.declared.beats.Beat.{Beat};
-    ghost use Rattle.gl_tuples.specs.Flat.{IsInside, beats_in};
+    ghost use Rattle.gl_tuples.specs.Flat.{BeatList, IsInside, beats_in};
 
-    ghost Value = { List Beat };
+    ghost Value = { BeatList };
 
-    ghost view = { λ b. beats_in b.shape b.numbers.items b.heads.items };
+    ghost view = { λ b.
+        record { list = beats_in b.shape b.numbers.items b.heads.items; sets = b.sets.items } };
 
     ghost invariant = { λ b. AllByRecursion (IsInside b.shape b.numbers.items) b.heads.items };
 }
@@ -128,14 +130,15 @@ impl GrowingBeats {
         Ok(())
     }
 
-    /// The beats, to which no more are added.
-    pub fn done(self) -> Beats
-        ensures { result ≡ self.beats }
+    /// The beats, to which no more are added, and the words of the parameters.
+    pub fn done(self, sets: Vec<u64>) -> Beats
+        ensures { result ≡ record { list = self.beats; sets = sets.items } }
     {
         Beats {
             shape: self.shape,
             heads: self.heads,
             numbers: self.numbers,
+            sets,
         }
     }
 }
@@ -143,14 +146,21 @@ impl GrowingBeats {
 impl Beats {
     /// The number of beats.
     pub fn len(&self) -> usize
-        ensures { result ≡ length self.now }
+        ensures { result ≡ length self.now.list }
     {
         self.heads.len()
     }
 
+    /// The word of each parameter, in the order of the schema.
+    pub fn sets(&self) -> &[u64]
+        ensures { result.now ≡ self.now.sets }
+    {
+        self.sets.as_slice()
+    }
+
     /// The beat at a place; None exactly where the place is not below the length.
     pub fn get(&self, at: usize) -> Option<BeatView<'_>>
-        ensures { result ≡ slice_get self.now at }
+        ensures { result ≡ slice_get self.now.list at }
     {
         let head = *self.heads.get(at)?;
         let (_, numbers) = self.numbers.as_slice().split_at(head.first as usize);
@@ -164,7 +174,7 @@ impl Beats {
     /// Whether beats are so far apart; else `TooClose` with the number of the first that is not.
     /// Takes no memory.
     pub fn keep(&self, gaps: Gaps) -> Result<(), TupleFault>
-        ensures exact { result ≡ close_answer (first_close gaps 0 0 self.now) }
+        ensures exact { result ≡ close_answer (first_close gaps 0 0 self.now.list) }
         ensures keeps { IsOk result ↔ KeepsGaps gaps (plain_beats self.now) }
     {
         kept(self.heads.as_slice(), gaps)

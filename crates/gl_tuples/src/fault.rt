@@ -42,6 +42,15 @@ pub enum TupleFault {
     /// A beat nearer to the one before than the gap.
     #[error("too close at record {number}")]
     TooClose { number: u64 },
+    /// A record that sets no parameter of the schema.
+    #[error("no parameter at record {number}")]
+    UnknownParameter { number: u64 },
+    /// A second value of a parameter.
+    #[error("a second value of the parameter at record {number}")]
+    SetTwice { number: u64 },
+    /// A record with a cycle, or the end of the file, before each parameter has a value.
+    #[error("a parameter without a value at record {number}")]
+    NotSet { number: u64 },
     /// There is no memory left.
     #[error("out of memory")]
     Memory,

@@ -142,7 +142,7 @@ fn put_value(into: &mut [u8; 1024], at: usize, kind: Kind, word: Word) -> usize
 }
 
 /// The number of a word of at most 64 bits.
-pub(crate) fn small(word: Word) -> u64
+pub fn small(word: Word) -> u64
     requires { word.width ≤ 64 }
     ensures value { result ≡ word.bits }
     ensures fits { result < 2 ^ word.width }

@@ -1,1 +1,3 @@
+pub mod Pins
+pub mod Settings
 pub mod Ticks

@@ -17,8 +17,10 @@ ticking =
 
 -- a stream with one column
 abbrev pub schema : Schema
-schema =
-    record { streams = record { name = codes "s"; columns = record { name = codes "v"; kind = Unsigned 8 } ∷ [] } ∷ [] }
+schema = record {
+  streams = record { name = codes "s"; columns = record { name = codes "v"; kind = Unsigned 8 } ∷ [] } ∷ [];
+  parameters = [];
+}
 
 -- a record that says a tick of cycle 0, with these fields behind
 abbrev pub tick_record : List (List ℕ) → List (List ℕ)

@@ -1,10 +1,10 @@
 //! Rows of texts.
 //!
-//! A row `schema TEXT` prints the streams of a schema or its fault, a row `tuples TEXT` the beats of a
-//! tuple file or its fault, a row `gap NUMBER NUMBER TEXT` whether its beats keep a gap, and ticks
-//! another one, and a row `line NUMBER NUMBER` the line of a result. A row `behind NUMBER TEXT` has so
-//! many records with a tick in front of the text, one in each cycle, and prints how many beats the
-//! file has, or its fault.
+//! A row `schema TEXT` prints the streams and parameters of a schema or its fault, a row `tuples
+//! TEXT` the beats of a tuple file or its fault, a row `gap NUMBER NUMBER TEXT` whether its beats keep
+//! a gap, and ticks another one, and a row `line NUMBER NUMBER` the line of a result. A row `behind
+//! NUMBER TEXT` has so many records with a tick in front of the text, one in each cycle, and prints
+//! how many beats the file has, or its fault.
 
 ghost use Rattle.std.specs.Prelude.{◌≡◌, [], ◌∷◌, IfOk, IfSome};
 ghost use Rattle.gl_bits.specs.Words.{widths_of};
@@ -25,7 +25,7 @@ const SCHEMA: &[u8] = b"stream trades (symbol text4, price u32, volume u32); str
 /// Its streams.
 const STREAMS: usize = 2;
 
-// Prints the streams of a schema's text, or its fault.
+// Prints the streams and parameters of a schema's text, or its fault.
 fn print_schema(rt: &HostRuntime, text: &[u8]) -> io::Result<()> {
     match read_schema(rt.alloc(), text) {
         Ok(schema) => print_streams(rt, &schema),
@@ -43,6 +43,11 @@ fn print_streams(rt: &HostRuntime, schema: &Schema) -> io::Result<()> {
             let kind = column.kind;
             print!(rt; " {name} {kind:?}")?;
         }
+    }
+    for parameter in schema.parameters.as_slice() {
+        let name = str::from_utf8(parameter.name.as_slice()).unwrap_or("?");
+        let kind = parameter.kind;
+        print!(rt; "|parameter {name} {kind:?}")?;
     }
     println!(rt)
 }

@@ -1,14 +1,17 @@
 //! The definitions on worked rows: what cycles show, what stands on ports, and records that no file has.
 
-ghost use Rattle.std.specs.Prelude.{◌≡◌, ℕ, ◌+◌, List, [], ◌∷◌, Some, None, true, false, codes, bytes_eq, ◌==◌, if◌then◌else◌};
+ghost use Rattle.std.specs.Prelude.{◌≡◌, ℕ, ◌+◌, [], ◌∷◌, Some, None, true, false, codes, bytes_eq, ◌==◌, if◌then◌else◌};
 ghost use Rattle.gl_values.specs.declared.kind.Kind.TheVariants as kinds;
 ghost use Rattle.gl_schema.specs.Schemas.{text_word};
 ghost use Rattle.gl_values.specs.Times.{tslices};
 ghost use Rattle.gl_schema.specs.Beats.{ticks_of, times_of};
 ghost use Rattle.gl_schema.specs.Ports as ports;
 ghost use Rattle.gl_schema.specs.Seen as seen;
-ghost use Rattle.gl_tuples.specs.declared.beats.Beat.{Beat};
+ghost use Rattle.gl_tuples.specs.Flat.{BeatList};
 ghost use Rattle.gl_tuple_reader.specs.FileBeats.{AreBeatsOf};
+ghost use Rattle.gl_tuples_tests.specs.Pins as two;
+ghost use Rattle.gl_tuples_tests.specs.Settings as sets;
+ghost use Rattle.gl_tuples_tests.specs.Settings.{row_record, set_record};
 ghost use Rattle.gl_tuples_tests.specs.Ticks.{tick_record, ticking};
 ghost use Rattle.gl_tuples_tests.specs.Ticks as ticks;
 
@@ -55,119 +58,20 @@ fn worked_seen()
         ≡ record { cycle = 0; row = None; end = false; group = false; queue = false } ∷ record { cycle = 1; row = Some (7 ∷ []); end = false; group = false; queue = false } ∷ record { cycle = 2; row = None; end = true; group = false; queue = false } ∷ [] }
 {}
 
-// A tuple of the first of two streams in file cycle 0, and a tick with the end in file cycle 2, on
-// the ports of a module: reset first, and nothing in a cycle without a beat.
+// A tuple of the first of two streams in file cycle 0, a tick with the end in file cycle 2, and a
+// parameter, on the ports of a module: reset first, and nothing in a cycle without a beat. The
+// parameter has its value in every cycle, that of the reset too.
 fn worked_pins()
-    ensures reset { ports.pins (record {
-      streams = record
-          { name = codes "s"; columns = record { name = codes "v"; kind = kinds.Unsigned 8 } ∷ [] }
-          ∷ record {
-            name = codes "t";
-            columns = record { name = codes "w"; kind = kinds.Unsigned 8 }
-                ∷ [];
-          } ∷ [];
-    }) (record {
-      cycle = 0;
-      rows = Some (7 ∷ []) ∷ None
-          ∷ [];
-      tick = false;
-      end = false;
-    } ∷ record {
-      cycle = 2;
-      rows = None ∷ None
-          ∷ [];
-      tick = true;
-      end = true;
-    } ∷ []) 0
-        ≡ ports.pin (codes "rst") 1 ∷ ports.pin (codes "in__s__valid") 0 ∷ ports.pin (codes "in__s__v") 0 ∷ ports.pin (codes "in__t__valid") 0 ∷ ports.pin (codes "in__t__w") 0 ∷ ports.pin (codes "eos") 0 ∷ ports.pin (codes "tick") 0 ∷ [] }
-    ensures first { ports.pins (record {
-      streams = record
-          { name = codes "s"; columns = record { name = codes "v"; kind = kinds.Unsigned 8 } ∷ [] }
-          ∷ record {
-            name = codes "t";
-            columns = record { name = codes "w"; kind = kinds.Unsigned 8 }
-                ∷ [];
-          } ∷ [];
-    }) (record {
-      cycle = 0;
-      rows = Some (7 ∷ []) ∷ None
-          ∷ [];
-      tick = false;
-      end = false;
-    } ∷ record {
-      cycle = 2;
-      rows = None ∷ None
-          ∷ [];
-      tick = true;
-      end = true;
-    } ∷ []) 1
-        ≡ ports.pin (codes "rst") 0 ∷ ports.pin (codes "in__s__valid") 1 ∷ ports.pin (codes "in__s__v") 7 ∷ ports.pin (codes "in__t__valid") 0 ∷ ports.pin (codes "in__t__w") 0 ∷ ports.pin (codes "eos") 0 ∷ ports.pin (codes "tick") 0 ∷ [] }
-    ensures between { ports.pins (record {
-      streams = record
-          { name = codes "s"; columns = record { name = codes "v"; kind = kinds.Unsigned 8 } ∷ [] }
-          ∷ record {
-            name = codes "t";
-            columns = record { name = codes "w"; kind = kinds.Unsigned 8 }
-                ∷ [];
-          } ∷ [];
-    }) (record {
-      cycle = 0;
-      rows = Some (7 ∷ []) ∷ None
-          ∷ [];
-      tick = false;
-      end = false;
-    } ∷ record {
-      cycle = 2;
-      rows = None ∷ None
-          ∷ [];
-      tick = true;
-      end = true;
-    } ∷ []) 2
-        ≡ ports.pin (codes "rst") 0 ∷ ports.pin (codes "in__s__valid") 0 ∷ ports.pin (codes "in__s__v") 0 ∷ ports.pin (codes "in__t__valid") 0 ∷ ports.pin (codes "in__t__w") 0 ∷ ports.pin (codes "eos") 0 ∷ ports.pin (codes "tick") 0 ∷ [] }
-    ensures last { ports.pins (record {
-      streams = record
-          { name = codes "s"; columns = record { name = codes "v"; kind = kinds.Unsigned 8 } ∷ [] }
-          ∷ record {
-            name = codes "t";
-            columns = record { name = codes "w"; kind = kinds.Unsigned 8 }
-                ∷ [];
-          } ∷ [];
-    }) (record {
-      cycle = 0;
-      rows = Some (7 ∷ []) ∷ None
-          ∷ [];
-      tick = false;
-      end = false;
-    } ∷ record {
-      cycle = 2;
-      rows = None ∷ None
-          ∷ [];
-      tick = true;
-      end = true;
-    } ∷ []) 3
-        ≡ ports.pin (codes "rst") 0 ∷ ports.pin (codes "in__s__valid") 0 ∷ ports.pin (codes "in__s__v") 0 ∷ ports.pin (codes "in__t__valid") 0 ∷ ports.pin (codes "in__t__w") 0 ∷ ports.pin (codes "eos") 1 ∷ ports.pin (codes "tick") 1 ∷ [] }
-    ensures behind { ports.pins (record {
-      streams = record
-          { name = codes "s"; columns = record { name = codes "v"; kind = kinds.Unsigned 8 } ∷ [] }
-          ∷ record {
-            name = codes "t";
-            columns = record { name = codes "w"; kind = kinds.Unsigned 8 }
-                ∷ [];
-          } ∷ [];
-    }) (record {
-      cycle = 0;
-      rows = Some (7 ∷ []) ∷ None
-          ∷ [];
-      tick = false;
-      end = false;
-    } ∷ record {
-      cycle = 2;
-      rows = None ∷ None
-          ∷ [];
-      tick = true;
-      end = true;
-    } ∷ []) 4
-        ≡ ports.pin (codes "rst") 0 ∷ ports.pin (codes "in__s__valid") 0 ∷ ports.pin (codes "in__s__v") 0 ∷ ports.pin (codes "in__t__valid") 0 ∷ ports.pin (codes "in__t__w") 0 ∷ ports.pin (codes "eos") 0 ∷ ports.pin (codes "tick") 0 ∷ [] }
+    ensures reset { ports.pins two.schema two.beats 0
+        ≡ ports.pin (codes "rst") 1 ∷ two.two_streams 0 0 (two.others 0 0) }
+    ensures first { ports.pins two.schema two.beats 1
+        ≡ ports.pin (codes "rst") 0 ∷ two.two_streams 1 7 (two.others 0 0) }
+    ensures between { ports.pins two.schema two.beats 2
+        ≡ ports.pin (codes "rst") 0 ∷ two.two_streams 0 0 (two.others 0 0) }
+    ensures last { ports.pins two.schema two.beats 3
+        ≡ ports.pin (codes "rst") 0 ∷ two.two_streams 0 0 (two.others 1 1) }
+    ensures behind { ports.pins two.schema two.beats 4
+        ≡ ports.pin (codes "rst") 0 ∷ two.two_streams 0 0 (two.others 0 0) }
 {}
 
 // The inputs that beats bring: a tick comes before the row of its cycle, a tick alone counts, and so
@@ -191,30 +95,12 @@ fn worked_windows()
 // Files whose records break a rule have no beats: a value too wide for its column, a second row of
 // a stream in a cycle, and a record behind the end.
 fn refused_records()
-    ensures too_wide { (beats : List Beat) → AreBeatsOf (record {
-      streams = record {
-        name = codes "s";
-        columns =
-            record { name = codes "v"; kind = kinds.Unsigned 8 } ∷ [];
-      } ∷ [];
-    })
+    ensures too_wide { (beats : BeatList) → AreBeatsOf ticks.schema
         ((codes "0" ∷ codes "s" ∷ codes "999" ∷ []) ∷ []) beats → ⊥ }
-    ensures twice { (beats : List Beat) → AreBeatsOf (record {
-      streams = record {
-        name = codes "s";
-        columns =
-            record { name = codes "v"; kind = kinds.Unsigned 8 } ∷ [];
-      } ∷ [];
-    })
+    ensures twice { (beats : BeatList) → AreBeatsOf ticks.schema
         ((codes "0" ∷ codes "s" ∷ codes "1" ∷ []) ∷ (codes "0" ∷ codes "s" ∷ codes "2" ∷ [])
         ∷ []) beats → ⊥ }
-    ensures behind { (beats : List Beat) → AreBeatsOf (record {
-      streams = record {
-        name = codes "s";
-        columns =
-            record { name = codes "v"; kind = kinds.Unsigned 8 } ∷ [];
-      } ∷ [];
-    })
+    ensures behind { (beats : BeatList) → AreBeatsOf ticks.schema
         ((codes "0" ∷ codes "s" ∷ codes "1" ∷ []) ∷ (codes "0" ∷ codes "end" ∷ [])
         ∷ (codes "1" ∷ codes "s" ∷ codes "2" ∷ []) ∷ []) beats → ⊥ }
 {}
@@ -222,12 +108,21 @@ fn refused_records()
 // Nor do those with a second tick in a cycle, or with a field behind a tick, whether or not the
 // cycle has one already.
 fn refused_ticks()
-    ensures twice { (beats : List Beat)
+    ensures twice { (beats : BeatList)
         → AreBeatsOf ticks.schema (tick_record [] ∷ tick_record [] ∷ []) beats → ⊥ }
-    ensures behind { (beats : List Beat)
+    ensures behind { (beats : BeatList)
         → AreBeatsOf ticks.schema (tick_record (codes "1" ∷ []) ∷ []) beats → ⊥ }
-    ensures twice_behind { (beats : List Beat)
+    ensures twice_behind { (beats : BeatList)
         → AreBeatsOf ticks.schema (tick_record [] ∷ tick_record (codes "1" ∷ []) ∷ []) beats → ⊥ }
+{}
+
+// Files that set a parameter twice, that set none, or that set one behind a tuple have no beats.
+fn refused_settings()
+    ensures twice { (beats : BeatList) → AreBeatsOf sets.schema
+        (set_record (codes "5") ∷ set_record (codes "5") ∷ row_record ∷ []) beats → ⊥ }
+    ensures none { (beats : BeatList) → AreBeatsOf sets.schema (row_record ∷ []) beats → ⊥ }
+    ensures late { (beats : BeatList) → AreBeatsOf sets.schema
+        (set_record (codes "5") ∷ row_record ∷ set_record (codes "5") ∷ []) beats → ⊥ }
 {}
 
 /// Calls each law and each worked row once. They do nothing.
@@ -244,4 +139,5 @@ pub(crate) fn definitions() {
     worked_windows();
     refused_records();
     refused_ticks();
+    refused_settings();
 }

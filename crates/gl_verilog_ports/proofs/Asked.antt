@@ -7,10 +7,10 @@ use Rattle.gl_values.specs.Kinds.{width_of}
 use Rattle.gl_schema.specs.declared.schema.Column.{Column}
 use Rattle.gl_schema.specs.declared.schema.Stream.{Stream}
 use Rattle.gl_schema.specs.declared.schema.Schema.{Schema}
-use Rattle.gl_schema.specs.Ports.{rst, eos, tick, in_valid, in_column}
-use Rattle.gl_schema.specs.Profile.{ProfilePort, clk, input, column_inputs, stream_inputs, streams_inputs, input_ports}
+use Rattle.gl_schema.specs.Ports.{rst, eos, tick, in_valid, in_column, in_parameter}
+use Rattle.gl_schema.specs.Profile.{ProfilePort, clk, input, column_inputs, stream_inputs, streams_inputs, parameter_inputs, last_inputs, input_ports}
 use Rattle.gl_verilog_ports.specs.Fit.{inputs, is_among}
-use Rattle.gl_verilog_ports.specs.Steps.{behind, is_valid_name, is_column_name, among_columns, among_stream, among_streams, is_end_or_tick, is_asked}
+use Rattle.gl_verilog_ports.specs.Steps.{behind, is_valid_name, is_column_name, is_parameter_name, among_columns, among_stream, among_streams, among_parameters, is_last_input, is_asked}
 
 front_step : (test : List ℕ → Bool) (same : Bool) (o : Option (List ℕ)) (r : Bool) → option_map_or test o false ≡ r → option_map_or test (if same then o else None) false ≡ same && r
 front_step test true o r h = h
@@ -35,6 +35,10 @@ column_is stream column name =
     (λ rest. behind_is stream (codes "__" ++ column) rest (λ more. option_map_or (λ last. bytes_eq column last) (behind (codes "__") more) false)
     (λ more. behind_is (codes "__") column more (λ last. bytes_eq column last) (λ last. refl))
     ∙ ap (λ (x : List ℕ). bytes_eq x rest) (sym (append_assoc stream (codes "__") column)))
+
+pub parameter_is : (parameter name : List ℕ) → is_parameter_name parameter name ≡ bytes_eq (in_parameter parameter) name
+unfolding in_parameter
+parameter_is parameter name = behind_is (codes "set__") parameter name (λ last. bytes_eq parameter last) (λ last. refl)
 
 -- of the first port of a name among these
 abbrev first : List ProfilePort → List ℕ → ℕ → Option Bool
@@ -82,23 +86,26 @@ streams_are [] name width = refl
 streams_are (s ∷ ss) name width =
     rw (stream_is s name width, streams_are ss name width) (sym (first_append (stream_inputs s) (streams_inputs ss) name width))
 
--- what stands behind the streams
-abbrev last : List ProfilePort
-last = input eos 1 ∷ input tick 1 ∷ []
+parameters_are : (ps : List Column) (name : List ℕ) (width : ℕ) → among_parameters ps name width ≡ first (parameter_inputs ps) name width
+parameters_are [] name width = refl
+parameters_are (p ∷ ps) name width =
+    rw (parameter_is p.name name, parameters_are ps name width) (sym (first_next (input (in_parameter p.name) (width_of p.kind)) (parameter_inputs ps) name width))
 
-last_is : (name : List ℕ) (width : ℕ) → is_end_or_tick name width ≡ unwrap_or (first last name width) false
-last_is name width =
-    ap (λ (x : Bool). if bytes_eq eos name then nat_eq 1 width else x) (sym (un_next (input tick 1) [] name width)) ∙ sym (un_next (input eos 1) (input tick 1 ∷ []) name width)
+last_is : (schema : Schema) (name : List ℕ) (width : ℕ) → is_last_input schema.parameters name width ≡ unwrap_or (first (last_inputs true schema) name width) false
+last_is schema name width =
+    ap (λ (x : Option Bool). if bytes_eq eos name then nat_eq 1 width else if bytes_eq tick name then nat_eq 1 width else unwrap_or x false) (parameters_are schema.parameters name width)
+    ∙ ap (λ (x : Bool). if bytes_eq eos name then nat_eq 1 width else x) (sym (un_next (input tick 1) (parameter_inputs schema.parameters) name width))
+    ∙ sym (un_next (input eos 1) (input tick 1 ∷ parameter_inputs schema.parameters) name width)
 
-rest_is : (schema : Schema) (name : List ℕ) (width : ℕ) → unwrap_or (among_streams schema.streams name width) (is_end_or_tick name width) ≡ unwrap_or (first (streams_inputs schema.streams ++ last) name width) false
+rest_is : (schema : Schema) (name : List ℕ) (width : ℕ) → unwrap_or (among_streams schema.streams name width) (is_last_input schema.parameters name width) ≡ unwrap_or (first (streams_inputs schema.streams ++ last_inputs true schema) name width) false
 rest_is schema name width =
-    ap (λ (x : Option Bool). unwrap_or x (is_end_or_tick name width)) (streams_are schema.streams name width)
-    ∙ ap (unwrap_or (first (streams_inputs schema.streams) name width)) (last_is name width)
-    ∙ sym (or_un (first (streams_inputs schema.streams) name width) (first last name width) false)
-    ∙ ap (λ (x : Option Bool). unwrap_or x false) (sym (first_append (streams_inputs schema.streams) last name width))
+    ap (λ (x : Option Bool). unwrap_or x (is_last_input schema.parameters name width)) (streams_are schema.streams name width)
+    ∙ ap (unwrap_or (first (streams_inputs schema.streams) name width)) (last_is schema name width)
+    ∙ sym (or_un (first (streams_inputs schema.streams) name width) (first (last_inputs true schema) name width) false)
+    ∙ ap (λ (x : Option Bool). unwrap_or x false) (sym (first_append (streams_inputs schema.streams) (last_inputs true schema) name width))
 
 pub asked : (schema : Schema) (name : List ℕ) (width : ℕ) → is_asked schema name width ≡ is_among (inputs schema) name width
 asked schema name width =
     ap (λ (x : Bool). if bytes_eq clk name then nat_eq 1 width else if bytes_eq rst name then nat_eq 1 width else x) (rest_is schema name width)
-    ∙ ap (λ (x : Bool). if bytes_eq clk name then nat_eq 1 width else x) (sym (un_next (input rst 1) (streams_inputs schema.streams ++ last) name width))
+    ∙ ap (λ (x : Bool). if bytes_eq clk name then nat_eq 1 width else x) (sym (un_next (input rst 1) (streams_inputs schema.streams ++ last_inputs true schema) name width))
     ∙ sym (un_next (input clk 1) (input_ports true schema) name width)

@@ -1,21 +1,23 @@
 -- A module whose ports are those of the profile, no two of one name: it fits the schema, and shows the columns of the result.
-use Rattle.std.proofs.Common.{◌≡◌, ℕ, zero, suc, ◌≤◌, true, false, List, [], ◌∷◌, ◌++◌, length, map, take, Some, refl, sym, ap, subst, ◌∙◌, arith, codes, append_assoc, Bool}
-use Rattle.std.specs.Prelude.{bytes_eq, find, filter, option_map, slice_get}
+use Rattle.std.proofs.Common.{◌≡◌, ℕ, zero, suc, ◌≤◌, true, false, List, [], ◌∷◌, ◌++◌, length, map, take, Option, Some, None, inl, inr, refl, sym, ap, subst, ◌∙◌, arith, codes, append_assoc, Bool}
+use Rattle.std.specs.Prelude.{bytes_eq, find, filter, option_map, slice_get, if◌then◌else◌}
 use Rattle.std.specs.List.{AllByRecursion, IsDistinct}
 use Rattle.std.specs.Option.{option_or}
+use Rattle.std.proofs.lemmas.Bool.{cases_Bool}
 use Rattle.std.proofs.lemmas.List.{append-nil, map-append}
 use Rattle.std.proofs.lemmas.List.Folds.{find-append}
 use Rattle.std.proofs.lemmas.Slice.Eq.{bytes_eq-Decides}
 use Rattle.gl_bits.proofs.AllLists.{all_append, all_at, all_back, all_front, get_unmapped, length_map}
-use Rattle.gl_bits.proofs.Bools.{bytes_turned}
+use Rattle.gl_bits.proofs.Bools.{bytes_same, bytes_turned}
 use Rattle.gl_values.specs.declared.kind.Kind as bits
 use Rattle.gl_values.specs.Kinds.{IsKind, width_of}
 use Rattle.gl_schema.specs.declared.schema.Column.{Column}
 use Rattle.gl_schema.specs.declared.schema.Stream.{Stream}
 use Rattle.gl_schema.specs.declared.schema.Schema.{Schema}
 use Rattle.gl_schema.specs.Schemas.{column_names, kinds_of}
-use Rattle.gl_schema.specs.Ports.{rst, eos, tick, out_valid, out_column, out_eos, fault_group, fault_queue}
-use Rattle.gl_schema.specs.Profile.{In, Out, ProfilePort, clk, column_inputs, column_outputs, input, input_ports, output, output_ports, port_names, profile, stream_inputs, streams_inputs, tick_input}
+use Rattle.gl_schema.proofs.InputNames.{first_byte, parameter_first, tick_differs}
+use Rattle.gl_schema.specs.Ports.{rst, eos, tick, in_parameter, out_valid, out_column, out_eos, fault_group, fault_queue}
+use Rattle.gl_schema.specs.Profile.{In, Out, ProfilePort, clk, column_inputs, column_outputs, input, input_ports, output, output_ports, port_names, profile, stream_inputs, streams_inputs, parameter_inputs, tick_input, last_inputs}
 use Rattle.gl_verilog.specs.Module.{Module, Declaration, Input}
 use Rattle.gl_verilog.specs.Text.{HasModule}
 use Rattle.gl_verilog.specs.Valid.{AreDistinct, Differs}
@@ -101,8 +103,16 @@ tick_in : (ticks : Bool) → AllByRecursion IsIn (tick_input ticks)
 tick_in true = (refl, tt)
 tick_in false = tt
 
+parameters_in : (ps : List Column) → AllByRecursion IsIn (parameter_inputs ps)
+parameters_in [] = tt
+parameters_in (p ∷ ps) = (refl, parameters_in ps)
+
 pub inputs_in : (ticks : Bool) (schema : Schema) → AllByRecursion (λ (p : ProfilePort). p.direction ≡ In) (input_ports ticks schema)
-inputs_in ticks schema = (refl, all_append IsIn (streams_inputs schema.streams) (input eos 1 ∷ tick_input ticks) (streams_in schema.streams) (refl, tick_in ticks))
+inputs_in ticks schema = (
+  refl,
+  all_append IsIn (streams_inputs schema.streams) (last_inputs ticks schema) (streams_in schema.streams)
+      (refl, all_append IsIn (tick_input ticks) (parameter_inputs schema.parameters) (tick_in ticks) (parameters_in schema.parameters)),
+)
 
 abbrev tail : List ProfilePort
 tail = output out_eos 1 ∷ output fault_group 1 ∷ output fault_queue 1 ∷ []
@@ -123,17 +133,50 @@ in_front [] ys i p all h e = absurd (out_differs p (all_at IsOut ys i p h all) e
 in_front (x ∷ xs) ys zero p all h e = h
 in_front (x ∷ xs) ys (suc i) p all h e = in_front xs ys i p all h e
 
--- the tick stands behind all other inputs, and what is found among these is found with it
-with_tick : (schema : Schema) → input_ports true schema ≡ input_ports false schema ++ tick_input true
-with_tick schema = ap (λ (ps : List ProfilePort). input rst 1 ∷ ps) (sym (append_assoc (streams_inputs schema.streams) (input eos 1 ∷ []) (input tick 1 ∷ [])))
+-- the inputs in front of the tick: the parameters alone stand behind it
+abbrev early_inputs : Schema → List ProfilePort
+early_inputs schema = input rst 1 ∷ (streams_inputs schema.streams ++ input eos 1 ∷ [])
 
-find_front : {A : Type 0} (test : A → Bool) (xs ys : List A) (x : A) → find test xs ≡ Some x → find test (xs ++ ys) ≡ Some x
-find_front test xs ys x e = find-append test xs ys ∙ ap (λ o. option_or o (find test ys)) e
+without_tick : (schema : Schema) → input_ports false schema ≡ early_inputs schema ++ parameter_inputs schema.parameters
+without_tick schema = ap (λ (ps : List ProfilePort). input rst 1 ∷ ps) (sym (append_assoc (streams_inputs schema.streams) (input eos 1 ∷ []) (parameter_inputs schema.parameters)))
 
-find_asked : (ticks : Bool) (schema : Schema) (test : ProfilePort → Bool) (p : ProfilePort) → find test (input_ports ticks schema) ≡ Some p
-    → find test (input_ports true schema) ≡ Some p
-find_asked true schema test p e = e
-find_asked false schema test p e = ap (find test) (with_tick schema) ∙ find_front test (input_ports false schema) (tick_input true) p e
+with_tick : (schema : Schema) → input_ports true schema ≡ early_inputs schema ++ input tick 1 ∷ parameter_inputs schema.parameters
+with_tick schema = ap (λ (ps : List ProfilePort). input rst 1 ∷ ps) (sym (append_assoc (streams_inputs schema.streams) (input eos 1 ∷ []) (input tick 1 ∷ parameter_inputs schema.parameters)))
+
+-- what is found among parameters is called as one
+found_first : (ps : List Column) (test : ProfilePort → Bool) (p : ProfilePort) → find test (parameter_inputs ps) ≡ Some p → first_byte p.name ≡ 115
+found_first [] test p e = absurd cc
+found_first (x ∷ ps) test p e = pick (test (input (in_parameter x.name) (width_of x.kind))) (found_first ps test p) e
+  where
+    pick : (b : Bool) → (find test (parameter_inputs ps) ≡ Some p → first_byte p.name ≡ 115)
+        → (if b then Some (input (in_parameter x.name) (width_of x.kind)) else find test (parameter_inputs ps)) ≡ Some p → first_byte p.name ≡ 115
+    pick true later h = let same : input (in_parameter x.name) (width_of x.kind) ≡ p = cc in ap (λ (q : ProfilePort). first_byte q.name) (sym same) ∙ parameter_first x.name
+    pick false later h = later h
+
+no_tick : (name : List ℕ) → first_byte name ≡ 115 → bytes_eq tick name ≡ false
+no_tick name e = elim (cases_Bool (bytes_eq tick name)) [
+  | inl t ↦ absurd (tick_differs.1 (ap first_byte (bytes_same tick name t) ∙ e))
+  | inr f ↦ f
+]
+
+-- what is found by its name without the tick is found with it
+find_asked : (ticks : Bool) (schema : Schema) (p : ProfilePort) → find (λ (q : ProfilePort). bytes_eq q.name p.name) (input_ports ticks schema) ≡ Some p
+    → find (λ (q : ProfilePort). bytes_eq q.name p.name) (input_ports true schema) ≡ Some p
+find_asked true schema p e = e
+find_asked false schema p e =
+    let test : ProfilePort → Bool = λ q. bytes_eq q.name p.name in
+    let front = early_inputs schema in
+    let parameters = parameter_inputs schema.parameters in
+    let here : option_or (find test front) (find test parameters) ≡ Some p = sym (find-append test front parameters) ∙ ap (find test) (sym (without_tick schema)) ∙ e in
+    ap (find test) (with_tick schema) ∙ find-append test front (input tick 1 ∷ parameters) ∙ pick (find test front) here
+  where
+    behind_tick : find (λ (q : ProfilePort). bytes_eq q.name p.name) (parameter_inputs schema.parameters) ≡ Some p → find (λ (q : ProfilePort). bytes_eq q.name p.name) (input tick 1 ∷ parameter_inputs schema.parameters) ≡ Some p
+    behind_tick h = ap (λ (b : Bool). if b then Some (input tick 1) else find (λ (q : ProfilePort). bytes_eq q.name p.name) (parameter_inputs schema.parameters)) (no_tick p.name (found_first schema.parameters (λ q. bytes_eq q.name p.name) p h)) ∙ h
+
+    pick : (o : Option ProfilePort) → option_or o (find (λ (q : ProfilePort). bytes_eq q.name p.name) (parameter_inputs schema.parameters)) ≡ Some p
+        → option_or o (find (λ (q : ProfilePort). bytes_eq q.name p.name) (input tick 1 ∷ parameter_inputs schema.parameters)) ≡ Some p
+    pick (Some x) h = h
+    pick None h = behind_tick h
 
 -- ---- which ports show columns
 
@@ -206,7 +249,7 @@ module _ (ticks : Bool) (m : Module) (schema : Schema) (outs : List ProfilePort)
       let here : find is_named (input_ports ticks schema) ≡ Some p =
       ap (find is_named) (sym (map_same (input_ports ticks schema)))
       ∙ found_named {A = ProfilePort} (λ q. q.name) (λ q. q) (λ x. refl) (input_ports ticks schema) i p own h in
-      ap (option_map (λ (q : ProfilePort). q.width)) (find_asked ticks schema is_named p here)
+      ap (option_map (λ (q : ProfilePort). q.width)) (find_asked ticks schema p here)
     where
       map_same : (ps : List ProfilePort) → map (λ (q : ProfilePort). q) ps ≡ ps
       map_same [] = refl

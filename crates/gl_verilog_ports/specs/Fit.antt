@@ -10,7 +10,7 @@ use Rattle.gl_verilog_ports.specs.declared.fitting.Ports.{Ports}
 use Rattle.gl_verilog_ports.specs.declared.fitting.Misfit.{Misfit}
 use Rattle.gl_verilog_ports.specs.declared.fitting.Misfit.TheVariants.{Port, Lacks}
 
--- the inputs that a module may have: the clock, and those of the schema, the tick among them
+-- the inputs that a module may have: the clock, and those of the schema, the tick and the parameters among them
 abbrev pub inputs : Schema → List ProfilePort
 inputs schema = input clk 1 ∷ input_ports true schema
 

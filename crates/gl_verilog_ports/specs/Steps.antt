@@ -44,13 +44,25 @@ abbrev pub among_streams : List Stream → List ℕ → ℕ → Option Bool
 among_streams [] name width = None
 among_streams (s ∷ ss) name width = option_or (among_stream s name width) (among_streams ss name width)
 
--- of the end and the tick, which stand behind the streams
-abbrev pub is_end_or_tick : List ℕ → ℕ → Bool
-is_end_or_tick name width =
-    if bytes_eq eos name then nat_eq 1 width else if bytes_eq tick name then nat_eq 1 width else false
+-- a name is `set__` and a parameter
+abbrev pub is_parameter_name : List ℕ → List ℕ → Bool
+is_parameter_name parameter name =
+    option_map_or (λ last. bytes_eq parameter last) (behind (codes "set__") name) false
 
--- a name and a width are those of the clock, the reset, a stream's port, the end or the tick
+-- of the parameter of a name, whether it has so many bits; None where none has the name
+abbrev pub among_parameters : List Column → List ℕ → ℕ → Option Bool
+among_parameters [] name width = None
+among_parameters (p ∷ ps) name width =
+    if is_parameter_name p.name name then Some (nat_eq (width_of p.kind) width) else among_parameters ps name width
+
+-- of the end, the tick and the parameters, which stand behind the streams
+abbrev pub is_last_input : List Column → List ℕ → ℕ → Bool
+is_last_input parameters name width =
+    if bytes_eq eos name then nat_eq 1 width else if bytes_eq tick name then nat_eq 1 width
+    else unwrap_or (among_parameters parameters name width) false
+
+-- a name and a width are those of the clock, the reset, a stream's port, the end, the tick or a parameter
 abbrev pub is_asked : Schema → List ℕ → ℕ → Bool
 is_asked schema name width =
     if bytes_eq clk name then nat_eq 1 width else if bytes_eq rst name then nat_eq 1 width
-    else unwrap_or (among_streams schema.streams name width) (is_end_or_tick name width)
+    else unwrap_or (among_streams schema.streams name width) (is_last_input schema.parameters name width)

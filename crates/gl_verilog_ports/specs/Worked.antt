@@ -1,5 +1,5 @@
--- Worked headers over a stream `s` with a column `v` of eight bits: which ports were found, or which one shows that
--- they do not fit.
+-- Worked headers over a stream `s` with a column `v` of eight bits, and a parameter `floor` of eight bits: which ports
+-- were found, or which one shows that they do not fit.
 use Rattle.std.specs.Prelude.{◌≡◌, ℕ, zero, suc, true, List, [], ◌∷◌, ◌++◌, length, Some, None, Result, Ok, Err, codes}
 use Rattle.gl_values.specs.declared.kind.Kind.TheVariants.{Unsigned}
 use Rattle.gl_schema.specs.declared.schema.Schema.{Schema}
@@ -9,10 +9,12 @@ use Rattle.gl_verilog_ports.specs.declared.fitting.Misfit.{Misfit}
 use Rattle.gl_verilog_ports.specs.declared.fitting.Misfit.TheVariants.{Port, Lacks}
 use Rattle.gl_verilog_ports.specs.Fit.{input_at, fit_of}
 
--- a schema of one stream `s` with one column `v` of eight bits
+-- a schema of one stream `s` with one column `v` of eight bits, and of one parameter `floor` of eight bits
 abbrev pub schema : Schema
-schema =
-    record { streams = record { name = codes "s"; columns = record { name = codes "v"; kind = Unsigned 8 } ∷ [] } ∷ [] }
+schema = record {
+  streams = record { name = codes "s"; columns = record { name = codes "v"; kind = Unsigned 8 } ∷ [] } ∷ [];
+  parameters = record { name = codes "floor"; kind = Unsigned 8 } ∷ [];
+}
 
 -- a declared port of this kind, name and width
 abbrev pub port : Kind → List ℕ → ℕ → Declaration
@@ -55,7 +57,30 @@ taking stream = input (codes "clk") 1 ∷ (stream ++ output (codes "out__valid")
 -- only what a result needs, the end at this number
 abbrev pub plain : ℕ → Result Ports Misfit
 plain end =
-    Ok (record { clock = 0; reset = None; input_end = None; tick = None; valid = 1; end = end; group = None; queue = None })
+    Ok (record {
+      clock = 0;
+      reset = None;
+      input_end = None;
+      tick = None;
+      valid = 1;
+      end = end;
+      group = None;
+      queue = None;
+    })
+
+-- only what a result needs, behind one input, the valid line at this number
+abbrev pub plain_behind : ℕ → Result Ports Misfit
+plain_behind valid =
+    Ok (record {
+      clock = 0;
+      reset = None;
+      input_end = None;
+      tick = None;
+      valid = valid;
+      end = suc valid;
+      group = None;
+      queue = None;
+    })
 
 -- every port of the profile
 abbrev pub whole : List Declaration
@@ -89,6 +114,10 @@ pub record WorkedPorts : Type 0 where
   pub tick_alone : fit (taking (input (codes "tick") 1 ∷ [])) ≡ Ok
       (record { clock = 0; reset = None; input_end = None; tick = Some 1; valid = 2; end = 3; group = None; queue = None })
   pub wide_tick : fit (taking (input (codes "tick") 2 ∷ [])) ≡ Err (Port 1)
+  pub parameter_alone : fit (taking (input (codes "set__floor") 8 ∷ [])) ≡ plain_behind 2
+  pub wider_parameter : fit (taking (input (codes "set__floor") 9 ∷ [])) ≡ Err (Port 1)
+  pub unknown_parameter : fit (taking (input (codes "set__cap") 8 ∷ [])) ≡ Err (Port 1)
+  pub output_as_parameter : fit (showing (output (codes "set__floor") 3 ∷ [])) ≡ plain 3
   pub wide_clock : fit (input (codes "clk") 4 ∷ output (codes "out__valid") 1 ∷ output (codes "out__eos") 1 ∷ []) ≡ Err
       (Port 0)
   -- an output that is called as an input is no port of the profile

@@ -9,4 +9,4 @@ pub mod laws;
 pub mod names;
 
 pub use fitting::{Misfit, Ports, find_ports, ports_of, shows_column};
-pub use names::{is_in_column, is_in_valid};
+pub use names::{is_in_column, is_in_parameter, is_in_valid};

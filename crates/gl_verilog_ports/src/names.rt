@@ -2,7 +2,7 @@
 
 ghost use Rattle.std.specs.Prelude.{◌≡◌, bytes_eq, nat_eq, option_map};
 ghost use Rattle.gl_values.specs.Kinds as kinds;
-ghost use Rattle.gl_schema.specs.Ports.{in_valid, in_column};
+ghost use Rattle.gl_schema.specs.Ports.{in_valid, in_column, in_parameter};
 ghost use Rattle.gl_verilog_ports.specs.Steps as steps;
 ghost use Rattle.gl_verilog_ports.specs.Fit.{inputs, is_among};
 
@@ -51,6 +51,16 @@ fn is_column_name(stream: &[u8], column: &[u8], name: &[u8]) -> bool
     }
 }
 
+// Whether it is the name of a parameter's port.
+fn is_parameter_name(parameter: &[u8], name: &[u8]) -> bool
+    ensures { result ≡ steps.is_parameter_name parameter.now name.now }
+{
+    match behind(b"set__", name) {
+        Some(last) => parameter == last,
+        None => false,
+    }
+}
+
 /// Whether a port of this name is a stream's valid line.
 #[tactic(auto, using(crate::proofs::Asked::valid_is))]
 pub fn is_in_valid(stream: &[u8], name: &[u8]) -> bool
@@ -65,6 +75,14 @@ pub fn is_in_column(stream: &[u8], column: &[u8], name: &[u8]) -> bool
     ensures { result ≡ bytes_eq (in_column stream.now column.now) name.now }
 {
     is_column_name(stream, column, name)
+}
+
+/// Whether a port of this name is that of a parameter.
+#[tactic(auto, using(crate::proofs::Asked::parameter_is))]
+pub fn is_in_parameter(parameter: &[u8], name: &[u8]) -> bool
+    ensures { result ≡ bytes_eq (in_parameter parameter.now) name.now }
+{
+    is_parameter_name(parameter, name)
 }
 
 // Whether a kind has `width` bits.
@@ -111,15 +129,32 @@ fn among_streams(streams: &[Stream], name: &[u8], width: u8) -> Option<bool>
     }
 }
 
-// Whether it is the end of the input, or the tick.
+// Of the parameter of this name, whether it has `width` bits.
+fn among_parameters(parameters: &[Column], name: &[u8], width: u8) -> Option<bool>
+    ensures { result ≡ steps.among_parameters parameters.now name.now width }
+{
+    let (first, rest) = parameters.split_first()?;
+    if is_parameter_name(first.name.as_slice(), name) {
+        return Some(has_width(first.kind, width));
+    }
+    among_parameters(rest, name, width)
+}
+
+// Whether it is the end of the input, the tick, or a parameter.
 #[tactic(auto, unfolding(gl_schema::specs::Ports::eos, gl_schema::specs::Ports::tick))]
-fn is_end_or_tick(name: &[u8], width: u8) -> bool
-    ensures { result ≡ steps.is_end_or_tick name.now width }
+fn is_last_input(parameters: &[Column], name: &[u8], width: u8) -> bool
+    ensures { result ≡ steps.is_last_input parameters.now name.now width }
 {
     if b"eos".as_slice() == name {
         return 1 == width;
     }
-    b"tick".as_slice() == name && 1 == width
+    if b"tick".as_slice() == name {
+        return 1 == width;
+    }
+    match among_parameters(parameters, name, width) {
+        Some(fits) => fits,
+        None => false,
+    }
 }
 
 // The same, as it is looked for.
@@ -135,7 +170,7 @@ fn is_wanted(schema: &Schema, name: &[u8], width: u8) -> bool
     }
     match among_streams(schema.streams.as_slice(), name, width) {
         Some(fits) => fits,
-        None => is_end_or_tick(name, width),
+        None => is_last_input(schema.parameters.as_slice(), name, width),
     }
 }
 

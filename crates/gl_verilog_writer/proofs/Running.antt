@@ -218,7 +218,7 @@ module _ (net : Net) (names : ℕ → List ℕ) (c : Named net names) (value : �
   line = line_in net names
 
   abbrev run : Run
-  run = record { at = λ t n. value t (at_node p n); word = λ t n k. word t (at_node p n) k; rst = λ t. nat_eq (value t line) 1 }
+  run = record { at = λ t n. value t (at_node p n); word = λ t n k. word t (at_node p n) k; rst = λ t. nat_eq (value t line) 1; held = λ k. 0 }
 
   settled : (t : ℕ) → IsSettled (numbered (assignment_for p) 0 net.nodes ++ numbered (output_for p) 0 net.ports) (value t) (word t)
   unfolding module_in

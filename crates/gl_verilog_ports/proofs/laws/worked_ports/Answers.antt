@@ -1,11 +1,11 @@
 use Rattle.std.proofs.Common.{refl}
-use Rattle.gl_schema.specs.Ports.{rst, eos, tick, in_valid, in_column, out_valid, out_eos, fault_group, fault_queue}
+use Rattle.gl_schema.specs.Ports.{rst, eos, tick, in_valid, in_column, in_parameter, out_valid, out_eos, fault_group, fault_queue}
 use Rattle.gl_schema.specs.Profile.{clk}
 use Rattle.gl_verilog_ports.specs.Worked.{WorkedPorts}
 use Rattle.gl_verilog_ports.proofs.laws.worked_ports.Goals as goal
 
 worked : WorkedPorts
-unfolding clk rst eos tick in_valid in_column out_valid out_eos fault_group fault_queue
+unfolding clk rst eos tick in_valid in_column in_parameter out_valid out_eos fault_group fault_queue
 worked = record {
   all = refl;
   fewest = refl;
@@ -16,6 +16,10 @@ worked = record {
   wide_reset = refl;
   tick_alone = refl;
   wide_tick = refl;
+  parameter_alone = refl;
+  wider_parameter = refl;
+  unknown_parameter = refl;
+  output_as_parameter = refl;
   wide_clock = refl;
   output_as_input = refl;
   no_such_input = refl;

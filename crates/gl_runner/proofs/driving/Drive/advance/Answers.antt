@@ -12,7 +12,7 @@ step-requires c =
     let schema = d.task.schema.now in
     let beats = plain_beats d.task.beats.now in
     values_fit m schema beats (suc d.cycle) c.set_beat.new.values c.self.invariant.can
-    (beat_values m schema beats d.cycle (option_map (λ b. plain_beat b.now) c.as_ref.result) c.deref.result.now d.pins.items c.set_beat.new.values c.set_beat.ensures c.deref.ensures.value (seen_beat c.as_ref.result c.due-beat.result c.as_ref.ensures.value ∙ c.due-beat.ensures.beat) c.self.invariant.pins')
+    (beat_values m schema beats d.cycle c.sets.result.now (option_map (λ b. plain_beat b.now) c.as_ref.result) c.deref.result.now d.pins.items c.set_beat.new.values c.set_beat.ensures c.deref.ensures.value c.sets.ensures (seen_beat c.as_ref.result c.due-beat.result c.as_ref.ensures.value ∙ c.due-beat.ensures.beat) c.self.invariant.pins')
 
 pub returns-clause-made : goal.returns-clause-made
 returns-clause-made c = λ value word f.
@@ -24,6 +24,6 @@ returns-clause-made c = λ value word f.
     subst (λ (x : Driven). IsMade (design_of x) s' x.schema x.beats x.cycle value word) c.self.view_is (
     cycle_made d.sim s' schema beats d.cycle c.set_beat.new.values value word
     c.self.invariant.can c.step.ensures.design
-    (beat_values m schema beats d.cycle (option_map (λ b. plain_beat b.now) c.as_ref.result) c.deref.result.now d.pins.items c.set_beat.new.values c.set_beat.ensures c.deref.ensures.value (seen_beat c.as_ref.result c.due-beat.result c.as_ref.ensures.value ∙ c.due-beat.ensures.beat) c.self.invariant.pins')
+    (beat_values m schema beats d.cycle c.sets.result.now (option_map (λ b. plain_beat b.now) c.as_ref.result) c.deref.result.now d.pins.items c.set_beat.new.values c.set_beat.ensures c.deref.ensures.value c.sets.ensures (seen_beat c.as_ref.result c.due-beat.result c.as_ref.ensures.value ∙ c.due-beat.ensures.beat) c.self.invariant.pins')
     c.step.ensures.follows
     (subst (λ (x : Driven). IsBefore x value word) (sym c.self.view_is) f))
