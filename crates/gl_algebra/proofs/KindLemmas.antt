@@ -8,7 +8,7 @@ use Rattle.gl_values.proofs.KindLemmas.{bit_is_kind, cast_kind, result_is}
 use Rattle.gl_algebra.specs.declared.node.ColOp.{ColOp}
 use Rattle.gl_algebra.specs.declared.node.ColOp.TheVariants.{Not, Cast, Binary}
 use Rattle.gl_algebra.specs.declared.node.Operand.{Operand}
-use Rattle.gl_algebra.specs.declared.node.Operand.TheVariants.{Column, Literal}
+use Rattle.gl_algebra.specs.declared.node.Operand.TheVariants.{Column, Literal, Parameter}
 use Rattle.gl_algebra.specs.declared.node.PlanAgg.{PlanAgg}
 use Rattle.gl_algebra.specs.declared.node.PlanAgg.TheVariants.{Count, Sum, Min, Max, Avg, Wsum}
 use Rattle.gl_algebra.specs.declared.node.PlanFrame.{PlanFrame}
@@ -29,6 +29,7 @@ module _ (kinds : List Kind) (are : All IsKind kinds) where
   operand_is : (operand : Operand) → OperandFits kinds operand → IsKind (kind_of_operand kinds operand)
   operand_is (Column column) fits = are column bit_kind fits
   operand_is (Literal word kind) fits = fits.1
+  operand_is (Parameter number kind) fits = fits
 
   op_is : (op : ColOp) → OpFits kinds op → IsKind (kind_of_op kinds op)
   op_is (Not operand) fits = bit_is_kind

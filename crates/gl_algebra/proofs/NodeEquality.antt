@@ -17,7 +17,7 @@ use Rattle.gl_values.specs.declared.op.Op.{Op}
 use Rattle.gl_values.specs.declared.op.Op.TheVariants.{Add, Sub, Mul, Eq, Ne, Lt, Le, Gt, Ge, And, Or}
 use Rattle.gl_values.specs.contracts.op.OpPartialEq.TheImpl as OfOp
 use Rattle.gl_algebra.specs.declared.node.Operand.{Operand}
-use Rattle.gl_algebra.specs.declared.node.Operand.TheVariants.{Column, Literal}
+use Rattle.gl_algebra.specs.declared.node.Operand.TheVariants.{Column, Literal, Parameter}
 use Rattle.gl_algebra.specs.contracts.node.OperandPartialEq.TheImpl as OfOperand
 use Rattle.gl_algebra.specs.contracts.node.OperandEq.TheImpl.Laws as OperandLaws
 use Rattle.gl_algebra.specs.declared.node.ColOp.{ColOp}
@@ -79,11 +79,13 @@ same_operator _ _ h = absurd (never h)
 
 same_operand : (x y : Operand) → OfOperand.ghosts.eq x y ≡ true → x ≡ y
 same_operand (Column v) (Column w) h = ap Column (number v w h)
-same_operand (Column v) (Literal u k) h = absurd (never h)
-same_operand (Literal u k) (Column w) h = absurd (never h)
 same_operand (Literal u k) (Literal v l) h =
     let parts = and_parts (OfWord.ghosts.eq u v) (OfKind.ghosts.eq k l) h in
     λ i. Literal (same_word u v parts.0 i) (kinds_equal k l parts.1 i)
+same_operand (Parameter m k) (Parameter n l) h =
+    let parts = and_parts (nat_eq m n) (OfKind.ghosts.eq k l) h in
+    λ i. Parameter (number m n parts.0 i) (kinds_equal k l parts.1 i)
+same_operand _ _ h = absurd (never h)
 
 same_operands : (xs ys : List Operand) → pointwise OfOperand.ghosts.eq xs ys ≡ true → xs ≡ ys
 same_operands xs ys = (pointwise_decides (decides_from OfOperand.ghosts.eq OperandLaws.laws-law same_operand) xs ys).0

@@ -1,6 +1,6 @@
 -- Results with places go by the order of places alone: where places turn into others in the same order, so do those of
 -- each result.
-use Rattle.std.proofs.Common.{◌≡◌, ℕ, ◌<◌, List, [], length, Bool, false, ◌||◌, All, Option, Some, None, nat_eq, slice_index, refl, sym, ap, ◌∙◌, subst, lit<}
+use Rattle.std.proofs.Common.{◌≡◌, ℕ, ◌<◌, List, [], length, Bool, false, ◌||◌, All, Option, Some, None, map, nat_eq, slice_index, refl, sym, ap, ◌∙◌, subst, lit<}
 use Rattle.gl_values.specs.Lists.{slices, Group as GroupOf, IsInterleaving}
 use Rattle.gl_values.specs.Results.{Row, AreBeside, IsOfGroup, IsOfParts}
 use Rattle.gl_values.specs.Times.{tslices}
@@ -19,10 +19,11 @@ use Rattle.gl_algebra.specs.declared.node.PlanNode.TheVariants.{Stream, Body, Co
 use Rattle.gl_algebra.specs.Fits.{IsPlan, Suits}
 use Rattle.gl_algebra.specs.Laws.{ResultsGoByOrder, TurnInto}
 use Rattle.gl_algebra.specs.Nodewise.{named_by}
-use Rattle.gl_algebra.specs.Results.{Arriving, Inputs, IsFramedInPlace, IsPlanArrival, IsPlanResult, Meaning, arriving_from, computed, given, meaning_from, projected, row_of_frames, times_with}
+use Rattle.gl_algebra.specs.Results.{Arriving, Inputs, IsFramedInPlace, IsPlanArrival, IsPlanResult, Meaning, arriving_from, computed, given, meaning_from, projected, row_of_frames, times_with, totalled}
 use Rattle.gl_algebra.specs.Shapes.{Pace, Shape, once, shape_of, unsteady, with_body, with_stream}
+use Rattle.gl_algebra.specs.Values.{Sets}
 use Rattle.gl_algebra.proofs.PlanLemmas.{by_nodes}
-use Rattle.gl_algebra.proofs.ReadLemmas.{Reads, Within, body_reads, both_within, changed_within, framed_within, named_within, parts_within}
+use Rattle.gl_algebra.proofs.ReadLemmas.{Reads, Within, body_reads, both_within, changed_by, changed_within, framed_by, named_within, parts_within}
 use Rattle.gl_algebra.proofs.TableLemmas.{nodes_follow_tables}
 
 -- ---- results with places
@@ -63,6 +64,18 @@ module _ (g : ℕ → ℕ) (rises : Rises g) where
       parted_back R S (framed_by_key_at by.groups (λ x. slice_index x by.key) row) (has_further by.groups (λ x. slice_index x by.key))
       (λ xs. each_moved (by_key by.groups (λ x. slice_index x by.key) row) g [] xs) back
 
+  -- a change that goes by the words of the parameters, which are the same
+  changed_back_by : (R S : Arrivals) (step : Sets → List (Placed Row) → List (Placed Row)) (u w : Sets) → u ≡ w
+      → ((xs : List (Placed Row)) → step u (moved g xs) ≡ moved g (step u xs)) → TurnsBack R S
+      → TurnsBack (IsChangedInPlace R (step u)) (IsChangedInPlace S (step w))
+  changed_back_by R S step u w e same back =
+      subst (λ (z : Sets). TurnsBack (IsChangedInPlace R (step u)) (IsChangedInPlace S (step z))) e (changed_back R S (step u) same back)
+
+  framed_back_by : (R S : Arrivals) (by : Option PlanKey) (row : Sets → List Row → Row) (u w : Sets) → u ≡ w → TurnsBack R S
+      → TurnsBack (IsFramedInPlace by (row u) R) (IsFramedInPlace by (row w) S)
+  framed_back_by R S by row u w e back =
+      subst (λ (z : Sets). TurnsBack (IsFramedInPlace by (row u) R) (IsFramedInPlace by (row z) S)) e (framed_back R S by (row u) back)
+
   merged_back : (L R L' R' : Arrivals) → TurnsBack L L' → TurnsBack R R' → TurnsBack (IsByArrival L R) (IsByArrival L' R')
   merged_back L R L' R' left right out spill r =
       let a = left r.left r.left_spill r.of_left in
@@ -97,14 +110,16 @@ module _ (g : ℕ → ℕ) (rises : Rises g) where
   row_ordered_in_place s v (Body kinds) each inputs others turn =
       leaf_back (at_places inputs.body inputs.body_places) (at_places others.body others.body_places) turn.body_places
   row_ordered_in_place s v (Compute child ops) each inputs others turn =
-      changed_back (v child inputs) (v child others) (mapped_at (computed (s child).kinds ops)) (λ xs. mapped_moved (computed (s child).kinds ops) g xs) (each 0 0 (lit< tt) inputs others turn)
+      changed_back_by (v child inputs) (v child others) (λ u. mapped_at (computed u (s child).kinds ops)) inputs.sets others.sets turn.sets
+      (λ xs. mapped_moved (computed inputs.sets (s child).kinds ops) g xs) (each 0 0 (lit< tt) inputs others turn)
   row_ordered_in_place s v (Select child column) each inputs others turn =
       changed_back (v child inputs) (v child others) (kept_at (λ row. nat_eq (slice_index row column) 1)) (λ xs. kept_moved (λ row. nat_eq (slice_index row column) 1) g xs)
       (each 0 0 (lit< tt) inputs others turn)
   row_ordered_in_place s v (Project child items) each inputs others turn =
-      changed_back (v child inputs) (v child others) (mapped_at (projected items)) (λ xs. mapped_moved (projected items) g xs) (each 0 0 (lit< tt) inputs others turn)
+      changed_back_by (v child inputs) (v child others) (λ u. mapped_at (projected u items)) inputs.sets others.sets turn.sets
+      (λ xs. mapped_moved (projected inputs.sets items) g xs) (each 0 0 (lit< tt) inputs others turn)
   row_ordered_in_place s v (Frames child by items) each inputs others turn =
-      framed_back (v child inputs) (v child others) by (row_of_frames (s child).kinds items) (each 0 0 (lit< tt) inputs others turn)
+      framed_back_by (v child inputs) (v child others) by (λ u. row_of_frames u (s child).kinds items) inputs.sets others.sets turn.sets (each 0 0 (lit< tt) inputs others turn)
   row_ordered_in_place s v (Aggregate child aggs) each inputs others turn = λ out spill r. absurd r
   row_ordered_in_place s v (Union left right) each inputs others turn = λ out spill r. absurd r
   row_ordered_in_place s v (Merge left right) each inputs others turn =
@@ -141,12 +156,15 @@ module _ (g : ℕ → ℕ) (rises : Rises g) where
       → (inputs others : Inputs) → TurnInto g inputs others → Within (meaning_from s v m node others) (meaning_from s v m node inputs)
   row_ordered s v m (Stream number kinds) suits placed reads each inputs others turn = λ out spill r. record { rows = r.rows ∙ sym (turn.streams number); kept = r.kept }
   row_ordered s v m (Body kinds) suits placed reads each inputs others turn = λ out spill r. record { rows = r.rows ∙ sym turn.body; kept = r.kept }
-  row_ordered s v m (Compute child ops) suits placed reads each inputs others turn = changed_within _ _ _ (each 0 0 (lit< tt) inputs others turn)
+  row_ordered s v m (Compute child ops) suits placed reads each inputs others turn =
+      changed_by _ _ (λ u. map (computed u (s child).kinds ops)) others.sets inputs.sets (sym turn.sets) (each 0 0 (lit< tt) inputs others turn)
   row_ordered s v m (Select child column) suits placed reads each inputs others turn = changed_within _ _ _ (each 0 0 (lit< tt) inputs others turn)
-  row_ordered s v m (Project child items) suits placed reads each inputs others turn = changed_within _ _ _ (each 0 0 (lit< tt) inputs others turn)
+  row_ordered s v m (Project child items) suits placed reads each inputs others turn =
+      changed_by _ _ (λ u. map (projected u items)) others.sets inputs.sets (sym turn.sets) (each 0 0 (lit< tt) inputs others turn)
   row_ordered s v m (Frames child by items) suits placed reads each inputs others turn =
-      framed_within (m child others) (m child inputs) by (row_of_frames (s child).kinds items) (each 0 0 (lit< tt) inputs others turn)
-  row_ordered s v m (Aggregate child aggs) suits placed reads each inputs others turn = changed_within _ _ _ (each 0 0 (lit< tt) inputs others turn)
+      framed_by (m child others) (m child inputs) by (λ u. row_of_frames u (s child).kinds items) others.sets inputs.sets (sym turn.sets) (each 0 0 (lit< tt) inputs others turn)
+  row_ordered s v m (Aggregate child aggs) suits placed reads each inputs others turn =
+      changed_by _ _ (λ u. totalled u (s child).kinds aggs) others.sets inputs.sets (sym turn.sets) (each 0 0 (lit< tt) inputs others turn)
   row_ordered s v m (Union left right) suits placed reads each inputs others turn =
       both_within _ _ _ _ IsInterleaving (each 0 0 (lit< tt) inputs others turn) (each 1 0 (lit< tt) inputs others turn)
   row_ordered s v m (Merge left right) suits placed reads each inputs others turn =
@@ -157,11 +175,11 @@ module _ (g : ℕ → ℕ) (rises : Rises g) where
   row_ordered s v m (Window source body size advance) suits placed reads each inputs others turn =
       parts_within _ _ (slices size advance) (λ slice. m body (given others slice)) (λ slice. m body (given inputs slice)) (λ rows. false)
       (each 0 0 (lit< tt) inputs others turn)
-      (λ slice. reads 1 0 (lit< tt) (s source).kinds suits.0.leaves (given others slice) (given inputs slice) (record { rows = refl; places = refl }))
+      (λ slice. reads 1 0 (lit< tt) (s source).kinds suits.0.leaves (given others slice) (given inputs slice) (record { rows = refl; places = refl; sets = sym turn.sets }))
   row_ordered s v m (TimeWindow source body size advance) suits placed reads each inputs others turn = λ out spill r.
       parts_within _ _ (tslices size advance (times_with (s source).pace inputs) inputs.ticks) (λ slice. m body (given others slice)) (λ slice. m body (given inputs slice)) (λ rows. false)
       (each 0 0 (lit< tt) inputs others turn)
-      (λ slice. reads 1 0 (lit< tt) (s source).kinds suits.0.leaves (given others slice) (given inputs slice) (record { rows = refl; places = refl }))
+      (λ slice. reads 1 0 (lit< tt) (s source).kinds suits.0.leaves (given others slice) (given inputs slice) (record { rows = refl; places = refl; sets = sym turn.sets }))
       out spill
       (subst (λ (n : ℕ). IsOfParts (m source others) (tslices size advance (times_with (s source).pace inputs) n) (λ slice. m body (given others slice)) (λ rows. false) out spill) (sym turn.ticks)
       (subst (λ (ts : List ℕ). IsOfParts (m source others) (tslices size advance ts others.ticks) (λ slice. m body (given others slice)) (λ rows. false) out spill)
@@ -170,12 +188,12 @@ module _ (g : ℕ → ℕ) (rises : Rises g) where
       parts_within _ _ _ (IsOfGroup (λ rows. m body (given others rows))) (IsOfGroup (λ rows. m body (given inputs rows))) _
       (each 0 0 (lit< tt) inputs others turn)
       (λ (group : GroupOf Row). changed_within _ _ _
-      (reads 1 0 (lit< tt) (s source).kinds suits.0.leaves (given others group.rows) (given inputs group.rows) (record { rows = refl; places = refl })))
+      (reads 1 0 (lit< tt) (s source).kinds suits.0.leaves (given others group.rows) (given inputs group.rows) (record { rows = refl; places = refl; sets = sym turn.sets })))
   row_ordered s v m (Partition source body key count size advance) suits placed reads each inputs others turn =
       parts_within _ _ _ (IsOfGroup (λ rows. m body (given others rows))) (IsOfGroup (λ rows. m body (given inputs rows))) _
       (each 0 0 (lit< tt) inputs others turn)
       (λ (group : GroupOf Row). changed_within _ _ _
-      (reads 1 0 (lit< tt) (s source).kinds suits.0.leaves (given others group.rows) (given inputs group.rows) (record { rows = refl; places = refl })))
+      (reads 1 0 (lit< tt) (s source).kinds suits.0.leaves (given others group.rows) (given inputs group.rows) (record { rows = refl; places = refl; sets = sym turn.sets })))
 
 pub results_go_by_order : ResultsGoByOrder
 results_go_by_order nodes number plan within g rises =

@@ -1,5 +1,5 @@
 -- A node whose leaves are all a body's input reads that input alone, and without a window of time no node reads the time.
-use Rattle.std.proofs.Common.{◌≡◌, ℕ, ◌<◌, List, [], ◌∷◌, length, Bool, true, false, All, Option, Some, None, slice_get, refl, sym, ap, ◌∙◌, subst, arith, lit<}
+use Rattle.std.proofs.Common.{◌≡◌, ℕ, ◌<◌, List, [], ◌∷◌, length, Bool, true, false, All, Option, Some, None, map, slice_get, refl, sym, ap, ◌∙◌, subst, arith, lit<}
 use Rattle.std.proofs.lemmas.Bool.{false_from_ne_true}
 use Rattle.std.proofs.lemmas.Option.{slice_get_within}
 use Rattle.gl_values.specs.declared.kind.Kind.{Kind}
@@ -13,10 +13,11 @@ use Rattle.gl_algebra.specs.Laws.{BodiesReadTheirInput, HaveSameBody, HaveSameRo
 use Rattle.gl_algebra.specs.Nodewise.{named_by}
 use Rattle.gl_values.specs.Results.{Row, Results, IsChanged, IsOfBoth, AreBeside, AreJoined, IsOfParts, IsOfGroup}
 use Rattle.gl_arrival.specs.Places.{Placed, at_places}
-use Rattle.gl_arrival.specs.Changes.{framed_at}
+use Rattle.gl_arrival.specs.Changes.{framed_at, mapped_at}
 use Rattle.gl_arrival.specs.Results.{Arrivals, IsByArrival, IsChangedInPlace, IsWithoutPlaces}
-use Rattle.gl_algebra.specs.Results.{Arriving, Inputs, IsFramed, IsFramedInPlace, Meaning, arriving_from, given, meaning_from, row_of_frames, IsPlanArrival, IsPlanResult}
+use Rattle.gl_algebra.specs.Results.{Arriving, Inputs, IsFramed, IsFramedInPlace, Meaning, arriving_from, given, meaning_from, row_of_frames, IsPlanArrival, IsPlanResult, computed, projected, totalled}
 use Rattle.gl_algebra.specs.Shapes.{Shape, shape_of, shape_from}
+use Rattle.gl_algebra.specs.Values.{Sets}
 use Rattle.gl_algebra.specs.Views.{is_time, reads_time}
 use Rattle.gl_algebra.proofs.ListLemmas.{all_left, all_right, any_at}
 use Rattle.gl_algebra.proofs.PlanLemmas.{by_nodes}
@@ -73,6 +74,17 @@ framed_within R S (Some by) row within = λ out spill r. record {
   any = r.any;
 }
 
+-- a step that goes by the words of the parameters, which are the same
+pub changed_by : (R S : Results) (step : Sets → List Row → List Row) (u v : Sets) → u ≡ v → Within R S
+    → Within (IsChanged R (step u)) (IsChanged S (step v))
+changed_by R S step u v e within =
+    subst (λ (w : Sets). Within (IsChanged R (step u)) (IsChanged S (step w))) e (changed_within R S (step u) within)
+
+pub framed_by : (R S : Results) (by : Option PlanKey) (row : Sets → List Row → Row) (u v : Sets) → u ≡ v → Within R S
+    → Within (IsFramed by (row u) R) (IsFramed by (row v) S)
+framed_by R S by row u v e within =
+    subst (λ (w : Sets). Within (IsFramed by (row u) R) (IsFramed by (row w) S)) e (framed_within R S by (row u) within)
+
 -- ---- results with places
 
 -- each of the first results with places is among the second
@@ -95,6 +107,16 @@ framed_in_place R S (Some by) row within = λ out spill r. record {
   changed = r.changed;
   any = r.any;
 }
+
+changed_in_place_by : (R S : Arrivals) (step : Sets → List (Placed Row) → List (Placed Row)) (u v : Sets) → u ≡ v → WithinInPlace R S
+    → WithinInPlace (IsChangedInPlace R (step u)) (IsChangedInPlace S (step v))
+changed_in_place_by R S step u v e within =
+    subst (λ (w : Sets). WithinInPlace (IsChangedInPlace R (step u)) (IsChangedInPlace S (step w))) e (changed_in_place R S (step u) within)
+
+framed_in_place_by : (R S : Arrivals) (by : Option PlanKey) (row : Sets → List Row → Row) (u v : Sets) → u ≡ v → WithinInPlace R S
+    → WithinInPlace (IsFramedInPlace by (row u) R) (IsFramedInPlace by (row v) S)
+framed_in_place_by R S by row u v e within =
+    subst (λ (w : Sets). WithinInPlace (IsFramedInPlace by (row u) R) (IsFramedInPlace by (row w) S)) e (framed_in_place R S by (row u) within)
 
 by_arrival_in_place : (L R L' R' : Arrivals) → WithinInPlace L L' → WithinInPlace R R' → WithinInPlace (IsByArrival L R) (IsByArrival L' R')
 by_arrival_in_place L R L' R' left right out spill r = record {
@@ -130,13 +152,13 @@ row_reads_in_place s v (Stream number columns) reads kinds leaves inputs others 
 row_reads_in_place s v (Body columns) reads kinds leaves inputs others same =
     λ out spill r. record { rows = r.rows ∙ body_placed inputs others same; kept = r.kept }
 row_reads_in_place s v (Compute child ops) reads kinds leaves inputs others same =
-    changed_in_place _ _ _ (reads 0 0 (lit< tt) kinds leaves inputs others same)
+    changed_in_place_by _ _ (λ u. mapped_at (computed u (s child).kinds ops)) inputs.sets others.sets same.sets (reads 0 0 (lit< tt) kinds leaves inputs others same)
 row_reads_in_place s v (Select child column) reads kinds leaves inputs others same =
     changed_in_place _ _ _ (reads 0 0 (lit< tt) kinds leaves inputs others same)
 row_reads_in_place s v (Project child items) reads kinds leaves inputs others same =
-    changed_in_place _ _ _ (reads 0 0 (lit< tt) kinds leaves inputs others same)
+    changed_in_place_by _ _ (λ u. mapped_at (projected u items)) inputs.sets others.sets same.sets (reads 0 0 (lit< tt) kinds leaves inputs others same)
 row_reads_in_place s v (Frames child by items) reads kinds leaves inputs others same =
-    framed_in_place (v child inputs) (v child others) by (row_of_frames (s child).kinds items) (reads 0 0 (lit< tt) kinds leaves inputs others same)
+    framed_in_place_by (v child inputs) (v child others) by (λ u. row_of_frames u (s child).kinds items) inputs.sets others.sets same.sets (reads 0 0 (lit< tt) kinds leaves inputs others same)
 row_reads_in_place s v (Aggregate child aggs) reads kinds leaves inputs others same = λ out spill r. absurd r
 row_reads_in_place s v (Union left right) reads kinds leaves inputs others same = λ out spill r. absurd r
 row_reads_in_place s v (Merge left right) reads kinds leaves inputs others same =
@@ -173,11 +195,13 @@ row_untimed_in_place s v (Stream number kinds) each inputs others same = λ out 
 }
 row_untimed_in_place s v (Body kinds) each inputs others same =
     λ out spill r. record { rows = r.rows ∙ body_placed inputs others same.body; kept = r.kept }
-row_untimed_in_place s v (Compute child ops) each inputs others same = changed_in_place _ _ _ (each 0 0 (lit< tt) inputs others same)
+row_untimed_in_place s v (Compute child ops) each inputs others same =
+    changed_in_place_by _ _ (λ u. mapped_at (computed u (s child).kinds ops)) inputs.sets others.sets same.body.sets (each 0 0 (lit< tt) inputs others same)
 row_untimed_in_place s v (Select child column) each inputs others same = changed_in_place _ _ _ (each 0 0 (lit< tt) inputs others same)
-row_untimed_in_place s v (Project child items) each inputs others same = changed_in_place _ _ _ (each 0 0 (lit< tt) inputs others same)
+row_untimed_in_place s v (Project child items) each inputs others same =
+    changed_in_place_by _ _ (λ u. mapped_at (projected u items)) inputs.sets others.sets same.body.sets (each 0 0 (lit< tt) inputs others same)
 row_untimed_in_place s v (Frames child by items) each inputs others same =
-    framed_in_place (v child inputs) (v child others) by (row_of_frames (s child).kinds items) (each 0 0 (lit< tt) inputs others same)
+    framed_in_place_by (v child inputs) (v child others) by (λ u. row_of_frames u (s child).kinds items) inputs.sets others.sets same.body.sets (each 0 0 (lit< tt) inputs others same)
 row_untimed_in_place s v (Aggregate child aggs) each inputs others same = λ out spill r. absurd r
 row_untimed_in_place s v (Union left right) each inputs others same = λ out spill r. absurd r
 row_untimed_in_place s v (Merge left right) each inputs others same =
@@ -228,15 +252,15 @@ row_reads s v m (Stream number columns) suits timed placed reads kinds leaves in
 row_reads s v m (Body columns) suits timed placed reads kinds leaves inputs others same =
     λ out spill r. record { rows = r.rows ∙ same.rows; kept = r.kept }
 row_reads s v m (Compute child ops) suits timed placed reads kinds leaves inputs others same =
-    changed_within _ _ _ (reads 0 0 (lit< tt) kinds leaves inputs others same)
+    changed_by _ _ (λ u. map (computed u (s child).kinds ops)) inputs.sets others.sets same.sets (reads 0 0 (lit< tt) kinds leaves inputs others same)
 row_reads s v m (Select child column) suits timed placed reads kinds leaves inputs others same =
     changed_within _ _ _ (reads 0 0 (lit< tt) kinds leaves inputs others same)
 row_reads s v m (Project child items) suits timed placed reads kinds leaves inputs others same =
-    changed_within _ _ _ (reads 0 0 (lit< tt) kinds leaves inputs others same)
+    changed_by _ _ (λ u. map (projected u items)) inputs.sets others.sets same.sets (reads 0 0 (lit< tt) kinds leaves inputs others same)
 row_reads s v m (Frames child by items) suits timed placed reads kinds leaves inputs others same =
-    framed_within (m child inputs) (m child others) by (row_of_frames (s child).kinds items) (reads 0 0 (lit< tt) kinds leaves inputs others same)
+    framed_by (m child inputs) (m child others) by (λ u. row_of_frames u (s child).kinds items) inputs.sets others.sets same.sets (reads 0 0 (lit< tt) kinds leaves inputs others same)
 row_reads s v m (Aggregate child aggs) suits timed placed reads kinds leaves inputs others same =
-    changed_within _ _ _ (reads 0 0 (lit< tt) kinds leaves inputs others same)
+    changed_by _ _ (λ u. totalled u (s child).kinds aggs) inputs.sets others.sets same.sets (reads 0 0 (lit< tt) kinds leaves inputs others same)
 row_reads s v m (Union left right) suits timed placed reads kinds leaves inputs others same =
     both_within _ _ _ _ IsInterleaving
     (reads 0 0 (lit< tt) kinds (all_left (λ leaf. leaf ≡ Body kinds) (s left).leaves (s right).leaves leaves) inputs others same)
@@ -252,7 +276,7 @@ row_reads s v m (Beside left right) suits timed placed reads kinds leaves inputs
 row_reads s v m (Window source body size advance) suits timed placed reads kinds leaves inputs others same =
     parts_within _ _ (slices size advance) (λ slice. m body (given inputs slice)) (λ slice. m body (given others slice)) (λ rows. false)
     (reads 0 0 (lit< tt) kinds leaves inputs others same)
-    (λ slice. reads 1 0 (lit< tt) (s source).kinds suits.0.leaves (given inputs slice) (given others slice) (record { rows = refl; places = refl }))
+    (λ slice. reads 1 0 (lit< tt) (s source).kinds suits.0.leaves (given inputs slice) (given others slice) (record { rows = refl; places = refl; sets = same.sets }))
 row_reads s v m (TimeWindow source body size advance) suits timed placed reads kinds leaves inputs others same =
     let own = subst (λ (ls : List PlanNode). All (λ leaf. leaf ≡ Body kinds) ls) timed.2 leaves in
     absurd (let is : Stream timed.0 timed.1 ≡ Body kinds = own 0 (Body kinds) (lit< tt) in cc)
@@ -260,12 +284,12 @@ row_reads s v m (Group source body key count) suits timed placed reads kinds lea
     parts_within _ _ _ (IsOfGroup (λ rows. m body (given inputs rows))) (IsOfGroup (λ rows. m body (given others rows))) _
     (reads 0 0 (lit< tt) kinds leaves inputs others same)
     (λ (group : GroupOf Row). changed_within _ _ _
-    (reads 1 0 (lit< tt) (s source).kinds suits.0.leaves (given inputs group.rows) (given others group.rows) (record { rows = refl; places = refl })))
+    (reads 1 0 (lit< tt) (s source).kinds suits.0.leaves (given inputs group.rows) (given others group.rows) (record { rows = refl; places = refl; sets = same.sets })))
 row_reads s v m (Partition source body key count size advance) suits timed placed reads kinds leaves inputs others same =
     parts_within _ _ _ (IsOfGroup (λ rows. m body (given inputs rows))) (IsOfGroup (λ rows. m body (given others rows))) _
     (reads 0 0 (lit< tt) kinds leaves inputs others same)
     (λ (group : GroupOf Row). changed_within _ _ _
-    (reads 1 0 (lit< tt) (s source).kinds suits.0.leaves (given inputs group.rows) (given others group.rows) (record { rows = refl; places = refl })))
+    (reads 1 0 (lit< tt) (s source).kinds suits.0.leaves (given inputs group.rows) (given others group.rows) (record { rows = refl; places = refl; sets = same.sets })))
 
 pub body_reads : BodiesReadTheirInput
 body_reads nodes number plan within =
@@ -287,12 +311,15 @@ row_untimed : (s : ℕ → Shape) (v : ℕ → Arriving) (m : ℕ → Meaning) (
     → (inputs others : Inputs) → HaveSameRows inputs others → Within (meaning_from s v m node inputs) (meaning_from s v m node others)
 row_untimed s v m (Stream number kinds) none placed each inputs others same = λ out spill r. record { rows = r.rows ∙ same.streams number; kept = r.kept }
 row_untimed s v m (Body kinds) none placed each inputs others same = λ out spill r. record { rows = r.rows ∙ same.body.rows; kept = r.kept }
-row_untimed s v m (Compute child ops) none placed each inputs others same = changed_within _ _ _ (each 0 0 (lit< tt) inputs others same)
+row_untimed s v m (Compute child ops) none placed each inputs others same =
+    changed_by _ _ (λ u. map (computed u (s child).kinds ops)) inputs.sets others.sets same.body.sets (each 0 0 (lit< tt) inputs others same)
 row_untimed s v m (Select child column) none placed each inputs others same = changed_within _ _ _ (each 0 0 (lit< tt) inputs others same)
-row_untimed s v m (Project child items) none placed each inputs others same = changed_within _ _ _ (each 0 0 (lit< tt) inputs others same)
+row_untimed s v m (Project child items) none placed each inputs others same =
+    changed_by _ _ (λ u. map (projected u items)) inputs.sets others.sets same.body.sets (each 0 0 (lit< tt) inputs others same)
 row_untimed s v m (Frames child by items) none placed each inputs others same =
-    framed_within (m child inputs) (m child others) by (row_of_frames (s child).kinds items) (each 0 0 (lit< tt) inputs others same)
-row_untimed s v m (Aggregate child aggs) none placed each inputs others same = changed_within _ _ _ (each 0 0 (lit< tt) inputs others same)
+    framed_by (m child inputs) (m child others) by (λ u. row_of_frames u (s child).kinds items) inputs.sets others.sets same.body.sets (each 0 0 (lit< tt) inputs others same)
+row_untimed s v m (Aggregate child aggs) none placed each inputs others same =
+    changed_by _ _ (λ u. totalled u (s child).kinds aggs) inputs.sets others.sets same.body.sets (each 0 0 (lit< tt) inputs others same)
 row_untimed s v m (Union left right) none placed each inputs others same =
     both_within _ _ _ _ IsInterleaving (each 0 0 (lit< tt) inputs others same) (each 1 0 (lit< tt) inputs others same)
 row_untimed s v m (Merge left right) none placed each inputs others same =
@@ -302,18 +329,18 @@ row_untimed s v m (Beside left right) none placed each inputs others same =
 row_untimed s v m (Window source body size advance) none placed each inputs others same =
     parts_within _ _ (slices size advance) (λ slice. m body (given inputs slice)) (λ slice. m body (given others slice)) (λ rows. false)
     (each 0 0 (lit< tt) inputs others same)
-    (λ slice. each 1 0 (lit< tt) (given inputs slice) (given others slice) (record { streams = same.streams; places = same.places; body = record { rows = refl; places = refl } }))
+    (λ slice. each 1 0 (lit< tt) (given inputs slice) (given others slice) (record { streams = same.streams; places = same.places; body = record { rows = refl; places = refl; sets = same.body.sets } }))
 row_untimed s v m (TimeWindow source body size advance) none placed each inputs others same = absurd (let z : true ≡ false = none in cc)
 row_untimed s v m (Group source body key count) none placed each inputs others same =
     parts_within _ _ _ (IsOfGroup (λ rows. m body (given inputs rows))) (IsOfGroup (λ rows. m body (given others rows))) _
     (each 0 0 (lit< tt) inputs others same)
     (λ (group : GroupOf Row). changed_within _ _ _
-    (each 1 0 (lit< tt) (given inputs group.rows) (given others group.rows) (record { streams = same.streams; places = same.places; body = record { rows = refl; places = refl } })))
+    (each 1 0 (lit< tt) (given inputs group.rows) (given others group.rows) (record { streams = same.streams; places = same.places; body = record { rows = refl; places = refl; sets = same.body.sets } })))
 row_untimed s v m (Partition source body key count size advance) none placed each inputs others same =
     parts_within _ _ _ (IsOfGroup (λ rows. m body (given inputs rows))) (IsOfGroup (λ rows. m body (given others rows))) _
     (each 0 0 (lit< tt) inputs others same)
     (λ (group : GroupOf Row). changed_within _ _ _
-    (each 1 0 (lit< tt) (given inputs group.rows) (given others group.rows) (record { streams = same.streams; places = same.places; body = record { rows = refl; places = refl } })))
+    (each 1 0 (lit< tt) (given inputs group.rows) (given others group.rows) (record { streams = same.streams; places = same.places; body = record { rows = refl; places = refl; sets = same.body.sets } })))
 
 -- no node is one where none reads the time
 no_time : (nodes : List PlanNode) (n : ℕ) (node : PlanNode) → reads_time nodes ≡ false → slice_get nodes n ≡ Some node → is_time node ≡ false

@@ -20,10 +20,10 @@ pub arriving_local : (s t : ℕ → Shape) (v w : ℕ → Arriving) (node : Plan
     → arriving_from s v node ≡ arriving_from t w node
 arriving_local s t v w (Stream number kinds) g h = refl
 arriving_local s t v w (Body kinds) g h = refl
-arriving_local s t v w (Compute child ops) g h = λ i inputs. IsChangedInPlace (h.0 i inputs) (mapped_at (computed (g.0 i).kinds ops))
+arriving_local s t v w (Compute child ops) g h = λ i inputs. IsChangedInPlace (h.0 i inputs) (mapped_at (computed inputs.sets (g.0 i).kinds ops))
 arriving_local s t v w (Select child column) g h = λ i inputs. IsChangedInPlace (h.0 i inputs) (kept_at (λ row. nat_eq (slice_index row column) 1))
-arriving_local s t v w (Project child items) g h = λ i inputs. IsChangedInPlace (h.0 i inputs) (mapped_at (projected items))
-arriving_local s t v w (Frames child by items) g h = λ i inputs. IsFramedInPlace by (row_of_frames (g.0 i).kinds items) (h.0 i inputs)
+arriving_local s t v w (Project child items) g h = λ i inputs. IsChangedInPlace (h.0 i inputs) (mapped_at (projected inputs.sets items))
+arriving_local s t v w (Frames child by items) g h = λ i inputs. IsFramedInPlace by (row_of_frames inputs.sets (g.0 i).kinds items) (h.0 i inputs)
 arriving_local s t v w (Aggregate child aggs) g h = refl
 arriving_local s t v w (Union left right) g h = refl
 arriving_local s t v w (Merge left right) g h = λ i inputs. IsByArrival (h.0 i inputs) (h.1.0 i inputs)
@@ -47,11 +47,11 @@ pub meaning_local : (s t : ℕ → Shape) (a b : ℕ → Arriving) (v w : ℕ �
     → Agree v w (named_by node) → meaning_from s a v node ≡ meaning_from t b w node
 meaning_local s t a b v w (Stream number kinds) g k h = refl
 meaning_local s t a b v w (Body kinds) g k h = refl
-meaning_local s t a b v w (Compute child ops) g k h = λ i inputs. IsChanged (h.0 i inputs) (map (computed (g.0 i).kinds ops))
+meaning_local s t a b v w (Compute child ops) g k h = λ i inputs. IsChanged (h.0 i inputs) (map (computed inputs.sets (g.0 i).kinds ops))
 meaning_local s t a b v w (Select child column) g k h = λ i inputs. IsChanged (h.0 i inputs) (selected column)
-meaning_local s t a b v w (Project child items) g k h = λ i inputs. IsChanged (h.0 i inputs) (map (projected items))
-meaning_local s t a b v w (Frames child by items) g k h = λ i inputs. IsFramed by (row_of_frames (g.0 i).kinds items) (h.0 i inputs)
-meaning_local s t a b v w (Aggregate child aggs) g k h = λ i inputs. IsChanged (h.0 i inputs) (totalled (g.0 i).kinds aggs)
+meaning_local s t a b v w (Project child items) g k h = λ i inputs. IsChanged (h.0 i inputs) (map (projected inputs.sets items))
+meaning_local s t a b v w (Frames child by items) g k h = λ i inputs. IsFramed by (row_of_frames inputs.sets (g.0 i).kinds items) (h.0 i inputs)
+meaning_local s t a b v w (Aggregate child aggs) g k h = λ i inputs. IsChanged (h.0 i inputs) (totalled inputs.sets (g.0 i).kinds aggs)
 meaning_local s t a b v w (Union left right) g k h = λ i inputs. IsOfBoth (h.0 i inputs) (h.1.0 i inputs) IsInterleaving
 meaning_local s t a b v w (Merge left right) g k h = λ i inputs. IsWithoutPlaces (IsByArrival (k.0 i inputs) (k.1.0 i inputs))
 meaning_local s t a b v w (Beside left right) g k h = λ i inputs. IsOfBoth (h.0 i inputs) (h.1.0 i inputs) AreBeside

@@ -39,15 +39,15 @@ rows_one_in_place : (s : ℕ → Shape) (v : ℕ → Arriving) (node : PlanNode)
 rows_one_in_place s v (Stream number kinds) one inputs = placed.one_arrival (at_places (inputs.streams number) (inputs.places number))
 rows_one_in_place s v (Body kinds) one inputs = placed.one_arrival (at_places inputs.body inputs.body_places)
 rows_one_in_place s v (Compute child ops) one inputs =
-    placed.one_changed (v child inputs) (mapped_at (computed (s child).kinds ops)) (one 0 0 (lit< tt) inputs)
+    placed.one_changed (v child inputs) (mapped_at (computed inputs.sets (s child).kinds ops)) (one 0 0 (lit< tt) inputs)
 rows_one_in_place s v (Select child column) one inputs =
     placed.one_changed (v child inputs) (kept_at (λ row. nat_eq (slice_index row column) 1)) (one 0 0 (lit< tt) inputs)
-rows_one_in_place s v (Project child items) one inputs = placed.one_changed (v child inputs) (mapped_at (projected items)) (one 0 0 (lit< tt) inputs)
+rows_one_in_place s v (Project child items) one inputs = placed.one_changed (v child inputs) (mapped_at (projected inputs.sets items)) (one 0 0 (lit< tt) inputs)
 rows_one_in_place s v (Frames child (Some by) items) one inputs =
-    placed.one_parted (v child inputs) (framed_by_key_at by.groups (λ x. slice_index x by.key) (row_of_frames (s child).kinds items))
+    placed.one_parted (v child inputs) (framed_by_key_at by.groups (λ x. slice_index x by.key) (row_of_frames inputs.sets (s child).kinds items))
     (has_further by.groups (λ x. slice_index x by.key)) (one 0 0 (lit< tt) inputs)
 rows_one_in_place s v (Frames child None items) one inputs =
-    placed.one_changed (v child inputs) (framed_at (row_of_frames (s child).kinds items)) (one 0 0 (lit< tt) inputs)
+    placed.one_changed (v child inputs) (framed_at (row_of_frames inputs.sets (s child).kinds items)) (one 0 0 (lit< tt) inputs)
 rows_one_in_place s v (Aggregate child aggs) one inputs = λ out out' spill spill' a b. absurd a
 rows_one_in_place s v (Union left right) one inputs = λ out out' spill spill' a b. absurd a
 rows_one_in_place s v (Merge left right) one inputs =
@@ -72,18 +72,18 @@ rows_one : (s : ℕ → Shape) (v : ℕ → Arriving) (m : ℕ → Meaning) (u :
 rows_one s v m u (Stream number kinds) alone one none inputs = one_input (inputs.streams number)
 rows_one s v m u (Body kinds) alone one none inputs = one_input inputs.body
 rows_one s v m u (Compute child ops) alone one none inputs =
-    one_changed (m child inputs) (map (computed (s child).kinds ops)) (one 0 0 (lit< tt) (neither_parts (u child) false none).0 inputs)
+    one_changed (m child inputs) (map (computed inputs.sets (s child).kinds ops)) (one 0 0 (lit< tt) (neither_parts (u child) false none).0 inputs)
 rows_one s v m u (Select child column) alone one none inputs =
     one_changed (m child inputs) (selected column) (one 0 0 (lit< tt) (neither_parts (u child) false none).0 inputs)
 rows_one s v m u (Project child items) alone one none inputs =
-    one_changed (m child inputs) (map (projected items)) (one 0 0 (lit< tt) (neither_parts (u child) false none).0 inputs)
+    one_changed (m child inputs) (map (projected inputs.sets items)) (one 0 0 (lit< tt) (neither_parts (u child) false none).0 inputs)
 rows_one s v m u (Frames child (Some by) items) alone one none inputs =
-    one_in_part (m child inputs) (framed_by_key by.groups (λ x. slice_index x by.key) (row_of_frames (s child).kinds items))
+    one_in_part (m child inputs) (framed_by_key by.groups (λ x. slice_index x by.key) (row_of_frames inputs.sets (s child).kinds items))
     (has_further by.groups (λ x. slice_index x by.key)) (one 0 0 (lit< tt) (neither_parts (u child) false none).0 inputs)
 rows_one s v m u (Frames child None items) alone one none inputs =
-    one_changed (m child inputs) (framed (row_of_frames (s child).kinds items)) (one 0 0 (lit< tt) (neither_parts (u child) false none).0 inputs)
+    one_changed (m child inputs) (framed (row_of_frames inputs.sets (s child).kinds items)) (one 0 0 (lit< tt) (neither_parts (u child) false none).0 inputs)
 rows_one s v m u (Aggregate child aggs) alone one none inputs =
-    one_changed (m child inputs) (totalled (s child).kinds aggs) (one 0 0 (lit< tt) (neither_parts (u child) false none).0 inputs)
+    one_changed (m child inputs) (totalled inputs.sets (s child).kinds aggs) (one 0 0 (lit< tt) (neither_parts (u child) false none).0 inputs)
 rows_one s v m u (Union left right) alone one none inputs = absurd (cc)
 rows_one s v m u (Merge left right) alone one none inputs =
     placed.one_without (IsByArrival (v left inputs) (v right inputs))

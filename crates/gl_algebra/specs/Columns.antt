@@ -10,7 +10,7 @@ use Rattle.gl_values.specs.declared.op.Sort.{Sort}
 use Rattle.gl_values.specs.declared.op.Sort.TheVariants.{Arithmetic, Comparison, Logic}
 use Rattle.gl_values.specs.Operators.{sort_of, result_kind}
 use Rattle.gl_algebra.specs.declared.node.Operand.{Operand}
-use Rattle.gl_algebra.specs.declared.node.Operand.TheVariants.{Column, Literal}
+use Rattle.gl_algebra.specs.declared.node.Operand.TheVariants.{Column, Literal, Parameter}
 use Rattle.gl_algebra.specs.declared.node.ColOp.{ColOp}
 use Rattle.gl_algebra.specs.declared.node.ColOp.TheVariants.{Not, Cast, Binary}
 use Rattle.gl_algebra.specs.declared.node.PlanAgg.{PlanAgg}
@@ -32,6 +32,7 @@ kind_of_column kinds column = slice_index_or kinds column bit_kind
 abbrev pub kind_of_operand : List Kind → Operand → Kind
 kind_of_operand kinds (Column column) = kind_of_column kinds column
 kind_of_operand kinds (Literal word kind) = kind
+kind_of_operand kinds (Parameter number kind) = kind
 
 -- the kind of the column that an operation makes
 abbrev pub kind_of_op : List Kind → ColOp → Kind
@@ -63,10 +64,11 @@ kind_of_frame kinds (Own operand) = kind_of_operand kinds operand
 kind_of_frame kinds (Lag operand back) = kind_of_operand kinds operand
 kind_of_frame kinds (Over agg filter back) = kind_of_frame_agg kinds agg
 
--- a column that is there, or a literal of its kind's width
+-- a column that is there, a literal of its kind's width, or a parameter
 abbrev pub OperandFits : List Kind → Operand → Type 0
 OperandFits kinds (Column column) = column < length kinds
 OperandFits kinds (Literal word kind) = IsWord word × IsKind kind × (word.width ≡ width_of kind)
+OperandFits kinds (Parameter number kind) = IsKind kind
 
 -- what both operands of an operator are: numbers, of any kind, or bits
 abbrev pub SortFits : Sort → Kind → Type 0

@@ -19,7 +19,7 @@ abbrev pub by_look_up : ℕ → ℕ → ℕ → ℕ → ℕ → ℕ
 by_look_up width groups of_map of_slots of_tree =
     if nat_le width 10 then of_map else (if nat_le groups 64 then of_slots else of_tree)
 
--- the levels that a tree of keys of so many bits would have, two bits each
+-- the levels that a tree of keys of so many bits has, two bits each
 abbrev pub levels_of : ℕ → ℕ
 levels_of width = (width + 1) / 2
 
@@ -46,7 +46,7 @@ words_of_look_up width groups = by_look_up width groups (2 ^ width + ring groups
 abbrev pub slot_bits : ℕ → ℕ
 slot_bits groups = digits (ring groups - 1)
 
--- the bits of these words: a map has the slot of each key and the key of each slot. A tree would have four places of
+-- the bits of these words: a map has the slot of each key and the key of each slot. A tree has four places of
 -- the next level, each with a bit that tells whether it is there
 abbrev pub store_of_look_up : ℕ → ℕ → ℕ
 store_of_look_up width groups =

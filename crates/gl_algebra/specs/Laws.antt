@@ -63,13 +63,14 @@ abbrev pub PacesFixFigures : Type 0
 PacesFixFigures = (nodes : List PlanNode) (number : ℕ) → IsPlan nodes → number < length nodes
     → PaceFixes (shape_of nodes number).pace (figures_of nodes number)
 
--- inputs that give a body the same rows at the same places
+-- inputs that give a body the same rows at the same places, and the parameters the same words
 pub record HaveSameBody (inputs others : Inputs) : Type 0 where
   pub rows : inputs.body ≡ others.body
   pub places : inputs.body_places ≡ others.body_places
+  pub sets : inputs.sets ≡ others.sets
 
 -- a node all of whose leaves are a body's input has the same results for all inputs that give a body the same rows at
--- the same places
+-- the same places, and the parameters the same words
 abbrev pub BodiesReadTheirInput : Type 0
 BodiesReadTheirInput = (nodes : List PlanNode) (number : ℕ) → IsPlan nodes → number < length nodes
     → (kinds : List Kind) → All (λ leaf. leaf ≡ Body kinds) (shape_of nodes number).leaves
@@ -77,20 +78,22 @@ BodiesReadTheirInput = (nodes : List PlanNode) (number : ℕ) → IsPlan nodes �
     → (out : List Row) (spill : Bool) → IsPlanResult nodes number inputs out spill
     → IsPlanResult nodes number others out spill
 
--- inputs that give the same rows at the same places, whatever their times and ticks are
+-- inputs that give the same rows at the same places, and the same words of the parameters, whatever their times and
+-- ticks are
 pub record HaveSameRows (inputs others : Inputs) : Type 0 where
   pub streams : (number : ℕ) → inputs.streams number ≡ others.streams number
   pub places : (number : ℕ) → inputs.places number ≡ others.places number
   pub body : HaveSameBody inputs others
 
--- without a window of time a plan has equal results for inputs whose rows and places are equal
+-- without a window of time a plan has equal results for inputs whose rows, places and words of parameters are equal
 abbrev pub UntimedResults : Type 0
 UntimedResults = (nodes : List PlanNode) (number : ℕ) → IsPlan nodes → number < length nodes → reads_time nodes ≡ false
     → (inputs others : Inputs) → HaveSameRows inputs others
     → (out : List Row) (spill : Bool) → IsPlanResult nodes number inputs out spill
     → IsPlanResult nodes number others out spill
 
--- inputs that give the same rows, times and ticks, where the places of the first turn into those of the second
+-- inputs that give the same rows, times, ticks and words of the parameters, where the places of the first turn into
+-- those of the second
 pub record TurnInto (g : ℕ → ℕ) (inputs others : Inputs) : Type 0 where
   pub streams : (number : ℕ) → inputs.streams number ≡ others.streams number
   pub places : (number : ℕ) → at_places (others.streams number) (others.places number)
@@ -99,6 +102,7 @@ pub record TurnInto (g : ℕ → ℕ) (inputs others : Inputs) : Type 0 where
   pub ticks : inputs.ticks ≡ others.ticks
   pub body : inputs.body ≡ others.body
   pub body_places : at_places others.body others.body_places ≡ moved g (at_places inputs.body inputs.body_places)
+  pub sets : inputs.sets ≡ others.sets
 
 -- only the order of places counts
 abbrev pub ResultsGoByOrder : Type 0

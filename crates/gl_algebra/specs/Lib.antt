@@ -1,6 +1,7 @@
 pub mod Views
 pub mod Nodewise
 pub mod Columns
+pub mod Known
 pub mod Shapes
 pub mod Fits
 pub mod Added

@@ -29,10 +29,10 @@ use Rattle.gl_algebra.specs.declared.node.PlanNode.TheVariants as Node
 use Rattle.gl_algebra.specs.Columns.{kind_of_operand}
 use Rattle.gl_algebra.specs.Nodewise.{nodewise}
 use Rattle.gl_algebra.specs.Shapes.{Shape, shape_of, Pace, with_stream}
-use Rattle.gl_algebra.specs.Values.{value_of_operand, value_of_op}
+use Rattle.gl_algebra.specs.Values.{Sets, value_of_operand, value_of_op}
 
 -- what the leaves give: the rows of each stream, by its number, with their places, their times and the number of all
--- ticks, and the rows of a body's input with their places
+-- ticks, and the rows of a body's input with their places; and the words of the parameters
 pub record Inputs : Type 0 where
   pub streams : ℕ → List Row
   pub places : ℕ → List ℕ
@@ -40,6 +40,7 @@ pub record Inputs : Type 0 where
   pub ticks : ℕ
   pub body : List Row
   pub body_places : List ℕ
+  pub sets : Sets
 
 -- the inputs of a body that is given these rows, each at its position
 abbrev pub given : Inputs → List Row → Inputs
@@ -59,23 +60,23 @@ times_with (with_stream number) inputs = inputs.times number
 times_with pace inputs = []
 
 -- the value of an aggregate over rows whose columns have these kinds
-abbrev pub total_of : List Kind → List Row → PlanAgg → ℕ
-total_of kinds rows Count = count_of rows
-total_of kinds rows (Sum operand) =
-    sum_total (width_of (kind_of_operand kinds operand)) (map (λ row. value_of_operand row operand) rows)
-total_of kinds rows (Min operand) =
-    least_of (kind_of_operand kinds operand) (map (λ row. value_of_operand row operand) rows)
-total_of kinds rows (Max operand) =
-    greatest_of (kind_of_operand kinds operand) (map (λ row. value_of_operand row operand) rows)
-total_of kinds rows (Avg operand) =
-    average_of (kind_of_operand kinds operand) (map (λ row. value_of_operand row operand) rows)
-total_of kinds rows (Wsum operand weights) =
+abbrev pub total_of : Sets → List Kind → List Row → PlanAgg → ℕ
+total_of sets kinds rows Count = count_of rows
+total_of sets kinds rows (Sum operand) =
+    sum_total (width_of (kind_of_operand kinds operand)) (map (λ row. value_of_operand sets row operand) rows)
+total_of sets kinds rows (Min operand) =
+    least_of (kind_of_operand kinds operand) (map (λ row. value_of_operand sets row operand) rows)
+total_of sets kinds rows (Max operand) =
+    greatest_of (kind_of_operand kinds operand) (map (λ row. value_of_operand sets row operand) rows)
+total_of sets kinds rows (Avg operand) =
+    average_of (kind_of_operand kinds operand) (map (λ row. value_of_operand sets row operand) rows)
+total_of sets kinds rows (Wsum operand weights) =
     weighted_sum (width_of (kind_of_operand kinds operand)) (bits_of weights)
-    (map (λ row. value_of_operand row operand) rows)
+    (map (λ row. value_of_operand sets row operand) rows)
 
 -- what the nodes of one child make of its rows, whose columns have these kinds
-abbrev pub computed : List Kind → List ColOp → Row → Row
-computed kinds ops row = row ++ map (value_of_op kinds row) ops
+abbrev pub computed : Sets → List Kind → List ColOp → Row → Row
+computed sets kinds ops row = row ++ map (value_of_op sets kinds row) ops
 
 -- the rows whose condition column is 1, in their order
 abbrev pub selected : ℕ → List Row → List Row
@@ -87,32 +88,32 @@ counts_in None row = true
 counts_in (Some column) row = nat_eq (slice_index row column) 1
 
 -- the values of an operand in the rows of a frame that count
-abbrev pub values_in : Option ℕ → Option ℕ → List Row → Operand → List ℕ
-values_in filter back rows operand = map (λ row. value_of_operand row operand) (frame_of back (counts_in filter) rows)
+abbrev pub values_in : Sets → Option ℕ → Option ℕ → List Row → Operand → List ℕ
+values_in sets filter back rows operand = map (λ row. value_of_operand sets row operand) (frame_of back (counts_in filter) rows)
 
 -- the value of a function over the last ones of these rows, whose columns have these kinds
-abbrev pub value_over : List Kind → Option ℕ → Option ℕ → List Row → PlanFrameAgg → ℕ
-value_over kinds filter back rows over.Count = count_of (frame_of back (counts_in filter) rows)
-value_over kinds filter back rows (over.Sum operand) =
-    sum_total (width_of (kind_of_operand kinds operand)) (values_in filter back rows operand)
-value_over kinds filter back rows (over.Min operand) =
-    least_of (kind_of_operand kinds operand) (values_in filter back rows operand)
-value_over kinds filter back rows (over.Max operand) =
-    greatest_of (kind_of_operand kinds operand) (values_in filter back rows operand)
-value_over kinds filter back rows (over.Avg operand) =
-    average_of (kind_of_operand kinds operand) (values_in filter back rows operand)
-value_over kinds filter back rows (over.LastValue operand) =
-    last_value_of (λ row. value_of_operand row operand) back (counts_in filter) rows
+abbrev pub value_over : Sets → List Kind → Option ℕ → Option ℕ → List Row → PlanFrameAgg → ℕ
+value_over sets kinds filter back rows over.Count = count_of (frame_of back (counts_in filter) rows)
+value_over sets kinds filter back rows (over.Sum operand) =
+    sum_total (width_of (kind_of_operand kinds operand)) (values_in sets filter back rows operand)
+value_over sets kinds filter back rows (over.Min operand) =
+    least_of (kind_of_operand kinds operand) (values_in sets filter back rows operand)
+value_over sets kinds filter back rows (over.Max operand) =
+    greatest_of (kind_of_operand kinds operand) (values_in sets filter back rows operand)
+value_over sets kinds filter back rows (over.Avg operand) =
+    average_of (kind_of_operand kinds operand) (values_in sets filter back rows operand)
+value_over sets kinds filter back rows (over.LastValue operand) =
+    last_value_of (λ row. value_of_operand sets row operand) back (counts_in filter) rows
 
 -- what an item of a node of frames makes of the rows up to a row, the row itself last
-abbrev pub value_of_frame : List Kind → List Row → PlanFrame → ℕ
-value_of_frame kinds rows (Own operand) = own_of (λ row. value_of_operand row operand) rows
-value_of_frame kinds rows (Lag operand back) = lag_of (λ row. value_of_operand row operand) back rows
-value_of_frame kinds rows (Over agg filter back) = value_over kinds filter back rows agg
+abbrev pub value_of_frame : Sets → List Kind → List Row → PlanFrame → ℕ
+value_of_frame sets kinds rows (Own operand) = own_of (λ row. value_of_operand sets row operand) rows
+value_of_frame sets kinds rows (Lag operand back) = lag_of (λ row. value_of_operand sets row operand) back rows
+value_of_frame sets kinds rows (Over agg filter back) = value_over sets kinds filter back rows agg
 
 -- one row of the items' values
-abbrev pub row_of_frames : List Kind → List PlanFrame → List Row → Row
-row_of_frames kinds items rows = map (value_of_frame kinds rows) items
+abbrev pub row_of_frames : Sets → List Kind → List PlanFrame → List Row → Row
+row_of_frames sets kinds items rows = map (value_of_frame sets kinds rows) items
 
 -- what is made of rows up to each: without a key of all rows. By a key each row of the first groups has what is made of
 -- those of its group, and whether rows of further keys came is told
@@ -129,13 +130,13 @@ IsFramedInPlace (Some by) row source =
     IsPartedInPlace source (framed_by_key_at by.groups (λ x. slice_index x by.key) row)
     (has_further by.groups (λ x. slice_index x by.key))
 
--- one row of the items' values, each a column or a literal
-abbrev pub projected : List Operand → Row → Row
-projected items row = map (value_of_operand row) items
+-- one row of the items' values, each a column, a literal or a parameter
+abbrev pub projected : Sets → List Operand → Row → Row
+projected sets items row = map (value_of_operand sets row) items
 
 -- the single row of all aggregates over the rows
-abbrev pub totalled : List Kind → List PlanAgg → List Row → List Row
-totalled kinds aggs rows = map (total_of kinds rows) aggs ∷ []
+abbrev pub totalled : Sets → List Kind → List PlanAgg → List Row → List Row
+totalled sets kinds aggs rows = map (total_of sets kinds rows) aggs ∷ []
 
 -- no result with places
 abbrev pub NoArriving : Arriving
@@ -148,13 +149,13 @@ arriving_from shapes arrivals (Node.Stream number kinds) inputs =
     IsArrival (at_places (inputs.streams number) (inputs.places number))
 arriving_from shapes arrivals (Node.Body kinds) inputs = IsArrival (at_places inputs.body inputs.body_places)
 arriving_from shapes arrivals (Node.Compute child ops) inputs =
-    IsChangedInPlace (arrivals child inputs) (mapped_at (computed (shapes child).kinds ops))
+    IsChangedInPlace (arrivals child inputs) (mapped_at (computed inputs.sets (shapes child).kinds ops))
 arriving_from shapes arrivals (Node.Select child column) inputs =
     IsChangedInPlace (arrivals child inputs) (kept_at (λ row. nat_eq (slice_index row column) 1))
 arriving_from shapes arrivals (Node.Project child items) inputs =
-    IsChangedInPlace (arrivals child inputs) (mapped_at (projected items))
+    IsChangedInPlace (arrivals child inputs) (mapped_at (projected inputs.sets items))
 arriving_from shapes arrivals (Node.Frames child by items) inputs =
-    IsFramedInPlace by (row_of_frames (shapes child).kinds items) (arrivals child inputs)
+    IsFramedInPlace by (row_of_frames inputs.sets (shapes child).kinds items) (arrivals child inputs)
 arriving_from shapes arrivals (Node.Merge left right) inputs =
     IsByArrival (arrivals left inputs) (arrivals right inputs)
 arriving_from shapes arrivals node inputs = NoArriving inputs
@@ -168,15 +169,15 @@ abbrev pub meaning_from : (ℕ → Shape) → (ℕ → Arriving) → (ℕ → Me
 meaning_from shapes arrivals meanings (Node.Stream number kinds) inputs = IsInput (inputs.streams number)
 meaning_from shapes arrivals meanings (Node.Body kinds) inputs = IsInput inputs.body
 meaning_from shapes arrivals meanings (Node.Compute child ops) inputs =
-    IsChanged (meanings child inputs) (map (computed (shapes child).kinds ops))
+    IsChanged (meanings child inputs) (map (computed inputs.sets (shapes child).kinds ops))
 meaning_from shapes arrivals meanings (Node.Select child column) inputs =
     IsChanged (meanings child inputs) (selected column)
 meaning_from shapes arrivals meanings (Node.Project child items) inputs =
-    IsChanged (meanings child inputs) (map (projected items))
+    IsChanged (meanings child inputs) (map (projected inputs.sets items))
 meaning_from shapes arrivals meanings (Node.Frames child by items) inputs =
-    IsFramed by (row_of_frames (shapes child).kinds items) (meanings child inputs)
+    IsFramed by (row_of_frames inputs.sets (shapes child).kinds items) (meanings child inputs)
 meaning_from shapes arrivals meanings (Node.Aggregate child aggs) inputs =
-    IsChanged (meanings child inputs) (totalled (shapes child).kinds aggs)
+    IsChanged (meanings child inputs) (totalled inputs.sets (shapes child).kinds aggs)
 meaning_from shapes arrivals meanings (Node.Union left right) inputs =
     IsOfBoth (meanings left inputs) (meanings right inputs) IsInterleaving
 meaning_from shapes arrivals meanings (Node.Merge left right) inputs =

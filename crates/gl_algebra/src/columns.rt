@@ -22,7 +22,7 @@ pub fn kind_of_operand(kinds: &[Kind], operand: &Operand) -> Kind
 {
     match operand {
         Operand::Column(column) => kind_of_column(kinds, *column as usize),
-        Operand::Literal(_, kind) => *kind,
+        Operand::Literal(_, kind) | Operand::Parameter(_, kind) => *kind,
     }
 }
 

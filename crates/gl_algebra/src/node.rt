@@ -30,6 +30,8 @@ pub enum Operand {
     Column(u16),
     /// A number, and its kind, whose width is the word's.
     Literal(Word, Kind),
+    /// The parameter of this number, the first of the schema's being 0, and its kind.
+    Parameter(u8, Kind),
 }
 
 /// An operation on a row, which makes one column.

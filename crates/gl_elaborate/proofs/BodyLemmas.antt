@@ -1,5 +1,5 @@
 -- A query over parts, as code places it.
-use Rattle.std.proofs.Common.{◌≡◌, ℕ, List, sym, subst, ◌∙◌}
+use Rattle.std.proofs.Common.{◌≡◌, ℕ, List, ◌∷◌, sym, subst, ◌∙◌}
 use Rattle.gl_schema.specs.declared.schema.Column.{Column}
 use Rattle.gl_schema.specs.declared.schema.Stream.{Stream}
 use Rattle.gl_schema.specs.Schemas.{kinds_of}
@@ -7,7 +7,8 @@ use Rattle.gl_query.specs.declared.tree.Measure.{Measure}
 use Rattle.gl_query.specs.Shapes.{QueryShape}
 use Rattle.gl_query.specs.Shapes as shape
 use Rattle.gl_query.specs.Values.{column_number}
-use Rattle.gl_query.specs.Columns.{columns_of, variable}
+use Rattle.gl_query.specs.Columns.{columns_of}
+use Rattle.gl_query.specs.Columns as query
 use Rattle.gl_algebra.specs.declared.node.PlanNode.{PlanNode}
 use Rattle.gl_algebra.specs.declared.node.PlanNode.TheVariants.{Body, Group, Partition}
 use Rattle.gl_algebra.specs.Added.{added, placed_at}
@@ -16,17 +17,17 @@ use Rattle.gl_elaborate.specs.Fitting.{FitsNext, PlacedFit}
 
 -- the source and the body, each placed behind the other, by queries, names and columns that code has
 module _ (read : List ℕ → PlanNode) (sources : List Stream) (whole source source' body body' : QueryShape) (nodes n1 n2 : List PlanNode) (from into : ℕ)
-    (var name : List ℕ) (own : List Column) (d : source' ≡ source) (e : body' ≡ body)
-    (p : placed_at n1 from ≡ placed read sources source' nodes) (v : name ≡ var) (c : own ≡ columns_of sources source')
-    (q : placed_at n2 into ≡ placed (λ n. Body (kinds_of own)) (variable name own) body' n1) where
+    (var name : List ℕ) (own held : List Column) (d : source' ≡ source) (e : body' ≡ body)
+    (p : placed_at n1 from ≡ placed read sources source' nodes) (v : name ≡ var) (c : own ≡ columns_of sources source') (g : held ≡ query.parameters_in sources)
+    (q : placed_at n2 into ≡ placed (λ n. Body (kinds_of own)) (query.parameter_stream held ∷ query.variable name own) body' n1) where
   first : placed_at n1 from ≡ placed read sources source nodes
   first = p ∙ (λ i. placed read sources (d i) nodes)
 
   columns : own ≡ columns_of sources source
   columns = c ∙ (λ i. columns_of sources (d i))
 
-  inside : placed_at n2 into ≡ placed (λ n. Body (kinds_of (columns_of sources source))) (variable var (columns_of sources source)) body (placed read sources source nodes).nodes
-  inside = q ∙ (λ i. placed (λ n. Body (kinds_of (columns i))) (variable (v i) (columns i)) (e i) (first i).nodes)
+  inside : placed_at n2 into ≡ placed (λ n. Body (kinds_of (columns_of sources source))) (query.inside sources var (columns_of sources source)) body (placed read sources source nodes).nodes
+  inside = q ∙ (λ i. placed (λ n. Body (kinds_of (columns i))) (query.parameter_stream (g i) ∷ query.variable (v i) (columns i)) (e i) (first i).nodes)
 
   pub each-root : (measure : Measure) (size advance root : ℕ) (n3 : List PlanNode) → whole ≡ shape.Each measure var source size advance body
       → placed_at n3 root ≡ added n2 (window_node measure from into size advance) → placed_at n3 root ≡ placed read sources whole nodes

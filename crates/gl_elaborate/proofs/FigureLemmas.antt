@@ -1,6 +1,6 @@
 -- The figures of a query's plan are the query's.
-use Rattle.std.proofs.Common.{◌≡◌, ℕ, zero, suc, ◌+◌, ◌<◌, Bool, false, List, [], ◌∷◌, ◌++◌, length, Option, Some, None, refl, sym, ap, subst, ◌∙◌, arith, map, max}
-use Rattle.std.specs.Prelude.{is_some, option_map, option_to_list}
+use Rattle.std.proofs.Common.{◌≡◌, ℕ, zero, suc, ◌+◌, ◌<◌, Bool, false, List, [], ◌∷◌, ◌++◌, length, Option, Some, None, refl, sym, ap, subst, ◌∙◌, arith, map, max, nat_lt}
+use Rattle.std.specs.Prelude.{if◌then◌else◌, is_some, option_map, option_to_list}
 use Rattle.std.specs.List.{range_with_len}
 use Rattle.gl_values.specs.declared.kind.Kind.{Kind}
 use Rattle.gl_values.specs.declared.kind.Kind.TheVariants.{Unsigned}
@@ -11,8 +11,9 @@ use Rattle.gl_query.specs.declared.tree.Measure.{Measure}
 use Rattle.gl_query.specs.declared.tree.Measure.TheVariants.{Tuples, Time}
 use Rattle.gl_query.specs.Shapes.{ExprShape, ItemShape, AggShape, AggItemShape, FrameAggShape, FrameShape, FrameItemShape, PickShape, QueryShape, SlotsShape}
 use Rattle.gl_query.specs.Shapes as shape
-use Rattle.gl_query.specs.Values.{kind_alone, operand_place}
-use Rattle.gl_query.specs.Columns.{columns_of, variable}
+use Rattle.gl_query.specs.Values.{column_number, kind_alone, operand_place}
+use Rattle.gl_query.specs.Columns.{columns_of, reach_of}
+use Rattle.gl_query.specs.Columns as query
 use Rattle.gl_query.specs.Accepted.{IsAcceptedOver}
 use Rattle.gl_query.specs.Laws.{ResultsAreLong}
 use Rattle.gl_algebra.specs.declared.figures.Figures.{Figures}
@@ -25,7 +26,7 @@ use Rattle.gl_algebra.specs.Views.{copies_of_partition}
 use Rattle.gl_algebra.specs.Shapes.{Shape, shape_of}
 use Rattle.gl_algebra.proofs.FigureLemmas.{figures-kept}
 use Rattle.gl_algebra.proofs.PlanLemmas.{in_order}
-use Rattle.gl_elaborate.specs.Terms.{Term, Column, depth_of, depth_of_all, term_of}
+use Rattle.gl_elaborate.specs.Terms.{Term, Column, depth_of, depth_of_all, named, term_of, term_over}
 use Rattle.gl_elaborate.specs.Levels.{level_of, reduced, operand_of}
 use Rattle.gl_algebra.specs.Added.{Placed, added, placed_at}
 use Rattle.gl_algebra.specs.Keys.{delay_by_key}
@@ -34,11 +35,14 @@ use Rattle.gl_elaborate.specs.Fitting.{FitsNext, FramesFit, JoinFits, LevelsFit,
 use Rattle.gl_elaborate.specs.Figures.{expr_depth, filter_depth, items_depth, pick_depth, condition_depth, agg_depth, aggs_depth, aggs_delay, frame_agg_depth, frame_depth, frames_depth, frames_delay, parted_delay, computed_figures, filtered_figures, join_figures, query_figures}
 use Rattle.gl_elaborate.specs.Joins.{as_of_over, both_placed, columns_from, join_framed, join_frames, join_kept, join_key, joined_columns, left_items, left_side, right_items, right_side}
 use Rattle.gl_elaborate.proofs.PlacedLemmas.{IsOver, is_added, over-then}
+use Rattle.gl_bits.proofs.Bools.{by_cases}
+use Rattle.gl_elaborate.proofs.ApartLemmas.{apart-depth}
 use Rattle.gl_elaborate.proofs.DepthLemmas.{depth-both}
 use Rattle.gl_elaborate.proofs.TotalsLemmas.{HasDelay}
 use Rattle.gl_elaborate.proofs.FramesLemmas.{HasFrameDelay}
 use Rattle.gl_elaborate.proofs.ReadLemmas.{IsLeafOf, IsReader, body-reader}
-use Rattle.gl_elaborate.proofs.QueryLemmas.{right, total-delay, frames-delay, join-right, columns-are}
+use Rattle.gl_elaborate.proofs.QueryLemmas.{right, columns-are}
+use Rattle.gl_elaborate.proofs.DelayLemmas.{total-delay, frames-delay, join-right}
 
 -- ---- depths
 
@@ -52,62 +56,76 @@ term-depth columns place (shape.Cast kind e) = ap (λ (n : ℕ). 1 + n) (term-de
 term-depth columns place (shape.Binary o l r) = λ i.
     1 + max (term-depth columns (operand_place columns o place l r) l i) (term-depth columns (operand_place columns o place r l) r i)
 
-condition-depth : (columns : List NamedColumn) (e : ExprShape) → depth_of (condition_of (term_of columns (Unsigned 1) e)) ≡ filter_depth e
-condition-depth columns (shape.Column name) = refl
-condition-depth columns (shape.Number n) = refl
-condition-depth columns (shape.Minus n) = refl
-condition-depth columns (shape.Letters text) = refl
-condition-depth columns (shape.Not e) = term-depth columns (Unsigned 1) (shape.Not e)
-condition-depth columns (shape.Cast kind e) = term-depth columns (Unsigned 1) (shape.Cast kind e)
-condition-depth columns (shape.Binary o l r) = term-depth columns (Unsigned 1) (shape.Binary o l r)
+module _ (columns reach : List NamedColumn) where
+  over-depth : (place : Kind) (e : ExprShape) → depth_of (term_over columns reach place e) ≡ expr_depth e
+  over-depth place e = apart-depth (length columns) reach (term_of reach place e) ∙ term-depth reach place e
+
+  -- a column stays one, and a parameter is cast
+  named-condition : (n : ℕ) → depth_of (condition_of (named (length columns) reach n)) ≡ (if nat_lt n (length columns) then 0 else 1)
+  named-condition n = by_cases (nat_lt n (length columns)) (λ e. rw e refl) (λ e. rw e refl)
+
+  condition-depth : (e : ExprShape) → depth_of (condition_of (term_over columns reach (Unsigned 1) e)) ≡ filter_depth columns reach e
+  condition-depth (shape.Column name) = named-condition (column_number reach name)
+  condition-depth (shape.Number n) = refl
+  condition-depth (shape.Minus n) = refl
+  condition-depth (shape.Letters text) = refl
+  condition-depth (shape.Not e) = over-depth (Unsigned 1) (shape.Not e)
+  condition-depth (shape.Cast kind e) = over-depth (Unsigned 1) (shape.Cast kind e)
+  condition-depth (shape.Binary o l r) = over-depth (Unsigned 1) (shape.Binary o l r)
 
 columns-depth : (k n : ℕ) → depth_of_all (map Column (range_with_len k n)) ≡ 0
 columns-depth k zero = refl
 columns-depth k (suc n) = let rest = columns-depth (k + 1) n in omega arith
 
-pick-depth : (columns : List NamedColumn) (pick : PickShape) → depth_of_all (picked_terms columns pick) ≡ pick_depth pick
-pick-depth columns shape.All = columns-depth 0 (length columns)
-pick-depth columns (shape.Items items) = each items
-  where
-    each : (items : List ItemShape) → depth_of_all (map (λ (i : ItemShape). term_of columns (kind_alone i.expr) i.expr) items) ≡ items_depth items
-    each [] = refl
-    each (i ∷ items) = λ k. max (term-depth columns (kind_alone i.expr) i.expr k) (each items k)
+module _ (columns reach : List NamedColumn) where
+  pick-depth : (pick : PickShape) → depth_of_all (picked_terms columns reach pick) ≡ pick_depth pick
+  pick-depth shape.All = columns-depth 0 (length columns)
+  pick-depth (shape.Items items) = each items
+    where
+      each : (items : List ItemShape) → depth_of_all (map (λ (i : ItemShape). term_over columns reach (kind_alone i.expr) i.expr) items) ≡ items_depth items
+      each [] = refl
+      each (i ∷ items) = λ k. max (over-depth columns reach (kind_alone i.expr) i.expr k) (each items k)
 
-filter-depth : (columns : List NamedColumn) (condition : Option ExprShape) → depth_of_all (option_to_list (filter_of columns condition)) ≡ condition_depth condition
-filter-depth columns None = refl
-filter-depth columns (Some e) = let one = condition-depth columns e in omega arith
+  filter-depth : (condition : Option ExprShape) → depth_of_all (option_to_list (filter_of columns reach condition)) ≡ condition_depth columns reach condition
+  filter-depth None = refl
+  filter-depth (Some e) = let one = condition-depth columns reach e in omega arith
 
-arguments-depth : (columns : List NamedColumn) (items : List AggItemShape) → depth_of_all (arguments_of_all columns items) ≡ aggs_depth items
-arguments-depth columns [] = refl
-arguments-depth columns (i ∷ items) =
-    depth-both (arguments_of columns i.agg) (arguments_of_all columns items) ∙ (λ k. max (one i.agg k) (arguments-depth columns items k))
-  where
-    one : (a : AggShape) → depth_of_all (arguments_of columns a) ≡ agg_depth a
-    one shape.Count = refl
-    one (shape.Sum e) = let d = term-depth columns (kind_alone e) e in omega arith
-    one (shape.Min e) = let d = term-depth columns (kind_alone e) e in omega arith
-    one (shape.Max e) = let d = term-depth columns (kind_alone e) e in omega arith
-    one (shape.Avg e) = let d = term-depth columns (kind_alone e) e in omega arith
-    one (shape.Wsum e weights) = let d = term-depth columns (kind_alone e) e in omega arith
+  -- one expression alone
+  alone-depth : (e : ExprShape) → depth_of_all (term_over columns reach (kind_alone e) e ∷ []) ≡ expr_depth e
+  alone-depth e = let d = over-depth columns reach (kind_alone e) e in omega arith
 
-frame-terms-depth : (columns : List NamedColumn) (f : FrameShape) → depth_of_all (frame_terms columns f) ≡ frame_depth f
-frame-terms-depth columns (shape.Own e) = let d = term-depth columns (kind_alone e) e in omega arith
-frame-terms-depth columns (shape.Lag e back) = let d = term-depth columns (kind_alone e) e in omega arith
-frame-terms-depth columns (shape.Over agg condition back) =
-    depth-both (frame_arguments columns agg) (option_to_list (filter_of columns condition)) ∙ (λ k. max (one agg k) (filter-depth columns condition k))
-  where
-    one : (a : FrameAggShape) → depth_of_all (frame_arguments columns a) ≡ frame_agg_depth a
-    one shape.CountOver = refl
-    one (shape.SumOver e) = let d = term-depth columns (kind_alone e) e in omega arith
-    one (shape.MinOver e) = let d = term-depth columns (kind_alone e) e in omega arith
-    one (shape.MaxOver e) = let d = term-depth columns (kind_alone e) e in omega arith
-    one (shape.AvgOver e) = let d = term-depth columns (kind_alone e) e in omega arith
-    one (shape.LastOver e) = let d = term-depth columns (kind_alone e) e in omega arith
+  argument-depth : (a : AggShape) → depth_of_all (arguments_of columns reach a) ≡ agg_depth a
+  argument-depth shape.Count = refl
+  argument-depth (shape.Sum e) = alone-depth e
+  argument-depth (shape.Min e) = alone-depth e
+  argument-depth (shape.Max e) = alone-depth e
+  argument-depth (shape.Avg e) = alone-depth e
+  argument-depth (shape.Wsum e weights) = alone-depth e
 
-frames-depth : (columns : List NamedColumn) (items : List FrameItemShape) → depth_of_all (frames_terms columns items) ≡ frames_depth items
-frames-depth columns [] = refl
-frames-depth columns (i ∷ items) =
-    depth-both (frame_terms columns i.frame) (frames_terms columns items) ∙ (λ k. max (frame-terms-depth columns i.frame k) (frames-depth columns items k))
+  arguments-depth : (items : List AggItemShape) → depth_of_all (arguments_of_all columns reach items) ≡ aggs_depth items
+  arguments-depth [] = refl
+  arguments-depth (i ∷ items) =
+      depth-both (arguments_of columns reach i.agg) (arguments_of_all columns reach items) ∙ (λ k. max (argument-depth i.agg k) (arguments-depth items k))
+
+  function-depth : (a : FrameAggShape) → depth_of_all (frame_arguments columns reach a) ≡ frame_agg_depth a
+  function-depth shape.CountOver = refl
+  function-depth (shape.SumOver e) = alone-depth e
+  function-depth (shape.MinOver e) = alone-depth e
+  function-depth (shape.MaxOver e) = alone-depth e
+  function-depth (shape.AvgOver e) = alone-depth e
+  function-depth (shape.LastOver e) = alone-depth e
+
+  frame-terms-depth : (f : FrameShape) → depth_of_all (frame_terms columns reach f) ≡ frame_depth columns reach f
+  frame-terms-depth (shape.Own e) = alone-depth e
+  frame-terms-depth (shape.Lag e back) = alone-depth e
+  frame-terms-depth (shape.Over agg condition back) =
+      depth-both (frame_arguments columns reach agg) (option_to_list (filter_of columns reach condition))
+      ∙ (λ k. max (function-depth agg k) (filter-depth condition k))
+
+  frames-depth : (items : List FrameItemShape) → depth_of_all (frames_terms columns reach items) ≡ frames_depth columns reach items
+  frames-depth [] = refl
+  frames-depth (i ∷ items) =
+      depth-both (frame_terms columns reach i.frame) (frames_terms columns reach items) ∙ (λ k. max (frame-terms-depth i.frame k) (frames-depth items k))
 
 -- ---- nodes
 
@@ -150,9 +168,9 @@ same-levels (suc depth) base p items left condition h =
     same-levels depth (base + length level) (added p.nodes (node.Compute p.root level)) (map (reduced base level) items) (option_map (reduced base level) left)
     condition (same-map (reduced base level) left ∙ h)
 
-same-filter : (columns : List NamedColumn) (condition : Option ExprShape) → Same condition (filter_of columns condition)
-same-filter columns None = refl
-same-filter columns (Some e) = refl
+same-filter : (columns reach : List NamedColumn) (condition : Option ExprShape) → Same condition (filter_of columns reach condition)
+same-filter columns reach None = refl
+same-filter columns reach (Some e) = refl
 
 select-figures : (p : Placed) (f : Figures) (condition : Option ExprShape) (left : Option Term) → HasFigures p f → Same condition left → SelectFits p left
     → HasFigures (selected p left) (filtered_figures condition f)
@@ -162,51 +180,54 @@ select-figures p f (Some e) None h same fits = absurd (cc)
 select-figures p f (Some e) (Some t) h same fits =
     more p f (node.Select p.root (column_under (operand_of t))) (λ x. settled (delayed 1 x)) h fits (λ s v. refl)
 
-rows-figures : (columns : List NamedColumn) (pick : PickShape) (condition : Option ExprShape) (p : Placed) (f : Figures) → HasFigures p f → RowsFit columns pick condition p
-    → HasFigures (rows_over columns pick condition p)
-    (settled (filtered_figures condition (computed_figures (max (pick_depth pick) (condition_depth condition)) f)))
-rows-figures columns pick condition p f h fits =
-    let items = picked_terms columns pick in
-    let left = filter_of columns condition in
-    let over = levelled (length columns) p items left in
-    let depth = depth-both items (option_to_list left) ∙ (λ i. max (pick-depth columns pick i) (filter-depth columns condition i)) in
-    let first = subst (λ (d : ℕ). HasFigures over.at (computed_figures d f)) depth
-    (levels-figures (depth_of_all (with_filter items left)) (length columns) p f items left h fits.of_levels) in
-    let same = same-levels (depth_of_all (with_filter items left)) (length columns) p items left condition (same-filter columns condition) in
-    let second = select-figures over.at (computed_figures (max (pick_depth pick) (condition_depth condition)) f) condition over.filter first same fits.of_select in
-    more (selected over.at over.filter) (filtered_figures condition (computed_figures (max (pick_depth pick) (condition_depth condition)) f))
-    (node.Project (selected over.at over.filter).root (map operand_of over.items)) settled second fits.of_project (λ s v. refl)
+module _ (columns reach : List NamedColumn) where
+  rows-figures : (pick : PickShape) (condition : Option ExprShape) (p : Placed) (f : Figures) → HasFigures p f → RowsFit columns reach pick condition p
+      → HasFigures (rows_over columns reach pick condition p)
+      (settled (filtered_figures condition (computed_figures (max (pick_depth pick) (condition_depth columns reach condition)) f)))
+  rows-figures pick condition p f h fits =
+      let items = picked_terms columns reach pick in
+      let left = filter_of columns reach condition in
+      let over = levelled (length columns) p items left in
+      let computed = computed_figures (max (pick_depth pick) (condition_depth columns reach condition)) f in
+      let depth = depth-both items (option_to_list left) ∙ (λ i. max (pick-depth columns reach pick i) (filter-depth columns reach condition i)) in
+      let first = subst (λ (d : ℕ). HasFigures over.at (computed_figures d f)) depth
+      (levels-figures (depth_of_all (with_filter items left)) (length columns) p f items left h fits.of_levels) in
+      let same = same-levels (depth_of_all (with_filter items left)) (length columns) p items left condition (same-filter columns reach condition) in
+      let second = select-figures over.at computed condition over.filter first same fits.of_select in
+      more (selected over.at over.filter) (filtered_figures condition computed)
+      (node.Project (selected over.at over.filter).root (map operand_of over.items)) settled second fits.of_project (λ s v. refl)
 
-totals-figures : (columns : List NamedColumn) (items : List AggItemShape) (p : Placed) (f : Figures) → HasFigures p f → TotalsFit columns items p → HasDelay columns items p
-    → HasFigures (totals_over columns items p) (aggregate_figures (aggs_delay columns items) (computed_figures (aggs_depth items) f))
-totals-figures columns items p f h fits delay =
-    let terms = arguments_of_all columns items in
-    let over = levelled (length columns) p terms None in
-    let depth : depth_of_all (terms ++ []) ≡ aggs_depth items = (let d = depth-both terms [] in let e = arguments-depth columns items in omega arith) in
-    let first = subst (λ (d : ℕ). HasFigures over.at (computed_figures d f)) depth
-    (levels-figures (depth_of_all (terms ++ [])) (length columns) p f terms None h fits.of_levels) in
-    let aggs = node.Aggregate over.at.root (aggs_of columns items over.items) in
-    let new = is_added over.at.nodes aggs first.plan fits.of_aggregate in
-    record {
-      plan = new.over.plan;
-      is = new.figures ∙ (λ i. aggregate_figures (delay i) (first.is i));
-    }
+  totals-figures : (items : List AggItemShape) (p : Placed) (f : Figures) → HasFigures p f → TotalsFit columns reach items p → HasDelay columns reach items p
+      → HasFigures (totals_over columns reach items p) (aggregate_figures (aggs_delay reach items) (computed_figures (aggs_depth items) f))
+  totals-figures items p f h fits delay =
+      let terms = arguments_of_all columns reach items in
+      let over = levelled (length columns) p terms None in
+      let depth : depth_of_all (terms ++ []) ≡ aggs_depth items = (let d = depth-both terms [] in let e = arguments-depth columns reach items in omega arith) in
+      let first = subst (λ (d : ℕ). HasFigures over.at (computed_figures d f)) depth
+      (levels-figures (depth_of_all (terms ++ [])) (length columns) p f terms None h fits.of_levels) in
+      let aggs = node.Aggregate over.at.root (aggs_of reach items over.items) in
+      let new = is_added over.at.nodes aggs first.plan fits.of_aggregate in
+      record {
+        plan = new.over.plan;
+        is = new.figures ∙ (λ i. aggregate_figures (delay i) (first.is i));
+      }
 
-frames-figures : (columns : List NamedColumn) (items : List FrameItemShape) (condition : Option ExprShape) (slots : Option SlotsShape) (p : Placed) (f : Figures)
-    → HasFigures p f → FramesFit columns items condition (key_over columns slots) p
-    → (let over = levelled (length columns) p (frames_terms columns items) (filter_of columns condition) in HasFrameDelay columns items slots (selected over.at over.filter) over.items)
-    → HasFigures (frames_over columns items condition (key_over columns slots) p)
-    (settled (delayed (parted_delay columns slots (frames_delay columns items)) (filtered_figures condition (computed_figures (max (frames_depth items) (condition_depth condition)) f))))
-frames-figures columns items condition slots p f h fits delay =
-    let terms = frames_terms columns items in
-    let left = filter_of columns condition in
+frames-figures : (columns reach : List NamedColumn) (items : List FrameItemShape) (condition : Option ExprShape) (slots : Option SlotsShape) (p : Placed) (f : Figures)
+    → HasFigures p f → FramesFit columns reach items condition (key_over columns slots) p
+    → (let over = levelled (length columns) p (frames_terms columns reach items) (filter_of columns reach condition) in HasFrameDelay columns reach items slots (selected over.at over.filter) over.items)
+    → HasFigures (frames_over columns reach items condition (key_over columns slots) p)
+    (settled (delayed (parted_delay columns slots (frames_delay reach items))
+    (filtered_figures condition (computed_figures (max (frames_depth columns reach items) (condition_depth columns reach condition)) f))))
+frames-figures columns reach items condition slots p f h fits delay =
+    let terms = frames_terms columns reach items in
+    let left = filter_of columns reach condition in
     let over = levelled (length columns) p terms left in
     let kept = selected over.at over.filter in
-    let computed = computed_figures (max (frames_depth items) (condition_depth condition)) f in
-    let depth = depth-both terms (option_to_list left) ∙ (λ i. max (frames-depth columns items i) (filter-depth columns condition i)) in
+    let computed = computed_figures (max (frames_depth columns reach items) (condition_depth columns reach condition)) f in
+    let depth = depth-both terms (option_to_list left) ∙ (λ i. max (frames-depth columns reach items i) (filter-depth columns reach condition i)) in
     let first = subst (λ (d : ℕ). HasFigures over.at (computed_figures d f)) depth
     (levels-figures (depth_of_all (with_filter terms left)) (length columns) p f terms left h fits.of_levels) in
-    let same = same-levels (depth_of_all (with_filter terms left)) (length columns) p terms left condition (same-filter columns condition) in
+    let same = same-levels (depth_of_all (with_filter terms left)) (length columns) p terms left condition (same-filter columns reach condition) in
     let second = select-figures over.at computed condition over.filter first same fits.of_select in
     let new = is_added kept.nodes (node.Frames kept.root (key_over columns slots) (frames_of items over.items)) second.plan fits.of_frames in
     record {
@@ -291,15 +312,15 @@ figures-right lengths (shape.Read name) read sources timed nodes reader a plan =
     }
 figures-right lengths (shape.Rows pick condition source) read sources timed nodes reader a plan =
     let done = right lengths (shape.Rows pick condition source) read sources timed nodes reader a plan in
-    rows-figures (columns_of sources source) pick condition (placed read sources source nodes) (query_figures sources source)
+    rows-figures (columns_of sources source) (reach_of sources (columns_of sources source)) pick condition (placed read sources source nodes) (query_figures sources source)
     (figures-right lengths source read sources timed nodes reader a.0 plan) done.0.1
 figures-right lengths (shape.Total aggs source) read sources timed nodes reader a plan =
     let done = right lengths (shape.Total aggs source) read sources timed nodes reader a plan in
-    totals-figures (columns_of sources source) aggs (placed read sources source nodes) (query_figures sources source)
+    totals-figures (columns_of sources source) (reach_of sources (columns_of sources source)) aggs (placed read sources source nodes) (query_figures sources source)
     (figures-right lengths source read sources timed nodes reader a.0 plan) done.0.1 (total-delay lengths aggs source read sources timed nodes reader a plan)
 figures-right lengths (shape.Frames items condition slots source) read sources timed nodes reader a plan =
     let done = right lengths (shape.Frames items condition slots source) read sources timed nodes reader a plan in
-    frames-figures (columns_of sources source) items condition slots (placed read sources source nodes) (query_figures sources source)
+    frames-figures (columns_of sources source) (reach_of sources (columns_of sources source)) items condition slots (placed read sources source nodes) (query_figures sources source)
     (figures-right lengths source read sources timed nodes reader a.0 plan) done.0.1
     (frames-delay lengths items condition slots source read sources timed nodes reader a plan)
 figures-right lengths (shape.Each measure var source size advance body) read sources timed nodes reader a plan =
@@ -308,12 +329,12 @@ figures-right lengths (shape.Each measure var source size advance body) read sou
     let done = right lengths (shape.Each measure var source size advance body) read sources timed nodes reader a plan in
     let below = right lengths source read sources timed nodes reader a.0 plan in
     let from = placed read sources source nodes in
-    let kinds = body-reader var columns (columns-are source read sources timed reader a.0) in
-    let inside = right lengths body inner (variable var columns) false from.nodes kinds a.2 below.1.over.plan in
-    let into = placed inner (variable var columns) body from.nodes in
-    both-figures from into (query_figures sources source) (query_figures (variable var columns) body)
+    let kinds = body-reader sources timed reader.scope var columns (columns-are source read sources timed reader a.0) in
+    let inside = right lengths body inner (query.inside sources var columns) false from.nodes kinds a.2 below.1.over.plan in
+    let into = placed inner (query.inside sources var columns) body from.nodes in
+    both-figures from into (query_figures sources source) (query_figures (query.inside sources var columns) body)
     (window_node measure from.root into.root size advance) (window_figures (copies_of measure size advance))
-    (figures-right lengths source read sources timed nodes reader a.0 plan) (figures-right lengths body inner (variable var columns) false from.nodes kinds a.2 below.1.over.plan)
+    (figures-right lengths source read sources timed nodes reader a.0 plan) (figures-right lengths body inner (query.inside sources var columns) false from.nodes kinds a.2 below.1.over.plan)
     below.1.over.within inside.1.over done.0.2 (window-figured measure from.root into.root size advance)
 figures-right lengths (shape.PerGroup var source key count body) read sources timed nodes reader a plan =
     let columns = columns_of sources source in
@@ -321,12 +342,12 @@ figures-right lengths (shape.PerGroup var source key count body) read sources ti
     let done = right lengths (shape.PerGroup var source key count body) read sources timed nodes reader a plan in
     let below = right lengths source read sources timed nodes reader a.0 plan in
     let from = placed read sources source nodes in
-    let kinds = body-reader var columns (columns-are source read sources timed reader a.0) in
-    let inside = right lengths body inner (variable var columns) false from.nodes kinds a.2 below.1.over.plan in
-    let into = placed inner (variable var columns) body from.nodes in
-    both-figures from into (query_figures sources source) (query_figures (variable var columns) body)
-    (node.Group from.root into.root (Rattle.gl_query.specs.Values.column_number columns key) count) (group_figures count)
-    (figures-right lengths source read sources timed nodes reader a.0 plan) (figures-right lengths body inner (variable var columns) false from.nodes kinds a.2 below.1.over.plan)
+    let kinds = body-reader sources timed reader.scope var columns (columns-are source read sources timed reader a.0) in
+    let inside = right lengths body inner (query.inside sources var columns) false from.nodes kinds a.2 below.1.over.plan in
+    let into = placed inner (query.inside sources var columns) body from.nodes in
+    both-figures from into (query_figures sources source) (query_figures (query.inside sources var columns) body)
+    (node.Group from.root into.root (column_number columns key) count) (group_figures count)
+    (figures-right lengths source read sources timed nodes reader a.0 plan) (figures-right lengths body inner (query.inside sources var columns) false from.nodes kinds a.2 below.1.over.plan)
     below.1.over.within inside.1.over done.0.2 (λ s v. refl)
 figures-right lengths (shape.Partition var source key count size advance body) read sources timed nodes reader a plan =
     let columns = columns_of sources source in
@@ -334,12 +355,12 @@ figures-right lengths (shape.Partition var source key count size advance body) r
     let done = right lengths (shape.Partition var source key count size advance body) read sources timed nodes reader a plan in
     let below = right lengths source read sources timed nodes reader a.0 plan in
     let from = placed read sources source nodes in
-    let kinds = body-reader var columns (columns-are source read sources timed reader a.0) in
-    let inside = right lengths body inner (variable var columns) false from.nodes kinds a.2 below.1.over.plan in
-    let into = placed inner (variable var columns) body from.nodes in
-    both-figures from into (query_figures sources source) (query_figures (variable var columns) body)
-    (node.Partition from.root into.root (Rattle.gl_query.specs.Values.column_number columns key) count size advance) (partition_figures (copies_of_partition count size advance))
-    (figures-right lengths source read sources timed nodes reader a.0 plan) (figures-right lengths body inner (variable var columns) false from.nodes kinds a.2 below.1.over.plan)
+    let kinds = body-reader sources timed reader.scope var columns (columns-are source read sources timed reader a.0) in
+    let inside = right lengths body inner (query.inside sources var columns) false from.nodes kinds a.2 below.1.over.plan in
+    let into = placed inner (query.inside sources var columns) body from.nodes in
+    both-figures from into (query_figures sources source) (query_figures (query.inside sources var columns) body)
+    (node.Partition from.root into.root (column_number columns key) count size advance) (partition_figures (copies_of_partition count size advance))
+    (figures-right lengths source read sources timed nodes reader a.0 plan) (figures-right lengths body inner (query.inside sources var columns) false from.nodes kinds a.2 below.1.over.plan)
     below.1.over.within inside.1.over done.0.2 (λ s v. refl)
 figures-right lengths (shape.Union l r) read sources timed nodes reader a plan =
     let done = right lengths (shape.Union l r) read sources timed nodes reader a plan in

@@ -144,3 +144,16 @@ module _ {A B : Type 0} (w : A → B) (P : A → Type 0) where
 
       pub keyed_mapped_in_place : (xs : List (Placed A)) → AllByRecursion P (rows_of xs) → framed_by_key_at n k g (mapped_at w xs) ≡ framed_by_key_at n key_of f xs
       keyed_mapped_in_place xs h = each_mapped_in_place (by_key n k g) (by_key n key_of f) by_key_mapped [] xs tt h
+
+-- two changes of rows, and values that are one on such rows
+module _ {A B C : Type 0} (w : A → B) (v : A → C) (P : A → Type 0) where
+  pub lag_both : (g : B → ℕ) (f : C → ℕ) → ((x : A) → P x → g (w x) ≡ f (v x)) → (n : ℕ) (xs : List A) → AllByRecursion P xs
+      → lag_of g n (map w xs) ≡ lag_of f n (map v xs)
+  lag_both g f same n xs h =
+      lag_mapped w P g (λ x. f (v x)) same n xs h ∙ sym (lag_mapped v P f (λ x. f (v x)) (λ x q. refl) n xs h)
+
+  pub last_both : (p : B → Bool) (q : C → Bool) → ((x : A) → P x → p (w x) ≡ q (v x)) → (g : B → ℕ) (f : C → ℕ) → ((x : A) → P x → g (w x) ≡ f (v x))
+      → (back : Option ℕ) (xs : List A) → AllByRecursion P xs → last_value_of g back p (map w xs) ≡ last_value_of f back q (map v xs)
+  last_both p q same g f alike back xs h =
+      last_mapped w P p (λ x. q (v x)) same g (λ x. f (v x)) alike back xs h
+      ∙ sym (last_mapped v P q (λ x. q (v x)) (λ x r. refl) f (λ x. f (v x)) (λ x r. refl) back xs h)

@@ -32,6 +32,7 @@ use Rattle.gl_algebra.specs.Columns.{OperandFits, kind_of_operand}
 use Rattle.gl_algebra.specs.Fits.{KeyFits}
 use Rattle.gl_algebra.specs.Keys.{delay_by_key}
 use Rattle.gl_algebra.specs.Shapes.{Shape, shape_of, unsteady}
+use Rattle.gl_algebra.specs.Values.{Sets}
 use Rattle.gl_algebra.specs.Results.{Inputs, IsFramed, IsPlanArrival, Meaning, projected, row_of_frames, selected}
 use Rattle.gl_elaborate.specs.Fitting.{JoinFits}
 use Rattle.gl_elaborate.specs.Figures.{parted_delay}
@@ -64,7 +65,7 @@ pub record IsJoinedHere (lefts rights : List NamedColumn) (slots : SlotsShape) (
 -- ---- from both sides to the join
 
 module _ (lefts rights : List NamedColumn) (slots : SlotsShape) (left_in : column_number lefts slots.key < length lefts) (right_in : column_number rights slots.key < length rights)
-    (kinds' : List Kind) where
+    (kinds' : List Kind) (sets : Sets) where
   abbrev all : ℕ
   all = joined_columns lefts rights slots.key
 
@@ -72,49 +73,49 @@ module _ (lefts rights : List NamedColumn) (slots : SlotsShape) (left_in : colum
   key x = slice_index x (column_number lefts slots.key)
 
   abbrev made_row : List Row → Row
-  made_row rows = row_of_frames kinds' (join_frames lefts rights slots.key) rows
+  made_row rows = row_of_frames sets kinds' (join_frames lefts rights slots.key) rows
 
   abbrev without_mark : Row → Row
-  without_mark row = projected (columns_from 0 all) row
+  without_mark row = projected sets (columns_from 0 all) row
 
   abbrev w : OfEither Row Row → Row
-  w z = widened lefts rights slots left_in right_in z
+  w z = widened lefts rights slots left_in right_in sets z
 
   -- both sides with columns for all, in the order of arrival
   sides_widened : (xs ys : List (arrival.Placed Row))
-      → by_arrival (mapped_at (projected (right_items lefts rights slots.key)) ys) (mapped_at (projected (left_items lefts rights slots.key)) xs) ≡ mapped_at w (both_sides xs ys)
+      → by_arrival (mapped_at (projected sets (right_items lefts rights slots.key)) ys) (mapped_at (projected sets (left_items lefts rights slots.key)) xs) ≡ mapped_at w (both_sides xs ys)
   sides_widened xs ys =
       (λ i. by_arrival (sym (mapped_both of_right w ys) i) (sym (mapped_both of_left w xs) i)) ∙ by_arrival_of_mapped w (mapped_at of_right ys) (mapped_at of_left xs)
 
   all_long : (xs ys : List (arrival.Placed Row)) → AreLong lefts (arrival.rows_of xs) → AreLong rights (arrival.rows_of ys)
-      → AllByRecursion (OfEach lefts rights slots left_in right_in) (arrival.rows_of (both_sides xs ys))
+      → AllByRecursion (OfEach lefts rights slots left_in right_in sets) (arrival.rows_of (both_sides xs ys))
   all_long xs ys h k = all_sides (IsLongAs lefts) (IsLongAs rights) xs ys h k
 
   rows_joined : (xs ys : List (arrival.Placed Row)) → AreLong lefts (arrival.rows_of xs) → AreLong rights (arrival.rows_of ys)
-      → mapped_at without_mark (kept_at (passes lefts rights slots left_in right_in) (framed_by_key_at slots.groups key made_row (mapped_at w (both_sides xs ys))))
+      → mapped_at without_mark (kept_at (passes lefts rights slots left_in right_in sets) (framed_by_key_at slots.groups key made_row (mapped_at w (both_sides xs ys))))
       ≡ as_of (join_by lefts rights slots) xs ys
   rows_joined xs ys h k =
-      let each : OfEither Row Row → Type 0 = OfEach lefts rights slots left_in right_in in
+      let each : OfEither Row Row → Type 0 = OfEach lefts rights slots left_in right_in sets in
       let made : List (OfEither Row Row) → Row = λ zs. made_row (map w zs) in
-      ap (λ (l : List (arrival.Placed Row)). mapped_at without_mark (kept_at (passes lefts rights slots left_in right_in) l))
-      (keyed_mapped_in_place w each made_row made (λ zs q. refl) slots.groups key (key_of_either (join_by lefts rights slots)) (key_alike lefts rights slots left_in right_in)
+      ap (λ (l : List (arrival.Placed Row)). mapped_at without_mark (kept_at (passes lefts rights slots left_in right_in sets) l))
+      (keyed_mapped_in_place w each made_row made (λ zs q. refl) slots.groups key (key_of_either (join_by lefts rights slots)) (key_alike lefts rights slots left_in right_in sets)
       (both_sides xs ys) (all_long xs ys h k))
-      ∙ frames_join (join_by lefts rights slots) each made (passes lefts rights slots left_in right_in) without_mark (makes_joined lefts rights slots left_in right_in kinds') xs ys (all_long xs ys h k)
+      ∙ frames_join (join_by lefts rights slots) each made (passes lefts rights slots left_in right_in sets) without_mark (makes_joined lefts rights slots left_in right_in sets kinds') xs ys (all_long xs ys h k)
 
   keys_joined : (xs ys : List (arrival.Placed Row)) → AreLong lefts (arrival.rows_of xs) → AreLong rights (arrival.rows_of ys)
       → has_further slots.groups key (arrival.rows_of (mapped_at w (both_sides xs ys))) ≡ more_keys (join_by lefts rights slots) xs ys
   keys_joined xs ys h k =
       ap (λ (l : List Row). has_further slots.groups key l) (rows_mapped w (both_sides xs ys))
-      ∙ further_mapped w (OfEach lefts rights slots left_in right_in) key (key_of_either (join_by lefts rights slots)) (key_alike lefts rights slots left_in right_in) slots.groups
+      ∙ further_mapped w (OfEach lefts rights slots left_in right_in sets) key (key_of_either (join_by lefts rights slots)) (key_alike lefts rights slots left_in right_in sets) slots.groups
       (arrival.rows_of (both_sides xs ys)) (all_long xs ys h k)
 
   -- both sides, each with columns for all
   abbrev Both : Arrivals → Arrivals → Arrivals
   Both Left Right =
-      IsByArrival (IsChangedInPlace Right (mapped_at (projected (right_items lefts rights slots.key)))) (IsChangedInPlace Left (mapped_at (projected (left_items lefts rights slots.key))))
+      IsByArrival (IsChangedInPlace Right (mapped_at (projected sets (right_items lefts rights slots.key)))) (IsChangedInPlace Left (mapped_at (projected sets (left_items lefts rights slots.key))))
 
   joined_here : (Left Right : Arrivals) (xs out : List (arrival.Placed Row)) (source_spill spill : Bool) → Both Left Right xs source_spill
-      → out ≡ mapped_at without_mark (kept_at (passes lefts rights slots left_in right_in) (framed_by_key_at slots.groups key made_row xs))
+      → out ≡ mapped_at without_mark (kept_at (passes lefts rights slots left_in right_in sets) (framed_by_key_at slots.groups key made_row xs))
       → spill ≡ (source_spill || has_further slots.groups key (arrival.rows_of xs)) → IsJoinedHere lefts rights slots Left Right out spill
   joined_here Left Right xs out source_spill spill u e s =
       let order : xs ≡ mapped_at w (both_sides u.of_right.rows u.of_left.rows) =
@@ -127,7 +128,7 @@ module _ (lefts rights : List NamedColumn) (slots : SlotsShape) (left_in : colum
         of_left = u.of_right.of_source;
         of_right = u.of_left.of_source;
         made = λ h k.
-            e ∙ ap (λ (l : List (arrival.Placed Row)). mapped_at without_mark (kept_at (passes lefts rights slots left_in right_in) (framed_by_key_at slots.groups key made_row l))) order
+            e ∙ ap (λ (l : List (arrival.Placed Row)). mapped_at without_mark (kept_at (passes lefts rights slots left_in right_in sets) (framed_by_key_at slots.groups key made_row l))) order
             ∙ rows_joined u.of_right.rows u.of_left.rows h k;
         told = λ h k.
             s ∙ ap (λ (b : Bool). b || has_further slots.groups key (arrival.rows_of xs)) u.either
@@ -139,13 +140,13 @@ module _ (lefts rights : List NamedColumn) (slots : SlotsShape) (left_in : colum
   abbrev Turn : Arrivals → Arrivals
   Turn source =
       IsChangedInPlace (IsChangedInPlace (IsPartedInPlace source (framed_by_key_at slots.groups key made_row) (has_further slots.groups key))
-      (kept_at (passes lefts rights slots left_in right_in))) (mapped_at without_mark)
+      (kept_at (passes lefts rights slots left_in right_in sets))) (mapped_at without_mark)
 
   joined_in_turn : (Left Right : Arrivals) (out : List (arrival.Placed Row)) (spill : Bool) → Turn (Both Left Right) out spill → IsJoinedHere lefts rights slots Left Right out spill
   joined_in_turn Left Right out spill r =
       let k = r.of_source in
       let f = k.of_source in
-      let p : Row → Bool = passes lefts rights slots left_in right_in in
+      let p : Row → Bool = passes lefts rights slots left_in right_in sets in
       joined_here Left Right f.rows out f.source_spill spill f.of_source
       (r.changed ∙ ap (λ (l : List (arrival.Placed Row)). mapped_at without_mark l) (k.changed ∙ ap (λ (l : List (arrival.Placed Row)). kept_at p l) f.changed)) f.any
 
@@ -160,14 +161,14 @@ module _ (lefts rights : List NamedColumn) (slots : SlotsShape) (left_in : colum
       let f = r.of_source.of_source in
       let x = f.of_source in
       let framed : List (arrival.Placed Row) = framed_by_key_at slots.groups key made_row x.rows in
-      let kept : List (arrival.Placed Row) = kept_at (passes lefts rights slots left_in right_in) framed in
+      let kept : List (arrival.Placed Row) = kept_at (passes lefts rights slots left_in right_in sets) framed in
       record {
         rows = mapped_at without_mark kept;
         of_source = joined_here Left Right x.rows (mapped_at without_mark kept) f.source_spill spill x.of_source refl
             (f.any ∙ ap (λ (l : List Row). f.source_spill || has_further slots.groups key l) x.without);
         without =
             r.changed ∙ ap (map without_mark) (r.of_source.changed ∙ ap (selected all) (f.changed ∙ ap (framed_by_key slots.groups key made_row) x.without
-            ∙ sym (rows_each (by_key slots.groups key made_row) [] x.rows)) ∙ sym (rows_kept (passes lefts rights slots left_in right_in) framed))
+            ∙ sym (rows_each (by_key slots.groups key made_row) [] x.rows)) ∙ sym (rows_kept (passes lefts rights slots left_in right_in sets) framed))
             ∙ sym (rows_mapped without_mark kept);
       }
 
@@ -242,7 +243,7 @@ module _ (lefts rights : List NamedColumn) (slots : SlotsShape) (left_kinds : Ar
       let left_fit = subst (λ (k : List Kind). AllByRecursion (OperandFits k) (left_items lefts rights name)) (sym own) (kinds.left_fit lefts rights slots left_in right_in j.alike left_kinds right_kinds) in
       let c : Placed = right_side lefts rights name r in
       let sc : Shape = record sr { kinds = wide } in
-      let MC : Meaning = λ inputs. IsChanged (MR inputs) (map (projected (right_items lefts rights name))) in
+      let MC : Meaning = λ inputs. IsChanged (MR inputs) (map (projected inputs.sets (right_items lefts rights name))) in
       let on_c : Stands l.nodes c sc MC =
       subst (λ (k : List Kind). Stands l.nodes c (record sr { kinds = k }) MC)
       (ap (λ (k : List Kind). map (kind_of_operand k) (right_items lefts rights name)) other ∙ kinds.right_wide lefts rights slots left_in right_in j.alike left_kinds right_kinds)
@@ -251,7 +252,7 @@ module _ (lefts rights : List NamedColumn) (slots : SlotsShape) (left_kinds : Ar
       let on_still : Stands c.nodes still sl ML = alone old still sl ML (again old l c sl ML sc MC s on_c) in
       let d : Placed = left_side lefts rights name l.root r in
       let sd : Shape = record sl { kinds = wide } in
-      let MD : Meaning = λ inputs. IsChanged (ML inputs) (map (projected (left_items lefts rights name))) in
+      let MD : Meaning = λ inputs. IsChanged (ML inputs) (map (projected inputs.sets (left_items lefts rights name))) in
       let on_d : Stands c.nodes d sd MD =
       subst (λ (k : List Kind). Stands c.nodes d (record sl { kinds = k }) MD)
       (ap (λ (k : List Kind). map (kind_of_operand k) (left_items lefts rights name)) own ∙ kinds.left_wide lefts rights slots left_in right_in j.alike left_kinds right_kinds)
@@ -265,7 +266,7 @@ module _ (lefts rights : List NamedColumn) (slots : SlotsShape) (left_kinds : Ar
       let items = join_frames lefts rights name in
       let f : Placed = join_framed lefts rights slots l.root r in
       let sf : Shape = record se { kinds = framed_kinds } in
-      let MF : Meaning = λ inputs. IsFramed (Some (join_key lefts slots)) (row_of_frames wide items) (ME inputs) in
+      let MF : Meaning = λ inputs. IsFramed (Some (join_key lefts slots)) (row_of_frames inputs.sets wide items) (ME inputs) in
       let on_f : Stands old f sf MF =
       subst (λ (k : List Kind). Stands old f (record se { kinds = k }) MF) (kinds.frames_kinds lefts rights slots left_in right_in j.alike left_kinds right_kinds)
       (frames-stands old e se ME both.stands (Some (join_key lefts slots)) items key_fits frames) in
@@ -276,13 +277,13 @@ module _ (lefts rights : List NamedColumn) (slots : SlotsShape) (left_kinds : Ar
       let on_g : Stands old g sf MG = select-stands old f sf MF on_f all marked in
       let kept = kinds.kept_fit lefts rights slots left_in right_in j.alike left_kinds right_kinds in
       let last : Placed = as_of_over lefts rights slots l.root r in
-      let MH : Meaning = λ inputs. IsChanged (MG inputs) (map (projected (columns_from 0 all))) in
+      let MH : Meaning = λ inputs. IsChanged (MG inputs) (map (projected inputs.sets (columns_from 0 all))) in
       let on_h : Stands old last (record se { kinds = kinds_of (lefts ++ but_key name rights) }) MH =
       subst (λ (k : List Kind). Stands old last (record se { kinds = k }) MH) (kinds.kept_kinds lefts rights slots left_in right_in j.alike left_kinds right_kinds)
       (project-stands old g sf MG on_g (columns_from 0 all) kept) in
       -- what comes of both sides
       let of_both : (inputs : Inputs) (xs : List (arrival.Placed Row)) (spill : Bool) → IsByArrival (IsPlanArrival d.nodes c.root inputs) (IsPlanArrival d.nodes d.root inputs) xs spill
-      → Both lefts rights slots left_in right_in wide (IsPlanArrival l.nodes l.root inputs) (IsPlanArrival r.nodes r.root inputs) xs spill =
+      → Both lefts rights slots left_in right_in wide inputs.sets (IsPlanArrival l.nodes l.root inputs) (IsPlanArrival r.nodes r.root inputs) xs spill =
       λ inputs xs spill u.
       let a = project-comes l.nodes r sr MR t (right_items lefts rights name) right_fit inputs u.left u.left_spill (left-comes old c d sc sd MC MD c_old on_d inputs u.left u.left_spill u.of_left) in
       let b = project-comes c.nodes still sl ML on_still (left_items lefts rights name) left_fit inputs u.right u.right_spill u.of_right in
@@ -306,7 +307,7 @@ module _ (lefts rights : List NamedColumn) (slots : SlotsShape) (left_kinds : Ar
           of_project = project-fits old g sf MG on_g (columns_from 0 all) kept;
         };
         stands = weaker old last (record se { kinds = kinds_of (lefts ++ but_key name rights) }) MH _ on_h (λ inputs out spill x.
-            joined_results lefts rights slots left_in right_in wide (IsPlanArrival l.nodes l.root inputs) (IsPlanArrival r.nodes r.root inputs) out spill
+            joined_results lefts rights slots left_in right_in wide inputs.sets (IsPlanArrival l.nodes l.root inputs) (IsPlanArrival r.nodes r.root inputs) out spill
             (with_both inputs (IsPlanArrival d.nodes c.root inputs) (IsPlanArrival d.nodes d.root inputs) (IsPlanArrival l.nodes l.root inputs) (IsPlanArrival r.nodes r.root inputs) (of_both inputs) out spill x));
         delay =
             ap (λ (x : Shape). delay_by_key x.kinds (Some (join_key lefts slots)) items) both.stands.is
@@ -316,7 +317,7 @@ module _ (lefts rights : List NamedColumn) (slots : SlotsShape) (left_kinds : Ar
             let k = select-comes old f sf MF on_f all marked inputs h.rows spill h.of_source in
             let m = frames-comes old e se ME both.stands (Some (join_key lefts slots)) items key_fits frames inputs k.rows spill k.of_source in
             let u = (behind d.nodes (node.Merge c.root d.root) on_d.over.plan both.fits).comes inputs m.rows m.source_spill m.of_source in
-            joined_in_turn lefts rights slots left_in right_in wide (IsPlanArrival l.nodes l.root inputs) (IsPlanArrival r.nodes r.root inputs) out spill
+            joined_in_turn lefts rights slots left_in right_in wide inputs.sets (IsPlanArrival l.nodes l.root inputs) (IsPlanArrival r.nodes r.root inputs) out spill
             (record {
               rows = h.rows;
               changed = h.changed;
@@ -330,9 +331,9 @@ module _ (lefts rights : List NamedColumn) (slots : SlotsShape) (left_kinds : Ar
     where
       -- the chain of results over other both sides
       with_both : (inputs : Inputs) (X Y Left Right : Arrivals)
-          → ((xs : List (arrival.Placed Row)) (spill : Bool) → IsByArrival X Y xs spill → Both lefts rights slots left_in right_in wide Left Right xs spill)
-          → (out : List Row) (spill : Bool) → Chain lefts rights slots left_in right_in wide (IsWithoutPlaces (IsByArrival X Y)) out spill
-          → Chain lefts rights slots left_in right_in wide (IsWithoutPlaces (Both lefts rights slots left_in right_in wide Left Right)) out spill
+          → ((xs : List (arrival.Placed Row)) (spill : Bool) → IsByArrival X Y xs spill → Both lefts rights slots left_in right_in wide inputs.sets Left Right xs spill)
+          → (out : List Row) (spill : Bool) → Chain lefts rights slots left_in right_in wide inputs.sets (IsWithoutPlaces (IsByArrival X Y)) out spill
+          → Chain lefts rights slots left_in right_in wide inputs.sets (IsWithoutPlaces (Both lefts rights slots left_in right_in wide inputs.sets Left Right)) out spill
       with_both inputs X Y Left Right turn out spill x =
           let part = x.of_source.of_source in
           record {

@@ -18,7 +18,7 @@ use Rattle.gl_query.specs.Shapes.{SlotsShape}
 use Rattle.gl_query.specs.Values.{column_number}
 use Rattle.gl_query.proofs.Holding.{OfSide, all_before, last_holds}
 use Rattle.gl_algebra.specs.Results.{counts_in, projected, row_of_frames, value_of_frame}
-use Rattle.gl_algebra.specs.Values.{value_of_operand}
+use Rattle.gl_algebra.specs.Values.{Sets, value_of_operand}
 use Rattle.gl_algebra.specs.declared.node.Operand.{Operand}
 use Rattle.gl_algebra.specs.declared.node.Operand.TheVariants as operand
 use Rattle.gl_algebra.specs.declared.node.PlanFrame.{PlanFrame}
@@ -68,27 +68,27 @@ range_long from (suc n) = ap suc (range_long (from + 1) n)
 
 -- ---- the values of columns and of zeros
 
-own_columns : (row : Row) → map (value_of_operand row) (columns_from 0 (length row)) ≡ row
-own_columns row =
-    map_map (value_of_operand row) operand.Column (range_with_len 0 (length row))
+own_columns : (sets : Sets) (row : Row) → map (value_of_operand sets row) (columns_from 0 (length row)) ≡ row
+own_columns sets row =
+    map_map (value_of_operand sets row) operand.Column (range_with_len 0 (length row))
     ∙ ap (λ (l : Row). map (λ c. get_or l c 0) (range_with_len 0 (length row))) (sym (append-nil row))
     ∙ picked_back 0 [] row []
 
-zero_values : (row : Row) (columns : List NamedColumn) → map (value_of_operand row) (zeros_for columns) ≡ map (λ (c : NamedColumn). 0) columns
-zero_values row [] = refl
-zero_values row (c ∷ columns) = ap (λ (l : Row). 0 ∷ l) (zero_values row columns)
+zero_values : (sets : Sets) (row : Row) (columns : List NamedColumn) → map (value_of_operand sets row) (zeros_for columns) ≡ map (λ (c : NamedColumn). 0) columns
+zero_values sets row [] = refl
+zero_values sets row (c ∷ columns) = ap (λ (l : Row). 0 ∷ l) (zero_values sets row columns)
 
-set_long : (row : Row) (columns : List NamedColumn) (place : ℕ) (x : Operand) → length (map (value_of_operand row) (slice_set (zeros_for columns) place x)) ≡ length columns
-set_long row [] zero x = refl
-set_long row [] (suc place) x = refl
-set_long row (c ∷ columns) zero x = ap suc (length-map (zeros_for columns) (value_of_operand row) ∙ length-map columns (λ (e : NamedColumn). zero_of e.kind))
-set_long row (c ∷ columns) (suc place) x = ap suc (set_long row columns place x)
+set_long : (sets : Sets) (row : Row) (columns : List NamedColumn) (place : ℕ) (x : Operand) → length (map (value_of_operand sets row) (slice_set (zeros_for columns) place x)) ≡ length columns
+set_long sets row [] zero x = refl
+set_long sets row [] (suc place) x = refl
+set_long sets row (c ∷ columns) zero x = ap suc (length-map (zeros_for columns) (value_of_operand sets row) ∙ length-map columns (λ (e : NamedColumn). zero_of e.kind))
+set_long sets row (c ∷ columns) (suc place) x = ap suc (set_long sets row columns place x)
 
-set_there : (row : Row) (columns : List NamedColumn) (place : ℕ) (x : Operand) → place < length columns
-    → slice_index (map (value_of_operand row) (slice_set (zeros_for columns) place x)) place ≡ value_of_operand row x
-set_there row [] place x lt = absurd (omega (arith, lt))
-set_there row (c ∷ columns) zero x lt = refl
-set_there row (c ∷ columns) (suc place) x lt = set_there row columns place x (omega (arith, lt))
+set_there : (sets : Sets) (row : Row) (columns : List NamedColumn) (place : ℕ) (x : Operand) → place < length columns
+    → slice_index (map (value_of_operand sets row) (slice_set (zeros_for columns) place x)) place ≡ value_of_operand sets row x
+set_there sets row [] place x lt = absurd (omega (arith, lt))
+set_there sets row (c ∷ columns) zero x lt = refl
+set_there sets row (c ∷ columns) (suc place) x lt = set_there sets row columns place x (omega (arith, lt))
 
 -- a row is of the right side
 abbrev is_right : OfEither Row Row → Bool
@@ -101,7 +101,8 @@ rights_kept (of_left a ∷ zs) = rights_kept zs
 rights_kept (of_right b ∷ zs) = ap (λ (l : List (OfEither Row Row)). of_right b ∷ l) (rights_kept zs)
 
 -- a join of columns whose key is among both sides'
-module _ (lefts rights : List NamedColumn) (slots : SlotsShape) (left_in : column_number lefts slots.key < length lefts) (right_in : column_number rights slots.key < length rights) where
+module _ (lefts rights : List NamedColumn) (slots : SlotsShape) (left_in : column_number lefts slots.key < length lefts) (right_in : column_number rights slots.key < length rights)
+    (sets : Sets) where
   abbrev all : ℕ
   all = joined_columns lefts rights slots.key
 
@@ -110,8 +111,8 @@ module _ (lefts rights : List NamedColumn) (slots : SlotsShape) (left_in : colum
 
   -- a row of either side with columns for all
   abbrev pub widened : OfEither Row Row → Row
-  widened (of_left a) = projected (left_items lefts rights slots.key) a
-  widened (of_right b) = projected (right_items lefts rights slots.key) b
+  widened (of_left a) = projected sets (left_items lefts rights slots.key) a
+  widened (of_right b) = projected sets (right_items lefts rights slots.key) b
 
   abbrev pub OfEach : OfEither Row Row → Type 0
   OfEach z = OfSide (IsLongAs lefts) (IsLongAs rights) z
@@ -121,31 +122,31 @@ module _ (lefts rights : List NamedColumn) (slots : SlotsShape) (left_in : colum
 
   -- the left columns of a row of the right side
   abbrev placed_key : Row → Row
-  placed_key b = map (value_of_operand b) (slice_set (zeros_for lefts) (column_number lefts slots.key) (operand.Column (column_number rights slots.key)))
+  placed_key b = map (value_of_operand sets b) (slice_set (zeros_for lefts) (column_number lefts slots.key) (operand.Column (column_number rights slots.key)))
 
   left_row : (a : Row) → IsLongAs lefts a → widened (of_left a) ≡ a ++ (zeros ++ 0 ∷ 1 ∷ [])
   left_row a long =
-      map-append (value_of_operand a) (columns_from 0 (length lefts)) (zeros_for (but_key slots.key rights) ++ mark 0 ∷ mark 1 ∷ [])
-      ∙ ap (λ n. map (value_of_operand a) (columns_from 0 n) ++ map (value_of_operand a) (zeros_for (but_key slots.key rights) ++ mark 0 ∷ mark 1 ∷ [])) (sym long)
-      ∙ ap (λ (l : Row). l ++ map (value_of_operand a) (zeros_for (but_key slots.key rights) ++ mark 0 ∷ mark 1 ∷ [])) (own_columns a)
-      ∙ ap (λ (l : Row). a ++ l) (map-append (value_of_operand a) (zeros_for (but_key slots.key rights)) (mark 0 ∷ mark 1 ∷ [])
-      ∙ ap (λ (l : Row). l ++ 0 ∷ 1 ∷ []) (zero_values a (but_key slots.key rights)))
+      map-append (value_of_operand sets a) (columns_from 0 (length lefts)) (zeros_for (but_key slots.key rights) ++ mark 0 ∷ mark 1 ∷ [])
+      ∙ ap (λ n. map (value_of_operand sets a) (columns_from 0 n) ++ map (value_of_operand sets a) (zeros_for (but_key slots.key rights) ++ mark 0 ∷ mark 1 ∷ [])) (sym long)
+      ∙ ap (λ (l : Row). l ++ map (value_of_operand sets a) (zeros_for (but_key slots.key rights) ++ mark 0 ∷ mark 1 ∷ [])) (own_columns sets a)
+      ∙ ap (λ (l : Row). a ++ l) (map-append (value_of_operand sets a) (zeros_for (but_key slots.key rights)) (mark 0 ∷ mark 1 ∷ [])
+      ∙ ap (λ (l : Row). l ++ 0 ∷ 1 ∷ []) (zero_values sets a (but_key slots.key rights)))
 
-  others : (b : Row) → IsLongAs rights b → map (value_of_operand b) (remove (columns_from 0 (length rights)) (column_number rights slots.key)) ≡ remove b (column_number rights slots.key)
+  others : (b : Row) → IsLongAs rights b → map (value_of_operand sets b) (remove (columns_from 0 (length rights)) (column_number rights slots.key)) ≡ remove b (column_number rights slots.key)
   others b long =
-      map_remove (value_of_operand b) (columns_from 0 (length rights)) (column_number rights slots.key)
-      ∙ ap (λ n. remove (map (value_of_operand b) (columns_from 0 n)) (column_number rights slots.key)) (sym long)
-      ∙ ap (λ (l : Row). remove l (column_number rights slots.key)) (own_columns b)
+      map_remove (value_of_operand sets b) (columns_from 0 (length rights)) (column_number rights slots.key)
+      ∙ ap (λ n. remove (map (value_of_operand sets b) (columns_from 0 n)) (column_number rights slots.key)) (sym long)
+      ∙ ap (λ (l : Row). remove l (column_number rights slots.key)) (own_columns sets b)
 
   right_row : (b : Row) → IsLongAs rights b → widened (of_right b) ≡ placed_key b ++ (remove b (column_number rights slots.key) ++ 1 ∷ 0 ∷ [])
   right_row b long =
-      map-append (value_of_operand b) (slice_set (zeros_for lefts) (column_number lefts slots.key) (operand.Column (column_number rights slots.key)))
+      map-append (value_of_operand sets b) (slice_set (zeros_for lefts) (column_number lefts slots.key) (operand.Column (column_number rights slots.key)))
       (remove (columns_from 0 (length rights)) (column_number rights slots.key) ++ mark 1 ∷ mark 0 ∷ [])
-      ∙ ap (λ (l : Row). placed_key b ++ l) (map-append (value_of_operand b) (remove (columns_from 0 (length rights)) (column_number rights slots.key)) (mark 1 ∷ mark 0 ∷ [])
+      ∙ ap (λ (l : Row). placed_key b ++ l) (map-append (value_of_operand sets b) (remove (columns_from 0 (length rights)) (column_number rights slots.key)) (mark 1 ∷ mark 0 ∷ [])
       ∙ ap (λ (l : Row). l ++ 1 ∷ 0 ∷ []) (others b long))
 
   key_long : (b : Row) → length (placed_key b) ≡ length lefts
-  key_long b = set_long b lefts (column_number lefts slots.key) (operand.Column (column_number rights slots.key))
+  key_long b = set_long sets b lefts (column_number lefts slots.key) (operand.Column (column_number rights slots.key))
 
   zeros_long : length zeros ≡ more
   zeros_long = length-map (but_key slots.key rights) (λ (c : NamedColumn). 0)
@@ -157,7 +158,7 @@ module _ (lefts rights : List NamedColumn) (slots : SlotsShape) (left_in : colum
       omega (arith, mine, theirs, long)
 
   key_there : (b : Row) → slice_index (placed_key b) (column_number lefts slots.key) ≡ slice_index b (column_number rights slots.key)
-  key_there b = set_there b lefts (column_number lefts slots.key) (operand.Column (column_number rights slots.key)) left_in
+  key_there b = set_there sets b lefts (column_number lefts slots.key) (operand.Column (column_number rights slots.key)) left_in
 
   -- ---- the key and the marks
 
@@ -228,20 +229,20 @@ module _ (lefts rights : List NamedColumn) (slots : SlotsShape) (left_in : colum
       of_any (b ∷ rows) = (tt, of_any rows)
 
   framed_as : (kinds : List Kind) (zs : List (OfEither Row Row)) → AllByRecursion OfEach zs
-      → row_of_frames kinds (join_frames lefts rights slots.key) (map widened zs) ≡ lefts_of (row_before 0 zs) ++ (rights_of (last_right zs) ++ mark_of (row_before 0 zs) ∷ [])
+      → row_of_frames sets kinds (join_frames lefts rights slots.key) (map widened zs) ≡ lefts_of (row_before 0 zs) ++ (rights_of (last_right zs) ++ mark_of (row_before 0 zs) ∷ [])
   framed_as kinds zs h =
-      let value : PlanFrame → ℕ = value_of_frame kinds (map widened zs) in
+      let value : PlanFrame → ℕ = value_of_frame sets kinds (map widened zs) in
       let owns : List PlanFrame = map (λ c. frame.Own (operand.Column c)) (range_with_len 0 (length lefts)) in
       let lasts : List PlanFrame = map (last_marked all) (range_with_len (length lefts) more) in
       let last : List PlanFrame = frame.Own (operand.Column (all + 1)) ∷ [] in
       map-append value owns (lasts ++ last) ∙ ap (λ (l : Row). map value owns ++ l) (map-append value lasts last)
       ∙ (λ i. own_all (range_with_len 0 (length lefts)) i ++ (last_all (range_with_len (length lefts) more) i ++ own_value zs (all + 1) h i ∷ []))
     where
-      own_all : (cs : List ℕ) → map (value_of_frame kinds (map widened zs)) (map (λ c. frame.Own (operand.Column c)) cs) ≡ map (λ c. number_or (λ z. slice_index (widened z) c) (row_before 0 zs)) cs
+      own_all : (cs : List ℕ) → map (value_of_frame sets kinds (map widened zs)) (map (λ c. frame.Own (operand.Column c)) cs) ≡ map (λ c. number_or (λ z. slice_index (widened z) c) (row_before 0 zs)) cs
       own_all [] = refl
       own_all (c ∷ cs) = λ i. own_value zs c h i ∷ own_all cs i
 
-      last_all : (cs : List ℕ) → map (value_of_frame kinds (map widened zs)) (map (last_marked all) cs) ≡ map (λ c. number_or (λ b. slice_index (widened (of_right b)) c) (last_right zs)) cs
+      last_all : (cs : List ℕ) → map (value_of_frame sets kinds (map widened zs)) (map (last_marked all) cs) ≡ map (λ c. number_or (λ b. slice_index (widened (of_right b)) c) (last_right zs)) cs
       last_all [] = refl
       last_all (c ∷ cs) = λ i. last_value zs c h i ∷ last_all cs i
 
@@ -269,12 +270,12 @@ module _ (lefts rights : List NamedColumn) (slots : SlotsShape) (left_in : colum
       ∙ picked_back 0 (placed_key b) rest (1 ∷ 0 ∷ []))
 
   -- the first columns of a row
-  front_of : (xs ys zs : Row) → length xs ≡ length lefts → length ys ≡ more → projected (columns_from 0 all) (xs ++ (ys ++ zs)) ≡ xs ++ ys
+  front_of : (xs ys zs : Row) → length xs ≡ length lefts → length ys ≡ more → projected sets (columns_from 0 all) (xs ++ (ys ++ zs)) ≡ xs ++ ys
   front_of xs ys zs e f =
       let long = length-append xs ys in
       let here : all ≡ length (xs ++ ys) = omega (arith, long, e, f) in
       let apart : xs ++ (ys ++ zs) ≡ (xs ++ ys) ++ zs = sym (append_assoc xs ys zs) in
-      map_map (value_of_operand (xs ++ (ys ++ zs))) operand.Column (range_with_len 0 all)
+      map_map (value_of_operand sets (xs ++ (ys ++ zs))) operand.Column (range_with_len 0 all)
       ∙ (λ i. map (λ c. slice_index (apart i) c) (range_with_len 0 (here i)))
       ∙ picked_back 0 [] (xs ++ ys) zs
 
@@ -283,24 +284,24 @@ module _ (lefts rights : List NamedColumn) (slots : SlotsShape) (left_in : colum
   passes row = nat_eq (slice_index row all) 1
 
   by_last : (o : Option (OfEither Row Row)) (r : Option Row) → IfSome o OfEach → IfSome r (IsLongAs rights)
-      → picked_of passes (projected (columns_from 0 all)) (lefts_of o ++ (rights_of r ++ mark_of o ∷ [])) ≡ joined_last (join_by lefts rights slots) r o
+      → picked_of passes (projected sets (columns_from 0 all)) (lefts_of o ++ (rights_of r ++ mark_of o ∷ [])) ≡ joined_last (join_by lefts rights slots) r o
   by_last o r h k =
-      ap (λ n. if nat_eq n 1 then Some (projected (columns_from 0 all) (lefts_of o ++ (rights_of r ++ mark_of o ∷ []))) else None)
+      ap (λ n. if nat_eq n 1 then Some (projected sets (columns_from 0 all) (lefts_of o ++ (rights_of r ++ mark_of o ∷ []))) else None)
       (mark_at (lefts_of o) (rights_of r) (mark_of o) [] (lefts_long o) (rights_long r))
       ∙ of_sort o h
     where
       of_sort : (p : Option (OfEither Row Row)) → IfSome p OfEach
-          → (if nat_eq (mark_of p) 1 then Some (projected (columns_from 0 all) (lefts_of p ++ (rights_of r ++ mark_of p ∷ []))) else None) ≡ joined_last (join_by lefts rights slots) r p
+          → (if nat_eq (mark_of p) 1 then Some (projected sets (columns_from 0 all) (lefts_of p ++ (rights_of r ++ mark_of p ∷ []))) else None) ≡ joined_last (join_by lefts rights slots) r p
       of_sort None q = refl
       of_sort (Some (of_right b)) q =
-          ap (λ n. if nat_eq n 1 then Some (projected (columns_from 0 all) (lefts_of (Some (of_right b)) ++ (rights_of r ++ mark_of (Some (of_right b)) ∷ []))) else None) (no_left_mark b q)
+          ap (λ n. if nat_eq n 1 then Some (projected sets (columns_from 0 all) (lefts_of (Some (of_right b)) ++ (rights_of r ++ mark_of (Some (of_right b)) ∷ []))) else None) (no_left_mark b q)
       of_sort (Some (of_left a)) q =
-          ap (λ n. if nat_eq n 1 then Some (projected (columns_from 0 all) (lefts_of (Some (of_left a)) ++ (rights_of r ++ mark_of (Some (of_left a)) ∷ []))) else None) (left_mark a q)
+          ap (λ n. if nat_eq n 1 then Some (projected sets (columns_from 0 all) (lefts_of (Some (of_left a)) ++ (rights_of r ++ mark_of (Some (of_left a)) ∷ []))) else None) (left_mark a q)
           ∙ ap Some (front_of (lefts_of (Some (of_left a))) (rights_of r) (mark_of (Some (of_left a)) ∷ []) (lefts_long (Some (of_left a))) (rights_long r)
           ∙ ap (λ (l : Row). l ++ rights_of r) (own_lefts a q) ∙ own_rights a r k)
 
   -- what frames make of rows of both sides, kept and without the mark, is the join of them
-  pub makes_joined : (kinds : List Kind) → MakesJoined (join_by lefts rights slots) OfEach (λ zs. row_of_frames kinds (join_frames lefts rights slots.key) (map widened zs)) passes (projected (columns_from 0 all))
+  pub makes_joined : (kinds : List Kind) → MakesJoined (join_by lefts rights slots) OfEach (λ zs. row_of_frames sets kinds (join_frames lefts rights slots.key) (map widened zs)) passes (projected sets (columns_from 0 all))
   makes_joined kinds zs h =
-      ap (picked_of passes (projected (columns_from 0 all))) (framed_as kinds zs h)
+      ap (picked_of passes (projected sets (columns_from 0 all))) (framed_as kinds zs h)
       ∙ by_last (row_before 0 zs) (last_right zs) (all_before OfEach 0 zs h) (last_holds (IsLongAs lefts) (IsLongAs rights) zs h)

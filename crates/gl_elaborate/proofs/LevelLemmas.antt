@@ -17,11 +17,11 @@ use Rattle.gl_bits.proofs.AllLists.{all_append, all_front, all_back}
 use Rattle.gl_bits.proofs.Bools.{by_cases}
 use Rattle.gl_values.specs.Results.{Row}
 use Rattle.gl_algebra.specs.Columns.{bit_kind, kind_of_operand, kind_of_op, OperandFits, OpFits, SortFits}
-use Rattle.gl_algebra.specs.Values.{value_of_operand, value_of_op}
+use Rattle.gl_algebra.specs.Values.{Sets, value_of_operand, value_of_op}
 use Rattle.gl_algebra.specs.Results.{computed}
 use Rattle.gl_algebra.proofs.ListLemmas.{first_passes}
 use Rattle.gl_algebra.proofs.NodeEquality.{same_op as op-same}
-use Rattle.gl_elaborate.specs.Terms.{Term, Column, Literal, Not, Cast, Binary, IsTerm, term_kind, term_value}
+use Rattle.gl_elaborate.specs.Terms.{Term, Column, Literal, Parameter, Not, Cast, Binary, IsTerm, term_kind, term_value}
 use Rattle.gl_elaborate.proofs.DepthLemmas.{IsNoLiteral}
 use Rattle.gl_elaborate.specs.Levels.{same_op, leaf_of, binary_of, op_of, or_these, innermost, innermost_of_all, level_of, or_column, reduced}
 use Rattle.gl_algebra.specs.contracts.node.ColOpEq.TheImpl.Laws as ColOpLaws
@@ -79,11 +79,12 @@ at_place ops x h =
 pub record IsLeaf (kinds : List Kind) (t : Term) (x : Operand) : Type 0 where
   pub fits : OperandFits kinds x
   pub kind : kind_of_operand kinds x ≡ term_kind kinds t
-  pub value : (row : Row) → value_of_operand row x ≡ term_value kinds row t
+  pub value : (sets : Sets) (row : Row) → value_of_operand sets row x ≡ term_value sets kinds row t
 
 leaf : (kinds : List Kind) (t : Term) (x : Operand) → leaf_of t ≡ Some x → IsTerm kinds t → IsLeaf kinds t x
-leaf kinds (Column n) x e fits = subst (IsLeaf kinds (Column n)) (same_Some _ _ e) (record { fits = fits; kind = refl; value = λ row. refl })
-leaf kinds (Literal w k) x e fits = subst (IsLeaf kinds (Literal w k)) (same_Some _ _ e) (record { fits = fits; kind = refl; value = λ row. refl })
+leaf kinds (Column n) x e fits = subst (IsLeaf kinds (Column n)) (same_Some _ _ e) (record { fits = fits; kind = refl; value = λ sets row. refl })
+leaf kinds (Literal w k) x e fits = subst (IsLeaf kinds (Literal w k)) (same_Some _ _ e) (record { fits = fits; kind = refl; value = λ sets row. refl })
+leaf kinds (Parameter n k) x e fits = subst (IsLeaf kinds (Parameter n k)) (same_Some _ _ e) (record { fits = fits; kind = refl; value = λ sets row. refl })
 leaf kinds (Not t) x e fits = absurd (cc)
 leaf kinds (Cast t k) x e fits = absurd (cc)
 leaf kinds (Binary o l r) x e fits = absurd (cc)
@@ -92,28 +93,28 @@ leaf kinds (Binary o l r) x e fits = absurd (cc)
 pub record IsOp (kinds : List Kind) (t : Term) (x : ColOp) : Type 0 where
   pub fits : OpFits kinds x
   pub kind : kind_of_op kinds x ≡ term_kind kinds t
-  pub value : (row : Row) → value_of_op kinds row x ≡ term_value kinds row t
+  pub value : (sets : Sets) (row : Row) → value_of_op sets kinds row x ≡ term_value sets kinds row t
 
 module _ (kinds : List Kind) where
   not-op : (t : Term) (x : Operand) → IsTerm kinds (Not t) → IsLeaf kinds t x → IsOp kinds (Not t) (op.Not x)
   not-op t x fits is = record {
     fits = (is.fits, is.kind ∙ fits.1);
     kind = refl;
-    value = λ row. ap (not_of 1) (is.value row);
+    value = λ sets row. ap (not_of 1) (is.value sets row);
   }
 
   cast-op : (t : Term) (k : Kind) (x : Operand) → IsTerm kinds (Cast t k) → IsLeaf kinds t x → IsOp kinds (Cast t k) (op.Cast x k)
   cast-op t k x fits is = record {
     fits = (is.fits, subst (λ (j : Kind). IsTrue (can_cast j k)) (sym is.kind) fits.1);
     kind = refl;
-    value = λ row. rw (is.kind, is.value row) refl;
+    value = λ sets row. rw (is.kind, is.value sets row) refl;
   }
 
   binary-op : (o : Op) (l r : Term) (x y : Operand) → IsTerm kinds (Binary o l r) → IsLeaf kinds l x → IsLeaf kinds r y → IsOp kinds (Binary o l r) (op.Binary o x y)
   binary-op o l r x y fits a b = record {
     fits = (a.fits, b.fits, a.kind ∙ fits.2 ∙ sym b.kind, subst (SortFits (sort_of o)) (sym a.kind) fits.3);
     kind = ap (result_kind (sort_of o)) a.kind;
-    value = λ row. rw (a.kind, a.value row, b.value row) refl;
+    value = λ sets row. rw (a.kind, a.value sets row, b.value sets row) refl;
   }
 
   own-not : (t : Term) (x : ColOp) (found : Option Operand) → leaf_of t ≡ found → option_map op.Not found ≡ Some x → IsTerm kinds (Not t) → IsOp kinds (Not t) x
@@ -134,6 +135,7 @@ module _ (kinds : List Kind) where
   pub own : (t : Term) (x : ColOp) → op_of t ≡ Some x → IsTerm kinds t → IsOp kinds t x
   own (Column n) x e fits = absurd (cc)
   own (Literal w k) x e fits = absurd (cc)
+  own (Parameter n k) x e fits = absurd (cc)
   own (Not t) x e fits = own-not t x (leaf_of t) refl e fits
   own (Cast t k) x e fits = own-cast t k x (leaf_of t) refl e fits
   own (Binary o l r) x e fits = own-binary o l r x (leaf_of l) (leaf_of r) refl refl e fits
@@ -146,6 +148,7 @@ module _ (kinds : List Kind) where
   pub innermost-fit : (t : Term) → IsTerm kinds t → AllByRecursion (OpFits kinds) (innermost t)
   innermost-fit (Column n) fits = tt
   innermost-fit (Literal w k) fits = tt
+  innermost-fit (Parameter n k) fits = tt
   innermost-fit (Not t) fits = or-fit (Not t) (op_of (Not t)) _ refl fits (innermost-fit t fits.0)
   innermost-fit (Cast t k) fits = or-fit (Cast t k) (op_of (Cast t k)) _ refl fits (innermost-fit t fits.0)
   innermost-fit (Binary o l r) fits = or-fit (Binary o l r) (op_of (Binary o l r)) _ refl fits
@@ -167,14 +170,14 @@ level-has ts = has-each (innermost_of_all ts) []
 -- ---- one level
 
 -- a term over wider rows has the kind and the value of another
-pub record IsCarried (kinds kinds' : List Kind) (widen : Row → Row) (t t' : Term) : Type 0 where
+pub record IsCarried (kinds kinds' : List Kind) (widen : Sets → Row → Row) (t t' : Term) : Type 0 where
   pub fits : IsTerm kinds' t'
   pub kind : term_kind kinds' t' ≡ term_kind kinds t
-  pub value : (row : Row) → length row ≡ length kinds → term_value kinds' (widen row) t' ≡ term_value kinds row t
+  pub value : (sets : Sets) (row : Row) → length row ≡ length kinds → term_value sets kinds' (widen sets row) t' ≡ term_value sets kinds row t
   pub still : IsNoLiteral t → IsNoLiteral t'
 
 -- each column stands in wider rows where it stood
-abbrev pub KeepsColumns : List Kind → List Kind → (Row → Row) → Type 0
+abbrev pub KeepsColumns : List Kind → List Kind → (Sets → Row → Row) → Type 0
 KeepsColumns kinds kinds' widen = (n : ℕ) → n < length kinds → IsCarried kinds kinds' widen (Column n) (Column n)
 
 module _ (kinds : List Kind) (level : List ColOp) where
@@ -182,8 +185,12 @@ module _ (kinds : List Kind) (level : List ColOp) where
   abbrev pub wider : List Kind
   wider = kinds ++ map (kind_of_op kinds) level
 
+  -- rows with the values of a level
+  abbrev pub levelled_row : Sets → Row → Row
+  levelled_row sets row = computed sets kinds level row
+
   as_column : (t : Term) (x : ColOp) → Has level x → IsOp kinds t x
-      → IsCarried kinds wider (computed kinds level) t (Column (length kinds + position_or_len (same_op x) level))
+      → IsCarried kinds wider levelled_row t (Column (length kinds + position_or_len (same_op x) level))
   as_column t x has is =
       let place = position_or_len (same_op x) level in
       let at = at_place level x has in
@@ -195,43 +202,44 @@ module _ (kinds : List Kind) (level : List ColOp) where
             let within : place < length level = slice_get_within level place x at in
             rw (length-append, length-map) (omega arith);
         kind = get_or-append-add kinds (map (kind_of_op kinds) level) place bit_kind ∙ kind ∙ is.kind;
-        value = λ row same.
-            let value : get_or (map (value_of_op kinds row) level) place 0 ≡ value_of_op kinds row x =
-            get_or_from_slice_get (map (value_of_op kinds row) level) place (value_of_op kinds row x) 0
-            (slice_get-map (value_of_op kinds row) level place ∙ ap (option_map (value_of_op kinds row)) at) in
-            ap (λ (n : ℕ). get_or (computed kinds level row) (n + place) 0) (sym same)
-            ∙ get_or-append-add row (map (value_of_op kinds row) level) place 0 ∙ value ∙ is.value row;
+        value = λ sets row same.
+            let value : get_or (map (value_of_op sets kinds row) level) place 0 ≡ value_of_op sets kinds row x =
+            get_or_from_slice_get (map (value_of_op sets kinds row) level) place (value_of_op sets kinds row x) 0
+            (slice_get-map (value_of_op sets kinds row) level place ∙ ap (option_map (value_of_op sets kinds row)) at) in
+            ap (λ (n : ℕ). get_or (computed sets kinds level row) (n + place) 0) (sym same)
+            ∙ get_or-append-add row (map (value_of_op sets kinds row) level) place 0 ∙ value ∙ is.value sets row;
         still = λ no. tt;
       }
 
   or-carried : (t rest : Term) (found : Option ColOp) (ops : List ColOp) → op_of t ≡ found → IsTerm kinds t
       → AllByRecursion (Has level) (or_these found ops)
-      → (AllByRecursion (Has level) ops → IsCarried kinds wider (computed kinds level) t rest)
-      → IsCarried kinds wider (computed kinds level) t (or_column (length kinds) level found rest)
+      → (AllByRecursion (Has level) ops → IsCarried kinds wider levelled_row t rest)
+      → IsCarried kinds wider levelled_row t (or_column (length kinds) level found rest)
   or-carried t rest None ops e fits has below = below has
   or-carried t rest (Some x) ops e fits has below = as_column t x has.0 (own kinds t x e fits)
 
   pub carried : (t : Term) → IsTerm kinds t → AllByRecursion (Has level) (innermost t)
-      → IsCarried kinds wider (computed kinds level) t (reduced (length kinds) level t)
+      → IsCarried kinds wider levelled_row t (reduced (length kinds) level t)
   carried (Column n) fits has = record {
     fits = rw length-append (omega arith);
     kind = get_or_append_left kinds (map (kind_of_op kinds) level) bit_kind n fits;
-    value = λ row same. get_or_append_left row (map (value_of_op kinds row) level) 0 n (rw same fits);
+    value = λ sets row same. get_or_append_left row (map (value_of_op sets kinds row) level) 0 n (rw same fits);
     still = λ no. tt;
   }
-  carried (Literal w k) fits has = record { fits = fits; kind = refl; value = λ row same. refl; still = λ no. no }
+  carried (Literal w k) fits has = record { fits = fits; kind = refl; value = λ sets row same. refl; still = λ no. no }
+  carried (Parameter n k) fits has = record { fits = fits; kind = refl; value = λ sets row same. refl; still = λ no. no }
   carried (Not t) fits has = or-carried (Not t) (Not (reduced (length kinds) level t)) (op_of (Not t)) (innermost t) refl fits has
       (λ ops. let below = carried t fits.0 ops in record {
         fits = (below.fits, below.kind ∙ fits.1);
         kind = refl;
-        value = λ row same. ap (not_of 1) (below.value row same);
+        value = λ sets row same. ap (not_of 1) (below.value sets row same);
         still = λ no. tt;
       })
   carried (Cast t k) fits has = or-carried (Cast t k) (Cast (reduced (length kinds) level t) k) (op_of (Cast t k)) (innermost t) refl fits has
       (λ ops. let below = carried t fits.0 ops in record {
         fits = (below.fits, subst (λ (j : Kind). IsTrue (can_cast j k)) (sym below.kind) fits.1);
         kind = refl;
-        value = λ row same. rw (below.kind, below.value row same) refl;
+        value = λ sets row same. rw (below.kind, below.value sets row same) refl;
         still = λ no. tt;
       })
   carried (Binary o l r) fits has = or-carried (Binary o l r)
@@ -242,22 +250,22 @@ module _ (kinds : List Kind) (level : List ColOp) where
       record {
         fits = (a.fits, b.fits, a.kind ∙ fits.2 ∙ sym b.kind, subst (SortFits (sort_of o)) (sym a.kind) fits.3);
         kind = ap (result_kind (sort_of o)) a.kind;
-        value = λ row same. rw (a.kind, a.value row same, b.value row same) refl;
+        value = λ sets row same. rw (a.kind, a.value sets row same, b.value sets row same) refl;
         still = λ no. tt;
       })
 
   pub all-carried : (ts : List Term) → AllByRecursion (IsTerm kinds) ts → AllByRecursion (Has level) (innermost_of_all ts)
-      → AllZip (IsCarried kinds wider (computed kinds level)) ts (map (reduced (length kinds) level) ts)
+      → AllZip (IsCarried kinds wider levelled_row) ts (map (reduced (length kinds) level) ts)
   all-carried [] fits has = tt
   all-carried (t ∷ ts) fits has = (
     carried t fits.0 (all_front (Has level) (innermost t) (innermost_of_all ts) has),
     all-carried ts fits.1 (all_back (Has level) (innermost t) (innermost_of_all ts) has),
   )
 
-  pub length-computed : (row : Row) → length row ≡ length kinds → length (computed kinds level row) ≡ length wider
-  length-computed row same =
-      let a = length-append row (map (value_of_op kinds row) level) in
+  pub length-computed : (sets : Sets) (row : Row) → length row ≡ length kinds → length (computed sets kinds level row) ≡ length wider
+  length-computed sets row same =
+      let a = length-append row (map (value_of_op sets kinds row) level) in
       let b = length-append kinds (map (kind_of_op kinds) level) in
-      let c = length-map level (value_of_op kinds row) in
+      let c = length-map level (value_of_op sets kinds row) in
       let d = length-map level (kind_of_op kinds) in
       omega arith

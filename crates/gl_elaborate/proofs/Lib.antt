@@ -1,9 +1,12 @@
+pub mod PastLemmas
+pub mod ApartLemmas
 pub mod PlacedLemmas
 pub mod StandsLemmas
 pub mod RowsLemmas
 pub mod TotalsLemmas
 pub mod FramedLemmas
 pub mod KeyedLemmas
+pub mod FrameItems
 pub mod FramesLemmas
 pub mod LongLemmas
 pub mod ReadLemmas
@@ -14,7 +17,10 @@ pub mod JoinKinds
 pub mod JoinStands
 pub mod RightLemmas
 pub mod QueryLemmas
+pub mod DelayLemmas
 pub mod FigureLemmas
+pub mod KnownLemmas
+pub mod KnownNodes
 pub mod StatementLemmas
 pub mod WholeLemmas
 pub mod SeveralLemmas
@@ -22,6 +28,7 @@ pub mod TimeLemmas
 pub mod StepLemmas
 pub mod CanLemmas
 pub mod BodyLemmas
+pub mod SideLemmas
 pub mod ArgumentLemmas
 pub mod TreeLemmas
 pub mod TermLemmas

@@ -1,5 +1,5 @@
 -- The plan of an accepted query fits, has the query's shape, and each of its results is one of the query.
-use Rattle.std.proofs.Common.{◌≡◌, ℕ, Bool, true, false, ◌&&◌, List, [], ◌∷◌, ◌++◌, length, Option, slice_index, refl, sym, ap, subst, ◌∙◌, map}
+use Rattle.std.proofs.Common.{◌≡◌, ℕ, Bool, true, false, ◌&&◌, List, [], ◌∷◌, ◌++◌, slice_index, refl, sym, ap, subst, ◌∙◌, map}
 use Rattle.std.specs.Prelude.{IsTrue}
 use Rattle.std.proofs.lemmas.List.{map-append}
 use Rattle.gl_values.specs.Lists.{Group, groups, has_further}
@@ -8,16 +8,17 @@ use Rattle.gl_values.specs.Results.{Row, AreBeside, AreJoined, IsOfBoth, IsOfGro
 use Rattle.gl_values.specs.declared.kind.Kind.{Kind}
 use Rattle.gl_schema.specs.declared.schema.Stream.{Stream}
 use Rattle.gl_schema.specs.Schemas.{kinds_of}
-use Rattle.gl_query.specs.Shapes.{ExprShape, AggItemShape, FrameItemShape, QueryShape, SlotsShape}
+use Rattle.gl_query.specs.Shapes.{QueryShape, SlotsShape}
 use Rattle.gl_query.specs.Shapes as shape
 use Rattle.gl_query.specs.Values.{column_number}
 use Rattle.gl_bits.proofs.Bools.{and_parts}
-use Rattle.gl_query.specs.Columns.{arrives, columns_of, frame_column, source_columns, variable, is_closing, pace_of, picked_columns}
+use Rattle.gl_query.specs.Columns.{arrives, columns_of, frame_column, source_columns, is_closing, pace_of, picked_columns, reach_of}
+use Rattle.gl_query.specs.Columns as query
 use Rattle.gl_query.specs.Accepted.{IsAcceptedOver}
 use Rattle.gl_query.specs.Windows.{parts_of}
-use Rattle.gl_query.specs.Results.{IsResultIn, only, picked, kept, ticks_in, times_in, total_row}
+use Rattle.gl_query.specs.Results.{IsResultIn, only, picked, kept, ticks_in, times_in, total_row, widened, words_in}
 use Rattle.gl_query.proofs.Holding.{all_parts}
-use Rattle.gl_query.proofs.Real.{AreReal, real}
+use Rattle.gl_query.proofs.Real.{AreReal, real, reach_kinds}
 use Rattle.gl_algebra.specs.declared.node.PlanNode.{PlanNode}
 use Rattle.gl_algebra.specs.declared.node.PlanNode.TheVariants as node
 use Rattle.gl_algebra.specs.Fits.{IsPlan}
@@ -26,19 +27,19 @@ use Rattle.gl_algebra.specs.Added.{Placed, added}
 use Rattle.gl_algebra.specs.Results.{given, IsPlanArrival, IsPlanResult}
 use Rattle.gl_elaborate.proofs.TermLemmas.{kind-column}
 use Rattle.gl_elaborate.proofs.AcceptedLemmas.{column-fits}
-use Rattle.gl_elaborate.specs.Plans.{filter_of, frames_over, frames_terms, key_over, levelled, placed, rows_over, selected, totals_over, window_node}
+use Rattle.gl_elaborate.specs.Plans.{frames_over, key_over, placed, rows_over, totals_over, window_node}
 use Rattle.gl_elaborate.specs.Fitting.{PlacedFit}
 use Rattle.gl_elaborate.specs.Right.{plan_pace, leaves_of, shape_for}
 use Rattle.gl_elaborate.proofs.LongLemmas.{AreLong, in-groups, in-parts, results-long}
-use Rattle.gl_elaborate.proofs.ReadLemmas.{IsReader, means_for, all-kinds, read-arrives, read-shape, read-fits, read-means, body-reader, body-sees, body-leaves}
+use Rattle.gl_elaborate.proofs.ReadLemmas.{IsReader, means_for, all-kinds, read-arrives, read-shape, read-fits, read-means, body-reader, body-sees, body-leaves, sees-words}
 use Rattle.gl_elaborate.proofs.StandsLemmas.{Stands, weaker}
 use Rattle.gl_elaborate.specs.Joins.{as_of_over}
 use Rattle.gl_elaborate.proofs.JoinStands.{IsJoin, join-stands}
-use Rattle.gl_elaborate.proofs.RightLemmas.{ComeOf, joined-arrives, joined-means, rows-pace, frames-pace, some-pace, over-stream, same-parts, framed-means, picked-arrives, framed-arrives, merged-arrives}
+use Rattle.gl_elaborate.proofs.RightLemmas.{ComeOf, joined-arrives, joined-means, rows-pace, frames-pace, some-pace, over-stream, same-parts, framed-means, picked-arrives, framed-arrives, merged-arrives, behind_columns, seen_over}
 use Rattle.gl_elaborate.proofs.RowsLemmas.{IsPicked, rows-stand}
-use Rattle.gl_elaborate.proofs.TotalsLemmas.{IsTotalled, HasDelay, totals-stand}
+use Rattle.gl_elaborate.proofs.TotalsLemmas.{IsTotalled, totals-stand}
 use Rattle.gl_elaborate.proofs.KeyedLemmas.{AreFramed}
-use Rattle.gl_elaborate.proofs.FramesLemmas.{HasFrameDelay, frames-stand}
+use Rattle.gl_elaborate.proofs.FramesLemmas.{frames-stand}
 use Rattle.gl_elaborate.proofs.TwoLemmas.{behind, left-comes, left_still, merge-stands, union-stands, beside-stands, window-stands, group-stands, partition-stands}
 use Rattle.gl_query.specs.Laws.{IsLongAs, ResultsAreLong}
 
@@ -58,7 +59,7 @@ module _ (read : List ℕ → PlanNode) (sources : List Stream) (timed : Bool) w
       × HasArrivals q (placed read sources q nodes)
 
 -- the nodes of an as-of join over both sides' nodes
-join-of : ResultsAreLong → (l r : QueryShape) (slots : SlotsShape) (read : List ℕ → PlanNode) (sources : List Stream) (timed : Bool) (nodes : List PlanNode) → IsReader read sources timed
+pub join-of : ResultsAreLong → (l r : QueryShape) (slots : SlotsShape) (read : List ℕ → PlanNode) (sources : List Stream) (timed : Bool) (nodes : List PlanNode) → IsReader read sources timed
     → IsAcceptedOver (record { sources = sources; timed = timed }) (shape.AsOf l r slots) → IsTrue (arrives l) × IsTrue (arrives r)
     → Stands nodes (placed read sources l nodes) (shape_for read sources l) (means_for read sources timed l)
     → (let left = placed read sources l nodes in Stands left.nodes (placed read sources r left.nodes) (shape_for read sources r) (means_for read sources timed r))
@@ -93,60 +94,74 @@ right lengths (shape.Read name) read sources timed nodes reader a plan =
     )
 right lengths (shape.Rows pick condition source) read sources timed nodes reader a plan =
     let columns = columns_of sources source in
+    let behind_them = behind_columns sources in
+    let reach = reach_of sources columns in
     let below = right lengths source read sources timed nodes reader a.0 plan in
     let are = columns-are source read sources timed reader a.0 in
-    let done = rows-stand columns are.kinds nodes (placed read sources source nodes) (shape_for read sources source) (means_for read sources timed source) refl
+    let all = reach_kinds (record { sources = sources; timed = timed }) reader.scope columns are.kinds in
+    let done = rows-stand columns behind_them all nodes (placed read sources source nodes) (shape_for read sources source) (means_for read sources timed source) refl
     pick condition a.1 below.1 in
     let from = placed read sources source nodes in
-    let at = rows_over columns pick condition from in
-    let paced = subst (λ (p : Pace). Stands nodes at (record (shape_for read sources source) { kinds = kinds_of (picked_columns columns pick); pace = p })
-    (λ inputs. IsPicked columns pick condition (means_for read sources timed source inputs))) (rows-pace read condition (pace_of source)) done.1 in (
+    let at = rows_over columns reach pick condition from in
+    let paced = subst (λ (p : Pace). Stands nodes at (record (shape_for read sources source) { kinds = kinds_of (picked_columns columns reach pick); pace = p })
+    (λ inputs. IsPicked columns behind_them pick condition inputs.sets (means_for read sources timed source inputs))) (rows-pace read condition (pace_of source)) done.1 in (
       (below.0, done.0),
-      weaker nodes at (shape_for read sources (shape.Rows pick condition source)) (λ inputs. IsPicked columns pick condition (means_for read sources timed source inputs))
+      weaker nodes at (shape_for read sources (shape.Rows pick condition source)) (λ inputs. IsPicked columns behind_them pick condition inputs.sets (means_for read sources timed source inputs))
           (means_for read sources timed (shape.Rows pick condition source)) paced
           (λ inputs out spill r env sees.
           let result = r.of_source env sees in
           record {
             rows = r.rows;
             of_source = result;
-            changed = subst (λ (s : List Stream). out ≡ map (picked (columns_of s source) pick) (kept (columns_of s source) condition r.rows))
-                (sym sees.streams) (r.made (results-long lengths source sources timed env r.rows spill a.0 sees.streams sees.are_long result));
+            changed = subst (λ (s : List Stream). out ≡ map (picked (seen_over env s source) pick) (kept (seen_over env s source) condition r.rows))
+                (sym sees.streams)
+                (r.made (words_in env) (sees-words read sources timed env inputs sees)
+                (results-long lengths source sources timed env r.rows spill a.0 sees.streams sees.are_long result));
           }),
       λ t inputs out spill r.
           picked-arrives lengths pick condition source read sources timed a.0 (λ i. IsPlanArrival from.nodes from.root i) (below.2 t) inputs out spill (done.2 inputs out spill r),
     )
 right lengths (shape.Total aggs source) read sources timed nodes reader a plan =
     let columns = columns_of sources source in
+    let behind_them = behind_columns sources in
+    let reach = reach_of sources columns in
     let below = right lengths source read sources timed nodes reader a.0 plan in
     let are = columns-are source read sources timed reader a.0 in
-    let done = totals-stand columns are.kinds nodes (placed read sources source nodes) (shape_for read sources source) (means_for read sources timed source) refl
+    let all = reach_kinds (record { sources = sources; timed = timed }) reader.scope columns are.kinds in
+    let done = totals-stand columns behind_them all nodes (placed read sources source nodes) (shape_for read sources source) (means_for read sources timed source) refl
     aggs a.1.typed below.1 in
-    let at = totals_over columns aggs (placed read sources source nodes) in (
+    let at = totals_over columns reach aggs (placed read sources source nodes) in (
       (below.0, done.0),
-      weaker nodes at (shape_for read sources (shape.Total aggs source)) (λ inputs. IsTotalled columns aggs (means_for read sources timed source inputs))
+      weaker nodes at (shape_for read sources (shape.Total aggs source)) (λ inputs. IsTotalled columns behind_them aggs inputs.sets (means_for read sources timed source inputs))
           (means_for read sources timed (shape.Total aggs source)) done.2
           (λ inputs out spill r env sees.
           let result = r.of_source env sees in
           record {
             rows = r.rows;
             of_source = result;
-            changed = subst (λ (s : List Stream). out ≡ total_row (columns_of s source) aggs r.rows ∷ [])
-                (sym sees.streams) (r.made (results-long lengths source sources timed env r.rows spill a.0 sees.streams sees.are_long result));
+            changed = subst (λ (s : List Stream). out ≡ total_row (reach_of s (columns_of s source)) aggs (widened (words_in env) r.rows) ∷ [])
+                (sym sees.streams)
+                (r.made (words_in env) (sees-words read sources timed env inputs sees)
+                (results-long lengths source sources timed env r.rows spill a.0 sees.streams sees.are_long result));
           }),
       λ t. absurd (cc),
     )
 right lengths (shape.Frames items condition slots source) read sources timed nodes reader a plan =
     let columns = columns_of sources source in
+    let behind_them = behind_columns sources in
+    let reach = reach_of sources columns in
     let below = right lengths source read sources timed nodes reader a.0 plan in
     let are = columns-are source read sources timed reader a.0 in
-    let done = frames-stand columns are.kinds nodes (placed read sources source nodes) (shape_for read sources source) (means_for read sources timed source) refl
+    let all = reach_kinds (record { sources = sources; timed = timed }) reader.scope columns are.kinds in
+    let done = frames-stand columns behind_them are.kinds all nodes (placed read sources source nodes) (shape_for read sources source) (means_for read sources timed source) refl
     items a.1.typed slots a.1.parted condition a.1.filters below.1 in
     let from = placed read sources source nodes in
-    let at = frames_over columns items condition (key_over columns slots) from in
-    let paced = subst (λ (p : Pace). Stands nodes at (record (shape_for read sources source) { kinds = kinds_of (map (frame_column columns) items); pace = p })
-    (λ inputs. AreFramed columns items condition slots (means_for read sources timed source inputs))) (frames-pace read columns slots condition (pace_of source)) done.2 in (
+    let at = frames_over columns reach items condition (key_over columns slots) from in
+    let paced = subst (λ (p : Pace). Stands nodes at (record (shape_for read sources source) { kinds = kinds_of (map (frame_column reach) items); pace = p })
+    (λ inputs. AreFramed columns behind_them items condition slots inputs.sets (means_for read sources timed source inputs))) (frames-pace read columns slots condition (pace_of source)) done.2 in (
       (below.0, done.0),
-      weaker nodes at (shape_for read sources (shape.Frames items condition slots source)) (λ inputs. AreFramed columns items condition slots (means_for read sources timed source inputs))
+      weaker nodes at (shape_for read sources (shape.Frames items condition slots source))
+          (λ inputs. AreFramed columns behind_them items condition slots inputs.sets (means_for read sources timed source inputs))
           (means_for read sources timed (shape.Frames items condition slots source)) paced
           (framed-means lengths items condition slots source read sources timed a.0),
       λ t inputs out spill r.
@@ -158,13 +173,13 @@ right lengths (shape.Each measure var source size advance body) read sources tim
     let below = right lengths source read sources timed nodes reader a.0 plan in
     let are = columns-are source read sources timed reader a.0 in
     let from = placed read sources source nodes in
-    let inside = right lengths body inner (variable var columns) false from.nodes (body-reader var columns are) a.2 below.1.over.plan in
-    let at = placed inner (variable var columns) body from.nodes in
+    let inside = right lengths body inner (query.inside sources var columns) false from.nodes (body-reader sources timed reader.scope var columns are) a.2 below.1.over.plan in
+    let at = placed inner (query.inside sources var columns) body from.nodes in
     let timely = over-stream measure source read sources timed nodes at size advance reader a.0 a.4 plan inside.1.over in
-    let two = window-stands nodes from at (shape_for read sources source) (shape_for inner (variable var columns) body)
-    (means_for read sources timed source) (means_for inner (variable var columns) false body) below.1 inside.1 measure size advance a.1 timely a.3 (body-leaves (node.Body (kinds_of columns)) body) in
-    let s = left_still nodes from at (shape_for read sources source) (shape_for inner (variable var columns) body)
-    (means_for read sources timed source) (means_for inner (variable var columns) false body) below.1 inside.1 in (
+    let two = window-stands nodes from at (shape_for read sources source) (shape_for inner (query.inside sources var columns) body)
+    (means_for read sources timed source) (means_for inner (query.inside sources var columns) false body) below.1 inside.1 measure size advance a.1 timely a.3 (body-leaves (node.Body (kinds_of columns)) body) in
+    let s = left_still nodes from at (shape_for read sources source) (shape_for inner (query.inside sources var columns) body)
+    (means_for read sources timed source) (means_for inner (query.inside sources var columns) false body) below.1 inside.1 in (
       (below.0, inside.0, two.fits),
       weaker nodes (added at.nodes (window_node measure from.root at.root size advance)) (shape_for read sources (shape.Each measure var source size advance body)) _
           (means_for read sources timed (shape.Each measure var source size advance body)) two.stands
@@ -173,14 +188,14 @@ right lengths (shape.Each measure var source size advance body) read sources tim
           let long = results-long lengths source sources timed env r.rows r.source_spill a.0 sees.streams sees.are_long result in
           let parts = same-parts measure source read sources timed env inputs size advance r.rows a.0 a.4 sees in
           subst (λ (ss : List Stream). IsOfParts (IsResultIn source env) (parts_of measure size advance (times_in env source) (ticks_in env source))
-          (λ rows. IsResultIn body (only var (columns_of ss source) rows)) (λ rows. false) out spill) (sym sees.streams)
+          (λ rows. IsResultIn body (only env var (columns_of ss source) rows)) (λ rows. false) out spill) (sym sees.streams)
           (record {
             rows = r.rows;
             source_spill = r.source_spill;
             parts_spill = r.parts_spill;
             of_source = result;
-            of_parts = joined-means (AreLong columns) _ (λ rows. IsResultIn body (only var columns rows))
-                (λ rows o sp h is. inside.1.means (given inputs rows) o sp is (only var columns rows) (body-sees var columns inputs rows h))
+            of_parts = joined-means (AreLong columns) _ (λ rows. IsResultIn body (only env var columns rows))
+                (λ rows o sp h is. inside.1.means (given inputs rows) o sp is (only env var columns rows) (body-sees read sources timed env var columns inputs rows sees h))
                 (parts_of measure size advance (times_in env source) (ticks_in env source) r.rows) out r.parts_spill
                 (all_parts (IsLongAs columns) measure size advance (times_in env source) (ticks_in env source) r.rows long)
                 (subst (λ (ps : List (List Row)). AreJoined (λ slice. IsPlanResult at.nodes at.root (given inputs slice)) ps out r.parts_spill) parts r.of_parts);
@@ -194,16 +209,16 @@ right lengths (shape.PerGroup var source key count body) read sources timed node
     let below = right lengths source read sources timed nodes reader a.0 plan in
     let are = columns-are source read sources timed reader a.0 in
     let from = placed read sources source nodes in
-    let inside = right lengths body inner (variable var columns) false from.nodes (body-reader var columns are) a.2 below.1.over.plan in
-    let at = placed inner (variable var columns) body from.nodes in
+    let inside = right lengths body inner (query.inside sources var columns) false from.nodes (body-reader sources timed reader.scope var columns are) a.2 below.1.over.plan in
+    let at = placed inner (query.inside sources var columns) body from.nodes in
     let number = column_number columns key in
-    let two = group-stands nodes from at (shape_for read sources source) (shape_for inner (variable var columns) body)
-    (means_for read sources timed source) (means_for inner (variable var columns) false body) below.1 inside.1 number count (column-fits columns are.kinds key a.1.known)
+    let two = group-stands nodes from at (shape_for read sources source) (shape_for inner (query.inside sources var columns) body)
+    (means_for read sources timed source) (means_for inner (query.inside sources var columns) false body) below.1 inside.1 number count (column-fits columns are.kinds key a.1.known)
     a.1.some_groups a.1.most_groups a.3 (body-leaves (node.Body (kinds_of columns)) body) in
-    let s = left_still nodes from at (shape_for read sources source) (shape_for inner (variable var columns) body)
-    (means_for read sources timed source) (means_for inner (variable var columns) false body) below.1 inside.1 in
+    let s = left_still nodes from at (shape_for read sources source) (shape_for inner (query.inside sources var columns) body)
+    (means_for read sources timed source) (means_for inner (query.inside sources var columns) false body) below.1 inside.1 in
     let stands = subst (λ (k : Kind). Stands nodes (added at.nodes (node.Group from.root at.root number count))
-    (record (shape_for read sources source) { kinds = k ∷ kinds_of (columns_of (variable var columns) body); closing = true; pace = unsteady; arrives = false })
+    (record (shape_for read sources source) { kinds = k ∷ kinds_of (columns_of (query.inside sources var columns) body); closing = true; pace = unsteady; arrives = false })
     (λ inputs. IsOfParts (IsPlanResult at.nodes from.root inputs) (groups count (λ row. slice_index row number))
     (IsOfGroup (λ rows. IsPlanResult at.nodes at.root (given inputs rows))) (has_further count (λ row. slice_index row number))))
     (kind-column columns key) two.stands in (
@@ -214,17 +229,17 @@ right lengths (shape.PerGroup var source key count body) read sources timed node
           let result = s.means inputs r.rows r.source_spill r.of_source env sees in
           let long = results-long lengths source sources timed env r.rows r.source_spill a.0 sees.streams sees.are_long result in
           subst (λ (ss : List Stream). IsOfParts (IsResultIn source env) (groups count (λ row. slice_index row (column_number (columns_of ss source) key)))
-          (IsOfGroup (λ rows. IsResultIn body (only var (columns_of ss source) rows)))
+          (IsOfGroup (λ rows. IsResultIn body (only env var (columns_of ss source) rows)))
           (has_further count (λ row. slice_index row (column_number (columns_of ss source) key))) out spill) (sym sees.streams)
           (record {
             rows = r.rows;
             source_spill = r.source_spill;
             parts_spill = r.parts_spill;
             of_source = result;
-            of_parts = joined-means (λ (g : Group Row). AreLong columns g.rows) _ (IsOfGroup (λ rows. IsResultIn body (only var columns rows)))
+            of_parts = joined-means (λ (g : Group Row). AreLong columns g.rows) _ (IsOfGroup (λ rows. IsResultIn body (only env var columns rows)))
                 (λ (g : Group Row) o sp h is. record {
                   rows = is.rows;
-                  of_source = inside.1.means (given inputs g.rows) is.rows sp is.of_source (only var columns g.rows) (body-sees var columns inputs g.rows h);
+                  of_source = inside.1.means (given inputs g.rows) is.rows sp is.of_source (only env var columns g.rows) (body-sees read sources timed env var columns inputs g.rows sees h);
                   changed = is.changed;
                 })
                 (groups count (λ row. slice_index row number) r.rows) out r.parts_spill
@@ -239,16 +254,16 @@ right lengths (shape.Partition var source key count size advance body) read sour
     let below = right lengths source read sources timed nodes reader a.0 plan in
     let are = columns-are source read sources timed reader a.0 in
     let from = placed read sources source nodes in
-    let inside = right lengths body inner (variable var columns) false from.nodes (body-reader var columns are) a.2 below.1.over.plan in
-    let at = placed inner (variable var columns) body from.nodes in
+    let inside = right lengths body inner (query.inside sources var columns) false from.nodes (body-reader sources timed reader.scope var columns are) a.2 below.1.over.plan in
+    let at = placed inner (query.inside sources var columns) body from.nodes in
     let number = column_number columns key in
-    let two = partition-stands nodes from at (shape_for read sources source) (shape_for inner (variable var columns) body)
-    (means_for read sources timed source) (means_for inner (variable var columns) false body) below.1 inside.1 number count size advance (column-fits columns are.kinds key a.1.grouping.known)
+    let two = partition-stands nodes from at (shape_for read sources source) (shape_for inner (query.inside sources var columns) body)
+    (means_for read sources timed source) (means_for inner (query.inside sources var columns) false body) below.1 inside.1 number count size advance (column-fits columns are.kinds key a.1.grouping.known)
     a.1.grouping.some_groups a.1.grouping.most_groups a.1.window a.1.windows a.3 (body-leaves (node.Body (kinds_of columns)) body) in
-    let s = left_still nodes from at (shape_for read sources source) (shape_for inner (variable var columns) body)
-    (means_for read sources timed source) (means_for inner (variable var columns) false body) below.1 inside.1 in
+    let s = left_still nodes from at (shape_for read sources source) (shape_for inner (query.inside sources var columns) body)
+    (means_for read sources timed source) (means_for inner (query.inside sources var columns) false body) below.1 inside.1 in
     let stands = subst (λ (k : Kind). Stands nodes (added at.nodes (node.Partition from.root at.root number count size advance))
-    (record (shape_for read sources source) { kinds = k ∷ kinds_of (columns_of (variable var columns) body); pace = unsteady; arrives = false })
+    (record (shape_for read sources source) { kinds = k ∷ kinds_of (columns_of (query.inside sources var columns) body); pace = unsteady; arrives = false })
     (λ inputs. IsOfParts (IsPlanResult at.nodes from.root inputs) (parts count (λ row. slice_index row number) size advance)
     (IsOfGroup (λ rows. IsPlanResult at.nodes at.root (given inputs rows))) (has_further count (λ row. slice_index row number))))
     (kind-column columns key) two.stands in (
@@ -259,17 +274,17 @@ right lengths (shape.Partition var source key count size advance body) read sour
           let result = s.means inputs r.rows r.source_spill r.of_source env sees in
           let long = results-long lengths source sources timed env r.rows r.source_spill a.0 sees.streams sees.are_long result in
           subst (λ (ss : List Stream). IsOfParts (IsResultIn source env) (parts count (λ row. slice_index row (column_number (columns_of ss source) key)) size advance)
-          (IsOfGroup (λ rows. IsResultIn body (only var (columns_of ss source) rows)))
+          (IsOfGroup (λ rows. IsResultIn body (only env var (columns_of ss source) rows)))
           (has_further count (λ row. slice_index row (column_number (columns_of ss source) key))) out spill) (sym sees.streams)
           (record {
             rows = r.rows;
             source_spill = r.source_spill;
             parts_spill = r.parts_spill;
             of_source = result;
-            of_parts = joined-means (λ (g : Group Row). AreLong columns g.rows) _ (IsOfGroup (λ rows. IsResultIn body (only var columns rows)))
+            of_parts = joined-means (λ (g : Group Row). AreLong columns g.rows) _ (IsOfGroup (λ rows. IsResultIn body (only env var columns rows)))
                 (λ (g : Group Row) o sp h is. record {
                   rows = is.rows;
-                  of_source = inside.1.means (given inputs g.rows) is.rows sp is.of_source (only var columns g.rows) (body-sees var columns inputs g.rows h);
+                  of_source = inside.1.means (given inputs g.rows) is.rows sp is.of_source (only env var columns g.rows) (body-sees read sources timed env var columns inputs g.rows sees h);
                   changed = is.changed;
                 })
                 (parts count (λ row. slice_index row number) size advance r.rows) out r.parts_spill
@@ -355,35 +370,3 @@ right lengths (shape.Concat l r) read sources timed nodes reader a plan =
           }),
       λ t. absurd (cc),
     )
-
-pub total-delay : ResultsAreLong → (aggs : List AggItemShape) (source : QueryShape) (read : List ℕ → PlanNode) (sources : List Stream) (timed : Bool) (nodes : List PlanNode)
-    → IsReader read sources timed → IsAcceptedOver (record { sources = sources; timed = timed }) (shape.Total aggs source) → IsPlan nodes
-    → HasDelay (columns_of sources source) aggs (placed read sources source nodes)
-total-delay lengths aggs source read sources timed nodes reader a plan =
-    let columns = columns_of sources source in
-    let below = right lengths source read sources timed nodes reader a.0 plan in
-    let are = columns-are source read sources timed reader a.0 in
-    (totals-stand columns are.kinds nodes (placed read sources source nodes) (shape_for read sources source) (means_for read sources timed source) refl
-    aggs a.1.typed below.1).1
-
-pub frames-delay : ResultsAreLong → (items : List FrameItemShape) (condition : Option ExprShape) (slots : Option SlotsShape) (source : QueryShape) (read : List ℕ → PlanNode)
-    (sources : List Stream) (timed : Bool) (nodes : List PlanNode) → IsReader read sources timed
-    → IsAcceptedOver (record { sources = sources; timed = timed }) (shape.Frames items condition slots source) → IsPlan nodes
-    → let columns = columns_of sources source in
-    let over = levelled (length columns) (placed read sources source nodes) (frames_terms columns items) (filter_of columns condition) in
-    HasFrameDelay columns items slots (selected over.at over.filter) over.items
-frames-delay lengths items condition slots source read sources timed nodes reader a plan =
-    let columns = columns_of sources source in
-    let below = right lengths source read sources timed nodes reader a.0 plan in
-    let are = columns-are source read sources timed reader a.0 in
-    (frames-stand columns are.kinds nodes (placed read sources source nodes) (shape_for read sources source) (means_for read sources timed source) refl
-    items a.1.typed slots a.1.parted condition a.1.filters below.1).1
-
-pub join-right : ResultsAreLong → (l r : QueryShape) (slots : SlotsShape) (read : List ℕ → PlanNode) (sources : List Stream) (timed : Bool) (nodes : List PlanNode)
-    → IsReader read sources timed → IsAcceptedOver (record { sources = sources; timed = timed }) (shape.AsOf l r slots) → IsPlan nodes
-    → (let left = placed read sources l nodes in
-    IsJoin (columns_of sources l) (columns_of sources r) slots nodes left (placed read sources r left.nodes) (shape_for read sources (shape.AsOf l r slots)))
-join-right lengths l r slots read sources timed nodes reader a plan =
-    let first = right lengths l read sources timed nodes reader a.0 plan in
-    let second = right lengths r read sources timed (placed read sources l nodes).nodes reader a.1 first.1.over.plan in
-    join-of lengths l r slots read sources timed nodes reader a (and_parts (arrives l) (arrives r) a.2) first.1 second.1

@@ -1,5 +1,5 @@
 -- The leaves of a query's plan: their shapes, that they fit, and what they give.
-use Rattle.std.proofs.Common.{◌≡◌, ◌≢◌, ℕ, ◌<◌, Bool, true, false, List, [], ◌∷◌, length, refl, sym, subst}
+use Rattle.std.proofs.Common.{◌≡◌, ◌≢◌, ℕ, ◌<◌, Bool, true, false, List, [], ◌∷◌, length, slice_index, map, refl, sym, ap, subst, ◌∙◌}
 use Rattle.std.specs.List.{AllByRecursion}
 use Rattle.std.specs.Prelude.{bytes_eq}
 use Rattle.std.proofs.lemmas.List.Elements.{All-nil, All-from_recursion}
@@ -10,21 +10,24 @@ use Rattle.gl_bits.proofs.AllLists.{all_append, all_mapped}
 use Rattle.gl_bits.proofs.Bools.{by_cases}
 use Rattle.gl_schema.specs.declared.schema.Column.{Column as NamedColumn}
 use Rattle.gl_schema.specs.declared.schema.Stream.{Stream}
-use Rattle.gl_schema.specs.Schemas.{kinds_of, has_stream}
+use Rattle.gl_schema.specs.Schemas.{IsRowOf, kinds_of, has_stream}
 use Rattle.gl_query.specs.Shapes.{QueryShape}
 use Rattle.gl_query.specs.Shapes as shape
-use Rattle.gl_query.specs.Columns.{source_columns, variable}
-use Rattle.gl_query.specs.Results.{ArrivesIn, Env, IsResultIn, only, placed_rows_of, rows_of, streams_of, ticks_in, times_in}
+use Rattle.gl_query.specs.Columns.{colon, inside, marked, parameters_in, source_columns, variable}
+use Rattle.gl_query.specs.Results.{ArrivesIn, Env, IsResultIn, only, placed_rows_of, rows_of, streams_of, ticks_in, times_in, words_in}
+use Rattle.gl_query.specs.Accepted.{can_read}
 use Rattle.gl_query.specs.Laws.{AreKinds, HoldsIn, IsLongAs}
 use Rattle.gl_query.proofs.Real.{AreReal, IsScope, body_is}
 use Rattle.gl_algebra.specs.declared.node.PlanNode.{PlanNode}
 use Rattle.gl_algebra.specs.declared.node.PlanNode.TheVariants as node
 use Rattle.gl_algebra.specs.Shapes.{Shape, unsteady, shape_from}
-use Rattle.gl_arrival.specs.Places.{Placed, at_places}
+use Rattle.gl_arrival.specs.Places.{Placed, at_places, at_positions}
 use Rattle.gl_algebra.specs.Results.{Arriving, Inputs, Meaning, arriving_from, given, meaning_from, times_with}
 use Rattle.gl_elaborate.specs.Fitting.{FitsNext}
 use Rattle.gl_elaborate.specs.Right.{pace_at, leaves_of}
+use Rattle.gl_elaborate.proofs.ApartLemmas.{AreWords}
 use Rattle.gl_elaborate.proofs.LongLemmas.{AreLong}
+use Rattle.gl_elaborate.proofs.PastLemmas.{among_streams, no_colon, past_parameters}
 
 -- a leaf of a plan whose columns have these kinds
 abbrev pub IsLeafOf : PlanNode → List Kind → Type 0
@@ -84,7 +87,7 @@ IsStreamNode n = (number : ℕ) × (kinds : List Kind) × (n ≡ node.Stream num
 -- the leaves of sources by their names
 pub record IsReader (read : List ℕ → PlanNode) (sources : List Stream) (timed : Bool) : Type 0 where
   pub scope : IsScope (record { sources = sources; timed = timed })
-  pub leaf : (name : List ℕ) → has_stream sources name ≡ true → IsLeafOf (read name) (kinds_of (source_columns sources name))
+  pub leaf : (name : List ℕ) → can_read sources name ≡ true → IsLeafOf (read name) (kinds_of (source_columns sources name))
   pub steady : (name : List ℕ) → pace_at (read name) ≢ unsteady
   pub streams : timed ≡ true → (name : List ℕ) → IsStreamNode (read name)
 
@@ -92,11 +95,13 @@ pub record IsReader (read : List ℕ → PlanNode) (sources : List Stream) (time
 pub record Sees (read : List ℕ → PlanNode) (sources : List Stream) (timed : Bool) (env : Env) (inputs : Inputs) : Type 0 where
   pub streams : streams_of env ≡ sources
   pub are_long : HoldsIn IsLongAs env
-  pub reads : (name : List ℕ) → has_stream sources name ≡ true → leaf_rows (read name) inputs ≡ rows_of env name
-  pub places : (name : List ℕ) → has_stream sources name ≡ true → leaf_placed (read name) inputs ≡ placed_rows_of env name
-  pub times : timed ≡ true → (name : List ℕ) → has_stream sources name ≡ true
+  pub reads : (name : List ℕ) → can_read sources name ≡ true → leaf_rows (read name) inputs ≡ rows_of env name
+  pub places : (name : List ℕ) → can_read sources name ≡ true → leaf_placed (read name) inputs ≡ placed_rows_of env name
+  pub times : timed ≡ true → (name : List ℕ) → can_read sources name ≡ true
       → times_with (pace_at (read name)) inputs ≡ times_in env (shape.Read name)
-  pub ticks : timed ≡ true → (name : List ℕ) → has_stream sources name ≡ true → inputs.ticks ≡ ticks_in env (shape.Read name)
+  pub ticks : timed ≡ true → (name : List ℕ) → can_read sources name ≡ true → inputs.ticks ≡ ticks_in env (shape.Read name)
+  pub sets : (k : ℕ) → inputs.sets k ≡ slice_index (words_in env) k
+  pub fit : IsRowOf (parameters_in sources) (words_in env)
 
 -- the results of a query over what its leaves give
 abbrev pub means_for : (List ℕ → PlanNode) → List Stream → Bool → QueryShape → Meaning
@@ -190,23 +195,65 @@ lost : (var : List ℕ) (columns : List NamedColumn) (name : List ℕ) → bytes
 unfolding has_stream
 lost var columns name e has = let both = rw e at has in cc
 
-pub body-reader : (var : List ℕ) (columns : List NamedColumn) → AreReal columns → IsReader (λ name. node.Body (kinds_of columns)) (variable var columns) false
-body-reader var columns are = record {
-  scope = body_is var columns are.result are.kinds;
-  leaf = λ name has. by_cases (bytes_eq name var) (λ e. rw e refl) (λ e. absurd (lost var columns name e has));
+own-leaf : (var : List ℕ) (columns : List NamedColumn) (name : List ℕ) → has_stream (variable var columns) name ≡ true
+    → kinds_of columns ≡ kinds_of (source_columns (variable var columns) name)
+own-leaf var columns name has = by_cases (bytes_eq name var) (λ e. rw e refl) (λ e. absurd (lost var columns name e has))
+
+pub body-reader : (sources : List Stream) (timed : Bool) → IsScope (record { sources = sources; timed = timed }) → (var : List ℕ) (columns : List NamedColumn)
+    → AreReal columns → IsReader (λ name. node.Body (kinds_of columns)) (inside sources var columns) false
+body-reader sources timed is var columns are = record {
+  scope = body_is (record { sources = sources; timed = timed }) is var columns are.result are.kinds;
+  leaf = λ name has.
+      own-leaf var columns name (among_streams (parameters_in sources) (variable var columns) name has)
+      ∙ ap kinds_of (sym (past_parameters (parameters_in sources) (variable var columns) name (no_colon (inside sources var columns) name has)));
   steady = λ name e. absurd (cc);
   streams = λ t name. absurd (cc);
 }
 
-pub body-sees : (var : List ℕ) (columns : List NamedColumn) (inputs : Inputs) (rows : List Row) → AreLong columns rows
-    → Sees (λ name. node.Body (kinds_of columns)) (variable var columns) false (only var columns rows) (given inputs rows)
-body-sees var columns inputs rows long = record {
-  streams = refl;
-  are_long = λ name. by_cases (bytes_eq name var) (λ e. rw e long) (λ e. rw e tt);
-  reads = λ name has. by_cases (bytes_eq name var) (λ e. rw e refl) (λ e. absurd (lost var columns name e has));
-  places = λ name has. by_cases (bytes_eq name var) (λ e. rw e refl) (λ e. absurd (lost var columns name e has));
+own-rows : (env : Env) (var : List ℕ) (columns : List NamedColumn) (rows : List Row) (name : List ℕ) → bytes_eq name colon ≡ false
+    → has_stream (variable var columns) name ≡ true → rows ≡ rows_of (only env var columns rows) name
+own-rows env var columns rows name other has =
+    by_cases (bytes_eq name var) (λ e. rw (other, e) refl) (λ e. absurd (lost var columns name e has))
+
+own-placed : (env : Env) (var : List ℕ) (columns : List NamedColumn) (rows : List Row) (name : List ℕ) → bytes_eq name colon ≡ false
+    → has_stream (variable var columns) name ≡ true → at_positions rows ≡ placed_rows_of (only env var columns rows) name
+own-placed env var columns rows name other has =
+    by_cases (bytes_eq name var) (λ e. rw (other, e) refl) (λ e. absurd (lost var columns name e has))
+
+pub body-sees : (read : List ℕ → PlanNode) (sources : List Stream) (timed : Bool) (env : Env) (var : List ℕ) (columns : List NamedColumn) (inputs : Inputs)
+    (rows : List Row) → Sees read sources timed env inputs → AreLong columns rows
+    → Sees (λ name. node.Body (kinds_of columns)) (inside sources var columns) false (only env var columns rows) (given inputs rows)
+body-sees read sources timed env var columns inputs rows sees long = record {
+  streams = ap (λ (ss : List Stream). inside ss var columns) sees.streams;
+  are_long = record {
+    rows = λ name. by_cases (bytes_eq name colon) (λ e. rw e (sees.are_long.words, tt))
+        (λ e. by_cases (bytes_eq name var) (λ f. rw (e, f) long) (λ f. rw (e, f) tt));
+    words = sees.are_long.words;
+  };
+  reads = λ name has.
+      own-rows env var columns rows name (no_colon (inside sources var columns) name has)
+      (among_streams (parameters_in sources) (variable var columns) name has);
+  places = λ name has.
+      own-placed env var columns rows name (no_colon (inside sources var columns) name has)
+      (among_streams (parameters_in sources) (variable var columns) name has);
   times = λ t name has. absurd (cc);
   ticks = λ t name has. absurd (cc);
+  sets = sees.sets;
+  fit = sees.fit;
+}
+
+-- the parameters keep their kinds under the names by which expressions read them
+marked-fits : (parameters : List NamedColumn) (words : Row) → IsRowOf parameters words → IsRowOf (map marked parameters) words
+marked-fits [] [] h = tt
+marked-fits [] (n ∷ ns) h = absurd h
+marked-fits (p ∷ ps) [] h = absurd h
+marked-fits (p ∷ ps) (n ∷ ns) h = (h.0, marked-fits ps ns h.1)
+
+pub sees-words : (read : List ℕ → PlanNode) (sources : List Stream) (timed : Bool) (env : Env) (inputs : Inputs) → Sees read sources timed env inputs
+    → AreWords (map marked (parameters_in sources)) inputs.sets (words_in env)
+sees-words read sources timed env inputs sees = record {
+  fit = marked-fits (parameters_in sources) (words_in env) sees.fit;
+  each = sees.sets;
 }
 
 pub body-leaves : (n : PlanNode) (q : QueryShape) → AllByRecursion (λ leaf. leaf ≡ n) (leaves_of (λ name. n) q)

@@ -1,5 +1,5 @@
 -- What is shown of each query apart: paces, parts, windows of time, and what selects and unions by arrival make.
-use Rattle.std.proofs.Common.{◌≡◌, ◌≢◌, ℕ, Bool, true, List, [], ◌∷◌, Option, Some, None, refl, sym, ap, subst, ◌∙◌}
+use Rattle.std.proofs.Common.{◌≡◌, ◌≢◌, ℕ, Bool, true, List, [], ◌∷◌, Option, Some, None, map, refl, sym, ap, subst, ◌∙◌}
 use Rattle.std.specs.List.{AllByRecursion}
 use Rattle.std.specs.Prelude.{IsSome}
 use Rattle.gl_values.specs.Results.{Row, Results, AreJoined}
@@ -14,11 +14,11 @@ use Rattle.gl_query.specs.declared.tree.Measure.{Measure}
 use Rattle.gl_query.specs.declared.tree.Measure.TheVariants.{Tuples, Time}
 use Rattle.gl_query.specs.Shapes.{ExprShape, FrameItemShape, PickShape, QueryShape, SlotsShape}
 use Rattle.gl_query.specs.Shapes as shape
-use Rattle.gl_query.specs.Columns.{columns_of, source_columns, pace_of, unfiltered}
+use Rattle.gl_query.specs.Columns.{columns_of, marked, parameters_in, reach_of, source_columns, pace_of, unfiltered}
 use Rattle.gl_query.specs.Columns as query
 use Rattle.gl_query.specs.Accepted.{IsAcceptedOver, can_measure}
 use Rattle.gl_query.specs.Laws.{ResultsAreLong}
-use Rattle.gl_query.specs.Results.{ArrivesIn, Env, IsAsOf, IsFramed, IsFramedInPlace, IsResultIn, frame_row, join_by, keeps, kept, picked, ticks_in, times_in}
+use Rattle.gl_query.specs.Results.{ArrivesIn, Env, IsAsOf, IsFramed, IsFramedInPlace, IsResultIn, join_by, kept, picked, ticks_in, times_in, Reach, is_kept, reached_row, words_in}
 use Rattle.gl_query.specs.Windows.{parts_of}
 use Rattle.gl_query.proofs.Arriving.{arrived}
 use Rattle.gl_algebra.specs.declared.node.PlanNode.{PlanNode}
@@ -32,7 +32,7 @@ use Rattle.gl_elaborate.proofs.JoinStands.{IsJoinedHere}
 use Rattle.gl_elaborate.proofs.KeyedLemmas.{AreFramed, AreFramedHere}
 use Rattle.gl_elaborate.proofs.LongLemmas.{results-long}
 use Rattle.gl_elaborate.proofs.PlacedLemmas.{IsOver, is_added}
-use Rattle.gl_elaborate.proofs.ReadLemmas.{IsReader, Sees, arrives_for, means_for, all-kinds, read-fits}
+use Rattle.gl_elaborate.proofs.ReadLemmas.{IsReader, Sees, arrives_for, means_for, all-kinds, read-fits, sees-words}
 use Rattle.gl_elaborate.proofs.RowsLemmas.{IsPickedInPlace, pace_under}
 
 -- ---- results in parts
@@ -87,24 +87,35 @@ same-parts Time (shape.Read name) read sources timed env inputs size advance row
     (λ i. parts_of Time size advance (sees.times can name a i) (sees.ticks can name a i) rows)
 same-parts Time source read sources timed env inputs size advance rows a can sees = absurd (cc)
 
+-- what the parameters are called in expressions
+abbrev pub behind_columns : List Stream → List NamedColumn
+behind_columns sources = map marked (parameters_in sources)
+
+-- what expressions over the rows of a query see where these are the sources
+abbrev pub seen_over : Env → List Stream → QueryShape → Reach
+seen_over env sources q = record { columns = reach_of sources (columns_of sources q); words = words_in env }
+
 -- what frames make of a result of their source is a result of the query
 pub framed-means : ResultsAreLong → (items : List FrameItemShape) (condition : Option ExprShape) (slots : Option SlotsShape) (source : QueryShape) (read : List ℕ → PlanNode)
     (sources : List Stream) (timed : Bool) → IsAcceptedOver (record { sources = sources; timed = timed }) source → (inputs : Inputs) (out : List Row) (spill : Bool)
-    → AreFramed (columns_of sources source) items condition slots (means_for read sources timed source inputs) out spill
+    → AreFramed (columns_of sources source) (behind_columns sources) items condition slots inputs.sets (means_for read sources timed source inputs) out spill
     → means_for read sources timed (shape.Frames items condition slots source) inputs out spill
 framed-means lengths items condition None source read sources timed a inputs out spill r = λ env sees.
     let result = r.of_source env sees in
     record {
       rows = r.rows;
       of_source = result;
-      changed = subst (λ (s : List Stream). out ≡ framed (frame_row (columns_of s source) items) (kept (columns_of s source) condition r.rows))
-          (sym sees.streams) (r.made (results-long lengths source sources timed env r.rows spill a sees.streams sees.are_long result));
+      changed = subst (λ (s : List Stream). out ≡ framed (reached_row (seen_over env s source) items) (kept (seen_over env s source) condition r.rows))
+          (sym sees.streams)
+          (r.made (words_in env) (sees-words read sources timed env inputs sees)
+          (results-long lengths source sources timed env r.rows spill a sees.streams sees.are_long result));
     }
 framed-means lengths items condition (Some slots) source read sources timed a inputs out spill r = λ env sees.
     let result = r.of_source env sees in
     let long = results-long lengths source sources timed env r.rows r.source_spill a sees.streams sees.are_long result in
-    subst (λ (s : List Stream). IsFramed (columns_of s source) items condition (Some slots) (IsResultIn source env) out spill) (sym sees.streams)
-    (record { rows = r.rows; source_spill = r.source_spill; of_source = result; changed = r.made long; any = r.told long })
+    let words = sees-words read sources timed env inputs sees in
+    subst (λ (s : List Stream). IsFramed (columns_of s source) (seen_over env s source) items condition (Some slots) (IsResultIn source env) out spill) (sym sees.streams)
+    (record { rows = r.rows; source_spill = r.source_spill; of_source = result; changed = r.made (words_in env) words long; any = r.told (words_in env) words long })
 
 -- ---- results with places
 
@@ -116,36 +127,41 @@ ComeOf read sources timed q from = (inputs : Inputs) (out : List (arrival.Placed
 pub picked-arrives : ResultsAreLong → (pick : PickShape) (condition : Option ExprShape) (source : QueryShape) (read : List ℕ → PlanNode)
     (sources : List Stream) (timed : Bool) → IsAcceptedOver (record { sources = sources; timed = timed }) source → (from : Arriving)
     → ComeOf read sources timed source from
-    → ComeOf read sources timed (shape.Rows pick condition source) (λ inputs. IsPickedInPlace (columns_of sources source) pick condition (from inputs))
+    → ComeOf read sources timed (shape.Rows pick condition source)
+    (λ inputs. IsPickedInPlace (columns_of sources source) (behind_columns sources) pick condition inputs.sets (from inputs))
 picked-arrives lengths pick condition source read sources timed a from comes inputs out spill r env sees =
     let result = comes inputs r.rows spill r.of_source env sees in
     record {
       rows = r.rows;
       of_source = result;
-      changed = subst (λ (s : List Stream). out ≡ mapped_at (picked (columns_of s source) pick) (kept_at (keeps (columns_of s source) condition) r.rows))
+      changed = subst (λ (s : List Stream). out ≡ mapped_at (picked (seen_over env s source) pick) (kept_at (is_kept (seen_over env s source) condition) r.rows))
           (sym sees.streams)
-          (r.made (results-long lengths source sources timed env (arrival.rows_of r.rows) spill a sees.streams sees.are_long (arrived source env r.rows spill result)));
+          (r.made (words_in env) (sees-words read sources timed env inputs sees)
+          (results-long lengths source sources timed env (arrival.rows_of r.rows) spill a sees.streams sees.are_long (arrived source env r.rows spill result)));
     }
 
 -- what frames make of them as well
 pub framed-arrives : ResultsAreLong → (items : List FrameItemShape) (condition : Option ExprShape) (slots : Option SlotsShape) (source : QueryShape) (read : List ℕ → PlanNode)
     (sources : List Stream) (timed : Bool) → IsAcceptedOver (record { sources = sources; timed = timed }) source → (from : Arriving)
     → ComeOf read sources timed source from
-    → ComeOf read sources timed (shape.Frames items condition slots source) (λ inputs. AreFramedHere (columns_of sources source) items condition slots (from inputs))
+    → ComeOf read sources timed (shape.Frames items condition slots source)
+    (λ inputs. AreFramedHere (columns_of sources source) (behind_columns sources) items condition slots inputs.sets (from inputs))
 framed-arrives lengths items condition None source read sources timed a from comes inputs out spill r env sees =
     let result = comes inputs r.rows spill r.of_source env sees in
     record {
       rows = r.rows;
       of_source = result;
-      changed = subst (λ (s : List Stream). out ≡ framed_at (frame_row (columns_of s source) items) (kept_at (keeps (columns_of s source) condition) r.rows))
+      changed = subst (λ (s : List Stream). out ≡ framed_at (reached_row (seen_over env s source) items) (kept_at (is_kept (seen_over env s source) condition) r.rows))
           (sym sees.streams)
-          (r.made (results-long lengths source sources timed env (arrival.rows_of r.rows) spill a sees.streams sees.are_long (arrived source env r.rows spill result)));
+          (r.made (words_in env) (sees-words read sources timed env inputs sees)
+          (results-long lengths source sources timed env (arrival.rows_of r.rows) spill a sees.streams sees.are_long (arrived source env r.rows spill result)));
     }
 framed-arrives lengths items condition (Some slots) source read sources timed a from comes inputs out spill r env sees =
     let result = comes inputs r.rows r.source_spill r.of_source env sees in
     let long = results-long lengths source sources timed env (arrival.rows_of r.rows) r.source_spill a sees.streams sees.are_long (arrived source env r.rows r.source_spill result) in
-    subst (λ (s : List Stream). IsFramedInPlace (columns_of s source) items condition (Some slots) (ArrivesIn source env) out spill) (sym sees.streams)
-    (record { rows = r.rows; source_spill = r.source_spill; of_source = result; changed = r.made long; any = r.told long })
+    let words = sees-words read sources timed env inputs sees in
+    subst (λ (s : List Stream). IsFramedInPlace (columns_of s source) (seen_over env s source) items condition (Some slots) (ArrivesIn source env) out spill) (sym sees.streams)
+    (record { rows = r.rows; source_spill = r.source_spill; of_source = result; changed = r.made (words_in env) words long; any = r.told (words_in env) words long })
 
 -- and what a union by arrival makes of both sides
 pub merged-arrives : (l r : QueryShape) (read : List ℕ → PlanNode) (sources : List Stream) (timed : Bool) (left right : Arriving)

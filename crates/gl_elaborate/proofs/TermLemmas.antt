@@ -11,10 +11,11 @@ use Rattle.gl_query.specs.Shapes.{ExprShape}
 use Rattle.gl_query.specs.Shapes as shape
 use Rattle.gl_query.specs.Values.{column_kind, column_number, kind_alone, kind_of, operand_place, value_of}
 use Rattle.gl_algebra.specs.Columns.{bit_kind, kind_of_column}
+use Rattle.gl_algebra.specs.Values.{Sets}
 use Rattle.gl_query.proofs.OwnKinds.{operator_gives}
 use Rattle.gl_elaborate.specs.Terms.{term_of, term_kind, term_value}
 
-kind_at : (columns : List NamedColumn) (n : ℕ) → get_or (kinds_of columns) n bit_kind ≡ unwrap_or (option_map (λ (c : NamedColumn). c.kind) (slice_get columns n)) (Unsigned 1)
+pub kind_at : (columns : List NamedColumn) (n : ℕ) → get_or (kinds_of columns) n bit_kind ≡ unwrap_or (option_map (λ (c : NamedColumn). c.kind) (slice_get columns n)) (Unsigned 1)
 kind_at [] n = refl
 kind_at (c ∷ cs) zero = refl
 kind_at (c ∷ cs) (suc n) = kind_at cs n
@@ -32,15 +33,15 @@ term-kind columns place (shape.Cast kind e) = refl
 term-kind columns place (shape.Binary o l r) =
     ap (result_kind (sort_of o)) (term-kind columns (operand_place columns o place l r) l) ∙ sym (operator_gives columns place o l r)
 
-pub term-value : (columns : List NamedColumn) (place : Kind) (e : ExprShape) (row : List ℕ)
-    → term_value (kinds_of columns) row (term_of columns place e) ≡ value_of columns place e row
-term-value columns place (shape.Column name) row = refl
-term-value columns place (shape.Number n) row = refl
-term-value columns place (shape.Minus n) row = refl
-term-value columns place (shape.Letters text) row = refl
-term-value columns place (shape.Not e) row = ap (not_of 1) (term-value columns (Unsigned 1) e row)
-term-value columns place (shape.Cast kind e) row =
-    λ i. cast_of (term-kind columns (kind_alone e) e i) kind (term-value columns (kind_alone e) e row i)
-term-value columns place (shape.Binary o l r) row =
+pub term-value : (sets : Sets) (columns : List NamedColumn) (place : Kind) (e : ExprShape) (row : List ℕ)
+    → term_value sets (kinds_of columns) row (term_of columns place e) ≡ value_of columns place e row
+term-value sets columns place (shape.Column name) row = refl
+term-value sets columns place (shape.Number n) row = refl
+term-value sets columns place (shape.Minus n) row = refl
+term-value sets columns place (shape.Letters text) row = refl
+term-value sets columns place (shape.Not e) row = ap (not_of 1) (term-value sets columns (Unsigned 1) e row)
+term-value sets columns place (shape.Cast kind e) row =
+    λ i. cast_of (term-kind columns (kind_alone e) e i) kind (term-value sets columns (kind_alone e) e row i)
+term-value sets columns place (shape.Binary o l r) row =
     λ i. operate o (term-kind columns (operand_place columns o place l r) l i)
-    (term-value columns (operand_place columns o place l r) l row i) (term-value columns (operand_place columns o place r l) r row i)
+    (term-value sets columns (operand_place columns o place l r) l row i) (term-value sets columns (operand_place columns o place r l) r row i)

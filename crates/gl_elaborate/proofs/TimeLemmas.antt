@@ -10,7 +10,8 @@ use Rattle.gl_query.specs.declared.tree.Measure.{Measure}
 use Rattle.gl_query.specs.declared.tree.Measure.TheVariants.{Tuples, Time}
 use Rattle.gl_query.specs.Shapes.{AggItemShape, ExprShape, FrameItemShape, PickShape, QueryShape, query_shape}
 use Rattle.gl_query.specs.Shapes as shape
-use Rattle.gl_query.specs.Columns.{columns_of, variable}
+use Rattle.gl_query.specs.Columns.{columns_of, reach_of, sources_of}
+use Rattle.gl_query.specs.Columns as query
 use Rattle.gl_query.specs.Windows as windows
 use Rattle.gl_query.specs.Windows.{has_time}
 use Rattle.gl_query.specs.Values.{column_number}
@@ -62,29 +63,33 @@ select-quiet : (at : Placed) (filter : Option Term) → reads_time (selected at 
 select-quiet at None = refl
 select-quiet at (Some t) = quiet at.nodes (node.Select at.root (column_under (operand_of t))) refl
 
-rows-quiet : (columns : List NamedColumn) (pick : PickShape) (filter : Option ExprShape) (at : Placed)
-    → reads_time (rows_over columns pick filter at).nodes ≡ reads_time at.nodes
-rows-quiet columns pick filter at =
-    let over = levelled (length columns) at (picked_terms columns pick) (filter_of columns filter) in
-    let chosen = selected over.at over.filter in
-    quiet chosen.nodes (node.Project chosen.root (map operand_of over.items)) refl ∙ select-quiet over.at over.filter
-    ∙ levels-quiet (depth_of_all (with_filter (picked_terms columns pick) (filter_of columns filter))) (length columns) at (picked_terms columns pick)
-    (filter_of columns filter)
+module _ (columns reach : List NamedColumn) where
+  rows-quiet : (pick : PickShape) (filter : Option ExprShape) (at : Placed)
+      → reads_time (rows_over columns reach pick filter at).nodes ≡ reads_time at.nodes
+  rows-quiet pick filter at =
+      let items = picked_terms columns reach pick in
+      let left = filter_of columns reach filter in
+      let over = levelled (length columns) at items left in
+      let chosen = selected over.at over.filter in
+      quiet chosen.nodes (node.Project chosen.root (map operand_of over.items)) refl ∙ select-quiet over.at over.filter
+      ∙ levels-quiet (depth_of_all (with_filter items left)) (length columns) at items left
 
-totals-quiet : (columns : List NamedColumn) (aggs : List AggItemShape) (at : Placed) → reads_time (totals_over columns aggs at).nodes ≡ reads_time at.nodes
-totals-quiet columns aggs at =
-    let over = levelled (length columns) at (arguments_of_all columns aggs) None in
-    quiet over.at.nodes (node.Aggregate over.at.root (aggs_of columns aggs over.items)) refl
-    ∙ levels-quiet (depth_of_all (with_filter (arguments_of_all columns aggs) None)) (length columns) at (arguments_of_all columns aggs) None
+  totals-quiet : (aggs : List AggItemShape) (at : Placed) → reads_time (totals_over columns reach aggs at).nodes ≡ reads_time at.nodes
+  totals-quiet aggs at =
+      let terms = arguments_of_all columns reach aggs in
+      let over = levelled (length columns) at terms None in
+      quiet over.at.nodes (node.Aggregate over.at.root (aggs_of reach aggs over.items)) refl
+      ∙ levels-quiet (depth_of_all (with_filter terms None)) (length columns) at terms None
 
-frames-quiet : (columns : List NamedColumn) (items : List FrameItemShape) (filter : Option ExprShape) (by : Option PlanKey) (at : Placed)
-    → reads_time (frames_over columns items filter by at).nodes ≡ reads_time at.nodes
-frames-quiet columns items filter by at =
-    let over = levelled (length columns) at (frames_terms columns items) (filter_of columns filter) in
-    let chosen = selected over.at over.filter in
-    quiet chosen.nodes (node.Frames chosen.root by (frames_of items over.items)) refl ∙ select-quiet over.at over.filter
-    ∙ levels-quiet (depth_of_all (with_filter (frames_terms columns items) (filter_of columns filter))) (length columns) at (frames_terms columns items)
-    (filter_of columns filter)
+  frames-quiet : (items : List FrameItemShape) (filter : Option ExprShape) (by : Option PlanKey) (at : Placed)
+      → reads_time (frames_over columns reach items filter by at).nodes ≡ reads_time at.nodes
+  frames-quiet items filter by at =
+      let terms = frames_terms columns reach items in
+      let left = filter_of columns reach filter in
+      let over = levelled (length columns) at terms left in
+      let chosen = selected over.at over.filter in
+      quiet chosen.nodes (node.Frames chosen.root by (frames_of items over.items)) refl ∙ select-quiet over.at over.filter
+      ∙ levels-quiet (depth_of_all (with_filter terms left)) (length columns) at terms left
 
 -- ---- queries
 
@@ -105,38 +110,38 @@ placed-time : (q : QueryShape) (read : List ℕ → PlanNode) (sources : List St
     → reads_time (placed read sources q nodes).nodes ≡ (reads_time nodes || has_time q)
 placed-time (shape.Read name) read sources nodes h = quiet nodes (read name) (h name) ∙ sym (or_none (reads_time nodes))
 placed-time (shape.Rows pick filter source) read sources nodes h =
-    rows-quiet (columns_of sources source) pick filter (placed read sources source nodes) ∙ placed-time source read sources nodes h
+    rows-quiet (columns_of sources source) (reach_of sources (columns_of sources source)) pick filter (placed read sources source nodes) ∙ placed-time source read sources nodes h
 placed-time (shape.Total aggs source) read sources nodes h =
-    totals-quiet (columns_of sources source) aggs (placed read sources source nodes) ∙ placed-time source read sources nodes h
+    totals-quiet (columns_of sources source) (reach_of sources (columns_of sources source)) aggs (placed read sources source nodes) ∙ placed-time source read sources nodes h
 placed-time (shape.Frames items filter slots source) read sources nodes h =
     let columns = columns_of sources source in
-    frames-quiet columns items filter (key_over columns slots) (placed read sources source nodes) ∙ placed-time source read sources nodes h
+    frames-quiet columns (reach_of sources columns) items filter (key_over columns slots) (placed read sources source nodes) ∙ placed-time source read sources nodes h
 placed-time (shape.Each measure var source size advance body) read sources nodes h =
     let columns = columns_of sources source in
     let inner : List ℕ → PlanNode = λ name. node.Body (kinds_of columns) in
     let from = placed read sources source nodes in
-    let inside = placed inner (variable var columns) body from.nodes in
+    let inside = placed inner (query.inside sources var columns) body from.nodes in
     reads-more inside.nodes (window_node measure from.root inside.root size advance)
     ∙ ap (λ (b : Bool). reads_time inside.nodes || b) (window-time measure from.root inside.root size advance)
-    ∙ ap (λ (b : Bool). b || windows.is_time measure) (placed-time body inner (variable var columns) from.nodes (λ name. refl))
+    ∙ ap (λ (b : Bool). b || windows.is_time measure) (placed-time body inner (query.inside sources var columns) from.nodes (λ name. refl))
     ∙ ap (λ (b : Bool). (b || has_time body) || windows.is_time measure) (placed-time source read sources nodes h)
     ∙ three (reads_time nodes) (has_time source) (has_time body) (windows.is_time measure)
 placed-time (shape.PerGroup var source key count body) read sources nodes h =
     let columns = columns_of sources source in
     let inner : List ℕ → PlanNode = λ name. node.Body (kinds_of columns) in
     let from = placed read sources source nodes in
-    let inside = placed inner (variable var columns) body from.nodes in
+    let inside = placed inner (query.inside sources var columns) body from.nodes in
     quiet inside.nodes (node.Group from.root inside.root (column_number columns key) count) refl
-    ∙ placed-time body inner (variable var columns) from.nodes (λ name. refl)
+    ∙ placed-time body inner (query.inside sources var columns) from.nodes (λ name. refl)
     ∙ ap (λ (b : Bool). b || has_time body) (placed-time source read sources nodes h)
     ∙ or_join (reads_time nodes) (has_time source) (has_time body)
 placed-time (shape.Partition var source key count size advance body) read sources nodes h =
     let columns = columns_of sources source in
     let inner : List ℕ → PlanNode = λ name. node.Body (kinds_of columns) in
     let from = placed read sources source nodes in
-    let inside = placed inner (variable var columns) body from.nodes in
+    let inside = placed inner (query.inside sources var columns) body from.nodes in
     quiet inside.nodes (node.Partition from.root inside.root (column_number columns key) count size advance) refl
-    ∙ placed-time body inner (variable var columns) from.nodes (λ name. refl)
+    ∙ placed-time body inner (query.inside sources var columns) from.nodes (λ name. refl)
     ∙ ap (λ (b : Bool). b || has_time body) (placed-time source read sources nodes h)
     ∙ or_join (reads_time nodes) (has_time source) (has_time body)
 placed-time (shape.Union l r) read sources nodes h =
@@ -172,4 +177,4 @@ placed-time (shape.Concat l r) read sources nodes h =
     ∙ ap (λ (b : Bool). b || has_time r) (placed-time l read sources nodes h) ∙ or_join (reads_time nodes) (has_time l) (has_time r)
 
 pub plans-time : PlansTellTime
-plans-time schema statement = placed-time (query_shape statement.query) (stream_node schema.streams) schema.streams [] (λ name. refl)
+plans-time schema statement = placed-time (query_shape statement.query) (stream_node schema.streams) (sources_of schema) [] (λ name. refl)

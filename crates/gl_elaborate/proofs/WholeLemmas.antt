@@ -5,7 +5,8 @@ use Rattle.gl_schema.specs.declared.schema.Schema.{Schema}
 use Rattle.gl_schema.specs.Schemas.{IsSchema, kinds_of}
 use Rattle.gl_query.specs.declared.tree.Measure.TheVariants.{Tuples, Time}
 use Rattle.gl_query.specs.Accepted.{IsAcceptedOver, schema_scope}
-use Rattle.gl_query.specs.Columns.{columns_of, variable}
+use Rattle.gl_query.specs.Columns.{columns_of, sources_of}
+use Rattle.gl_query.specs.Columns as query
 use Rattle.gl_query.specs.Laws.{ResultsAreLong}
 use Rattle.gl_query.specs.Shapes.{QueryShape, query_shape}
 use Rattle.gl_query.specs.Shapes as shape
@@ -65,13 +66,13 @@ module _ (nodes : List PlanNode) (root : ℕ) (n : PlanNode) (at : slice_get nod
 
 -- what is said of the root of a query's plan
 abbrev plan_at : Schema → QueryShape → Placed
-plan_at schema q = placed (stream_node schema.streams) schema.streams q []
+plan_at schema q = placed (stream_node schema.streams) (sources_of schema) q []
 
 record IsWhole (schema : Schema) (q : QueryShape) : Type 0 where
-  spare : spare_at (plan_at schema q).nodes (plan_at schema q).root ≡ if_light (plan_at schema q) (query_spare schema.streams q)
+  spare : spare_at (plan_at schema q).nodes (plan_at schema q).root ≡ if_light (plan_at schema q) (query_spare (sources_of schema) q)
   figures : root_figures (plan_at schema q).nodes (plan_at schema q).root
-      ≡ figures_with schema.streams (if_light (plan_at schema q) (query_spare schema.streams q)) q
-  ticks : tick_gaps_at (plan_at schema q).nodes (plan_at schema q).root ≡ query_ticks schema.streams q
+      ≡ figures_with (sources_of schema) (if_light (plan_at schema q) (query_spare (sources_of schema) q)) q
+  ticks : tick_gaps_at (plan_at schema q).nodes (plan_at schema q).root ≡ query_ticks (sources_of schema) q
 
 -- a root that is no windows of tuples has no spare copies, and the figures of its node
 record IsPlain (at : Placed) : Type 0 where
@@ -121,8 +122,8 @@ module _ (nodes : List PlanNode) (source body size advance : ℕ) (f s : Figures
 module _ (lengths : ResultsAreLong) (schema : Schema) (fine : IsSchema schema) where
   -- the figures at the root are the query's
   own_figures : (q : QueryShape) → IsAcceptedOver (schema_scope schema) q
-      → figures_of (plan_at schema q).nodes (plan_at schema q).root ≡ query_figures schema.streams q
-  own_figures q a = (figures-right lengths q (stream_node schema.streams) schema.streams true [] (schema-reader schema fine) a empty).is
+      → figures_of (plan_at schema q).nodes (plan_at schema q).root ≡ query_figures (sources_of schema) q
+  own_figures q a = (figures-right lengths q (stream_node schema.streams) (sources_of schema) true [] (schema-reader schema fine) a empty).is
 
   whole : (q : QueryShape) → IsAcceptedOver (schema_scope schema) q → IsWhole schema q
   whole (shape.Read name) a =
@@ -138,22 +139,23 @@ module _ (lengths : ResultsAreLong) (schema : Schema) (fine : IsSchema schema) w
       let p = plain _ (node.Frames _ _ _) refl in
       record { spare = p.none; figures = p.own ∙ own_figures (shape.Frames items filter slots source) a; ticks = untimed _ (node.Frames _ _ _) refl }
   whole (shape.Each Time var source size advance body) a =
-      let streams = schema.streams in
-      let columns = columns_of streams source in
+      let read = stream_node schema.streams in
+      let sources = sources_of schema in
+      let columns = columns_of sources source in
       let inner : List ℕ → PlanNode = λ name. node.Body (kinds_of columns) in
       let q = shape.Each Time var source size advance body in
       let reader = schema-reader schema fine in
-      let done = right lengths q (stream_node streams) streams true [] reader a empty in
-      let below = right lengths source (stream_node streams) streams true [] reader a.0 empty in
-      let from = placed (stream_node streams) streams source [] in
-      let kinds = body-reader var columns (columns-are source (stream_node streams) streams true reader a.0) in
-      let inside = right lengths body inner (variable var columns) false from.nodes kinds a.2 below.1.over.plan in
-      let into = placed inner (variable var columns) body from.nodes in
+      let done = right lengths q read sources true [] reader a empty in
+      let below = right lengths source read sources true [] reader a.0 empty in
+      let from = placed read sources source [] in
+      let kinds = body-reader sources true reader.scope var columns (columns-are source read sources true reader a.0) in
+      let inside = right lengths body inner (query.inside sources var columns) false from.nodes kinds a.2 below.1.over.plan in
+      let into = placed inner (query.inside sources var columns) body from.nodes in
       let windows = node.TimeWindow from.root into.root size advance in
       let top = (is_added into.nodes windows inside.1.over.plan done.0.2).over in
       let new = added into.nodes windows in
       let of_body = stay into new inside.1.over.plan top inside.1.over.within
-      ∙ (figures-right lengths body inner (variable var columns) false from.nodes kinds a.2 below.1.over.plan).is in
+      ∙ (figures-right lengths body inner (query.inside sources var columns) false from.nodes kinds a.2 below.1.over.plan).is in
       let p = plain into.nodes windows refl in
       record {
         spare = p.none;
@@ -161,27 +163,28 @@ module _ (lengths : ResultsAreLong) (schema : Schema) (fine : IsSchema schema) w
         ticks = ticks_by new.nodes new.root windows (there into.nodes windows) ∙ ap (tick_gaps_of size advance) of_body;
       }
   whole (shape.Each Tuples var source size advance body) a =
-      let streams = schema.streams in
+      let read = stream_node schema.streams in
+      let sources = sources_of schema in
       let reader = schema-reader schema fine in
-      let columns = columns_of streams source in
+      let columns = columns_of sources source in
       let inner : List ℕ → PlanNode = λ name. node.Body (kinds_of columns) in
       let q = shape.Each Tuples var source size advance body in
-      let done = right lengths q (stream_node streams) streams true [] reader a empty in
-      let below = right lengths source (stream_node streams) streams true [] reader a.0 empty in
-      let from = placed (stream_node streams) streams source [] in
-      let kinds = body-reader var columns (columns-are source (stream_node streams) streams true reader a.0) in
-      let inside = right lengths body inner (variable var columns) false from.nodes kinds a.2 below.1.over.plan in
-      let into = placed inner (variable var columns) body from.nodes in
+      let done = right lengths q read sources true [] reader a empty in
+      let below = right lengths source read sources true [] reader a.0 empty in
+      let from = placed read sources source [] in
+      let kinds = body-reader sources true reader.scope var columns (columns-are source read sources true reader a.0) in
+      let inside = right lengths body inner (query.inside sources var columns) false from.nodes kinds a.2 below.1.over.plan in
+      let into = placed inner (query.inside sources var columns) body from.nodes in
       let top = (is_added into.nodes (node.Window from.root into.root size advance) inside.1.over.plan done.0.2).over in
       let new = added into.nodes (node.Window from.root into.root size advance) in
-      let f = query_figures streams source in
-      let s = query_figures (variable var columns) body in
+      let f = query_figures sources source in
+      let s = query_figures (query.inside sources var columns) body in
       let of_source = stay from new below.1.over.plan (over-then from.nodes into new inside.1.over top) below.1.over.within
-      ∙ (figures-right lengths source (stream_node streams) streams true [] reader a.0 empty).is in
+      ∙ (figures-right lengths source read sources true [] reader a.0 empty).is in
       let of_body = stay into new inside.1.over.plan top inside.1.over.within
-      ∙ (figures-right lengths body inner (variable var columns) false from.nodes kinds a.2 below.1.over.plan).is in
+      ∙ (figures-right lengths body inner (query.inside sources var columns) false from.nodes kinds a.2 below.1.over.plan).is in
       let of_root = own_figures q a in
-      let own : Option Spare → Figures = λ o. figures_with streams o q in
+      let own : Option Spare → Figures = λ o. figures_with sources o q in
       record {
         spare = windows_spare into.nodes from.root into.root size advance f s own of_source of_body of_root (λ it. refl);
         figures = windows_figures into.nodes from.root into.root size advance f s own of_source of_body of_root (λ it. refl);

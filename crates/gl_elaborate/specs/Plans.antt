@@ -15,7 +15,7 @@ use Rattle.gl_query.specs.declared.tree.Statement.{Statement}
 use Rattle.gl_query.specs.Shapes.{ExprShape, AggShape, ItemShape, AggItemShape, FrameAggShape, FrameShape, FrameItemShape, PickShape, QueryShape, SlotsShape, query_shape}
 use Rattle.gl_query.specs.Shapes as shape
 use Rattle.gl_query.specs.Values.{column_number, kind_alone, kind_of}
-use Rattle.gl_query.specs.Columns.{columns_of, source_columns, variable}
+use Rattle.gl_query.specs.Columns.{columns_of, inside, reach_of, source_columns, sources_of}
 use Rattle.gl_algebra.specs.declared.node.Operand.{Operand}
 use Rattle.gl_algebra.specs.declared.node.Operand.TheVariants as operand
 use Rattle.gl_algebra.specs.declared.node.PlanAgg.{PlanAgg}
@@ -28,7 +28,7 @@ use Rattle.gl_algebra.specs.declared.node.PlanKey.{PlanKey}
 use Rattle.gl_algebra.specs.declared.node.PlanNode.{PlanNode}
 use Rattle.gl_algebra.specs.declared.node.PlanNode.TheVariants as node
 use Rattle.gl_algebra.specs.Added.{Placed, added, placed_at}
-use Rattle.gl_elaborate.specs.Terms.{Term, Column, Literal, Not, Cast, Binary, term_of, depth_of_all}
+use Rattle.gl_elaborate.specs.Terms.{Term, Column, Literal, Parameter, Not, Cast, Binary, term_over, depth_of_all}
 use Rattle.gl_elaborate.specs.Levels.{level_of, reduced, operand_of}
 use Rattle.gl_elaborate.specs.Joins.{as_of_over}
 
@@ -57,58 +57,61 @@ levelled base at items filter = levels (depth_of_all (with_filter items filter))
 
 -- ---- selects
 
--- a condition that is a literal is cast to one bit, so that it becomes a column
+-- a condition that is a literal or a parameter is cast to one bit, so that it becomes a column
 abbrev pub condition_of : Term → Term
 condition_of (Column number) = Column number
 condition_of (Literal word kind) = Cast (Literal word kind) (Unsigned 1)
+condition_of (Parameter number kind) = Cast (Parameter number kind) (Unsigned 1)
 condition_of (Not t) = Not t
 condition_of (Cast t kind) = Cast t kind
 condition_of (Binary op l r) = Binary op l r
 
 -- a filter as a term of one bit, if there is a filter
-abbrev pub filter_of : List NamedColumn → Option ExprShape → Option Term
-filter_of columns filter = option_map (λ e. condition_of (term_of columns (Unsigned 1) e)) filter
+abbrev pub filter_of : (columns reach : List NamedColumn) → Option ExprShape → Option Term
+filter_of columns reach filter = option_map (λ e. condition_of (term_over columns reach (Unsigned 1) e)) filter
 
 -- every column, or the items
-abbrev pub picked_terms : List NamedColumn → PickShape → List Term
-picked_terms columns shape.All = map Column (range_with_len 0 (length columns))
-picked_terms columns (shape.Items items) = map (λ (i : ItemShape). term_of columns (kind_alone i.expr) i.expr) items
+abbrev pub picked_terms : (columns reach : List NamedColumn) → PickShape → List Term
+picked_terms columns reach shape.All = map Column (range_with_len 0 (length columns))
+picked_terms columns reach (shape.Items items) =
+    map (λ (i : ItemShape). term_over columns reach (kind_alone i.expr) i.expr) items
 
--- the column that an operand names; a literal names none and counts as column 0
+-- the column that an operand names; a literal or parameter names none and counts as column 0
 abbrev pub column_under : Operand → ℕ
 column_under (operand.Column column) = column
 column_under (operand.Literal word kind) = 0
+column_under (operand.Parameter number kind) = 0
 
 -- the rows for which the filter, if there is one, is 1
 abbrev pub selected : Placed → Option Term → Placed
 selected at None = at
 selected at (Some t) = added at.nodes (node.Select at.root (column_under (operand_of t)))
 
--- a node that picks these terms, each a column or a literal by now, behind a plan
+-- a node that picks these terms, each a column, a literal or a parameter by now, behind a plan
 abbrev pub projected : Placed → List Term → Placed
 projected at items = added at.nodes (node.Project at.root (map operand_of items))
 
 -- a select of rows: what its items and its filter compute, then the filter, then the items
-abbrev pub rows_over : List NamedColumn → PickShape → Option ExprShape → Placed → Placed
-rows_over columns pick filter at =
-    let over = levelled (length columns) at (picked_terms columns pick) (filter_of columns filter) in
+abbrev pub rows_over : (columns reach : List NamedColumn) → PickShape → Option ExprShape → Placed → Placed
+rows_over columns reach pick filter at =
+    let over = levelled (length columns) at (picked_terms columns reach pick) (filter_of columns reach filter) in
     projected (selected over.at over.filter) over.items
 
 -- ---- totals
 
 -- the terms of an aggregate's argument, at most one
-abbrev pub arguments_of : List NamedColumn → AggShape → List Term
-arguments_of columns shape.Count = []
-arguments_of columns (shape.Sum e) = term_of columns (kind_alone e) e ∷ []
-arguments_of columns (shape.Min e) = term_of columns (kind_alone e) e ∷ []
-arguments_of columns (shape.Max e) = term_of columns (kind_alone e) e ∷ []
-arguments_of columns (shape.Avg e) = term_of columns (kind_alone e) e ∷ []
-arguments_of columns (shape.Wsum e weights) = term_of columns (kind_alone e) e ∷ []
+abbrev pub arguments_of : (columns reach : List NamedColumn) → AggShape → List Term
+arguments_of columns reach shape.Count = []
+arguments_of columns reach (shape.Sum e) = term_over columns reach (kind_alone e) e ∷ []
+arguments_of columns reach (shape.Min e) = term_over columns reach (kind_alone e) e ∷ []
+arguments_of columns reach (shape.Max e) = term_over columns reach (kind_alone e) e ∷ []
+arguments_of columns reach (shape.Avg e) = term_over columns reach (kind_alone e) e ∷ []
+arguments_of columns reach (shape.Wsum e weights) = term_over columns reach (kind_alone e) e ∷ []
 
 -- the terms of all arguments in the order of their aggregates; counts have none
-abbrev pub arguments_of_all : List NamedColumn → List AggItemShape → List Term
-arguments_of_all columns [] = []
-arguments_of_all columns (i ∷ items) = arguments_of columns i.agg ++ arguments_of_all columns items
+abbrev pub arguments_of_all : (columns reach : List NamedColumn) → List AggItemShape → List Term
+arguments_of_all columns reach [] = []
+arguments_of_all columns reach (i ∷ items) = arguments_of columns reach i.agg ++ arguments_of_all columns reach items
 
 -- the first of them as an operand
 abbrev pub first_of : List Term → Operand
@@ -125,14 +128,14 @@ abbrev pub weights_of : Kind → List ℕ → List Word
 weights_of kind weights = map (λ n. record { bits = n; width = width_of kind }) weights
 
 -- an aggregate over the first of the terms that are left of the arguments
-abbrev pub agg_over : List NamedColumn → AggShape → List Term → PlanAgg
-agg_over columns shape.Count terms = agg.Count
-agg_over columns (shape.Sum e) terms = agg.Sum (first_of terms)
-agg_over columns (shape.Min e) terms = agg.Min (first_of terms)
-agg_over columns (shape.Max e) terms = agg.Max (first_of terms)
-agg_over columns (shape.Avg e) terms = agg.Avg (first_of terms)
-agg_over columns (shape.Wsum e weights) terms =
-    agg.Wsum (first_of terms) (weights_of (kind_of columns (kind_alone e) e) weights)
+abbrev pub agg_over : (reach : List NamedColumn) → AggShape → List Term → PlanAgg
+agg_over reach shape.Count terms = agg.Count
+agg_over reach (shape.Sum e) terms = agg.Sum (first_of terms)
+agg_over reach (shape.Min e) terms = agg.Min (first_of terms)
+agg_over reach (shape.Max e) terms = agg.Max (first_of terms)
+agg_over reach (shape.Avg e) terms = agg.Avg (first_of terms)
+agg_over reach (shape.Wsum e weights) terms =
+    agg.Wsum (first_of terms) (weights_of (kind_of reach (kind_alone e) e) weights)
 
 -- the terms of the arguments behind it
 abbrev pub behind : AggShape → List Term → List Term
@@ -144,38 +147,38 @@ behind (shape.Avg e) terms = rest_of terms
 behind (shape.Wsum e weights) terms = rest_of terms
 
 -- the aggregates of a plan's node, each over the operand that its argument became
-abbrev pub aggs_of : List NamedColumn → List AggItemShape → List Term → List PlanAgg
-aggs_of columns [] terms = []
-aggs_of columns (i ∷ items) terms = agg_over columns i.agg terms ∷ aggs_of columns items (behind i.agg terms)
+abbrev pub aggs_of : (reach : List NamedColumn) → List AggItemShape → List Term → List PlanAgg
+aggs_of reach [] terms = []
+aggs_of reach (i ∷ items) terms = agg_over reach i.agg terms ∷ aggs_of reach items (behind i.agg terms)
 
 -- a select of aggregates: what their arguments compute, then the aggregates over it
-abbrev pub totals_over : List NamedColumn → List AggItemShape → Placed → Placed
-totals_over columns aggs at =
-    let over = levelled (length columns) at (arguments_of_all columns aggs) None in
-    added over.at.nodes (node.Aggregate over.at.root (aggs_of columns aggs over.items))
+abbrev pub totals_over : (columns reach : List NamedColumn) → List AggItemShape → Placed → Placed
+totals_over columns reach aggs at =
+    let over = levelled (length columns) at (arguments_of_all columns reach aggs) None in
+    added over.at.nodes (node.Aggregate over.at.root (aggs_of reach aggs over.items))
 
 -- ---- frames
 
 -- the terms of the argument of a function over the rows of a frame, at most one
-abbrev pub frame_arguments : List NamedColumn → FrameAggShape → List Term
-frame_arguments columns shape.CountOver = []
-frame_arguments columns (shape.SumOver e) = term_of columns (kind_alone e) e ∷ []
-frame_arguments columns (shape.MinOver e) = term_of columns (kind_alone e) e ∷ []
-frame_arguments columns (shape.MaxOver e) = term_of columns (kind_alone e) e ∷ []
-frame_arguments columns (shape.AvgOver e) = term_of columns (kind_alone e) e ∷ []
-frame_arguments columns (shape.LastOver e) = term_of columns (kind_alone e) e ∷ []
+abbrev pub frame_arguments : (columns reach : List NamedColumn) → FrameAggShape → List Term
+frame_arguments columns reach shape.CountOver = []
+frame_arguments columns reach (shape.SumOver e) = term_over columns reach (kind_alone e) e ∷ []
+frame_arguments columns reach (shape.MinOver e) = term_over columns reach (kind_alone e) e ∷ []
+frame_arguments columns reach (shape.MaxOver e) = term_over columns reach (kind_alone e) e ∷ []
+frame_arguments columns reach (shape.AvgOver e) = term_over columns reach (kind_alone e) e ∷ []
+frame_arguments columns reach (shape.LastOver e) = term_over columns reach (kind_alone e) e ∷ []
 
 -- the terms of a frame: its argument, then its condition
-abbrev pub frame_terms : List NamedColumn → FrameShape → List Term
-frame_terms columns (shape.Own e) = term_of columns (kind_alone e) e ∷ []
-frame_terms columns (shape.Lag e back) = term_of columns (kind_alone e) e ∷ []
-frame_terms columns (shape.Over agg filter back) =
-    frame_arguments columns agg ++ option_to_list (filter_of columns filter)
+abbrev pub frame_terms : (columns reach : List NamedColumn) → FrameShape → List Term
+frame_terms columns reach (shape.Own e) = term_over columns reach (kind_alone e) e ∷ []
+frame_terms columns reach (shape.Lag e back) = term_over columns reach (kind_alone e) e ∷ []
+frame_terms columns reach (shape.Over agg filter back) =
+    frame_arguments columns reach agg ++ option_to_list (filter_of columns reach filter)
 
 -- the terms of all frames in their order
-abbrev pub frames_terms : List NamedColumn → List FrameItemShape → List Term
-frames_terms columns [] = []
-frames_terms columns (i ∷ items) = frame_terms columns i.frame ++ frames_terms columns items
+abbrev pub frames_terms : (columns reach : List NamedColumn) → List FrameItemShape → List Term
+frames_terms columns reach [] = []
+frames_terms columns reach (i ∷ items) = frame_terms columns reach i.frame ++ frames_terms columns reach items
 
 -- a function over the first of the terms that are left
 abbrev pub frame_agg_over : FrameAggShape → List Term → PlanFrameAgg
@@ -228,15 +231,16 @@ abbrev pub key_over : List NamedColumn → Option SlotsShape → Option PlanKey
 key_over columns None = None
 key_over columns (Some s) = Some (record { key = column_number columns s.key; groups = s.groups })
 
--- a node of these frames, whose terms are columns or literals by now, behind a plan
+-- a node of these frames, whose terms are columns, literals or parameters by now, behind a plan
 abbrev pub framed_over : Placed → Option PlanKey → List FrameItemShape → List Term → Placed
 framed_over at by items terms = added at.nodes (node.Frames at.root by (frames_of items terms))
 
 -- a select of frames: what its frames and its filter compute, then the filter, then the frames over what is kept, by a
 -- key if there is one
-abbrev pub frames_over : List NamedColumn → List FrameItemShape → Option ExprShape → Option PlanKey → Placed → Placed
-frames_over columns items filter by at =
-    let over = levelled (length columns) at (frames_terms columns items) (filter_of columns filter) in
+abbrev pub frames_over : (columns reach : List NamedColumn) → List FrameItemShape → Option ExprShape → Option PlanKey
+    → Placed → Placed
+frames_over columns reach items filter by at =
+    let over = levelled (length columns) at (frames_terms columns reach items) (filter_of columns reach filter) in
     framed_over (selected over.at over.filter) by items over.items
 
 -- ---- queries
@@ -250,27 +254,30 @@ window_node Time source body size advance = node.TimeWindow source body size adv
 abbrev pub placed : (List ℕ → PlanNode) → List Stream → QueryShape → List PlanNode → Placed
 placed read sources (shape.Read name) nodes = added nodes (read name)
 placed read sources (shape.Rows pick filter source) nodes =
-    rows_over (columns_of sources source) pick filter (placed read sources source nodes)
+    let columns = columns_of sources source in
+    rows_over columns (reach_of sources columns) pick filter (placed read sources source nodes)
 placed read sources (shape.Total aggs source) nodes =
-    totals_over (columns_of sources source) aggs (placed read sources source nodes)
+    let columns = columns_of sources source in
+    totals_over columns (reach_of sources columns) aggs (placed read sources source nodes)
 placed read sources (shape.Frames items filter slots source) nodes =
     let columns = columns_of sources source in
-    frames_over columns items filter (key_over columns slots) (placed read sources source nodes)
+    frames_over columns (reach_of sources columns) items filter (key_over columns slots)
+    (placed read sources source nodes)
 placed read sources (shape.Each measure var source size advance body) nodes =
     let columns = columns_of sources source in
     let from = placed read sources source nodes in
-    let inside = placed (λ name. node.Body (kinds_of columns)) (variable var columns) body from.nodes in
-    added inside.nodes (window_node measure from.root inside.root size advance)
+    let into = placed (λ name. node.Body (kinds_of columns)) (inside sources var columns) body from.nodes in
+    added into.nodes (window_node measure from.root into.root size advance)
 placed read sources (shape.PerGroup var source key groups body) nodes =
     let columns = columns_of sources source in
     let from = placed read sources source nodes in
-    let inside = placed (λ name. node.Body (kinds_of columns)) (variable var columns) body from.nodes in
-    added inside.nodes (node.Group from.root inside.root (column_number columns key) groups)
+    let into = placed (λ name. node.Body (kinds_of columns)) (inside sources var columns) body from.nodes in
+    added into.nodes (node.Group from.root into.root (column_number columns key) groups)
 placed read sources (shape.Partition var source key groups size advance body) nodes =
     let columns = columns_of sources source in
     let from = placed read sources source nodes in
-    let inside = placed (λ name. node.Body (kinds_of columns)) (variable var columns) body from.nodes in
-    added inside.nodes (node.Partition from.root inside.root (column_number columns key) groups size advance)
+    let into = placed (λ name. node.Body (kinds_of columns)) (inside sources var columns) body from.nodes in
+    added into.nodes (node.Partition from.root into.root (column_number columns key) groups size advance)
 placed read sources (shape.Union l r) nodes =
     let left = placed read sources l nodes in
     let right = placed read sources r left.nodes in
@@ -298,7 +305,7 @@ stream_node streams name = node.Stream (stream_number streams name) (kinds_of (s
 -- the plan of a statement behind a plan's nodes
 abbrev pub plan_behind : List PlanNode → Schema → Statement → Placed
 plan_behind nodes schema statement =
-    placed (stream_node schema.streams) schema.streams (query_shape statement.query) nodes
+    placed (stream_node schema.streams) (sources_of schema) (query_shape statement.query) nodes
 
 -- the plan of a statement
 abbrev pub plan_of : Schema → Statement → Placed

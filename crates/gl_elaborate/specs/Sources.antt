@@ -10,5 +10,5 @@ use Rattle.gl_elaborate.specs.Plans.{stream_node}
 
 -- the leaf of a source by its name: a stream of the schema, or the body's input
 abbrev pub read_of : Sources → List ℕ → PlanNode
-read_of (Schema streams) = stream_node streams.now
-read_of (Variable name columns) = λ n. Body (kinds_of columns.now)
+read_of (Schema streams parameters) = stream_node streams.now
+read_of (Variable name columns parameters) = λ n. Body (kinds_of columns.now)

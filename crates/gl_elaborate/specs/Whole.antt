@@ -7,7 +7,7 @@ use Rattle.gl_schema.specs.declared.schema.Stream.{Stream}
 use Rattle.gl_query.specs.declared.tree.Measure.TheVariants.{Time, Tuples}
 use Rattle.gl_query.specs.declared.tree.Statement.{Statement}
 use Rattle.gl_query.specs.Checked.{IsChecked}
-use Rattle.gl_query.specs.Columns.{columns_of, variable}
+use Rattle.gl_query.specs.Columns.{columns_of, inside, sources_of}
 use Rattle.gl_query.specs.Shapes.{QueryShape, query_shape}
 use Rattle.gl_query.specs.Shapes as shape
 use Rattle.gl_algebra.specs.declared.figures.Figures.{Figures}
@@ -26,14 +26,14 @@ use Rattle.gl_elaborate.specs.Plans.{placed, plan_of, stream_node}
 abbrev pub query_spare : List Stream → QueryShape → Option Spare
 query_spare sources (shape.Each Tuples var source size advance body) =
     spare_of size advance (query_figures sources source)
-    (query_figures (variable var (columns_of sources source)) body)
+    (query_figures (inside sources var (columns_of sources source)) body)
 query_spare sources q = None
 
 -- the figures of a query with these spare copies, if there are some
 abbrev pub figures_with : List Stream → Option Spare → QueryShape → Figures
 figures_with sources (Some it) (shape.Each Tuples var source size advance body) =
     spare_over (copies_of_window size advance) it.gap it.shift (query_figures sources source)
-    (query_figures (variable var (columns_of sources source)) body)
+    (query_figures (inside sources var (columns_of sources source)) body)
 figures_with sources spare q = query_figures sources q
 
 -- spare copies, where a plan is light enough with them
@@ -44,16 +44,16 @@ if_light at (Some it) = if is_light_at at.nodes at.root it then Some it else Non
 -- the spare copies of a query that stands under no other, where its plan is light enough with them
 abbrev pub whole_spare : Schema → QueryShape → Option Spare
 whole_spare schema q =
-    if_light (placed (stream_node schema.streams) schema.streams q []) (query_spare schema.streams q)
+    if_light (placed (stream_node schema.streams) (sources_of schema) q []) (query_spare (sources_of schema) q)
 
 -- and its figures
 abbrev pub whole_figures : Schema → QueryShape → Figures
-whole_figures schema q = figures_with schema.streams (whole_spare schema q) q
+whole_figures schema q = figures_with (sources_of schema) (whole_spare schema q) q
 
 -- the gaps of its windows of time, where ticks are farther apart than tuples
 abbrev pub query_ticks : List Stream → QueryShape → Option TickGaps
 query_ticks sources (shape.Each Time var source size advance body) =
-    tick_gaps_of size advance (query_figures (variable var (columns_of sources source)) body)
+    tick_gaps_of size advance (query_figures (inside sources var (columns_of sources source)) body)
 query_ticks sources q = None
 
 -- the spare copies and the figures of a statement that stands alone are those of its query
@@ -64,7 +64,7 @@ abbrev pub statement_figures : Schema → Statement → Figures
 statement_figures schema statement = whole_figures schema (query_shape statement.query)
 
 abbrev pub statement_ticks : Schema → Statement → Option TickGaps
-statement_ticks schema statement = query_ticks schema.streams (query_shape statement.query)
+statement_ticks schema statement = query_ticks (sources_of schema) (query_shape statement.query)
 
 -- the root of a statement's plan has the statement's spare copies, its figures and the gaps of its ticks
 pub record IsRightRoot (schema : Schema) (statement : Statement) : Type 0 where

@@ -15,14 +15,14 @@ ghost use Rattle.gl_elaborate.specs.Sources.{read_of};
 use crate::frames::{Parted, frames_over, key_over};
 use crate::joins::{Sides, as_of_over};
 use crate::levels::put;
-use crate::rows::rows_over;
+use crate::rows::{Below, rows_over};
 use crate::sources::source_node;
 use crate::totals::totals_over;
 use gl_algebra::{Plan, PlanId, PlanNode};
 use gl_bits::Memory;
 use gl_query::columns::{
-    agg_columns, but_key, frame_columns, group_columns, joined_columns, picked_columns,
-    source_columns,
+    agg_columns, but_key, frame_columns, group_columns, joined_columns, parameters_in,
+    picked_columns, reach_of, source_columns,
 };
 use gl_query::kinds::column_number;
 use gl_query::laws::results_are_long;
@@ -172,13 +172,26 @@ pub fn query_into(
             source,
         } => {
             let (at, columns) = query_into(alloc, sources, source, plan)?;
-            let root = rows_over(alloc, plan, columns.as_slice(), pick, filter, at)?;
-            Ok((root, picked_columns(alloc, columns, pick)?))
+            let reach = reach_of(alloc, sources, columns.as_slice())?;
+            let below = Below {
+                at,
+                columns: columns.as_slice(),
+            };
+            let root = rows_over(alloc, plan, below, reach.as_slice(), pick, filter)?;
+            Ok((
+                root,
+                picked_columns(alloc, columns, reach.as_slice(), pick)?,
+            ))
         }
         Query::Total { aggs, source } => {
             let (at, columns) = query_into(alloc, sources, source, plan)?;
-            let root = totals_over(alloc, plan, columns.as_slice(), aggs.as_slice(), at)?;
-            let own = agg_columns(alloc, columns.as_slice(), aggs.as_slice())?;
+            let reach = reach_of(alloc, sources, columns.as_slice())?;
+            let below = Below {
+                at,
+                columns: columns.as_slice(),
+            };
+            let root = totals_over(alloc, plan, below, reach.as_slice(), aggs.as_slice())?;
+            let own = agg_columns(alloc, reach.as_slice(), aggs.as_slice())?;
             Ok((root, own))
         }
         Query::Frames {
@@ -188,16 +201,21 @@ pub fn query_into(
             source,
         } => {
             let (at, columns) = query_into(alloc, sources, source, plan)?;
-            let by = key_over(columns.as_slice(), slots);
+            let reach = reach_of(alloc, sources, columns.as_slice())?;
+            let parted = Parted {
+                at,
+                columns: columns.as_slice(),
+                by: key_over(columns.as_slice(), slots),
+            };
             let root = frames_over(
                 alloc,
                 plan,
-                columns.as_slice(),
+                parted,
+                reach.as_slice(),
                 items.as_slice(),
                 filter,
-                Parted { at, by },
             )?;
-            let own = frame_columns(alloc, columns.as_slice(), items.as_slice())?;
+            let own = frame_columns(alloc, reach.as_slice(), items.as_slice())?;
             Ok((root, own))
         }
         Query::Each {
@@ -209,7 +227,8 @@ pub fn query_into(
             ..
         } => {
             let (from, columns) = query_into(alloc, sources, source, plan)?;
-            let inside = Sources::Variable(var.text.as_slice(), columns.as_slice());
+            let parameters = parameters_in(sources);
+            let inside = Sources::Variable(var.text.as_slice(), columns.as_slice(), parameters);
             let (into, own) = query_into(alloc, inside, body, plan)?;
             let cut = Cut {
                 size: size.value,
@@ -227,7 +246,8 @@ pub fn query_into(
             ..
         } => {
             let (from, columns) = query_into(alloc, sources, source, plan)?;
-            let inside = Sources::Variable(var.text.as_slice(), columns.as_slice());
+            let parameters = parameters_in(sources);
+            let inside = Sources::Variable(var.text.as_slice(), columns.as_slice(), parameters);
             let (into, own) = query_into(alloc, inside, body, plan)?;
             let cut = Cut {
                 size: size.value,
@@ -245,7 +265,8 @@ pub fn query_into(
             ..
         } => {
             let (from, columns) = query_into(alloc, sources, source, plan)?;
-            let inside = Sources::Variable(var.text.as_slice(), columns.as_slice());
+            let parameters = parameters_in(sources);
+            let inside = Sources::Variable(var.text.as_slice(), columns.as_slice(), parameters);
             let (into, own) = query_into(alloc, inside, body, plan)?;
             let number = column_number(columns.as_slice(), key.text.as_slice());
             let root = put_group(plan, from, into, number, groups.value)?;
@@ -263,7 +284,8 @@ pub fn query_into(
             ..
         } => {
             let (from, columns) = query_into(alloc, sources, source, plan)?;
-            let inside = Sources::Variable(var.text.as_slice(), columns.as_slice());
+            let parameters = parameters_in(sources);
+            let inside = Sources::Variable(var.text.as_slice(), columns.as_slice(), parameters);
             let (into, own) = query_into(alloc, inside, body, plan)?;
             let number = column_number(columns.as_slice(), key.text.as_slice());
             let cut = Cut {
@@ -325,7 +347,10 @@ pub fn elaborate_into(alloc: Global, checked: &Checked, plan: &mut Plan) -> Resu
     ensures keeps { Keeps plan.old plan.new }
 {
     results_are_long();
-    let sources = Sources::Schema(checked.schema.streams.as_slice());
+    let sources = Sources::Schema(
+        checked.schema.streams.as_slice(),
+        checked.schema.parameters.as_slice(),
+    );
     let (root, _columns) = query_into(alloc, sources, &checked.statement.query, plan)?;
     Ok(root)
 }

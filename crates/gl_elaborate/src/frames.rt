@@ -10,7 +10,7 @@ ghost use Rattle.gl_algebra.specs.Added.{placed_at};
 ghost use Rattle.gl_elaborate.specs.Terms.{IsTerm};
 ghost use Rattle.gl_elaborate.specs.Trees.{term};
 ghost use Rattle.gl_elaborate.specs.Plans.{behind_argument, behind_condition, behind_frame, condition_over, filter_of, frame_agg_over, frame_arguments, frame_over, frame_terms, frames_of, frames_over, frames_terms, key_over, Keeps};
-ghost use Rattle.gl_elaborate.specs.Fitting.{CanPlaceFrames, CanPlaceSlots, FilterTerm, FrameTerms, FramesFit};
+ghost use Rattle.gl_elaborate.specs.Fitting.{CanPlaceFrames, CanPlaceSlots, FilterTerm, FrameTerms, FramesFit, HasReach};
 
 use crate::Tree;
 use crate::levels::{levelled, put};
@@ -25,9 +25,11 @@ use std::alloc::Global;
 
 /// A node that frames are put over, and the key by which its rows are parted, if there is one.
 #[derive(Clone, Copy)]
-pub struct Parted {
+pub struct Parted<'a> {
     /// The number of the node.
     pub at: PlanId,
+    /// Its columns.
+    pub columns: &'a [Column],
     /// The key.
     pub by: Option<PlanKey>,
 }
@@ -62,24 +64,26 @@ pub fn key_over(columns: &[Column], slots: &Option<Slots>) -> Option<PlanKey>
 fn push_argument(
     alloc: Global,
     columns: &[Column],
+    reach: &[Column],
     agg: &FrameAgg,
     trees: &mut Vec<Tree>,
 ) -> Result<(), Memory>
-    requires typed { IsFrameAgg columns.now (frame_agg_shape agg.now) }
+    requires typed { IsFrameAgg reach.now (frame_agg_shape agg.now) }
     requires fits { AllByRecursion (IsTerm (kinds_of columns.now))
-        (frame_arguments columns.now (frame_agg_shape agg.now)) }
+        (frame_arguments columns.now reach.now (frame_agg_shape agg.now)) }
     requires most { length columns.now < 65536 }
+    requires near { HasReach columns.now reach.now }
     ensures { OnOk result
         (map term trees.new.items ≡ map term trees.old.items
-        ++ frame_arguments columns.now (frame_agg_shape agg.now)) }
+        ++ frame_arguments columns.now reach.now (frame_agg_shape agg.now)) }
 {
     match agg {
         FrameAgg::Count => Ok(()),
-        FrameAgg::Sum(expr) => push_tree(alloc, columns, expr, trees),
-        FrameAgg::Min(expr) => push_tree(alloc, columns, expr, trees),
-        FrameAgg::Max(expr) => push_tree(alloc, columns, expr, trees),
-        FrameAgg::Avg(expr) => push_tree(alloc, columns, expr, trees),
-        FrameAgg::LastValue(expr) => push_tree(alloc, columns, expr, trees),
+        FrameAgg::Sum(expr) => push_tree(alloc, columns, reach, expr, trees),
+        FrameAgg::Min(expr) => push_tree(alloc, columns, reach, expr, trees),
+        FrameAgg::Max(expr) => push_tree(alloc, columns, reach, expr, trees),
+        FrameAgg::Avg(expr) => push_tree(alloc, columns, reach, expr, trees),
+        FrameAgg::LastValue(expr) => push_tree(alloc, columns, reach, expr, trees),
     }
 }
 
@@ -87,17 +91,19 @@ fn push_argument(
 fn push_condition(
     alloc: Global,
     columns: &[Column],
+    reach: &[Column],
     filter: &Option<Expr>,
     trees: &mut Vec<Tree>,
 ) -> Result<(), Memory>
-    requires typed { IsFilter columns.now (option_map expr_shape filter.now) }
-    requires fits { FilterTerm columns.now (option_map expr_shape filter.now) }
+    requires typed { IsFilter reach.now (option_map expr_shape filter.now) }
+    requires fits { FilterTerm columns.now reach.now (option_map expr_shape filter.now) }
     requires most { length columns.now < 65536 }
+    requires near { HasReach columns.now reach.now }
     ensures { OnOk result
         (map term trees.new.items ≡ map term trees.old.items
-        ++ option_to_list (filter_of columns.now (option_map expr_shape filter.now))) }
+        ++ option_to_list (filter_of columns.now reach.now (option_map expr_shape filter.now))) }
 {
-    match filter_tree(alloc, columns, filter)? {
+    match filter_tree(alloc, columns, reach, filter)? {
         Some(tree) => {
             trees.push(tree)?;
             Ok(())
@@ -111,22 +117,24 @@ fn push_condition(
 fn push_frame(
     alloc: Global,
     columns: &[Column],
+    reach: &[Column],
     frame: &Frame,
     trees: &mut Vec<Tree>,
 ) -> Result<(), Memory>
-    requires typed { IsFrame columns.now (frame_shape frame.now) }
-    requires fits { FrameTerms columns.now (frame_shape frame.now) }
+    requires typed { IsFrame reach.now (frame_shape frame.now) }
+    requires fits { FrameTerms columns.now reach.now (frame_shape frame.now) }
     requires most { length columns.now < 65536 }
+    requires near { HasReach columns.now reach.now }
     ensures { OnOk result
         (map term trees.new.items ≡ map term trees.old.items
-        ++ frame_terms columns.now (frame_shape frame.now)) }
+        ++ frame_terms columns.now reach.now (frame_shape frame.now)) }
 {
     match frame {
-        Frame::Own(expr) => push_tree(alloc, columns, expr, trees),
-        Frame::Lag { arg, .. } => push_tree(alloc, columns, arg, trees),
+        Frame::Own(expr) => push_tree(alloc, columns, reach, expr, trees),
+        Frame::Lag { arg, .. } => push_tree(alloc, columns, reach, arg, trees),
         Frame::Over { agg, filter, .. } => {
-            push_argument(alloc, columns, agg, trees)?;
-            push_condition(alloc, columns, filter, trees)
+            push_argument(alloc, columns, reach, agg, trees)?;
+            push_condition(alloc, columns, reach, filter, trees)
         }
     }
 }
@@ -136,23 +144,26 @@ fn push_frame(
 fn push_frames(
     alloc: Global,
     columns: &[Column],
+    reach: &[Column],
     items: &[FrameItem],
     trees: &mut Vec<Tree>,
 ) -> Result<(), Memory>
-    requires typed { AllByRecursion (λ (i : FrameItemShape). IsFrame columns.now i.frame)
+    requires typed { AllByRecursion (λ (i : FrameItemShape). IsFrame reach.now i.frame)
         (map frame_item_shape items.now) }
-    requires fits { AllByRecursion (λ (i : FrameItemShape). FrameTerms columns.now i.frame)
+    requires fits { AllByRecursion
+        (λ (i : FrameItemShape). FrameTerms columns.now reach.now i.frame)
         (map frame_item_shape items.now) }
     requires most { length columns.now < 65536 }
+    requires near { HasReach columns.now reach.now }
     ensures { OnOk result
         (map term trees.new.items ≡ map term trees.old.items
-        ++ frames_terms columns.now (map frame_item_shape items.now)) }
+        ++ frames_terms columns.now reach.now (map frame_item_shape items.now)) }
 {
     let Some((first, rest)) = items.split_first() else {
         return Ok(());
     };
-    push_frame(alloc, columns, &first.frame, trees)?;
-    push_frames(alloc, columns, rest, trees)
+    push_frame(alloc, columns, reach, &first.frame, trees)?;
+    push_frames(alloc, columns, reach, rest, trees)
 }
 
 // A function over the first of the trees that are left.
@@ -216,12 +227,12 @@ fn rows_back(back: &Option<Num>) -> Option<u32>
 }
 
 // An item of a node of frames over the first of the trees that are left.
-fn frame_over(columns: &[Column], frame: &Frame, trees: &[Tree]) -> PlanFrame
-    requires { IsFrame columns.now (frame_shape frame.now) }
+fn frame_over(reach: &[Column], frame: &Frame, trees: &[Tree]) -> PlanFrame
+    requires { IsFrame reach.now (frame_shape frame.now) }
     ensures { result ≡ frame_over (frame_shape frame.now) (map term trees.now) }
 {
     // Clauses alone speak of it.
-    let _ = columns;
+    let _ = reach;
     match frame {
         Frame::Own(_) => PlanFrame::Own(first_of(trees)),
         Frame::Lag { back, .. } => PlanFrame::Lag(first_of(trees), back.value as u32),
@@ -253,12 +264,12 @@ fn behind_frame<'a>(frame: &Frame, trees: &'a [Tree]) -> &'a [Tree]
 
 // Adds items over the trees of their terms.
 fn push_items(
-    columns: &[Column],
+    reach: &[Column],
     items: &[FrameItem],
     trees: &[Tree],
     frames: &mut PlanFrames,
 ) -> Result<(), Memory>
-    requires { AllByRecursion (λ (i : FrameItemShape). IsFrame columns.now i.frame)
+    requires { AllByRecursion (λ (i : FrameItemShape). IsFrame reach.now i.frame)
         (map frame_item_shape items.now) }
     ensures { OnOk result
         (frames.new ≡ frames.old
@@ -268,37 +279,39 @@ fn push_items(
     let Some((first, rest)) = items.split_first() else {
         return Ok(());
     };
-    frames.push(frame_over(columns, &first.frame, trees))?;
-    push_items(columns, rest, behind_frame(&first.frame, trees), frames)
+    frames.push(frame_over(reach, &first.frame, trees))?;
+    push_items(reach, rest, behind_frame(&first.frame, trees), frames)
 }
 
 /// Adds the nodes of a select of frames over a node.
 pub fn frames_over(
     alloc: Global,
     plan: &mut Plan,
-    columns: &[Column],
+    source: Parted<'_>,
+    reach: &[Column],
     items: &[FrameItem],
     filter: &Option<Expr>,
-    source: Parted,
 ) -> Result<PlanId, Memory>
-    requires can { CanPlaceFrames columns.now
+    requires can { CanPlaceFrames source.columns.now reach.now
         (map frame_item_shape items.now) (option_map expr_shape filter.now) }
-    requires fit { FramesFit columns.now (map frame_item_shape items.now)
-        (option_map expr_shape filter.now) source.by (placed_at plan.old source.at) }
-    ensures root { IfOk result (λ id.
-        placed_at plan.new id
-        ≡ frames_over columns.now (map frame_item_shape items.now)
-        (option_map expr_shape filter.now) source.by (placed_at plan.old source.at)) }
+    requires fit { FramesFit source.columns.now reach.now
+        (map frame_item_shape items.now) (option_map expr_shape filter.now)
+        source.by (placed_at plan.old source.at) }
+    ensures root { let s = source.entry in IfOk result (λ id.
+        placed_at plan.new id ≡ frames_over s.columns.now reach.now
+        (map frame_item_shape items.now) (option_map expr_shape filter.now)
+        s.by (placed_at plan.old s.at)) }
     ensures keeps { Keeps plan.old plan.new }
 {
+    let columns = source.columns;
     let mut trees = Vec::new(alloc);
-    push_frames(alloc, columns, items, &mut trees)?;
-    let mut condition = filter_tree(alloc, columns, filter)?;
+    push_frames(alloc, columns, reach, items, &mut trees)?;
+    let mut condition = filter_tree(alloc, columns, reach, filter)?;
     let base = columns.len() as u16;
     let over = levelled(alloc, plan, source.at, base, &mut trees, &mut condition)?;
     let kept = select(plan, over, &condition)?;
     let mut frames = Listed::new(alloc);
-    push_items(columns, items, &trees, &mut frames)?;
+    push_items(reach, items, &trees, &mut frames)?;
     put(
         plan,
         PlanNode::Frames {

@@ -45,7 +45,7 @@ fn gather(tree: &Tree, level: &mut IndexSet<ColOp>) -> Result<(), Memory>
         return insert_op(level, op);
     }
     match tree {
-        Tree::Column(_) | Tree::Literal(..) => Ok(()),
+        Tree::Column(_) | Tree::Literal(..) | Tree::Parameter(..) => Ok(()),
         Tree::Not(arg) => gather(arg, level),
         Tree::Cast(arg, _) => gather(arg, level),
         Tree::Binary(_, left, right) => {
@@ -65,7 +65,7 @@ fn reduce(base: u16, level: &IndexSet<ColOp>, tree: &mut Tree)
         return;
     }
     match tree {
-        Tree::Column(_) | Tree::Literal(..) => {}
+        Tree::Column(_) | Tree::Literal(..) | Tree::Parameter(..) => {}
         Tree::Not(arg) => reduce(base, level, arg),
         Tree::Cast(arg, _) => reduce(base, level, arg),
         Tree::Binary(_, left, right) => {
@@ -114,7 +114,7 @@ pub fn reduce_some(base: u16, level: &IndexSet<ColOp>, tree: &mut Option<Tree>)
     }
 }
 
-/// Whether a tree, where there is one, is a column or literal.
+/// Whether a tree, where there is one, is a column, literal or parameter.
 pub fn is_flat(tree: &Option<Tree>) -> bool
     ensures { IsTrue result ↔ (depth_of_all (option_to_list (option_map term tree.now)) ≡ 0) }
 {
@@ -124,7 +124,7 @@ pub fn is_flat(tree: &Option<Tree>) -> bool
     }
 }
 
-/// Whether all trees are columns or literals.
+/// Whether all trees are columns, literals or parameters.
 pub fn are_flat(trees: &[Tree]) -> bool
     ensures { IsTrue result ↔ (depth_of_all (map term trees.now) ≡ 0) }
 {

@@ -58,7 +58,8 @@ fn add_level(
     Ok((next, wider))
 }
 
-/// Adds the levels of items and of a filter over a node, and makes columns or literals of them.
+/// Adds the levels of items and of a filter over a node, and makes columns, literals or parameters
+/// of them.
 pub fn levelled(
     alloc: Global,
     plan: &mut Plan,

@@ -12,7 +12,7 @@ ghost use Rattle.gl_elaborate.specs.Terms.{IsTerm, Column as TermColumn};
 ghost use Rattle.gl_elaborate.specs.Levels.{operand_of};
 ghost use Rattle.gl_elaborate.specs.Trees.{term};
 ghost use Rattle.gl_elaborate.specs.Plans.{column_under, condition_of, filter_of, picked_terms, projected, rows_over, selected, Keeps};
-ghost use Rattle.gl_elaborate.specs.Fitting.{CanPlaceRows, FilterTerm, ProjectFits, RowsFit, SelectFits};
+ghost use Rattle.gl_elaborate.specs.Fitting.{CanPlaceRows, FilterTerm, HasReach, ProjectFits, RowsFit, SelectFits};
 
 use crate::levels::{levelled, put};
 use crate::{Tree, operand_of, tree_of};
@@ -24,28 +24,40 @@ use gl_schema::Column;
 use gl_values::Kind;
 use std::alloc::Global;
 
+/// A node that others are put over, and its columns.
+#[derive(Clone, Copy)]
+pub struct Below<'a> {
+    /// The number of the node.
+    pub at: PlanId,
+    /// The columns.
+    pub columns: &'a [Column],
+}
+
 // Adds the trees of items.
 fn push_items(
     alloc: Global,
     columns: &[Column],
+    reach: &[Column],
     items: &[Item],
     trees: &mut Vec<Tree>,
 ) -> Result<(), Memory>
     requires typed { AllByRecursion
-        (λ (i : ItemShape). HasKind columns.now (kind_alone i.expr) i.expr)
+        (λ (i : ItemShape). HasKind reach.now (kind_alone i.expr) i.expr)
         (map item_shape items.now) }
     requires fits { AllByRecursion (IsTerm (kinds_of columns.now))
-        (picked_terms columns.now (shape.Items (map item_shape items.now))) }
+        (picked_terms columns.now reach.now (shape.Items (map item_shape items.now))) }
     requires most { length columns.now < 65536 }
+    requires near { HasReach columns.now reach.now }
     ensures { OnOk result
         (map term trees.new.items ≡ map term trees.old.items
-        ++ picked_terms columns.now (shape.Items (map item_shape items.now))) }
+        ++ picked_terms columns.now reach.now (shape.Items (map item_shape items.now))) }
 {
     let Some((first, rest)) = items.split_first() else {
         return Ok(());
     };
-    trees.push(tree_of(alloc, columns, kind_alone(&first.expr), &first.expr)?)?;
-    push_items(alloc, columns, rest, trees)
+    let tree = tree_of(alloc, columns, reach, kind_alone(&first.expr), &first.expr)?;
+    trees.push(tree)?;
+    push_items(alloc, columns, reach, rest, trees)
 }
 
 // The trees of columns.
@@ -62,25 +74,31 @@ fn column_trees(alloc: Global, columns: usize) -> Result<Vec<Tree>, Memory>
 }
 
 // The trees of what a select picks.
-fn picked_trees(alloc: Global, columns: &[Column], pick: &Pick) -> Result<Vec<Tree>, Memory>
-    requires typed { IsPick columns.now (pick_shape pick.now) }
+fn picked_trees(
+    alloc: Global,
+    columns: &[Column],
+    reach: &[Column],
+    pick: &Pick,
+) -> Result<Vec<Tree>, Memory>
+    requires typed { IsPick reach.now (pick_shape pick.now) }
     requires fits { AllByRecursion (IsTerm (kinds_of columns.now))
-        (picked_terms columns.now (pick_shape pick.now)) }
+        (picked_terms columns.now reach.now (pick_shape pick.now)) }
     requires most { length columns.now < 65536 }
+    requires near { HasReach columns.now reach.now }
     ensures { IfOk result (λ trees.
-        map term trees.items ≡ picked_terms columns.now (pick_shape pick.now)) }
+        map term trees.items ≡ picked_terms columns.now reach.now (pick_shape pick.now)) }
 {
     match pick {
         Pick::All => column_trees(alloc, columns.len()),
         Pick::Items(items) => {
             let mut trees = Vec::new(alloc);
-            push_items(alloc, columns, items.as_slice(), &mut trees)?;
+            push_items(alloc, columns, reach, items.as_slice(), &mut trees)?;
             Ok(trees)
         }
     }
 }
 
-// A condition, which is cast to one bit where it is a literal.
+// A condition, which is cast to one bit where it is a literal or a parameter.
 fn condition_tree(alloc: Global, tree: Tree) -> Result<Tree, Memory>
     ensures { IfOk result (λ t. term t ≡ condition_of (term tree)) }
 {
@@ -88,6 +106,10 @@ fn condition_tree(alloc: Global, tree: Tree) -> Result<Tree, Memory>
         Tree::Literal(word, kind) => {
             let literal = Box::new(alloc, Tree::Literal(word, kind))?;
             Ok(Tree::Cast(literal, Kind::Unsigned(1)))
+        }
+        Tree::Parameter(number, kind) => {
+            let parameter = Box::new(alloc, Tree::Parameter(number, kind))?;
+            Ok(Tree::Cast(parameter, Kind::Unsigned(1)))
         }
         other => Ok(other),
     }
@@ -97,17 +119,20 @@ fn condition_tree(alloc: Global, tree: Tree) -> Result<Tree, Memory>
 pub(crate) fn filter_tree(
     alloc: Global,
     columns: &[Column],
+    reach: &[Column],
     filter: &Option<Expr>,
 ) -> Result<Option<Tree>, Memory>
-    requires typed { IsFilter columns.now (option_map expr_shape filter.now) }
-    requires fits { FilterTerm columns.now (option_map expr_shape filter.now) }
+    requires typed { IsFilter reach.now (option_map expr_shape filter.now) }
+    requires fits { FilterTerm columns.now reach.now (option_map expr_shape filter.now) }
     requires most { length columns.now < 65536 }
+    requires near { HasReach columns.now reach.now }
     ensures { IfOk result (λ tree.
-        option_map term tree ≡ filter_of columns.now (option_map expr_shape filter.now)) }
+        option_map term tree
+        ≡ filter_of columns.now reach.now (option_map expr_shape filter.now)) }
 {
     match filter {
         Some(expr) => {
-            let tree = tree_of(alloc, columns, Kind::Unsigned(1), expr)?;
+            let tree = tree_of(alloc, columns, reach, Kind::Unsigned(1), expr)?;
             Ok(Some(condition_tree(alloc, tree)?))
         }
         None => Ok(None),
@@ -126,13 +151,13 @@ fn operands_of(alloc: Global, trees: &[Tree]) -> Result<Operands, Memory>
     Ok(operands)
 }
 
-// The number of the column that an operand names; 0 for a literal.
+// The number of the column that an operand names; 0 for a literal or a parameter.
 pub(crate) fn column_in(operand: &Operand) -> u16
     ensures { result ≡ column_under operand.now }
 {
     match operand {
         Operand::Column(number) => *number,
-        Operand::Literal(..) => 0,
+        Operand::Literal(..) | Operand::Parameter(..) => 0,
     }
 }
 
@@ -177,25 +202,25 @@ fn project(alloc: Global, plan: &mut Plan, at: PlanId, items: &[Tree]) -> Result
 pub fn rows_over(
     alloc: Global,
     plan: &mut Plan,
-    columns: &[Column],
+    below: Below<'_>,
+    reach: &[Column],
     pick: &Pick,
     filter: &Option<Expr>,
-    at: PlanId,
 ) -> Result<PlanId, Memory>
-    requires can { CanPlaceRows columns.now
+    requires can { CanPlaceRows below.columns.now reach.now
         (pick_shape pick.now) (option_map expr_shape filter.now) }
-    requires fit { RowsFit columns.now (pick_shape pick.now) (option_map expr_shape filter.now)
-        (placed_at plan.old at) }
-    ensures root { IfOk result (λ id.
+    requires fit { RowsFit below.columns.now reach.now
+        (pick_shape pick.now) (option_map expr_shape filter.now) (placed_at plan.old below.at) }
+    ensures root { let b = below.entry in IfOk result (λ id.
         placed_at plan.new id
-        ≡ rows_over columns.now (pick_shape pick.now) (option_map expr_shape filter.now)
-        (placed_at plan.old at)) }
+        ≡ rows_over b.columns.now reach.now
+        (pick_shape pick.now) (option_map expr_shape filter.now) (placed_at plan.old b.at)) }
     ensures keeps { Keeps plan.old plan.new }
 {
-    let mut items = picked_trees(alloc, columns, pick)?;
-    let mut condition = filter_tree(alloc, columns, filter)?;
-    let base = columns.len() as u16;
-    let over = levelled(alloc, plan, at, base, &mut items, &mut condition)?;
+    let mut items = picked_trees(alloc, below.columns, reach, pick)?;
+    let mut condition = filter_tree(alloc, below.columns, reach, filter)?;
+    let base = below.columns.len() as u16;
+    let over = levelled(alloc, plan, below.at, base, &mut items, &mut condition)?;
     let kept = select(plan, over, &condition)?;
     project(alloc, plan, kept, &items)
 }

@@ -1,8 +1,8 @@
 //! The leaves of a plan.
 
-ghost use Rattle.std.specs.Prelude.{◌≡◌, ◌≤◌, length, IfOk};
+ghost use Rattle.std.specs.Prelude.{◌≡◌, ◌≤◌, bytes_eq, false, length, IfOk};
 ghost use Rattle.gl_schema.specs.Schemas.{kinds_of};
-ghost use Rattle.gl_query.specs.Columns.{source_columns};
+ghost use Rattle.gl_query.specs.Columns.{colon, source_columns};
 ghost use Rattle.gl_query.specs.Sources.{scope_of};
 ghost use Rattle.gl_elaborate.specs.Plans.{stream_node, stream_number};
 ghost use Rattle.gl_elaborate.specs.Sources.{read_of};
@@ -43,19 +43,21 @@ fn stream_node(
     Ok(PlanNode::Stream(stream_number(streams, name) as u8, kinds))
 }
 
-/// The node of a source, whose columns these are.
+/// The node of a source, whose columns these are; it is not that of the parameters.
+#[tactic(auto, using(crate::proofs::PastLemmas::past_parameters))]
 pub fn source_node(
     alloc: Global,
     sources: Sources<'_>,
     name: &[u8],
     columns: &[Column],
 ) -> Result<PlanNode, Memory>
-    requires few { length (scope_of sources).sources ≤ 8 }
+    requires few { length (scope_of sources).sources ≤ 9 }
+    requires other { bytes_eq name.now colon ≡ false }
     requires columns { columns.now ≡ source_columns (scope_of sources).sources name.now }
     ensures { IfOk result (λ n. n ≡ read_of sources.entry name.now) }
 {
     match sources {
-        Sources::Schema(streams) => stream_node(alloc, streams, name, columns),
-        Sources::Variable(_, own) => Ok(PlanNode::Body(kinds_of(alloc, own)?)),
+        Sources::Schema(streams, _) => stream_node(alloc, streams, name, columns),
+        Sources::Variable(_, own, _) => Ok(PlanNode::Body(kinds_of(alloc, own)?)),
     }
 }

@@ -10,12 +10,13 @@ ghost use Rattle.gl_query.specs.Values.{HasKind, IsNumberOf, kind_alone};
 ghost use Rattle.gl_query.specs.Columns.{agg_kind};
 ghost use Rattle.gl_query.specs.Accepted.{IsAgg};
 ghost use Rattle.gl_algebra.specs.Added.{placed_at};
-ghost use Rattle.gl_elaborate.specs.Terms.{term_of, IsTerm};
+ghost use Rattle.gl_elaborate.specs.Terms.{term_over, IsTerm};
 ghost use Rattle.gl_elaborate.specs.Trees.{term};
 ghost use Rattle.gl_elaborate.specs.Plans.{agg_over, aggs_of, arguments_of, arguments_of_all, behind, first_of, rest_of, totals_over, weights_of, Keeps};
-ghost use Rattle.gl_elaborate.specs.Fitting.{CanPlaceTotal, TotalsFit};
+ghost use Rattle.gl_elaborate.specs.Fitting.{CanPlaceTotal, HasReach, TotalsFit};
 
 use crate::levels::{levelled, put};
+use crate::rows::Below;
 use crate::{Tree, operand_of, tree_of};
 use gl_algebra::{Operand, Plan, PlanAgg, PlanAggs, PlanId, PlanNode, Weights};
 use gl_bits::{Listed, Memory, Word};
@@ -29,18 +30,20 @@ use std::alloc::Global;
 pub(crate) fn push_tree(
     alloc: Global,
     columns: &[Column],
+    reach: &[Column],
     expr: &Expr,
     trees: &mut Vec<Tree>,
 ) -> Result<(), Memory>
-    requires typed { HasKind columns.now (kind_alone (expr_shape expr.now)) (expr_shape expr.now) }
-    requires fits { IsTerm (kinds_of columns.now)
-        (term_of columns.now (kind_alone (expr_shape expr.now)) (expr_shape expr.now)) }
+    requires typed { HasKind reach.now (kind_alone (expr_shape expr.now)) (expr_shape expr.now) }
+    requires fits { let e = expr_shape expr.now in
+        IsTerm (kinds_of columns.now) (term_over columns.now reach.now (kind_alone e) e) }
     requires most { length columns.now < 65536 }
-    ensures { OnOk result
+    requires near { HasReach columns.now reach.now }
+    ensures { let e = expr_shape expr.now in OnOk result
         (map term trees.new.items ≡ map term trees.old.items
-        ++ term_of columns.now (kind_alone (expr_shape expr.now)) (expr_shape expr.now) ∷ []) }
+        ++ term_over columns.now reach.now (kind_alone e) e ∷ []) }
 {
-    trees.push(tree_of(alloc, columns, kind_alone(expr), expr)?)?;
+    trees.push(tree_of(alloc, columns, reach, kind_alone(expr), expr)?)?;
     Ok(())
 }
 
@@ -48,24 +51,26 @@ pub(crate) fn push_tree(
 fn push_argument(
     alloc: Global,
     columns: &[Column],
+    reach: &[Column],
     agg: &Agg,
     trees: &mut Vec<Tree>,
 ) -> Result<(), Memory>
-    requires typed { IsAgg columns.now (agg_shape agg.now) }
+    requires typed { IsAgg reach.now (agg_shape agg.now) }
     requires fits { AllByRecursion (IsTerm (kinds_of columns.now))
-        (arguments_of columns.now (agg_shape agg.now)) }
+        (arguments_of columns.now reach.now (agg_shape agg.now)) }
     requires most { length columns.now < 65536 }
+    requires near { HasReach columns.now reach.now }
     ensures { OnOk result
         (map term trees.new.items ≡ map term trees.old.items
-        ++ arguments_of columns.now (agg_shape agg.now)) }
+        ++ arguments_of columns.now reach.now (agg_shape agg.now)) }
 {
     match agg {
         Agg::Count { .. } => Ok(()),
-        Agg::Sum(expr) => push_tree(alloc, columns, expr, trees),
-        Agg::Min(expr) => push_tree(alloc, columns, expr, trees),
-        Agg::Max(expr) => push_tree(alloc, columns, expr, trees),
-        Agg::Avg(expr) => push_tree(alloc, columns, expr, trees),
-        Agg::Wsum { arg, .. } => push_tree(alloc, columns, arg, trees),
+        Agg::Sum(expr) => push_tree(alloc, columns, reach, expr, trees),
+        Agg::Min(expr) => push_tree(alloc, columns, reach, expr, trees),
+        Agg::Max(expr) => push_tree(alloc, columns, reach, expr, trees),
+        Agg::Avg(expr) => push_tree(alloc, columns, reach, expr, trees),
+        Agg::Wsum { arg, .. } => push_tree(alloc, columns, reach, arg, trees),
     }
 }
 
@@ -74,23 +79,25 @@ fn push_argument(
 fn push_arguments(
     alloc: Global,
     columns: &[Column],
+    reach: &[Column],
     items: &[AggItem],
     trees: &mut Vec<Tree>,
 ) -> Result<(), Memory>
-    requires typed { AllByRecursion (λ (i : AggItemShape). IsAgg columns.now i.agg)
+    requires typed { AllByRecursion (λ (i : AggItemShape). IsAgg reach.now i.agg)
         (map agg_item_shape items.now) }
     requires fits { AllByRecursion (IsTerm (kinds_of columns.now))
-        (arguments_of_all columns.now (map agg_item_shape items.now)) }
+        (arguments_of_all columns.now reach.now (map agg_item_shape items.now)) }
     requires most { length columns.now < 65536 }
+    requires near { HasReach columns.now reach.now }
     ensures { OnOk result
         (map term trees.new.items ≡ map term trees.old.items
-        ++ arguments_of_all columns.now (map agg_item_shape items.now)) }
+        ++ arguments_of_all columns.now reach.now (map agg_item_shape items.now)) }
 {
     let Some((first, rest)) = items.split_first() else {
         return Ok(());
     };
-    push_argument(alloc, columns, &first.agg, trees)?;
-    push_arguments(alloc, columns, rest, trees)
+    push_argument(alloc, columns, reach, &first.agg, trees)?;
+    push_arguments(alloc, columns, reach, rest, trees)
 }
 
 // The first tree as an operand.
@@ -153,11 +160,11 @@ fn weights_of(alloc: Global, kind: Kind, weights: &[Num]) -> Result<Weights, Mem
 }
 
 // An aggregate over the first of the trees that are left of the arguments.
-fn agg_over(alloc: Global, columns: &[Column], agg: &Agg, trees: &[Tree]) -> Result<PlanAgg, Memory>
-    requires typed { IsAgg columns.now (agg_shape agg.now) }
-    requires kind { IsKind (agg_kind columns.now (agg_shape agg.now)) }
+fn agg_over(alloc: Global, reach: &[Column], agg: &Agg, trees: &[Tree]) -> Result<PlanAgg, Memory>
+    requires typed { IsAgg reach.now (agg_shape agg.now) }
+    requires kind { IsKind (agg_kind reach.now (agg_shape agg.now)) }
     ensures { IfOk result (λ a.
-        a ≡ agg_over columns.now (agg_shape agg.now) (map term trees.now)) }
+        a ≡ agg_over reach.now (agg_shape agg.now) (map term trees.now)) }
 {
     match agg {
         Agg::Count { .. } => Ok(PlanAgg::Count),
@@ -166,7 +173,7 @@ fn agg_over(alloc: Global, columns: &[Column], agg: &Agg, trees: &[Tree]) -> Res
         Agg::Max(_) => Ok(PlanAgg::Max(first_of(trees))),
         Agg::Avg(_) => Ok(PlanAgg::Avg(first_of(trees))),
         Agg::Wsum { arg, weights } => {
-            let kind = kind_of(columns, kind_alone(arg), arg);
+            let kind = kind_of(reach, kind_alone(arg), arg);
             let words = weights_of(alloc, kind, weights.as_slice())?;
             Ok(PlanAgg::Wsum(first_of(trees), words))
         }
@@ -186,47 +193,50 @@ fn behind<'a>(agg: &Agg, trees: &'a [Tree]) -> &'a [Tree]
 // Adds aggregates over the trees of their arguments.
 fn push_aggs(
     alloc: Global,
-    columns: &[Column],
+    reach: &[Column],
     items: &[AggItem],
     trees: &[Tree],
     aggs: &mut PlanAggs,
 ) -> Result<(), Memory>
-    requires typed { AllByRecursion (λ (i : AggItemShape). IsAgg columns.now i.agg)
+    requires typed { AllByRecursion (λ (i : AggItemShape). IsAgg reach.now i.agg)
         (map agg_item_shape items.now) }
-    requires kinds { AllByRecursion (λ (i : AggItemShape). IsKind (agg_kind columns.now i.agg))
+    requires kinds { AllByRecursion (λ (i : AggItemShape). IsKind (agg_kind reach.now i.agg))
         (map agg_item_shape items.now) }
     ensures { OnOk result
         (aggs.new ≡ aggs.old
-        ++ aggs_of columns.now (map agg_item_shape items.now) (map term trees.now)) }
+        ++ aggs_of reach.now (map agg_item_shape items.now) (map term trees.now)) }
 {
     let _holds = Operand::Column(0);
     let Some((first, rest)) = items.split_first() else {
         return Ok(());
     };
-    aggs.push(agg_over(alloc, columns, &first.agg, trees)?)?;
-    push_aggs(alloc, columns, rest, behind(&first.agg, trees), aggs)
+    aggs.push(agg_over(alloc, reach, &first.agg, trees)?)?;
+    push_aggs(alloc, reach, rest, behind(&first.agg, trees), aggs)
 }
 
 /// Adds the nodes of a total over a node.
 pub fn totals_over(
     alloc: Global,
     plan: &mut Plan,
-    columns: &[Column],
+    below: Below<'_>,
+    reach: &[Column],
     items: &[AggItem],
-    at: PlanId,
 ) -> Result<PlanId, Memory>
-    requires can { CanPlaceTotal columns.now (map agg_item_shape items.now) }
-    requires fit { TotalsFit columns.now (map agg_item_shape items.now) (placed_at plan.old at) }
-    ensures root { IfOk result (λ id.
+    requires can { CanPlaceTotal below.columns.now reach.now (map agg_item_shape items.now) }
+    requires fit { TotalsFit below.columns.now reach.now
+        (map agg_item_shape items.now) (placed_at plan.old below.at) }
+    ensures root { let b = below.entry in IfOk result (λ id.
         placed_at plan.new id
-        ≡ totals_over columns.now (map agg_item_shape items.now) (placed_at plan.old at)) }
+        ≡ totals_over b.columns.now reach.now
+        (map agg_item_shape items.now) (placed_at plan.old b.at)) }
     ensures keeps { Keeps plan.old plan.new }
 {
     let mut trees = Vec::new(alloc);
-    push_arguments(alloc, columns, items, &mut trees)?;
+    push_arguments(alloc, below.columns, reach, items, &mut trees)?;
     let mut none: Option<Tree> = None;
-    let over = levelled(alloc, plan, at, columns.len() as u16, &mut trees, &mut none)?;
+    let base = below.columns.len() as u16;
+    let over = levelled(alloc, plan, below.at, base, &mut trees, &mut none)?;
     let mut aggs = Listed::new(alloc);
-    push_aggs(alloc, columns, items, &trees, &mut aggs)?;
+    push_aggs(alloc, reach, items, &trees, &mut aggs)?;
     put(plan, PlanNode::Aggregate { child: over, aggs })
 }

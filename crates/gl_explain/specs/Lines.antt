@@ -7,7 +7,7 @@ use Rattle.gl_query.specs.Shapes.{statement_shape}
 use Rattle.gl_query_printer.specs.Printing.{canonical_text}
 use Rattle.gl_algebra.specs.declared.figures.Figures.{Figures}
 use Rattle.gl_algebra.specs.declared.node.Operand.{Operand}
-use Rattle.gl_algebra.specs.declared.node.Operand.TheVariants.{Column, Literal}
+use Rattle.gl_algebra.specs.declared.node.Operand.TheVariants.{Column, Literal, Parameter}
 use Rattle.gl_algebra.specs.declared.node.PlanAgg.{PlanAgg}
 use Rattle.gl_algebra.specs.declared.node.PlanAgg.TheVariants as agg
 use Rattle.gl_algebra.specs.declared.node.PlanFrame.{PlanFrame}
@@ -36,10 +36,11 @@ node_text number = numbered (codes " p") number
 abbrev pub column_text : ℕ → List ℕ
 column_text number = numbered (codes " c") number
 
--- an operand is a column, or `#` and the number of a literal
+-- an operand is a column, `#` and the number of a literal, or `$` and the number of a parameter
 abbrev pub operand_text : Operand → List ℕ
 operand_text (Column number) = column_text number
 operand_text (Literal word kind) = numbered (codes " #") word.bits
+operand_text (Parameter number kind) = numbered (codes " $") number
 
 -- operands one behind the other, each with its space
 abbrev pub operands_text : List Operand → List ℕ

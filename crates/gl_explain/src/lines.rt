@@ -55,6 +55,7 @@ fn put_operand(text: &mut Vec<u8>, operand: &Operand) -> Result<(), Memory>
     match operand {
         Operand::Column(number) => put_column(text, u128::from(*number)),
         Operand::Literal(word, _) => put_number(text, b" #", word.bits()),
+        Operand::Parameter(number, _) => put_number(text, b" $", u128::from(*number)),
     }
 }
 

@@ -8,7 +8,7 @@ use Rattle.gl_bits.proofs.Bools.{or_left, or_right}
 use Rattle.gl_values.specs.declared.kind.Kind.{Kind}
 use Rattle.gl_algebra.specs.Columns.{ConditionFits, FrameAggFits, FrameFits, OperandFits, bit_kind}
 use Rattle.gl_algebra.specs.declared.node.Operand.{Operand}
-use Rattle.gl_algebra.specs.declared.node.Operand.TheVariants.{Column, Literal}
+use Rattle.gl_algebra.specs.declared.node.Operand.TheVariants.{Column, Literal, Parameter}
 use Rattle.gl_algebra.specs.declared.node.PlanFrame.{PlanFrame}
 use Rattle.gl_algebra.specs.declared.node.PlanFrame.TheVariants.{Own, Lag, Over}
 use Rattle.gl_algebra.specs.declared.node.PlanFrameAgg.{PlanFrameAgg}
@@ -23,6 +23,7 @@ use Rattle.gl_frames_asked.proofs.BelowLemmas.{among_below, below, below_at, bel
 one_of_operand : (operand : Operand) → length (columns_of_operand operand) ≤ 1
 one_of_operand (Column column) = omega arith
 one_of_operand (Literal word kind) = omega arith
+one_of_operand (Parameter number kind) = omega arith
 
 one_over : (agg : PlanFrameAgg) → length (columns_over agg) ≤ 1
 one_over Count = omega arith
@@ -84,6 +85,7 @@ module _ (kinds : List Kind) where
   operand_within : (operand : Operand) → OperandFits kinds operand → AllByRecursion (λ x. x < length kinds) (columns_of_operand operand)
   operand_within (Column column) fits = (fits, tt)
   operand_within (Literal word kind) fits = tt
+  operand_within (Parameter number kind) fits = tt
 
   over_within : (agg : PlanFrameAgg) → FrameAggFits kinds agg → AllByRecursion (λ x. x < length kinds) (columns_over agg)
   over_within Count fits = tt

@@ -11,7 +11,7 @@ use Rattle.gl_algebra.specs.Columns.{ConditionFits, FrameAggFits, FrameFits, Ope
 use Rattle.gl_algebra.specs.Frames.{delay_of_count, delay_of_sum, delay_over, digits_of_rows, digits_over, rings_over, words_over}
 use Rattle.gl_algebra.specs.Weights.{weight_of_rings}
 use Rattle.gl_algebra.specs.declared.node.Operand.{Operand}
-use Rattle.gl_algebra.specs.declared.node.Operand.TheVariants.{Column, Literal}
+use Rattle.gl_algebra.specs.declared.node.Operand.TheVariants.{Column, Literal, Parameter}
 use Rattle.gl_algebra.specs.declared.node.PlanFrame.{PlanFrame}
 use Rattle.gl_algebra.specs.declared.node.PlanFrame.TheVariants.{Own, Lag, Over}
 use Rattle.gl_algebra.specs.declared.node.PlanFrameAgg.{PlanFrameAgg}
@@ -32,11 +32,13 @@ module _ (kinds : List Kind) (asked : List ℕ) where
       → kind_of_operand (pick_kinds asked kinds) (renumber_operand asked operand) ≡ kind_of_operand kinds operand
   kind_same (Column column) found = made_at (kind_of_column kinds) asked column bit_kind found.0
   kind_same (Literal word kind) found = refl
+  kind_same (Parameter number kind) found = refl
 
   operand_fits : (operand : Operand) → OperandFits kinds operand → AllByRecursion (IsFound asked) (columns_of_operand operand)
       → OperandFits (pick_kinds asked kinds) (renumber_operand asked operand)
   operand_fits (Column column) fits found = let long = length_map (kind_of_column kinds) asked in let within = found.0.within in omega (arith, long, within)
   operand_fits (Literal word kind) fits found = fits
+  operand_fits (Parameter number kind) fits found = fits
 
   number_fits : (operand : Operand) → IsTrue (is_number (kind_of_operand kinds operand)) → AllByRecursion (IsFound asked) (columns_of_operand operand)
       → IsTrue (is_number (kind_of_operand (pick_kinds asked kinds) (renumber_operand asked operand)))

@@ -5,7 +5,7 @@ use Rattle.gl_values.specs.Results.{Row}
 use Rattle.gl_values.specs.declared.kind.Kind.{Kind}
 use Rattle.gl_algebra.specs.Columns.{kind_of_column}
 use Rattle.gl_algebra.specs.declared.node.Operand.{Operand}
-use Rattle.gl_algebra.specs.declared.node.Operand.TheVariants.{Column, Literal}
+use Rattle.gl_algebra.specs.declared.node.Operand.TheVariants.{Column, Literal, Parameter}
 use Rattle.gl_algebra.specs.declared.node.PlanFrame.{PlanFrame}
 use Rattle.gl_algebra.specs.declared.node.PlanFrame.TheVariants.{Own, Lag, Over}
 use Rattle.gl_algebra.specs.declared.node.PlanFrameAgg.{PlanFrameAgg}
@@ -28,10 +28,11 @@ is_among asked column = list_any (nat_eq column) asked
 abbrev pub place_among : List ℕ → ℕ → ℕ
 place_among asked column = length (filter (is_among asked) (range_with_len 0 column))
 
--- an operand over these columns alone; a literal stays as it is
+-- an operand over these columns alone; a literal and a parameter stay as they are
 abbrev pub renumber_operand : List ℕ → Operand → Operand
 renumber_operand asked (Column column) = Column (place_among asked column)
 renumber_operand asked (Literal word kind) = Literal word kind
+renumber_operand asked (Parameter number kind) = Parameter number kind
 
 -- a function over these columns alone
 abbrev pub renumber_agg : List ℕ → PlanFrameAgg → PlanFrameAgg

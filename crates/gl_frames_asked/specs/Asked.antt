@@ -2,16 +2,17 @@
 use Rattle.std.specs.Prelude.{ℕ, Bool, ◌||◌, List, [], ◌∷◌, ◌++◌, Option, Some, None, filter, nat_eq}
 use Rattle.std.specs.List.{list_any, range_with_len}
 use Rattle.gl_algebra.specs.declared.node.Operand.{Operand}
-use Rattle.gl_algebra.specs.declared.node.Operand.TheVariants.{Column, Literal}
+use Rattle.gl_algebra.specs.declared.node.Operand.TheVariants.{Column, Literal, Parameter}
 use Rattle.gl_algebra.specs.declared.node.PlanFrame.{PlanFrame}
 use Rattle.gl_algebra.specs.declared.node.PlanFrame.TheVariants.{Own, Lag, Over}
 use Rattle.gl_algebra.specs.declared.node.PlanFrameAgg.{PlanFrameAgg}
 use Rattle.gl_algebra.specs.declared.node.PlanFrameAgg.TheVariants.{Count, Sum, Min, Max, Avg, LastValue}
 
--- the column of an operand; a literal has none
+-- the column of an operand; a literal and a parameter have none
 abbrev pub columns_of_operand : Operand → List ℕ
 columns_of_operand (Column column) = column ∷ []
 columns_of_operand (Literal word kind) = []
+columns_of_operand (Parameter number kind) = []
 
 -- the column of what a function takes
 abbrev pub columns_over : PlanFrameAgg → List ℕ

@@ -11,6 +11,7 @@ use Rattle.gl_algebra.specs.Fits.{KeyFits}
 use Rattle.gl_algebra.specs.Frames.{delay_of_frame, delay_of_frames, digits_of_frame, frames_in, rings_of_frame, words_of_frame}
 use Rattle.gl_algebra.specs.Keys.{delay_by_key, width_of_key}
 use Rattle.gl_algebra.specs.Results.{row_of_frames}
+use Rattle.gl_algebra.specs.Values.{Sets}
 use Rattle.gl_algebra.specs.Weights.{weight_by_key, weight_of_frame}
 use Rattle.gl_algebra.specs.declared.node.PlanFrame.{PlanFrame}
 use Rattle.gl_algebra.specs.declared.node.PlanKey.{PlanKey}
@@ -87,12 +88,12 @@ NodesAreSame =
 
 -- ---- rows
 
--- what a node makes of rows of these columns alone is what it makes of the rows
+-- what a node makes of rows of these columns alone is what it makes of the rows, whatever the words of the parameters
 pub record MakesSame (kinds : List Kind) (by : PlanKey) (items : List PlanFrame) (asked : List ℕ) : Type 0 where
   pub key : (row : Row) → slice_index (pick asked row) (place_among asked by.key) ≡ slice_index row by.key
-  pub row : (rows : List Row)
-      → row_of_frames (pick_kinds asked kinds) (map (renumber asked) items) (map (pick asked) rows)
-      ≡ row_of_frames kinds items rows
+  pub row : (sets : Sets) (rows : List Row)
+      → row_of_frames sets (pick_kinds asked kinds) (map (renumber asked) items) (map (pick asked) rows)
+      ≡ row_of_frames sets kinds items rows
 
 abbrev pub NodesMakeSame : Type 0
 NodesMakeSame =

@@ -38,6 +38,7 @@ fn renumber_operand(asked: &[usize], operand: &Operand) -> Operand
     match operand {
         Operand::Column(column) => Operand::Column(place_among(asked, *column)),
         Operand::Literal(word, kind) => Operand::Literal(*word, *kind),
+        Operand::Parameter(number, kind) => Operand::Parameter(*number, *kind),
     }
 }
 

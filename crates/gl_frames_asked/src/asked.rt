@@ -14,7 +14,7 @@ fn is_operand(operand: &Operand, column: usize) -> bool
 {
     match operand {
         Operand::Column(own) => column == usize::from(*own),
-        Operand::Literal(_, _) => false,
+        Operand::Literal(_, _) | Operand::Parameter(_, _) => false,
     }
 }
 

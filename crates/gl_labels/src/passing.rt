@@ -20,7 +20,7 @@ fn beside(table: &Table, left: usize, right: usize, column: usize) -> (usize, us
 fn column_in(operand: &Operand) -> Option<usize> {
     match operand {
         Operand::Column(at) => Some(*at as usize),
-        Operand::Literal(_, _) => None,
+        Operand::Literal(_, _) | Operand::Parameter(_, _) => None,
     }
 }
 

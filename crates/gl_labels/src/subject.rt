@@ -36,7 +36,10 @@ pub struct Subject<'a> {
 pub(crate) fn results_of(alloc: Global, subject: Subject<'_>) -> Result<Vec<Columns>, Memory> {
     let mut results = Vec::new(alloc);
     for checked in subject.statements {
-        let sources = Sources::Schema(subject.schema.streams.as_slice());
+        let sources = Sources::Schema(
+            subject.schema.streams.as_slice(),
+            subject.schema.parameters.as_slice(),
+        );
         results.push(columns_of(alloc, sources, &checked.statement.query)?)?;
     }
     Ok(results)

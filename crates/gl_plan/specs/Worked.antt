@@ -23,7 +23,7 @@ trade_columns =
 
 -- a schema with the one stream of trades
 abbrev pub trade_schema : Schema
-trade_schema = record { streams = record { name = codes "trades"; columns = trade_columns } ∷ [] }
+trade_schema = record { streams = record { name = codes "trades"; columns = trade_columns } ∷ []; parameters = [] }
 
 -- SELECT price FROM trades
 abbrev pub prices : QueryShape

@@ -6,6 +6,7 @@ use Rattle.gl_values.specs.declared.op.Op.TheVariants as Op
 use Rattle.gl_schema.specs.declared.schema.Schema.{Schema}
 use Rattle.gl_query.specs.declared.tree.Measure.TheVariants.{Tuples}
 use Rattle.gl_query.specs.Shapes.{ExprShape, FrameItemShape, FrameShape, ItemShape, QueryShape, SlotsShape}
+use Rattle.gl_query.specs.Columns.{sources_of}
 use Rattle.gl_query.specs.Shapes as shape
 use Rattle.gl_algebra.specs.declared.node.ColOp.TheVariants.{Binary}
 use Rattle.gl_algebra.specs.declared.node.Operand.{Operand}
@@ -31,6 +32,7 @@ market = record {
       }
       ∷ record { name = codes "s"; columns = column (codes "k") (Unsigned 8) ∷ column (codes "v") (Signed 8) ∷ [] }
       ∷ [];
+  parameters = [];
 }
 
 abbrev pub trades : QueryShape
@@ -233,7 +235,7 @@ trades_with_bids =
 
 -- the plan of a query over the market
 abbrev pub plan_for : QueryShape → Placed
-plan_for q = placed (stream_node market.streams) market.streams q []
+plan_for q = placed (stream_node market.streams) (sources_of market) q []
 
 -- its latency and its gap
 pub record Prints (q : QueryShape) (latency gap : ℕ) : Type 0 where

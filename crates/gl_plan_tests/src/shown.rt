@@ -43,6 +43,7 @@ fn push_operand(out: &mut String, operand: &Operand) -> Result<(), AllocError> {
     match operand {
         Operand::Column(column) => write!(out, " c{}", *column)?,
         Operand::Literal(word, kind) => push_literal(out, *word, *kind)?,
+        Operand::Parameter(number, _) => write!(out, " ${}", *number)?,
     }
     Ok(())
 }

@@ -11,10 +11,9 @@ use Rattle.gl_arrival.specs.Results.{HasOneArrival}
 use Rattle.gl_arrival.proofs.ChangeLemmas.{rows_at_places, rows_each, rows_kept, rows_mapped}
 use Rattle.gl_arrival.proofs.ResultLemmas.{is_of_union, one_arrival, one_by_arrival, one_changed, one_parted}
 use Rattle.gl_asof.proofs.ResultLemmas.{one_as_of}
-use Rattle.gl_schema.specs.declared.schema.Column.{Column}
 use Rattle.gl_query.specs.Columns.{arrives}
 use Rattle.gl_query.specs.Laws.{ArrivalsAreResults}
-use Rattle.gl_query.specs.Results.{ArrivesIn, Env, IsResultIn, IsWithoutPlaces, Source, columns_in, frame_row, join_by, keeps, kept, picked, placed_rows_of, rows_of}
+use Rattle.gl_query.specs.Results.{ArrivesIn, Env, IsResultIn, IsWithoutPlaces, Source, columns_in, join_by, kept, picked, placed_rows_of, rows_of, Reach, is_kept, reach_in, reached_row}
 use Rattle.gl_query.specs.Shapes.{ExprShape, FrameItemShape, PickShape, QueryShape}
 use Rattle.gl_query.specs.Shapes as shape
 use Rattle.gl_query.specs.Values.{column_number}
@@ -28,23 +27,23 @@ rows_said (Some s) = rows_at_places s.rows s.places
 pub rows_placed : (env : Env) (name : List ℕ) → arrival.rows_of (placed_rows_of env name) ≡ rows_of env name
 rows_placed env name = rows_said (find (λ (s : Source). bytes_eq name s.stream.name) env)
 
-rows_picked : (columns : List Column) (pick : PickShape) (filter : Option ExprShape) (xs : List (Placed Row))
-    → arrival.rows_of (mapped_at (picked columns pick) (kept_at (keeps columns filter) xs)) ≡ map (picked columns pick) (kept columns filter (arrival.rows_of xs))
-rows_picked columns pick filter xs =
-    rows_mapped (picked columns pick) (kept_at (keeps columns filter) xs) ∙ ap (λ (l : List Row). map (picked columns pick) l) (rows_kept (keeps columns filter) xs)
+rows_picked : (reach : Reach) (pick : PickShape) (filter : Option ExprShape) (xs : List (Placed Row))
+    → arrival.rows_of (mapped_at (picked reach pick) (kept_at (is_kept reach filter) xs)) ≡ map (picked reach pick) (kept reach filter (arrival.rows_of xs))
+rows_picked reach pick filter xs =
+    rows_mapped (picked reach pick) (kept_at (is_kept reach filter) xs) ∙ ap (λ (l : List Row). map (picked reach pick) l) (rows_kept (is_kept reach filter) xs)
 
-rows_framed : (columns : List Column) (items : List FrameItemShape) (filter : Option ExprShape) (xs : List (Placed Row))
-    → arrival.rows_of (framed_at (frame_row columns items) (kept_at (keeps columns filter) xs)) ≡ framed (frame_row columns items) (kept columns filter (arrival.rows_of xs))
-rows_framed columns items filter xs =
-    rows_each (λ seen. Some (frame_row columns items seen)) [] (kept_at (keeps columns filter) xs)
-    ∙ ap (λ (l : List Row). each_of (λ seen. Some (frame_row columns items seen)) [] l) (rows_kept (keeps columns filter) xs)
+rows_framed : (reach : Reach) (items : List FrameItemShape) (filter : Option ExprShape) (xs : List (Placed Row))
+    → arrival.rows_of (framed_at (reached_row reach items) (kept_at (is_kept reach filter) xs)) ≡ framed (reached_row reach items) (kept reach filter (arrival.rows_of xs))
+rows_framed reach items filter xs =
+    rows_each (λ seen. Some (reached_row reach items seen)) [] (kept_at (is_kept reach filter) xs)
+    ∙ ap (λ (l : List Row). each_of (λ seen. Some (reached_row reach items seen)) [] l) (rows_kept (is_kept reach filter) xs)
 
-rows_parted : (columns : List Column) (items : List FrameItemShape) (filter : Option ExprShape) (n : ℕ) (key_of : Row → ℕ) (xs : List (Placed Row))
-    → arrival.rows_of (framed_by_key_at n key_of (frame_row columns items) (kept_at (keeps columns filter) xs))
-    ≡ framed_by_key n key_of (frame_row columns items) (kept columns filter (arrival.rows_of xs))
-rows_parted columns items filter n key_of xs =
-    rows_each (by_key n key_of (frame_row columns items)) [] (kept_at (keeps columns filter) xs)
-    ∙ ap (λ (l : List Row). each_of (by_key n key_of (frame_row columns items)) [] l) (rows_kept (keeps columns filter) xs)
+rows_parted : (reach : Reach) (items : List FrameItemShape) (filter : Option ExprShape) (n : ℕ) (key_of : Row → ℕ) (xs : List (Placed Row))
+    → arrival.rows_of (framed_by_key_at n key_of (reached_row reach items) (kept_at (is_kept reach filter) xs))
+    ≡ framed_by_key n key_of (reached_row reach items) (kept reach filter (arrival.rows_of xs))
+rows_parted reach items filter n key_of xs =
+    rows_each (by_key n key_of (reached_row reach items)) [] (kept_at (is_kept reach filter) xs)
+    ∙ ap (λ (l : List Row). each_of (by_key n key_of (reached_row reach items)) [] l) (rows_kept (is_kept reach filter) xs)
 
 -- ---- from results with places to results
 
@@ -54,13 +53,13 @@ arrived (shape.Read name) env xs spill a =
 arrived (shape.Rows pick filter source) env xs spill a = record {
   rows = arrival.rows_of a.rows;
   of_source = arrived source env a.rows spill a.of_source;
-  changed = ap (λ (l : List (Placed Row)). arrival.rows_of l) a.changed ∙ rows_picked (columns_in env source) pick filter a.rows;
+  changed = ap (λ (l : List (Placed Row)). arrival.rows_of l) a.changed ∙ rows_picked (reach_in env source) pick filter a.rows;
 }
 arrived (shape.Total aggs source) env xs spill a = absurd a
 arrived (shape.Frames items filter None source) env xs spill a = record {
   rows = arrival.rows_of a.rows;
   of_source = arrived source env a.rows spill a.of_source;
-  changed = ap (λ (l : List (Placed Row)). arrival.rows_of l) a.changed ∙ rows_framed (columns_in env source) items filter a.rows;
+  changed = ap (λ (l : List (Placed Row)). arrival.rows_of l) a.changed ∙ rows_framed (reach_in env source) items filter a.rows;
 }
 arrived (shape.Frames items filter (Some s) source) env xs spill a = record {
   rows = arrival.rows_of a.rows;
@@ -68,7 +67,7 @@ arrived (shape.Frames items filter (Some s) source) env xs spill a = record {
   of_source = arrived source env a.rows a.source_spill a.of_source;
   changed =
       ap (λ (l : List (Placed Row)). arrival.rows_of l) a.changed
-      ∙ rows_parted (columns_in env source) items filter s.groups (λ row. slice_index row (column_number (columns_in env source) s.key)) a.rows;
+      ∙ rows_parted (reach_in env source) items filter s.groups (λ row. slice_index row (column_number (columns_in env source) s.key)) a.rows;
   any = a.any;
 }
 arrived (shape.Each measure var source size advance body) env xs spill a = absurd a
@@ -88,42 +87,42 @@ pub with_places : (q : QueryShape) → IsTrue (arrives q) → (env : Env) (out :
 with_places (shape.Read name) t env out spill r =
     record { rows = placed_rows_of env name; of_source = record { rows = refl; kept = r.kept }; without = r.rows ∙ sym (rows_placed env name) }
 with_places (shape.Rows pick filter source) t env out spill r =
-    let columns = columns_in env source in
+    let reach = reach_in env source in
     let w = with_places source t env r.rows spill r.of_source in
     record {
-      rows = mapped_at (picked columns pick) (kept_at (keeps columns filter) w.rows);
+      rows = mapped_at (picked reach pick) (kept_at (is_kept reach filter) w.rows);
       of_source = record { rows = w.rows; of_source = w.of_source; changed = refl };
       without =
-          r.changed ∙ ap (λ (l : List Row). map (picked columns pick) (kept columns filter l)) w.without
-          ∙ sym (rows_picked columns pick filter w.rows);
+          r.changed ∙ ap (λ (l : List Row). map (picked reach pick) (kept reach filter l)) w.without
+          ∙ sym (rows_picked reach pick filter w.rows);
     }
 with_places (shape.Total aggs source) t env out spill r = absurd (cc)
 with_places (shape.Frames items filter None source) t env out spill r =
-    let columns = columns_in env source in
+    let reach = reach_in env source in
     let w = with_places source t env r.rows spill r.of_source in
     record {
-      rows = framed_at (frame_row columns items) (kept_at (keeps columns filter) w.rows);
+      rows = framed_at (reached_row reach items) (kept_at (is_kept reach filter) w.rows);
       of_source = record { rows = w.rows; of_source = w.of_source; changed = refl };
       without =
-          r.changed ∙ ap (λ (l : List Row). framed (frame_row columns items) (kept columns filter l)) w.without
-          ∙ sym (rows_framed columns items filter w.rows);
+          r.changed ∙ ap (λ (l : List Row). framed (reached_row reach items) (kept reach filter l)) w.without
+          ∙ sym (rows_framed reach items filter w.rows);
     }
 with_places (shape.Frames items filter (Some s) source) t env out spill r =
-    let columns = columns_in env source in
-    let key_of : Row → ℕ = λ row. slice_index row (column_number columns s.key) in
+    let reach = reach_in env source in
+    let key_of : Row → ℕ = λ row. slice_index row (column_number (columns_in env source) s.key) in
     let w = with_places source t env r.rows r.source_spill r.of_source in
     record {
-      rows = framed_by_key_at s.groups key_of (frame_row columns items) (kept_at (keeps columns filter) w.rows);
+      rows = framed_by_key_at s.groups key_of (reached_row reach items) (kept_at (is_kept reach filter) w.rows);
       of_source = record {
         rows = w.rows;
         source_spill = r.source_spill;
         of_source = w.of_source;
         changed = refl;
-        any = r.any ∙ ap (λ (l : List Row). r.source_spill || has_further s.groups key_of (kept columns filter l)) w.without;
+        any = r.any ∙ ap (λ (l : List Row). r.source_spill || has_further s.groups key_of (kept reach filter l)) w.without;
       };
       without =
-          r.changed ∙ ap (λ (l : List Row). framed_by_key s.groups key_of (frame_row columns items) (kept columns filter l)) w.without
-          ∙ sym (rows_parted columns items filter s.groups key_of w.rows);
+          r.changed ∙ ap (λ (l : List Row). framed_by_key s.groups key_of (reached_row reach items) (kept reach filter l)) w.without
+          ∙ sym (rows_parted reach items filter s.groups key_of w.rows);
     }
 with_places (shape.Each measure var source size advance body) t env out spill r = absurd (cc)
 with_places (shape.PerGroup var source key n body) t env out spill r = absurd (cc)

@@ -13,7 +13,7 @@ use Rattle.gl_query.specs.Shapes.{QueryShape}
 use Rattle.gl_query.specs.Shapes as shape
 use Rattle.gl_query.specs.Columns.{Pace, Once, Step, arrives, pace_of}
 use Rattle.gl_values.specs.Results.{Row, Results, IsChanged, AreJoined, IsOfParts, IsOfBoth, AreBeside, beside}
-use Rattle.gl_query.specs.Results.{ArrivesIn, Env, IsAsOf, IsChangedInPart, IsResultIn, IsWithoutPlaces, columns_in, frame_row, join_by, rows_of}
+use Rattle.gl_query.specs.Results.{ArrivesIn, Env, IsAsOf, IsChangedInPart, IsResultIn, IsWithoutPlaces, columns_in, join_by, rows_of, reach_in, reached_row}
 use Rattle.gl_query.specs.Accepted.{IsAcceptedOver}
 use Rattle.gl_query.specs.Laws.{AcceptedHaveResults, scope_of}
 use Rattle.gl_query.proofs.Arriving.{with_places}
@@ -54,7 +54,7 @@ paced (shape.Total aggs source) env out spill r = ap length r.changed
 paced (shape.Frames items (Some e) slots source) env out spill r = tt
 paced (shape.Frames items None (Some s) source) env out spill r = tt
 paced (shape.Frames items None None source) env out spill r =
-    let same = ap length r.changed ∙ each_length (frame_row (columns_in env source) items) [] _ ∙ ap length (all_kept r.rows) in
+    let same = ap length r.changed ∙ each_length (reached_row (reach_in env source) items) [] _ ∙ ap length (all_kept r.rows) in
     paced_alike env (pace_of source) r.rows out same (paced source env r.rows spill r.of_source)
 paced (shape.Each measure var source size advance body) env out spill r = tt
 paced (shape.PerGroup var source key n body) env out spill r = tt

@@ -10,7 +10,7 @@ use Rattle.gl_bits.proofs.Bools.{and_both, and_parts, bytes_own, bytes_same, nei
 use Rattle.gl_values.specs.Operators.{same_kind}
 use Rattle.gl_values.proofs.KindLemmas.{equal_kinds, kinds_equal}
 use Rattle.gl_schema.specs.declared.schema.Column.{Column as NamedColumn}
-use Rattle.gl_schema.specs.Schemas.{column_names, has_column, has_stream, kinds_of}
+use Rattle.gl_schema.specs.Schemas.{column_names, has_column, kinds_of}
 use Rattle.gl_query.specs.declared.tree.Measure.{Measure}
 use Rattle.gl_query.specs.declared.tree.Measure.TheVariants.{Tuples}
 use Rattle.gl_query.specs.declared.tree.Name.{Name}
@@ -22,7 +22,7 @@ use Rattle.gl_query.specs.Alike.{expr_alike, agg_alike, item_alike, agg_item_ali
 use Rattle.gl_query.specs.Shapes.{QueryShape, slots_shape}
 use Rattle.gl_query.specs.Values.{HasKind, column_kind, kind_alone}
 use Rattle.gl_query.specs.Columns.{Pace, Once, Step, agg_column, arrives, frame_column, is_closing, item_column, pace_of}
-use Rattle.gl_query.specs.Accepted.{AreFrames, AreJoined, AreResultColumns, IsAcceptedOver, IsAgg, IsFrame, IsParted, IsPick, IsTotal, IsWindow, KeepPace, Scope, body_scope, can_measure, columns_under}
+use Rattle.gl_query.specs.Accepted.{AreFrames, AreJoined, AreResultColumns, IsAcceptedOver, IsAgg, IsFrame, IsParted, IsPick, IsTotal, IsWindow, KeepPace, Scope, body_scope, can_measure, columns_under, can_read, reach_under, schema_scope}
 use Rattle.gl_query.specs.Windows.{copies_of}
 use Rattle.gl_query.specs.Faults.{or_else, unless, agg_fault, are_distinct, aggs_fault, beside_fault, filter_fault, frame_fault, frames_fault, is_within, join_fault, key_fault, names_fault, pick_fault, query_fault, same_kinds, same_pace, slots_fault, whole_fault, window_fault, windows_fault}
 use Rattle.gl_query.specs.Laws.{FirstFaultsAreExact}
@@ -144,26 +144,26 @@ slots_decide (Some s) columns =
     (λ k. rule (is_within n 4096) _ ((1 ≤ n) × (n ≤ 4096)) (within n 4096) (is_within_of n 4096)))
     (λ h. record { known = h.0; some_groups = h.1.0; most_groups = h.1.1 }) (λ p. (p.known, (p.some_groups, p.most_groups)))
 
-frames_decide : (items : List FrameItemTree) (filter : Option ExprTree) (slots : Option Slots) (columns : List NamedColumn)
-    → Decides (or_else (slots_fault columns slots) (or_else (frames_fault columns [] items) (filter_fault columns filter)))
-    (AreFrames columns (map frame_item_alike items) (option_map expr_alike filter) (option_map slots_shape slots) (map (frame_column columns) (map frame_item_alike items)))
-frames_decide items filter slots columns =
+frames_decide : (items : List FrameItemTree) (filter : Option ExprTree) (slots : Option Slots) (columns reach : List NamedColumn)
+    → Decides (or_else (slots_fault columns slots) (or_else (frames_fault reach [] items) (filter_fault reach filter)))
+    (AreFrames columns reach (map frame_item_alike items) (option_map expr_alike filter) (option_map slots_shape slots) (map (frame_column reach) (map frame_item_alike items)))
+frames_decide items filter slots columns reach =
     let name : FrameItemTree → Name = λ i. i.name in
-    let Own : FrameItemTree → Type 0 = λ i. IsFrame columns (frame_alike i.frame) in
-    let out = map (frame_column columns) (map frame_item_alike items) in
+    let Own : FrameItemTree → Type 0 = λ i. IsFrame reach (frame_alike i.frame) in
+    let out = map (frame_column reach) (map frame_item_alike items) in
     change _
     (both (slots_fault columns slots) _ (slots_decide slots columns)
-    (λ p. both (frames_fault columns [] items) _
-    (named_decides name (λ (i : FrameItemTree). frame_fault columns i.frame i.name) Own (λ i. frame_decides i.frame columns i.name) [] items (lit≤ tt) no_names)
-    (λ n. filter_decides filter columns)))
+    (λ p. both (frames_fault reach [] items) _
+    (named_decides name (λ (i : FrameItemTree). frame_fault reach i.frame i.name) Own (λ i. frame_decides i.frame reach i.name) [] items (lit≤ tt) no_names)
+    (λ n. filter_decides filter reach)))
     (λ h. record {
       parted = h.0;
-      typed = typed_frames columns items h.1.0.each;
-      columns = named_columns name out items (frame_names columns items) h.1.0.most h.1.0.distinct;
+      typed = typed_frames reach items h.1.0.each;
+      columns = named_columns name out items (frame_names reach items) h.1.0.most h.1.0.distinct;
       filters = h.1.1;
     })
-    (λ a. let r = columns_named name out items (frame_names columns items) a.columns in
-    (a.parted, (record { each = frames_typed columns items a.typed; most = r.0; distinct = r.1 }, a.filters)))
+    (λ a. let r = columns_named name out items (frame_names reach items) a.columns in
+    (a.parted, (record { each = frames_typed reach items a.typed; most = r.0; distinct = r.1 }, a.filters)))
 
 -- ---- parts of queries
 
@@ -242,37 +242,36 @@ join_decides lefts rights slots columns at =
 -- ---- queries
 
 query_decides : (q : QueryTree) (scope : Scope) → IsScope scope → Decides (query_fault scope q) (IsAcceptedOver scope (query_alike q))
-query_decides (tree.Read name) scope s = test (has_stream scope.sources name.text) _
+query_decides (tree.Read name) scope s = test (can_read scope.sources name.text) _
 query_decides (tree.Rows pick filter source) scope s =
-    let columns = columns_under scope (query_alike source) in
+    let reach = reach_under scope (query_alike source) in
     change _
-    (both (query_fault scope source) _ (query_decides source scope s) (λ a. both (pick_fault columns pick) _ (pick_decides pick columns) (λ p. filter_decides filter columns)))
+    (both (query_fault scope source) _ (query_decides source scope s) (λ a. both (pick_fault reach pick) _ (pick_decides pick reach) (λ p. filter_decides filter reach)))
     (λ h. (h.0, record { picks = h.1.0; filters = h.1.1 })) (λ a. (a.0, (a.1.picks, a.1.filters)))
 query_decides (tree.Total aggs source) scope s =
-    let columns = columns_under scope (query_alike source) in
-    both (query_fault scope source) _ (query_decides source scope s) (λ a. total_decides aggs columns)
+    both (query_fault scope source) _ (query_decides source scope s) (λ a. total_decides aggs (reach_under scope (query_alike source)))
 query_decides (tree.Frames items filter slots source) scope s =
-    let columns = columns_under scope (query_alike source) in
-    both (query_fault scope source) _ (query_decides source scope s) (λ a. frames_decide items filter slots columns)
+    both (query_fault scope source) _ (query_decides source scope s)
+    (λ a. frames_decide items filter slots (columns_under scope (query_alike source)) (reach_under scope (query_alike source)))
 query_decides (tree.Each measure var source size advance body at) scope s =
     let columns = columns_under scope (query_alike source) in
-    let inside = body_scope var.text columns in
+    let inside = body_scope scope var.text columns in
     change _
     (both (query_fault scope source) _ (query_decides source scope s)
     (λ a. let r = real (query_alike source) scope s a in
     both (unless (can_measure measure scope (query_alike source)) _) _ (test (can_measure measure scope (query_alike source)) _)
     (λ t. both (window_fault measure size advance) _ (window_decides measure size advance)
-    (λ w. both (query_fault inside body) _ (query_decides body inside (body_is var.text columns r.result r.kinds)) (λ b. test (is_closing (query_alike body)) _)))))
+    (λ w. both (query_fault inside body) _ (query_decides body inside (body_is scope s var.text columns r.result r.kinds)) (λ b. test (is_closing (query_alike body)) _)))))
     (λ h. (h.0, h.1.1.0, h.1.1.1.0, h.1.1.1.1, h.1.0)) (λ a. (a.0, (a.4, (a.1, (a.2, a.3)))))
 query_decides (tree.PerGroup var source key groups body at) scope s =
     let columns = columns_under scope (query_alike source) in
-    let inside = body_scope var.text columns in
+    let inside = body_scope scope var.text columns in
     let n = groups.value in
     let behind = columns_under inside (query_alike body) in
     change _
     (both (query_fault scope source) _ (query_decides source scope s)
     (λ a. let r = real (query_alike source) scope s a in
-    let scoped = body_is var.text columns r.result r.kinds in
+    let scoped = body_is scope s var.text columns r.result r.kinds in
     both (unless (has_column columns key.text) _) _ (test (has_column columns key.text) _)
     (λ k. both (unless (is_within n 256) _) _ (rule (is_within n 256) _ ((1 ≤ n) × (n ≤ 256)) (within n 256) (is_within_of n 256))
     (λ g. both (query_fault inside body) _ (query_decides body inside scoped)
@@ -287,14 +286,14 @@ query_decides (tree.PerGroup var source key groups body at) scope s =
     (λ a. (a.0, (a.1.known, ((a.1.some_groups, a.1.most_groups), (a.2, (a.3, a.1.columns))))))
 query_decides (tree.Partition var source key groups size advance body at) scope s =
     let columns = columns_under scope (query_alike source) in
-    let inside = body_scope var.text columns in
+    let inside = body_scope scope var.text columns in
     let n = groups.value in
     let all = n * div_ceil size.value advance.value in
     let behind = columns_under inside (query_alike body) in
     change _
     (both (query_fault scope source) _ (query_decides source scope s)
     (λ a. let r = real (query_alike source) scope s a in
-    let scoped = body_is var.text columns r.result r.kinds in
+    let scoped = body_is scope s var.text columns r.result r.kinds in
     both (unless (has_column columns key.text) _) _ (test (has_column columns key.text) _)
     (λ k. both (unless (is_within n 256) _) _ (rule (is_within n 256) _ ((1 ≤ n) × (n ≤ 256)) (within n 256) (is_within_of n 256))
     (λ g. both (window_fault Tuples size advance) _ (window_decides Tuples size advance)
@@ -354,5 +353,5 @@ query_decides (tree.Concat l r at) scope s =
 
 pub exact : FirstFaultsAreExact
 exact schema s h =
-    let d = query_decides s.query (record { sources = schema.streams; timed = true }) (schema_is schema.streams h.streams) in
+    let d = query_decides s.query (schema_scope schema) (schema_is schema h) in
     (d.sound, d.complete)

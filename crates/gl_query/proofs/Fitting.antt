@@ -28,7 +28,7 @@ use Rattle.gl_query.specs.Shapes as shape
 use Rattle.gl_query.specs.Values.{CanApply, HasKind, IsLettersOf, column_number, kind_alone, kind_of, operand_place, value_of}
 use Rattle.gl_query.specs.Columns.{agg_column, agg_kind, frame_agg_kind, frame_column, frame_kind, item_column, picked_columns}
 use Rattle.gl_query.specs.Accepted.{IsAgg, IsFrame, IsFrameAgg, IsPick}
-use Rattle.gl_query.specs.Results.{agg_value, frame_agg_value, frame_row, frame_value, keeps, picked, total_row, values_of}
+use Rattle.gl_query.specs.Results.{Reach, agg_value, frame_agg_value, frame_row, frame_value, keeps, picked, total_row, values_of}
 use Rattle.gl_query.specs.Laws.{ResultsFit}
 use Rattle.gl_query.proofs.Holding.{IsKept, all_before, all_in_frame, results_hold}
 use Rattle.gl_query.proofs.OwnKinds.{operator_gives}
@@ -207,9 +207,10 @@ row_picked : (columns : List Column) (items : List ItemShape) (row : Row) → Al
 row_picked columns [] row h fits = tt
 row_picked columns (i ∷ items) row h fits = (value_below i.expr columns (kind_alone i.expr) row h.0 fits, row_picked columns items row h.1 fits)
 
-fit_picked : (columns : List Column) (pick : PickShape) (row : Row) → IsPick columns pick → IsRowOf columns row → IsRowOf (picked_columns columns pick) (picked columns pick row)
-fit_picked columns shape.All row h fits = fits
-fit_picked columns (shape.Items items) row h fits = row_picked columns items row h.typed fits
+fit_picked : (columns : List Column) (reach : Reach) (pick : PickShape) (row : Row) → IsPick reach.columns pick → IsRowOf columns row
+    → IsRowOf reach.columns (row ++ reach.words) → IsRowOf (picked_columns columns reach.columns pick) (picked reach pick row)
+fit_picked columns reach shape.All row h fits wide = fits
+fit_picked columns reach (shape.Items items) row h fits wide = row_picked reach.columns items (row ++ reach.words) h.typed wide
 
 fit_totals : (columns : List Column) (aggs : List AggItemShape) (rows : List Row) → AllByRecursion (λ (i : AggItemShape). IsAgg columns i.agg) aggs
     → AllByRecursion (IsRowOf columns) rows → IsRowOf (map (agg_column columns) aggs) (total_row columns aggs rows)
@@ -290,7 +291,7 @@ fits_columns [] (n ∷ ns) h = absurd h
 fits_columns (c ∷ cs) [] h = absurd h
 fits_columns (c ∷ cs) (n ∷ ns) h = (h.0, fits_columns cs ns h.1)
 
-fit_kept : IsKept IsRowOf
+pub fit_kept : IsKept IsRowOf
 fit_kept = record {
   picks = fit_picked;
   totals = fit_totals;

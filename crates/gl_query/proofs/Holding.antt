@@ -3,6 +3,7 @@ use Rattle.std.proofs.Common.{◌≡◌, ℕ, zero, suc, ◌-◌, ◌+◌, ◌*�
 use Rattle.std.specs.Prelude.{◌&&◌, IfSome, Option, None, Some, nat_le, IsTrue, bytes_eq, flat_map, not, option_and_then, remove, reverse, slice_get, slice_index}
 use Rattle.std.specs.List.{AllByRecursion, cons_option, range_with_len}
 use Rattle.std.proofs.lemmas.List.{reverse-append}
+use Rattle.gl_values.specs.declared.kind.Kind.{Kind}
 use Rattle.gl_values.specs.Lists.{Group, IsInterleaving, nothing, from_first, from_second, distinct, groups, keys_of, part, rows_with, slices}
 use Rattle.gl_values.specs.Partitions.{completed, completed_by, fulls, has_key, keyed, parts, short_slices}
 use Rattle.gl_values.specs.Results.{Row, Results, AreJoined, IsOfGroup, beside}
@@ -23,20 +24,20 @@ use Rattle.gl_schema.specs.declared.schema.Column.{Column}
 use Rattle.gl_schema.specs.Schemas.{has_column, kinds_of}
 use Rattle.gl_query.specs.declared.tree.Measure.{Measure}
 use Rattle.gl_query.specs.declared.tree.Measure.TheVariants.{Tuples, Time}
-use Rattle.gl_query.specs.Shapes.{AggItemShape, FrameItemShape, PickShape}
+use Rattle.gl_query.specs.Shapes.{AggItemShape, ExprShape, FrameItemShape, PickShape}
 use Rattle.gl_query.specs.Shapes as shape
 use Rattle.gl_query.specs.Values.{column_kind, column_number}
-use Rattle.gl_query.specs.Columns.{agg_column, but_key, columns_of, frame_column, picked_columns, source_columns, variable}
+use Rattle.gl_query.specs.Columns.{agg_column, but_key, columns_of, frame_column, picked_columns, source_columns, colon, inside, marked, parameters_in, reach_of}
 use Rattle.gl_query.specs.Accepted.{IsAgg, IsFrame, IsPick}
-use Rattle.gl_query.specs.Results.{IsResultIn, beside_last, columns_in, frame_row, join_by, keeps, kept, only, picked, streams_of, ticks_in, times_in, total_row}
+use Rattle.gl_query.specs.Results.{IsResultIn, beside_last, columns_in, frame_row, join_by, kept, only, picked, streams_of, ticks_in, times_in, total_row, Env, Reach, is_kept, reach_in, reached_row, widened, words_in}
 use Rattle.gl_query.specs.Windows.{parts_of}
 use Rattle.gl_query.specs.Laws.{HoldsIn, HoldsOfResults}
 use Rattle.gl_query.proofs.Arriving.{arrived, as_union}
 
 -- each step keeps it
 pub record IsKept (P : List Column → Row → Type 0) : Type 0 where
-  pub picks : (columns : List Column) (pick : PickShape) (row : Row) → IsPick columns pick → P columns row
-      → P (picked_columns columns pick) (picked columns pick row)
+  pub picks : (columns : List Column) (reach : Reach) (pick : PickShape) (row : Row) → IsPick reach.columns pick → P columns row
+      → P reach.columns (row ++ reach.words) → P (picked_columns columns reach.columns pick) (picked reach pick row)
   pub totals : (columns : List Column) (aggs : List AggItemShape) (rows : List Row) → AllByRecursion (λ (i : AggItemShape). IsAgg columns i.agg) aggs
       → AllByRecursion (P columns) rows → P (map (agg_column columns) aggs) (total_row columns aggs rows)
   pub frames : (columns : List Column) (items : List FrameItemShape) (rows : List Row) → AllByRecursion (λ (i : FrameItemShape). IsFrame columns i.frame) items
@@ -304,65 +305,101 @@ all_under : (P Q : Row → Type 0) (f : Row → Row) → ((row : Row) → P row 
 all_under P Q f g [] h = tt
 all_under P Q f g (row ∷ rows) h = (g row h.0, all_under P Q f g rows h.1)
 
-holds_within : (P : List Column → Row → Type 0) (var : List ℕ) (columns : List Column) (rows : List Row) → AllByRecursion (P columns) rows → HoldsIn P (only var columns rows)
-holds_within P var columns rows h name = by_cases (bytes_eq name var) (λ e. rw e h) (λ e. rw e tt)
+pub holds_within : (P : List Column → Row → Type 0) (env : Env) → HoldsIn P env → (var : List ℕ) (columns : List Column) (rows : List Row) → AllByRecursion (P columns) rows
+    → HoldsIn P (only env var columns rows)
+holds_within P env h var columns rows k = record {
+  rows = λ name. by_cases (bytes_eq name colon) (λ e. rw e (h.words, tt)) (λ e. rw e (by_cases (bytes_eq name var) (λ f. rw f k) (λ f. rw f tt)));
+  words = h.words;
+}
+
+-- ---- the parameters behind the columns
+
+marked_same : (parameters : List Column) → kinds_of (map marked parameters) ≡ kinds_of parameters
+marked_same [] = refl
+marked_same (p ∷ parameters) = ap (λ (l : List Kind). p.kind ∷ l) (marked_same parameters)
+
+-- a row with the words of the parameters behind it
+pub reached : (P : List Column → Row → Type 0) → IsKept P → (env : Env) → HoldsIn P env → (columns : List Column) (row : Row) → P columns row
+    → P (reach_of (streams_of env) columns) (row ++ words_in env)
+reached P k env h columns row p =
+    let parameters = parameters_in (streams_of env) in
+    k.joined columns (map marked parameters) row (words_in env) p
+    (k.alike (map marked parameters) parameters (words_in env) (marked_same parameters) h.words)
+
+all_reached : (P : List Column → Row → Type 0) → IsKept P → (env : Env) → HoldsIn P env → (columns : List Column) (rows : List Row) → AllByRecursion (P columns) rows
+    → AllByRecursion (P (reach_of (streams_of env) columns)) (widened (words_in env) rows)
+all_reached P k env h columns rows all =
+    all_under (P columns) (P (reach_of (streams_of env) columns)) (λ (row : Row). row ++ words_in env) (reached P k env h columns) rows all
+
+all_kept : (P : List Column → Row → Type 0) (columns : List Column) (reach : Reach) (condition : Option ExprShape) (rows : List Row) → AllByRecursion (P columns) rows
+    → AllByRecursion (P columns) (kept reach condition rows)
+all_kept P columns reach condition rows h = all_filter (P columns) (is_kept reach condition) rows h
 
 pub results_hold : (P : List Column → Row → Type 0) → IsKept P → HoldsOfResults P
-results_hold P k (shape.Read name) env timed out spill a h r = subst (AllByRecursion (P (source_columns (streams_of env) name))) (sym r.rows) (h name)
+results_hold P k (shape.Read name) env timed out spill a h r = subst (AllByRecursion (P (source_columns (streams_of env) name))) (sym r.rows) (h.rows name)
 results_hold P k (shape.Rows pick condition source) env timed out spill a h r =
     let columns = columns_in env source in
+    let reach = reach_in env source in
     let rows = results_hold P k source env timed r.rows spill a.0 h r.of_source in
-    subst (AllByRecursion (P (picked_columns columns pick))) (sym r.changed)
-    (all_under (P columns) (P (picked_columns columns pick)) (picked columns pick) (λ row p. k.picks columns pick row a.1.picks p)
-    (kept columns condition r.rows) (all_filter (P columns) (keeps columns condition) r.rows rows))
+    subst (AllByRecursion (P (picked_columns columns reach.columns pick))) (sym r.changed)
+    (all_under (P columns) (P (picked_columns columns reach.columns pick)) (picked reach pick)
+    (λ row p. k.picks columns reach pick row a.1.picks p (reached P k env h columns row p))
+    (kept reach condition r.rows) (all_kept P columns reach condition r.rows rows))
 results_hold P k (shape.Total aggs source) env timed out spill a h r =
     let columns = columns_in env source in
+    let reach = reach_in env source in
     let rows = results_hold P k source env timed r.rows spill a.0 h r.of_source in
-    subst (AllByRecursion (P (map (agg_column columns) aggs))) (sym r.changed) (k.totals columns aggs r.rows a.1.typed rows, tt)
+    subst (AllByRecursion (P (map (agg_column reach.columns) aggs))) (sym r.changed)
+    (k.totals reach.columns aggs (widened reach.words r.rows) a.1.typed (all_reached P k env h columns r.rows rows), tt)
 results_hold P k (shape.Frames items condition None source) env timed out spill a h r =
     let columns = columns_in env source in
+    let reach = reach_in env source in
+    let Whole : Row → Type 0 = P (map (frame_column reach.columns) items) in
     let rows = results_hold P k source env timed r.rows spill a.0 h r.of_source in
-    subst (AllByRecursion (P (map (frame_column columns) items))) (sym r.changed)
-    (all_each (P (map (frame_column columns) items)) (P columns) (λ ys. Some (frame_row columns items ys)) (λ ys held. k.frames columns items ys a.1.typed held) []
-    (kept columns condition r.rows) tt (all_filter (P columns) (keeps columns condition) r.rows rows))
+    subst (AllByRecursion Whole) (sym r.changed)
+    (all_each Whole (P columns) (λ ys. Some (reached_row reach items ys))
+    (λ ys held. k.frames reach.columns items (widened reach.words ys) a.1.typed (all_reached P k env h columns ys held)) []
+    (kept reach condition r.rows) tt (all_kept P columns reach condition r.rows rows))
 results_hold P k (shape.Frames items condition (Some s) source) env timed out spill a h r =
     let columns = columns_in env source in
-    let Whole : Row → Type 0 = P (map (frame_column columns) items) in
+    let reach = reach_in env source in
+    let Whole : Row → Type 0 = P (map (frame_column reach.columns) items) in
     let key_of : Row → ℕ = λ row. slice_index row (column_number columns s.key) in
     let rows = results_hold P k source env timed r.rows r.source_spill a.0 h r.of_source in
     subst (AllByRecursion Whole) (sym r.changed)
-    (all_each Whole (P columns) (by_key s.groups key_of (frame_row columns items))
-    (λ ys held. all_by_key Whole (P columns) s.groups key_of (frame_row columns items) (λ zs own. k.frames columns items zs a.1.typed own) ys (row_before 0 ys) held) []
-    (kept columns condition r.rows) tt (all_filter (P columns) (keeps columns condition) r.rows rows))
+    (all_each Whole (P columns) (by_key s.groups key_of (reached_row reach items))
+    (λ ys held. all_by_key Whole (P columns) s.groups key_of (reached_row reach items)
+    (λ zs own. k.frames reach.columns items (widened reach.words zs) a.1.typed (all_reached P k env h columns zs own)) ys (row_before 0 ys) held) []
+    (kept reach condition r.rows) tt (all_kept P columns reach condition r.rows rows))
 results_hold P k (shape.Each measure var source size advance body) env timed out spill a h r =
     let columns = columns_in env source in
     let rows = results_hold P k source env timed r.rows r.source_spill a.0 h r.of_source in
-    all_joined (P (columns_of (variable var columns) body)) (AllByRecursion (P columns)) (λ part. IsResultIn body (only var columns part))
-    (λ part o s p is. results_hold P k body (only var columns part) false o s a.2 (holds_within P var columns part p) is)
+    all_joined (P (columns_of (inside (streams_of env) var columns) body)) (AllByRecursion (P columns)) (λ part. IsResultIn body (only env var columns part))
+    (λ part o s p is. results_hold P k body (only env var columns part) false o s a.2 (holds_within P env h var columns part p) is)
     (parts_of measure size advance (times_in env source) (ticks_in env source) r.rows) out r.parts_spill
     (all_parts (P columns) measure size advance (times_in env source) (ticks_in env source) r.rows rows) r.of_parts
 results_hold P k (shape.PerGroup var source key n body) env timed out spill a h r =
     let columns = columns_in env source in
-    let more = columns_of (variable var columns) body in
+    let more = columns_of (inside (streams_of env) var columns) body in
     let key_of : Row → ℕ = λ row. slice_index row (column_number columns key) in
     let rows = results_hold P k source env timed r.rows r.source_spill a.0 h r.of_source in
     let Whole : Row → Type 0 = P (record { name = key; kind = column_kind columns key } ∷ more) in
-    all_joined Whole (IsGroupOf (P columns) key_of) (IsOfGroup (λ part. IsResultIn body (only var columns part)))
+    all_joined Whole (IsGroupOf (P columns) key_of) (IsOfGroup (λ part. IsResultIn body (only env var columns part)))
     (λ (g : Group Row) o s p is.
-    let inner = results_hold P k body (only var columns g.rows) false is.rows s a.2 (holds_within P var columns g.rows p.rows) is.of_source in
+    let inner = results_hold P k body (only env var columns g.rows) false is.rows s a.2 (holds_within P env h var columns g.rows p.rows) is.of_source in
     let one : (rest : Row) → P more rest → Whole (g.key ∷ rest) =
     λ rest held. subst (λ (first : ℕ). Whole (first ∷ rest)) p.key.is (k.keyed columns more key p.key.row rest a.1.known p.key.holds held) in
     subst (AllByRecursion Whole) (sym is.changed) (all_under (P more) Whole (λ row. g.key ∷ row) one is.rows inner))
     (groups n key_of r.rows) out r.parts_spill (all_groups (P columns) n key_of r.rows rows) r.of_parts
 results_hold P k (shape.Partition var source key n size advance body) env timed out spill a h r =
     let columns = columns_in env source in
-    let more = columns_of (variable var columns) body in
+    let more = columns_of (inside (streams_of env) var columns) body in
     let key_of : Row → ℕ = λ row. slice_index row (column_number columns key) in
     let rows = results_hold P k source env timed r.rows r.source_spill a.0 h r.of_source in
     let Whole : Row → Type 0 = P (record { name = key; kind = column_kind columns key } ∷ more) in
-    all_joined Whole (IsGroupOf (P columns) key_of) (IsOfGroup (λ part. IsResultIn body (only var columns part)))
+    all_joined Whole (IsGroupOf (P columns) key_of) (IsOfGroup (λ part. IsResultIn body (only env var columns part)))
     (λ (g : Group Row) o s p is.
-    let inner = results_hold P k body (only var columns g.rows) false is.rows s a.2 (holds_within P var columns g.rows p.rows) is.of_source in
+    let inner = results_hold P k body (only env var columns g.rows) false is.rows s a.2 (holds_within P env h var columns g.rows p.rows) is.of_source in
     let one : (rest : Row) → P more rest → Whole (g.key ∷ rest) =
     λ rest held. subst (λ (first : ℕ). Whole (first ∷ rest)) p.key.is (k.keyed columns more key p.key.row rest a.1.grouping.known p.key.holds held) in
     subst (AllByRecursion Whole) (sym is.changed) (all_under (P more) Whole (λ row. g.key ∷ row) one is.rows inner))

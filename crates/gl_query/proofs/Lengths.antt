@@ -8,15 +8,16 @@ use Rattle.gl_schema.specs.Schemas.{kinds_of}
 use Rattle.gl_query.specs.Shapes.{AggItemShape, FrameItemShape, ItemShape, PickShape}
 use Rattle.gl_query.specs.Shapes as shape
 use Rattle.gl_query.specs.Columns.{agg_column, frame_column, item_column, picked_columns}
-use Rattle.gl_query.specs.Results.{agg_value, frame_row, frame_value, picked, total_row}
+use Rattle.gl_query.specs.Results.{Reach, agg_value, frame_row, frame_value, picked, total_row}
 use Rattle.gl_query.specs.Values.{kind_alone, value_of}
 use Rattle.gl_query.specs.Laws.{IsLongAs, ResultsAreLong}
 use Rattle.gl_query.proofs.Holding.{IsKept, results_hold}
 
-long_picked : (columns : List Column) (pick : PickShape) (row : Row) → IsLongAs columns row → IsLongAs (picked_columns columns pick) (picked columns pick row)
-long_picked columns shape.All row h = h
-long_picked columns (shape.Items items) row h =
-    length_map (λ (i : ItemShape). value_of columns (kind_alone i.expr) i.expr row) items ∙ sym (length_map (item_column columns) items)
+long_picked : (columns : List Column) (reach : Reach) (pick : PickShape) (row : Row) → IsLongAs columns row
+    → IsLongAs (picked_columns columns reach.columns pick) (picked reach pick row)
+long_picked columns reach shape.All row h = h
+long_picked columns reach (shape.Items items) row h =
+    length_map (λ (i : ItemShape). value_of reach.columns (kind_alone i.expr) i.expr (row ++ reach.words)) items ∙ sym (length_map (item_column reach.columns) items)
 
 long_totals : (columns : List Column) (aggs : List AggItemShape) (rows : List Row) → IsLongAs (map (agg_column columns) aggs) (total_row columns aggs rows)
 long_totals columns aggs rows =
@@ -44,7 +45,7 @@ long_alike columns others row e h =
 
 long_kept : IsKept IsLongAs
 long_kept = record {
-  picks = λ columns pick row p h. long_picked columns pick row h;
+  picks = λ columns reach pick row p h w. long_picked columns reach pick row h;
   totals = λ columns aggs rows p h. long_totals columns aggs rows;
   frames = λ columns items rows p h. long_frames columns items rows;
   keyed = λ columns more key row rest known h k. ap suc k;

@@ -1,6 +1,6 @@
 -- The columns of an accepted query are columns of a result: at most 32, no two of one name, and of kinds that are kinds.
 use Rattle.std.proofs.Common.{◌≡◌, ℕ, zero, suc, ◌≤◌, Bool, true, false, List, [], ◌∷◌, length, map, sym, subst, arith, lit≤, length-append}
-use Rattle.std.specs.Prelude.{◌||◌, IfSome, Option, None, Some, bytes_eq, remove, slice_get, unwrap_or, option_map}
+use Rattle.std.specs.Prelude.{◌||◌, IfSome, Option, None, Some, bytes_eq, remove, slice_get, unwrap_or, option_map, ◌&&◌, not}
 use Rattle.std.specs.List.{AllByRecursion, IsDistinct, list_any}
 use Rattle.gl_values.specs.declared.kind.Kind.{Kind}
 use Rattle.gl_values.specs.declared.kind.Kind.TheVariants.{Unsigned}
@@ -14,13 +14,14 @@ use Rattle.gl_bits.proofs.Bools.{by_cases}
 use Rattle.gl_values.proofs.KindLemmas.{bit_is_kind, cast_kind}
 use Rattle.gl_schema.specs.declared.schema.Column.{Column}
 use Rattle.gl_schema.specs.declared.schema.Stream.{Stream}
+use Rattle.gl_schema.specs.declared.schema.Schema.{Schema}
 use Rattle.gl_schema.proofs.KindTable.{written_is}
-use Rattle.gl_schema.specs.Schemas.{IsColumn, IsStream, has_stream}
+use Rattle.gl_schema.specs.Schemas.{IsColumn, IsSchema, IsStream, has_stream}
 use Rattle.gl_query.specs.Shapes.{AggItemShape, AggShape, ExprShape, FrameAggShape, FrameItemShape, FrameShape, ItemShape, QueryShape}
 use Rattle.gl_query.specs.Shapes as shape
 use Rattle.gl_query.specs.Values.{HasKind, begins_with_text, column_number, has_minus, kind_alone, kind_of, loose_kind, operand_place, operator_kind, own_kind}
-use Rattle.gl_query.specs.Columns.{agg_column, agg_kind, but_key, frame_agg_kind, frame_column, frame_kind, item_column, source_columns}
-use Rattle.gl_query.specs.Accepted.{AreResultColumns, IsAcceptedOver, IsAgg, IsFrame, IsFrameAgg, Scope, body_scope, columns_under}
+use Rattle.gl_query.specs.Columns.{agg_column, agg_kind, but_key, frame_agg_kind, frame_column, frame_kind, item_column, source_columns, colon, marked, parameters_in, reach_of}
+use Rattle.gl_query.specs.Accepted.{AreResultColumns, IsAcceptedOver, IsAgg, IsFrame, IsFrameAgg, Scope, body_scope, columns_under, can_read, reach_under, schema_scope}
 use Rattle.gl_query.specs.Sizes.{HasFrame, HasItems}
 use Rattle.gl_query.specs.Laws.{AcceptedHaveRealColumns, AreKinds}
 
@@ -36,11 +37,23 @@ no_names = tt
 no_columns : AreResultColumns []
 no_columns = record { most = lit≤ tt; distinct = no_names }
 
-pub body_is : (var : List ℕ) (columns : List Column) → AreResultColumns columns → AreKinds columns → IsScope (body_scope var columns)
-body_is var columns h k = record {
-  columns = λ name. by_cases (bytes_eq name var) (λ e. rw e h) (λ e. rw e no_columns);
-  kinds = λ name. by_cases (bytes_eq name var) (λ e. rw e k) (λ e. rw e tt);
+pub body_is : (scope : Scope) → IsScope scope → (var : List ℕ) (columns : List Column) → AreResultColumns columns → AreKinds columns → IsScope (body_scope scope var columns)
+body_is scope s var columns h k = record {
+  columns = λ name. by_cases (bytes_eq name colon) (λ e. rw e (s.columns colon))
+      (λ e. rw e (by_cases (bytes_eq name var) (λ f. rw f h) (λ f. rw f no_columns)));
+  kinds = λ name. by_cases (bytes_eq name colon) (λ e. rw e (s.kinds colon))
+      (λ e. rw e (by_cases (bytes_eq name var) (λ f. rw f k) (λ f. rw f tt)));
 }
+
+marked_kinds : (parameters : List Column) → AreKinds parameters → AreKinds (map marked parameters)
+marked_kinds [] h = tt
+marked_kinds (p ∷ parameters) h = (h.0, marked_kinds parameters h.1)
+
+-- what expressions may name has kinds
+pub reach_kinds : (scope : Scope) → IsScope scope → (columns : List Column) → AreKinds columns → AreKinds (reach_of scope.sources columns)
+reach_kinds scope s columns h =
+    let parameters = parameters_in scope.sources in
+    all_append (λ (c : Column). IsKind c.kind) columns (map marked parameters) h (marked_kinds parameters (s.kinds colon))
 
 -- ---- kinds
 
@@ -165,25 +178,25 @@ real (shape.Read name) scope s a = record { result = s.columns name; kinds = s.k
 real (shape.Rows shape.All filter source) scope s a = real source scope s a.0
 real (shape.Rows (shape.Items items) filter source) scope s a =
     let r = real source scope s a.0 in
-    record { result = a.1.picks.result; kinds = items_are items (columns_under scope source) r.kinds a.1.picks.typed }
+    record { result = a.1.picks.result; kinds = items_are items (reach_under scope source) (reach_kinds scope s (columns_under scope source) r.kinds) a.1.picks.typed }
 real (shape.Total aggs source) scope s a =
     let r = real source scope s a.0 in
-    record { result = a.1.columns; kinds = aggs_are aggs (columns_under scope source) r.kinds a.1.typed }
+    record { result = a.1.columns; kinds = aggs_are aggs (reach_under scope source) (reach_kinds scope s (columns_under scope source) r.kinds) a.1.typed }
 real (shape.Frames items filter slots source) scope s a =
     let r = real source scope s a.0 in
-    record { result = a.1.columns; kinds = frames_are items (columns_under scope source) r.kinds a.1.typed }
+    record { result = a.1.columns; kinds = frames_are items (reach_under scope source) (reach_kinds scope s (columns_under scope source) r.kinds) a.1.typed }
 real (shape.Each measure var source size advance body) scope s a =
     let r = real source scope s a.0 in
-    real body (body_scope var (columns_under scope source)) (body_is var (columns_under scope source) r.result r.kinds) a.2
+    real body (body_scope scope var (columns_under scope source)) (body_is scope s var (columns_under scope source) r.result r.kinds) a.2
 real (shape.PerGroup var source key groups body) scope s a =
     let columns = columns_under scope source in
     let r = real source scope s a.0 in
-    let inner = real body (body_scope var columns) (body_is var columns r.result r.kinds) a.2 in
+    let inner = real body (body_scope scope var columns) (body_is scope s var columns r.result r.kinds) a.2 in
     record { result = a.1.columns; kinds = (kind_at columns (column_number columns key) r.kinds, inner.kinds) }
 real (shape.Partition var source key groups size advance body) scope s a =
     let columns = columns_under scope source in
     let r = real source scope s a.0 in
-    let inner = real body (body_scope var columns) (body_is var columns r.result r.kinds) a.2 in
+    let inner = real body (body_scope scope var columns) (body_is scope s var columns r.result r.kinds) a.2 in
     record { result = a.1.grouping.columns; kinds = (kind_at columns (column_number columns key) r.kinds, inner.kinds) }
 real (shape.Union l r) scope s a = real l scope s a.0
 real (shape.ByArrival l r) scope s a = real l scope s a.0
@@ -218,32 +231,45 @@ stream_columns (s ∷ streams) name h =
     (λ e. rw e (record { result = record { most = h.0.most; distinct = h.0.distinct }; kinds = column_kinds s.columns h.0.columns }))
     (λ e. rw e (stream_columns streams name h.1))
 
-pub schema_is : (streams : List Stream) → AreStreams streams → IsScope (record { sources = streams; timed = true })
-schema_is streams h = record {
-  columns = λ name. (stream_columns streams name h).result;
-  kinds = λ name. (stream_columns streams name h).kinds;
+pub schema_is : (schema : Schema) → IsSchema schema → IsScope (schema_scope schema)
+schema_is schema h = record {
+  columns = λ name. by_cases (bytes_eq name colon) (λ e. rw e (record { most = h.declared.most; distinct = h.declared.distinct }))
+      (λ e. rw e (stream_columns schema.streams name h.streams).result);
+  kinds = λ name. by_cases (bytes_eq name colon) (λ e. rw e (column_kinds schema.parameters h.declared.each))
+      (λ e. rw e (stream_columns schema.streams name h.streams).kinds);
 }
 
 -- ---- at least one column
 
--- each source has a column
+-- each source that can be read has a column
 HasSome : Scope → Type 0
-HasSome scope = (name : List ℕ) → has_stream scope.sources name ≡ true → 1 ≤ length (source_columns scope.sources name)
+HasSome scope = (name : List ℕ) → can_read scope.sources name ≡ true → 1 ≤ length (source_columns scope.sources name)
 
-body_some : (var : List ℕ) (columns : List Column) → 1 ≤ length columns → HasSome (body_scope var columns)
-unfolding HasSome has_stream
-body_some var columns h name t =
-    by_cases (bytes_eq name var) (λ e. rw e h) (λ e. absurd (not_true_false (subst (λ (b : Bool). (b || false) ≡ true) e t)))
-  where
-    not_true_false : false ≡ true → ⊥
-    not_true_false e = cc
+not_true_false : false ≡ true → ⊥
+not_true_false e = cc
 
-streams_some : (streams : List Stream) → AreStreams streams → HasSome (record { sources = streams; timed = true })
+body_some : (scope : Scope) (var : List ℕ) (columns : List Column) → 1 ≤ length columns → HasSome (body_scope scope var columns)
 unfolding HasSome has_stream
+body_some scope var columns h name t =
+    by_cases (bytes_eq name colon)
+    (λ e. absurd (not_true_false (subst (λ (b : Bool). (not b && (b || (bytes_eq name var || false))) ≡ true) e t)))
+    (λ e. let u : (bytes_eq name var || false) ≡ true = subst (λ (b : Bool). (not b && (b || (bytes_eq name var || false))) ≡ true) e t in
+    rw e (by_cases (bytes_eq name var) (λ f. rw f h) (λ f. absurd (not_true_false (subst (λ (b : Bool). (b || false) ≡ true) f u)))))
+
+streams_some : (streams : List Stream) → AreStreams streams → (name : List ℕ) → has_stream streams name ≡ true → 1 ≤ length (source_columns streams name)
+unfolding has_stream
 streams_some [] h name t = absurd (cc)
 streams_some (s ∷ streams) h name t =
     by_cases (bytes_eq name s.name) (λ e. rw e h.0.some')
     (λ e. rw e (streams_some streams h.1 name (subst (λ (b : Bool). (b || list_any (λ (x : Stream). bytes_eq name x.name) streams) ≡ true) e t)))
+
+schema_some : (schema : Schema) → AreStreams schema.streams → HasSome (schema_scope schema)
+unfolding HasSome has_stream
+schema_some schema h name t =
+    let among : Bool = list_any (λ (x : Stream). bytes_eq name x.name) schema.streams in
+    by_cases (bytes_eq name colon)
+    (λ e. absurd (not_true_false (subst (λ (b : Bool). (not b && (b || among)) ≡ true) e t)))
+    (λ e. rw e (streams_some schema.streams h name (subst (λ (b : Bool). (not b && (b || among)) ≡ true) e t)))
 
 some_frame : (columns : List Column) (items : List FrameItemShape) → HasFrame items → 1 ≤ length (map (frame_column columns) items)
 some_frame columns [] h = absurd (cc)
@@ -254,11 +280,11 @@ unfolding HasSome
 some (shape.Read name) scope s i a = s name a
 some (shape.Rows shape.All filter source) scope s i a = some source scope s i.0 a.0
 some (shape.Rows (shape.Items items) filter source) scope s i a =
-    subst (λ (k : ℕ). 1 ≤ k) (sym (length_map (item_column (columns_under scope source)) items)) i.1
-some (shape.Total aggs source) scope s i a = subst (λ (k : ℕ). 1 ≤ k) (sym (length_map (agg_column (columns_under scope source)) aggs)) i.1
-some (shape.Frames items filter slots source) scope s i a = some_frame (columns_under scope source) items i.1
+    subst (λ (k : ℕ). 1 ≤ k) (sym (length_map (item_column (reach_under scope source)) items)) i.1
+some (shape.Total aggs source) scope s i a = subst (λ (k : ℕ). 1 ≤ k) (sym (length_map (agg_column (reach_under scope source)) aggs)) i.1
+some (shape.Frames items filter slots source) scope s i a = some_frame (reach_under scope source) items i.1
 some (shape.Each measure var source size advance body) scope s i a =
-    some body (body_scope var (columns_under scope source)) (body_some var (columns_under scope source) (some source scope s i.0 a.0)) i.1 a.2
+    some body (body_scope scope var (columns_under scope source)) (body_some scope var (columns_under scope source) (some source scope s i.0 a.0)) i.1 a.2
 some (shape.PerGroup var source key groups body) scope s i a = omega arith
 some (shape.Partition var source key groups size advance body) scope s i a = omega arith
 some (shape.Union l r) scope s i a = some l scope s i.0 a.0
@@ -274,9 +300,9 @@ some (shape.Concat l r) scope s i a =
 
 pub real_columns : AcceptedHaveRealColumns
 real_columns schema q s a =
-    let r = real q (record { sources = schema.streams; timed = true }) (schema_is schema.streams s.streams) a in
+    let r = real q (schema_scope schema) (schema_is schema s) a in
     record {
-      some' = λ i. some q (record { sources = schema.streams; timed = true }) (streams_some schema.streams s.streams) i a;
+      some' = λ i. some q (schema_scope schema) (schema_some schema s.streams) i a;
       result = r.result;
       kinds = r.kinds;
     }

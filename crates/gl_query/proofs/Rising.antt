@@ -16,8 +16,9 @@ use Rattle.gl_schema.specs.declared.schema.Column.{Column}
 use Rattle.gl_schema.specs.declared.schema.Stream.{Stream}
 use Rattle.gl_schema.specs.Beats.{HavePlaces, Inputs}
 use Rattle.gl_schema.specs.Beats as beats
+use Rattle.gl_query.specs.Columns.{colon, parameters_in}
 use Rattle.gl_query.specs.Laws.{ArrivalsNeverFall, AsOfIsRowForRow, PlacesNeverFall, SourcesNeverFall}
-use Rattle.gl_query.specs.Results.{ArrivesIn, Env, columns_in, frame_row, join_by, keeps, numbered, only, picked, placed_rows_of}
+use Rattle.gl_query.specs.Results.{ArrivesIn, Env, columns_in, is_kept, join_by, numbered, parameter_source, picked, placed_rows_of, reach_in, reached_row, streams_of, variable_source, words_in}
 use Rattle.gl_query.specs.Shapes.{QueryShape}
 use Rattle.gl_query.specs.Shapes as shape
 use Rattle.gl_query.specs.Values.{column_number}
@@ -51,16 +52,22 @@ counting_never_falls : (a n : ℕ) → beats.NeverFall (range_with_len a n)
 counting_never_falls a zero = tt
 counting_never_falls a (suc n) = (counted_from a (a + 1) n (omega arith), counting_never_falls (a + 1) n)
 
-only_never_falls : (var : List ℕ) (columns : List Column) (rows : List Row) → PlacesNeverFall (only var columns rows)
-only_never_falls var columns rows name =
+variable_never_falls : (var : List ℕ) (columns : List Column) (rows : List Row) → PlacesNeverFall (variable_source var columns rows ∷ [])
+variable_never_falls var columns rows name =
     by_cases (bytes_eq name var)
     (λ e. rw e (at_places_never_fall rows (range_with_len 0 (length rows)) (length-range_with_len 0 (length rows)) (counting_never_falls 0 (length rows))))
     (λ e. rw e tt)
 
+-- the one row of the parameters stands before none
+words_never_fall : (parameters : List Column) (words : Row) (env : Env) → PlacesNeverFall env → PlacesNeverFall (parameter_source parameters words ∷ env)
+words_never_fall parameters words env h name = by_cases (bytes_eq name colon) (λ e. rw e (tt, tt)) (λ e. rw e (h name))
+
 pub sources_never_fall : SourcesNeverFall
 sources_never_fall = record {
-  of_streams = λ schema inputs h name. numbered_never_fall 0 schema.streams inputs h name;
-  of_bodies = only_never_falls;
+  of_streams = λ schema inputs h.
+      words_never_fall schema.parameters inputs.sets (numbered 0 schema.streams inputs) (numbered_never_fall 0 schema.streams inputs h);
+  of_bodies = λ env var columns rows.
+      words_never_fall (parameters_in (streams_of env)) (words_in env) (variable_source var columns rows ∷ []) (variable_never_falls var columns rows);
 }
 
 -- ---- results
@@ -71,22 +78,25 @@ same_places xs ys e h = subst (λ (l : List (Placed Row)). NeverFall l) (sym e) 
 pub arrivals_never_fall : (q : QueryShape) (env : Env) (out : List (Placed Row)) (spill : Bool) → PlacesNeverFall env → ArrivesIn q env out spill → NeverFall out
 arrivals_never_fall (shape.Read name) env out spill h a = same_places (placed_rows_of env name) out a.rows (h name)
 arrivals_never_fall (shape.Rows pick filter source) env out spill h a =
-    let keep = keeps (columns_in env source) filter in
+    let reach = reach_in env source in
+    let keep = is_kept reach filter in
     let rising = arrivals_never_fall source env a.rows spill h a.of_source in
     same_places _ out a.changed
-    (mapped_never_falls (picked (columns_in env source) pick) (kept_at keep a.rows) (kept_never_falls keep a.rows rising))
+    (mapped_never_falls (picked reach pick) (kept_at keep a.rows) (kept_never_falls keep a.rows rising))
 arrivals_never_fall (shape.Total aggs source) env out spill h a = absurd a
 arrivals_never_fall (shape.Frames items filter None source) env out spill h a =
-    let keep = keeps (columns_in env source) filter in
+    let reach = reach_in env source in
+    let keep = is_kept reach filter in
     let rising = arrivals_never_fall source env a.rows spill h a.of_source in
     same_places _ out a.changed
-    (each_never_falls (λ seen. Some (frame_row (columns_in env source) items seen)) [] (kept_at keep a.rows) (kept_never_falls keep a.rows rising))
+    (each_never_falls (λ seen. Some (reached_row reach items seen)) [] (kept_at keep a.rows) (kept_never_falls keep a.rows rising))
 arrivals_never_fall (shape.Frames items filter (Some s) source) env out spill h a =
-    let keep = keeps (columns_in env source) filter in
+    let reach = reach_in env source in
+    let keep = is_kept reach filter in
     let key_of : Row → ℕ = λ row. slice_index row (column_number (columns_in env source) s.key) in
     let rising = arrivals_never_fall source env a.rows a.source_spill h a.of_source in
     same_places _ out a.changed
-    (each_never_falls (by_key s.groups key_of (frame_row (columns_in env source) items)) [] (kept_at keep a.rows) (kept_never_falls keep a.rows rising))
+    (each_never_falls (by_key s.groups key_of (reached_row reach items)) [] (kept_at keep a.rows) (kept_never_falls keep a.rows rising))
 arrivals_never_fall (shape.Each measure var source size advance body) env out spill h a = absurd a
 arrivals_never_fall (shape.PerGroup var source key n body) env out spill h a = absurd a
 arrivals_never_fall (shape.Partition var source key n size advance body) env out spill h a = absurd a

@@ -10,9 +10,9 @@ use Rattle.gl_bits.proofs.Bools.{by_cases, neither_parts}
 use Rattle.gl_schema.specs.declared.schema.Stream.{Stream}
 use Rattle.gl_schema.specs.Beats.{Inputs}
 use Rattle.gl_query.specs.declared.tree.Measure.TheVariants.{Tuples, Time}
-use Rattle.gl_query.specs.Columns.{columns_of}
+use Rattle.gl_query.specs.Columns.{colon, columns_of, parameter_stream, parameters_in, reach_of}
 use Rattle.gl_query.specs.Laws.{ResultsGoByRows}
-use Rattle.gl_query.specs.Results.{Arrivals, ArrivesIn, Env, IsArrival, IsAsOf, IsByArrival, IsChangedInPlace, IsFramed, IsFramedInPlace, IsResultIn, IsWithoutPlaces, env_of, join_by, keeps, kept, numbered, only, picked, placed_rows_of, rows_of, streams_of, total_row}
+use Rattle.gl_query.specs.Results.{Arrivals, ArrivesIn, Env, IsArrival, IsAsOf, IsByArrival, IsChangedInPlace, IsFramed, IsFramedInPlace, IsResultIn, IsWithoutPlaces, env_of, join_by, kept, numbered, picked, placed_rows_of, rows_of, streams_of, total_row, Reach, first_row, is_kept, parameter_source, variable_source, widened, words_in}
 use Rattle.gl_query.specs.Shapes.{QueryShape, query_shape}
 use Rattle.gl_query.specs.Shapes as shape
 use Rattle.gl_query.specs.Values.{column_number}
@@ -24,17 +24,36 @@ record HaveRows (env other : Env) : Type 0 where
   pub rows : (name : List ℕ) → rows_of env name ≡ rows_of other name
   pub placed : (name : List ℕ) → placed_rows_of env name ≡ placed_rows_of other name
 
+-- the words of the parameters are the same
+same_words : (env other : Env) → HaveRows env other → words_in env ≡ words_in other
+same_words env other h = ap first_row (h.rows colon)
+
+-- a step that goes by streams and words
+same_step : {A : Type 1} (step : List Stream → Row → A → A) (env other : Env) → HaveRows env other → (r r' : A) → r ≡ r'
+    → step (streams_of env) (words_in env) r ≡ step (streams_of other) (words_in other) r'
+same_step step env other h r r' e =
+    ap (λ (s : List Stream). step s (words_in env) r) h.streams ∙ ap (λ (w : Row). step (streams_of other) w r) (same_words env other h)
+    ∙ ap (step (streams_of other) (words_in other)) e
+
+-- what an expression sees, by streams and words
+abbrev seen_by : List Stream → Row → QueryShape → Reach
+seen_by s w source = record { columns = reach_of s (columns_of s source); words = w }
+
+-- what a body sees, by streams and words
+abbrev body_by : List Stream → Row → List ℕ → QueryShape → List Row → Env
+body_by s w var source rows = parameter_source (parameters_in s) w ∷ variable_source var (columns_of s source) rows ∷ []
+
 -- results with places look at no time
 same_arrivals : (q : QueryShape) (env other : Env) → HaveRows env other → ArrivesIn q env ≡ ArrivesIn q other
 same_arrivals (shape.Read name) env other h = ap IsArrival (h.placed name)
 same_arrivals (shape.Rows pick filter source) env other h =
-    let step : List Stream → Arrivals → Arrivals =
-    λ s r. IsChangedInPlace r (λ xs. mapped_at (picked (columns_of s source) pick) (kept_at (keeps (columns_of s source) filter) xs)) in
-    ap (λ (s : List Stream). step s (ArrivesIn source env)) h.streams ∙ ap (step (streams_of other)) (same_arrivals source env other h)
+    let step : List Stream → Row → Arrivals → Arrivals =
+    λ s w r. IsChangedInPlace r (λ xs. mapped_at (picked (seen_by s w source) pick) (kept_at (is_kept (seen_by s w source) filter) xs)) in
+    same_step step env other h (ArrivesIn source env) (ArrivesIn source other) (same_arrivals source env other h)
 same_arrivals (shape.Total aggs source) env other h = refl
 same_arrivals (shape.Frames items filter slots source) env other h =
-    let step : List Stream → Arrivals → Arrivals = λ s r. IsFramedInPlace (columns_of s source) items filter slots r in
-    ap (λ (s : List Stream). step s (ArrivesIn source env)) h.streams ∙ ap (step (streams_of other)) (same_arrivals source env other h)
+    let step : List Stream → Row → Arrivals → Arrivals = λ s w r. IsFramedInPlace (columns_of s source) (seen_by s w source) items filter slots r in
+    same_step step env other h (ArrivesIn source env) (ArrivesIn source other) (same_arrivals source env other h)
 same_arrivals (shape.Each measure var source size advance body) env other h = refl
 same_arrivals (shape.PerGroup var source key n body) env other h = refl
 same_arrivals (shape.Partition var source key n size advance body) env other h = refl
@@ -52,35 +71,36 @@ same_arrivals (shape.Concat l r) env other h = refl
 same_results : (q : QueryShape) → HasNoTime q → (env other : Env) → HaveRows env other → IsResultIn q env ≡ IsResultIn q other
 same_results (shape.Read name) t env other h = ap IsInput (h.rows name)
 same_results (shape.Rows pick filter source) t env other h =
-    let step : List Stream → Results → Results =
-    λ s r. IsChanged r (λ rows. map (picked (columns_of s source) pick) (kept (columns_of s source) filter rows)) in
-    ap (λ (s : List Stream). step s (IsResultIn source env)) h.streams ∙ ap (step (streams_of other)) (same_results source t env other h)
+    let step : List Stream → Row → Results → Results =
+    λ s w r. IsChanged r (λ rows. map (picked (seen_by s w source) pick) (kept (seen_by s w source) filter rows)) in
+    same_step step env other h (IsResultIn source env) (IsResultIn source other) (same_results source t env other h)
 same_results (shape.Total aggs source) t env other h =
-    let step : List Stream → Results → Results = λ s r. IsChanged r (λ rows. total_row (columns_of s source) aggs rows ∷ []) in
-    ap (λ (s : List Stream). step s (IsResultIn source env)) h.streams ∙ ap (step (streams_of other)) (same_results source t env other h)
+    let step : List Stream → Row → Results → Results =
+    λ s w r. IsChanged r (λ rows. total_row (seen_by s w source).columns aggs (widened w rows) ∷ []) in
+    same_step step env other h (IsResultIn source env) (IsResultIn source other) (same_results source t env other h)
 same_results (shape.Frames items filter slots source) t env other h =
-    let step : List Stream → Results → Results = λ s r. IsFramed (columns_of s source) items filter slots r in
-    ap (λ (s : List Stream). step s (IsResultIn source env)) h.streams ∙ ap (step (streams_of other)) (same_results source t env other h)
+    let step : List Stream → Row → Results → Results = λ s w r. IsFramed (columns_of s source) (seen_by s w source) items filter slots r in
+    same_step step env other h (IsResultIn source env) (IsResultIn source other) (same_results source t env other h)
 same_results (shape.Each Time var source size advance body) t env other h = absurd (cc)
 same_results (shape.Each Tuples var source size advance body) t env other h =
     let apart = neither_parts (has_time source) (has_time body) t in
-    let step : List Stream → Results → Results =
-    λ s r. IsOfParts r (slices size advance) (λ rows. IsResultIn body (only var (columns_of s source) rows)) (λ rows. false) in
-    ap (λ (s : List Stream). step s (IsResultIn source env)) h.streams ∙ ap (step (streams_of other)) (same_results source apart.0 env other h)
+    let step : List Stream → Row → Results → Results =
+    λ s w r. IsOfParts r (slices size advance) (λ rows. IsResultIn body (body_by s w var source rows)) (λ rows. false) in
+    same_step step env other h (IsResultIn source env) (IsResultIn source other) (same_results source apart.0 env other h)
 same_results (shape.PerGroup var source key n body) t env other h =
     let apart = neither_parts (has_time source) (has_time body) t in
-    let step : List Stream → Results → Results =
-    λ s r. IsOfParts r (groups n (λ (row : Row). slice_index row (column_number (columns_of s source) key)))
-    (IsOfGroup (λ rows. IsResultIn body (only var (columns_of s source) rows)))
+    let step : List Stream → Row → Results → Results =
+    λ s w r. IsOfParts r (groups n (λ (row : Row). slice_index row (column_number (columns_of s source) key)))
+    (IsOfGroup (λ rows. IsResultIn body (body_by s w var source rows)))
     (has_further n (λ (row : Row). slice_index row (column_number (columns_of s source) key))) in
-    ap (λ (s : List Stream). step s (IsResultIn source env)) h.streams ∙ ap (step (streams_of other)) (same_results source apart.0 env other h)
+    same_step step env other h (IsResultIn source env) (IsResultIn source other) (same_results source apart.0 env other h)
 same_results (shape.Partition var source key n size advance body) t env other h =
     let apart = neither_parts (has_time source) (has_time body) t in
-    let step : List Stream → Results → Results =
-    λ s r. IsOfParts r (parts n (λ (row : Row). slice_index row (column_number (columns_of s source) key)) size advance)
-    (IsOfGroup (λ rows. IsResultIn body (only var (columns_of s source) rows)))
+    let step : List Stream → Row → Results → Results =
+    λ s w r. IsOfParts r (parts n (λ (row : Row). slice_index row (column_number (columns_of s source) key)) size advance)
+    (IsOfGroup (λ rows. IsResultIn body (body_by s w var source rows)))
     (has_further n (λ (row : Row). slice_index row (column_number (columns_of s source) key))) in
-    ap (λ (s : List Stream). step s (IsResultIn source env)) h.streams ∙ ap (step (streams_of other)) (same_results source apart.0 env other h)
+    same_step step env other h (IsResultIn source env) (IsResultIn source other) (same_results source apart.0 env other h)
 same_results (shape.Union l r) t env other h =
     let apart = neither_parts (has_time l) (has_time r) t in
     ap (λ (x : Results). IsOfBoth x (IsResultIn r env) IsInterleaving) (same_results l apart.0 env other h)
@@ -114,10 +134,12 @@ numbered_placed k (s ∷ streams) inputs others same at name =
     (λ e. rw e (numbered_placed (k + 1) streams inputs others same at name))
 
 pub go_by_rows : ResultsGoByRows
-go_by_rows schema statement inputs others out spill timeless same at result =
+go_by_rows schema statement inputs others out spill timeless same at sets result =
     let alike : HaveRows (env_of schema inputs) (env_of schema others) = record {
-      streams = numbered_streams 0 schema.streams inputs others;
-      rows = numbered_rows 0 schema.streams inputs others same;
-      placed = numbered_placed 0 schema.streams inputs others same at;
+      streams = ap (λ (l : List Stream). parameter_stream schema.parameters ∷ l) (numbered_streams 0 schema.streams inputs others);
+      rows = λ name. by_cases (bytes_eq name colon) (λ e. rw e (ap (λ (w : Row). w ∷ []) sets))
+          (λ e. rw e (numbered_rows 0 schema.streams inputs others same name));
+      placed = λ name. by_cases (bytes_eq name colon) (λ e. rw e (ap (λ (w : Row). at_places (w ∷ []) (0 ∷ [])) sets))
+          (λ e. rw e (numbered_placed 0 schema.streams inputs others same at name));
     } in
     subst (λ (r : Results). r out spill) (same_results (query_shape statement.query) timeless (env_of schema inputs) (env_of schema others) alike) result

@@ -1,5 +1,5 @@
 -- Which statements are accepted over a schema.
-use Rattle.std.specs.Prelude.{◌≡◌, ℕ, ◌*◌, ◌<◌, ◌≤◌, Bool, true, false, ◌&&◌, List, length, Option, Some, None, IsSome, IsTrue, bytes_eq}
+use Rattle.std.specs.Prelude.{◌≡◌, ℕ, ◌*◌, ◌<◌, ◌≤◌, Bool, true, false, ◌&&◌, List, length, Option, Some, None, IsSome, IsTrue, bytes_eq, not, map}
 use Rattle.std.specs.Int.{div_ceil}
 use Rattle.std.specs.List.{AllByRecursion, IsDistinct}
 use Rattle.gl_values.specs.Kinds.{is_number}
@@ -16,7 +16,7 @@ use Rattle.gl_query.specs.declared.tree.Statement.{Statement}
 use Rattle.gl_query.specs.Shapes.{ExprShape, AggShape, ItemShape, AggItemShape, FrameAggShape, FrameShape, FrameItemShape, PickShape, QueryShape, SlotsShape, query_shape}
 use Rattle.gl_query.specs.Shapes as shape
 use Rattle.gl_query.specs.Values.{HasKind, IsNumberOf, column_kind, kind_alone, kind_of}
-use Rattle.gl_query.specs.Columns.{arrives, columns_of, picked_columns, is_closing, pace_of, variable}
+use Rattle.gl_query.specs.Columns.{arrives, columns_of, is_closing, pace_of, colon, inside, item_column, reach_of, sources_of}
 use Rattle.gl_query.specs.Windows.{copies_of}
 
 -- at most 32 columns, no two of one name
@@ -48,7 +48,7 @@ IsAgg columns (shape.Wsum e weights) = IsWeighted columns e weights
 -- what a select picks has kinds, and at most 32 names, each once
 pub record AreItems (columns : List Column) (items : List ItemShape) : Type 0 where
   pub typed : AllByRecursion (λ (i : ItemShape). HasKind columns (kind_alone i.expr) i.expr) items
-  pub result : AreResultColumns (picked_columns columns (shape.Items items))
+  pub result : AreResultColumns (map (item_column columns) items)
 
 -- the star is always accepted; a list of items is accepted where its expressions have kinds and its names are distinct
 abbrev pub IsPick : List Column → PickShape → Type 0
@@ -106,14 +106,14 @@ pub record IsWindow (measure : Measure) (size advance : ℕ) : Type 0 where
   pub most_advance : advance ≤ limit.most_rows
   pub copies : copies_of measure size advance ≤ limit.most_copies
 
--- a select of rows is accepted where its items and its filter are
-pub record IsRows (source : List Column) (pick : PickShape) (filter : Option ExprShape) : Type 0 where
-  pub picks : IsPick source pick
-  pub filters : IsFilter source filter
+-- a select of rows is accepted where its items and its filter are, over what they may name
+pub record IsRows (reach : List Column) (pick : PickShape) (filter : Option ExprShape) : Type 0 where
+  pub picks : IsPick reach pick
+  pub filters : IsFilter reach filter
 
 -- a select of aggregates is accepted where each aggregate is, and their names make columns of a result
-pub record IsTotal (source : List Column) (aggs : List AggItemShape) (result : List Column) : Type 0 where
-  pub typed : AllByRecursion (λ (i : AggItemShape). IsAgg source i.agg) aggs
+pub record IsTotal (reach : List Column) (aggs : List AggItemShape) (result : List Column) : Type 0 where
+  pub typed : AllByRecursion (λ (i : AggItemShape). IsAgg reach i.agg) aggs
   pub columns : AreResultColumns result
 
 -- the key of PARTITION or ASOF is a column, and GROUPS is 1 to 4,096
@@ -128,13 +128,13 @@ IsParted columns None = Unit {0}
 IsParted columns (Some s) = AreSlots columns s
 
 -- a select of frames is accepted where PARTITION, each frame and the filter is, and the names of its items make columns
--- of a result
-pub record AreFrames (source : List Column) (items : List FrameItemShape) (filter : Option ExprShape)
+-- of a result; the key is a column of the source, and expressions are over what they may name
+pub record AreFrames (source reach : List Column) (items : List FrameItemShape) (filter : Option ExprShape)
     (slots : Option SlotsShape) (result : List Column) : Type 0 where
   pub parted : IsParted source slots
-  pub typed : AllByRecursion (λ (i : FrameItemShape). IsFrame source i.frame) items
+  pub typed : AllByRecursion (λ (i : FrameItemShape). IsFrame reach i.frame) items
   pub columns : AreResultColumns result
-  pub filters : IsFilter source filter
+  pub filters : IsFilter reach filter
 
 -- the key of ASOF is a column of both sides, of one kind, GROUPS is 1 to 4,096, and no other name is on both sides
 pub record AreJoined (lefts rights : List Column) (slots : SlotsShape) (result : List Column) : Type 0 where
@@ -164,18 +164,22 @@ pub record KeepPace (l r : QueryShape) : Type 0 where
   pub same : pace_of l ≡ pace_of r
 
 -- what a query may read: the streams of a schema, whose rows have times, or the variable of the body around alone,
--- whose rows have none
+-- whose rows have none; and what its expressions may name, the parameters
 pub record Scope : Type 0 where
   pub sources : List Stream
   pub timed : Bool
 
 -- at the top a query reads the streams of the schema, whose rows have times
 abbrev pub schema_scope : Schema → Scope
-schema_scope schema = record { sources = schema.streams; timed = true }
+schema_scope schema = record { sources = sources_of schema; timed = true }
 
 -- inside a body a query reads the body's variable alone, whose rows have no times
-abbrev pub body_scope : List ℕ → List Column → Scope
-body_scope var columns = record { sources = variable var columns; timed = false }
+abbrev pub body_scope : Scope → List ℕ → List Column → Scope
+body_scope scope var columns = record { sources = inside scope.sources var columns; timed = false }
+
+-- a source of this name is there, and it is not that of the parameters
+abbrev pub can_read : List Stream → List ℕ → Bool
+can_read sources name = not (bytes_eq name colon) && has_stream sources name
 
 -- the rows of a query have times: it is a stream of the schema itself
 abbrev pub has_times : Scope → QueryShape → Bool
@@ -191,32 +195,36 @@ can_measure Time scope source = has_times scope source
 abbrev pub columns_under : Scope → QueryShape → List Column
 columns_under scope q = columns_of scope.sources q
 
+-- what an expression over the rows of a query may name in a scope
+abbrev pub reach_under : Scope → QueryShape → List Column
+reach_under scope q = reach_of scope.sources (columns_under scope q)
+
 -- a query is accepted in a scope
 abbrev pub IsAcceptedOver : Scope → QueryShape → Type 0
-IsAcceptedOver scope (shape.Read name) = IsTrue (has_stream scope.sources name)
+IsAcceptedOver scope (shape.Read name) = IsTrue (can_read scope.sources name)
 IsAcceptedOver scope (shape.Rows pick filter source) =
-    IsAcceptedOver scope source × IsRows (columns_under scope source) pick filter
+    IsAcceptedOver scope source × IsRows (reach_under scope source) pick filter
 IsAcceptedOver scope (shape.Total aggs source) =
-    IsAcceptedOver scope source × IsTotal (columns_under scope source) aggs
+    IsAcceptedOver scope source × IsTotal (reach_under scope source) aggs
     (columns_under scope (shape.Total aggs source))
 IsAcceptedOver scope (shape.Frames items filter slots source) =
     IsAcceptedOver scope source
-    × AreFrames (columns_under scope source) items filter slots
+    × AreFrames (columns_under scope source) (reach_under scope source) items filter slots
     (columns_under scope (shape.Frames items filter slots source))
 IsAcceptedOver scope (shape.Each measure var source size advance body) =
     IsAcceptedOver scope source × IsWindow measure size advance
-    × IsAcceptedOver (body_scope var (columns_under scope source)) body × IsTrue (is_closing body)
+    × IsAcceptedOver (body_scope scope var (columns_under scope source)) body × IsTrue (is_closing body)
     × IsTrue (can_measure measure scope source)
 IsAcceptedOver scope (shape.PerGroup var source key groups body) =
     IsAcceptedOver scope source
     × IsGrouping (columns_under scope source) key groups
     (columns_under scope (shape.PerGroup var source key groups body))
-    × IsAcceptedOver (body_scope var (columns_under scope source)) body × IsTrue (is_closing body)
+    × IsAcceptedOver (body_scope scope var (columns_under scope source)) body × IsTrue (is_closing body)
 IsAcceptedOver scope (shape.Partition var source key groups size advance body) =
     IsAcceptedOver scope source
     × IsPartitioning (columns_under scope source) key groups size advance
     (columns_under scope (shape.Partition var source key groups size advance body))
-    × IsAcceptedOver (body_scope var (columns_under scope source)) body × IsTrue (is_closing body)
+    × IsAcceptedOver (body_scope scope var (columns_under scope source)) body × IsTrue (is_closing body)
 IsAcceptedOver scope (shape.Union l r) =
     IsAcceptedOver scope l × IsAcceptedOver scope r
     × (kinds_of (columns_under scope l) ≡ kinds_of (columns_under scope r))

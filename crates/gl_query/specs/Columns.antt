@@ -4,6 +4,7 @@ use Rattle.gl_values.specs.declared.kind.Kind.{Kind}
 use Rattle.gl_values.specs.declared.kind.Kind.TheVariants.{Unsigned}
 use Rattle.gl_schema.specs.declared.schema.Column.{Column}
 use Rattle.gl_schema.specs.declared.schema.Stream.{Stream}
+use Rattle.gl_schema.specs.declared.schema.Schema.{Schema}
 use Rattle.gl_query.specs.Shapes.{AggShape, ItemShape, AggItemShape, FrameAggShape, FrameShape, FrameItemShape, PickShape, QueryShape}
 use Rattle.gl_query.specs.Shapes as shape
 use Rattle.gl_query.specs.Values.{column_kind, column_number, kind_alone, kind_of}
@@ -13,9 +14,37 @@ use Rattle.gl_query.specs.Windows.{is_time}
 abbrev pub source_columns : List Stream → List ℕ → List Column
 source_columns sources name = unwrap_or (option_map (λ s. s.columns) (find (λ s. bytes_eq name s.name) sources)) []
 
--- what a body sees: its own variable alone
+-- the name of the source that has the parameters: no text can name it, since no name has a colon
+abbrev pub colon : List ℕ
+colon = 58 ∷ []
+
+-- the parameters as a source
+abbrev pub parameter_stream : List Column → Stream
+parameter_stream parameters = record { name = colon; columns = parameters }
+
+-- the parameters among what a query may read
+abbrev pub parameters_in : List Stream → List Column
+parameters_in sources = source_columns sources colon
+
+-- what a query may read over a schema: its parameters, and its streams
+abbrev pub sources_of : Schema → List Stream
+sources_of schema = parameter_stream schema.parameters ∷ schema.streams
+
+-- a variable alone
 abbrev pub variable : List ℕ → List Column → List Stream
 variable var columns = record { name = var; columns = columns } ∷ []
+
+-- what a body sees: the parameters, and its own variable alone
+abbrev pub inside : List Stream → List ℕ → List Column → List Stream
+inside sources var columns = parameter_stream (parameters_in sources) ∷ variable var columns
+
+-- the name by which an expression reads a parameter: a colon and its own
+abbrev pub marked : Column → Column
+marked p = record { name = 58 ∷ p.name; kind = p.kind }
+
+-- what an expression over columns may name: these, and the parameters behind them
+abbrev pub reach_of : List Stream → List Column → List Column
+reach_of sources columns = columns ++ map marked (parameters_in sources)
 
 -- `count` gives 32 bits, every other aggregate the kind of its argument
 abbrev pub agg_kind : List Column → AggShape → Kind
@@ -53,10 +82,10 @@ agg_column columns i = record { name = i.name; kind = agg_kind columns i.agg }
 abbrev pub frame_column : List Column → FrameItemShape → Column
 frame_column columns i = record { name = i.name; kind = frame_kind columns i.frame }
 
--- the star keeps the columns of the source; items give one column each, in their order
-abbrev pub picked_columns : List Column → PickShape → List Column
-picked_columns columns shape.All = columns
-picked_columns columns (shape.Items items) = map (item_column columns) items
+-- the star keeps the columns of the source; items give one column each, in their order, from what they may name
+abbrev pub picked_columns : (columns reach : List Column) → PickShape → List Column
+picked_columns columns reach shape.All = columns
+picked_columns columns reach (shape.Items items) = map (item_column reach) items
 
 -- the columns of the right side of ASOF without the key's
 abbrev pub but_key : List ℕ → List Column → List Column
@@ -65,17 +94,19 @@ but_key key columns = remove columns (column_number columns key)
 -- the columns of a query over the sources that it sees
 abbrev pub columns_of : List Stream → QueryShape → List Column
 columns_of sources (shape.Read name) = source_columns sources name
-columns_of sources (shape.Rows pick filter source) = picked_columns (columns_of sources source) pick
-columns_of sources (shape.Total aggs source) = map (agg_column (columns_of sources source)) aggs
-columns_of sources (shape.Frames items filter slots source) = map (frame_column (columns_of sources source)) items
+columns_of sources (shape.Rows pick filter source) =
+    picked_columns (columns_of sources source) (reach_of sources (columns_of sources source)) pick
+columns_of sources (shape.Total aggs source) = map (agg_column (reach_of sources (columns_of sources source))) aggs
+columns_of sources (shape.Frames items filter slots source) =
+    map (frame_column (reach_of sources (columns_of sources source))) items
 columns_of sources (shape.Each measure var source size advance body) =
-    columns_of (variable var (columns_of sources source)) body
+    columns_of (inside sources var (columns_of sources source)) body
 columns_of sources (shape.PerGroup var source key groups body) =
     record { name = key; kind = column_kind (columns_of sources source) key } ∷ columns_of
-    (variable var (columns_of sources source)) body
+    (inside sources var (columns_of sources source)) body
 columns_of sources (shape.Partition var source key groups size advance body) =
     record { name = key; kind = column_kind (columns_of sources source) key } ∷ columns_of
-    (variable var (columns_of sources source)) body
+    (inside sources var (columns_of sources source)) body
 columns_of sources (shape.Union l r) = columns_of sources l
 columns_of sources (shape.ByArrival l r) = columns_of sources l
 columns_of sources (shape.AsOf l r slots) = columns_of sources l ++ but_key slots.key (columns_of sources r)

@@ -1,6 +1,6 @@
 -- The first rule of acceptance that a statement breaks, with its place: the sources of a query come first, then its own
 -- parts.
-use Rattle.std.specs.Prelude.{ℕ, ◌*◌, pos, Bool, true, false, not, ◌&&◌, List, [], ◌∷◌, ◌++◌, length, Option, Some, None, bytes_eq, nat_le, nat_lt, slice_get, if◌then◌else◌}
+use Rattle.std.specs.Prelude.{ℕ, ◌*◌, ◌==◌, pos, Bool, true, false, not, ◌&&◌, List, [], ◌∷◌, ◌++◌, length, Option, Some, None, bytes_eq, nat_le, nat_lt, slice_get, if◌then◌else◌}
 use Rattle.std.specs.Int.{div_ceil}
 use Rattle.std.specs.List.{list_any}
 use Rattle.gl_values.specs.Kinds.{can_cast, has_negative, in_range, is_number, is_text}
@@ -12,9 +12,9 @@ use Rattle.gl_values.specs.declared.op.Sort.TheVariants.{Arithmetic, Comparison,
 use Rattle.gl_values.specs.Operators.{same_kind, sort_of}
 use Rattle.gl_schema.specs.declared.schema.Column.{Column as NamedColumn}
 use Rattle.gl_schema.specs.declared.schema.Schema.{Schema}
-use Rattle.gl_schema.specs.Schemas.{column_names, has_column, has_stream, kinds_of}
+use Rattle.gl_schema.specs.Schemas.{column_names, has_column, kinds_of}
 use Rattle.gl_query.specs.declared.fault.QueryFault.{QueryFault}
-use Rattle.gl_query.specs.declared.fault.QueryFault.TheVariants.{UnknownStream, UnknownColumn, KindsDiffer, LiteralTooWide, NotCondition, TwiceNamed, ColumnsDiffer, PaceDiffers, NotClosing, OutOfRange, NoTime, NoArrival}
+use Rattle.gl_query.specs.declared.fault.QueryFault.TheVariants.{UnknownStream, UnknownColumn, KindsDiffer, LiteralTooWide, NotCondition, TwiceNamed, ColumnsDiffer, PaceDiffers, NotClosing, OutOfRange, NoTime, NoArrival, UnknownParameter}
 use Rattle.gl_query.specs.declared.tree.Measure.{Measure}
 use Rattle.gl_query.specs.declared.tree.Measure.TheVariants.{Tuples}
 use Rattle.gl_query.specs.declared.tree.Name.{Name}
@@ -25,7 +25,7 @@ use Rattle.gl_query.specs.Shapes.{QueryShape}
 use Rattle.gl_query.specs.Alike.{expr_alike, query_alike}
 use Rattle.gl_query.specs.Values.{column_kind, is_loose, kind_alone, kind_of, letters_fit, operand_place}
 use Rattle.gl_query.specs.Columns.{Pace, Once, Step, arrives, is_closing, pace_of}
-use Rattle.gl_query.specs.Accepted.{Scope, body_scope, can_measure, columns_under, most_slots, schema_scope}
+use Rattle.gl_query.specs.Accepted.{Scope, body_scope, can_measure, can_read, columns_under, most_slots, reach_under, schema_scope}
 use Rattle.gl_query.specs.Windows.{copies_of}
 
 -- the first of two faults, where there is one
@@ -101,9 +101,15 @@ abbrev pub of_operands : Bool → Bool → Option QueryFault → Option QueryFau
 of_operands left_loose right_loose left right =
     if left_loose && not right_loose then or_else right left else or_else left right
 
+-- a name that is not there is that of a parameter where it begins with a colon, and else that of a column
+abbrev pub unknown_fault : List ℕ → ℕ → QueryFault
+unknown_fault [] at = UnknownColumn at
+unknown_fault (b ∷ name) at = if b == 58 then UnknownParameter at else UnknownColumn at
+
 -- the first fault of an expression in a place; the faults of operands stand before their operator's own
 abbrev pub expr_fault : List NamedColumn → Kind → ExprTree → Option QueryFault
-expr_fault columns place (Column name) = unless (has_column columns name.text) (UnknownColumn name.at)
+expr_fault columns place (Column name) =
+    unless (has_column columns name.text) (unknown_fault name.text name.at)
 expr_fault columns place (Number n) = number_fault place n
 expr_fault columns place (Minus n) = negative_fault place n
 expr_fault columns place (Letters text at) = letters_fault place text at
@@ -287,26 +293,26 @@ join_fault lefts rights slots columns at =
 -- the first rule of acceptance that a query breaks in a scope, with its place; sources are judged before what stands
 -- over them
 abbrev pub query_fault : Scope → QueryTree → Option QueryFault
-query_fault scope (Read name) = unless (has_stream scope.sources name.text) (UnknownStream name.at)
+query_fault scope (Read name) = unless (can_read scope.sources name.text) (UnknownStream name.at)
 query_fault scope (Rows pick filter source) =
-    let columns = columns_under scope (query_alike source) in
-    or_else (query_fault scope source) (or_else (pick_fault columns pick) (filter_fault columns filter))
+    let reach = reach_under scope (query_alike source) in
+    or_else (query_fault scope source) (or_else (pick_fault reach pick) (filter_fault reach filter))
 query_fault scope (Total aggs source) =
-    or_else (query_fault scope source) (aggs_fault (columns_under scope (query_alike source)) [] aggs)
+    or_else (query_fault scope source) (aggs_fault (reach_under scope (query_alike source)) [] aggs)
 query_fault scope (Frames items filter slots source) =
-    let columns = columns_under scope (query_alike source) in
+    let reach = reach_under scope (query_alike source) in
     or_else (query_fault scope source)
-    (or_else (slots_fault columns slots)
-    (or_else (frames_fault columns [] items) (filter_fault columns filter)))
+    (or_else (slots_fault (columns_under scope (query_alike source)) slots)
+    (or_else (frames_fault reach [] items) (filter_fault reach filter)))
 query_fault scope (Each measure var source size advance body at) =
-    let inside = body_scope var.text (columns_under scope (query_alike source)) in
+    let inside = body_scope scope var.text (columns_under scope (query_alike source)) in
     or_else (query_fault scope source)
     (or_else (unless (can_measure measure scope (query_alike source)) (NoTime at))
     (or_else (window_fault measure size advance) (or_else (query_fault inside body)
     (unless (is_closing (query_alike body)) (NotClosing at)))))
 query_fault scope (PerGroup var source key groups body at) =
     let columns = columns_under scope (query_alike source) in
-    let inside = body_scope var.text columns in
+    let inside = body_scope scope var.text columns in
     or_else (query_fault scope source)
     (or_else (unless (has_column columns key.text) (UnknownColumn key.at))
     (or_else (unless (is_within groups.value most_groups) (OutOfRange groups.at))
@@ -315,7 +321,7 @@ query_fault scope (PerGroup var source key groups body at) =
     (key_fault key (columns_under inside (query_alike body)))))))
 query_fault scope (Partition var source key groups size advance body at) =
     let columns = columns_under scope (query_alike source) in
-    let inside = body_scope var.text columns in
+    let inside = body_scope scope var.text columns in
     or_else (query_fault scope source)
     (or_else (unless (has_column columns key.text) (UnknownColumn key.at))
     (or_else (unless (is_within groups.value most_groups) (OutOfRange groups.at))

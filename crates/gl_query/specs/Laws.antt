@@ -16,10 +16,10 @@ use Rattle.gl_schema.specs.declared.schema.Column.{Column}
 use Rattle.gl_schema.specs.declared.schema.Schema.{Schema}
 use Rattle.gl_schema.specs.Beats.{HavePlaces, Inputs}
 use Rattle.gl_schema.specs.Schemas.{IsRowOf, IsSchema}
-use Rattle.gl_query.specs.Columns.{arrives, columns_of, source_columns}
+use Rattle.gl_query.specs.Columns.{arrives, columns_of, parameters_in, source_columns, sources_of}
 use Rattle.gl_query.specs.Sizes.{HasItems}
 use Rattle.gl_query.specs.Faults.{first_fault}
-use Rattle.gl_query.specs.Results.{Arrivals, ArrivesIn, Env, IsResult, IsResultIn, IsWithoutPlaces, columns_in, env_of, join_by, only, placed_rows_of, rows_of, streams_of}
+use Rattle.gl_query.specs.Results.{Arrivals, ArrivesIn, Env, IsResult, IsResultIn, IsWithoutPlaces, columns_in, env_of, join_by, only, placed_rows_of, rows_of, streams_of, words_in}
 use Rattle.gl_query.specs.Accepted.{AreResultColumns, Scope, IsAcceptedOver, schema_scope}
 use Rattle.gl_query.specs.Windows.{HasNoTime}
 
@@ -55,7 +55,8 @@ PlacesNeverFall env = (name : List ℕ) → NeverFall (placed_rows_of env name)
 -- that is so of the streams of a schema where each row has a place, in their order, and of the variable of a body
 pub record SourcesNeverFall : Type 0 where
   pub of_streams : (schema : Schema) (inputs : Inputs) → HavePlaces inputs → PlacesNeverFall (env_of schema inputs)
-  pub of_bodies : (var : List ℕ) (columns : List Column) (rows : List Row) → PlacesNeverFall (only var columns rows)
+  pub of_bodies :
+      (env : Env) (var : List ℕ) (columns : List Column) (rows : List Row) → PlacesNeverFall (only env var columns rows)
 
 -- where it is so of the sources, no row of a result stands behind one at a later place
 abbrev pub ArrivalsNeverFall : Type 0
@@ -94,9 +95,10 @@ abbrev pub AcceptedHaveResults : Type 0
 AcceptedHaveResults =
     (q : QueryShape) (env : Env) (timed : Bool) → IsAcceptedOver (scope_of env timed) q → HasResult q env
 
--- a property of rows of these columns holds of the rows of each source
-abbrev pub HoldsIn : (List Column → Row → Type 0) → Env → Type 0
-HoldsIn P env = (name : List ℕ) → AllByRecursion (P (source_columns (streams_of env) name)) (rows_of env name)
+-- a property of rows of these columns holds of the rows of each source, and of the words of the parameters
+pub record HoldsIn (P : List Column → Row → Type 0) (env : Env) : Type 0 where
+  pub rows : (name : List ℕ) → AllByRecursion (P (source_columns (streams_of env) name)) (rows_of env name)
+  pub words : P (parameters_in (streams_of env)) (words_in env)
 
 -- a fact that holds of the rows of the sources holds of the rows of each result of an accepted query
 abbrev pub HoldsOfResults : (List Column → Row → Type 0) → Type 0
@@ -116,13 +118,13 @@ ResultsAreLong = HoldsOfResults IsLongAs
 abbrev pub ResultsFit : Type 0
 ResultsFit = HoldsOfResults IsRowOf
 
--- without a window of time a result goes by the rows of the streams and their places alone, whatever their times, or
--- ticks
+-- without a window of time a result goes by the rows of the streams, their places and the words of the parameters,
+-- whatever the rows' times, or ticks
 abbrev pub ResultsGoByRows : Type 0
 ResultsGoByRows =
     (schema : Schema) (statement : Statement) (inputs others : Inputs) (out : List Row) (spill : Bool)
     → HasNoTime (query_shape statement.query) → ((k : ℕ) → inputs.rows k ≡ others.rows k)
-    → ((k : ℕ) → inputs.places k ≡ others.places k)
+    → ((k : ℕ) → inputs.places k ≡ others.places k) → inputs.sets ≡ others.sets
     → IsResult schema statement inputs out spill → IsResult schema statement others out spill
 
 -- a statement without its places is the tree without them
@@ -136,9 +138,9 @@ AreKinds columns = AllByRecursion (λ (c : Column). IsKind c.kind) columns
 -- columns of a result: at least one where each select has an item, at most 32, no two of one name, of kinds that are
 -- kinds
 pub record HasRealColumns (schema : Schema) (q : QueryShape) : Type 0 where
-  pub some' : HasItems q → 1 ≤ length (columns_of schema.streams q)
-  pub result : AreResultColumns (columns_of schema.streams q)
-  pub kinds : AreKinds (columns_of schema.streams q)
+  pub some' : HasItems q → 1 ≤ length (columns_of (sources_of schema) q)
+  pub result : AreResultColumns (columns_of (sources_of schema) q)
+  pub kinds : AreKinds (columns_of (sources_of schema) q)
 
 -- an accepted query has such columns
 abbrev pub AcceptedHaveRealColumns : Type 0

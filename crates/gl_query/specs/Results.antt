@@ -23,24 +23,39 @@ use Rattle.gl_query.specs.declared.tree.Statement.{Statement}
 use Rattle.gl_query.specs.Shapes.{ExprShape, AggShape, ItemShape, AggItemShape, FrameAggShape, FrameShape, FrameItemShape, PickShape, QueryShape, SlotsShape, query_shape}
 use Rattle.gl_query.specs.Shapes as shape
 use Rattle.gl_query.specs.Values.{column_number, kind_alone, kind_of, value_of}
-use Rattle.gl_query.specs.Columns.{but_key, columns_of}
+use Rattle.gl_query.specs.Columns.{but_key, columns_of, colon, parameter_stream, parameters_in, reach_of}
 use Rattle.gl_query.specs.Windows.{parts_of}
 
 -- ---- one step on rows
 
+-- what the expressions of a select see: the columns of its source with the parameters behind them, and the words of the
+-- parameters
+pub record Reach : Type 0 where
+  pub columns : List Column
+  pub words : Row
+
+-- each row with the words of the parameters behind it
+abbrev pub widened : Row → List Row → List Row
+widened words rows = map (λ (row : Row). row ++ words) rows
+
 -- the row that is picked of a row
-abbrev pub picked : List Column → PickShape → Row → Row
-picked columns shape.All row = row
-picked columns (shape.Items items) row = map (λ (i : ItemShape). value_of columns (kind_alone i.expr) i.expr row) items
+abbrev pub picked : Reach → PickShape → Row → Row
+picked reach shape.All row = row
+picked reach (shape.Items items) row =
+    map (λ (i : ItemShape). value_of reach.columns (kind_alone i.expr) i.expr (row ++ reach.words)) items
 
 -- a filter keeps the rows where it is 1; without one all rows stay
 abbrev pub keeps : List Column → Option ExprShape → Row → Bool
 keeps columns None row = true
 keeps columns (Some e) row = nat_eq (value_of columns (Unsigned 1) e row) 1
 
+-- whether a filter keeps a row of a source, which has no words of the parameters
+abbrev pub is_kept : Reach → Option ExprShape → Row → Bool
+is_kept reach condition row = keeps reach.columns condition (row ++ reach.words)
+
 -- the rows that satisfy a condition, in their order; all of them where there is none
-abbrev pub kept : List Column → Option ExprShape → List Row → List Row
-kept columns condition rows = filter (keeps columns condition) rows
+abbrev pub kept : Reach → Option ExprShape → List Row → List Row
+kept reach condition rows = filter (is_kept reach condition) rows
 
 -- the values of an expression over rows
 abbrev pub values_of : List Column → ExprShape → List Row → List ℕ
@@ -85,27 +100,32 @@ frame_value columns rows (shape.Over agg filter back) = frame_agg_value columns 
 abbrev pub frame_row : List Column → List FrameItemShape → List Row → Row
 frame_row columns items rows = map (λ (i : FrameItemShape). frame_value columns rows i.frame) items
 
+-- the same of rows without the words of the parameters
+abbrev pub reached_row : Reach → List FrameItemShape → List Row → Row
+reached_row reach items rows = frame_row reach.columns items (widened reach.words rows)
+
 -- a select of frames over the rows that a filter keeps: each of them has a row, made of those up to it. With PARTITION
 -- each of the first keys has one, made of those of its key, and whether rows of further keys came is told
-abbrev pub IsFramed : List Column → List FrameItemShape → Option ExprShape → Option SlotsShape → Results → Results
-IsFramed columns items filter None source =
-    IsChanged source (λ rows. framed (frame_row columns items) (kept columns filter rows))
-IsFramed columns items filter (Some s) source =
+abbrev pub IsFramed : List Column → Reach → List FrameItemShape → Option ExprShape → Option SlotsShape → Results
+    → Results
+IsFramed columns reach items filter None source =
+    IsChanged source (λ rows. framed (reached_row reach items) (kept reach filter rows))
+IsFramed columns reach items filter (Some s) source =
     let key_of : Row → ℕ = λ row. slice_index row (column_number columns s.key) in
     IsChangedInPart source
-    (λ rows. framed_by_key s.groups key_of (frame_row columns items) (kept columns filter rows))
-    (λ rows. has_further s.groups key_of (kept columns filter rows))
+    (λ rows. framed_by_key s.groups key_of (reached_row reach items) (kept reach filter rows))
+    (λ rows. has_further s.groups key_of (kept reach filter rows))
 
 -- the same of rows at places: each row is at the place of the row that it is for
-abbrev pub IsFramedInPlace : List Column → List FrameItemShape → Option ExprShape → Option SlotsShape → Arrivals
-    → Arrivals
-IsFramedInPlace columns items filter None source =
-    IsChangedInPlace source (λ xs. framed_at (frame_row columns items) (kept_at (keeps columns filter) xs))
-IsFramedInPlace columns items filter (Some s) source =
+abbrev pub IsFramedInPlace : List Column → Reach → List FrameItemShape → Option ExprShape → Option SlotsShape
+    → Arrivals → Arrivals
+IsFramedInPlace columns reach items filter None source =
+    IsChangedInPlace source (λ xs. framed_at (reached_row reach items) (kept_at (is_kept reach filter) xs))
+IsFramedInPlace columns reach items filter (Some s) source =
     let key_of : Row → ℕ = λ row. slice_index row (column_number columns s.key) in
     IsPartedInPlace source
-    (λ xs. framed_by_key_at s.groups key_of (frame_row columns items) (kept_at (keeps columns filter) xs))
-    (λ rows. has_further s.groups key_of (kept columns filter rows))
+    (λ xs. framed_by_key_at s.groups key_of (reached_row reach items) (kept_at (is_kept reach filter) xs))
+    (λ rows. has_further s.groups key_of (kept reach filter rows))
 
 -- ---- joins
 
@@ -168,16 +188,39 @@ ticks_in env q = 0
 abbrev pub columns_in : Env → QueryShape → List Column
 columns_in env q = columns_of (streams_of env) q
 
--- a body sees its own variable alone, whose rows have no times; the place of each is its position
-abbrev pub only : List ℕ → List Column → List Row → Env
-only var columns rows =
+-- the parameters as a source, whose one row has their words
+abbrev pub parameter_source : List Column → Row → Source
+parameter_source parameters words =
+    record { stream = parameter_stream parameters; rows = words ∷ []; places = 0 ∷ []; times = []; ticks = 0 }
+
+-- the first row of some; a row without words where there is none
+abbrev pub first_row : List Row → Row
+first_row [] = []
+first_row (row ∷ rows) = row
+
+-- the words of the parameters
+abbrev pub words_in : Env → Row
+words_in env = first_row (rows_of env colon)
+
+-- what an expression over the rows of a query sees in an environment
+abbrev pub reach_in : Env → QueryShape → Reach
+reach_in env q = record { columns = reach_of (streams_of env) (columns_in env q); words = words_in env }
+
+-- the rows of a variable alone, which have no times; the place of each is its position
+abbrev pub variable_source : List ℕ → List Column → List Row → Source
+variable_source var columns rows =
     record {
       stream = record { name = var; columns = columns };
       rows = rows;
       places = range_with_len 0 (length rows);
       times = [];
       ticks = 0;
-    } ∷ []
+    }
+
+-- a body sees the parameters, and its own variable alone
+abbrev pub only : Env → List ℕ → List Column → List Row → Env
+only env var columns rows =
+    parameter_source (parameters_in (streams_of env)) (words_in env) ∷ variable_source var columns rows ∷ []
 
 -- the streams of a schema with their inputs, which go by the streams' numbers
 abbrev pub numbered : ℕ → List Stream → Inputs → Env
@@ -191,9 +234,9 @@ numbered k (s ∷ streams) inputs =
       ticks = inputs.ticks;
     } ∷ numbered (k + 1) streams inputs
 
--- each stream of a schema with the rows, places, times and ticks that come over it
+-- the parameters of a schema with their words, and each stream with the rows, places, times and ticks that come over it
 abbrev pub env_of : Schema → Inputs → Env
-env_of schema inputs = numbered 0 schema.streams inputs
+env_of schema inputs = parameter_source schema.parameters inputs.sets ∷ numbered 0 schema.streams inputs
 
 -- ---- the results of a query
 
@@ -206,12 +249,12 @@ NoArrivals out spill = ⊥
 abbrev pub ArrivesIn : QueryShape → Env → Arrivals
 ArrivesIn (shape.Read name) env = IsArrival (placed_rows_of env name)
 ArrivesIn (shape.Rows pick filter source) env =
-    let columns = columns_in env source in
+    let reach = reach_in env source in
     IsChangedInPlace (ArrivesIn source env)
-    (λ xs. mapped_at (picked columns pick) (kept_at (keeps columns filter) xs))
+    (λ xs. mapped_at (picked reach pick) (kept_at (is_kept reach filter) xs))
 ArrivesIn (shape.Total aggs source) env = NoArrivals
 ArrivesIn (shape.Frames items filter slots source) env =
-    IsFramedInPlace (columns_in env source) items filter slots (ArrivesIn source env)
+    IsFramedInPlace (columns_in env source) (reach_in env source) items filter slots (ArrivesIn source env)
 ArrivesIn (shape.Each measure var source size advance body) env = NoArrivals
 ArrivesIn (shape.PerGroup var source key n body) env = NoArrivals
 ArrivesIn (shape.Partition var source key n size advance body) env = NoArrivals
@@ -225,27 +268,27 @@ ArrivesIn (shape.Concat l r) env = NoArrivals
 abbrev pub IsResultIn : QueryShape → Env → Results
 IsResultIn (shape.Read name) env = IsInput (rows_of env name)
 IsResultIn (shape.Rows pick filter source) env =
-    let columns = columns_in env source in
-    IsChanged (IsResultIn source env) (λ rows. map (picked columns pick) (kept columns filter rows))
+    let reach = reach_in env source in
+    IsChanged (IsResultIn source env) (λ rows. map (picked reach pick) (kept reach filter rows))
 IsResultIn (shape.Total aggs source) env =
-    let columns = columns_in env source in
-    IsChanged (IsResultIn source env) (λ rows. total_row columns aggs rows ∷ [])
+    let reach = reach_in env source in
+    IsChanged (IsResultIn source env) (λ rows. total_row reach.columns aggs (widened reach.words rows) ∷ [])
 IsResultIn (shape.Frames items filter slots source) env =
-    IsFramed (columns_in env source) items filter slots (IsResultIn source env)
+    IsFramed (columns_in env source) (reach_in env source) items filter slots (IsResultIn source env)
 IsResultIn (shape.Each measure var source size advance body) env =
     let columns = columns_in env source in
     IsOfParts (IsResultIn source env) (parts_of measure size advance (times_in env source) (ticks_in env source))
-    (λ rows. IsResultIn body (only var columns rows)) (λ rows. false)
+    (λ rows. IsResultIn body (only env var columns rows)) (λ rows. false)
 IsResultIn (shape.PerGroup var source key n body) env =
     let columns = columns_in env source in
     let key_of : Row → ℕ = λ row. slice_index row (column_number columns key) in
-    IsOfParts (IsResultIn source env) (groups n key_of) (IsOfGroup (λ rows. IsResultIn body (only var columns rows)))
+    IsOfParts (IsResultIn source env) (groups n key_of) (IsOfGroup (λ rows. IsResultIn body (only env var columns rows)))
     (has_further n key_of)
 IsResultIn (shape.Partition var source key n size advance body) env =
     let columns = columns_in env source in
     let key_of : Row → ℕ = λ row. slice_index row (column_number columns key) in
     IsOfParts (IsResultIn source env) (parts n key_of size advance)
-    (IsOfGroup (λ rows. IsResultIn body (only var columns rows))) (has_further n key_of)
+    (IsOfGroup (λ rows. IsResultIn body (only env var columns rows))) (has_further n key_of)
 IsResultIn (shape.Union l r) env = IsOfBoth (IsResultIn l env) (IsResultIn r env) IsInterleaving
 IsResultIn (shape.ByArrival l r) env = IsWithoutPlaces (IsByArrival (ArrivesIn l env) (ArrivesIn r env))
 IsResultIn (shape.AsOf l r slots) env =

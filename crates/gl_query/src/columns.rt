@@ -4,7 +4,7 @@ ghost use Rattle.std.specs.Prelude.{◌≡◌, ◌∷◌, ◌++◌, IfOk, map};
 ghost use Rattle.gl_schema.specs.Schemas.{column_names, kinds_of};
 ghost use Rattle.gl_query.specs.Shapes.{agg_item_shape, agg_shape, frame_agg_shape, frame_item_shape, frame_shape, item_shape, pick_shape, query_shape};
 ghost use Rattle.gl_query.specs.Values.{column_kind};
-ghost use Rattle.gl_query.specs.Columns.{agg_column, agg_kind, but_key, columns_of, frame_agg_kind, frame_column, frame_kind, item_column, picked_columns, source_columns, variable};
+ghost use Rattle.gl_query.specs.Columns.{agg_column, agg_kind, but_key, columns_of, frame_agg_kind, frame_column, frame_kind, item_column, picked_columns, source_columns, variable, marked, parameters_in, reach_of};
 ghost use Rattle.gl_query.specs.Sources.{scope_of};
 
 use crate::kinds::{column_kind, column_number, kind_alone, kind_of};
@@ -14,13 +14,24 @@ use gl_schema::{Column, Columns, NameText, Stream};
 use gl_values::Kind;
 use std::alloc::Global;
 
-/// What a query may read: the streams of a schema, or the variable of the body around.
+/// What a query may read: the streams of a schema, or the variable of the body around; and what its
+/// expressions may name beside columns, the parameters.
 #[derive(Clone, Copy)]
 pub enum Sources<'a> {
-    /// All streams of a schema, whose rows have times.
-    Schema(&'a [Stream]),
-    /// The variable of a body: its name and its columns. Its rows have no times.
-    Variable(&'a [u8], &'a [Column]),
+    /// All streams of a schema, whose rows have times, and its parameters.
+    Schema(&'a [Stream], &'a [Column]),
+    /// The variable of a body: its name and its columns, and the parameters. Its rows have no times.
+    Variable(&'a [u8], &'a [Column], &'a [Column]),
+}
+
+/// The parameters among what a query may read.
+pub fn parameters_in<'a>(sources: Sources<'a>) -> &'a [Column]
+    ensures { result.now ≡ parameters_in (scope_of sources.entry).sources }
+{
+    match sources {
+        Sources::Schema(_, parameters) => parameters,
+        Sources::Variable(_, _, parameters) => parameters,
+    }
 }
 
 /// A name like another.
@@ -101,9 +112,52 @@ pub fn source_columns(alloc: Global, sources: Sources<'_>, name: &[u8]) -> Resul
     ensures { IfOk result (λ v. v ≡ source_columns (scope_of sources.entry).sources name.now) }
 {
     match sources {
-        Sources::Schema(streams) => columns_named(alloc, streams, name),
-        Sources::Variable(var, columns) => columns_within(alloc, var, columns, name),
+        Sources::Schema(streams, parameters) => {
+            if name == b":".as_slice() {
+                return copy_of_columns(alloc, parameters);
+            }
+            columns_named(alloc, streams, name)
+        }
+        Sources::Variable(var, columns, parameters) => {
+            if name == b":".as_slice() {
+                return copy_of_columns(alloc, parameters);
+            }
+            columns_within(alloc, var, columns, name)
+        }
     }
+}
+
+/// A name with a colon in front, as an expression names a parameter.
+fn marked_name(alloc: Global, name: &[u8]) -> Result<NameText, Memory>
+    ensures { IfOk result (λ v. v ≡ 58 ∷ name.now) }
+{
+    let mut out = Vec::from_slice(alloc, b":".as_slice())?;
+    out.extend_from_slice(name)?;
+    Ok(Listed::from_vec(out))
+}
+
+/// The parameters under the names by which an expression reads them.
+fn marked_columns(alloc: Global, parameters: &[Column]) -> Result<Columns, Memory>
+    ensures { IfOk result (λ v. v ≡ map marked parameters.now) }
+{
+    let mut out = Listed::new(alloc);
+    for parameter in parameters {
+        let name = marked_name(alloc, parameter.name.as_slice())?;
+        out.push(Column {
+            name,
+            kind: parameter.kind,
+        })?;
+    }
+    Ok(out)
+}
+
+/// What an expression over columns may name: these, and the parameters behind them.
+pub fn reach_of(alloc: Global, sources: Sources<'_>, columns: &[Column]) -> Result<Columns, Memory>
+    ensures { IfOk result (λ v. v ≡ reach_of (scope_of sources.entry).sources columns.now) }
+{
+    let first = copy_of_columns(alloc, columns)?;
+    let behind = marked_columns(alloc, parameters_in(sources))?;
+    joined_columns(first, behind)
 }
 
 /// The columns of items.
@@ -119,13 +173,18 @@ fn item_columns(alloc: Global, columns: &[Column], items: &[Item]) -> Result<Col
     Ok(out)
 }
 
-/// The columns of what a select picks of its source's columns.
-pub fn picked_columns(alloc: Global, columns: Columns, pick: &Pick) -> Result<Columns, Memory>
-    ensures { IfOk result (λ v. v ≡ picked_columns columns (pick_shape pick.now)) }
+/// The columns of what a select picks of its source's columns, from what its expressions may name.
+pub fn picked_columns(
+    alloc: Global,
+    columns: Columns,
+    reach: &[Column],
+    pick: &Pick,
+) -> Result<Columns, Memory>
+    ensures { IfOk result (λ v. v ≡ picked_columns columns reach.now (pick_shape pick.now)) }
 {
     match pick {
         Pick::All => Ok(columns),
-        Pick::Items(items) => item_columns(alloc, columns.as_slice(), items.as_slice()),
+        Pick::Items(items) => item_columns(alloc, reach, items.as_slice()),
     }
 }
 
@@ -251,15 +310,18 @@ pub fn columns_of(alloc: Global, sources: Sources<'_>, query: &Query) -> Result<
         Query::Read(name) => source_columns(alloc, sources, name.text.as_slice()),
         Query::Rows { pick, source, .. } => {
             let columns = columns_of(alloc, sources, source)?;
-            picked_columns(alloc, columns, pick)
+            let reach = reach_of(alloc, sources, columns.as_slice())?;
+            picked_columns(alloc, columns, reach.as_slice(), pick)
         }
         Query::Total { aggs, source } => {
             let columns = columns_of(alloc, sources, source)?;
-            agg_columns(alloc, columns.as_slice(), aggs.as_slice())
+            let reach = reach_of(alloc, sources, columns.as_slice())?;
+            agg_columns(alloc, reach.as_slice(), aggs.as_slice())
         }
         Query::Frames { items, source, .. } => {
             let columns = columns_of(alloc, sources, source)?;
-            frame_columns(alloc, columns.as_slice(), items.as_slice())
+            let reach = reach_of(alloc, sources, columns.as_slice())?;
+            frame_columns(alloc, reach.as_slice(), items.as_slice())
         }
         Query::Each {
             var,
@@ -274,7 +336,8 @@ pub fn columns_of(alloc: Global, sources: Sources<'_>, query: &Query) -> Result<
             ..
         } => {
             let columns = columns_of(alloc, sources, source)?;
-            let inside = Sources::Variable(var.text.as_slice(), columns.as_slice());
+            let parameters = parameters_in(sources);
+            let inside = Sources::Variable(var.text.as_slice(), columns.as_slice(), parameters);
             columns_of(alloc, inside, body)
         }
         Query::PerGroup {
@@ -292,7 +355,8 @@ pub fn columns_of(alloc: Global, sources: Sources<'_>, query: &Query) -> Result<
             ..
         } => {
             let columns = columns_of(alloc, sources, source)?;
-            let inside = Sources::Variable(var.text.as_slice(), columns.as_slice());
+            let parameters = parameters_in(sources);
+            let inside = Sources::Variable(var.text.as_slice(), columns.as_slice(), parameters);
             let later = columns_of(alloc, inside, body)?;
             group_columns(alloc, columns.as_slice(), key.text.as_slice(), later)
         }

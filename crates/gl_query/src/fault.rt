@@ -54,6 +54,9 @@ pub enum QueryFault {
     /// A side of UNION BY ARRIVAL or of ASOF that has a row which does not come of one row that came.
     #[error("no arrival at byte {at}")]
     NoArrival { at: u64 },
+    /// A parameter that the schema does not declare.
+    #[error("unknown parameter at byte {at}")]
+    UnknownParameter { at: u64 },
     /// Memory ran out.
     #[error("out of memory")]
     Memory,

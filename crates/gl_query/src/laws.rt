@@ -43,8 +43,8 @@ pub fn results_fit()
     ensures { ResultsFit }
 {}
 
-/// A result of a query without a window of time goes by the rows of the streams and their places
-/// alone, whatever their times, or ticks.
+/// A result of a query without a window of time goes by the rows of the streams, their places and the
+/// words of the parameters alone, whatever the rows' times, or ticks.
 pub fn results_go_by_rows()
     ensures { ResultsGoByRows }
 {}

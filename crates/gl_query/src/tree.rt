@@ -40,7 +40,8 @@ pub struct Num {
 /// An expression over one row. The place of an operator, a NOT or a CAST is that of its own token.
 #[derive(Drop, Debug)]
 pub enum Expr {
-    /// A column of the row.
+    /// A column of the row; or a parameter, whose name has a colon in front here. The place of a
+    /// parameter is that of its colon.
     Column(Name),
     /// A number.
     Number(Num),

@@ -41,6 +41,18 @@ fn copy_of_streams(alloc: Global, streams: &[Stream]) -> Result<Streams, Memory>
     Ok(out)
 }
 
+// A schema like another.
+fn copy_of_schema(alloc: Global, schema: &Schema) -> Result<Schema, Memory>
+    ensures { IfOk result (λ s. s ≡ schema.now) }
+{
+    let streams = copy_of_streams(alloc, schema.streams.as_slice())?;
+    let parameters = copy_of_columns(alloc, schema.parameters.as_slice())?;
+    Ok(Schema {
+        streams,
+        parameters,
+    })
+}
+
 /// The statement and the schema as they are given, exactly where the statement is accepted over the
 /// schema; and else the first rule that it breaks. Only want of memory may come in place of either.
 pub fn check(alloc: Global, schema: &Schema, statement: Statement) -> Result<Checked, QueryFault>
@@ -53,15 +65,12 @@ pub fn check(alloc: Global, schema: &Schema, statement: Statement) -> Result<Che
     ensures only { IsAccepted schema.now statement → IfErr result (λ e. e ≡ fault.Memory) }
 {
     first_faults_are_exact();
-    let sources = Sources::Schema(schema.streams.as_slice());
+    let sources = Sources::Schema(schema.streams.as_slice(), schema.parameters.as_slice());
     match columns_checked(alloc, sources, &statement.query) {
         Ok(columns) => {
             drop(columns);
-            match copy_of_streams(alloc, schema.streams.as_slice()) {
-                Ok(streams) => {
-                    let schema = Schema { streams };
-                    Ok(Checked { schema, statement })
-                }
+            match copy_of_schema(alloc, schema) {
+                Ok(schema) => Ok(Checked { schema, statement }),
                 Err(_) => {
                     drop(statement);
                     Err(QueryFault::Memory)

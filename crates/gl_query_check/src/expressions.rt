@@ -224,7 +224,23 @@ fn combined(
     }
 }
 
-// A column.
+// A name that is not there: that of a parameter where it begins with a colon, or that of a column.
+fn unknown_fault(name: &[u8], at: u64) -> QueryFault
+    ensures { result ≡ faults.unknown_fault name.now at }
+{
+    match name.split_first() {
+        None => QueryFault::UnknownColumn { at },
+        Some((first, _)) => {
+            if *first == b':' {
+                QueryFault::UnknownParameter { at }
+            } else {
+                QueryFault::UnknownColumn { at }
+            }
+        }
+    }
+}
+
+// A column, or a parameter.
 fn column_judged(columns: &[Column], name: &Name) -> Judged
     ensures { Judges columns.now (tree.Column name.now) result }
 {
@@ -232,7 +248,7 @@ fn column_judged(columns: &[Column], name: &Name) -> Judged
         kind: kinds::column_kind(columns, name.text.as_slice()),
         fault: unless(
             has_column(columns, name.text.as_slice()),
-            QueryFault::UnknownColumn { at: name.at },
+            unknown_fault(name.text.as_slice(), name.at),
         ),
     }
 }

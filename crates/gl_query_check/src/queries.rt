@@ -25,7 +25,8 @@ use crate::rules::{
 use gl_bits::Memory;
 use gl_bits::limits::{MOST_COLUMNS, MOST_COPIES, MOST_GROUPS, MOST_ROWS, MOST_WINDOWS};
 use gl_query::columns::{
-    agg_columns, frame_columns, group_columns, joined_columns, picked_columns, source_columns,
+    agg_columns, frame_columns, group_columns, joined_columns, parameters_in, picked_columns,
+    reach_of, source_columns,
 };
 use gl_query::{
     AggItem, AggItems, Expr, FrameItem, FrameItems, Measure, Name, Num, Pick, Query, QueryFault,
@@ -62,7 +63,7 @@ fn has_times(sources: Sources<'_>, query: &Query) -> bool
 {
     match query {
         Query::Read(_) => match sources {
-            Sources::Schema(_) => true,
+            Sources::Schema(..) => true,
             Sources::Variable(..) => false,
         },
         Query::Rows { .. }
@@ -149,10 +150,11 @@ fn key_fault(key: &Name, columns: &[Column]) -> Option<QueryFault>
 
 // The columns of what a select picks.
 #[tactic(auto, using(gl_query::proofs::Alike::pick_same))]
-fn picked(alloc: Global, columns: Columns, pick: &Pick) -> Result<Columns, Memory>
-    ensures { IfOk result (λ v. v ≡ picked_columns columns (pick_alike (pick_tree pick.now))) }
+fn picked(alloc: Global, columns: Columns, reach: &[Column], pick: &Pick) -> Result<Columns, Memory>
+    ensures { IfOk result
+        (λ v. v ≡ picked_columns columns reach.now (pick_alike (pick_tree pick.now))) }
 {
-    picked_columns(alloc, columns, pick)
+    picked_columns(alloc, columns, reach, pick)
 }
 
 // The columns of aggregates.
@@ -173,55 +175,53 @@ fn framed(alloc: Global, columns: &[Column], items: &[FrameItem]) -> Result<Colu
     frame_columns(alloc, columns, items)
 }
 
-// A select of items over columns.
+// A select of items over columns, from what expressions may name.
 #[tactic(auto, using(crate::proofs::Passing::passing))]
 fn rows_checked(
     alloc: Global,
     columns: Columns,
+    reach: &[Column],
     pick: &Pick,
     filter: &Option<Expr>,
 ) -> Result<Columns, QueryFault>
-    ensures { let of_pick = faults.pick_fault columns (pick_tree pick.now) in
-        let of_filter = faults.filter_fault columns (filter_tree filter.now) in
-        let out = picked_columns columns (pick_alike (pick_tree pick.now)) in
+    ensures { let of_pick = faults.pick_fault reach.now (pick_tree pick.now) in
+        let of_filter = faults.filter_fault reach.now (filter_tree filter.now) in
+        let out = picked_columns columns reach.now (pick_alike (pick_tree pick.now)) in
         Answers (faults.or_else of_pick of_filter) out result }
 {
-    refuse(pick_fault(columns.as_slice(), pick))?;
-    refuse(filter_fault(columns.as_slice(), filter))?;
-    Ok(picked(alloc, columns, pick)?)
+    refuse(pick_fault(reach, pick))?;
+    refuse(filter_fault(reach, filter))?;
+    Ok(picked(alloc, columns, reach, pick)?)
 }
 
-// A select of aggregates over columns.
+// A select of aggregates, from what expressions may name.
 #[tactic(auto, using(crate::proofs::Passing::passing))]
-fn total_checked(alloc: Global, columns: Columns, aggs: &AggItems) -> Result<Columns, QueryFault>
+fn total_checked(alloc: Global, reach: &[Column], aggs: &AggItems) -> Result<Columns, QueryFault>
     ensures { let trees = map agg_item_tree aggs.now in
-        let out = map (agg_column columns) (map agg_item_alike trees) in
-        Answers (faults.aggs_fault columns [] trees) out result }
+        let out = map (agg_column reach.now) (map agg_item_alike trees) in
+        Answers (faults.aggs_fault reach.now [] trees) out result }
 {
-    refuse(aggs_fault(columns.as_slice(), aggs.as_slice(), 0))?;
-    Ok(totalled(alloc, columns.as_slice(), aggs.as_slice())?)
+    refuse(aggs_fault(reach, aggs.as_slice(), 0))?;
+    Ok(totalled(alloc, reach, aggs.as_slice())?)
 }
 
-// A select of frames over columns.
+// A select of frames, from what expressions may name.
 #[tactic(auto, using(crate::proofs::Passing::passing))]
 fn frames_checked(
     alloc: Global,
-    columns: Columns,
+    reach: &[Column],
     items: &FrameItems,
     filter: &Option<Expr>,
-    slots: &Option<Slots>,
 ) -> Result<Columns, QueryFault>
     ensures { let trees = map frame_item_tree items.now in
-        let of_slots = faults.slots_fault columns slots.now in
-        let of_items = faults.frames_fault columns [] trees in
-        let of_filter = faults.filter_fault columns (filter_tree filter.now) in
-        let out = map (frame_column columns) (map frame_item_alike trees) in
-        Answers (faults.or_else of_slots (faults.or_else of_items of_filter)) out result }
+        let of_items = faults.frames_fault reach.now [] trees in
+        let of_filter = faults.filter_fault reach.now (filter_tree filter.now) in
+        let out = map (frame_column reach.now) (map frame_item_alike trees) in
+        Answers (faults.or_else of_items of_filter) out result }
 {
-    refuse(slots_fault(columns.as_slice(), slots))?;
-    refuse(frames_fault(columns.as_slice(), items.as_slice(), 0))?;
-    refuse(filter_fault(columns.as_slice(), filter))?;
-    Ok(framed(alloc, columns.as_slice(), items.as_slice())?)
+    refuse(frames_fault(reach, items.as_slice(), 0))?;
+    refuse(filter_fault(reach, filter))?;
+    Ok(framed(alloc, reach, items.as_slice())?)
 }
 
 /// The columns of a query, where it is accepted over the sources that it may read, or its first
@@ -247,11 +247,13 @@ pub fn columns_checked(
             source,
         } => {
             let columns = columns_checked(alloc, sources, source)?;
-            rows_checked(alloc, columns, pick, filter)
+            let reach = reach_of(alloc, sources, columns.as_slice())?;
+            rows_checked(alloc, columns, reach.as_slice(), pick, filter)
         }
         Query::Total { aggs, source } => {
             let columns = columns_checked(alloc, sources, source)?;
-            total_checked(alloc, columns, aggs)
+            let reach = reach_of(alloc, sources, columns.as_slice())?;
+            total_checked(alloc, reach.as_slice(), aggs)
         }
         Query::Frames {
             items,
@@ -260,7 +262,9 @@ pub fn columns_checked(
             source,
         } => {
             let columns = columns_checked(alloc, sources, source)?;
-            frames_checked(alloc, columns, items, filter, slots)
+            let reach = reach_of(alloc, sources, columns.as_slice())?;
+            refuse(slots_fault(columns.as_slice(), slots))?;
+            frames_checked(alloc, reach.as_slice(), items, filter)
         }
         Query::Each {
             var,
@@ -272,7 +276,8 @@ pub fn columns_checked(
         } => {
             let columns = columns_checked(alloc, sources, source)?;
             refuse(window_fault(Measure::Tuples, *size, *advance))?;
-            let inside = Sources::Variable(var.text.as_slice(), columns.as_slice());
+            let parameters = parameters_in(sources);
+            let inside = Sources::Variable(var.text.as_slice(), columns.as_slice(), parameters);
             let out = columns_checked(alloc, inside, body)?;
             refuse(unless(is_closing(body), QueryFault::NotClosing { at: *at }))?;
             Ok(out)
@@ -289,7 +294,8 @@ pub fn columns_checked(
             let timed = has_times(sources, source);
             refuse(unless(timed, QueryFault::NoTime { at: *at }))?;
             refuse(window_fault(Measure::Time, *size, *advance))?;
-            let inside = Sources::Variable(var.text.as_slice(), columns.as_slice());
+            let parameters = parameters_in(sources);
+            let inside = Sources::Variable(var.text.as_slice(), columns.as_slice(), parameters);
             let out = columns_checked(alloc, inside, body)?;
             refuse(unless(is_closing(body), QueryFault::NotClosing { at: *at }))?;
             Ok(out)
@@ -307,7 +313,8 @@ pub fn columns_checked(
             refuse(unless(known, QueryFault::UnknownColumn { at: key.at }))?;
             let within = is_within(groups.value, MOST_GROUPS);
             refuse(unless(within, QueryFault::OutOfRange { at: groups.at }))?;
-            let inside = Sources::Variable(var.text.as_slice(), columns.as_slice());
+            let parameters = parameters_in(sources);
+            let inside = Sources::Variable(var.text.as_slice(), columns.as_slice(), parameters);
             let later = columns_checked(alloc, inside, body)?;
             refuse(unless(is_closing(body), QueryFault::NotClosing { at: *at }))?;
             refuse(key_fault(key, later.as_slice()))?;
@@ -330,7 +337,8 @@ pub fn columns_checked(
             refuse(unless(within, QueryFault::OutOfRange { at: groups.at }))?;
             refuse(window_fault(Measure::Tuples, *size, *advance))?;
             refuse(windows_fault(*groups, *size, *advance))?;
-            let inside = Sources::Variable(var.text.as_slice(), columns.as_slice());
+            let parameters = parameters_in(sources);
+            let inside = Sources::Variable(var.text.as_slice(), columns.as_slice(), parameters);
             let later = columns_checked(alloc, inside, body)?;
             refuse(unless(is_closing(body), QueryFault::NotClosing { at: *at }))?;
             refuse(key_fault(key, later.as_slice()))?;

@@ -3,6 +3,7 @@
 ghost use Rattle.std.specs.Prelude.{◌≡◌, nat_lt, bytes_eq};
 ghost use Rattle.std.specs.List.{list_all, list_any};
 ghost use Rattle.gl_schema.specs.Schemas.{column_names, has_column, has_stream, kinds_of};
+ghost use Rattle.gl_query.specs.Accepted.{can_read};
 ghost use Rattle.gl_query.specs.Faults as faults;
 ghost use Rattle.gl_query.specs.Sources.{scope_of};
 ghost use Rattle.gl_query.specs.Values as values;
@@ -113,14 +114,17 @@ fn has_stream(streams: &[Stream], name: &[u8]) -> bool
     }
 }
 
-/// Whether a source has a name.
+/// Whether a source that can be read has a name.
 #[tactic(auto, unfolding(gl_schema::specs::Schemas::has_stream), using(crate::proofs::Testing::one_source))]
 pub fn has_source(sources: Sources<'_>, name: &[u8]) -> bool
-    ensures { result ≡ has_stream (scope_of sources.entry).sources name.now }
+    ensures { result ≡ can_read (scope_of sources.entry).sources name.now }
 {
+    if name == b":".as_slice() {
+        return false;
+    }
     match sources {
-        Sources::Schema(streams) => has_stream(streams, name),
-        Sources::Variable(var, _) => name == var,
+        Sources::Schema(streams, _) => has_stream(streams, name),
+        Sources::Variable(var, _, _) => name == var,
     }
 }
 

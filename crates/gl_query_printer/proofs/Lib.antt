@@ -2,6 +2,7 @@ pub mod Operands
 pub mod KeyedWindows
 pub mod Loops
 pub mod Places
+pub mod Named
 pub mod Lexed
 pub mod Writable
 pub mod WritableQueries

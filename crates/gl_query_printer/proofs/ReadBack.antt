@@ -1,5 +1,5 @@
 -- What is read from tokens that are the canonical ones but for their places.
-use Rattle.std.proofs.Common.{◌≡◌, ℕ, ◌<◌, ◌≤◌, Bool, true, false, List, [], ◌∷◌, ◌++◌, map, None, refl, sym, ap, subst, ◌∙◌, arith, leb-true, lit<}
+use Rattle.std.proofs.Common.{◌≡◌, ℕ, ◌<◌, ◌≤◌, Bool, true, false, List, [], ◌∷◌, ◌++◌, map, None, refl, sym, ap, subst, ◌∙◌, arith, leb-true, lit<, inl, inr}
 use Rattle.std.specs.Prelude.{◌||◌, nat_le, nat_lt, if◌then◌else◌}
 use Rattle.std.specs.List.{AllByRecursion, list_any}
 use Rattle.std.proofs.lemmas.Bool.{ltb-true, true≢false}
@@ -20,9 +20,10 @@ use Rattle.gl_query_reader.specs.Written.{level, looseness, left_looseness, IsEx
 use Rattle.gl_query_reader.specs.Meaning.{expr_meaning, agg_meaning, plain_items, agg_items, is_total, is_framed, has_over}
 use Rattle.gl_query_reader.specs.Mixed.{first_other, same}
 use Rattle.gl_query.specs.Alike.{expr_alike, agg_alike, item_alike, agg_item_alike}
-use Rattle.gl_query_printer.specs.Canonical.{name_of, num_of, fitted, expr_of, agg_of, is_bare, item_of, agg_item_of}
+use Rattle.gl_query_printer.specs.Canonical.{name_of, num_of, column_of, fitted, expr_of, agg_of, is_bare, item_of, agg_item_of}
+use Rattle.gl_query_printer.proofs.Named.{name_column, parameter_column}
 use Rattle.gl_query_printer.proofs.Places.{placeless, parts, first, alone}
-use Rattle.gl_query_printer.proofs.Writable.{CanBeExpr, CanBeAgg, CanBeItem, CanBeAggItem}
+use Rattle.gl_query_printer.proofs.Writable.{CanBeColumn, CanBeExpr, CanBeAgg, CanBeItem, CanBeAggItem}
 
 -- ---- lists of tokens, part by part
 
@@ -81,10 +82,24 @@ binds op.Or = lit< tt
 none_least : (n : ℕ) → 0 ≤ n
 none_least n = omega arith
 
+read_column : (name : List ℕ) → CanBeColumn name → (us : List Token) → map placeless us ≡ spell (column_of name) → ReadExpr us (shape.Column name)
+read_column name (inl c) us h =
+    let a = alone us (token.Name (name_of name)) (subst (λ (e : written.Expr). map placeless us ≡ spell e) (name_column name c) h) in
+    record { tree = written.Column (record { text = name; at = a.at }); spelled = sym a.whole; level_is = sym (ap level (name_column name c)); grammar = tt; alike = refl }
+read_column [] (inr c) us h = absurd c
+read_column (b ∷ name) (inr c) us h =
+    let a = first us (token.Colon 0) (token.Name (name_of name) ∷ []) (subst (λ (e : written.Expr). map placeless us ≡ spell e) (parameter_column b name c.0) h) in
+    let n = alone a.rest (token.Name (name_of name)) a.rest_is in
+    record {
+      tree = written.Parameter a.at (record { text = name; at = n.at });
+      spelled = cons (token.Colon a.at) us a.rest _ a.whole (sym n.whole);
+      level_is = sym (ap level (parameter_column b name c.0));
+      grammar = tt;
+      alike = ap (λ (x : ℕ). shape.Column (x ∷ name)) (sym c.0);
+    }
+
 pub read_expr : (e : ExprShape) → CanBeExpr e → (us : List Token) → map placeless us ≡ spell (expr_of e) → ReadExpr us e
-read_expr (shape.Column name) c us h =
-    let a = alone us (token.Name (name_of name)) h in
-    record { tree = written.Column (record { text = name; at = a.at }); spelled = sym a.whole; level_is = refl; grammar = tt; alike = refl }
+read_expr (shape.Column name) c us h = read_column name c us h
 read_expr (shape.Number n) c us h =
     let a = alone us (token.Number (num_of n)) h in
     record { tree = written.Number (record { value = n; at = a.at }); spelled = sym a.whole; level_is = refl; grammar = tt; alike = refl }

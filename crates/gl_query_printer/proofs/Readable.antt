@@ -1,5 +1,5 @@
 -- The canonical tokens can be read from their text.
-use Rattle.std.proofs.Common.{◌≡◌, ℕ, ◌+◌, Bool, true, false, List, [], ◌∷◌, ◌++◌, map, Option, Some, None, option_map, refl, ap}
+use Rattle.std.proofs.Common.{◌≡◌, ℕ, ◌+◌, Bool, true, false, List, [], ◌∷◌, ◌++◌, map, Option, Some, None, option_map, refl, ap, inl, inr}
 use Rattle.std.specs.Prelude.{codes, if◌then◌else◌}
 use Rattle.std.specs.List.{AllByRecursion}
 use Rattle.gl_values.specs.declared.op.Op.{Op}
@@ -22,18 +22,19 @@ use Rattle.gl_query_tokens.specs.Tokens.{class_of, follow_of, sign_token}
 use Rattle.gl_query_tokens.specs.Words.{is_keyword, word_text, word_token}
 use Rattle.gl_query_reader.specs.Written as written
 use Rattle.gl_query_reader.specs.Written.{measure_word, spell, spell_numbers, spell_agg, spell_over_agg, spell_filtering, spell_bound, spell_head, spell_part, spell_rows, spell_over, spell_item, spell_items, spell_pick, spell_window, spell_filter, spell_grouping, spell_query}
-use Rattle.gl_query_printer.specs.Canonical.{name_of, num_of, fitted, expr_of, agg_of, is_bare, item_of, agg_item_of, over_agg_of, filtering_of, bound_of, rows_of, partition_of, frame_by, frame_item_of, pick_of, bracketed_unless, side_of, source_of, term_of, window_of, grouping_of, query_of, canonical_tokens}
+use Rattle.gl_query_printer.specs.Canonical.{name_of, num_of, fitted, expr_of, agg_of, is_bare, item_of, agg_item_of, over_agg_of, filtering_of, bound_of, rows_of, partition_of, frame_by, frame_item_of, pick_of, bracketed_unless, side_of, source_of, term_of, window_of, grouping_of, query_of, canonical_tokens, column_of}
 use Rattle.gl_query_printer.specs.declared.text.Behind.{Behind}
 use Rattle.gl_query_printer.specs.declared.text.Behind.TheVariants.{Opening, Named, Operand, Sign, Other}
 use Rattle.gl_query_printer.specs.Spaced.{token_text, plain_text, operator_text, fold_text, join_text, place_behind}
 use Rattle.gl_query_printer.proofs.Lexed.{Readable, ReadAs, Apart, Ends, EndsIn, dash_ends, ends_apart, half_ends, letters_readable, no_number, read_word}
 use Rattle.gl_query_tokens.proofs.Sound.{is_word}
 use Rattle.gl_query_printer.proofs.ReadableWords.{over_readable, filter_word_readable, partition_word_readable, rows_word_readable, preceding_readable, unbounded_readable, arrival_readable, as_of_readable, lag_word, last_value_word}
+use Rattle.gl_query_printer.proofs.Named.{name_column, parameter_column}
 use Rattle.gl_query_printer.proofs.Places.{placeless}
 use Rattle.gl_query_tokens.proofs.Sound.{IsNameWord, IsSmall}
 use Rattle.gl_bits.proofs.AllLists.{all_append}
 use Rattle.gl_query_printer.proofs.Decimals.{number_readable}
-use Rattle.gl_query_printer.proofs.Writable.{CanBeExpr, AreWeights, CanBeAgg, CanBeItem, CanBeAggItem, CanBeFrameAgg, CanBeBack, CanBeFrame, CanBeFrameItem, CanBeSlots, CanBePick, CanBeFilter, CanBeSource}
+use Rattle.gl_query_printer.proofs.Writable.{CanBeColumn, CanBeExpr, AreWeights, CanBeAgg, CanBeItem, CanBeAggItem, CanBeFrameAgg, CanBeBack, CanBeFrame, CanBeFrameItem, CanBeSlots, CanBePick, CanBeFilter, CanBeSource}
 use Rattle.gl_query_printer.proofs.WritableQueries.{CanBeStatement}
 
 -- ---- tokens
@@ -45,6 +46,10 @@ name_readable w h = no_number refl (λ p at bs e. read_word w (token.Name (name_
 open_readable : Readable (token.Open 0)
 unfolding token_text place_behind class_of sign_token
 open_readable = no_number refl (λ p at bs e. record { behind = at + 1; is = refl })
+
+colon_readable : Readable (token.Colon 0)
+unfolding token_text place_behind class_of sign_token
+colon_readable = no_number refl (λ p at bs e. record { behind = at + 1; is = refl })
 
 close_readable : Readable (token.Plain plain.Close)
 unfolding token_text plain_text class_of sign_token
@@ -184,8 +189,13 @@ fitted_readable : (fits : Bool) (e : written.Expr) → AreReadable (spell e) →
 fitted_readable true e h = h
 fitted_readable false e h = (open_readable, join (spell e) (token.Plain plain.Close ∷ []) h closed)
 
+column_readable : (name : List ℕ) → CanBeColumn name → AreReadable (spell (column_of name))
+column_readable name (inl h) = rw (name_column name h) (name_readable name h, tt)
+column_readable [] (inr h) = absurd h
+column_readable (b ∷ name) (inr h) = rw (parameter_column b name h.0) (colon_readable, (name_readable name h.1, tt))
+
 expr_readable : (e : ExprShape) → CanBeExpr e → AreReadable (spell (expr_of e))
-expr_readable (shape.Column name) c = (name_readable name c, tt)
+expr_readable (shape.Column name) c = column_readable name c
 expr_readable (shape.Number n) c = (number_readable n c, tt)
 expr_readable (shape.Minus n) c = (operator_readable op.Sub, (number_readable n c, tt))
 expr_readable (shape.Letters text) c = (letters_readable text c, tt)

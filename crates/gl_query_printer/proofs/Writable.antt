@@ -1,5 +1,5 @@
 -- What has a canonical text: what some text has.
-use Rattle.std.proofs.Common.{◌≡◌, ℕ, Bool, true, false, List, [], ◌∷◌, ◌++◌, map, Option, Some, None, option_map, refl, sym, ap, subst, ◌∙◌}
+use Rattle.std.proofs.Common.{◌≡◌, ℕ, Bool, true, false, List, [], ◌∷◌, ◌++◌, map, Option, Some, None, option_map, refl, sym, ap, subst, ◌∙◌, inl, inr, ◌⊎◌}
 use Rattle.std.specs.List.{AllByRecursion, list_any}
 use Rattle.std.proofs.lemmas.Bool.{true≢false}
 use Rattle.gl_values.specs.declared.kind.Kind.{Kind}
@@ -27,8 +27,17 @@ use Rattle.gl_query.specs.Alike.{expr_alike, agg_alike, item_alike, agg_item_ali
 use Rattle.gl_query_tokens.proofs.Sound.{IsLetters, IsNameWord, IsSmall, IsSound}
 use Rattle.gl_query_reader.proofs.Regular.{sound_parts, AreSound}
 
+-- a colon and a name
+abbrev pub IsParameterWord : List ℕ → Type 0
+IsParameterWord [] = ⊥
+IsParameterWord (b ∷ name) = (b ≡ 58) × IsNameWord name
+
+-- a column, or a parameter
+abbrev pub CanBeColumn : List ℕ → Type 0
+CanBeColumn name = IsNameWord name ⊎ IsParameterWord name
+
 abbrev pub CanBeExpr : ExprShape → Type 0
-CanBeExpr (shape.Column name) = IsNameWord name
+CanBeExpr (shape.Column name) = CanBeColumn name
 CanBeExpr (shape.Number n) = IsSmall n
 CanBeExpr (shape.Minus n) = IsSmall n
 CanBeExpr (shape.Letters text) = IsLetters text
@@ -146,9 +155,10 @@ kind_word word kind e h =
     (subst IsNameWord (sym k.0) h, ap kind_named k.0 ∙ e)
 
 pub expr_can : (e : written.Expr) → written.IsExpr e → AreSound (written.spell e) → CanBeExpr (expr_alike (expr_meaning e))
-expr_can (written.Column name) g h = h.0
+expr_can (written.Column name) g h = inl h.0
 expr_can (written.Number n) g h = h.0
 expr_can (written.Minus at n) g h = h.1.0
+expr_can (written.Parameter at name) g h = inr (refl, h.1.0)
 expr_can (written.Letters text at) g h = h.0
 expr_can (written.Brackets at e) g h = expr_can e g (sound_parts (written.spell e) (token.Plain plain.Close ∷ []) h.1).0
 expr_can (written.Cast at open' e word kind) g h =
@@ -197,7 +207,7 @@ each_sound (i ∷ j ∷ is) g h =
 
 pub plain_can : (is : List written.Item) → AllByRecursion IsSoundItem is → AllByRecursion CanBeItem (map item_alike (plain_items is))
 plain_can [] h = tt
-plain_can (written.Bare name ∷ is) h = ((h.0.1.0, h.0.1.0), plain_can is h.1)
+plain_can (written.Bare name ∷ is) h = ((inl h.0.1.0, h.0.1.0), plain_can is h.1)
 plain_can (written.Named e name ∷ is) h =
     let p = sound_parts (written.spell e) (token.Plain plain.As ∷ token.Name name ∷ []) h.0.1 in
     ((expr_can e h.0.0 p.0, p.1.1.0), plain_can is h.1)
@@ -271,7 +281,7 @@ over_can (written.OverOf (written.Ranged a f) w open' k r) g h =
 
 pub frames_can : (is : List written.Item) → AllByRecursion IsSoundItem is → AllByRecursion CanBeFrameItem (map frame_item_alike (frame_items is))
 frames_can [] h = tt
-frames_can (written.Bare name ∷ is) h = ((h.0.1.0, h.0.1.0), frames_can is h.1)
+frames_can (written.Bare name ∷ is) h = ((inl h.0.1.0, h.0.1.0), frames_can is h.1)
 frames_can (written.Named e name ∷ is) h =
     let p = sound_parts (written.spell e) (token.Plain plain.As ∷ token.Name name ∷ []) h.0.1 in
     ((expr_can e h.0.0 p.0, p.1.1.0), frames_can is h.1)

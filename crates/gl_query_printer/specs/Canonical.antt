@@ -1,5 +1,5 @@
 -- The statement that the canonical text writes: brackets stand exactly where the grammar needs them.
-use Rattle.std.specs.Prelude.{ℕ, Bool, true, false, List, map, bytes_eq, nat_le, nat_lt, Option, None, Some, option_map, if◌then◌else◌}
+use Rattle.std.specs.Prelude.{ℕ, Bool, true, false, List, [], ◌∷◌, ◌==◌, map, bytes_eq, nat_le, nat_lt, Option, None, Some, option_map, if◌then◌else◌}
 use Rattle.gl_schema.specs.SchemaText.{kind_text}
 use Rattle.gl_query.specs.declared.tree.Measure.{Measure}
 use Rattle.gl_query.specs.declared.tree.Name.{Name}
@@ -18,7 +18,7 @@ use Rattle.gl_query_reader.specs.declared.written.RowWindow.{RowWindow}
 use Rattle.gl_query_reader.specs.declared.written.Window.{Window}
 use Rattle.gl_query_reader.specs.declared.written.Grouping.{Grouping}
 use Rattle.gl_query_reader.specs.declared.written.Part.{Part}
-use Rattle.gl_query_reader.specs.Written.{Expr, Column, Number, Minus, Letters, Brackets, Cast, Not, Binary, Agg, Count, Fold', Wsum, OverAgg, CountOf, FoldOf, LastOf, Filtering, FilterOf, LagOf, Ranged, OverOf, Item, Bare, Named, Total, Framed, Pick, All, Items, Query, Stream, InBrackets, Select, Windows, Groups, AsOf', Join', Statement, level, looseness, left_looseness, spell_statement}
+use Rattle.gl_query_reader.specs.Written.{Expr, Column, Number, Minus, Letters, Brackets, Cast, Not, Binary, Agg, Count, Fold', Wsum, OverAgg, CountOf, FoldOf, LastOf, Filtering, FilterOf, LagOf, Ranged, OverOf, Item, Bare, Named, Total, Framed, Pick, All, Items, Query, Stream, InBrackets, Select, Windows, Groups, AsOf', Join', Statement, level, looseness, left_looseness, spell_statement, Parameter}
 use Rattle.gl_query_printer.specs.Brackets.{is_side, is_stream, is_term}
 
 -- what has no place of its own yet has place 0
@@ -34,9 +34,14 @@ abbrev pub fitted : Bool → Expr → Expr
 fitted true e = e
 fitted false e = Brackets 0 e
 
+-- a column by its name, or a parameter behind its colon
+abbrev pub column_of : List ℕ → Expr
+column_of [] = Column (name_of [])
+column_of (b ∷ name) = if b == 58 then Parameter 0 (name_of name) else Column (name_of (b ∷ name))
+
 -- an operand is in brackets exactly where it is looser than the grammar allows in its place
 abbrev pub expr_of : ExprShape → Expr
-expr_of (shape.Column name) = Column (name_of name)
+expr_of (shape.Column name) = column_of name
 expr_of (shape.Number n) = Number (num_of n)
 expr_of (shape.Minus n) = Minus 0 (num_of n)
 expr_of (shape.Letters text) = Letters text 0

@@ -91,6 +91,7 @@ token_text (token.Number n) = number_text n.value
 token_text (token.Letters text at) = letters_text text
 token_text (token.Operator o at) = operator_text o
 token_text (token.Open at) = codes "("
+token_text (token.Colon at) = codes ":"
 token_text (token.Not at) = codes "NOT"
 token_text (token.Cast at) = codes "CAST"
 token_text (token.Count at) = codes "count"
@@ -120,6 +121,7 @@ is_sign b t = false
 -- what the place behind a token is that is no number's sign
 abbrev pub behind_token : Token → Behind
 behind_token (token.Open at) = Opening
+behind_token (token.Colon at) = Opening
 behind_token (token.Plain plain.LeftSquare) = Opening
 behind_token (token.Name name) = Named
 behind_token (token.Count at) = Named
@@ -153,7 +155,7 @@ abbrev pub is_number : Token → Bool
 is_number (token.Number n) = true
 is_number t = false
 
--- a space stands before a token, but none behind `(` and `[`, at the text's beginning, between a name or the keyword of
+-- a space stands before a token, but none behind `(`, `[` and `:`, at the text's beginning, between a name or the keyword of
 -- an aggregate and a bracket, or between a number's sign and the number
 abbrev pub needs_space : Behind → Token → Bool
 needs_space Opening t = false

@@ -6,7 +6,7 @@ ghost use Rattle.gl_query_tokens.specs.declared.token.Token.TheVariants as token
 ghost use Rattle.gl_query_tokens.specs.declared.token.Plain.TheVariants as plain;
 ghost use Rattle.gl_schema.specs.SchemaText.{kind_text};
 ghost use Rattle.gl_query_reader.specs.Written as written;
-ghost use Rattle.gl_query_printer.specs.Canonical.{expr_of, name_of};
+ghost use Rattle.gl_query_printer.specs.Canonical.{column_of, expr_of, name_of};
 
 use crate::tokens::{
     close_unless, open_unless, put, put_kind, put_name, put_number, put_open, put_plain,
@@ -19,6 +19,7 @@ use gl_values::Kind;
 use std::alloc::Global;
 
 // How loose an expression is.
+#[tactic(auto, using(crate::proofs::Named::column_level))]
 fn level(expr: &Expr) -> u8
     ensures { result ≡ written.level (expr_of (expr_shape expr.now)) }
 {
@@ -30,6 +31,23 @@ fn level(expr: &Expr) -> u8
         | Expr::Cast { .. } => 0,
         Expr::Not { .. } => 4,
         Expr::Binary { op, .. } => looseness(*op),
+    }
+}
+
+// Puts a column, or a parameter behind its colon.
+fn put_column(alloc: Global, tokens: &mut Vec<Token>, name: &[u8]) -> Result<(), Memory>
+    ensures { OnOk result (tokens.new.items ≡ tokens.old.items
+        ++ written.spell (column_of name.now)) }
+{
+    match name.split_first() {
+        None => put_name(alloc, tokens, name),
+        Some((first, rest)) => {
+            if *first != b':' {
+                return put_name(alloc, tokens, name);
+            }
+            put(tokens, Token::Colon { at: 0 })?;
+            put_name(alloc, tokens, rest)
+        }
     }
 }
 
@@ -59,7 +77,7 @@ pub(crate) fn put_expr(alloc: Global, tokens: &mut Vec<Token>, expr: &Expr) -> R
         ++ written.spell (expr_of (expr_shape expr.now))) }
 {
     match expr {
-        Expr::Column(name) => put_name(alloc, tokens, name.text.as_slice()),
+        Expr::Column(name) => put_column(alloc, tokens, name.text.as_slice()),
         Expr::Number(number) => put_number(tokens, number.value),
         Expr::Minus(number) => {
             put(tokens, Token::Operator { op: Op::Sub, at: 0 })?;

@@ -11,7 +11,7 @@ use itoa::Buffer;
 /// What the place behind a token is.
 #[derive(Clone, Copy, PartialEq, Eq, Debug)]
 pub enum Behind {
-    /// The text's beginning, or behind `(` or `[`.
+    /// The text's beginning, or behind `(`, `[` or `:`.
     Opening,
     /// Behind a name, or behind the keyword of an aggregate.
     Named,
@@ -148,6 +148,7 @@ fn put_token(text: &mut Vec<u8>, token: &Token) -> Result<(), Memory>
         Token::Letters { text: letters, .. } => put_letters(text, letters.as_slice()),
         Token::Operator { op, .. } => put(text, operator_text(*op)),
         Token::Open { .. } => put(text, b"("),
+        Token::Colon { .. } => put(text, b":"),
         Token::Not { .. } => put(text, b"NOT"),
         Token::Cast { .. } => put(text, b"CAST"),
         Token::Count { .. } => put(text, b"count"),
@@ -188,7 +189,9 @@ fn behind_token(token: &Token) -> Behind
     ensures { result ≡ spec.behind_token token.now }
 {
     match token {
-        Token::Open { .. } | Token::Plain(Plain::LeftSquare) => Behind::Opening,
+        Token::Open { .. } | Token::Colon { .. } | Token::Plain(Plain::LeftSquare) => {
+            Behind::Opening
+        }
         Token::Name(_) => Behind::Named,
         Token::Count { .. } | Token::Wsum { .. } | Token::Fold { .. } => Behind::Named,
         Token::Operator { .. } | Token::Not { .. } => Behind::Operand,

@@ -14,8 +14,8 @@ use Rattle.gl_query_tokens.specs.Sorts.{plain_eq, word_eq}
 use Rattle.gl_query_reader.specs.declared.joins.Joining.TheVariants as joining
 use Rattle.gl_query_reader.specs.declared.over_state.Call.{Call}
 use Rattle.gl_query_reader.specs.declared.written.Window.{Window}
-use Rattle.gl_query_reader.specs.Written.{Expr, Column, Minus, Cast, Count, OverAgg, Item, Pick, All, Query, Stream}
-use Rattle.gl_query_reader.specs.States.{State, Control, Frame, SelectHead, EachHead, SelectGroups, InCast, InItem, InFold, InWsum, InCall, InCondition, WantTerm, WantItem, WantOperand, WantMinus, HaveExpr, WantCastOpen, WantKind, WantCastClose, WantCountOpen, WantCountClose, WantFoldOpen, WantWsumOpen, WantWeightsOpen, WantWeight, HaveWeight, WantWsumClose, HaveAgg, WantCallOpen, WantBack, WantLagClose, WantOver, WantFilterOpen, WantFilterWhere, WantOverOpen, WantPart, WantPartBy, InOver, WantOverAs, WantItemName, HaveItem, WantFrom, WantSource, HaveSource, HaveEachSource, WantSize, WantSizeNumber, WantAdvance, WantAdvanceNumber, WantMeasure, WantWindowClose, WantBy, WantKey, WantGroups, WantGroupsNumber, WantVar, WantIn, WantBody, HaveTerm, WantName, HaveName, WantEnd, JoinOf, WantArrival, JoinHead, JoinGroups, WantJoinBy}
+use Rattle.gl_query_reader.specs.Written.{Expr, Column, Minus, Cast, Count, OverAgg, Item, Pick, All, Query, Stream, Parameter}
+use Rattle.gl_query_reader.specs.States.{State, Control, Frame, SelectHead, EachHead, SelectGroups, InCast, InItem, InFold, InWsum, InCall, InCondition, WantTerm, WantItem, WantOperand, WantMinus, HaveExpr, WantCastOpen, WantKind, WantCastClose, WantCountOpen, WantCountClose, WantFoldOpen, WantWsumOpen, WantWeightsOpen, WantWeight, HaveWeight, WantWsumClose, HaveAgg, WantCallOpen, WantBack, WantLagClose, WantOver, WantFilterOpen, WantFilterWhere, WantOverOpen, WantPart, WantPartBy, InOver, WantOverAs, WantItemName, HaveItem, WantFrom, WantSource, HaveSource, HaveEachSource, WantSize, WantSizeNumber, WantAdvance, WantAdvanceNumber, WantMeasure, WantWindowClose, WantBy, WantKey, WantGroups, WantGroupsNumber, WantVar, WantIn, WantBody, HaveTerm, WantName, HaveName, WantEnd, JoinOf, WantArrival, JoinHead, JoinGroups, WantJoinBy, WantParameter}
 use Rattle.gl_query_reader.specs.Machine.{step}
 use Rattle.gl_query_reader.proofs.Steps.{steps, state}
 use Rattle.gl_query_reader.proofs.ReadExpressions.{wanting, having}
@@ -39,6 +39,10 @@ item_step fs items = refl
 minus_step : (fs : List Frame) (at : ℕ) → step (state (WantMinus at) fs) (token.Number some_number) ≡ Some (having (Minus at some_number) fs)
 unfolding step
 minus_step fs at = refl
+
+parameter_step : (fs : List Frame) (at : ℕ) → step (state (WantParameter at) fs) (token.Name some_name) ≡ Some (having (Parameter at some_name) fs)
+unfolding step
+parameter_step fs at = refl
 
 cast_open_step : (fs : List Frame) (at : ℕ) → step (state (WantCastOpen at) fs) (token.Open 0) ≡ Some (wanting (InCast at 0 ∷ fs))
 unfolding step
@@ -118,6 +122,7 @@ state_ends WantTerm fs f h = want_term_ends fs f h
 state_ends (WantItem items) fs f h = by_token _ (having (Column some_name) (InItem items ∷ fs)) (token.Name some_name) (item_step fs items) (have_expr_ends (InItem items ∷ fs) (Column some_name) (h, f) tt)
 state_ends WantOperand fs f h = operand_ends fs f h
 state_ends (WantMinus at) fs f h = by_token _ (having (Minus at some_number) fs) (token.Number some_number) (minus_step fs at) (have_expr_ends fs (Minus at some_number) f h)
+state_ends (WantParameter at) fs f h = by_token _ (having (Parameter at some_name) fs) (token.Name some_name) (parameter_step fs at) (have_expr_ends fs (Parameter at some_name) f h)
 state_ends (HaveExpr e) fs f h = have_expr_ends fs e f h.0
 state_ends (WantCastOpen at) fs f h = by_token _ (wanting (InCast at 0 ∷ fs)) (token.Open 0) (cast_open_step fs at) (operand_ends (InCast at 0 ∷ fs) (h, f) tt)
 state_ends (WantKind at open' e) fs f h = kind_then fs at open' e (expr_ends fs (Cast at open' e some_word (Unsigned 1)) f h.0)

@@ -8,7 +8,7 @@ use Rattle.gl_query_tokens.specs.declared.token.Token.TheVariants as token
 use Rattle.gl_query_reader.specs.declared.limits.Counts.{Counts}
 use Rattle.gl_query_reader.specs.Limits.{IsSmall, after, is_past, keeps_limits}
 use Rattle.gl_query_reader.specs.Sizes.{expr_depth, operators_of}
-use Rattle.gl_query_reader.specs.Written.{Expr, Column, Number, Minus, Letters, Brackets, Cast, Not, Binary, spell}
+use Rattle.gl_query_reader.specs.Written.{Expr, Column, Number, Minus, Parameter, Letters, Brackets, Cast, Not, Binary, spell}
 use Rattle.gl_bits.proofs.Bools.{guard_true}
 
 abbrev pub counts : ℕ → ℕ → ℕ → Bool → Counts
@@ -67,6 +67,7 @@ pub limited : (e : Expr) (b o j : ℕ) (rest : List Token) → IsSmall (counts b
 limited (Column name) b o j rest f h = past_leaf b o j rest f (over h).1
 limited (Number n) b o j rest f h = past_leaf b o j rest f (over h).1
 limited (Minus at n) b o j rest f h = past_leaf b o j rest f (over (over h).1).1
+limited (Parameter at name) b o j rest f h = past_leaf b o j rest f (over (over h).1).1
 limited (Letters text at) b o j rest f h = past_leaf b o j rest f (over h).1
 limited (Brackets at e) b o j rest f h =
     let q = over h in
@@ -109,6 +110,8 @@ limits (Column name) b o j rest g e s h = under (small_at b o j false (omega ari
 limits (Number n) b o j rest g e s h = under (small_at b o j false (omega arith) (omega arith) g) (keeps_at b o j refl (omega arith) refl h)
 limits (Minus at n) b o j rest g e s h =
     under (small_at b o j true (omega arith) (omega arith) g) (under (small_at b o j false (omega arith) (omega arith) g) (keeps_at b o j refl (omega arith) refl h))
+limits (Parameter at name) b o j rest g e s h =
+    under (small_at b o j false (omega arith) (omega arith) g) (under (small_at b o j false (omega arith) (omega arith) g) (keeps_at b o j refl (omega arith) refl h))
 limits (Letters text at) b o j rest g e s h = under (small_at b o j false (omega arith) (omega arith) g) (keeps_at b o j refl (omega arith) refl h)
 limits (Brackets at e) b o j rest g m s h =
     let t : b + (expr_depth e + 1) ≤ 32 = m in

@@ -11,7 +11,7 @@ use Rattle.gl_query_tokens.specs.declared.token.Plain.TheVariants as plain
 use Rattle.gl_query_tokens.specs.declared.token.Token.{Token}
 use Rattle.gl_query_tokens.specs.declared.token.Token.TheVariants as token
 use Rattle.gl_query_tokens.specs.Sorts.{plain_eq}
-use Rattle.gl_query_reader.specs.Written.{Expr, Column, Number, Minus, Letters, Brackets, Cast, Not, Binary, looseness, left_looseness, level, IsExpr, spell}
+use Rattle.gl_query_reader.specs.Written.{Expr, Column, Number, Minus, Parameter, Letters, Brackets, Cast, Not, Binary, looseness, left_looseness, level, IsExpr, spell}
 use Rattle.gl_query_reader.specs.States.{State, Frame, LeftOf, NotOf, BracketOf, InCast, WantOperand, HaveExpr}
 use Rattle.gl_query_reader.specs.Machine.{Reduced, room, reduced, step}
 use Rattle.gl_query_reader.proofs.Steps.{steps, state}
@@ -84,6 +84,7 @@ level-lt (Binary o at l r) = omega (arith, looseness-le o)
 level-lt (Column name) = omega arith
 level-lt (Number n) = omega arith
 level-lt (Minus at n) = omega arith
+level-lt (Parameter at name) = omega arith
 level-lt (Letters text at) = omega arith
 level-lt (Brackets at e) = omega arith
 level-lt (Cast at open' e word kind) = omega arith
@@ -111,6 +112,10 @@ want-number n fs rest = refl
 want-minus : (at : ℕ) (n : Num) (fs : List Frame) (rest : List Token) → steps (wanting fs) (token.Operator op.Sub at ∷ token.Number n ∷ rest) ≡ steps (having (Minus at n) fs) rest
 unfolding steps step
 want-minus at n fs rest = refl
+
+want-parameter : (at : ℕ) (name : Name) (fs : List Frame) (rest : List Token) → steps (wanting fs) (token.Colon at ∷ token.Name name ∷ rest) ≡ steps (having (Parameter at name) fs) rest
+unfolding steps step
+want-parameter at name fs rest = refl
 
 want-letters : (text : List ℕ) (at : ℕ) (fs : List Frame) (rest : List Token) → steps (wanting fs) (token.Letters text at ∷ rest) ≡ steps (having (Letters text at) fs) rest
 unfolding steps step
@@ -148,6 +153,7 @@ pub reads_expr : (e : Expr) (fs : List Frame) (rest : List Token) → IsExpr e �
 reads_expr (Column name) fs rest g lt = want-name name fs rest
 reads_expr (Number n) fs rest g lt = want-number n fs rest
 reads_expr (Minus at n) fs rest g lt = want-minus at n fs rest
+reads_expr (Parameter at name) fs rest g lt = want-parameter at name fs rest
 reads_expr (Letters text at) fs rest g lt = want-letters text at fs rest
 reads_expr (Brackets at e) fs rest g lt =
     want-open at fs ((spell e ++ token.Plain plain.Close ∷ []) ++ rest)

@@ -20,7 +20,7 @@ use Rattle.gl_query_reader.specs.declared.over_state.RowsSoFar.TheVariants as so
 use Rattle.gl_query_reader.specs.declared.written.Part.{Part}
 use Rattle.gl_query_reader.specs.declared.written.FrameRows.{FrameRows}
 use Rattle.gl_query_reader.specs.declared.written.FrameRows.TheVariants as rows
-use Rattle.gl_query_reader.specs.Written.{Expr, Column, Number, Minus, Letters, Brackets, Cast, Not, Binary, Agg, Count, Fold', Wsum, OverAgg, CountOf, FoldOf, LastOf, Filtering, FilterOf, OverHead, LagOf, Ranged, Over, OverOf, Item, Bare, Named, Total, Framed, Pick, All, Items, IsAgg, IsOverAgg, IsFiltering, IsOverHead, FitsRows, IsOver, IsExpr, IsItem, AreItems, IsPick, spell, spell_numbers, spell_agg, spell_word, spell_over_agg, spell_filtering, spell_back, spell_head, spell_bound, spell_part, spell_rows, spell_over, spell_item, spell_items, spell_pick}
+use Rattle.gl_query_reader.specs.Written.{Expr, Column, Number, Minus, Parameter, Letters, Brackets, Cast, Not, Binary, Agg, Count, Fold', Wsum, OverAgg, CountOf, FoldOf, LastOf, Filtering, FilterOf, OverHead, LagOf, Ranged, Over, OverOf, Item, Bare, Named, Total, Framed, Pick, All, Items, IsAgg, IsOverAgg, IsFiltering, IsOverHead, FitsRows, IsOver, IsExpr, IsItem, AreItems, IsPick, spell, spell_numbers, spell_agg, spell_word, spell_over_agg, spell_filtering, spell_back, spell_head, spell_bound, spell_part, spell_rows, spell_over, spell_item, spell_items, spell_pick}
 use Rattle.gl_query_reader.specs.States.{State, Frame, InItem, InFold, InWsum, InCall, InCondition, WantItem, WantWeight, HaveAgg, WantOver, WantPart, InOver, WantOverAs, HaveItem, WantSource, SelectHead}
 use Rattle.gl_query_reader.specs.Framing.{rows_first, rows_step}
 use Rattle.gl_query_reader.specs.Machine.{reduced, step, is_operator}
@@ -42,6 +42,7 @@ item-begins (Binary o at l r) items fs rest =
 item-begins (Column name) items fs rest = refl
 item-begins (Number n) items fs rest = refl
 item-begins (Minus at n) items fs rest = refl
+item-begins (Parameter at name) items fs rest = refl
 item-begins (Letters text at) items fs rest = refl
 item-begins (Brackets at e) items fs rest = refl
 item-begins (Cast at open' e word kind) items fs rest = refl

@@ -1,5 +1,5 @@
 -- A statement that a text has is regular: its whole expressions are small, and its names are names.
-use Rattle.std.proofs.Common.{◌≡◌, ℕ, true, List, [], ◌∷◌, ◌++◌, Option, Some, None, Result, Ok, Err, refl, sym, subst}
+use Rattle.std.proofs.Common.{◌≡◌, ℕ, true, List, [], ◌∷◌, ◌++◌, Option, Some, None, Result, Ok, Err, refl, sym, subst, inl, inr}
 use Rattle.std.specs.Prelude.{codes, IfOk}
 use Rattle.std.specs.List.{AllByRecursion}
 use Rattle.gl_bits.proofs.AllLists.{all_mapped, all_parts}
@@ -36,9 +36,10 @@ pub sound_parts : (xs ys : List Token) → AreSound (xs ++ ys) → AreSound xs �
 sound_parts xs ys h = all_parts IsSound xs ys h
 
 expr_names : (e : written.Expr) → AreSound (written.spell e) → HasNames (expr_alike (expr_meaning e))
-expr_names (written.Column name) h = h.0.name
+expr_names (written.Column name) h = inl h.0.name
 expr_names (written.Number n) h = tt
 expr_names (written.Minus at n) h = tt
+expr_names (written.Parameter at name) h = inr (refl, h.1.0.name)
 expr_names (written.Letters text at) h = tt
 expr_names (written.Brackets at e) h = expr_names e (sound_parts (written.spell e) (token.Plain plain.Close ∷ []) h.1).0
 expr_names (written.Cast at open' e word kind) h =
@@ -82,7 +83,7 @@ over_names (written.OverOf head w open' p r) h =
     (head_names head a.0, part_names p b.0)
 
 item_names : (i : written.Item) → AreSound (written.spell_item i) → ItemHolds HasNames IsName i
-item_names (written.Bare name) h = (h.0.name, h.0.name)
+item_names (written.Bare name) h = (inl h.0.name, h.0.name)
 item_names (written.Named e name) h =
     let p = sound_parts (written.spell e) (token.Plain plain.As ∷ token.Name name ∷ []) h in
     (expr_names e p.0, p.1.1.0.name)

@@ -19,7 +19,7 @@ use Rattle.gl_query_tokens.specs.declared.token.Token.{Token}
 use Rattle.gl_query_tokens.specs.declared.token.Token.TheVariants as token
 use Rattle.gl_query_tokens.specs.Sorts.{plain_eq, is_plain, name_in, number_in, open_in, size_in, by_in, word_in}
 use Rattle.gl_query_reader.specs.Written.{Wsum, Item, Items, Query, left_looseness, looseness, level, IsExpr, IsAgg, IsOverAgg, IsOverHead, IsOver, AreItems, IsPick, IsFilter, IsQuery, IsSide, IsSource, IsTerm, spell, spell_numbers, spell_agg, spell_word, spell_over_agg, spell_head, spell_part, spell_over, spell_items, measure_word, spell_pick, spell_window, spell_if_window, spell_row_window, spell_filter, spell_grouping, spell_query, spell_join}
-use Rattle.gl_query_reader.specs.States.{measure_in, measure_for, State, Control, Frame, Head, WindowHead, BodyHead, GroupsHead, Unnamed, SelectHead, EachHead, SelectWindow, EachWindow, GroupsWindow, WindowsHead, GroupsHead', SelectGroups, EachGroups, OverGroups, UnnamedExpr, UnnamedAgg, UnnamedOver, LeftOf, NotOf, BracketOf, InCast, InItem, InFold, InWsum, InCall, InCondition, InFilter, JoinOf, InQuery, InSource, InBody, WantTerm, WantItem, WantOperand, WantMinus, HaveExpr, WantCastOpen, WantKind, WantCastClose, WantCountOpen, WantCountClose, WantFoldOpen, WantWsumOpen, WantWeightsOpen, WantWeight, HaveWeight, WantWsumClose, HaveAgg, WantCallOpen, WantBack, WantLagClose, WantOver, WantFilterOpen, WantFilterWhere, WantOverOpen, WantPart, WantPartBy, InOver, WantOverAs, WantItemName, HaveItem, WantFrom, WantSource, HaveSource, HaveEachSource, WantSize, WantSizeNumber, WantAdvance, WantAdvanceNumber, WantMeasure, WantWindowClose, WantBy, WantKey, WantGroups, WantGroupsNumber, WantVar, WantIn, WantBody, HaveTerm, WantName, HaveName, WantEnd, WantArrival, JoinHead, SelectJoin, EachJoin, RightHead, JoinGroups, WantJoinBy}
+use Rattle.gl_query_reader.specs.States.{measure_in, measure_for, State, Control, Frame, Head, WindowHead, BodyHead, GroupsHead, Unnamed, SelectHead, EachHead, SelectWindow, EachWindow, GroupsWindow, WindowsHead, GroupsHead', SelectGroups, EachGroups, OverGroups, UnnamedExpr, UnnamedAgg, UnnamedOver, LeftOf, NotOf, BracketOf, InCast, InItem, InFold, InWsum, InCall, InCondition, InFilter, JoinOf, InQuery, InSource, InBody, WantTerm, WantItem, WantOperand, WantMinus, HaveExpr, WantCastOpen, WantKind, WantCastClose, WantCountOpen, WantCountClose, WantFoldOpen, WantWsumOpen, WantWeightsOpen, WantWeight, HaveWeight, WantWsumClose, HaveAgg, WantCallOpen, WantBack, WantLagClose, WantOver, WantFilterOpen, WantFilterWhere, WantOverOpen, WantPart, WantPartBy, InOver, WantOverAs, WantItemName, HaveItem, WantFrom, WantSource, HaveSource, HaveEachSource, WantSize, WantSizeNumber, WantAdvance, WantAdvanceNumber, WantMeasure, WantWindowClose, WantBy, WantKey, WantGroups, WantGroupsNumber, WantVar, WantIn, WantBody, HaveTerm, WantName, HaveName, WantEnd, WantArrival, JoinHead, SelectJoin, EachJoin, RightHead, JoinGroups, WantJoinBy, WantParameter}
 use Rattle.gl_query_reader.specs.Machine.{room}
 use Rattle.gl_query_reader.proofs.Steps.{state}
 use Rattle.gl_query_reader.proofs.ReadQueries.{NoJoin}
@@ -98,6 +98,7 @@ control_text WantTerm = []
 control_text (WantItem items) = token.Plain plain.Select ∷ items_before items
 control_text WantOperand = []
 control_text (WantMinus at) = token.Operator op.Sub at ∷ []
+control_text (WantParameter at) = token.Colon at ∷ []
 control_text (HaveExpr e) = spell e
 control_text (WantCastOpen at) = token.Cast at ∷ []
 control_text (WantKind at open' e) = token.Cast at ∷ token.Open open' ∷ (spell e ++ token.Plain plain.As ∷ [])
@@ -233,6 +234,7 @@ Holds WantTerm fs = InTerm fs
 Holds (WantItem items) fs = InTerm fs × AreItems items
 Holds WantOperand fs = InExpr fs
 Holds (WantMinus at) fs = InExpr fs
+Holds (WantParameter at) fs = InExpr fs
 Holds (HaveExpr e) fs = InExpr fs × IsExpr e × (level e ≡ 0)
 Holds (WantCastOpen at) fs = InExpr fs
 Holds (WantKind at open' e) fs = InExpr fs × IsExpr e

@@ -65,6 +65,7 @@ unfolding ops
 expr_adds (written.Column name) n begins = record { operators = omega arith; behind = refl }
 expr_adds (written.Number number) n begins = record { operators = omega arith; behind = refl }
 expr_adds (written.Minus at number) n begins = record { operators = rw begins (omega arith); behind = refl }
+expr_adds (written.Parameter at name) n begins = record { operators = omega arith; behind = refl }
 expr_adds (written.Letters text at) n begins = record { operators = omega arith; behind = refl }
 expr_adds (written.Brackets at e) n begins =
     let m = after n (token.Open at) in

@@ -3,13 +3,13 @@ use Rattle.std.proofs.Common.{◌≡◌, List, [], ◌∷◌, ◌++◌, Some, re
 use Rattle.std.proofs.lemmas.List.{append-nil}
 use Rattle.gl_query_tokens.specs.declared.token.Token.{Token}
 use Rattle.gl_query_reader.specs.Written.{Statement}
-use Rattle.gl_query_reader.specs.States.{State, Control, Frame, WantTerm, WantItem, WantOperand, WantMinus, HaveExpr, WantCastOpen, WantKind, WantCastClose, WantCountOpen, WantCountClose, WantFoldOpen, WantWsumOpen, WantWeightsOpen, WantWeight, HaveWeight, WantWsumClose, HaveAgg, WantCallOpen, WantBack, WantLagClose, WantOver, WantFilterOpen, WantFilterWhere, WantOverOpen, WantPart, WantPartBy, InOver, WantOverAs, WantItemName, HaveItem, WantFrom, WantSource, HaveSource, HaveEachSource, WantSize, WantSizeNumber, WantAdvance, WantAdvanceNumber, WantMeasure, WantWindowClose, WantBy, WantKey, WantGroups, WantGroupsNumber, WantArrival, WantVar, WantIn, WantBody, HaveTerm, WantName, HaveName, WantEnd, start, WantJoinBy}
+use Rattle.gl_query_reader.specs.States.{State, Control, Frame, WantTerm, WantItem, WantOperand, WantMinus, HaveExpr, WantCastOpen, WantKind, WantCastClose, WantCountOpen, WantCountClose, WantFoldOpen, WantWsumOpen, WantWeightsOpen, WantWeight, HaveWeight, WantWsumClose, HaveAgg, WantCallOpen, WantBack, WantLagClose, WantOver, WantFilterOpen, WantFilterWhere, WantOverOpen, WantPart, WantPartBy, InOver, WantOverAs, WantItemName, HaveItem, WantFrom, WantSource, HaveSource, HaveEachSource, WantSize, WantSizeNumber, WantAdvance, WantAdvanceNumber, WantMeasure, WantWindowClose, WantBy, WantKey, WantGroups, WantGroupsNumber, WantArrival, WantVar, WantIn, WantBody, HaveTerm, WantName, HaveName, WantEnd, start, WantJoinBy, WantParameter}
 use Rattle.gl_query_reader.specs.Machine.{step, finish, finish_at}
 use Rattle.gl_query_reader.specs.Grammar.{Derives}
 use Rattle.gl_query_reader.proofs.Steps.{steps}
 use Rattle.gl_query_reader.proofs.Said.{before, control_text, Holds, Read}
 use Rattle.gl_query_reader.proofs.SoundTerms.{Keeps, keeps_want_term, keeps_arrival, keeps_var, keeps_in, keeps_body, keeps_have_term, keeps_want_name, keeps_have_name, keeps_end, keeps_source, keeps_have_source, keeps_join_by, keeps_each_source, keeps_size, keeps_size_number, keeps_advance, keeps_advance_number, keeps_measure, keeps_window_close, keeps_by, keeps_key, keeps_groups, keeps_groups_number}
-use Rattle.gl_query_reader.proofs.SoundExpressions.{keeps_operand, keeps_minus, keeps_cast_open, keeps_kind, keeps_cast_close, keeps_item, keeps_count_open, keeps_count_close, keeps_fold_open, keeps_wsum_open, keeps_weights_open, keeps_weight, keeps_have_weight, keeps_wsum_close, keeps_item_name, keeps_have_item, keeps_from, keeps_expr}
+use Rattle.gl_query_reader.proofs.SoundExpressions.{keeps_operand, keeps_minus, keeps_cast_open, keeps_kind, keeps_cast_close, keeps_item, keeps_count_open, keeps_count_close, keeps_fold_open, keeps_wsum_open, keeps_weights_open, keeps_weight, keeps_have_weight, keeps_wsum_close, keeps_item_name, keeps_have_item, keeps_from, keeps_expr, keeps_parameter}
 use Rattle.gl_query_reader.proofs.SoundFrames.{keeps_call_open, keeps_back, keeps_lag_close, keeps_over, keeps_as, keeps_filter_open, keeps_filter_where, keeps_over_open, keeps_part, keeps_part_by, keeps_in_over, keeps_over_as}
 use Rattle.gl_bits.proofs.Options.{some_same, then_some}
 
@@ -18,6 +18,7 @@ keeps WantTerm = keeps_want_term
 keeps (WantItem items) = keeps_item items
 keeps WantOperand = keeps_operand
 keeps (WantMinus at) = keeps_minus at
+keeps (WantParameter at) = keeps_parameter at
 keeps (HaveExpr e) = keeps_expr e
 keeps (WantCastOpen at) = keeps_cast_open at
 keeps (WantKind at open' e) = keeps_kind at open' e

@@ -14,8 +14,8 @@ use Rattle.gl_query_tokens.specs.declared.token.Spelling.TheVariants.{Small}
 use Rattle.gl_query_tokens.specs.declared.token.Word.TheVariants as word
 use Rattle.gl_query_tokens.specs.declared.token.Token.{Token}
 use Rattle.gl_query_tokens.specs.declared.token.Token.TheVariants as token
-use Rattle.gl_query_reader.specs.Written.{Expr, Column, Minus, Cast, Not, Binary, Count, Wsum, Item, Bare, All, Items, Select, looseness, left_looseness, level, IsExpr, IsAgg, IsItem, AreItems, IsPick, spell, spell_numbers, spell_agg, spell_word, spell_over_agg, spell_over, spell_item, spell_items, spell_pick, spell_query, spell_if_window}
-use Rattle.gl_query_reader.specs.States.{State, Frame, SelectHead, Unnamed, UnnamedExpr, UnnamedAgg, UnnamedOver, LeftOf, NotOf, BracketOf, InCast, InItem, InFold, InWsum, InCall, InCondition, InFilter, WantItem, WantOperand, WantMinus, HaveExpr, WantCastOpen, WantKind, WantCastClose, WantCountOpen, WantCountClose, WantFoldOpen, WantWsumOpen, WantWeightsOpen, WantWeight, HaveWeight, WantWsumClose, HaveAgg, WantCallOpen, WantItemName, HaveItem, WantFrom, WantSource, goes}
+use Rattle.gl_query_reader.specs.Written.{Expr, Column, Minus, Parameter, Cast, Not, Binary, Count, Wsum, Item, Bare, All, Items, Select, looseness, left_looseness, level, IsExpr, IsAgg, IsItem, AreItems, IsPick, spell, spell_numbers, spell_agg, spell_word, spell_over_agg, spell_over, spell_item, spell_items, spell_pick, spell_query, spell_if_window}
+use Rattle.gl_query_reader.specs.States.{State, Frame, SelectHead, Unnamed, UnnamedExpr, UnnamedAgg, UnnamedOver, LeftOf, NotOf, BracketOf, InCast, InItem, InFold, InWsum, InCall, InCondition, InFilter, WantItem, WantOperand, WantMinus, WantParameter, HaveExpr, WantCastOpen, WantKind, WantCastClose, WantCountOpen, WantCountClose, WantFoldOpen, WantWsumOpen, WantWeightsOpen, WantWeight, HaveWeight, WantWsumClose, HaveAgg, WantCallOpen, WantItemName, HaveItem, WantFrom, WantSource, goes}
 use Rattle.gl_query_reader.specs.Machine.{Reduced, room, reduced, want_operand, have_item, after_expr, after_item, bare, bare_or_call, under_name}
 use Rattle.gl_query_reader.specs.Framing.{begin_call, named_call}
 use Rattle.gl_query_reader.specs.declared.over_state.Call.TheVariants as call
@@ -92,6 +92,7 @@ keeps_operand_in fs (token.Operator op.Sub at) s' f h e = by_some _ s' _ e (reco
 keeps_operand_in fs (token.Operator o at) s' f h e = absurd cc
 keeps_operand_in fs (token.Letters text at) s' f h e = by_some _ s' _ e (record { text = refl; fits = f; holds = (h, tt, refl) })
 keeps_operand_in fs (token.Open at) s' f h e = by_some _ s' _ e (record { text = append-nil (before fs ++ token.Open at ∷ []); fits = (h, f); holds = tt })
+keeps_operand_in fs (token.Colon at) s' f h e = by_some _ s' _ e (record { text = refl; fits = f; holds = h })
 keeps_operand_in fs (token.Cast at) s' f h e = by_some _ s' _ e (record { text = refl; fits = f; holds = h })
 keeps_operand_in fs (token.Not at) s' f h e =
     let g = if_some (ltb 4 (room fs)) _ s' e in
@@ -103,6 +104,9 @@ keeps_operand fs t s' f h e = subst (λ (x : List Token). Read s' (x ++ t ∷ []
 
 pub keeps_minus : (at : ℕ) → Keeps (WantMinus at)
 keeps_minus at fs t s' f h e = by_number t _ s' _ e (λ n d. by_some _ s' _ d (go_on (control_text (WantMinus at)) (HaveExpr (Minus at n)) fs (token.Number n) f (h, tt, refl) refl))
+
+pub keeps_parameter : (at : ℕ) → Keeps (WantParameter at)
+keeps_parameter at fs t s' f h e = by_name t _ s' _ e (λ n d. by_some _ s' _ d (go_on (control_text (WantParameter at)) (HaveExpr (Parameter at n)) fs (token.Name n) f (h, tt, refl) refl))
 
 pub keeps_cast_open : (at : ℕ) → Keeps (WantCastOpen at)
 keeps_cast_open at fs t s' f h e = by_open t _ s' _ e (λ n d. by_some _ s' _ d (go_in (token.Cast at ∷ []) WantOperand (InCast at n) fs (token.Open n) f h tt refl refl))

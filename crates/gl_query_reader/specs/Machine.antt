@@ -15,12 +15,12 @@ use Rattle.gl_query_tokens.specs.declared.token.Token.TheVariants as token
 use Rattle.gl_query_tokens.specs.declared.token.Spelling.{Spelling}
 use Rattle.gl_query_tokens.specs.Sorts.{is_plain, name_in, number_in, open_in}
 use Rattle.gl_query_reader.specs.declared.written.Window.{Window}
-use Rattle.gl_query_reader.specs.Written.{Expr, Column, Number, Minus, Letters, Brackets, Cast, Not, Binary, Count, Fold', Wsum, LagOf, Item, Bare, Named, Total, Framed, Pick, All, Items, Query, Stream, InBrackets, Select, Windows, Groups, Join', Statement, looseness, left_looseness}
+use Rattle.gl_query_reader.specs.Written.{Expr, Column, Number, Minus, Letters, Brackets, Cast, Not, Binary, Count, Fold', Wsum, LagOf, Item, Bare, Named, Total, Framed, Pick, All, Items, Query, Stream, InBrackets, Select, Windows, Groups, Join', Statement, looseness, left_looseness, Parameter}
 use Rattle.gl_query_reader.specs.Begun.{begin_arrival, want_arrival, want_body}
 use Rattle.gl_query_reader.specs.Joins.{joining_of}
 use Rattle.gl_query_reader.specs.Framing.{begin_call, want_call, want_call_open, after_call, want_back, want_over, have_agg, want_filter_open, want_filter_where, after_condition, want_over_open, in_over, want_part, want_part_by}
 use Rattle.gl_query_reader.specs.Windowed.{begin_window, can_join, join_word, have_each_source, want_size, want_size_number, want_advance_number, want_measure, want_by, want_join_by, want_key, want_groups_number}
-use Rattle.gl_query_reader.specs.States.{Head, after_window, SelectHead, EachHead, RightHead, SelectJoin, WantJoinBy, BodyHead, WindowsHead, GroupsHead', Unnamed, UnnamedExpr, UnnamedAgg, UnnamedOver, Frame, Control, State, goes, expected, LeftOf, NotOf, BracketOf, InCast, InItem, InFold, InWsum, InCall, InCondition, InFilter, JoinOf, InQuery, InSource, InBody, WantTerm, WantItem, WantOperand, WantMinus, HaveExpr, WantCastOpen, WantKind, WantCastClose, WantCountOpen, WantCountClose, WantFoldOpen, WantWsumOpen, WantWeightsOpen, WantWeight, HaveWeight, WantWsumClose, HaveAgg, WantCallOpen, WantBack, WantLagClose, WantOver, WantFilterOpen, WantFilterWhere, WantOverOpen, WantPart, WantPartBy, InOver, WantOverAs, WantItemName, HaveItem, WantFrom, WantSource, HaveSource, HaveEachSource, WantSize, WantSizeNumber, WantAdvance, WantAdvanceNumber, WantMeasure, WantWindowClose, WantBy, WantKey, WantGroups, WantGroupsNumber, WantArrival, WantVar, WantIn, WantBody, HaveTerm, WantName, HaveName, WantEnd}
+use Rattle.gl_query_reader.specs.States.{Head, after_window, SelectHead, EachHead, RightHead, SelectJoin, WantJoinBy, BodyHead, WindowsHead, GroupsHead', Unnamed, UnnamedExpr, UnnamedAgg, UnnamedOver, Frame, Control, State, goes, expected, LeftOf, NotOf, BracketOf, InCast, InItem, InFold, InWsum, InCall, InCondition, InFilter, JoinOf, InQuery, InSource, InBody, WantTerm, WantItem, WantOperand, WantMinus, HaveExpr, WantCastOpen, WantKind, WantCastClose, WantCountOpen, WantCountClose, WantFoldOpen, WantWsumOpen, WantWeightsOpen, WantWeight, HaveWeight, WantWsumClose, HaveAgg, WantCallOpen, WantBack, WantLagClose, WantOver, WantFilterOpen, WantFilterWhere, WantOverOpen, WantPart, WantPartBy, InOver, WantOverAs, WantItemName, HaveItem, WantFrom, WantSource, HaveSource, HaveEachSource, WantSize, WantSizeNumber, WantAdvance, WantAdvanceNumber, WantMeasure, WantWindowClose, WantBy, WantKey, WantGroups, WantGroupsNumber, WantArrival, WantVar, WantIn, WantBody, HaveTerm, WantName, HaveName, WantEnd, WantParameter}
 
 -- ---- expressions
 
@@ -80,12 +80,17 @@ begin_minus o at fs = if is_minus o then goes (WantMinus at) fs else None
 abbrev pub want_minus : List Frame → ℕ → Token → Option State
 want_minus fs at t = option_and_then (λ n. goes (HaveExpr (Minus at n)) fs) (number_in t)
 
+-- a colon where an operand may begin leads to a name
+abbrev pub want_parameter : List Frame → ℕ → Token → Option State
+want_parameter fs at t = option_and_then (λ name. goes (HaveExpr (Parameter at name)) fs) (name_in t)
+
 abbrev pub want_operand : List Frame → Token → Option State
 want_operand fs (token.Name name) = goes (HaveExpr (Column name)) fs
 want_operand fs (token.Number n) = goes (HaveExpr (Number n)) fs
 want_operand fs (token.Operator o at) = begin_minus o at fs
 want_operand fs (token.Letters text at) = goes (HaveExpr (Letters text at)) fs
 want_operand fs (token.Open at) = goes WantOperand (BracketOf at ∷ fs)
+want_operand fs (token.Colon at) = goes (WantParameter at) fs
 want_operand fs (token.Cast at) = goes (WantCastOpen at) fs
 want_operand fs (token.Not at) = with_not at fs
 want_operand fs t = None
@@ -348,6 +353,7 @@ step_at (WantGroupsNumber head at key) fs t = want_groups_number fs head at key 
 step_at (WantItem items) fs t = want_item items fs t
 step_at WantOperand fs t = want_operand fs t
 step_at (WantMinus at) fs t = want_minus fs at t
+step_at (WantParameter at) fs t = want_parameter fs at t
 step_at (HaveExpr e) fs t = have_expr fs e t
 step_at (WantCastOpen at) fs t = want_cast_open fs at t
 step_at (WantKind at open' e) fs t = want_kind fs at open' e t

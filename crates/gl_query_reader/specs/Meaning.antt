@@ -21,11 +21,13 @@ use Rattle.gl_query_reader.specs.declared.written.Window.{Window}
 use Rattle.gl_query_reader.specs.declared.written.Grouping.{Grouping}
 use Rattle.gl_query_reader.specs.Written as written
 
--- brackets only group; the place of a number behind a minus sign is that of the sign
+-- brackets only group; the place of a number behind a minus sign is that of the sign, and a parameter is named with its
+-- colon and stands where that does
 abbrev pub expr_meaning : written.Expr → ExprTree
 expr_meaning (written.Column name) = Column name
 expr_meaning (written.Number n) = Number n
 expr_meaning (written.Minus at n) = Minus (record { value = n.value; at = at })
+expr_meaning (written.Parameter at name) = Column (record { text = 58 ∷ name.text; at = at })
 expr_meaning (written.Letters text at) = Letters text at
 expr_meaning (written.Brackets at e) = expr_meaning e
 expr_meaning (written.Cast at open' e word kind) = Cast (expr_meaning e) kind at

@@ -80,6 +80,7 @@ pub data Control : Type 0 where
   WantItem : (items : List Item) → Control
   WantOperand : Control
   WantMinus : (at : ℕ) → Control
+  WantParameter : (at : ℕ) → Control
   HaveExpr : (last' : Expr) → Control
   WantCastOpen : (at : ℕ) → Control
   WantKind : (at open' : ℕ) (inner : Expr) → Control

@@ -23,7 +23,7 @@ use Rattle.gl_query_reader.specs.declared.written.WrittenEach.{WrittenEach}
 use Rattle.gl_query_reader.specs.declared.written.WrittenSelect.{WrittenSelect}
 use Rattle.gl_query_reader.specs.declared.written.WrittenQuery as query
 use Rattle.gl_query_reader.specs.declared.written.WrittenStatement.{WrittenStatement}
-use Rattle.gl_query_reader.specs.Written.{Expr, Column, Number, Minus, Letters, Brackets, Cast, Not, Binary, Agg, Count, Fold', Wsum, OverAgg, CountOf, FoldOf, LastOf, Filtering, FilterOf, OverHead, LagOf, Ranged, Over, OverOf, Item, Bare, Named, Total, Framed, Pick, All, Items, Query, Stream, InBrackets, Select, Windows, Groups, AsOf', Join', Statement}
+use Rattle.gl_query_reader.specs.Written.{Expr, Column, Number, Minus, Letters, Brackets, Cast, Not, Binary, Agg, Count, Fold', Wsum, OverAgg, CountOf, FoldOf, LastOf, Filtering, FilterOf, OverHead, LagOf, Ranged, Over, OverOf, Item, Bare, Named, Total, Framed, Pick, All, Items, Query, Stream, InBrackets, Select, Windows, Groups, AsOf', Join', Statement, Parameter}
 use Rattle.gl_query_reader.specs.declared.frames.Head.{Head}
 use Rattle.gl_query_tokens.specs.declared.token.Spelling.{Spelling}
 use Rattle.gl_query_reader.specs.declared.frames.JoinBy.{JoinBy}
@@ -64,6 +64,7 @@ abbrev pub expr_of : expr.WrittenExpr → Expr
 expr_of (expr.Column name) = Column name
 expr_of (expr.Number n) = Number n
 expr_of (expr.Minus at n) = Minus at n
+expr_of (expr.Parameter at name) = Parameter at name
 expr_of (expr.Letters text at) = Letters text at
 expr_of (expr.Brackets' at p e) = Brackets at (expr_of e)
 expr_of (expr.Cast' at open' p e word kind) = Cast at open' (expr_of e) word kind
@@ -219,6 +220,7 @@ frames_of stack = map frame_of (reverse stack)
 abbrev pub expr_control_of : ExprControl → states.Control
 expr_control_of expr_control.WantOperand = states.WantOperand
 expr_control_of (expr_control.WantMinus at) = states.WantMinus at
+expr_control_of (expr_control.WantParameter at) = states.WantParameter at
 expr_control_of (expr_control.HaveExpr e) = states.HaveExpr (expr_of e)
 expr_control_of (expr_control.WantCastOpen at) = states.WantCastOpen at
 expr_control_of (expr_control.WantKind h) = states.WantKind h.at h.open (expr_of h.inner)

@@ -31,6 +31,7 @@ pub data Expr : Type 0 where
   Column : (name : Name) → Expr
   Number : (n : Num) → Expr
   Minus : (at : ℕ) (n : Num) → Expr
+  Parameter : (at : ℕ) (name : Name) → Expr
   Letters : (text : List ℕ) (at : ℕ) → Expr
   Brackets : (at : ℕ) (e : Expr) → Expr
   Cast : (at open' : ℕ) (e : Expr) (word : Name) (kind : Kind) → Expr
@@ -127,6 +128,7 @@ abbrev pub level : Expr → ℕ
 level (Column name) = 0
 level (Number n) = 0
 level (Minus at n) = 0
+level (Parameter at name) = 0
 level (Letters text at) = 0
 level (Brackets at e) = 0
 level (Cast at open' e word kind) = 0
@@ -138,6 +140,7 @@ abbrev pub IsExpr : Expr → Type 0
 IsExpr (Column name) = Unit {0}
 IsExpr (Number n) = Unit {0}
 IsExpr (Minus at n) = Unit {0}
+IsExpr (Parameter at name) = Unit {0}
 IsExpr (Letters text at) = Unit {0}
 IsExpr (Brackets at e) = IsExpr e
 IsExpr (Cast at open' e word kind) = IsExpr e × (kind_named word.text ≡ Some kind)
@@ -239,11 +242,12 @@ abbrev mutual
 
 -- ---- the tokens
 
--- a number's minus sign is the token of an operator
+-- a number's minus sign is the token of an operator, and a parameter is a colon and a name
 abbrev pub spell : Expr → List Token
 spell (Column name) = token.Name name ∷ []
 spell (Number n) = token.Number n ∷ []
 spell (Minus at n) = token.Operator op.Sub at ∷ token.Number n ∷ []
+spell (Parameter at name) = token.Colon at ∷ token.Name name ∷ []
 spell (Letters text at) = token.Letters text at ∷ []
 spell (Brackets at e) = token.Open at ∷ (spell e ++ token.Plain plain.Close ∷ [])
 spell (Cast at open' e word kind) =

@@ -62,6 +62,7 @@ pub fn want_operand(
         Token::Operator { op, at } => Ok(begin_minus(*op, *at)),
         Token::Letters { text, at } => have_letters(alloc, text, *at),
         Token::Open { at } => operand_in(frames, Frame::InBrackets { at: *at }),
+        Token::Colon { at } => Ok(Some(Control::Expr(ExprControl::WantParameter { at: *at }))),
         Token::Cast { at } => Ok(Some(Control::Expr(ExprControl::WantCastOpen { at: *at }))),
         Token::Not { at } => with_not(*at, frames),
         _ => Ok(None),
@@ -85,6 +86,20 @@ fn want_minus(at: u64, token: &Token) -> Option<Control>
     match number_in(token) {
         Some(number) => have(WrittenExpr::Minus { at, number }),
         None => None,
+    }
+}
+
+// The name behind a colon.
+fn want_parameter(alloc: Global, at: u64, token: &Token) -> Result<Option<Control>, AllocError>
+    ensures { IfOk result (λ o. (fs : List states.Frame) →
+        leads o fs ≡ machine.want_parameter fs at token.now) }
+{
+    match keep_named(alloc, at, token)? {
+        Some(found) => Ok(have(WrittenExpr::Parameter {
+            at: found.kept,
+            name: found.made,
+        })),
+        None => Ok(None),
     }
 }
 
@@ -240,6 +255,7 @@ pub fn step_expr(
     match control {
         ExprControl::WantOperand => want_operand(alloc, frames, token),
         ExprControl::WantMinus { at } => Ok(want_minus(at, token)),
+        ExprControl::WantParameter { at } => want_parameter(alloc, at, token),
         ExprControl::HaveExpr { last } => have_expr(alloc, frames, last, token),
         ExprControl::WantCastOpen { at } => want_cast_open(frames, at, token),
         ExprControl::WantKind(head) => want_kind(alloc, head, token),

@@ -2,15 +2,16 @@
 
 ghost use Rattle.std.specs.Prelude.{◌≡◌, ◌++◌, ◌∷◌, [], IfOk, OnOk, map};
 ghost use Rattle.gl_query_reader.specs.Meaning as meaning;
-ghost use Rattle.gl_query.specs.Trees.{Binary, Cast, Not, expr_tree, agg_tree, item_tree, agg_item_tree};
+ghost use Rattle.gl_query.specs.Trees.{Binary, Cast, Column, Not, expr_tree, agg_tree, item_tree, agg_item_tree};
 ghost use Rattle.gl_query_reader.specs.Trees.{expr_of, agg_of, item_of, items_of};
 
 use crate::keeping::{Beside, Both, keep_beside, put, take_both};
 use crate::parts::cloned;
 use crate::written::{WrittenAgg, WrittenExpr, WrittenItem, WrittenItems};
 use gl_bits::boxes::{OneBox, TwoBoxes, one_box, two_boxes};
-use gl_query::{Agg, AggItem, AggItems, Expr, Item, ItemList, Num, Op};
+use gl_query::{Agg, AggItem, AggItems, Expr, Item, ItemList, Name, Num, Op};
 use gl_query_tokens::Fold;
+use gl_schema::NameText;
 use gl_values::Kind;
 use std::alloc::{AllocError, Global};
 
@@ -22,6 +23,7 @@ pub fn expr_meaning(alloc: Global, written: WrittenExpr) -> Result<Expr, AllocEr
         WrittenExpr::Column(name) => Ok(Expr::Column(name)),
         WrittenExpr::Number(number) => Ok(Expr::Number(number)),
         WrittenExpr::Minus { at, number } => Ok(Expr::Minus(Num { at, ..number })),
+        WrittenExpr::Parameter { at, name } => parameter(alloc, at, name),
         WrittenExpr::Letters { text, at } => Ok(Expr::Letters { text, at }),
         WrittenExpr::Brackets { at: _, inner } => expr_meaning(alloc, Box::into_inner(inner)),
         WrittenExpr::Cast {
@@ -54,6 +56,24 @@ pub fn expr_meaning(alloc: Global, written: WrittenExpr) -> Result<Expr, AllocEr
             binary(alloc, op, at, left, right)
         }
     }
+}
+
+// A name with a colon in front.
+fn marked(alloc: Global, name: &[u8]) -> Result<NameText, AllocError>
+    ensures { IfOk result (λ text. text ≡ 58 ∷ name.now) }
+{
+    let mut text = Vec::from_slice(alloc, b":".as_slice())?;
+    text.extend_from_slice(name)?;
+    Ok(NameText::from_vec(text))
+}
+
+// A parameter, which an expression names with its colon.
+fn parameter(alloc: Global, at: u64, name: Name) -> Result<Expr, AllocError>
+    ensures { IfOk result (λ e. expr_tree e ≡ Column (record { text = 58 ∷ name.text; at = at })) }
+{
+    let text = marked(alloc, name.text.as_slice())?;
+    drop(name);
+    Ok(Expr::Column(Name { text, at }))
 }
 
 fn cast(alloc: Global, arg: Expr, kind: Kind, at: u64) -> Result<Expr, AllocError>

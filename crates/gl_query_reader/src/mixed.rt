@@ -20,6 +20,7 @@ fn first_at(expr: &WrittenExpr) -> u64
         WrittenExpr::Column(name) => name.at,
         WrittenExpr::Number(number) => number.at,
         WrittenExpr::Minus { at, .. } => *at,
+        WrittenExpr::Parameter { at, .. } => *at,
         WrittenExpr::Letters { at, .. } => *at,
         WrittenExpr::Brackets { at, .. } => *at,
         WrittenExpr::Cast { at, .. } => *at,

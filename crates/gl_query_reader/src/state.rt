@@ -19,6 +19,11 @@ pub enum ExprControl {
         /// The place of the minus sign.
         at: u64,
     },
+    /// The name behind a colon.
+    WantParameter {
+        /// The place of the colon.
+        at: u64,
+    },
     /// An operator, or what may stand behind an expression.
     HaveExpr {
         /// The expression that was read last.

@@ -24,6 +24,13 @@ pub enum WrittenExpr {
         /// The number behind it.
         number: Num,
     },
+    /// A parameter, with the place of its colon.
+    Parameter {
+        /// The place of the colon.
+        at: u64,
+        /// The name behind it.
+        name: Name,
+    },
     /// A text literal.
     Letters {
         /// The bytes between the quotes.

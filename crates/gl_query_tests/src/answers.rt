@@ -10,12 +10,14 @@ use gl_schema::{Column, Schema, read_schema};
 use gl_values::{Kind, Table};
 use std::alloc::{AllocError, Global};
 
-/// The text of the schema, the rows that come in on two streams, their places, the times of the first
-/// one's, and how many ticks come in all.
+/// The text of the schema, the values of its parameters, the rows that come in on two streams, their
+/// places, the times of the first one's, and how many ticks come in all.
 #[derive(Drop)]
 pub struct Given {
     /// The text of the schema.
     pub schema: String,
+    /// The values of the parameters, in their order.
+    pub sets: String,
     /// The rows of the first stream.
     pub trades: String,
     /// The rows of the second stream.
@@ -137,6 +139,7 @@ struct Inputs {
     places: Listed<Times>,
     times: Listed<Times>,
     ticks: u64,
+    words: Listed<u128>,
 }
 
 // So many places from 0 on: the n-th rows of all streams come in one cycle.
@@ -162,11 +165,13 @@ fn inputs_of(alloc: Global, schema: &Schema, given: &Given) -> Result<Inputs, Me
         times.push(times_of(alloc, times_on(given, stream.name.as_slice()))?)?;
     }
     let ticks = given.ticks.as_str().parse::<u64>().unwrap_or(0);
+    let words = row_of(alloc, schema.parameters.as_slice(), given.sets.as_str())?;
     Ok(Inputs {
         tables,
         places,
         times,
         ticks,
+        words,
     })
 }
 
@@ -241,6 +246,7 @@ fn evaluated(
         places: inputs.places.as_slice(),
         times: inputs.times.as_slice(),
         ticks: inputs.ticks,
+        words: inputs.words.as_slice(),
     };
     let count = schema.streams.len();
     if brought.rows.len() != count
@@ -276,7 +282,7 @@ fn statement_answered(
     statement: &Statement,
     given: &Given,
 ) -> Result<String, AllocError> {
-    let sources = Sources::Schema(schema.streams.as_slice());
+    let sources = Sources::Schema(schema.streams.as_slice(), schema.parameters.as_slice());
     match columns_of(alloc, sources, &statement.query) {
         Ok(columns) => answered_with(alloc, schema, statement, columns.as_slice(), given),
         Err(_) => String::from_str(alloc, "out of memory"),

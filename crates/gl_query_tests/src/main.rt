@@ -5,11 +5,11 @@
 //! answer together; both print a fault and its place, or `read`. `joins T` prints which join a statement is,
 //! and of what. A line `schema T` sets the schema, and `check T` checks a statement over it: a fault and its
 //! place, or `accepted`. `print T` prints the canonical text of a statement, and `where C` that of a select
-//! with the condition C. A line `trades ROWS` or `other ROWS` sets the rows that come in on the stream of this
-//! name, `places P | P` in which cycles both streams' rows come, `times T` the times of those on trades, and
-//! `ticks N` how many ticks come in all. `answer T` prints the rows of a statement over them, with `spill` where
-//! groups are left out. In a text `\009` is the byte 9, and `` `9*T` `` stands for nine times T. Every other
-//! line is a remark.
+//! with the condition C. A line `sets VALUES` sets the values of the schema's parameters, `trades ROWS` or
+//! `other ROWS` the rows that come in on the stream of this name, `places P | P` in which cycles both streams'
+//! rows come, `times T` the times of those on trades, and `ticks N` how many ticks come in all. `answer T` prints
+//! the rows of a statement over them, with `spill` where groups are left out. In a text `\009` is the byte 9, and
+//! `` `9*T` `` stands for nine times T. Every other line is a remark.
 #![tactic(auto)]
 
 mod answers;
@@ -65,6 +65,7 @@ fn print_told(
 fn main(rt: HostRuntime) -> io::Result<()> {
     let mut given = Given {
         schema: String::new(rt.alloc()),
+        sets: String::new(rt.alloc()),
         trades: String::new(rt.alloc()),
         other: String::new(rt.alloc()),
         places: String::new(rt.alloc()),
@@ -76,6 +77,7 @@ fn main(rt: HostRuntime) -> io::Result<()> {
         let (command, text) = line.split_once(' ').unwrap_or((line.as_str(), ""));
         match command {
             "schema" => given.schema = text.to_string(rt.alloc())?,
+            "sets" => given.sets = text.to_string(rt.alloc())?,
             "trades" => given.trades = text.to_string(rt.alloc())?,
             "other" => given.other = text.to_string(rt.alloc())?,
             "places" => given.places = text.to_string(rt.alloc())?,

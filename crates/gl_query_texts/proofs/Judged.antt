@@ -44,6 +44,7 @@ memory_or (fault.OutOfRange at) = inl (record { real = λ e. absurd cc; none = �
 memory_or (fault.TooDeep at) = inl (record { real = λ e. absurd cc; none = λ m h. h; verdict = λ text h. h })
 memory_or (fault.NoTime at) = inl (record { real = λ e. absurd cc; none = λ m h. h; verdict = λ text h. h })
 memory_or (fault.NoArrival at) = inl (record { real = λ e. absurd cc; none = λ m h. h; verdict = λ text h. h })
+memory_or (fault.UnknownParameter at) = inl (record { real = λ e. absurd cc; none = λ m h. h; verdict = λ text h. h })
 
 is_real : (f : QueryFault) → f ≢ fault.Memory → IsReal f
 is_real f real = by (memory_or f)

@@ -57,7 +57,7 @@ comment_behind = refl
 -- ---- what a text comes to: the names of its statements, or its first fault
 
 abbrev rows_schema : Schema
-rows_schema = record { streams = record { name = codes "trades"; columns = record { name = codes "price"; kind = Text 8 } ∷ [] } ∷ [] }
+rows_schema = record { streams = record { name = codes "trades"; columns = record { name = codes "price"; kind = Text 8 } ∷ [] } ∷ []; parameters = [] }
 
 abbrev Told : Type 0
 Told = Result (List (List ℕ)) QueryFault

@@ -6,7 +6,7 @@ use Rattle.gl_query.specs.declared.tree.Statement.{Statement}
 use Rattle.gl_query.specs.declared.fault.QueryFault.{QueryFault}
 use Rattle.gl_query.specs.declared.fault.QueryFault.TheVariants as fault
 use Rattle.gl_query.specs.Accepted.{AreResultColumns, IsAccepted}
-use Rattle.gl_query.specs.Columns.{columns_of}
+use Rattle.gl_query.specs.Columns.{columns_of, sources_of}
 use Rattle.gl_query.specs.Laws.{AreKinds}
 use Rattle.gl_query.specs.Shapes.{query_shape}
 use Rattle.gl_query.specs.Faults.{first_fault}
@@ -51,9 +51,9 @@ TextsHaveOneFault =
 
 -- 1 to 32 columns, no two of one name, of kinds that are kinds
 pub record HasResultColumns (schema : Schema) (statement : Statement) : Type 0 where
-  pub some' : 1 ≤ length (columns_of schema.streams (query_shape statement.query))
-  pub result : AreResultColumns (columns_of schema.streams (query_shape statement.query))
-  pub kinds : AreKinds (columns_of schema.streams (query_shape statement.query))
+  pub some' : 1 ≤ length (columns_of (sources_of schema) (query_shape statement.query))
+  pub result : AreResultColumns (columns_of (sources_of schema) (query_shape statement.query))
+  pub kinds : AreKinds (columns_of (sources_of schema) (query_shape statement.query))
 
 -- the statement of an accepted text has columns that a result may have
 abbrev pub AcceptedTextsHaveColumns : Type 0

@@ -38,6 +38,7 @@ sign_token b at = if b == 40 then token.Open at else
     if b == 93 then token.Plain RightSquare else
     if b == 44 then token.Plain Comma else
     if b == 59 then token.Plain Semicolon else
+    if b == 58 then token.Colon at else
     if b == 42 then token.Operator Mul at else
     if b == 43 then token.Operator Add at else
     if b == 45 then token.Operator Sub at else

@@ -76,6 +76,7 @@ fn sign_token(b: u8, at: u64) -> Token
         b']' => Token::Plain(Plain::RightSquare),
         b',' => Token::Plain(Plain::Comma),
         b';' => Token::Plain(Plain::Semicolon),
+        b':' => Token::Colon { at },
         b'*' => Token::Operator { op: Op::Mul, at },
         b'+' => Token::Operator { op: Op::Add, at },
         b'-' => Token::Operator { op: Op::Sub, at },

@@ -115,6 +115,8 @@ pub enum Token {
     Operator { op: Op, at: u64 },
     /// `(`
     Open { at: u64 },
+    /// `:`
+    Colon { at: u64 },
     /// NOT
     Not { at: u64 },
     /// CAST

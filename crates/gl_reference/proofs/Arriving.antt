@@ -7,9 +7,9 @@ use Rattle.gl_asof.specs.AsOf.{as_of, more_keys}
 use Rattle.gl_values.specs.Results.{Row}
 use Rattle.gl_schema.specs.declared.schema.Column.{Column}
 use Rattle.gl_query.specs.Accepted.{IsAcceptedOver}
-use Rattle.gl_query.specs.Columns.{arrives}
+use Rattle.gl_query.specs.Columns.{arrives, reach_of}
 use Rattle.gl_query.specs.Laws.{ArrivalsAreResults, ResultsFit, scope_of}
-use Rattle.gl_query.specs.Results.{ArrivesIn, Env, IsFramedInPlace, columns_in, join_by, keeps, kept, picked}
+use Rattle.gl_query.specs.Results.{ArrivesIn, Env, IsFramedInPlace, columns_in, join_by, kept, picked, Reach, is_kept, reach_in, streams_of, words_in}
 use Rattle.gl_query.specs.Shapes.{ExprShape, FrameItemShape, PickShape, QueryShape, SlotsShape}
 use Rattle.gl_query.specs.Shapes as shape
 use Rattle.gl_reference.specs.Arrivals.{framed_in, rows_in, spills}
@@ -19,33 +19,35 @@ use Rattle.gl_reference.specs.declared.placed.PlacedRow.{PlacedRow}
 use Rattle.gl_reference.proofs.Fitting.{rows_fit}
 use Rattle.gl_reference.proofs.Placing.{rows_of_placed}
 
-pub rows_arrived : (env : Env) (pick : PickShape) (filter : Option ExprShape) (source : QueryShape) (from : List (Placed Row)) (before : Bool) (columns : List Column) (xs : List (Placed Row)) (spill : Bool)
-    → ArrivesIn source env from before → columns ≡ columns_in env source
-    → (xs ≡ mapped_at (picked columns pick) (kept_at (keeps columns filter) from)) × (spill ≡ before)
-    → ArrivesIn (shape.Rows pick filter source) env xs spill
-rows_arrived env pick filter source from before columns xs spill is ec (eo, es) = record {
-  rows = from;
-  of_source = subst (ArrivesIn source env from) (sym es) is;
-  changed = eo ∙ ap (λ (k : List Column). mapped_at (picked k pick) (kept_at (keeps k filter) from)) ec;
-}
+-- what expressions over columns see in an environment
+abbrev over : Env → List Column → Reach
+over env columns = record { columns = reach_of (streams_of env) columns; words = words_in env }
 
-frames_are : (env : Env) (columns : List Column) (items : List FrameItemShape) (filter : Option ExprShape) (slots : Option SlotsShape) (source : QueryShape) (from : List (Placed Row)) (before : Bool) (xs : List (Placed Row)) (spill : Bool)
-    → ArrivesIn source env from before → xs ≡ framed_in columns items slots (kept_at (keeps columns filter) from) → spill ≡ spills columns slots before (kept columns filter (rows_of from))
-    → IsFramedInPlace columns items filter slots (ArrivesIn source env) xs spill
-frames_are env columns items filter None source from before xs spill is eo es =
+pub rows_arrived : (env : Env) (pick : PickShape) (filter : Option ExprShape) (source : QueryShape) (from : List (Placed Row)) (before : Bool) (xs : List (Placed Row)) (spill : Bool)
+    → ArrivesIn source env from before
+    → (xs ≡ mapped_at (picked (reach_in env source) pick) (kept_at (is_kept (reach_in env source) filter) from)) × (spill ≡ before)
+    → ArrivesIn (shape.Rows pick filter source) env xs spill
+rows_arrived env pick filter source from before xs spill is (eo, es) =
     record { rows = from; of_source = subst (ArrivesIn source env from) (sym es) is; changed = eo }
-frames_are env columns items filter (Some s) source from before xs spill is eo es =
+
+frames_are : (env : Env) (columns : List Column) (reach : Reach) (items : List FrameItemShape) (filter : Option ExprShape) (slots : Option SlotsShape) (source : QueryShape) (from : List (Placed Row)) (before : Bool) (xs : List (Placed Row)) (spill : Bool)
+    → ArrivesIn source env from before → xs ≡ framed_in columns reach items slots (kept_at (is_kept reach filter) from) → spill ≡ spills columns slots before (kept reach filter (rows_of from))
+    → IsFramedInPlace columns reach items filter slots (ArrivesIn source env) xs spill
+frames_are env columns reach items filter None source from before xs spill is eo es =
+    record { rows = from; of_source = subst (ArrivesIn source env from) (sym es) is; changed = eo }
+frames_are env columns reach items filter (Some s) source from before xs spill is eo es =
     record { rows = from; source_spill = before; of_source = is; changed = eo; any = es }
 
 pub frames_arrived : (env : Env) (items : List FrameItemShape) (filter : Option ExprShape) (slots : Option SlotsShape) (source : QueryShape) (from : List PlacedRow) (before : Bool) (columns : List Column) (xs : List (Placed Row)) (spill : Bool)
     → ArrivesIn source env (map placed_of from) before → columns ≡ columns_in env source
-    → (xs ≡ framed_in columns items slots (kept_at (keeps columns filter) (map placed_of from))) × (spill ≡ spills columns slots before (kept columns filter (rows_in from)))
+    → (xs ≡ framed_in columns (over env columns) items slots (kept_at (is_kept (over env columns) filter) (map placed_of from)))
+    × (spill ≡ spills columns slots before (kept (over env columns) filter (rows_in from)))
     → ArrivesIn (shape.Frames items filter slots source) env xs spill
 frames_arrived env items filter slots source from before columns xs spill is ec (eo, es) =
-    frames_are env (columns_in env source) items filter slots source (map placed_of from) before xs spill is
-    (eo ∙ ap (λ (k : List Column). framed_in k items slots (kept_at (keeps k filter) (map placed_of from))) ec)
-    (es ∙ ap (λ (k : List Column). spills k slots before (kept k filter (rows_in from))) ec
-    ∙ ap (λ (l : List Row). spills (columns_in env source) slots before (kept (columns_in env source) filter l)) (sym (rows_of_placed from)))
+    frames_are env (columns_in env source) (reach_in env source) items filter slots source (map placed_of from) before xs spill is
+    (eo ∙ ap (λ (k : List Column). framed_in k (over env k) items slots (kept_at (is_kept (over env k) filter) (map placed_of from))) ec)
+    (es ∙ ap (λ (k : List Column). spills k slots before (kept (over env k) filter (rows_in from))) ec
+    ∙ ap (λ (l : List Row). spills (columns_in env source) slots before (kept (reach_in env source) filter l)) (sym (rows_of_placed from)))
 
 pub as_of_arrived : (env : Env) (l r : QueryShape) (slots : SlotsShape) (xs ys : List (Placed Row)) (p q : Bool) (lefts rights : List Column) (out : List (Placed Row)) (further spill : Bool)
     → ArrivesIn l env xs p → ArrivesIn r env ys q → lefts ≡ columns_in env l → rights ≡ columns_in env r

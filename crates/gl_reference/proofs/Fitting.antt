@@ -1,13 +1,12 @@
 -- What the parts of an accepted query see over sources whose rows fit, and that their results fit.
-use Rattle.std.proofs.Common.{◌≡◌, ℕ, zero, suc, ◌+◌, ◌<◌, Bool, true, List, [], ◌∷◌, length, refl, sym, ap, subst, ◌∙◌, map, take, nat_eq, get_or, arith}
-use Rattle.std.specs.Prelude.{bytes_eq, slice_index, Option}
+use Rattle.std.proofs.Common.{◌≡◌, ℕ, zero, suc, ◌+◌, ◌<◌, Bool, true, false, List, [], ◌∷◌, length, refl, sym, ap, subst, ◌∙◌, map, take, nat_eq, get_or, arith}
+use Rattle.std.specs.Prelude.{slice_index, Option}
 use Rattle.std.specs.List.{AllByRecursion}
 use Rattle.gl_values.specs.Lists.{Group as GroupOf}
 use Rattle.gl_values.specs.Lists.{groups, keys_of, rows_with}
 use Rattle.gl_values.specs.Tables.{keyed_groups}
 use Rattle.gl_values.specs.Results.{Row}
 use Rattle.gl_values.specs.declared.lists.Group.{Group}
-use Rattle.gl_bits.proofs.Bools.{by_cases}
 use Rattle.gl_schema.specs.declared.schema.Column.{Column}
 use Rattle.gl_schema.specs.declared.schema.Schema.{Schema}
 use Rattle.gl_schema.specs.declared.schema.Stream.{Stream}
@@ -15,19 +14,19 @@ use Rattle.gl_schema.specs.Beats.{Inputs}
 use Rattle.gl_schema.specs.Schemas.{IsRowOf}
 use Rattle.gl_query.specs.declared.tree.Statement.{Statement}
 use Rattle.gl_query.specs.Shapes.{QueryShape, query_shape}
-use Rattle.gl_query.specs.Columns.{Pace, pace_of}
+use Rattle.gl_query.specs.Columns.{Pace, pace_of, parameters_in}
 use Rattle.gl_query.specs.Accepted.{IsAcceptedOver, KeepPace, Scope, body_scope, schema_scope}
-use Rattle.gl_query.specs.Results.{Env, IsResultIn, columns_in, env_of, numbered, only, streams_of}
+use Rattle.gl_query.specs.Results.{Env, IsResultIn, Source, columns_in, env_of, numbered, only, parameter_source, streams_of, variable_source, words_in}
 use Rattle.gl_query.specs.Laws.{HoldsIn, ResultsFit, scope_of}
 use Rattle.gl_query.proofs.Existing.{IsPaced, paced, one_pace}
 use Rattle.gl_query.proofs.Real.{IsScope, body_is, real, schema_is}
 use Rattle.gl_reference.specs.Fits.{AreRows, AreSources, IsBody, IsFit}
 use Rattle.gl_reference.specs.Sources.{given_inputs}
-use Rattle.gl_query.proofs.Holding.{all_filter}
+use Rattle.gl_query.proofs.Holding.{all_filter, holds_within}
 
 -- ---- sources
 
-scope_is : (env : Env) (timed : Bool) → AreSources env → IsScope (scope_of env timed)
+pub scope_is : (env : Env) (timed : Bool) → AreSources env → IsScope (scope_of env timed)
 scope_is env timed s = record { columns = s.columns; kinds = s.kinds }
 
 -- the columns of an accepted query are real, and the rows of its results fit them
@@ -37,17 +36,27 @@ rows_fit fitting env timed q out spill s a is = record { kinds = (real q (scope_
 
 -- a body over the columns of an accepted query
 pub body_fits : (env : Env) (timed : Bool) (var : List ℕ) (source body : QueryShape) → AreSources env → IsAcceptedOver (scope_of env timed) source
-    → IsAcceptedOver (body_scope var (columns_in env source)) body → IsBody var (columns_in env source) body
+    → IsAcceptedOver (body_scope (scope_of env timed) var (columns_in env source)) body → IsBody env var (columns_in env source) body
 body_fits env timed var source body s a b =
     let r = real source (scope_of env timed) (scope_is env timed s) a in
     record { result = r.result; kinds = r.kinds; accepted = b }
 
 -- what it sees
-pub inside_fits : (var : List ℕ) (columns : List Column) (body : QueryShape) (rows : List Row) → IsBody var columns body → AllByRecursion (IsRowOf columns) rows
-    → AreSources (only var columns rows)
-inside_fits var columns body rows b h =
-    let scope = body_is var columns b.result b.kinds in
-    record { columns = scope.columns; kinds = scope.kinds; rows = λ name. by_cases (bytes_eq name var) (λ e. rw e h) (λ e. rw e tt) }
+pub inside_fits : (env : Env) (var : List ℕ) (columns : List Column) (body : QueryShape) (rows : List Row) → AreSources env → IsBody env var columns body
+    → AllByRecursion (IsRowOf columns) rows → AreSources (only env var columns rows)
+inside_fits env var columns body rows s b h =
+    let scope = body_is (scope_of env false) (scope_is env false s) var columns b.result b.kinds in
+    record { columns = scope.columns; kinds = scope.kinds; rows = holds_within IsRowOf env s.rows var columns rows h }
+
+-- a body over a part, with the parameters seen another way
+pub body_passes : (env : Env) (var : List ℕ) (columns : List Column) (body : QueryShape) (rows : List Row) (outer : Source) (Passed : Type 0) → AreSources env
+    → IsBody env var columns body → AllByRecursion (IsRowOf columns) rows → outer ≡ parameter_source (parameters_in (streams_of env)) (words_in env)
+    → (AreSources (outer ∷ variable_source var columns rows ∷ [])
+    → IsAcceptedOver (scope_of (outer ∷ variable_source var columns rows ∷ []) false) body → Passed) → Passed
+body_passes env var columns body rows outer Passed s b h is f =
+    let inner : Source = variable_source var columns rows in
+    f (subst (λ (x : Source). AreSources (x ∷ inner ∷ [])) (sym is) (inside_fits env var columns body rows s b h))
+    (subst (λ (x : Source). IsAcceptedOver (scope_of (x ∷ inner ∷ []) false) body) (sym is) b.accepted)
 
 -- ---- parts of a list
 
@@ -82,14 +91,14 @@ numbered_streams k [] inputs = refl
 numbered_streams k (s ∷ streams) inputs = ap (λ l. s ∷ l) (numbered_streams (k + 1) streams inputs)
 
 -- a statement that is accepted over a schema, over rows that fit it
-pub statement_fits : (schema : Schema) (statement : Statement) (tables : List (List Row)) (places times : List (List ℕ)) (ticks : ℕ) (env : Env)
-    → IsFit schema statement tables places times ticks → env ≡ env_of schema (given_inputs tables places times ticks)
+pub statement_fits : (schema : Schema) (statement : Statement) (tables : List (List Row)) (places times : List (List ℕ)) (ticks : ℕ) (words : Row) (env : Env)
+    → IsFit schema statement tables places times ticks words → env ≡ env_of schema (given_inputs tables places times ticks words)
     → AreSources env × IsAcceptedOver (scope_of env true) (query_shape statement.query)
-statement_fits schema statement tables places times ticks env fit e =
+statement_fits schema statement tables places times ticks words env fit e =
     let given = ap (λ (z : Env). scope_of z true) e in
-    let named = ap (λ (l : List Stream). schema_scope (record { streams = l })) (numbered_streams 0 schema.streams (given_inputs tables places times ticks)) in
+    let named = ap (λ (l : List Stream). schema_scope (record { streams = l; parameters = schema.parameters })) (numbered_streams 0 schema.streams (given_inputs tables places times ticks words)) in
     let scope : scope_of env true ≡ schema_scope schema = given ∙ named in
-    let is = subst IsScope (sym scope) (schema_is schema.streams fit.of_schema.streams) in (
+    let is = subst IsScope (sym scope) (schema_is schema fit.of_schema) in (
       record { columns = is.columns; kinds = is.kinds; rows = subst (HoldsIn IsRowOf) (sym e) fit.rows },
       subst (λ (x : Scope). IsAcceptedOver x (query_shape statement.query)) (sym scope) fit.accepted,
     )

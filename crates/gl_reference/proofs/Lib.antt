@@ -11,6 +11,8 @@ pub mod Passing
 pub mod Elements
 pub mod Partitioning
 pub mod Framing
+pub mod Naming
+pub mod Seeing
 pub mod Placing
 pub mod Arriving
 pub mod Marking

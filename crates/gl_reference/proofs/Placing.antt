@@ -10,14 +10,13 @@ use Rattle.gl_frames.specs.Frames.{by_key, if_has_key}
 use Rattle.gl_frames.proofs.LastLemmas.{ends_with}
 use Rattle.gl_arrival.specs.Places.{Placed, at_place, at_places, rows_of}
 use Rattle.gl_arrival.specs.Changes.{each_at, framed_at, framed_by_key_at, kept_at, mapped_at}
-use Rattle.gl_schema.specs.declared.schema.Column.{Column}
 use Rattle.gl_schema.specs.Schemas.{IsRowOf}
-use Rattle.gl_query.specs.Results.{picked}
+use Rattle.gl_query.specs.Results.{Reach, picked}
 use Rattle.gl_query.specs.Shapes.{PickShape}
 use Rattle.gl_reference.specs.declared.columns.Clock.{Clock}
 use Rattle.gl_reference.specs.declared.placed.PlacedRow.{PlacedRow}
 use Rattle.gl_reference.specs.Arrivals.{picked_one, place_on, rows_in}
-use Rattle.gl_reference.specs.Fits.{AreRows, IsRow}
+use Rattle.gl_reference.specs.Rows.{AreSeen}
 use Rattle.gl_reference.specs.Sources.{placed_of, places_on}
 use Rattle.gl_reference.proofs.Fitting.{all_place}
 use Rattle.gl_reference.proofs.Joining.{map_taken}
@@ -46,11 +45,12 @@ place_is None rows i lt =
     sym (get_or-range_with_len 0 (length rows) i 0 lt ∙ e)
 place_is (Some clock) rows i lt = refl
 
--- a row of rows that fit fits
-pub placed_row_fits : (columns : List Column) (rows : List PlacedRow) (i : ℕ) (x : PlacedRow) → i < length rows → x ≡ get_or rows i x → AreRows columns (rows_in rows) → IsRow columns x.row
-placed_row_fits columns rows i x lt is r =
-    let all = all_of_mapped (IsRowOf columns) (λ (y : PlacedRow). y.row) rows r.fit in
-    record { kinds = r.kinds; fits = all_place (λ (y : PlacedRow). IsRowOf columns y.row) rows i x lt is all }
+-- a row of rows that fit what expressions see fits it, with the words of the parameters behind it
+pub placed_row_seen : (reach : Reach) (rows : List PlacedRow) (i : ℕ) (x : PlacedRow) → i < length rows → x ≡ get_or rows i x → AreSeen reach (rows_in rows)
+    → IsRowOf reach.columns (x.row ++ reach.words)
+placed_row_seen reach rows i x lt is s =
+    let all = all_of_mapped (λ (row : Row). IsRowOf reach.columns (row ++ reach.words)) (λ (y : PlacedRow). y.row) rows s.fit in
+    all_place (λ (y : PlacedRow). IsRowOf reach.columns (y.row ++ reach.words)) rows i x lt is all
 
 -- ---- filters and picks
 
@@ -76,9 +76,9 @@ module _ (passes : Row → Bool) where
       by true e = ap (λ l. x.row ∷ l) e
       by false e = e
 
-pub placed_picked : (columns : List Column) (pick : PickShape) (xs : List PlacedRow) → map placed_of (map (picked_one columns pick) xs) ≡ mapped_at (picked columns pick) (map placed_of xs)
-placed_picked columns pick [] = refl
-placed_picked columns pick (x ∷ xs) = ap (λ l. at_place (picked columns pick x.row) x.place ∷ l) (placed_picked columns pick xs)
+pub placed_picked : (reach : Reach) (pick : PickShape) (xs : List PlacedRow) → map placed_of (map (picked_one reach pick) xs) ≡ mapped_at (picked reach pick) (map placed_of xs)
+placed_picked reach pick [] = refl
+placed_picked reach pick (x ∷ xs) = ap (λ l. at_place (picked reach pick x.row) x.place ∷ l) (placed_picked reach pick xs)
 
 -- ---- frames, one row more
 

@@ -6,7 +6,7 @@ use Rattle.gl_values.specs.Results.{Row}
 use Rattle.gl_arrival.specs.Places.{Placed}
 use Rattle.gl_arrival.specs.Changes.{framed_at, framed_by_key_at}
 use Rattle.gl_schema.specs.declared.schema.Column.{Column}
-use Rattle.gl_query.specs.Results.{frame_row, keeps, picked}
+use Rattle.gl_query.specs.Results.{Reach, is_kept, picked, reached_row}
 use Rattle.gl_query.specs.Shapes.{ExprShape, FrameItemShape, PickShape, SlotsShape}
 use Rattle.gl_query.specs.Values.{column_number}
 use Rattle.gl_reference.specs.declared.placed.PlacedRow.{PlacedRow}
@@ -22,18 +22,19 @@ abbrev pub rows_in : List PlacedRow → List Row
 rows_in rows = map (λ (r : PlacedRow). r.row) rows
 
 -- the rows that a filter keeps
-abbrev pub kept_in : List Column → Option ExprShape → List PlacedRow → List PlacedRow
-kept_in columns condition rows = filter (λ (r : PlacedRow). keeps columns condition r.row) rows
+abbrev pub kept_in : Reach → Option ExprShape → List PlacedRow → List PlacedRow
+kept_in reach condition rows = filter (λ (r : PlacedRow). is_kept reach condition r.row) rows
 
 -- what is picked of a row, at its place
-abbrev pub picked_one : List Column → PickShape → PlacedRow → PlacedRow
-picked_one columns pick r = record { row = picked columns pick r.row; place = r.place }
+abbrev pub picked_one : Reach → PickShape → PlacedRow → PlacedRow
+picked_one reach pick r = record { row = picked reach pick r.row; place = r.place }
 
 -- what frames make of rows at places
-abbrev pub framed_in : List Column → List FrameItemShape → Option SlotsShape → List (Placed Row) → List (Placed Row)
-framed_in columns items None xs = framed_at (frame_row columns items) xs
-framed_in columns items (Some s) xs =
-    framed_by_key_at s.groups (λ r. slice_index r (column_number columns s.key)) (frame_row columns items) xs
+abbrev pub framed_in : List Column → Reach → List FrameItemShape → Option SlotsShape → List (Placed Row)
+    → List (Placed Row)
+framed_in columns reach items None xs = framed_at (reached_row reach items) xs
+framed_in columns reach items (Some s) xs =
+    framed_by_key_at s.groups (λ r. slice_index r (column_number columns s.key)) (reached_row reach items) xs
 
 -- whether rows of further keys were left out before, or are of these rows
 abbrev pub spills : List Column → Option SlotsShape → Bool → List Row → Bool

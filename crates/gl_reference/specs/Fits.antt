@@ -1,6 +1,6 @@
 -- When an evaluation runs out of nothing but memory: rows that fit their columns, and expressions that have a word over
 -- them. A middle layer, proved equal to gl_query (`Results`): no promise rests on it.
-use Rattle.std.specs.Prelude.{◌≡◌, ℕ, List, Result, IfErr}
+use Rattle.std.specs.Prelude.{◌≡◌, ℕ, false, List, Result, IfErr}
 use Rattle.std.specs.List.{AllByRecursion}
 use Rattle.gl_values.specs.declared.kind.Kind.{Kind}
 use Rattle.gl_values.specs.Kinds.{IsKind}
@@ -13,7 +13,7 @@ use Rattle.gl_query.specs.Shapes.{AggItemShape, ExprShape, FrameItemShape, Query
 use Rattle.gl_query.specs.Values.{HasKind, kind_alone}
 use Rattle.gl_query.specs.Columns.{source_columns}
 use Rattle.gl_query.specs.Accepted.{AreResultColumns, IsAccepted, IsAcceptedOver, IsAgg, IsFrame, body_scope}
-use Rattle.gl_query.specs.Laws.{AreKinds, HoldsIn}
+use Rattle.gl_query.specs.Laws.{AreKinds, HoldsIn, scope_of}
 use Rattle.gl_query.specs.Results.{Env, env_of, streams_of}
 use Rattle.gl_reference.specs.Sources.{given_inputs}
 use Rattle.gl_reference.specs.declared.rows.Fault.{Fault}
@@ -57,15 +57,15 @@ pub record AreSources (env : Env) : Type 0 where
   pub kinds : (name : List ℕ) → AreKinds (source_columns (streams_of env) name)
   pub rows : HoldsIn IsRowOf env
 
--- a body that is accepted over such columns
-pub record IsBody (var : List ℕ) (columns : List Column) (body : QueryShape) : Type 0 where
+-- a body that is accepted over such columns, and over the parameters of an environment
+pub record IsBody (env : Env) (var : List ℕ) (columns : List Column) (body : QueryShape) : Type 0 where
   pub result : AreResultColumns columns
   pub kinds : AreKinds columns
-  pub accepted : IsAcceptedOver (body_scope var columns) body
+  pub accepted : IsAcceptedOver (body_scope (scope_of env false) var columns) body
 
--- an accepted statement over a schema, and rows that fit the columns of their streams
+-- an accepted statement over a schema, rows that fit the columns of their streams, and words that fit the parameters
 pub record IsFit (schema : Schema) (statement : Statement) (tables : List (List Row)) (places times : List (List ℕ)) (ticks : ℕ)
-    : Type 0 where
+    (words : Row) : Type 0 where
   pub of_schema : IsSchema schema
   pub accepted : IsAccepted schema statement
-  pub rows : HoldsIn IsRowOf (env_of schema (given_inputs tables places times ticks))
+  pub rows : HoldsIn IsRowOf (env_of schema (given_inputs tables places times ticks words))

@@ -1,4 +1,5 @@
 pub mod Sources
+pub mod Rows
 pub mod Joins
 pub mod Worked
 pub mod Fits

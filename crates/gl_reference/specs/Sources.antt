@@ -44,13 +44,14 @@ source_of s = record {
 abbrev pub env_view : List Given → Env
 env_view sources = map source_of sources
 
--- the inputs that are given: rows with their places and times for each stream, and all ticks
-abbrev pub given_inputs : List (List Row) → List (List ℕ) → List (List ℕ) → ℕ → Inputs
-given_inputs tables places times ticks = record {
+-- the inputs that are given: rows with their places and times for each stream, all ticks, and the words of the parameters
+abbrev pub given_inputs : List (List Row) → List (List ℕ) → List (List ℕ) → ℕ → Row → Inputs
+given_inputs tables places times ticks words = record {
   rows = λ k. unwrap_or (slice_get tables k) [];
   places = λ k. unwrap_or (slice_get places k) [];
   times = λ k. unwrap_or (slice_get times k) [];
   ticks = ticks;
+  sets = words;
 }
 
 -- the columns of a query over sources

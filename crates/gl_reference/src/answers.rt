@@ -9,17 +9,18 @@ ghost use Rattle.gl_query.specs.Shapes as shape;
 ghost use Rattle.gl_values.specs.Results.{AreBeside};
 ghost use Rattle.gl_query.specs.Accepted.{IsFilter, IsParted, IsRows, IsWindow};
 ghost use Rattle.gl_query.specs.declared.tree.Measure.TheVariants.{Tuples};
-ghost use Rattle.gl_reference.specs.Fits.{AreAggs, AreFramesOf, AreRows, IsOrMemory};
+ghost use Rattle.gl_reference.specs.Fits.{AreAggs, AreFramesOf, IsOrMemory};
 ghost use Rattle.gl_reference.specs.Frames.{framed_rows, left_out};
+ghost use Rattle.gl_reference.specs.Rows.{AreSeen, reach_over};
 ghost use Rattle.gl_reference.specs.Sources.{IsAnswer, columns_over};
 
 use crate::aggregates::total_row;
-use crate::columns::{Source, columns_of, source_named};
-use crate::frames::frames_over;
-use crate::rows::{Fault, beside, copy_of_table, joined, picked_rows};
+use crate::columns::{Seen, Source, columns_of, one_row, reach_of, source_named, words_of};
+use crate::frames::{Framing, frames_over};
+use crate::rows::{Fault, beside, copy_of_table, joined, picked_rows, wide_rows};
 use gl_bits::Listed;
 use gl_bits::limits::{MOST_GROUPS, MOST_ROWS};
-use gl_query::{AggItem, Expr, FrameItem, Name, Pick, Query, Slots};
+use gl_query::{AggItem, Expr, Name, Pick, Query};
 use gl_schema::Column;
 use gl_values::Table;
 use gl_values::lists::slices_of;
@@ -59,18 +60,17 @@ pub fn rows_from(
     ensures value { IfOk result (IsAnswer sources.now
         (shape.Rows (pick_shape pick.now) (option_map expr_shape filter.now)
         (query_shape source.now))) }
-    ensures fits { let columns = columns_over sources.now source.now in
-        IsRows columns (pick_shape pick.now) (option_map expr_shape filter.now)
-        → AreRows columns from.rows → IsOrMemory result }
+    ensures fits { let reach = reach_over sources.now (columns_over sources.now source.now) in
+        IsRows reach.columns (pick_shape pick.now) (option_map expr_shape filter.now)
+        → AreSeen reach from.rows → IsOrMemory result }
 {
     let columns = columns_of(alloc, sources, source)?;
-    let rows = picked_rows(
-        alloc,
-        columns.as_slice(),
-        pick,
-        filter,
-        from.rows.as_slice(),
-    )?;
+    let reach = reach_of(alloc, sources, columns.as_slice())?;
+    let seen = Seen {
+        columns: reach.as_slice(),
+        words: words_of(sources),
+    };
+    let rows = picked_rows(alloc, seen, pick, filter, from.rows.as_slice())?;
     Ok(Answer {
         rows,
         spill: from.spill,
@@ -88,14 +88,15 @@ pub fn total_from(
     requires { IsAnswer sources.now (query_shape source.now) from }
     ensures value { IfOk result (IsAnswer sources.now
         (shape.Total (map agg_item_shape aggs.now) (query_shape source.now))) }
-    ensures fits { let columns = columns_over sources.now source.now in
-        AreAggs columns (map agg_item_shape aggs.now) → AreRows columns from.rows
+    ensures fits { let reach = reach_over sources.now (columns_over sources.now source.now) in
+        AreAggs reach.columns (map agg_item_shape aggs.now) → AreSeen reach from.rows
         → IsOrMemory result }
 {
     let columns = columns_of(alloc, sources, source)?;
-    let row = total_row(alloc, columns.as_slice(), aggs, from.rows.as_slice())?;
-    let mut rows = Listed::new(alloc);
-    rows.push(row)?;
+    let reach = reach_of(alloc, sources, columns.as_slice())?;
+    let wide = wide_rows(alloc, words_of(sources), from.rows.as_slice())?;
+    let row = total_row(alloc, reach.as_slice(), aggs, wide.as_slice())?;
+    let rows = one_row(alloc, row.as_slice())?;
     Ok(Answer {
         rows,
         spill: from.spill,
@@ -105,22 +106,30 @@ pub fn total_from(
 /// What frames make of the rows that a filter keeps of a result with these columns.
 pub fn frames_from(
     alloc: Global,
+    sources: &[Source<'_>],
     columns: &[Column],
-    items: &[FrameItem],
-    filter: &Option<Expr>,
-    slots: &Option<Slots>,
+    framing: Framing<'_>,
     from: Answer,
 ) -> Result<Answer, Fault>
-    ensures value { let kept_ones = kept columns.now (option_map expr_shape filter.now) from.rows in
-        let parted = option_map slots_shape slots.now in IfOk result (λ a.
-        (a.rows ≡ framed_rows columns.now (map frame_item_shape items.now) parted kept_ones)
+    ensures value { let reach = reach_over sources.now columns.now in let f = framing.entry in
+        let kept_ones = kept reach (option_map expr_shape f.filter.now) from.rows in
+        let parted = option_map slots_shape f.slots.now in
+        let shapes = map frame_item_shape f.items.now in IfOk result (λ a.
+        (a.rows ≡ framed_rows columns.now reach shapes parted kept_ones)
         × (a.spill ≡ (from.spill || left_out columns.now parted kept_ones))) }
-    ensures fits { AreFramesOf columns.now (map frame_item_shape items.now)
-        → IsFilter columns.now (option_map expr_shape filter.now)
-        → IsParted columns.now (option_map slots_shape slots.now)
-        → AreRows columns.now from.rows → IsOrMemory result }
+    ensures fits { let reach = reach_over sources.now columns.now in let f = framing.entry in
+        AreFramesOf reach.columns (map frame_item_shape f.items.now)
+        → IsFilter reach.columns (option_map expr_shape f.filter.now)
+        → IsParted columns.now (option_map slots_shape f.slots.now)
+        → AreSeen reach from.rows → IsOrMemory result }
 {
-    let framed = frames_over(alloc, columns, items, filter, slots, from.rows.as_slice())?;
+    let reach = reach_of(alloc, sources, columns)?;
+    let seen = Seen {
+        columns: reach.as_slice(),
+        words: words_of(sources),
+    };
+    let rows = from.rows.as_slice();
+    let framed = frames_over(alloc, columns, seen, framing, rows)?;
     Ok(Answer {
         rows: framed.rows,
         spill: from.spill || framed.further,

@@ -6,16 +6,17 @@ ghost use Rattle.gl_arrival.specs.Places.{rows_of};
 ghost use Rattle.gl_query.specs.Accepted.{IsAcceptedOver, IsFilter, IsParted, IsRows};
 ghost use Rattle.gl_query.specs.Columns.{arrives};
 ghost use Rattle.gl_query.specs.Laws.{scope_of};
-ghost use Rattle.gl_query.specs.Results.{keeps, kept, picked};
+ghost use Rattle.gl_query.specs.Results.{is_kept, kept, picked};
 ghost use Rattle.gl_query.specs.Shapes.{expr_shape, frame_item_shape, pick_shape, query_shape, slots_shape};
 ghost use Rattle.gl_query.specs.Shapes as shape;
 ghost use Rattle.gl_reference.specs.Arrivals.{framed_in, rows_in, spills};
-ghost use Rattle.gl_reference.specs.Fits.{AreFramesOf, AreRows, AreSources, IsOrMemory};
-ghost use Rattle.gl_reference.specs.Sources.{HasArrived, env_view, placed_of};
+ghost use Rattle.gl_reference.specs.Fits.{AreFramesOf, AreSources, IsOrMemory};
+ghost use Rattle.gl_reference.specs.Rows.{AreSeen, reach_over, reach_seen};
+ghost use Rattle.gl_reference.specs.Sources.{HasArrived, columns_over, env_view, placed_of};
 
 use crate::answers::Answer;
-use crate::columns::{Source, columns_of, source_named};
-use crate::frames::keys_of;
+use crate::columns::{Seen, Source, columns_of, reach_of, source_named, words_of};
+use crate::frames::{Framing, keys_of};
 use crate::joins::{Sides, join_placed};
 use crate::placed::{
     PlacedRow, framed_placed, kept_placed, keyed_placed, merged, picked_placed, placed_rows,
@@ -54,24 +55,27 @@ fn read_placed(alloc: Global, sources: &[Source<'_>], name: &Name) -> Result<Arr
 fn parted_placed(
     alloc: Global,
     columns: &[Column],
+    seen: Seen<'_>,
     items: &[FrameItem],
     slots: &Option<Slots>,
     from: Arrived,
 ) -> Result<Arrived, Fault>
-    ensures value { let parted = option_map slots_shape slots.now in IfOk result (λ a.
-        (map placed_of a.rows ≡ framed_in columns.now (map frame_item_shape items.now) parted
+    ensures value { let reach = reach_seen seen.entry in
+        let parted = option_map slots_shape slots.now in IfOk result (λ a.
+        (map placed_of a.rows ≡ framed_in columns.now reach (map frame_item_shape items.now) parted
         (map placed_of from.rows))
         × (a.spill ≡ spills columns.now parted from.spill (rows_in from.rows))) }
-    ensures fits { AreFramesOf columns.now (map frame_item_shape items.now)
+    ensures fits { let reach = reach_seen seen.entry in
+        AreFramesOf reach.columns (map frame_item_shape items.now)
         → IsParted columns.now (option_map slots_shape slots.now)
-        → AreRows columns.now (rows_in from.rows) → IsOrMemory result }
+        → AreSeen reach (rows_in from.rows) → IsOrMemory result }
 {
     let alone = rows_alone(alloc, from.rows.as_slice())?;
     let unplaced = alone.as_slice();
     let rows = from.rows.as_slice();
     match slots {
         None => {
-            let made = framed_placed(alloc, columns, items, unplaced, rows)?;
+            let made = framed_placed(alloc, seen, items, unplaced, rows)?;
             Ok(Arrived {
                 rows: made,
                 spill: from.spill,
@@ -79,7 +83,7 @@ fn parted_placed(
         }
         Some(part) => {
             let keys = keys_of(columns, part)?;
-            let made = keyed_placed(alloc, columns, items, keys, unplaced, rows)?;
+            let made = keyed_placed(alloc, seen, items, keys, unplaced, rows)?;
             let further = some_further(alloc, keys.most, keys.column, unplaced)?;
             Ok(Arrived {
                 rows: made,
@@ -92,48 +96,64 @@ fn parted_placed(
 // What frames make of the rows that a filter keeps of a result with these columns.
 fn frames_placed(
     alloc: Global,
+    sources: &[Source<'_>],
     columns: &[Column],
-    items: &[FrameItem],
-    filter: &Option<Expr>,
-    slots: &Option<Slots>,
+    framing: Framing<'_>,
     from: Arrived,
 ) -> Result<Arrived, Fault>
-    ensures value { let parted = option_map slots_shape slots.now in
-        let condition = option_map expr_shape filter.now in IfOk result (λ a.
-        (map placed_of a.rows ≡ framed_in columns.now (map frame_item_shape items.now) parted
-        (kept_at (keeps columns.now condition) (map placed_of from.rows)))
+    ensures value { let reach = reach_over sources.now columns.now in let f = framing.entry in
+        let parted = option_map slots_shape f.slots.now in
+        let condition = option_map expr_shape f.filter.now in IfOk result (λ a.
+        (map placed_of a.rows
+        ≡ framed_in columns.now reach (map frame_item_shape f.items.now) parted
+        (kept_at (is_kept reach condition) (map placed_of from.rows)))
         × (a.spill
-        ≡ spills columns.now parted from.spill (kept columns.now condition (rows_in from.rows)))) }
-    ensures fits { AreFramesOf columns.now (map frame_item_shape items.now)
-        → IsFilter columns.now (option_map expr_shape filter.now)
-        → IsParted columns.now (option_map slots_shape slots.now)
-        → AreRows columns.now (rows_in from.rows) → IsOrMemory result }
+        ≡ spills columns.now parted from.spill (kept reach condition (rows_in from.rows)))) }
+    ensures fits { let reach = reach_over sources.now columns.now in let f = framing.entry in
+        AreFramesOf reach.columns (map frame_item_shape f.items.now)
+        → IsFilter reach.columns (option_map expr_shape f.filter.now)
+        → IsParted columns.now (option_map slots_shape f.slots.now)
+        → AreSeen reach (rows_in from.rows) → IsOrMemory result }
 {
-    let kept = kept_placed(alloc, columns, filter, from.rows.as_slice())?;
+    let reach = reach_of(alloc, sources, columns)?;
+    let seen = Seen {
+        columns: reach.as_slice(),
+        words: words_of(sources),
+    };
+    let kept = kept_placed(alloc, seen, framing.filter, from.rows.as_slice())?;
     let left = Arrived {
         rows: kept,
         spill: from.spill,
     };
-    parted_placed(alloc, columns, items, slots, left)
+    parted_placed(alloc, columns, seen, framing.items, framing.slots, left)
 }
 
-// The rows that a filter keeps of a result with these columns, each picked.
+// The rows that a filter keeps of a result of the source, each picked.
 fn rows_placed(
     alloc: Global,
-    columns: &[Column],
+    sources: &[Source<'_>],
+    source: &Query,
     pick: &Pick,
     filter: &Option<Expr>,
     from: Arrived,
 ) -> Result<Arrived, Fault>
-    ensures value { let condition = option_map expr_shape filter.now in IfOk result (λ a.
-        (map placed_of a.rows ≡ mapped_at (picked columns.now (pick_shape pick.now))
-        (kept_at (keeps columns.now condition) (map placed_of from.rows)))
+    ensures value { let reach = reach_over sources.now (columns_over sources.now source.now) in
+        let condition = option_map expr_shape filter.now in IfOk result (λ a.
+        (map placed_of a.rows ≡ mapped_at (picked reach (pick_shape pick.now))
+        (kept_at (is_kept reach condition) (map placed_of from.rows)))
         × (a.spill ≡ from.spill)) }
-    ensures fits { IsRows columns.now (pick_shape pick.now) (option_map expr_shape filter.now)
-        → AreRows columns.now (rows_in from.rows) → IsOrMemory result }
+    ensures fits { let reach = reach_over sources.now (columns_over sources.now source.now) in
+        IsRows reach.columns (pick_shape pick.now) (option_map expr_shape filter.now)
+        → AreSeen reach (rows_in from.rows) → IsOrMemory result }
 {
-    let kept = kept_placed(alloc, columns, filter, from.rows.as_slice())?;
-    let rows = picked_placed(alloc, columns, pick, kept.as_slice())?;
+    let columns = columns_of(alloc, sources, source)?;
+    let reach = reach_of(alloc, sources, columns.as_slice())?;
+    let seen = Seen {
+        columns: reach.as_slice(),
+        words: words_of(sources),
+    };
+    let kept = kept_placed(alloc, seen, filter, from.rows.as_slice())?;
+    let rows = picked_placed(alloc, seen, pick, kept.as_slice())?;
     Ok(Arrived {
         rows,
         spill: from.spill,
@@ -158,8 +178,7 @@ fn arrival_of(alloc: Global, sources: &[Source<'_>], query: &Query) -> Result<Ar
             source,
         } => {
             let from = arrival_of(alloc, sources, source)?;
-            let columns = columns_of(alloc, sources, source)?;
-            rows_placed(alloc, columns.as_slice(), pick, filter, from)
+            rows_placed(alloc, sources, source, pick, filter, from)
         }
         Query::Frames {
             items,
@@ -170,7 +189,13 @@ fn arrival_of(alloc: Global, sources: &[Source<'_>], query: &Query) -> Result<Ar
             let from = arrival_of(alloc, sources, source)?;
             let columns = columns_of(alloc, sources, source)?;
             let items = items.as_slice();
-            frames_placed(alloc, columns.as_slice(), items, filter, slots, from)
+            let columns = columns.as_slice();
+            let framing = Framing {
+                items,
+                filter,
+                slots,
+            };
+            frames_placed(alloc, sources, columns, framing, from)
         }
         Query::ByArrival { left, right, .. } => by_arrival(alloc, sources, left, right),
         Query::AsOf {

@@ -4,15 +4,17 @@ ghost use Rattle.std.specs.Prelude.{◌≡◌, ◌++◌, IfOk, OnOk, ℕ, List, 
 ghost use Rattle.gl_values.specs.Results.{Row};
 ghost use Rattle.gl_frames.specs.Frames.{frame_of, framed, framed_by_key, lag_of, rows_preceding};
 ghost use Rattle.gl_query.specs.Accepted.{AreSlots, IsBack, IsFilter, IsFrame, IsFrameAgg, IsParted};
-ghost use Rattle.gl_query.specs.Results.{frame_agg_value, frame_row, frame_value, kept};
+ghost use Rattle.gl_query.specs.Results.{frame_agg_value, frame_row, frame_value, kept, reached_row};
 ghost use Rattle.gl_query.specs.Shapes.{expr_shape, frame_agg_shape, frame_item_shape, frame_shape, slots_shape};
 ghost use Rattle.gl_query.specs.Values.{column_number, kind_alone, value_of};
 ghost use Rattle.gl_reference.specs.Fits.{AreFramesOf, AreRows, HasKindAlone, IsOrMemory};
 ghost use Rattle.gl_reference.specs.Frames.{back_of, framed_rows, key_row, left_out};
+ghost use Rattle.gl_reference.specs.Rows.{AreSeen, reach_seen};
 
 use crate::aggregates::{average_in, own_kind, sum_in, values_over};
+use crate::columns::Seen;
 use crate::partitions::has_key;
-use crate::rows::{Fault, kept_rows};
+use crate::rows::{Fault, kept_rows, passing_rows, wide_rows};
 use crate::values::value_of;
 use gl_bits::limits::MOST_ROWS;
 use gl_bits::{Listed, Memory};
@@ -125,14 +127,14 @@ fn frame_value(
             ..
         } => {
             let last = rows_back(back, rows)?;
-            let inside = kept_rows(alloc, columns, filter, last)?;
+            let inside = passing_rows(alloc, columns, filter, last)?;
             frame_agg_value(alloc, columns, agg, inside.as_slice())
         }
     }
 }
 
-/// The row of a select of frames, of the rows up to a row.
-pub(crate) fn frame_row(
+// The row of a select of frames, of the rows up to a row.
+fn frame_row(
     alloc: Global,
     columns: &[Column],
     items: &[FrameItem],
@@ -150,24 +152,42 @@ pub(crate) fn frame_row(
     Ok(out)
 }
 
+/// The same of rows without the words of the parameters.
+pub(crate) fn reached_row(
+    alloc: Global,
+    seen: Seen<'_>,
+    items: &[FrameItem],
+    rows: &[Listed<u128>],
+) -> Result<Listed<u128>, Fault>
+    ensures value { IfOk result (λ v. v
+        ≡ reached_row (reach_seen seen.entry) (map frame_item_shape items.now) rows.now) }
+    ensures fits { let reach = reach_seen seen.entry in
+        AreFramesOf reach.columns (map frame_item_shape items.now)
+        → AreSeen reach rows.now → IsOrMemory result }
+{
+    let wide = wide_rows(alloc, seen.words, rows)?;
+    frame_row(alloc, seen.columns, items, wide.as_slice())
+}
+
 // For each row what the items make of the rows up to it.
 fn framed_rows(
     alloc: Global,
-    columns: &[Column],
+    seen: Seen<'_>,
     items: &[FrameItem],
     rows: &[Listed<u128>],
 ) -> Result<Table, Fault>
-    ensures value { IfOk result (λ v. v
-        ≡ framed (frame_row columns.now (map frame_item_shape items.now)) rows.now) }
-    ensures fits { AreFramesOf columns.now (map frame_item_shape items.now)
-        → AreRows columns.now rows.now → IsOrMemory result }
+    ensures value { let reach = reach_seen seen.entry in IfOk result (λ v. v
+        ≡ framed (reached_row reach (map frame_item_shape items.now)) rows.now) }
+    ensures fits { let reach = reach_seen seen.entry in
+        AreFramesOf reach.columns (map frame_item_shape items.now)
+        → AreSeen reach rows.now → IsOrMemory result }
 {
     let mut out = Listed::new(alloc);
     let mut number = 0;
     while number < rows.len() {
         number += 1;
-        let (seen, _) = rows.split_at(number);
-        out.push(frame_row(alloc, columns, items, seen)?)?;
+        let (first, _) = rows.split_at(number);
+        out.push(reached_row(alloc, seen, items, first)?)?;
     }
     Ok(out)
 }
@@ -196,22 +216,23 @@ pub(crate) fn keys_of(columns: &[Column], slots: &Slots) -> Result<Keys, Fault>
 /// What the items make of the rows of a key, if it has a place.
 pub(crate) fn key_row(
     alloc: Global,
-    columns: &[Column],
+    seen: Seen<'_>,
     items: &[FrameItem],
     keys: Keys,
     rows: &[Listed<u128>],
     key: u128,
 ) -> Result<Option<Listed<u128>>, Fault>
-    ensures value { IfOk result (λ v. v
-        ≡ key_row columns.now (map frame_item_shape items.now) keys.most keys.column rows.now key) }
-    ensures fits { AreFramesOf columns.now (map frame_item_shape items.now)
-        → AreRows columns.now rows.now → IsOrMemory result }
+    ensures value { let reach = reach_seen seen.entry in IfOk result (λ v. v
+        ≡ key_row reach (map frame_item_shape items.now) keys.most keys.column rows.now key) }
+    ensures fits { let reach = reach_seen seen.entry in
+        AreFramesOf reach.columns (map frame_item_shape items.now)
+        → AreSeen reach rows.now → IsOrMemory result }
 {
     if !has_key(alloc, keys.most, keys.column, rows, key)? {
         return Ok(None);
     }
     let own = rows_with_key(alloc, keys.column, rows, key)?;
-    let row = frame_row(alloc, columns, items, own.as_slice())?;
+    let row = reached_row(alloc, seen, items, own.as_slice())?;
     Ok(Some(row))
 }
 
@@ -228,24 +249,36 @@ fn push_some(out: &mut Table, row: Option<Listed<u128>>) -> Result<(), Memory>
 // For each row of a key that has a place what the items make of its key's rows up to it.
 fn keyed_rows(
     alloc: Global,
-    columns: &[Column],
+    seen: Seen<'_>,
     items: &[FrameItem],
     keys: Keys,
     rows: &[Listed<u128>],
 ) -> Result<Table, Fault>
-    ensures value { let of_rows = frame_row columns.now (map frame_item_shape items.now) in
-        IfOk result (λ v. v
+    ensures value { let of_rows = reached_row (reach_seen seen.entry) (map frame_item_shape items.now)
+        in IfOk result (λ v. v
         ≡ framed_by_key keys.most (λ (r : Row). slice_index r keys.column) of_rows rows.now) }
-    ensures fits { AreFramesOf columns.now (map frame_item_shape items.now)
-        → AreRows columns.now rows.now → IsOrMemory result }
+    ensures fits { let reach = reach_seen seen.entry in
+        AreFramesOf reach.columns (map frame_item_shape items.now)
+        → AreSeen reach rows.now → IsOrMemory result }
 {
     let mut out = Listed::new(alloc);
     for (i, row) in rows.iter().enumerate() {
         let key = number_at(row.as_slice(), keys.column);
-        let own = key_row(alloc, columns, items, keys, &rows[..i + 1], key)?;
+        let own = key_row(alloc, seen, items, keys, &rows[..i + 1], key)?;
         push_some(&mut out, own)?;
     }
     Ok(out)
+}
+
+/// What a select of frames says.
+#[derive(Clone, Copy)]
+pub struct Framing<'a> {
+    /// What it makes of the rows up to a row.
+    pub items: &'a [FrameItem],
+    /// Which rows it keeps.
+    pub filter: &'a Option<Expr>,
+    /// By which key it parts them.
+    pub slots: &'a Option<Slots>,
 }
 
 /// The rows of a select of frames, and whether rows of further keys were left out.
@@ -261,20 +294,23 @@ pub struct Framed {
 fn parted_rows(
     alloc: Global,
     columns: &[Column],
+    seen: Seen<'_>,
     items: &[FrameItem],
     slots: &Option<Slots>,
     rows: &[Listed<u128>],
 ) -> Result<Framed, Fault>
-    ensures value { let parted = option_map slots_shape slots.now in IfOk result (λ v.
-        (v.rows ≡ framed_rows columns.now (map frame_item_shape items.now) parted rows.now)
+    ensures value { let reach = reach_seen seen.entry in
+        let parted = option_map slots_shape slots.now in IfOk result (λ v.
+        (v.rows ≡ framed_rows columns.now reach (map frame_item_shape items.now) parted rows.now)
         × (v.further ≡ left_out columns.now parted rows.now)) }
-    ensures fits { AreFramesOf columns.now (map frame_item_shape items.now)
+    ensures fits { let reach = reach_seen seen.entry in
+        AreFramesOf reach.columns (map frame_item_shape items.now)
         → IsParted columns.now (option_map slots_shape slots.now)
-        → AreRows columns.now rows.now → IsOrMemory result }
+        → AreSeen reach rows.now → IsOrMemory result }
 {
     match slots {
         None => {
-            let out = framed_rows(alloc, columns, items, rows)?;
+            let out = framed_rows(alloc, seen, items, rows)?;
             Ok(Framed {
                 rows: out,
                 further: false,
@@ -282,7 +318,7 @@ fn parted_rows(
         }
         Some(part) => {
             let keys = keys_of(columns, part)?;
-            let out = keyed_rows(alloc, columns, items, keys, rows)?;
+            let out = keyed_rows(alloc, seen, items, keys, rows)?;
             let further = some_further(alloc, keys.most, keys.column, rows)?;
             Ok(Framed { rows: out, further })
         }
@@ -294,20 +330,22 @@ fn parted_rows(
 pub fn frames_over(
     alloc: Global,
     columns: &[Column],
-    items: &[FrameItem],
-    filter: &Option<Expr>,
-    slots: &Option<Slots>,
+    seen: Seen<'_>,
+    framing: Framing<'_>,
     rows: &[Listed<u128>],
 ) -> Result<Framed, Fault>
-    ensures value { let from = kept columns.now (option_map expr_shape filter.now) rows.now in
-        let parted = option_map slots_shape slots.now in IfOk result (λ v.
-        (v.rows ≡ framed_rows columns.now (map frame_item_shape items.now) parted from)
+    ensures value { let reach = reach_seen seen.entry in let f = framing.entry in
+        let from = kept reach (option_map expr_shape f.filter.now) rows.now in
+        let parted = option_map slots_shape f.slots.now in IfOk result (λ v.
+        (v.rows ≡ framed_rows columns.now reach (map frame_item_shape f.items.now) parted from)
         × (v.further ≡ left_out columns.now parted from)) }
-    ensures fits { AreFramesOf columns.now (map frame_item_shape items.now)
-        → IsFilter columns.now (option_map expr_shape filter.now)
-        → IsParted columns.now (option_map slots_shape slots.now)
-        → AreRows columns.now rows.now → IsOrMemory result }
+    ensures fits { let reach = reach_seen seen.entry in let f = framing.entry in
+        AreFramesOf reach.columns (map frame_item_shape f.items.now)
+        → IsFilter reach.columns (option_map expr_shape f.filter.now)
+        → IsParted columns.now (option_map slots_shape f.slots.now)
+        → AreSeen reach rows.now → IsOrMemory result }
 {
-    let from = kept_rows(alloc, columns, filter, rows)?;
-    parted_rows(alloc, columns, items, slots, from.as_slice())
+    let from = kept_rows(alloc, seen, framing.filter, rows)?;
+    let of_rows = from.as_slice();
+    parted_rows(alloc, columns, seen, framing.items, framing.slots, of_rows)
 }

@@ -6,19 +6,19 @@ ghost use Rattle.gl_arrival.specs.Arrival.{by_arrival};
 ghost use Rattle.gl_arrival.specs.Changes.{framed_at, framed_by_key_at};
 ghost use Rattle.gl_arrival.specs.Places.{at_place, at_places};
 ghost use Rattle.gl_query.specs.Accepted.{IsFilter, IsPick};
-ghost use Rattle.gl_query.specs.Results.{frame_row};
+ghost use Rattle.gl_query.specs.Results.{reached_row};
 ghost use Rattle.gl_query.specs.Shapes.{expr_shape, frame_item_shape, pick_shape};
 ghost use Rattle.gl_reference.specs.Arrivals.{kept_in, picked_one, place_on, rows_in};
-ghost use Rattle.gl_reference.specs.Fits.{AreFramesOf, AreRows, IsOrMemory};
+ghost use Rattle.gl_reference.specs.Fits.{AreFramesOf, IsOrMemory};
+ghost use Rattle.gl_reference.specs.Rows.{AreSeen, reach_seen};
 ghost use Rattle.gl_reference.specs.Sources.{placed_of, places_on};
 
-use crate::columns::Clock;
-use crate::frames::{Keys, frame_row, key_row};
-use crate::rows::{Fault, picked_row};
+use crate::columns::{Clock, Seen};
+use crate::frames::{Keys, key_row, reached_row};
+use crate::rows::{Fault, picked_row, wide_row};
 use crate::values::keeps;
 use gl_bits::{Listed, Memory};
 use gl_query::{Expr, FrameItem, Pick};
-use gl_schema::Column;
 use gl_values::Table;
 use gl_values::lists::{copy_of_row, number_at};
 use std::alloc::Global;
@@ -77,18 +77,22 @@ pub(crate) fn placed_rows(
 /// The rows that a filter keeps, each at its place.
 pub(crate) fn kept_placed(
     alloc: Global,
-    columns: &[Column],
+    seen: Seen<'_>,
     filter: &Option<Expr>,
     rows: &[PlacedRow],
 ) -> Result<Listed<PlacedRow>, Fault>
     ensures value { IfOk result (λ v. v
-        ≡ kept_in columns.now (option_map expr_shape filter.now) rows.now) }
-    ensures fits { IsFilter columns.now (option_map expr_shape filter.now)
-        → AreRows columns.now (rows_in rows.now) → IsOrMemory result }
+        ≡ kept_in (reach_seen seen.entry) (option_map expr_shape filter.now) rows.now) }
+    ensures fits { let reach = reach_seen seen.entry in
+        IsFilter reach.columns (option_map expr_shape filter.now)
+        → AreSeen reach (rows_in rows.now) → IsOrMemory result }
 {
     let mut out = Listed::new(alloc);
     for row in rows {
-        if keeps(columns, filter, row.row.as_slice()).ok_or(Fault::Unfit)? {
+        let own = row.row.as_slice();
+        let joint = wide_row(alloc, seen.words, own)?;
+        let wide = joint.as_slice();
+        if keeps(seen.columns, filter, wide).ok_or(Fault::Unfit)? {
             out.push(copy_of_placed(alloc, row)?)?;
         }
     }
@@ -98,19 +102,22 @@ pub(crate) fn kept_placed(
 /// Each row picked, at its place.
 pub(crate) fn picked_placed(
     alloc: Global,
-    columns: &[Column],
+    seen: Seen<'_>,
     pick: &Pick,
     rows: &[PlacedRow],
 ) -> Result<Listed<PlacedRow>, Fault>
     ensures value { IfOk result (λ v. v
-        ≡ map (picked_one columns.now (pick_shape pick.now)) rows.now) }
-    ensures fits { IsPick columns.now (pick_shape pick.now)
-        → AreRows columns.now (rows_in rows.now) → IsOrMemory result }
+        ≡ map (picked_one (reach_seen seen.entry) (pick_shape pick.now)) rows.now) }
+    ensures fits { let reach = reach_seen seen.entry in IsPick reach.columns (pick_shape pick.now)
+        → AreSeen reach (rows_in rows.now) → IsOrMemory result }
 {
     let mut out = Listed::new(alloc);
     for row in rows {
+        let own = row.row.as_slice();
+        let joint = wide_row(alloc, seen.words, own)?;
+        let wide = joint.as_slice();
         out.push(PlacedRow {
-            row: picked_row(alloc, columns, pick, row.row.as_slice())?,
+            row: picked_row(alloc, seen, pick, own, wide)?,
             place: row.place,
         })?;
     }
@@ -132,21 +139,21 @@ pub(crate) fn rows_alone(alloc: Global, rows: &[PlacedRow]) -> Result<Table, Mem
 /// their places.
 pub(crate) fn framed_placed(
     alloc: Global,
-    columns: &[Column],
+    seen: Seen<'_>,
     items: &[FrameItem],
     alone: &[Listed<u128>],
     rows: &[PlacedRow],
 ) -> Result<Listed<PlacedRow>, Fault>
     requires { alone.now ≡ rows_in rows.now }
-    ensures value { IfOk result (λ v. map placed_of v
-        ≡ framed_at (frame_row columns.now (map frame_item_shape items.now))
-        (map placed_of rows.now)) }
-    ensures fits { AreFramesOf columns.now (map frame_item_shape items.now)
-        → AreRows columns.now alone.now → IsOrMemory result }
+    ensures value { let reach = reach_seen seen.entry in IfOk result (λ v. map placed_of v
+        ≡ framed_at (reached_row reach (map frame_item_shape items.now)) (map placed_of rows.now)) }
+    ensures fits { let reach = reach_seen seen.entry in
+        AreFramesOf reach.columns (map frame_item_shape items.now)
+        → AreSeen reach alone.now → IsOrMemory result }
 {
     let mut out = Listed::new(alloc);
     for (i, row) in rows.iter().enumerate() {
-        let made = frame_row(alloc, columns, items, &alone[..i + 1])?;
+        let made = reached_row(alloc, seen, items, &alone[..i + 1])?;
         out.push(PlacedRow {
             row: made,
             place: row.place,
@@ -174,23 +181,24 @@ pub(crate) fn push_placed(
 /// `alone` has the rows without their places.
 pub(crate) fn keyed_placed(
     alloc: Global,
-    columns: &[Column],
+    seen: Seen<'_>,
     items: &[FrameItem],
     keys: Keys,
     alone: &[Listed<u128>],
     rows: &[PlacedRow],
 ) -> Result<Listed<PlacedRow>, Fault>
     requires { alone.now ≡ rows_in rows.now }
-    ensures value { IfOk result (λ v. map placed_of v
+    ensures value { let reach = reach_seen seen.entry in IfOk result (λ v. map placed_of v
         ≡ framed_by_key_at keys.most (λ (r : Row). slice_index r keys.column)
-        (frame_row columns.now (map frame_item_shape items.now)) (map placed_of rows.now)) }
-    ensures fits { AreFramesOf columns.now (map frame_item_shape items.now)
-        → AreRows columns.now alone.now → IsOrMemory result }
+        (reached_row reach (map frame_item_shape items.now)) (map placed_of rows.now)) }
+    ensures fits { let reach = reach_seen seen.entry in
+        AreFramesOf reach.columns (map frame_item_shape items.now)
+        → AreSeen reach alone.now → IsOrMemory result }
 {
     let mut out = Listed::new(alloc);
     for (i, row) in rows.iter().enumerate() {
         let key = number_at(row.row.as_slice(), keys.column);
-        let own = key_row(alloc, columns, items, keys, &alone[..i + 1], key)?;
+        let own = key_row(alloc, seen, items, keys, &alone[..i + 1], key)?;
         push_placed(&mut out, own, row.place)?;
     }
     Ok(out)

@@ -1,15 +1,15 @@
 //! One result of a query over lists of rows.
 
-ghost use Rattle.std.specs.Prelude.{◌≡◌, Bool, IfOk, length, map};
+ghost use Rattle.std.specs.Prelude.{◌≡◌, ◌∷◌, Bool, IfOk, length, map};
 ghost use Rattle.gl_query.specs.Shapes.{query_shape};
 ghost use Rattle.std.specs.List.{AllByRecursion};
 ghost use Rattle.gl_values.specs.declared.lists.Group.{Group};
 ghost use Rattle.gl_schema.specs.Schemas.{IsRowOf};
 ghost use Rattle.gl_query.specs.Accepted.{IsAcceptedOver};
 ghost use Rattle.gl_query.specs.Laws.{scope_of};
-ghost use Rattle.gl_query.specs.Results.{IsResult, numbered};
+ghost use Rattle.gl_query.specs.Results.{IsResult, first_row, numbered};
 ghost use Rattle.gl_reference.specs.Fits.{AreSources, IsBody, IsFit, IsOrMemory};
-ghost use Rattle.gl_reference.specs.Sources.{IsAnswer, env_view, given_inputs};
+ghost use Rattle.gl_reference.specs.Sources.{IsAnswer, env_view, given_inputs, source_of};
 ghost use Rattle.gl_reference.specs.Joins.{AreOverGroups, AreOverSlices};
 
 use crate::answers::{
@@ -17,7 +17,10 @@ use crate::answers::{
     windows_of,
 };
 use crate::arrivals::{as_of, by_arrival, without_places};
-use crate::columns::{Clock, Source, columns_of};
+use crate::columns::{
+    Clock, Source, columns_of, copy_of_parameters, one_row, parameters_as, words_table,
+};
+use crate::frames::Framing;
 use crate::partitions::partitions_of;
 use crate::rows::{Fault, joined, with_key};
 use crate::windows::{clock_of, slices_in, time_windows_of};
@@ -34,17 +37,25 @@ use std::alloc::Global;
 #[cycle(results)]
 fn over_slices<'a>(
     alloc: Global,
+    sources: &[Source<'_>],
     body: &Query,
     var: &'a [u8],
     columns: &'a [Column],
     slices: &'a [&'a [Listed<u128>]],
 ) -> Result<Answer, Fault>
-    ensures value { IfOk result (λ a. AreOverSlices (query_shape body.now) var.now columns.now
+    ensures value { IfOk result (λ a. AreOverSlices (query_shape body.now)
+        (env_view sources.now) var.now columns.now
         (map (λ s. s.now) slices.now) a.rows a.spill) }
-    ensures fits { IsBody var.now columns.now (query_shape body.now)
+    ensures fits { AreSources (env_view sources.now)
+        → IsBody (env_view sources.now) var.now columns.now (query_shape body.now)
         → AllByRecursion (AllByRecursion (IsRowOf columns.now)) (map (λ s. s.now) slices.now)
         → IsOrMemory result }
 {
+    let table = words_table(alloc, sources)?;
+    let words = table.as_slice();
+    let names = copy_of_parameters(alloc, sources)?;
+    let parameters = names.as_slice();
+    let outer = parameters_as(parameters, words);
     let mut rows = Listed::new(alloc);
     let mut spill = false;
     for slice in slices {
@@ -54,7 +65,7 @@ fn over_slices<'a>(
             rows: slice,
             clock: None,
         };
-        let part = result_of(alloc, &[inside], body)?;
+        let part = result_of(alloc, &[outer, inside], body)?;
         rows = joined(rows, part.rows)?;
         spill |= part.spill;
     }
@@ -65,17 +76,24 @@ fn over_slices<'a>(
 #[cycle(results)]
 fn over_groups<'a>(
     alloc: Global,
+    sources: &[Source<'_>],
     body: &Query,
     var: &'a [u8],
     columns: &'a [Column],
     groups: &'a [Group],
 ) -> Result<Answer, Fault>
-    ensures value { IfOk result (λ a. AreOverGroups (query_shape body.now) var.now columns.now
-        groups.now a.rows a.spill) }
-    ensures fits { IsBody var.now columns.now (query_shape body.now)
+    ensures value { IfOk result (λ a. AreOverGroups (query_shape body.now)
+        (env_view sources.now) var.now columns.now groups.now a.rows a.spill) }
+    ensures fits { AreSources (env_view sources.now)
+        → IsBody (env_view sources.now) var.now columns.now (query_shape body.now)
         → AllByRecursion (λ (g : Group). AllByRecursion (IsRowOf columns.now) g.rows) groups.now
         → IsOrMemory result }
 {
+    let table = words_table(alloc, sources)?;
+    let words = table.as_slice();
+    let names = copy_of_parameters(alloc, sources)?;
+    let parameters = names.as_slice();
+    let outer = parameters_as(parameters, words);
     let mut rows = Listed::new(alloc);
     let mut spill = false;
     for group in groups {
@@ -85,7 +103,7 @@ fn over_groups<'a>(
             rows: group.rows.as_slice(),
             clock: None,
         };
-        let part = result_of(alloc, &[inside], body)?;
+        let part = result_of(alloc, &[outer, inside], body)?;
         let keyed = with_key(alloc, group.key, part.rows.as_slice())?;
         rows = joined(rows, keyed)?;
         spill |= part.spill;
@@ -127,10 +145,13 @@ pub fn result_of(alloc: Global, sources: &[Source<'_>], query: &Query) -> Result
             let columns = columns_of(alloc, sources, source)?;
             frames_from(
                 alloc,
+                sources,
                 columns.as_slice(),
-                items.as_slice(),
-                filter,
-                slots,
+                Framing {
+                    items: items.as_slice(),
+                    filter,
+                    slots,
+                },
                 from,
             )
         }
@@ -147,6 +168,7 @@ pub fn result_of(alloc: Global, sources: &[Source<'_>], query: &Query) -> Result
             let slices = windows_of(alloc, size.value, advance.value, from.rows.as_slice())?;
             let inside = over_slices(
                 alloc,
+                sources,
                 body,
                 var.text.as_slice(),
                 columns.as_slice(),
@@ -170,6 +192,7 @@ pub fn result_of(alloc: Global, sources: &[Source<'_>], query: &Query) -> Result
             let parts = slices_in(alloc, tables.as_slice())?;
             let inside = over_slices(
                 alloc,
+                sources,
                 body,
                 var.text.as_slice(),
                 columns.as_slice(),
@@ -192,6 +215,7 @@ pub fn result_of(alloc: Global, sources: &[Source<'_>], query: &Query) -> Result
             let parts = groups_of(alloc, most, column, from.rows.as_slice())?;
             let inside = over_groups(
                 alloc,
+                sources,
                 body,
                 var.text.as_slice(),
                 columns.as_slice(),
@@ -224,6 +248,7 @@ pub fn result_of(alloc: Global, sources: &[Source<'_>], query: &Query) -> Result
             )?;
             let inside = over_groups(
                 alloc,
+                sources,
                 body,
                 var.text.as_slice(),
                 columns.as_slice(),
@@ -264,38 +289,7 @@ pub fn result_of(alloc: Global, sources: &[Source<'_>], query: &Query) -> Result
 /// The times of a stream's rows, or their places, one for each.
 pub type Times = Listed<u64>;
 
-/// The streams of a schema, each with its rows and their times.
-fn sources_of<'a>(
-    alloc: Global,
-    streams: &'a [Stream],
-    inputs: &'a [Table],
-    places: &'a [Times],
-    times: &'a [Times],
-    ticks: u64,
-) -> Result<Vec<Source<'a>>, Memory>
-    requires inputs { length inputs.now ≡ length streams.now }
-    requires places { length places.now ≡ length streams.now }
-    requires times { length times.now ≡ length streams.now }
-    ensures { IfOk result (λ v. env_view v.items
-        ≡ numbered 0 streams.now (given_inputs inputs.now places.now times.now ticks)) }
-{
-    let mut out = Vec::new(alloc);
-    for (i, stream) in streams.iter().enumerate() {
-        out.push(Source {
-            name: stream.name.as_slice(),
-            columns: stream.columns.as_slice(),
-            rows: inputs[i].as_slice(),
-            clock: Some(Clock {
-                places: places[i].as_slice(),
-                times: times[i].as_slice(),
-                ticks,
-            }),
-        })?;
-    }
-    Ok(out)
-}
-
-/// What came over the streams of a schema, of each stream in order.
+/// What came over the streams of a schema, of each stream in order, and the words of its parameters.
 #[derive(Clone, Copy)]
 pub struct Brought<'a> {
     /// The rows of each stream.
@@ -306,6 +300,46 @@ pub struct Brought<'a> {
     pub times: &'a [Times],
     /// How many ticks came in all.
     pub ticks: u64,
+    /// The word of each parameter.
+    pub words: &'a [u128],
+}
+
+/// A first source, and the streams of a schema, each with its rows and their times.
+fn sources_of<'a>(
+    alloc: Global,
+    first: Source<'a>,
+    streams: &'a [Stream],
+    brought: Brought<'a>,
+) -> Result<Vec<Source<'a>>, Memory>
+    requires rows { length brought.rows.now ≡ length streams.now }
+    requires places { length brought.places.now ≡ length streams.now }
+    requires times { length brought.times.now ≡ length streams.now }
+    ensures { let outer = source_of first.entry in let b = brought.entry in
+        IfOk result (λ v. env_view v.items ≡ outer ∷ numbered 0 streams.now
+        (given_inputs b.rows.now b.places.now b.times.now b.ticks (first_row outer.rows))) }
+{
+    let Brought {
+        rows,
+        places,
+        times,
+        ticks,
+        ..
+    } = brought;
+    let mut out = Vec::new(alloc);
+    out.push(first)?;
+    for (i, stream) in streams.iter().enumerate() {
+        out.push(Source {
+            name: stream.name.as_slice(),
+            columns: stream.columns.as_slice(),
+            rows: rows[i].as_slice(),
+            clock: Some(Clock {
+                places: places[i].as_slice(),
+                times: times[i].as_slice(),
+                ticks,
+            }),
+        })?;
+    }
+    Ok(out)
 }
 
 /// One result of an accepted statement over a schema and what came over its streams.
@@ -319,19 +353,16 @@ pub fn evaluate(
     requires places { length brought.places.now ≡ length schema.now.streams }
     requires times { length brought.times.now ≡ length schema.now.streams }
     ensures value { let b = brought.entry in
-        let inputs = given_inputs b.rows.now b.places.now b.times.now b.ticks in
+        let inputs = given_inputs b.rows.now b.places.now b.times.now b.ticks b.words.now in
         IfOk result (λ a. IsResult schema.now statement.now inputs a.rows a.spill) }
     ensures fits { let b = brought.entry in
-        IsFit schema.now statement.now b.rows.now b.places.now b.times.now b.ticks
+        IsFit schema.now statement.now b.rows.now b.places.now b.times.now b.ticks b.words.now
         → IsOrMemory result }
 {
-    let sources = sources_of(
-        alloc,
-        schema.streams.as_slice(),
-        brought.rows,
-        brought.places,
-        brought.times,
-        brought.ticks,
-    )?;
+    let table = one_row(alloc, brought.words)?;
+    let rows = table.as_slice();
+    let parameters = schema.parameters.as_slice();
+    let first = parameters_as(parameters, rows);
+    let sources = sources_of(alloc, first, schema.streams.as_slice(), brought)?;
     result_of(alloc, sources.as_slice(), &statement.query)
 }

@@ -4,10 +4,12 @@ ghost use Rattle.std.specs.Prelude.{◌≡◌, ◌++◌, ◌∷◌, IfOk, length
 ghost use Rattle.gl_query.specs.Shapes.{Items, expr_shape, item_shape, pick_shape};
 ghost use Rattle.gl_values.specs.Results.{beside};
 ghost use Rattle.gl_query.specs.Accepted.{IsFilter, IsPick, IsRows};
-ghost use Rattle.gl_query.specs.Results.{kept, picked};
+ghost use Rattle.gl_query.specs.Results.{kept, picked, widened};
 ghost use Rattle.gl_reference.specs.declared.rows.Fault.TheVariants as fault;
 ghost use Rattle.gl_reference.specs.Fits.{AreRows, IsOrMemory, IsRow};
+ghost use Rattle.gl_reference.specs.Rows.{AreSeen, passing, reach_seen, values_at};
 
+use crate::columns::Seen;
 use crate::values::{keeps, value_of};
 use gl_bits::{Listed, Memory};
 use gl_query::kinds::kind_alone;
@@ -79,7 +81,7 @@ fn item_values(
     row: &[u128],
 ) -> Result<Listed<u128>, Fault>
     ensures value { IfOk result (λ v. v
-        ≡ picked columns.now (Items (map item_shape items.now)) row.now) }
+        ≡ values_at columns.now (map item_shape items.now) row.now) }
     ensures fits { IsPick columns.now (Items (map item_shape items.now)) → IsRow columns.now row.now
         → IsOrMemory result }
 {
@@ -91,41 +93,89 @@ fn item_values(
     Ok(out)
 }
 
-/// The row that is picked of a row.
+/// A row with the words of the parameters behind it.
+pub(crate) fn wide_row(alloc: Global, words: &[u128], row: &[u128]) -> Result<Listed<u128>, Memory>
+    ensures { IfOk result (λ v. v ≡ row.now ++ words.now) }
+{
+    let first = copy_of_row(alloc, row)?;
+    let behind = copy_of_row(alloc, words)?;
+    joined(first, behind)
+}
+
+/// Each row with the words of the parameters behind it.
+pub fn wide_rows(alloc: Global, words: &[u128], rows: &[Listed<u128>]) -> Result<Table, Memory>
+    ensures { IfOk result (λ v. v ≡ widened words.now rows.now) }
+{
+    let mut out = Listed::new(alloc);
+    for row in rows {
+        out.push(wide_row(alloc, words, row.as_slice())?)?;
+    }
+    Ok(out)
+}
+
+/// The row that is picked of a row, which is given with the words of the parameters too.
 pub(crate) fn picked_row(
     alloc: Global,
-    columns: &[Column],
+    seen: Seen<'_>,
     pick: &Pick,
     row: &[u128],
+    wide: &[u128],
 ) -> Result<Listed<u128>, Fault>
-    ensures value { IfOk result (λ v. v ≡ picked columns.now (pick_shape pick.now) row.now) }
-    ensures fits { IsPick columns.now (pick_shape pick.now) → IsRow columns.now row.now
-        → IsOrMemory result }
+    requires { wide.now ≡ row.now ++ seen.words.now }
+    ensures value { IfOk result (λ v. v
+        ≡ picked (reach_seen seen.entry) (pick_shape pick.now) row.now) }
+    ensures fits { let s = seen.entry in IsPick s.columns.now (pick_shape pick.now)
+        → IsRow s.columns.now wide.now → IsOrMemory result }
 {
     match pick {
         Pick::All => Ok(copy_of_row(alloc, row)?),
-        Pick::Items(items) => item_values(alloc, columns, items.as_slice(), row),
+        Pick::Items(items) => item_values(alloc, seen.columns, items.as_slice(), wide),
     }
 }
 
 /// The rows that a filter keeps, each picked.
 pub fn picked_rows(
     alloc: Global,
-    columns: &[Column],
+    seen: Seen<'_>,
     pick: &Pick,
     filter: &Option<Expr>,
     rows: &[Listed<u128>],
 ) -> Result<Table, Fault>
+    ensures value { let reach = reach_seen seen.entry in IfOk result (λ v. v
+        ≡ map (picked reach (pick_shape pick.now))
+        (kept reach (option_map expr_shape filter.now) rows.now)) }
+    ensures fits { let reach = reach_seen seen.entry in
+        IsRows reach.columns (pick_shape pick.now) (option_map expr_shape filter.now)
+        → AreSeen reach rows.now → IsOrMemory result }
+{
+    let mut out = Listed::new(alloc);
+    for row in rows {
+        let own = row.as_slice();
+        let joint = wide_row(alloc, seen.words, own)?;
+        let wide = joint.as_slice();
+        if keeps(seen.columns, filter, wide).ok_or(Fault::Unfit)? {
+            out.push(picked_row(alloc, seen, pick, own, wide)?)?;
+        }
+    }
+    Ok(out)
+}
+
+/// The rows that a condition passes, which have the words of the parameters behind them.
+pub fn passing_rows(
+    alloc: Global,
+    columns: &[Column],
+    filter: &Option<Expr>,
+    rows: &[Listed<u128>],
+) -> Result<Table, Fault>
     ensures value { IfOk result (λ v. v
-        ≡ map (picked columns.now (pick_shape pick.now))
-        (kept columns.now (option_map expr_shape filter.now) rows.now)) }
-    ensures fits { IsRows columns.now (pick_shape pick.now) (option_map expr_shape filter.now)
+        ≡ passing columns.now (option_map expr_shape filter.now) rows.now) }
+    ensures fits { IsFilter columns.now (option_map expr_shape filter.now)
         → AreRows columns.now rows.now → IsOrMemory result }
 {
     let mut out = Listed::new(alloc);
     for row in rows {
         if keeps(columns, filter, row.as_slice()).ok_or(Fault::Unfit)? {
-            out.push(picked_row(alloc, columns, pick, row.as_slice())?)?;
+            out.push(copy_of_row(alloc, row.as_slice())?)?;
         }
     }
     Ok(out)
@@ -134,19 +184,23 @@ pub fn picked_rows(
 /// The rows that a filter keeps.
 pub fn kept_rows(
     alloc: Global,
-    columns: &[Column],
+    seen: Seen<'_>,
     filter: &Option<Expr>,
     rows: &[Listed<u128>],
 ) -> Result<Table, Fault>
     ensures value { IfOk result (λ v. v
-        ≡ kept columns.now (option_map expr_shape filter.now) rows.now) }
-    ensures fits { IsFilter columns.now (option_map expr_shape filter.now)
-        → AreRows columns.now rows.now → IsOrMemory result }
+        ≡ kept (reach_seen seen.entry) (option_map expr_shape filter.now) rows.now) }
+    ensures fits { let reach = reach_seen seen.entry in
+        IsFilter reach.columns (option_map expr_shape filter.now)
+        → AreSeen reach rows.now → IsOrMemory result }
 {
     let mut out = Listed::new(alloc);
     for row in rows {
-        if keeps(columns, filter, row.as_slice()).ok_or(Fault::Unfit)? {
-            out.push(copy_of_row(alloc, row.as_slice())?)?;
+        let own = row.as_slice();
+        let joint = wide_row(alloc, seen.words, own)?;
+        let wide = joint.as_slice();
+        if keeps(seen.columns, filter, wide).ok_or(Fault::Unfit)? {
+            out.push(copy_of_row(alloc, own)?)?;
         }
     }
     Ok(out)

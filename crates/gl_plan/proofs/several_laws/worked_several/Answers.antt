@@ -1,4 +1,5 @@
 use Rattle.std.proofs.Common.{◌≡◌, ◌∷◌, [], length, refl, ◌∙◌}
+use Rattle.gl_query.specs.Columns.{sources_of}
 use Rattle.gl_query.specs.Shapes.{QueryShape}
 use Rattle.gl_schema.specs.Schemas.{text_word}
 use Rattle.gl_algebra.specs.Added.{added}
@@ -15,8 +16,8 @@ use Rattle.gl_plan.proofs.several_laws.worked_several.Goals as goal
 -- the joint plan of two queries
 abbrev both : QueryShape → QueryShape → Several
 both one other =
-    let first = placed (stream_node trade_schema.streams) trade_schema.streams one [] in
-    let second = placed (stream_node trade_schema.streams) trade_schema.streams other first.nodes in
+    let first = placed (stream_node trade_schema.streams) (sources_of trade_schema) one [] in
+    let second = placed (stream_node trade_schema.streams) (sources_of trade_schema) other first.nodes in
     record { nodes = second.nodes; roots = first.root ∷ second.root ∷ [] }
 
 six : length (both counts_of_one sums_of_one).nodes ≡ 6

@@ -1,4 +1,4 @@
-use Rattle.std.proofs.Common.{rules, ◌≡◌, None}
+use Rattle.std.proofs.Common.{◌≡◌, None}
 use Rattle.gl_query.specs.Accepted.{columns_under}
 use Rattle.gl_query.specs.Alike.{query_alike}
 use Rattle.gl_query.specs.Faults.{query_fault}

@@ -10,16 +10,18 @@ use Rattle.gl_query.specs.declared.tree.Query.{Query}
 use Rattle.gl_query.specs.Accepted.{AreSlots, IsAcceptedOver, IsFilter, IsParted, IsRows}
 use Rattle.gl_query.specs.Columns.{arrives}
 use Rattle.gl_query.specs.Laws.{scope_of}
-use Rattle.gl_query.specs.Results.{ArrivesIn, columns_in, join_by, keeps, kept, picked}
+use Rattle.gl_query.specs.Results.{ArrivesIn, columns_in, join_by, kept, picked, Reach, is_kept, reach_in}
 use Rattle.gl_query.specs.Shapes.{expr_shape, frame_item_shape, pick_shape, query_shape, slots_shape}
 use Rattle.gl_query.specs.Shapes as shape
 use Rattle.gl_reference.specs.declared.arrivals.Arrived.{Arrived}
 use Rattle.gl_reference.specs.declared.columns.Source.{Source as Given}
 use Rattle.gl_reference.specs.Arrivals.{framed_in, rows_in, spills}
-use Rattle.gl_reference.specs.Fits.{AreFramesOf, AreRows, IsOrMemory}
+use Rattle.gl_reference.specs.Fits.{AreFramesOf, IsOrMemory}
+use Rattle.gl_reference.specs.Rows.{AreSeen, reach_over}
 use Rattle.gl_reference.specs.Sources.{HasArrived, env_view, placed_of}
 use Rattle.gl_reference.proofs.Arriving.{arrived_fit, as_of_arrived, frames_arrived, rows_arrived}
 use Rattle.gl_reference.proofs.Passing.{passes}
+use Rattle.gl_reference.proofs.Seeing.{rows_seen}
 use Rattle.gl_reference.proofs.arrivals.+arrivals.Goals as goal
 
 -- a query is accepted over sources, each of its rows comes of one row that came, and an answer is its result with places
@@ -32,19 +34,19 @@ Arrives q = IsTrue (arrives (query_shape q))
 abbrev Came : List Given → Arrived → Query → Type 0
 Came sources a q = HasArrived sources (query_shape q) a
 
-pub arrival_of-returns-in_ok-columns-in-Rows-clause-value : goal.arrival_of-returns-in_ok-columns-in-Rows-clause-value
-arrival_of-returns-in_ok-columns-in-Rows-clause-value t c =
+pub arrival_of-returns-in_ok-from-in-Rows-clause-value : goal.arrival_of-returns-in_ok-from-in-Rows-clause-value
+arrival_of-returns-in_ok-from-in-Rows-clause-value t c =
     let env = env_view c.args.sources.now in
     let from = c.in_ok-from-in-Rows.from in
     let source = query_shape c.in-Rows.source.value in
-    let columns = c.as_slice.result.now in
+    let reach : Reach = reach_in env source in
     let pick = pick_shape c.in-Rows.pick in
     let filter = option_map expr_shape c.in-Rows.filter in
     let is = subst (Came c.args.sources.now from) c.deref.ensures c.in_ok-from-in-Rows.ensures.value in
-    let known : columns ≡ columns_in env source =
-    c.as_slice.ensures ∙ c.in_ok-columns-in-Rows.ensures ∙ ap (λ (q : Query). columns_in env (query_shape q)) c.deref-in-Rows.ensures in
-    let made = IfOk-weaker c.rows_placed.result (λ (a : Arrived). (map placed_of a.rows ≡ mapped_at (picked columns pick) (kept_at (keeps columns filter) (map placed_of from.rows))) × (a.spill ≡ from.spill)) (λ (a : Arrived). ArrivesIn (shape.Rows pick filter source) env (map placed_of a.rows) a.spill)
-    (λ (a : Arrived) facts. rows_arrived env pick filter source (map placed_of from.rows) from.spill columns (map placed_of a.rows) a.spill is known facts) c.rows_placed.ensures.value in
+    let known = subst (λ (q : Query). let r : Reach = reach_in env (query_shape q) in
+    IfOk c.rows_placed.result (λ (a : Arrived). (map placed_of a.rows ≡ mapped_at (picked r pick) (kept_at (is_kept r filter) (map placed_of from.rows))) × (a.spill ≡ from.spill))) c.deref-in-Rows.ensures c.rows_placed.ensures.value in
+    let made = IfOk-weaker c.rows_placed.result (λ (a : Arrived). (map placed_of a.rows ≡ mapped_at (picked reach pick) (kept_at (is_kept reach filter) (map placed_of from.rows))) × (a.spill ≡ from.spill)) (λ (a : Arrived). ArrivesIn (shape.Rows pick filter source) env (map placed_of a.rows) a.spill)
+    (λ (a : Arrived) facts. rows_arrived env pick filter source (map placed_of from.rows) from.spill (map placed_of a.rows) a.spill is facts) known in
     subst (λ (q : Query). IfOk c.rows_placed.result (λ a. Came c.args.sources.now a q)) (sym c.in-Rows.is) made
 
 pub arrival_of-returns-in_ok-columns-in-Frames-clause-value : goal.arrival_of-returns-in_ok-columns-in-Frames-clause-value
@@ -52,14 +54,15 @@ arrival_of-returns-in_ok-columns-in-Frames-clause-value t c =
     let env = env_view c.args.sources.now in
     let from = c.in_ok-from-in-Frames.from in
     let source = query_shape c.in-Frames.source.value in
-    let columns = c.as_slice-in-Frames.result.now in
+    let columns = c.as_slice-columns.result.now in
+    let reach : Reach = reach_over c.args.sources.now columns in
     let items = map frame_item_shape c.as_slice-items.result.now in
     let filter = option_map expr_shape c.in-Frames.filter in
     let slots = option_map slots_shape c.in-Frames.slots in
     let is = subst (Came c.args.sources.now from) c.deref-in-Frames.ensures c.in_ok-from-in-Frames.ensures.value in
     let known : columns ≡ columns_in env source =
-    c.as_slice-in-Frames.ensures ∙ c.in_ok-columns-in-Frames.ensures ∙ ap (λ (q : Query). columns_in env (query_shape q)) c.deref-in-Frames-2.ensures in
-    let made = IfOk-weaker c.frames_placed.result (λ (a : Arrived). (map placed_of a.rows ≡ framed_in columns items slots (kept_at (keeps columns filter) (map placed_of from.rows))) × (a.spill ≡ spills columns slots from.spill (kept columns filter (rows_in from.rows)))) (λ (a : Arrived). ArrivesIn (shape.Frames items filter slots source) env (map placed_of a.rows) a.spill)
+    c.as_slice-columns.ensures ∙ c.in_ok-columns-in-Frames.ensures ∙ ap (λ (q : Query). columns_in env (query_shape q)) c.deref-in-Frames-2.ensures in
+    let made = IfOk-weaker c.frames_placed.result (λ (a : Arrived). (map placed_of a.rows ≡ framed_in columns reach items slots (kept_at (is_kept reach filter) (map placed_of from.rows))) × (a.spill ≡ spills columns slots from.spill (kept reach filter (rows_in from.rows)))) (λ (a : Arrived). ArrivesIn (shape.Frames items filter slots source) env (map placed_of a.rows) a.spill)
     (λ (a : Arrived) facts. frames_arrived env items filter slots source from.rows from.spill columns (map placed_of a.rows) a.spill is known facts) c.frames_placed.ensures.value in
     let all = subst (λ (l : List FrameItem). IfOk c.frames_placed.result (λ a. ArrivesIn (shape.Frames (map frame_item_shape l) filter slots source) env (map placed_of a.rows) a.spill)) c.as_slice-items.ensures made in
     subst (λ (q : Query). IfOk c.frames_placed.result (λ a. Came c.args.sources.now a q)) (sym c.in-Frames.is) all
@@ -80,18 +83,17 @@ arrival_of-returns-in_err-from-in-Frames-clause-fits t c = λ timed r s a.
     let of_part = subst Arrives (sym c.deref-in-Frames.ensures) came in
     passes _ c.from_residual-in_err-from-in-Frames.ensures.1 (λ y e. e ∙ c.in_err-from-in-Frames.ensures.fits timed of_part s part)
 
-pub arrival_of-returns-in_ok-columns-in-Rows-clause-fits : goal.arrival_of-returns-in_ok-columns-in-Rows-clause-fits
-arrival_of-returns-in_ok-columns-in-Rows-clause-fits t c = λ timed r s a.
+pub arrival_of-returns-in_ok-from-in-Rows-clause-fits : goal.arrival_of-returns-in_ok-from-in-Rows-clause-fits
+arrival_of-returns-in_ok-from-in-Rows-clause-fits t c = λ timed r s a.
     let env = env_view c.args.sources.now in
     let from = c.in_ok-from-in-Rows.from in
     let source = query_shape c.in-Rows.source.value in
     let whole = subst (Accepted c.args.sources.now timed) c.in-Rows.is a in
     let came = subst Arrives c.in-Rows.is r in
     let is = subst (Came c.args.sources.now from) c.deref.ensures c.in_ok-from-in-Rows.ensures.value in
-    let known : c.as_slice.result.now ≡ columns_in env source =
-    c.as_slice.ensures ∙ c.in_ok-columns-in-Rows.ensures ∙ ap (λ (q : Query). columns_in env (query_shape q)) c.deref-in-Rows.ensures in
-    let pass = subst (λ (k : List Column). IsRows k (pick_shape c.in-Rows.pick) (option_map expr_shape c.in-Rows.filter) → AreRows k (rows_in from.rows) → IsOrMemory c.rows_placed.result) known c.rows_placed.ensures.fits in
-    pass whole.1 (arrived_fit c.arrivals_are_results.ensures c.results_fit.ensures env timed source from.rows from.spill came s whole.0 is)
+    let pass = subst (λ (q : Query). let r : Reach = reach_in env (query_shape q) in
+    IsRows r.columns (pick_shape c.in-Rows.pick) (option_map expr_shape c.in-Rows.filter) → AreSeen r (rows_in from.rows) → IsOrMemory c.rows_placed.result) c.deref-in-Rows.ensures c.rows_placed.ensures.fits in
+    pass whole.1 (rows_seen env timed source (rows_in from.rows) s (arrived_fit c.arrivals_are_results.ensures c.results_fit.ensures env timed source from.rows from.spill came s whole.0 is))
 
 pub arrival_of-returns-in_ok-columns-in-Frames-clause-fits : goal.arrival_of-returns-in_ok-columns-in-Frames-clause-fits
 arrival_of-returns-in_ok-columns-in-Frames-clause-fits t c = λ timed r s a.
@@ -101,11 +103,13 @@ arrival_of-returns-in_ok-columns-in-Frames-clause-fits t c = λ timed r s a.
     let whole = subst (Accepted c.args.sources.now timed) c.in-Frames.is a in
     let came = subst Arrives c.in-Frames.is r in
     let is = subst (Came c.args.sources.now from) c.deref-in-Frames.ensures c.in_ok-from-in-Frames.ensures.value in
-    let known : c.as_slice-in-Frames.result.now ≡ columns_in env source =
-    c.as_slice-in-Frames.ensures ∙ c.in_ok-columns-in-Frames.ensures ∙ ap (λ (q : Query). columns_in env (query_shape q)) c.deref-in-Frames-2.ensures in
-    let pass = subst (λ (k : List Column). AreFramesOf k (map frame_item_shape c.as_slice-items.result.now) → IsFilter k (option_map expr_shape c.in-Frames.filter) → IsParted k (option_map slots_shape c.in-Frames.slots) → AreRows k (rows_in from.rows) → IsOrMemory c.frames_placed.result) known c.frames_placed.ensures.fits in
-    let items = subst (λ (l : List FrameItem). AreFramesOf (columns_in env source) (map frame_item_shape l)) (sym c.as_slice-items.ensures) whole.1.typed in
-    pass items whole.1.filters whole.1.parted (arrived_fit c.arrivals_are_results.ensures c.results_fit.ensures env timed source from.rows from.spill came s whole.0 is)
+    let known : c.as_slice-columns.result.now ≡ columns_in env source =
+    c.as_slice-columns.ensures ∙ c.in_ok-columns-in-Frames.ensures ∙ ap (λ (q : Query). columns_in env (query_shape q)) c.deref-in-Frames-2.ensures in
+    let pass = subst (λ (k : List Column). let r : Reach = reach_over c.args.sources.now k in
+    AreFramesOf r.columns (map frame_item_shape c.as_slice-items.result.now) → IsFilter r.columns (option_map expr_shape c.in-Frames.filter) → IsParted k (option_map slots_shape c.in-Frames.slots) → AreSeen r (rows_in from.rows) → IsOrMemory c.frames_placed.result) known c.frames_placed.ensures.fits in
+    let items = subst (λ (l : List FrameItem). AreFramesOf (reach_in env source).columns (map frame_item_shape l)) (sym c.as_slice-items.ensures) whole.1.typed in
+    pass items whole.1.filters whole.1.parted
+    (rows_seen env timed source (rows_in from.rows) s (arrived_fit c.arrivals_are_results.ensures c.results_fit.ensures env timed source from.rows from.spill came s whole.0 is))
 
 pub as_of-returns-clause-value : goal.as_of-returns-clause-value
 as_of-returns-clause-value t c =

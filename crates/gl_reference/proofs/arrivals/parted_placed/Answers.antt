@@ -3,7 +3,8 @@ use Rattle.gl_values.specs.Lists.{has_further}
 use Rattle.gl_values.specs.Results.{Row}
 use Rattle.gl_arrival.specs.Changes.{framed_by_key_at}
 use Rattle.gl_query.specs.Shapes.{frame_item_shape}
-use Rattle.gl_query.specs.Results.{frame_row}
+use Rattle.gl_query.specs.Results.{reached_row}
+use Rattle.gl_reference.specs.Rows.{reach_seen}
 use Rattle.gl_reference.specs.Arrivals.{rows_in}
 use Rattle.gl_reference.specs.Sources.{placed_of}
 use Rattle.gl_reference.proofs.arrivals.parted_placed.Goals as goal
@@ -11,7 +12,7 @@ use Rattle.gl_reference.proofs.arrivals.parted_placed.Goals as goal
 pub returns-clause-value : goal.returns-clause-value
 returns-clause-value c =
     let from = c.args.from in
-    let f : List Row → Row = frame_row c.args.columns.now (map frame_item_shape c.args.items.now) in
+    let f : List Row → Row = reached_row (reach_seen c.args.seen) (map frame_item_shape c.args.items.now) in
     let most = c.in_ok-keys-in-Some.ensures.value.0 in
     let column = c.in_ok-keys-in-Some.ensures.value.1 in
     let alone : c.as_slice-unplaced.result.now ≡ rows_in from.rows = c.as_slice-unplaced.ensures ∙ c.in_ok-alone.ensures ∙ ap rows_in c.as_slice.ensures in

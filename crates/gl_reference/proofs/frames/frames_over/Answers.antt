@@ -1,13 +1,15 @@
-use Rattle.std.proofs.Common.{◌≡◌, ◌∙◌, sym, subst, option_map}
-use Rattle.std.specs.List.{AllByRecursion}
-use Rattle.gl_schema.specs.Schemas.{IsRowOf}
+use Rattle.std.proofs.Common.{◌≡◌, ◌∙◌, ◌++◌, sym, subst, option_map}
+use Rattle.gl_values.specs.Results.{Row}
 use Rattle.gl_query.specs.Results.{keeps, kept}
 use Rattle.gl_query.specs.Shapes.{expr_shape}
-use Rattle.gl_query.proofs.Holding.{all_filter}
+use Rattle.gl_reference.specs.Rows.{AreSeen, reach_seen}
+use Rattle.gl_reference.proofs.Seeing.{seen_filter}
 use Rattle.gl_reference.proofs.frames.frames_over.Goals as goal
 
 pub returns-clause-fits : goal.returns-clause-fits
 returns-clause-fits c = λ h f p r.
-    let from : c.as_slice.result.now ≡ kept c.args.columns.now (option_map expr_shape c.args.filter.now) c.args.rows.now = c.as_slice.ensures ∙ c.in_ok-from.ensures.value in
-    let fit = all_filter (IsRowOf c.args.columns.now) (keeps c.args.columns.now (option_map expr_shape c.args.filter.now)) c.args.rows.now r.fit in
-    c.parted_rows.ensures.fits h p (record { kinds = r.kinds; fit = subst (AllByRecursion (IsRowOf c.args.columns.now)) (sym from) fit })
+    let reach = reach_seen c.args.seen in
+    let condition = option_map expr_shape c.args.framing.filter.now in
+    let from : c.as_slice-of_rows.result.now ≡ kept reach condition c.args.rows.now = c.as_slice-of_rows.ensures ∙ c.in_ok-from.ensures.value in
+    c.parted_rows.ensures.fits h p
+    (subst (AreSeen reach) (sym from) (seen_filter reach (λ (row : Row). keeps reach.columns condition (row ++ reach.words)) c.args.rows.now r))

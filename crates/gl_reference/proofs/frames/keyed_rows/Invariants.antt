@@ -2,8 +2,9 @@ use Rattle.std.proofs.Common.{◌≡◌, map, slice_index, take}
 use Rattle.gl_values.specs.Results.{Row}
 use Rattle.gl_frames.specs.Frames.{framed_by_key}
 use Rattle.gl_query.specs.Shapes.{frame_item_shape}
-use Rattle.gl_query.specs.Results.{frame_row}
+use Rattle.gl_query.specs.Results.{reached_row}
+use Rattle.gl_reference.specs.Rows.{reach_seen}
 use Rattle.gl_reference.proofs.frames.keyed_rows.Given as goal
 
 abbrev pub invariant-loop-i : goal.invariant-loop-i
-invariant-loop-i l = l.out ≡ framed_by_key l.keys.most (λ (r : Row). slice_index r l.keys.column) (frame_row l.columns (map frame_item_shape l.items)) (take l.i l.rows)
+invariant-loop-i l = l.out ≡ framed_by_key l.keys.most (λ (r : Row). slice_index r l.keys.column) (reached_row (reach_seen l.seen) (map frame_item_shape l.items)) (take l.i l.rows)

@@ -5,14 +5,15 @@ use Rattle.gl_values.specs.Results.{Row}
 use Rattle.gl_frames.specs.Frames.{framed_by_key}
 use Rattle.gl_query.specs.declared.tree.Slots.{Slots}
 use Rattle.gl_query.specs.Accepted.{IsParted}
-use Rattle.gl_query.specs.Results.{frame_row}
+use Rattle.gl_query.specs.Results.{reached_row}
 use Rattle.gl_query.specs.Shapes.{frame_item_shape, slots_shape}
+use Rattle.gl_reference.specs.Rows.{reach_seen}
 use Rattle.gl_reference.proofs.frames.parted_rows.Goals as goal
 
 pub returns-in_ok-further-in-Some-clause-value : goal.returns-in_ok-further-in-Some-clause-value
 returns-in_ok-further-in-Some-clause-value c =
     let rows = c.args.rows.now in
-    let f : List Row → Row = frame_row c.args.columns.now (map frame_item_shape c.args.items.now) in
+    let f : List Row → Row = reached_row (reach_seen c.args.seen) (map frame_item_shape c.args.items.now) in
     let most = c.in_ok-keys-in-Some.ensures.value.0 in
     let column = c.in_ok-keys-in-Some.ensures.value.1 in
     rw c.in-Some.is (

@@ -1,9 +1,10 @@
 use Rattle.std.proofs.Common.{◌≡◌, map, take}
 use Rattle.gl_arrival.specs.Changes.{framed_at}
 use Rattle.gl_query.specs.Shapes.{frame_item_shape}
-use Rattle.gl_query.specs.Results.{frame_row}
+use Rattle.gl_query.specs.Results.{reached_row}
+use Rattle.gl_reference.specs.Rows.{reach_seen}
 use Rattle.gl_reference.specs.Sources.{placed_of}
 use Rattle.gl_reference.proofs.placed.framed_placed.Given as goal
 
 abbrev pub invariant-loop-i : goal.invariant-loop-i
-invariant-loop-i l = map placed_of l.out ≡ framed_at (frame_row l.columns (map frame_item_shape l.items)) (map placed_of (take l.i l.rows))
+invariant-loop-i l = map placed_of l.out ≡ framed_at (reached_row (reach_seen l.seen) (map frame_item_shape l.items)) (map placed_of (take l.i l.rows))

@@ -2,7 +2,8 @@ use Rattle.std.proofs.Common.{◌≡◌, take}
 use Rattle.std.specs.Prelude.{option_map}
 use Rattle.gl_query.specs.Shapes.{expr_shape}
 use Rattle.gl_reference.specs.Arrivals.{kept_in}
+use Rattle.gl_reference.specs.Rows.{reach_seen}
 use Rattle.gl_reference.proofs.placed.kept_placed.Given as goal
 
 abbrev pub invariant-loop-row : goal.invariant-loop-row
-invariant-loop-row l = l.out ≡ kept_in l.columns (option_map expr_shape l.filter) (take l.row-index l.rows)
+invariant-loop-row l = l.out ≡ kept_in (reach_seen l.seen) (option_map expr_shape l.filter) (take l.row-index l.rows)

@@ -1,7 +1,7 @@
 mod Said
 mod Windows
 mod Groups
-use Rattle.std.proofs.Common.{◌≡◌, ◌+◌, ◌++◌, ◌∙◌, List, ◌∷◌, Bool, false, take, map, sym, ap, subst, IfOk, Bor}
+use Rattle.std.proofs.Common.{◌≡◌, ◌+◌, ◌++◌, ◌∙◌, List, [], ◌∷◌, Bool, false, take, map, sym, ap, subst, IfOk, Bor}
 use Rattle.std.specs.Prelude.{◌||◌, option_map}
 use Rattle.std.proofs.lemmas.List.{take_all}
 use Rattle.std.proofs.lemmas.Result.{IfOk-weaker}
@@ -20,17 +20,20 @@ use Rattle.gl_bits.proofs.AllLists.{all_of_mapped, taken_next}
 use Rattle.gl_schema.specs.Schemas.{IsRowOf}
 use Rattle.gl_query.specs.Accepted.{IsAcceptedOver, IsFilter, IsParted, IsRows}
 use Rattle.gl_query.specs.Laws.{scope_of}
-use Rattle.gl_query.specs.Results.{IsResultIn, columns_in, kept, only}
+use Rattle.gl_query.specs.Columns.{parameters_in}
+use Rattle.gl_query.specs.Results.{Env, IsResultIn, Source, columns_in, kept, only, parameter_source, reach_in, streams_of, variable_source, words_in}
 use Rattle.gl_reference.specs.declared.answers.Answer.{Answer}
 use Rattle.gl_reference.specs.declared.arrivals.Arrived.{Arrived}
-use Rattle.gl_reference.specs.Sources.{HasArrived, env_view, placed_of}
+use Rattle.gl_reference.specs.Sources.{HasArrived, env_view, placed_of, source_of}
 use Rattle.gl_reference.specs.Joins.{AreOverGroups, AreOverSlices, IsOverGroup}
 use Rattle.gl_reference.specs.Frames.{framed_rows, left_out}
-use Rattle.gl_reference.specs.Fits.{AreAggs, AreFramesOf, AreRows, IsOrMemory}
-use Rattle.gl_reference.proofs.Fitting.{all_place, inside_fits, one_length, rows_fit}
+use Rattle.gl_reference.specs.Fits.{AreAggs, AreFramesOf, IsOrMemory}
+use Rattle.gl_reference.specs.Rows.{AreSeen, reach_over}
+use Rattle.gl_reference.proofs.Fitting.{all_place, body_passes, one_length, rows_fit}
 use Rattle.gl_reference.proofs.Passing.{passes}
 use Rattle.gl_reference.proofs.Joining.{joined_push, map_taken}
 use Rattle.gl_reference.proofs.Forms.{arrived_made, as_of_made, concat_made, frames_made, union_made}
+use Rattle.gl_reference.proofs.Seeing.{rows_seen}
 use Rattle.gl_reference.proofs.results.+results.Goals as goal
 use Rattle.gl_reference.specs.declared.columns.Source.{Source as Given}
 use Rattle.gl_reference.proofs.results.+results.Answers.Said.{Accepted, Gives}
@@ -43,10 +46,19 @@ IsArrivedIn sources a l r = HasArrived sources (shape.ByArrival (query_shape l) 
 abbrev IsJoinedIn : List Given → Arrived → Query → Query → Slots → Type 0
 IsJoinedIn sources a l r s = HasArrived sources (shape.AsOf (query_shape l) (query_shape r) (slots_shape s)) a
 
+-- the parameters of an environment as a source
+abbrev parameters_from : Env → Source
+parameters_from env = parameter_source (parameters_in (streams_of env)) (words_in env)
+
 pub over_groups-loop-group-preserved : goal.over_groups-loop-group-preserved
 over_groups-loop-group-preserved t c =
-    let over = IsOverGroup (query_shape c.args.body.now) c.args.var.now c.args.columns.now in
-    let is = subst (λ (rows : List Row). IsResultIn (query_shape c.args.body.now) (only c.args.var.now c.args.columns.now rows) c.in_ok-part.part.rows c.in_ok-part.part.spill) c.as_slice.ensures c.in_ok-part.ensures.value in
+    let env = env_view c.args.sources.now in
+    let over = IsOverGroup (query_shape c.args.body.now) env c.args.var.now c.args.columns.now in
+    let outer : source_of c.parameters_as-outer.result ≡ parameters_from env =
+    c.parameters_as-outer.ensures (words_in env) (c.as_slice-words.ensures ∙ c.in_ok-table.ensures)
+    ∙ ap (λ (ps : List Column). parameter_source ps (words_in env)) (c.as_slice-parameters.ensures ∙ c.in_ok-names.ensures) in
+    let given = subst (λ (s : Source). IsResultIn (query_shape c.args.body.now) (s ∷ variable_source c.args.var.now c.args.columns.now c.as_slice.result.now ∷ []) c.in_ok-part.part.rows c.in_ok-part.part.spill) outer c.in_ok-part.ensures.value in
+    let is = subst (λ (rows : List Row). IsResultIn (query_shape c.args.body.now) (only env c.args.var.now c.args.columns.now rows) c.in_ok-part.part.rows c.in_ok-part.part.spill) c.as_slice.ensures given in
     let made : c.in_ok-keyed.keyed ≡ map (λ (row : Row). c.group-item.result.key ∷ row) c.in_ok-part.part.rows =
     c.in_ok-keyed.ensures ∙ ap (map (λ (row : Row). c.group-item.result.key ∷ row)) c.as_slice-in-loop-group.ensures in
     let here : over c.group-item.result c.in_ok-keyed.keyed c.in_ok-part.part.spill = record { rows = c.in_ok-part.part.rows; of_source = is; changed = made } in
@@ -56,19 +68,24 @@ over_groups-loop-group-preserved t c =
     subst (λ (rows : List Row). AreJoined over (take (c.loop-group.group-index + 1) c.args.groups.now) rows (c.loop-group.spill || c.in_ok-part.part.spill)) (sym c.in_ok-rows.ensures) grown
 
 pub over_groups-returns-clause-value : goal.over_groups-returns-clause-value
-over_groups-returns-clause-value t c = subst (λ (gs : List Group). AreOverGroups (query_shape c.args.body.now) c.args.var.now c.args.columns.now gs c.loop-group.rows c.loop-group.spill) (take_all c.loop-group.group-index c.args.groups.now c.loop-group-test.false) c.loop-group.invariant
+over_groups-returns-clause-value t c = subst (λ (gs : List Group). AreOverGroups (query_shape c.args.body.now) (env_view c.args.sources.now) c.args.var.now c.args.columns.now gs c.loop-group.rows c.loop-group.spill) (take_all c.loop-group.group-index c.args.groups.now c.loop-group-test.false) c.loop-group.invariant
 
 pub over_slices-loop-slice-preserved : goal.over_slices-loop-slice-preserved
 over_slices-loop-slice-preserved t c =
-    let over : List Row → List Row → Bool → Type 0 = λ rows. IsResultIn (query_shape c.args.body.now) (only c.args.var.now c.args.columns.now rows) in
+    let env = env_view c.args.sources.now in
+    let over : List Row → List Row → Bool → Type 0 = λ rows. IsResultIn (query_shape c.args.body.now) (only env c.args.var.now c.args.columns.now rows) in
+    let outer : source_of c.parameters_as-outer.result ≡ parameters_from env =
+    c.parameters_as-outer.ensures (words_in env) (c.as_slice-words.ensures ∙ c.in_ok-table.ensures)
+    ∙ ap (λ (ps : List Column). parameter_source ps (words_in env)) (c.as_slice-parameters.ensures ∙ c.in_ok-names.ensures) in
+    let is = subst (λ (s : Source). IsResultIn (query_shape c.args.body.now) (s ∷ variable_source c.args.var.now c.args.columns.now c.slice-item.result.now ∷ []) c.in_ok-part.part.rows c.in_ok-part.part.spill) outer c.in_ok-part.ensures.value in
     let now : Bor (List Row) → List Row = λ s. s.now in
-    let more = joined_push over (map now (take c.loop-slice.slice-index c.args.slices.now)) c.slice-item.result.now c.loop-slice.rows c.in_ok-part.part.rows c.loop-slice.spill c.in_ok-part.part.spill c.loop-slice.invariant c.in_ok-part.ensures.value in
+    let more = joined_push over (map now (take c.loop-slice.slice-index c.args.slices.now)) c.slice-item.result.now c.loop-slice.rows c.in_ok-part.part.rows c.loop-slice.spill c.in_ok-part.part.spill c.loop-slice.invariant is in
     let next = map_taken now c.args.slices.now c.loop-slice.slice-index c.slice-item.result c.loop-slice-test.true c.slice-item.is in
     let grown = subst (λ (parts : List (List Row)). AreJoined over parts (c.loop-slice.rows ++ c.in_ok-part.part.rows) (c.loop-slice.spill || c.in_ok-part.part.spill)) (sym next) more in
     subst (λ (rows : List Row). AreJoined over (map now (take (c.loop-slice.slice-index + 1) c.args.slices.now)) rows (c.loop-slice.spill || c.in_ok-part.part.spill)) (sym c.in_ok-rows.ensures) grown
 
 pub over_slices-returns-clause-value : goal.over_slices-returns-clause-value
-over_slices-returns-clause-value t c = subst (λ (ss : List (Bor (List Row))). AreOverSlices (query_shape c.args.body.now) c.args.var.now c.args.columns.now (map (λ s. s.now) ss) c.loop-slice.rows c.loop-slice.spill) (take_all c.loop-slice.slice-index c.args.slices.now c.loop-slice-test.false) c.loop-slice.invariant
+over_slices-returns-clause-value t c = subst (λ (ss : List (Bor (List Row))). AreOverSlices (query_shape c.args.body.now) (env_view c.args.sources.now) c.args.var.now c.args.columns.now (map (λ s. s.now) ss) c.loop-slice.rows c.loop-slice.spill) (take_all c.loop-slice.slice-index c.args.slices.now c.loop-slice-test.false) c.loop-slice.invariant
 
 pub result_of-returns-in-Read-clause-value : goal.result_of-returns-in-Read-clause-value
 result_of-returns-in-Read-clause-value t c = subst (λ (q : Query). IfOk c.read.result (λ a. IsResultIn (query_shape q) (env_view c.args.sources.now) a.rows a.spill)) (sym c.in-Read.is) c.read.ensures.value
@@ -90,13 +107,14 @@ result_of-returns-in_ok-columns-in-Frames-clause-value t c =
     let from = c.in_ok-from-in-Frames.from in
     let source = query_shape c.in-Frames.source.value in
     let columns = c.as_slice-in-Frames.result.now in
+    let reach = reach_over c.args.sources.now columns in
     let items = map frame_item_shape c.as_slice-in-Frames-2.result.now in
     let filter = option_map expr_shape c.in-Frames.filter in
     let slots = option_map slots_shape c.in-Frames.slots in
     let is = subst (Gives c.args.sources.now from) c.deref-in-Frames.ensures c.in_ok-from-in-Frames.ensures.value in
     let known : columns ≡ columns_in env source =
     c.as_slice-in-Frames.ensures ∙ c.in_ok-columns-in-Frames.ensures ∙ ap (λ (q : Query). columns_in env (query_shape q)) c.deref-in-Frames-2.ensures in
-    let made = IfOk-weaker c.frames_from.result (λ (a : Answer). (a.rows ≡ framed_rows columns items slots (kept columns filter from.rows)) × (a.spill ≡ (from.spill || left_out columns slots (kept columns filter from.rows)))) (λ (a : Answer). IsResultIn (shape.Frames items filter slots source) env a.rows a.spill)
+    let made = IfOk-weaker c.frames_from.result (λ (a : Answer). (a.rows ≡ framed_rows columns reach items slots (kept reach filter from.rows)) × (a.spill ≡ (from.spill || left_out columns slots (kept reach filter from.rows)))) (λ (a : Answer). IsResultIn (shape.Frames items filter slots source) env a.rows a.spill)
     (λ (a : Answer) facts. frames_made env items filter slots source from.rows from.spill columns a.rows a.spill is known facts) c.frames_from.ensures.value in
     let all = subst (λ (l : List FrameItem). IfOk c.frames_from.result (λ a. IsResultIn (shape.Frames (map frame_item_shape l) filter slots source) env a.rows a.spill)) c.as_slice-in-Frames-2.ensures made in
     subst (λ (q : Query). IfOk c.frames_from.result (λ a. IsResultIn (query_shape q) (env_view c.args.sources.now) a.rows a.spill)) (sym c.in-Frames.is) all
@@ -170,19 +188,27 @@ result_of-returns-in_ok-second-in-Concat-clause-value t c =
     subst (λ (q : Query). IfOk c.concat_of.result (λ a. IsResultIn (query_shape q) (env_view c.args.sources.now) a.rows a.spill)) (sym c.in-Concat.is) made
 
 pub over_groups-returns-in_err-part-clause-fits : goal.over_groups-returns-in_err-part-clause-fits
-over_groups-returns-in_err-part-clause-fits t c = λ b h.
+over_groups-returns-in_err-part-clause-fits t c = λ s b h.
+    let env = env_view c.args.sources.now in
+    let outer : source_of c.parameters_as-outer.result ≡ parameters_from env =
+    c.parameters_as-outer.ensures (words_in env) (c.as_slice-words.ensures ∙ c.in_ok-table.ensures)
+    ∙ ap (λ (ps : List Column). parameter_source ps (words_in env)) (c.as_slice-parameters.ensures ∙ c.in_ok-names.ensures) in
     let here = all_place (λ (g : Group). AllByRecursion (IsRowOf c.args.columns.now) g.rows) c.args.groups.now c.loop-group.group-index c.group-item.result c.loop-group-test.true c.group-item.is h in
     let rows = subst (AllByRecursion (IsRowOf c.args.columns.now)) (sym c.as_slice.ensures) here in
-    let sources = inside_fits c.args.var.now c.args.columns.now (query_shape c.args.body.now) c.as_slice.result.now b rows in
-    passes _ c.from_residual.ensures.1 (λ y e. e ∙ c.in_err-part.ensures.fits false sources b.accepted)
+    let want = body_passes env c.args.var.now c.args.columns.now (query_shape c.args.body.now) c.as_slice.result.now (source_of c.parameters_as-outer.result) _ s b rows outer (c.in_err-part.ensures.fits false) in
+    passes _ c.from_residual-in_err-part.ensures.1 (λ y e. e ∙ want)
 
 pub over_slices-returns-in_err-part-clause-fits : goal.over_slices-returns-in_err-part-clause-fits
-over_slices-returns-in_err-part-clause-fits t c = λ b h.
+over_slices-returns-in_err-part-clause-fits t c = λ s b h.
+    let env = env_view c.args.sources.now in
+    let outer : source_of c.parameters_as-outer.result ≡ parameters_from env =
+    c.parameters_as-outer.ensures (words_in env) (c.as_slice-words.ensures ∙ c.in_ok-table.ensures)
+    ∙ ap (λ (ps : List Column). parameter_source ps (words_in env)) (c.as_slice-parameters.ensures ∙ c.in_ok-names.ensures) in
     let now : Bor (List Row) → List Row = λ s. s.now in
     let all = all_of_mapped (AllByRecursion (IsRowOf c.args.columns.now)) now c.args.slices.now h in
     let here = all_place (λ (s : Bor (List Row)). AllByRecursion (IsRowOf c.args.columns.now) s.now) c.args.slices.now c.loop-slice.slice-index c.slice-item.result c.loop-slice-test.true c.slice-item.is all in
-    let sources = inside_fits c.args.var.now c.args.columns.now (query_shape c.args.body.now) c.slice-item.result.now b here in
-    passes _ c.from_residual.ensures.1 (λ y e. e ∙ c.in_err-part.ensures.fits false sources b.accepted)
+    let want = body_passes env c.args.var.now c.args.columns.now (query_shape c.args.body.now) c.slice-item.result.now (source_of c.parameters_as-outer.result) _ s b here outer (c.in_err-part.ensures.fits false) in
+    passes _ c.from_residual-in_err-part.ensures.1 (λ y e. e ∙ want)
 
 pub result_of-returns-in_err-from-in-Rows-clause-fits : goal.result_of-returns-in_err-from-in-Rows-clause-fits
 result_of-returns-in_err-from-in-Rows-clause-fits t c = λ timed s a.
@@ -260,8 +286,9 @@ result_of-returns-in_ok-from-in-Rows-clause-fits t c = λ timed s a.
     let from = c.in_ok-from-in-Rows.from in
     let whole = subst (Accepted c.args.sources.now timed) c.in-Rows.is a in
     let is = subst (Gives c.args.sources.now from) c.deref.ensures c.in_ok-from-in-Rows.ensures.value in
-    let pass = subst (λ (q : Query). IsRows (columns_in env (query_shape q)) (pick_shape c.in-Rows.pick) (option_map expr_shape c.in-Rows.filter) → AreRows (columns_in env (query_shape q)) from.rows → IsOrMemory c.rows_from.result) c.deref-in-Rows.ensures c.rows_from.ensures.fits in
-    pass whole.1 (rows_fit c.results_fit.ensures env timed (query_shape c.in-Rows.source.value) from.rows from.spill s whole.0 is)
+    let source = query_shape c.in-Rows.source.value in
+    let pass = subst (λ (q : Query). IsRows (reach_in env (query_shape q)).columns (pick_shape c.in-Rows.pick) (option_map expr_shape c.in-Rows.filter) → AreSeen (reach_in env (query_shape q)) from.rows → IsOrMemory c.rows_from.result) c.deref-in-Rows.ensures c.rows_from.ensures.fits in
+    pass whole.1 (rows_seen env timed source from.rows s (rows_fit c.results_fit.ensures env timed source from.rows from.spill s whole.0 is))
 
 pub result_of-returns-in_ok-from-in-Total-clause-fits : goal.result_of-returns-in_ok-from-in-Total-clause-fits
 result_of-returns-in_ok-from-in-Total-clause-fits t c = λ timed s a.
@@ -269,9 +296,10 @@ result_of-returns-in_ok-from-in-Total-clause-fits t c = λ timed s a.
     let from = c.in_ok-from-in-Total.from in
     let whole = subst (Accepted c.args.sources.now timed) c.in-Total.is a in
     let is = subst (Gives c.args.sources.now from) c.deref-in-Total.ensures c.in_ok-from-in-Total.ensures.value in
-    let pass = subst (λ (q : Query). AreAggs (columns_in env (query_shape q)) (map agg_item_shape c.as_slice.result.now) → AreRows (columns_in env (query_shape q)) from.rows → IsOrMemory c.total_from.result) c.deref-in-Total-2.ensures c.total_from.ensures.fits in
-    let aggs = subst (λ (l : List AggItem). AreAggs (columns_in env (query_shape c.in-Total.source.value)) (map agg_item_shape l)) (sym c.as_slice.ensures) whole.1.typed in
-    pass aggs (rows_fit c.results_fit.ensures env timed (query_shape c.in-Total.source.value) from.rows from.spill s whole.0 is)
+    let source = query_shape c.in-Total.source.value in
+    let pass = subst (λ (q : Query). AreAggs (reach_in env (query_shape q)).columns (map agg_item_shape c.as_slice.result.now) → AreSeen (reach_in env (query_shape q)) from.rows → IsOrMemory c.total_from.result) c.deref-in-Total-2.ensures c.total_from.ensures.fits in
+    let aggs = subst (λ (l : List AggItem). AreAggs (reach_in env source).columns (map agg_item_shape l)) (sym c.as_slice.ensures) whole.1.typed in
+    pass aggs (rows_seen env timed source from.rows s (rows_fit c.results_fit.ensures env timed source from.rows from.spill s whole.0 is))
 
 pub result_of-returns-in_ok-columns-in-Frames-clause-fits : goal.result_of-returns-in_ok-columns-in-Frames-clause-fits
 result_of-returns-in_ok-columns-in-Frames-clause-fits t c = λ timed s a.
@@ -282,9 +310,10 @@ result_of-returns-in_ok-columns-in-Frames-clause-fits t c = λ timed s a.
     let is = subst (Gives c.args.sources.now from) c.deref-in-Frames.ensures c.in_ok-from-in-Frames.ensures.value in
     let known : c.as_slice-in-Frames.result.now ≡ columns_in env source =
     c.as_slice-in-Frames.ensures ∙ c.in_ok-columns-in-Frames.ensures ∙ ap (λ (q : Query). columns_in env (query_shape q)) c.deref-in-Frames-2.ensures in
-    let pass = subst (λ (k : List Column). AreFramesOf k (map frame_item_shape c.as_slice-in-Frames-2.result.now) → IsFilter k (option_map expr_shape c.in-Frames.filter) → IsParted k (option_map slots_shape c.in-Frames.slots) → AreRows k from.rows → IsOrMemory c.frames_from.result) known c.frames_from.ensures.fits in
-    let items = subst (λ (l : List FrameItem). AreFramesOf (columns_in env source) (map frame_item_shape l)) (sym c.as_slice-in-Frames-2.ensures) whole.1.typed in
-    pass items whole.1.filters whole.1.parted (rows_fit c.results_fit.ensures env timed source from.rows from.spill s whole.0 is)
+    let seen = reach_over c.args.sources.now in
+    let pass = subst (λ (k : List Column). AreFramesOf (seen k).columns (map frame_item_shape c.as_slice-in-Frames-2.result.now) → IsFilter (seen k).columns (option_map expr_shape c.in-Frames.filter) → IsParted k (option_map slots_shape c.in-Frames.slots) → AreSeen (seen k) from.rows → IsOrMemory c.frames_from.result) known c.frames_from.ensures.fits in
+    let items = subst (λ (l : List FrameItem). AreFramesOf (reach_in env source).columns (map frame_item_shape l)) (sym c.as_slice-in-Frames-2.ensures) whole.1.typed in
+    pass items whole.1.filters whole.1.parted (rows_seen env timed source from.rows s (rows_fit c.results_fit.ensures env timed source from.rows from.spill s whole.0 is))
 
 pub result_of-returns-in_ok-second-in-Concat-clause-fits : goal.result_of-returns-in_ok-second-in-Concat-clause-fits
 result_of-returns-in_ok-second-in-Concat-clause-fits t c = λ timed s a.

@@ -46,7 +46,7 @@ result_of-returns-in_err-inside-in-PerGroup-clause-fits t c = λ timed s a.
     c.as_slice-in-PerGroup-5.ensures ∙ c.in_ok-columns-in-PerGroup.ensures ∙ ap (λ (q : Query). columns_in env (query_shape q)) c.deref-in-PerGroup-2.ensures in
     let parts : c.as_slice-in-PerGroup-6.result.now ≡ keyed_groups most column from.rows =
     c.as_slice-in-PerGroup-6.ensures ∙ c.in_ok-parts-in-PerGroup.ensures ∙ ap (keyed_groups most column) c.as_slice-in-PerGroup-3.ensures in
-    let want = groups_pass c.results_fit.ensures env timed c.in-PerGroup.var.text (query_shape c.in-PerGroup.source.value) c.in-PerGroup.key.text c.in-PerGroup.groups.value (query_shape c.in-PerGroup.body.value) from.rows from.spill _ _ _ most column _ _ s whole is (ap query_shape c.deref-in-PerGroup-3.ensures) c.as_slice-in-PerGroup-4.ensures columns parts c.in_err-inside-in-PerGroup.ensures.fits in
+    let want = groups_pass c.results_fit.ensures env timed c.in-PerGroup.var.text (query_shape c.in-PerGroup.source.value) c.in-PerGroup.key.text c.in-PerGroup.groups.value (query_shape c.in-PerGroup.body.value) from.rows from.spill _ _ _ most column _ _ s whole is (ap query_shape c.deref-in-PerGroup-3.ensures) c.as_slice-in-PerGroup-4.ensures columns parts (c.in_err-inside-in-PerGroup.ensures.fits s) in
     passes _ c.from_residual-in_err-inside-in-PerGroup.ensures.1 (λ y e. e ∙ want)
 
 pub result_of-returns-in_ok-further-in-Partition-clause-value : goal.result_of-returns-in_ok-further-in-Partition-clause-value
@@ -80,5 +80,5 @@ result_of-returns-in_err-inside-in-Partition-clause-fits t c = λ timed s a.
     c.as_slice-in-Partition-5.ensures ∙ c.in_ok-columns-in-Partition.ensures ∙ ap (λ (q : Query). columns_in env (query_shape q)) c.deref-in-Partition-2.ensures in
     let parts : c.as_slice-in-Partition-6.result.now ≡ table_parts most column c.in-Partition.size.value c.in-Partition.advance.value from.rows =
     c.as_slice-in-Partition-6.ensures ∙ c.in_ok-parts-in-Partition.ensures.value ∙ ap (table_parts most column c.in-Partition.size.value c.in-Partition.advance.value) c.as_slice-in-Partition-3.ensures in
-    let want = partitions_pass c.results_fit.ensures env timed c.in-Partition.var.text (query_shape c.in-Partition.source.value) c.in-Partition.key.text c.in-Partition.groups.value c.in-Partition.size.value c.in-Partition.advance.value (query_shape c.in-Partition.body.value) from.rows from.spill _ _ _ most column _ _ s whole is (ap query_shape c.deref-in-Partition-3.ensures) c.as_slice-in-Partition-4.ensures columns parts c.in_err-inside-in-Partition.ensures.fits in
+    let want = partitions_pass c.results_fit.ensures env timed c.in-Partition.var.text (query_shape c.in-Partition.source.value) c.in-Partition.key.text c.in-Partition.groups.value c.in-Partition.size.value c.in-Partition.advance.value (query_shape c.in-Partition.body.value) from.rows from.spill _ _ _ most column _ _ s whole is (ap query_shape c.deref-in-Partition-3.ensures) c.as_slice-in-Partition-4.ensures columns parts (c.in_err-inside-in-Partition.ensures.fits s) in
     passes _ c.from_residual-in_err-inside-in-Partition.ensures.1 (λ y e. e ∙ want)

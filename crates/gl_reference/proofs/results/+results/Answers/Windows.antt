@@ -37,7 +37,7 @@ result_of-returns-in_err-inside-in-Each-clause-fits t c = λ timed s a.
     let parts : map (λ (s : Bor (List Row)). s.now) c.as_slice-in-Each-4.result.now ≡ slices c.in-Each.size.value c.in-Each.advance.value from.rows =
     ap (map (λ (s : Bor (List Row)). s.now)) c.as_slice-in-Each-4.ensures.value ∙ c.in_ok-slices-in-Each.ensures.value
     ∙ ap (slices c.in-Each.size.value c.in-Each.advance.value) c.as_slice-in-Each.ensures in
-    let want = each_passes c.results_fit.ensures Tuples env timed c.in-Each.var.text (query_shape c.in-Each.source.value) c.in-Each.size.value c.in-Each.advance.value (query_shape c.in-Each.body.value) from.rows from.spill _ _ _ _ _ s whole is (ap query_shape c.deref-in-Each-3.ensures) c.as_slice-in-Each-2.ensures columns parts c.in_err-inside-in-Each.ensures.fits in
+    let want = each_passes c.results_fit.ensures Tuples env timed c.in-Each.var.text (query_shape c.in-Each.source.value) c.in-Each.size.value c.in-Each.advance.value (query_shape c.in-Each.body.value) from.rows from.spill _ _ _ _ _ s whole is (ap query_shape c.deref-in-Each-3.ensures) c.as_slice-in-Each-2.ensures columns parts (c.in_err-inside-in-Each.ensures.fits s) in
     passes _ c.from_residual-in_err-inside-in-Each.ensures.1 (λ y e. e ∙ want)
 
 pub result_of-returns-in_ok-inside-in-EachTime-clause-value : goal.result_of-returns-in_ok-inside-in-EachTime-clause-value
@@ -68,5 +68,5 @@ result_of-returns-in_err-inside-in-EachTime-clause-fits t c = λ timed s a.
     ap (map (λ (s : Bor (List Row)). s.now)) c.as_slice-in-EachTime-4.ensures.value ∙ c.in_ok-parts-in-EachTime.ensures ∙ c.as_slice-in-EachTime.ensures ∙ c.in_ok-tables-in-EachTime.ensures.value
     ∙ (λ i. tslices c.in-EachTime.size.value c.in-EachTime.advance.value ((c.clock_of-clock.ensures.times ∙ ap (λ (q : Query). times_in env (query_shape q)) c.deref-in-EachTime-3.ensures) i)
     ((c.clock_of-clock.ensures.ticks ∙ ap (λ (q : Query). ticks_in env (query_shape q)) c.deref-in-EachTime-3.ensures) i) (c.as_slice-rows.ensures i)) in
-    let want = each_passes c.results_fit.ensures Time env timed c.in-EachTime.var.text (query_shape c.in-EachTime.source.value) c.in-EachTime.size.value c.in-EachTime.advance.value (query_shape c.in-EachTime.body.value) from.rows from.spill _ _ _ _ _ s whole is (ap query_shape c.deref-in-EachTime-4.ensures) c.as_slice-in-EachTime-2.ensures columns parts c.in_err-inside-in-EachTime.ensures.fits in
+    let want = each_passes c.results_fit.ensures Time env timed c.in-EachTime.var.text (query_shape c.in-EachTime.source.value) c.in-EachTime.size.value c.in-EachTime.advance.value (query_shape c.in-EachTime.body.value) from.rows from.spill _ _ _ _ _ s whole is (ap query_shape c.deref-in-EachTime-4.ensures) c.as_slice-in-EachTime-2.ensures columns parts (c.in_err-inside-in-EachTime.ensures.fits s) in
     passes _ c.from_residual-in_err-inside-in-EachTime.ensures.1 (λ y e. e ∙ want)
