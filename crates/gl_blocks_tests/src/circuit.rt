@@ -2,10 +2,11 @@
 
 ghost use Rattle.std.specs.Prelude.{◌≡◌, ◌≤◌, ◌∷◌, [], All, IfOk, None, length, map, ℕ};
 ghost use Rattle.gl_algebra.specs.Columns.{AggFits};
+ghost use Rattle.gl_algebra.specs.Known.{AggKnown};
 ghost use Rattle.gl_algebra.specs.FigureTable.{IsSound};
 ghost use Rattle.gl_values.specs.Kinds.{IsKind, width_of};
 ghost use Rattle.gl_bits.specs.Words.{IsWidth};
-ghost use Rattle.gl_net.specs.Net.{open_at};
+ghost use Rattle.gl_net.specs.Net.{Net, open_at};
 ghost use Rattle.gl_blocks_tests.specs.Circuits.{IsSourceOf};
 
 use gl_algebra::Figures;
@@ -68,7 +69,8 @@ pub(crate) fn circuit_of<O: Operator>(
 ) -> Result<Circuit, Memory>
     requires first { IsKind first }
     requires second { IsKind second }
-    requires takes { O.takes operator.now (width_of first ∷ width_of second ∷ []) }
+    requires takes { (net : Net)
+        → O.takes operator.now net (width_of first ∷ width_of second ∷ []) }
 {
     let mut net = NetBuilder::new(alloc);
     let source = put_source(alloc, &mut net, first.width(), second.width())?;
@@ -95,6 +97,8 @@ pub(crate) fn table_of(
     requires are_kinds { All IsKind table.now.kinds.now }
     requires aggs { All (AggFits table.now.kinds.now) table.now.aggs.now }
     requires some { 1 ≤ length table.now.aggs.now }
+    requires words { table.now.words.now ≡ [] }
+    requires known { All (AggKnown []) table.now.aggs.now }
 {
     let mut net = NetBuilder::new(alloc);
     let source = put_source(alloc, &mut net, first.width(), second.width())?;

@@ -1,7 +1,8 @@
 //! Whether operands, operations and aggregates fit columns.
 
-ghost use Rattle.std.specs.Prelude.{All, IsTrue};
+ghost use Rattle.std.specs.Prelude.{[], All, IsTrue};
 ghost use Rattle.gl_algebra.specs.Columns.{AggFits, OpFits, OperandFits, SortFits, WeightFits};
+ghost use Rattle.gl_algebra.specs.Known.{AggKnown, OpKnown, OperandKnown};
 ghost use Rattle.gl_values.specs.Kinds.{IsKind};
 
 use gl_algebra::columns::kind_of_operand;
@@ -19,11 +20,13 @@ pub fn is_kind(kind: Kind) -> bool
 
 /// Whether an operand fits.
 pub fn operand_fits(kinds: &[Kind], operand: &Operand) -> bool
-    ensures { IsTrue result → OperandFits kinds.now operand.now }
+    ensures fits { IsTrue result → OperandFits kinds.now operand.now }
+    ensures known { IsTrue result → OperandKnown [] operand.now }
 {
     match operand {
         Operand::Column(column) => (*column as usize) < kinds.len(),
         Operand::Literal(word, kind) => is_kind(*kind) && word.width() == kind.width(),
+        Operand::Parameter(..) => false,
     }
 }
 
@@ -40,7 +43,8 @@ fn sort_fits(sort: Sort, kind: Kind) -> bool
 
 // Whether an operation fits.
 fn op_fits(kinds: &[Kind], op: &ColOp) -> bool
-    ensures { IsTrue result → OpFits kinds.now op.now }
+    ensures fits { IsTrue result → OpFits kinds.now op.now }
+    ensures known { IsTrue result → OpKnown [] op.now }
 {
     match op {
         ColOp::Not(operand) => {
@@ -60,7 +64,8 @@ fn op_fits(kinds: &[Kind], op: &ColOp) -> bool
 
 /// Whether all of them fit.
 pub fn operands_fit(kinds: &[Kind], operands: &[Operand]) -> bool
-    ensures { IsTrue result → All (OperandFits kinds.now) operands.now }
+    ensures fits { IsTrue result → All (OperandFits kinds.now) operands.now }
+    ensures known { IsTrue result → All (OperandKnown []) operands.now }
 {
     match operands.split_first() {
         None => true,
@@ -70,7 +75,8 @@ pub fn operands_fit(kinds: &[Kind], operands: &[Operand]) -> bool
 
 /// Whether all of them fit.
 pub fn ops_fit(kinds: &[Kind], ops: &[ColOp]) -> bool
-    ensures { IsTrue result → All (OpFits kinds.now) ops.now }
+    ensures fits { IsTrue result → All (OpFits kinds.now) ops.now }
+    ensures known { IsTrue result → All (OpKnown []) ops.now }
 {
     match ops.split_first() {
         None => true,
@@ -91,7 +97,8 @@ fn weights_fit(kind: Kind, weights: &[Word]) -> bool
 
 // Whether an aggregate fits.
 fn agg_fits(kinds: &[Kind], agg: &PlanAgg) -> bool
-    ensures { IsTrue result → AggFits kinds.now agg.now }
+    ensures fits { IsTrue result → AggFits kinds.now agg.now }
+    ensures known { IsTrue result → AggKnown [] agg.now }
 {
     match agg {
         PlanAgg::Count => true,
@@ -115,7 +122,8 @@ fn agg_fits(kinds: &[Kind], agg: &PlanAgg) -> bool
 
 /// Whether all of them fit.
 pub fn aggs_fit(kinds: &[Kind], aggs: &[PlanAgg]) -> bool
-    ensures { IsTrue result → All (AggFits kinds.now) aggs.now }
+    ensures fits { IsTrue result → All (AggFits kinds.now) aggs.now }
+    ensures known { IsTrue result → All (AggKnown []) aggs.now }
 {
     match aggs.split_first() {
         None => true,

@@ -146,6 +146,7 @@ fn computed(alloc: Global, kinds: [Kind; 2], text: &str) -> Result<Option<Circui
     }
     let compute = ComputeRow {
         kinds: &kinds,
+        words: &[],
         ops: ops.as_slice(),
     };
     let circuit = circuit_of(alloc, first, second, &compute)?;
@@ -174,6 +175,7 @@ fn picked(alloc: Global, kinds: [Kind; 2], text: &str) -> Result<Option<Circuit>
     }
     let project = ProjectRow {
         kinds: &kinds,
+        words: &[],
         items: items.as_slice(),
     };
     let circuit = circuit_of(alloc, first, second, &project)?;
@@ -196,6 +198,7 @@ fn tabled(alloc: Global, kinds: [Kind; 2], text: &str) -> Result<Option<Circuit>
     }
     let table = Table {
         kinds: &kinds,
+        words: &[],
         aggs: aggs.as_slice(),
     };
     let circuit = table_of(alloc, first, second, &table)?;
@@ -215,6 +218,7 @@ fn totalled(alloc: Global, kinds: [Kind; 2], text: &str) -> Result<Option<Circui
     }
     let totals = Totals {
         kinds: &kinds,
+        words: &[],
         aggs: aggs.as_slice(),
     };
     let circuit = circuit_of(alloc, first, second, &totals)?;

@@ -295,7 +295,7 @@ module _ (bits_are : DoublingsAreBits) (kinds : List Kind) (by : PlanKey) (items
   over_all_counted =
       let are = narrow_kinds kinds all in
       let place = (places_fit kinds items fit).most in
-      let look = look_up_within kinds by key narrow in
+      let look = look_up_within kinds by key narrow (narrow_sum (map width_of kinds) are) in
       let few_columns : length (map width_of kinds) ≤ 1 + 2 * length items = (let is = columns in omega (arith, is, few)) in
       let shorter : m ≤ whole = (let is = later in omega (arith, is)) in
       let sooner : wait ≤ whole = (let is = later in omega (arith, is)) in

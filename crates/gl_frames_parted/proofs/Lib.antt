@@ -1,6 +1,7 @@
 pub mod PartedLemmas
 pub mod MadeItems
 pub mod FitLemmas
+pub mod KnownLemmas
 pub mod LookUpLemmas
 pub mod LevelCosts
 pub mod KeyCosts

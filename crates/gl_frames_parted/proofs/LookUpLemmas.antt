@@ -1,10 +1,11 @@
--- Either circuit finds the slots of a node's key, for what the plan counts for its look-up.
+-- Each circuit finds the slots of a node's key, for what the plan counts for its look-up.
 use Rattle.std.proofs.Common.{◌≡◌, ℕ, zero, suc, ◌+◌, ◌-◌, ◌*◌, ◌^◌, ◌<◌, ◌≤◌, List, [], ◌∷◌, length, map, Some, Bool, true, false, refl, sym, ap, ◌∙◌, subst, arith, inl, inr}
-use Rattle.std.specs.Prelude.{if◌then◌else◌, nat_le, slice_index}
+use Rattle.std.specs.Prelude.{◌⊎◌, if◌then◌else◌, nat_le, slice_index}
 use Rattle.std.specs.List.{sum}
-use Rattle.std.proofs.Math.Nat.{mul-le-mul_left}
+use Rattle.std.proofs.Math.Nat.{mul-le-mul_left, mul-le-mul_right}
 use Rattle.std.proofs.Math.Pow.{pow-lt}
 use Rattle.std.proofs.lemmas.Bool.{cases_lt, leb-true}
+use Rattle.std.proofs.lemmas.List.{length-map}
 use Rattle.gl_algebra.proofs.ExponentLemmas.{exponent_covers}
 use Rattle.gl_algebra.specs.Columns.{kind_of_column}
 use Rattle.gl_algebra.specs.Fits.{KeyFits}
@@ -12,7 +13,8 @@ use Rattle.gl_algebra.specs.Keys.{cycles_of_look_up, levels_of, slot_bits, store
 use Rattle.gl_algebra.specs.Rings.{digits, least_exponent, ring}
 use Rattle.gl_algebra.specs.declared.node.PlanFrame.{PlanFrame}
 use Rattle.gl_algebra.specs.declared.node.PlanKey.{PlanKey}
-use Rattle.gl_net.specs.Net.{Net}
+use Rattle.gl_net.specs.Net.{IsRun, Keeps, Net, Run}
+use Rattle.gl_bits.proofs.Bools.{not_both}
 use Rattle.gl_net.proofs.Determined.{keeps_then}
 use Rattle.gl_values.specs.Kinds.{width_of}
 use Rattle.gl_values.specs.declared.kind.Kind.{Kind}
@@ -20,15 +22,16 @@ use Rattle.gl_wire.specs.declared.wire.Wire.{Wire}
 use Rattle.gl_wire.specs.Costs.{Cost, Costs, CostsAtMost}
 use Rattle.gl_wire.specs.Wire.{widths}
 use Rattle.gl_wire_registers.proofs.LineLemmas.{gates_some}
-use Rattle.gl_frames_lanes.specs.LaneNets.{IsKeyLaneIn, IsLaneBehind, cost_of_key_lane}
+use Rattle.gl_frames_lanes.specs.LaneNets.{HasKeyLane, IsKeyLaneIn, IsLaneBehind, cost_of_key_lane}
 use Rattle.gl_frames_lanes.specs.declared.lane.KeyLane.{KeyLane}
 use Rattle.gl_frames_lanes.specs.declared.lane.Keys.{Keys}
 use Rattle.gl_frames_map.specs.MapNets.{IsMapLaneIn, cost_of_map}
 use Rattle.gl_frames_slots.specs.KeyNets.{AreKeyFrames, AreKeyFramesIn, cost_of_key_frames}
 use Rattle.gl_frames_slots.specs.declared.keyed.KeyFrames.{KeyFrames}
 use Rattle.gl_frames_slots.specs.declared.keyed.Partition.{Partition}
-use Rattle.gl_frames_parted.specs.Parted.{AreOverAllIn, IsLookUpIn, cost_of_look_up, cycles_to_slot, has_map, keys_by, partition_by}
-use Rattle.gl_frames_parted.proofs.PartedLemmas.{look_up_weighs, slot_few, slot_some, slot_soon}
+use Rattle.gl_frames_tree.specs.TreeNets.{IsTreeLaneIn, cost_of_tree}
+use Rattle.gl_frames_parted.specs.Parted.{AreOverAllIn, IsLookUpIn, cost_of_look_up, cycles_to_slot, has_map, has_tree, keys_by, partition_by}
+use Rattle.gl_frames_parted.proofs.PartedLemmas.{look_up_weighs, slot_few, slot_some, slot_soon, tree_counted, tree_few, tree_many}
 
 -- ---- the key
 
@@ -53,28 +56,45 @@ module _ (kinds : List Kind) (by : PlanKey) (source : Wire) (are : widths source
   abbrev of_map : List ℕ → Cost
   of_map columns = cost_of_map keys (length columns) (sum columns) (slice_index columns by.key)
 
+  abbrev of_tree : List ℕ → Cost
+  of_tree columns = cost_of_tree keys (levels_of (slice_index columns by.key)) (length columns) (sum columns)
+
   abbrev of_slots : List ℕ → Cost
   of_slots columns = cost_of_key_lane keys (length columns) (sum columns) (slice_index columns by.key)
 
+  abbrev levels : ℕ
+  levels = levels_of (width_of_key kinds by)
+
+  -- by what tells of a map and of a tree
+  abbrev cost_by : Bool → Bool → Cost
+  cost_by few many = if few then of_map (map width_of kinds) else (if many then of_tree (map width_of kinds) else of_slots (map width_of kinds))
+
+  abbrev cycles_by : Bool → Bool → ℕ
+  cycles_by few many = if few then 3 else (if many then levels else 2)
+
+  found : (few many : Bool) → has_map kinds by ≡ few → has_tree kinds by ≡ many → Costs old new (cost_by few many) → ((run : Run) → IsRun new run → IsLaneBehind (cycles_by few many) run keys source r) → Keeps old new
+      → HasKeyLane new source keys.width r → IsLookUpIn old new kinds by source r
+  found few many p q cost law keeps has = record {
+    keeps = keeps;
+    cost = subst (λ (b : Bool). Costs old new (cost_by b (has_tree kinds by))) (sym p) (subst (λ (b : Bool). Costs old new (cost_by few b)) (sym q) cost);
+    has = has;
+    law = λ run z. subst (λ (b : Bool). IsLaneBehind (cycles_by b (has_tree kinds by)) run keys source r) (sym p)
+        (subst (λ (b : Bool). IsLaneBehind (cycles_by few b) run keys source r) (sym q) (law run z));
+  }
+
   pub by_map : has_map kinds by ≡ true → IsMapLaneIn old new keys source r → IsLookUpIn old new kinds by source r
-  by_map is h = record {
-    keeps = h.keeps;
-    cost = subst (λ (b : Bool). Costs old new (if b then of_map (map width_of kinds) else of_slots (map width_of kinds))) (sym is)
-        (subst (λ (ws : List ℕ). Costs old new (of_map ws)) are h.cost);
-    has = h.has;
-    law = λ run z. subst (λ (b : Bool). IsLaneBehind (if b then 3 else 2) run keys source r) (sym is) (h.law run z);
-  }
+  by_map is h = found true (has_tree kinds by) is refl (subst (λ (ws : List ℕ). Costs old new (of_map ws)) are h.cost) h.law h.keeps h.has
 
-  pub by_slots : has_map kinds by ≡ false → IsKeyLaneIn old new keys source r → IsLookUpIn old new kinds by source r
-  by_slots is h = record {
-    keeps = h.keeps;
-    cost = subst (λ (b : Bool). Costs old new (if b then of_map (map width_of kinds) else of_slots (map width_of kinds))) (sym is)
-        (subst (λ (ws : List ℕ). Costs old new (of_slots ws)) are h.cost);
-    has = h.has;
-    law = λ run z. subst (λ (b : Bool). IsLaneBehind (if b then 3 else 2) run keys source r) (sym is) (h.law run z);
-  }
+  pub by_tree : by.key < length kinds → has_map kinds by ≡ false → has_tree kinds by ≡ true → IsTreeLaneIn old new keys source r → IsLookUpIn old new kinds by source r
+  by_tree there is many h =
+      let same : levels_of (slice_index (widths source.columns) by.key) ≡ levels =
+      ap (λ (ws : List ℕ). levels_of (slice_index ws by.key)) are ∙ ap levels_of (width_there kinds by.key there) in
+      found false true is many (subst (λ (ws : List ℕ). Costs old new (of_tree ws)) are h.cost) (λ run z. subst (λ (n : ℕ). IsLaneBehind n run keys source r) same (h.law run z)) h.keeps h.has
 
--- ---- frames behind either
+  pub by_slots : has_map kinds by ≡ false → has_tree kinds by ≡ false → IsKeyLaneIn old new keys source r → IsLookUpIn old new kinds by source r
+  by_slots is few h = found false false is few (subst (λ (ws : List ℕ). Costs old new (of_slots ws)) are h.cost) h.law h.keeps h.has
+
+-- ---- frames behind any of them
 
 rest_of : (a b : ℕ) → a ≤ b → a + (b - a) ≡ b
 rest_of a b h = omega (arith, h)
@@ -122,6 +142,23 @@ map_within : (keys : Keys) (count bits key weight store : ℕ) → keys.width �
 map_within keys count bits key weight store few narrow is stored =
     record { nodes = omega (arith, is); registers = omega (arith, is, few, narrow); memories = stored }
 
+-- a column more than eighteen takes no more on any level than what many slots leave over
+tree_within : (keys : Keys) (levels count bits store : ℕ) → 64 < keys.groups → keys.width ≤ 12 → levels ≤ 32 → count ≤ 50 → bits ≤ count * 64 → levels * (2 ^ keys.width * (4 * (keys.width + 1))) ≤ store
+    → IsLookUpWithin (cost_of_tree keys levels count bits) count bits (16 * keys.groups + 80 * levels) store
+tree_within keys levels count bits store many few short thin narrow stored = record {
+  nodes = nodes (cases_lt count 18);
+  registers = (let words = mul-le-mul_left levels (let z : bits + keys.width * 6 + 9 ≤ 3281 = omega (arith, narrow, thin, few) in z) in omega (arith, words, many));
+  memories = stored;
+}
+  where
+    nodes : (count < 18) ⊎ (18 ≤ count) → levels * (count + 62) + 7 + 64 ≤ 16 * keys.groups + 80 * levels + 3 * count
+    nodes (inl l) = let own = mul-le-mul_left levels (let z : count + 62 ≤ 80 = omega (arith, l) in z) in omega (arith, own, many)
+    nodes (inr h) =
+        let more : count + 62 ≡ 80 + (count - 18) = omega (arith, h) in
+        let own = ap (λ (k : ℕ). levels * k) more in
+        let rest : levels * (count - 18) ≤ 32 * (count - 18) = mul-le-mul_right (count - 18) short in
+        omega (arith, own, rest, many, thin, h)
+
 -- a slot's number has no more bits than the plan counts for it
 bits_few : (e : ℕ) → e ≤ digits (2 ^ e - 1)
 bits_few e =
@@ -141,7 +178,16 @@ map_stored key groups =
     let words = mul-le-mul_left (2 ^ key) few in
     omega (arith, words)
 
-module _ (kinds : List Kind) (by : PlanKey) (key : KeyFits kinds (Some by)) (narrow : width_of_key kinds by ≤ 64) where
+-- nor have the memories of a tree
+tree_stored : (levels groups : ℕ) → (let w = least_exponent groups 1 groups in levels * (2 ^ w * (4 * (w + 1))) ≤ levels * ring groups * (4 * (slot_bits groups + 1)))
+unfolding ring
+tree_stored levels groups =
+    let w : ℕ = least_exponent groups 1 groups in
+    let few : w ≤ digits (2 ^ w - 1) = bits_few w in
+    let words = mul-le-mul_left (levels * 2 ^ w) (let z : 4 * (w + 1) ≤ 4 * (digits (2 ^ w - 1) + 1) = omega (arith, few) in z) in
+    omega (arith, words)
+
+module _ (kinds : List Kind) (by : PlanKey) (key : KeyFits kinds (Some by)) (narrow : width_of_key kinds by ≤ 64) (wide : sum (map width_of kinds) ≤ length (map width_of kinds) * 64) where
   abbrev w : ℕ
   w = width_of_key kinds by
 
@@ -163,16 +209,27 @@ module _ (kinds : List Kind) (by : PlanKey) (key : KeyFits kinds (Some by)) (nar
   abbrev map_store : ℕ
   map_store = 2 ^ w * slot_bits n + ring n * w
 
-  -- beside what the other two look-ups of a plan count
-  by_either : (b : Bool) (weight store : ℕ) → 16 * n + 96 ≤ 16 * n + (if b then 160 else weight)
-      → IsLookUpWithin (if b then cost_of_map (keys_by by) (length columns) (sum columns) key_bits else cost_of_key_lane (keys_by by) (length columns) (sum columns) key_bits)
-      (length columns) (sum columns) (16 * n + (if b then 160 else weight)) (if b then map_store else store)
-  by_either true weight store weighs =
+  abbrev tree_store : ℕ
+  tree_store = levels_of w * ring n * (4 * (slot_bits n + 1))
+
+  as_many : length columns ≡ length kinds
+  as_many = length-map kinds width_of
+
+  -- by what tells of a map, of a tree, and of few groups
+  by_one : (little many small : Bool) → has_tree kinds by ≡ many → nat_le n 64 ≡ small → 16 * n + 96 ≤ 16 * n + (if little then 160 else (if small then 96 else 80 * levels_of w))
+      → IsLookUpWithin (if little then cost_of_map (keys_by by) (length columns) (sum columns) key_bits
+      else (if many then cost_of_tree (keys_by by) (levels_of key_bits) (length columns) (sum columns) else cost_of_key_lane (keys_by by) (length columns) (sum columns) key_bits))
+      (length columns) (sum columns) (16 * n + (if little then 160 else (if small then 96 else 80 * levels_of w))) (if little then map_store else (if small then 0 else tree_store))
+  by_one true many small p q weighs =
       subst (λ (k : ℕ). IsLookUpWithin (cost_of_map (keys_by by) (length columns) (sum columns) k) (length columns) (sum columns) (16 * n + 160) map_store) (sym same)
       (map_within (keys_by by) (length columns) (sum columns) w (16 * n + 160) map_store few narrow (omega arith) (map_stored w n))
-  by_either false weight store weighs =
-      slots_within (keys_by by) (length columns) (sum columns) key_bits (16 * n + weight) store key.1.least few (omega (arith, same, narrow)) weighs
+  by_one false true true p q weighs = absurd (not_both (nat_le n 64) q (tree_counted kinds by p))
+  by_one false true false p q weighs =
+      let thin = tree_few kinds by p in
+      subst (λ (k : ℕ). IsLookUpWithin (cost_of_tree (keys_by by) (levels_of k) (length columns) (sum columns)) (length columns) (sum columns) (16 * n + 80 * levels_of w) tree_store) (sym same)
+      (tree_within (keys_by by) (levels_of w) (length columns) (sum columns) tree_store (tree_many kinds by p) few (omega (arith, narrow)) (omega (arith, thin, as_many)) wide (tree_stored (levels_of w) n))
+  by_one false false small p q weighs =
+      slots_within (keys_by by) (length columns) (sum columns) key_bits (16 * n + (if small then 96 else 80 * levels_of w)) (if small then 0 else tree_store) key.1.least few (omega (arith, same, narrow)) weighs
 
   pub look_up_within : IsLookUpWithin (cost_of_look_up kinds by) (length columns) (sum columns) (weight_of_look_up w n) (store_of_look_up w n)
-  look_up_within =
-      by_either (has_map kinds by) (if nat_le n 64 then 96 else 80 * levels_of w) (if nat_le n 64 then 0 else levels_of w * ring n * (4 * (slot_bits n + 1))) (look_up_weighs w n)
+  look_up_within = by_one (has_map kinds by) (has_tree kinds by) (nat_le n 64) refl refl (look_up_weighs w n)

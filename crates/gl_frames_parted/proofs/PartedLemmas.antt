@@ -1,7 +1,7 @@
 -- The slots of a key, the places of rings and the cycles that rows wait are what frames of each key ask for.
-use Rattle.std.proofs.Common.{◌≡◌, ℕ, suc, ◌+◌, ◌*◌, ◌^◌, ◌<◌, ◌≤◌, List, [], ◌∷◌, Option, Some, None, Bool, true, false, All, refl, arith}
-use Rattle.std.specs.Prelude.{if◌then◌else◌, nat_le}
-use Rattle.std.proofs.lemmas.Bool.{leb-false}
+use Rattle.std.proofs.Common.{◌≡◌, ℕ, suc, ◌+◌, ◌*◌, ◌^◌, ◌<◌, ◌≤◌, List, [], ◌∷◌, length, Option, Some, None, Bool, true, false, All, refl, arith}
+use Rattle.std.specs.Prelude.{if◌then◌else◌, nat_le, nat_lt}
+use Rattle.std.proofs.lemmas.Bool.{leb-false, leb-true, ltb-true}
 use Rattle.gl_algebra.proofs.ExponentLemmas.{exponent_covers, few_exponents}
 use Rattle.gl_algebra.specs.Columns.{BackFits, FrameFits}
 use Rattle.gl_algebra.specs.Keys.{by_look_up, cycles_of_look_up, levels_of, weight_of_look_up, width_of_key}
@@ -10,11 +10,12 @@ use Rattle.gl_algebra.specs.declared.node.PlanFrame.{PlanFrame}
 use Rattle.gl_algebra.specs.declared.node.PlanFrame.TheVariants.{Lag, Over, Own}
 use Rattle.gl_algebra.specs.declared.node.PlanKey.{PlanKey}
 use Rattle.gl_bits.specs.Words.{IsWidth}
+use Rattle.gl_bits.proofs.Bools.{and_left, and_right, else_false}
 use Rattle.gl_values.specs.declared.kind.Kind.{Kind}
 use Rattle.gl_frames_stages.proofs.LevelCosts.{few_places}
 use Rattle.gl_frames_wire.proofs.ReachLemmas.{from_exponent}
 use Rattle.gl_frames_wire.specs.Reaches.{IsPlaceWidth, place_bits}
-use Rattle.gl_frames_parted.specs.Parted.{cycles_to_slot, has_map, place_of_frame, place_over, places_of_frames}
+use Rattle.gl_frames_parted.specs.Parted.{cycles_to_slot, has_map, has_tree, place_of_frame, place_over, places_of_frames}
 
 -- ---- the look-up
 
@@ -31,22 +32,42 @@ of_three P width groups of_map of_slots of_tree map slots tree = by (nat_le widt
 pub cycles_some : (width groups : ℕ) → 2 ≤ cycles_of_look_up width groups
 cycles_some width groups = of_three (λ n. 2 ≤ n) width groups 3 2 (levels_of width) (omega arith) (omega arith) (λ wide. omega (arith, wide))
 
+-- a tree has many slots and few columns, and is counted as one
+pub tree_many : (kinds : List Kind) (by : PlanKey) → has_tree kinds by ≡ true → 64 < by.groups
+tree_many kinds by is = ltb-true 64 by.groups (and_left (nat_lt 64 by.groups) (nat_le (length kinds) 50) is)
+
+pub tree_few : (kinds : List Kind) (by : PlanKey) → has_tree kinds by ≡ true → length kinds ≤ 50
+tree_few kinds by is = leb-true (length kinds) 50 (and_right (nat_lt 64 by.groups) (nat_le (length kinds) 50) is)
+
+pub tree_counted : (kinds : List Kind) (by : PlanKey) → has_tree kinds by ≡ true → nat_le by.groups 64 ≡ false
+tree_counted kinds by is =
+    let many = tree_many kinds by is in
+    else_false (nat_le by.groups 64) (λ e. (let le = leb-true by.groups 64 e in omega (arith, many, le)))
+
+-- a longer key has some levels
+levels_some : (kinds : List Kind) (by : PlanKey) → has_map kinds by ≡ false → 2 ≤ levels_of (width_of_key kinds by)
+levels_some kinds by is = let wide = leb-false (width_of_key kinds by) 10 is in omega (arith, wide)
+
 -- a slot is found no later than the plan counts
-soon : (b : Bool) (others : ℕ) → 2 ≤ (if b then 3 else others) → (if b then 3 else 2) ≤ (if b then 3 else others)
-soon true others some = omega arith
-soon false others some = some
+soon : (few many small : Bool) (levels : ℕ) → (many ≡ true → small ≡ false) → (few ≡ false → 2 ≤ levels)
+    → (if few then 3 else (if many then levels else 2)) ≤ (if few then 3 else (if small then 2 else levels))
+soon true many small levels p q = omega arith
+soon false true true levels p q = absurd (let z = p refl in cc)
+soon false true false levels p q = omega arith
+soon false false true levels p q = omega arith
+soon false false false levels p q = q refl
 
 pub slot_soon : (kinds : List Kind) (by : PlanKey) → cycles_to_slot kinds by ≤ cycles_of_look_up (width_of_key kinds by) by.groups
-slot_soon kinds by =
-    soon (has_map kinds by) (if nat_le by.groups 64 then 2 else levels_of (width_of_key kinds by)) (cycles_some (width_of_key kinds by) by.groups)
+slot_soon kinds by = soon (has_map kinds by) (has_tree kinds by) (nat_le by.groups 64) (levels_of (width_of_key kinds by)) (tree_counted kinds by) (levels_some kinds by)
 
 -- and in some cycles
-two_or_three : (b : Bool) → 2 ≤ (if b then 3 else 2)
-two_or_three true = omega arith
-two_or_three false = omega arith
+some_cycles : (few many : Bool) (levels : ℕ) → (few ≡ false → 2 ≤ levels) → 2 ≤ (if few then 3 else (if many then levels else 2))
+some_cycles true many levels q = omega arith
+some_cycles false true levels q = q refl
+some_cycles false false levels q = omega arith
 
 pub slot_some : (kinds : List Kind) (by : PlanKey) → 2 ≤ cycles_to_slot kinds by
-slot_some kinds by = two_or_three (has_map kinds by)
+slot_some kinds by = some_cycles (has_map kinds by) (has_tree kinds by) (levels_of (width_of_key kinds by)) (levels_some kinds by)
 
 -- and rows do not wait long
 pub wait_few : (width groups : ℕ) → width ≤ 64 → cycles_of_look_up width groups ≤ 32

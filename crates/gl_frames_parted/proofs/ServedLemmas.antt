@@ -4,6 +4,7 @@ use Rattle.gl_algebra.specs.Columns.{FrameFits}
 use Rattle.gl_algebra.specs.FigureTable.{IsSound, delayed}
 use Rattle.gl_algebra.specs.Keys.{cycles_of_look_up, delay_by_key, width_of_key}
 use Rattle.gl_algebra.specs.Results.{row_of_frames}
+use Rattle.gl_algebra.specs.Values.{Sets}
 use Rattle.gl_algebra.specs.declared.figures.Figures.{Figures}
 use Rattle.gl_algebra.specs.declared.node.PlanFrame.{PlanFrame}
 use Rattle.gl_algebra.specs.declared.node.PlanKey.{PlanKey}
@@ -71,8 +72,8 @@ module _ (serve : PartitionsServe) (nodes_are : NodesAreSame) (nodes_make : Node
   same_key : (row : Row) → key' (pick asked row) ≡ key row
   same_key = (nodes_make kinds by items there fit).key
 
-  same_made : AreSameByKey (pick asked) key key' (row_of_frames kinds items) (row_of_frames kinds' items')
-  same_made = forms (pick asked) key key' (row_of_frames kinds items) (row_of_frames kinds' items') same_key (nodes_make kinds by items there fit).row
+  same_made : (sets : Sets) → AreSameByKey (pick asked) key key' (row_of_frames sets kinds items) (row_of_frames sets kinds' items')
+  same_made sets = forms (pick asked) key key' (row_of_frames sets kinds items) (row_of_frames sets kinds' items') same_key ((nodes_make kinds by items there fit).row sets)
 
   module _ (run : Run) (are : AreKeyFrames cycles run (keys_by by') kinds' items' picked r) where
     abbrev a : Carried
@@ -90,22 +91,22 @@ module _ (serve : PartitionsServe) (nodes_are : NodesAreSame) (nodes_make : Node
         ∙ leaves_same (pick asked) late are.late (picked_late (pick asked) cycles a (carried run picked) late are.late carries (late_by_is cycles a) are.behind)
         by.groups key key' same_key c
 
-    own_runs : Runs m (by_key by.groups key (row_of_frames kinds items)) a (carried run r.wire)
+    own_runs : Runs m (by_key by.groups key (row_of_frames run.held kinds items)) a (carried run r.wire)
     own_runs =
-        runs_same (pick asked) a (carried run picked) carries by.groups key key' same_key (row_of_frames kinds items) (row_of_frames kinds' items') same_made m (carried run r.wire) are.runs
+        runs_same (pick asked) a (carried run picked) carries by.groups key key' same_key (row_of_frames run.held kinds items) (row_of_frames run.held kinds' items') (same_made run.held) m (carried run r.wire) are.runs
 
-    parted_runs : Runs (delay_by_key kinds (Some by) items) (by_key by.groups key (row_of_frames kinds items)) a (carried run r.wire)
+    parted_runs : Runs (delay_by_key kinds (Some by) items) (by_key by.groups key (row_of_frames run.held kinds items)) a (carried run r.wire)
     parted_runs =
-        subst (λ (n : ℕ). Runs n (by_key by.groups key (row_of_frames kinds items)) a (carried run r.wire))
+        subst (λ (n : ℕ). Runs n (by_key by.groups key (row_of_frames run.held kinds items)) a (carried run r.wire))
         (delay_is kinds' by' items' ∙ (nodes_are kinds by items there fit).delay_by_key) own_runs
 
     parted_serves : (f : Figures) → IsSound f
-        → ServesWithLines f (delayed (delay_by_key kinds (Some by) items) f) (OfKeys by.groups key (row_of_frames kinds items)) (record { passed = λ c. false; further = line_at run r.further })
+        → ServesWithLines f (delayed (delay_by_key kinds (Some by) items) f) (OfKeys by.groups key (row_of_frames run.held kinds items)) (record { passed = λ c. false; further = line_at run r.further })
         a (carried run r.wire)
     parted_serves f sound =
-        subst (λ (n : ℕ). ServesWithLines f (delayed n f) (OfKeys by.groups key (row_of_frames kinds items)) (record { passed = λ c. false; further = line_at run r.further }) a (carried run r.wire))
+        subst (λ (n : ℕ). ServesWithLines f (delayed n f) (OfKeys by.groups key (row_of_frames run.held kinds items)) (record { passed = λ c. false; further = line_at run r.further }) a (carried run r.wire))
         (delay_is kinds' by' items' ∙ (nodes_are kinds by items there fit).delay_by_key)
-        (serve m cycles by.groups key (row_of_frames kinds items) f a late (carried run r.wire) (line_at run r.further) sound (omega arith)
+        (serve m cycles by.groups key (row_of_frames run.held kinds items) f a late (carried run r.wire) (line_at run r.further) sound (omega arith)
         own_runs (late_by_is cycles a) line)
 
   module _ (old new : Net) where

@@ -1,12 +1,12 @@
 -- Frames of each key over the columns that they ask for, and that their cost is within what a plan counts for them.
-use Rattle.std.specs.Prelude.{◌≡◌, ℕ, ◌+◌, ◌-◌, max, Bool, false, All, List, [], ◌∷◌, Option, Some, None, length, map}
-use Rattle.std.specs.Prelude.{if◌then◌else◌, nat_le, slice_index}
+use Rattle.std.specs.Prelude.{◌≡◌, ℕ, ◌+◌, ◌-◌, max, Bool, false, ◌&&◌, All, List, [], ◌∷◌, Option, Some, None, length, map}
+use Rattle.std.specs.Prelude.{if◌then◌else◌, nat_le, nat_lt, slice_index}
 use Rattle.std.specs.List.{sum}
 use Rattle.gl_algebra.specs.Columns.{FrameFits}
 use Rattle.gl_algebra.specs.Cost.{store_by_key}
 use Rattle.gl_algebra.specs.FigureTable.{IsSound, delayed}
 use Rattle.gl_algebra.specs.Fits.{KeyFits}
-use Rattle.gl_algebra.specs.Keys.{cycles_of_look_up, delay_by_key, width_of_key}
+use Rattle.gl_algebra.specs.Keys.{cycles_of_look_up, delay_by_key, levels_of, width_of_key}
 use Rattle.gl_algebra.specs.Results.{row_of_frames}
 use Rattle.gl_algebra.specs.Rings.{least_exponent}
 use Rattle.gl_algebra.specs.Weights.{weight_by_key}
@@ -29,6 +29,7 @@ use Rattle.gl_frames_slots.specs.KeyNets.{AreKeyFrames, cost_of_key_frames}
 use Rattle.gl_frames_slots.specs.declared.keyed.KeyFrames.{KeyFrames}
 use Rattle.gl_frames_slots.specs.declared.keyed.Partition.{Partition}
 use Rattle.gl_frames_stages.specs.FramesNets.{frames_widths}
+use Rattle.gl_frames_tree.specs.TreeNets.{cost_of_tree}
 use Rattle.gl_frames_wire.specs.Reaches.{place_bits}
 use Rattle.gl_frames_wire.specs.Running.{Runs}
 use Rattle.gl_wire.specs.declared.wire.Wire.{Wire}
@@ -63,9 +64,18 @@ keys_by by = record { column = by.key; groups = by.groups; width = least_exponen
 abbrev pub has_map : List Kind → PlanKey → Bool
 has_map kinds by = nat_le (width_of_key kinds by) 10
 
--- the cycles until its slot is found there, and until one that is compared with all slots is
+-- another one of more than 64 groups is found in a tree, unless more than 50 columns would go through its levels
+abbrev pub has_tree : List Kind → PlanKey → Bool
+has_tree kinds by = nat_lt 64 by.groups && nat_le (length kinds) 50
+
+-- what a key has of three: of a map, of a tree, and where all slots are compared with it at once
+abbrev pub by_circuit : {A : Type 0} → List Kind → PlanKey → A → A → A → A
+by_circuit kinds by of_map of_tree of_slots =
+    if has_map kinds by then of_map else (if has_tree kinds by then of_tree else of_slots)
+
+-- the cycles until its slot is found: in a tree two bits of the key take one
 abbrev pub cycles_to_slot : List Kind → PlanKey → ℕ
-cycles_to_slot kinds by = if has_map kinds by then 3 else 2
+cycles_to_slot kinds by = by_circuit kinds by 3 (levels_of (width_of_key kinds by)) 2
 
 -- these slots, how far back the rings of items reach, and the cycles that rows wait until those of the plan are over
 abbrev pub partition_by : List Kind → PlanKey → List PlanFrame → Partition
@@ -77,13 +87,13 @@ partition_by kinds by items = record {
 
 -- ---- what they cost
 
--- a look-up over all columns of a source: a map, or all slots at once
+-- a look-up over all columns of a source
 abbrev pub cost_of_look_up : List Kind → PlanKey → Cost
 cost_of_look_up kinds by =
     let columns = map width_of kinds in
-    if has_map kinds by
-    then cost_of_map (keys_by by) (length columns) (sum columns) (slice_index columns by.key)
-    else cost_of_key_lane (keys_by by) (length columns) (sum columns) (slice_index columns by.key)
+    by_circuit kinds by (cost_of_map (keys_by by) (length columns) (sum columns) (slice_index columns by.key))
+    (cost_of_tree (keys_by by) (levels_of (slice_index columns by.key)) (length columns) (sum columns))
+    (cost_of_key_lane (keys_by by) (length columns) (sum columns) (slice_index columns by.key))
 
 -- and frames behind it
 abbrev pub cost_over_all : List Kind → PlanKey → List PlanFrame → Cost
@@ -138,7 +148,7 @@ pub record AreOverAllIn (old new : Net) (kinds : List Kind) (by : PlanKey) (item
       → AreKeyFrames (cycles_of_look_up (width_of_key kinds by) by.groups) run (keys_by by) kinds items source r
 
 -- in every run, from any contents: for each row of the first keys of its stream what the items make of its key's rows up
--- to it, in the cycles that the plan counts, and a line that tells of further keys
+-- to it with the words of the parameters, in the cycles that the plan counts, and a line that tells of further keys
 pub record ArePartedIn (old new : Net) (kinds : List Kind) (by : PlanKey) (items : List PlanFrame) (source : Wire)
     (r : KeyFrames) : Type 0 where
   pub keeps : Keeps old new
@@ -148,9 +158,10 @@ pub record ArePartedIn (old new : Net) (kinds : List Kind) (by : PlanKey) (items
   pub further : IsBit new r.further
   -- as many cycles behind each row as the node counts what the items make of its key's rows, if the key has a slot
   pub runs : (run : Run) → IsRun new run
-      → Runs (delay_by_key kinds (Some by) items) (by_key by.groups (key_in by.key) (row_of_frames kinds items))
+      → Runs (delay_by_key kinds (Some by) items)
+      (by_key by.groups (key_in by.key) (row_of_frames run.held kinds items))
       (carried run source) (carried run r.wire)
   pub serves : (run : Run) → IsRun new run → (f : Figures) → IsSound f
       → ServesWithLines f (delayed (delay_by_key kinds (Some by) items) f)
-      (OfKeys by.groups (key_in by.key) (row_of_frames kinds items))
+      (OfKeys by.groups (key_in by.key) (row_of_frames run.held kinds items))
       (record { passed = λ c. false; further = line_at run r.further }) (carried run source) (carried run r.wire)

@@ -6,18 +6,19 @@ ghost use Rattle.gl_values.specs.Kinds.{width_of};
 ghost use Rattle.gl_frames_parted.specs.Parted.{IsLookUpIn};
 ghost use Rattle.gl_wire.specs.Wire.{IsWire, widths};
 
-use crate::places::{has_map, keys_by};
+use crate::places::{has_map, has_tree, keys_by};
 use gl_algebra::PlanKey;
 use gl_bits::Memory;
 use gl_frames_lanes::{KeyLane, put_key_lane};
 use gl_frames_map::put_map_lane;
+use gl_frames_tree::put_tree_lane;
 use gl_net::NetBuilder;
 use gl_values::Kind;
 use gl_wire::Wire;
 use std::alloc::Global;
 
-/// The lane of the first keys of a stream: by a map, where their keys are of few bits, and else by
-/// all slots at once.
+/// The lane of the first keys of a stream: by a map where their keys are of few bits, by a tree
+/// where they are many, and else by all slots at once.
 pub fn put_look_up(
     alloc: Global,
     net: &mut NetBuilder,
@@ -34,6 +35,10 @@ pub fn put_look_up(
     if has_map(kinds, by) {
         // Named, since a goal speaks of the value.
         let lane = put_map_lane(alloc, net, wire, keys)?;
+        return Ok(lane);
+    }
+    if has_tree(kinds, by) {
+        let lane = put_tree_lane(alloc, net, wire, keys)?;
         return Ok(lane);
     }
     let lane = put_key_lane(alloc, net, wire, keys)?;

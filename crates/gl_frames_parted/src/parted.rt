@@ -3,9 +3,11 @@
 ghost use Rattle.std.specs.Prelude.{◌≡◌, All, IfOk, Some, map};
 ghost use Rattle.gl_algebra.specs.Columns.{FrameFits};
 ghost use Rattle.gl_algebra.specs.Fits.{KeyFits};
+ghost use Rattle.gl_algebra.specs.Known.{FrameKnown};
 ghost use Rattle.gl_values.specs.Kinds.{IsKind, width_of};
 ghost use Rattle.gl_frames_asked.specs.Among.{renumber_key};
 ghost use Rattle.gl_frames_parted.specs.Parted.{AreOverAllIn, ArePartedIn};
+ghost use Rattle.gl_rows.specs.Made.{AreHeldBuses};
 ghost use Rattle.gl_wire.specs.Wire.{IsWire, widths};
 
 use crate::look_up::put_look_up;
@@ -18,7 +20,7 @@ use gl_frames_asked::{asked_columns, asked_items, asked_kinds, place_among};
 use gl_frames_keys::laws::partitions_serve;
 use gl_frames_slots::{KeyFrames, put_key_frames};
 use gl_net::NetBuilder;
-use gl_values::Kind;
+use gl_rows::Scope;
 use gl_wire::Wire;
 use std::alloc::Global;
 
@@ -37,21 +39,24 @@ fn put_over_all(
     alloc: Global,
     net: &mut NetBuilder,
     wire: &Wire,
-    kinds: &[Kind],
+    scope: Scope,
     by: PlanKey,
     items: &[PlanFrame],
 ) -> Result<KeyFrames, Memory>
     requires wire { IsWire net.old wire.now }
-    requires kinds { widths wire.now.columns ≡ map width_of kinds.now }
-    requires are_kinds { All IsKind kinds.now }
-    requires key { KeyFits kinds.now (Some by) }
-    requires fit { All (FrameFits kinds.now) items.now }
-    ensures { IfOk result (AreOverAllIn net.old net.new kinds.now by items.now wire.now) }
+    requires kinds { widths wire.now.columns ≡ map width_of scope.kinds.now }
+    requires words { AreHeldBuses net.old scope.words.now }
+    requires are_kinds { All IsKind scope.kinds.now }
+    requires key { KeyFits scope.kinds.now (Some by) }
+    requires fit { All (FrameFits scope.kinds.now) items.now }
+    requires known { All (FrameKnown (widths scope.words.now)) items.now }
+    ensures { IfOk result
+        (AreOverAllIn net.old net.new scope.entry.kinds.now by items.now wire.now) }
 {
-    let partition = partition_by(kinds, by, items);
-    let lane = put_look_up(alloc, net, wire, kinds, by)?;
+    let partition = partition_by(scope.kinds, by, items);
+    let lane = put_look_up(alloc, net, wire, scope.kinds, by)?;
     // Named, since a goal speaks of the value.
-    let frames = put_key_frames(alloc, net, &lane, partition, kinds, items)?;
+    let frames = put_key_frames(alloc, net, &lane, partition, scope, items)?;
     Ok(frames)
 }
 
@@ -60,28 +65,34 @@ pub fn put_parted_frames(
     alloc: Global,
     net: &mut NetBuilder,
     wire: &Wire,
-    kinds: &[Kind],
+    scope: Scope,
     by: PlanKey,
     items: &[PlanFrame],
 ) -> Result<KeyFrames, Memory>
     requires wire { IsWire net.old wire.now }
-    requires kinds { widths wire.now.columns ≡ map width_of kinds.now }
-    requires are_kinds { All IsKind kinds.now }
-    requires key { KeyFits kinds.now (Some by) }
-    requires fit { All (FrameFits kinds.now) items.now }
+    requires kinds { widths wire.now.columns ≡ map width_of scope.kinds.now }
+    requires words { AreHeldBuses net.old scope.words.now }
+    requires are_kinds { All IsKind scope.kinds.now }
+    requires key { KeyFits scope.kinds.now (Some by) }
+    requires fit { All (FrameFits scope.kinds.now) items.now }
+    requires known { All (FrameKnown (widths scope.words.now)) items.now }
     ensures { IfOk result
-        (ArePartedIn net.old net.new kinds.now by items.now wire.now) }
+        (ArePartedIn net.old net.new scope.entry.kinds.now by items.now wire.now) }
 {
     partitions_serve();
     columns_are_asked();
     nodes_are_same();
     nodes_make_same();
-    let asked = asked_columns(alloc, kinds.len(), usize::from(by.key), items)?;
+    let asked = asked_columns(alloc, scope.kinds.len(), usize::from(by.key), items)?;
     let picked = picked_wire(alloc, &asked, wire)?;
-    let kinds = asked_kinds(alloc, &asked, kinds)?;
+    let kinds = asked_kinds(alloc, &asked, scope.kinds)?;
     let items = asked_items(alloc, &asked, items)?;
     let by = renumber_key(&asked, by);
+    let scope = Scope {
+        kinds: &kinds,
+        words: scope.words,
+    };
     // Named, since a goal speaks of the value.
-    let frames = put_over_all(alloc, net, &picked, &kinds, by, &items)?;
+    let frames = put_over_all(alloc, net, &picked, scope, by, &items)?;
     Ok(frames)
 }

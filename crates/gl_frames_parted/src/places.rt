@@ -2,7 +2,7 @@
 
 ghost use Rattle.std.specs.Prelude.{◌≡◌, ◌≤◌, ◌^◌};
 ghost use Rattle.gl_frames_wire.specs.Reaches.{place_bits};
-ghost use Rattle.gl_frames_parted.specs.Parted.{cycles_to_slot, has_map, keys_by, partition_by, place_of_frame, place_over, places_of_frames};
+ghost use Rattle.gl_frames_parted.specs.Parted.{cycles_to_slot, has_map, has_tree, keys_by, partition_by, place_of_frame, place_over, places_of_frames};
 
 use gl_algebra::frames::least_exponent;
 use gl_algebra::keys::{cycles_of_look_up, width_of_key};
@@ -69,11 +69,25 @@ pub fn has_map(kinds: &[Kind], by: PlanKey) -> bool
     width_of_key(kinds, by) <= 10
 }
 
-// The cycles until its slot is found there, and until one that is compared with all slots is.
+/// Whether another one is found in a tree: one of more than 64 groups is, unless more than 50
+/// columns would go through its levels.
+pub fn has_tree(kinds: &[Kind], by: PlanKey) -> bool
+    ensures { result ≡ has_tree kinds.now by }
+{
+    by.groups > 64 && kinds.len() <= 50
+}
+
+// The cycles until its slot is found. In a tree two bits of the key take one.
 fn cycles_to_slot(kinds: &[Kind], by: PlanKey) -> u32
     ensures { result ≡ cycles_to_slot kinds.now by }
 {
-    if has_map(kinds, by) { 3 } else { 2 }
+    if has_map(kinds, by) {
+        3
+    } else if has_tree(kinds, by) {
+        (width_of_key(kinds, by) + 1) / 2
+    } else {
+        2
+    }
 }
 
 /// The slots of the groups of a key, how far back the rings of items reach, and the cycles that

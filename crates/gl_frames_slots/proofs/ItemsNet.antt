@@ -54,7 +54,7 @@ rows_kept old new rows keeps is = record {
 pub input_kept : (old new : Net) (input : SlotInput) → Keeps old new → HasSlotInput old input → HasSlotInput new input
 input_kept old new input keeps is = record {
   rows = rows_kept old new input.rows keeps is.rows;
-  source = source_kept old new input.source.columns.now input.source.kinds.now keeps is.source;
+  source = source_kept old new input.source.columns.now input.source.kinds.now input.source.words.now keeps is.source;
 }
 
 -- the rows without their slots
@@ -130,9 +130,9 @@ module _ (run : Run) (rows : SlotRows) (ends : ℕ → Bool) where
 
 pub item_late : (old mid new : Net) (input : SlotInput) (count : Bus) (kinds : List Kind) (item : PlanFrame) (cycles : ℕ) (early out : Bus)
     → delay_of_frame kinds item ≤ cycles
-    → IsSlotItemIn old mid (cost_of_slot_item input.rows.slot.width kinds item) (delay_of_frame kinds item) (width_of (kind_of_frame kinds item)) (λ xs. value_of_frame kinds xs item) input count early
+    → IsSlotItemIn old mid (cost_of_slot_item input.rows.slot.width kinds item) (delay_of_frame kinds item) (width_of (kind_of_frame kinds item)) (λ sets xs. value_of_frame sets kinds xs item) input count early
     → IsLateIn mid new (cycles - delay_of_frame kinds item) early out
-    → IsSlotItemIn old new (cost_of_slot_item_late input.rows.slot.width kinds cycles item) cycles (width_of (kind_of_frame kinds item)) (λ xs. value_of_frame kinds xs item) input count out
+    → IsSlotItemIn old new (cost_of_slot_item_late input.rows.slot.width kinds cycles item) cycles (width_of (kind_of_frame kinds item)) (λ sets xs. value_of_frame sets kinds xs item) input count out
 item_late old mid new input count kinds item cycles early out le one late =
     let d : ℕ = delay_of_frame kinds item in
     let whole : d + (cycles - d) ≡ cycles = omega (arith, le) in
@@ -147,8 +147,8 @@ item_late old mid new input count kinds item cycles early out le one late =
       bus = late.bus;
       same_width = late.same_width ∙ one.same_width;
       tells = λ run r ends told counts.
-          subst (λ n. TellsBySlot run input.rows ends n (λ xs. value_of_frame kinds xs item) (rows_in run input) (carried_by run out)) whole
-          (tells_behind run input.rows ends d (cycles - d) (λ xs. value_of_frame kinds xs item) (rows_in run input) (carried_by run early) (carried_by run out) (late.value run r)
+          subst (λ n. TellsBySlot run input.rows ends n (λ xs. value_of_frame run.held kinds xs item) (rows_in run input) (carried_by run out)) whole
+          (tells_behind run input.rows ends d (cycles - d) (λ xs. value_of_frame run.held kinds xs item) (rows_in run input) (carried_by run early) (carried_by run out) (late.value run r)
           (one.tells run (late.keeps.runs run r) ends told counts));
     }
 
@@ -168,7 +168,7 @@ items_none net input count cycles = record {
 
 pub items_more : (old mid new : Net) (input : SlotInput) (count : Bus) (cycles : ℕ) (items : List PlanFrame) (item : PlanFrame) (bs : List Bus) (b : Bus) → AreSlotItemsIn old mid input count cycles items bs
     → IsSlotItemIn mid new (cost_of_slot_item_late input.rows.slot.width input.source.kinds.now cycles item) cycles (width_of (kind_of_frame input.source.kinds.now item))
-    (λ xs. value_of_frame input.source.kinds.now xs item) input count b
+    (λ sets xs. value_of_frame sets input.source.kinds.now xs item) input count b
     → AreSlotItemsIn old new input count cycles (items ++ item ∷ []) (bs ++ b ∷ [])
 items_more old mid new input count cycles items item bs b all one =
     let kinds = input.source.kinds.now in
@@ -186,5 +186,5 @@ items_more old mid new input count cycles items item bs b all one =
       row = λ run r ends told counts c v.
           let xs = slot_here run input.rows ends (rows_in run input) (suc c) in
           row_at-push run (suc c + cycles) bs b ∙ ap (λ l. l ++ run.at (suc c + cycles) b.node ∷ []) (all.row run (one.keeps.runs run r) ends told counts c v)
-          ∙ ap (λ n. row_of_frames kinds items xs ++ n ∷ []) (one.tells run r ends told counts c v) ∙ sym (map-append (value_of_frame kinds xs) items (item ∷ []));
+          ∙ ap (λ n. row_of_frames run.held kinds items xs ++ n ∷ []) (one.tells run r ends told counts c v) ∙ sym (map-append (value_of_frame run.held kinds xs) items (item ∷ []));
     }

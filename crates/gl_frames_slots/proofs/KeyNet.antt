@@ -114,7 +114,7 @@ module _ (run : Run) (cycles : ℕ) (some : 1 ≤ cycles) (keys : Keys) (source 
     abbrev m : ℕ
     m = items_delay wait kinds items
 
-    is_made : (c : ℕ) → line_at run late.rows.valid c ≡ true → row_at run (c + m) out.columns ≡ row_of_frames kinds items (rows_here (all_ends (lane_at run late.rows ends)) (lane_at run late.rows ends) row c)
+    is_made : (c : ℕ) → line_at run late.rows.valid c ≡ true → row_at run (c + m) out.columns ≡ row_of_frames run.held kinds items (rows_here (all_ends (lane_at run late.rows ends)) (lane_at run late.rows ends) row c)
     is_made zero v = absurd (let z = line_first run late.rows.valid in cc (z, v))
     is_made (suc c) v = are.tells c v
 
@@ -130,11 +130,11 @@ module _ (run : Run) (cycles : ℕ) (some : 1 ≤ cycles) (keys : Keys) (source 
     abbrev found : ℕ
     found = cycles + wait
 
-    runs : Runs (key_delay found kinds items) (by_key keys.groups key (row_of_frames kinds items)) (carried run source) (carried run out)
+    runs : Runs (key_delay found kinds items) (by_key keys.groups key (row_of_frames run.held kinds items)) (carried run source) (carried run out)
     runs =
         let whole : cycles + 1 + m ≡ key_delay found kinds items = omega arith in
-        subst (λ n. Runs n (by_key keys.groups key (row_of_frames kinds items)) (carried run source) (carried run out)) whole
-        (keyed_run m (cycles + 1) keys.groups key (row_of_frames kinds items) (carried run source) source_late (carried run out) (lane_at run late.rows ends) row (λ c. row_at run (c + m) out.columns)
+        subst (λ n. Runs n (by_key keys.groups key (row_of_frames run.held kinds items)) (carried run source) (carried run out)) whole
+        (keyed_run m (cycles + 1) keys.groups key (row_of_frames run.held kinds items) (carried run source) source_late (carried run out) (lane_at run late.rows ends) row (λ c. row_at run (c + m) out.columns)
         (delayed_both cycles 1 (carried run source) is_lane.late source_late is_lane.behind (after_is is_lane.late)) keyed is_made same_rows)
 
     -- the source as late as the line of further keys
@@ -155,6 +155,6 @@ module _ (run : Run) (cycles : ℕ) (some : 1 ≤ cycles) (keys : Keys) (source 
       further = tells;
       serves = λ f sound.
           let few : found ≤ key_delay found kinds items = omega arith in
-          partitions_serve (key_delay found kinds items) found keys.groups key (row_of_frames kinds items) f (carried run source) told_source (carried run out) (line_at run further)
+          partitions_serve (key_delay found kinds items) found keys.groups key (row_of_frames run.held kinds items) f (carried run source) told_source (carried run out) (line_at run further)
           sound few runs behind tells;
     }

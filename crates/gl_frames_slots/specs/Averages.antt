@@ -32,13 +32,14 @@ pub record IsSlotFraction (old new : Net) (input : SlotInput) (count : Bus) (by 
   pub bottom : IsBus new f.bottom
   pub bottom_width : f.bottom.width ≡ digits (back + 1)
   pub values : (run : Run) → IsRun new run → (t : ℕ)
-      → value_in operand (rows_in run input (suc t)) % 2 ^ width_of (kind_of_operand input.source.kinds.now operand)
-      ≡ value_in operand (rows_in run input (suc t))
+      → value_in run.held operand (rows_in run input (suc t))
+      % 2 ^ width_of (kind_of_operand input.source.kinds.now operand)
+      ≡ value_in run.held operand (rows_in run input (suc t))
   pub sums : (run : Run) → IsRun new run → (ends : ℕ → Bool) → AreTold run input.rows ends
       → Counts run input.rows ends count
       → TellsBySlot run input.rows ends 3
       (λ rows. word_of (width_of (kind_of_operand input.source.kinds.now operand) + digits (back + 1))
-      (sum_of_numbers (kind_of_operand input.source.kinds.now operand) (framed_values operand by back rows)))
+      (sum_of_numbers (kind_of_operand input.source.kinds.now operand) (framed_values run.held operand by back rows)))
       (rows_in run input) (carried_by run f.top)
   pub numbers : (run : Run) → IsRun new run → (ends : ℕ → Bool) → AreTold run input.rows ends
       → Counts run input.rows ends count
@@ -59,9 +60,10 @@ pub record IsSlotWholeFraction (old new : Net) (input : SlotInput) (count : Bus)
   pub sums : (run : Run) → IsRun new run → (ends : ℕ → Bool) → AreTold run input.rows ends
       → TellsBySlot run input.rows ends 1
       (λ rows. word_of (width_of (kind_of_operand input.source.kinds.now operand) + 32)
-      (sum_of_numbers (kind_of_operand input.source.kinds.now operand) (values_in by None rows operand)))
+      (sum_of_numbers (kind_of_operand input.source.kinds.now operand) (values_in run.held by None rows operand)))
       (rows_in run input) (carried_by run f.top)
   pub numbers : (run : Run) → IsRun new run → (ends : ℕ → Bool) → AreTold run input.rows ends
       → Counts run input.rows ends count
-      → TellsBySlot run input.rows ends 1 (λ rows. count_of (values_in by None rows operand)) (rows_in run input)
+      → TellsBySlot run input.rows ends 1 (λ rows. count_of (values_in run.held by None rows operand))
+      (rows_in run input)
       (carried_by run f.bottom)

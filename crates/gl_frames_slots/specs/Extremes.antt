@@ -24,11 +24,12 @@ pub record IsSlotPackedIn (old new : Net) (input : SlotInput) (by : Option ℕ) 
   pub bus : IsBus new out
   pub width : out.width ≡ width_of (kind_of_operand input.source.kinds.now operand) + 1
   pub values : (run : Run) → IsRun new run → (t : ℕ)
-      → value_in operand (rows_in run input (suc t))
-      ≡ value_in operand (rows_in run input (suc t)) % 2 ^ width_of (kind_of_operand input.source.kinds.now operand)
+      → value_in run.held operand (rows_in run input (suc t))
+      ≡ value_in run.held operand (rows_in run input (suc t))
+      % 2 ^ width_of (kind_of_operand input.source.kinds.now operand)
   pub packs : (run : Run) → IsRun new run → (t : ℕ) → run.at (suc t) out.node
       ≡ pack (width_of (kind_of_operand input.source.kinds.now operand))
-      (if_passes (width_of (kind_of_operand input.source.kinds.now operand)) (counts_in by) (value_in operand)
+      (if_passes (width_of (kind_of_operand input.source.kinds.now operand)) (counts_in by) (value_in run.held operand)
       (rows_in run input (suc t)))
 
 -- the best of some words, from 0 on

@@ -2,6 +2,7 @@
 -- last values.
 use Rattle.std.specs.Prelude.{◌≡◌, ℕ, ◌+◌, ◌≤◌, Bool, List, Option, Some, None, ⊤}
 use Rattle.gl_algebra.specs.Results.{row_of_frames}
+use Rattle.gl_algebra.specs.Values.{Sets}
 use Rattle.gl_algebra.specs.declared.node.PlanFrame.{PlanFrame}
 use Rattle.gl_algebra.specs.declared.node.PlanFrame.TheVariants.{Lag, Over, Own}
 use Rattle.gl_algebra.specs.declared.node.PlanFrameAgg.{PlanFrameAgg}
@@ -43,21 +44,23 @@ IsSlotItem bits (Over agg by back) = IsSlotOver bits agg by back
 -- the lines and the columns are in the netlist
 pub record HasSlotInput (net : Net) (input : SlotInput) : Type 0 where
   pub rows : HasSlotRows net input.rows
-  pub source : IsSource net input.source.columns.now input.source.kinds.now
+  pub source : IsSource net input.source.columns.now input.source.kinds.now input.source.words.now
 
 -- the row of a cycle
 abbrev pub rows_in : Run → SlotInput → ℕ → Row
 rows_in run input t = row_at run t input.source.columns.now
 
--- a bus that tells, so many cycles behind each row, what an item makes of the rows of this row's slot up to it
-pub record IsSlotItemIn (old new : Net) (most : Cost) (cycles width : ℕ) (of : List Row → ℕ) (input : SlotInput)
-    (count out : Bus) : Type 0 where
+-- a bus that tells, so many cycles behind each row, what an item makes of the rows of this row's slot up to it, for
+-- the words of the parameters that the run holds
+pub record IsSlotItemIn (old new : Net) (most : Cost) (cycles width : ℕ) (of : Sets → List Row → ℕ)
+    (input : SlotInput) (count out : Bus) : Type 0 where
   pub keeps : Keeps old new
   pub cost : CostsAtMost old new most
   pub bus : IsBus new out
   pub same_width : out.width ≡ width
   pub tells : (run : Run) → IsRun new run → (ends : ℕ → Bool) → AreTold run input.rows ends
-      → Counts run input.rows ends count → TellsBySlot run input.rows ends cycles of (rows_in run input) (carried_by run out)
+      → Counts run input.rows ends count
+      → TellsBySlot run input.rows ends cycles (of run.held) (rows_in run input) (carried_by run out)
 
 -- a bus for each of some items, so many cycles behind each row
 pub record AreSlotItemsIn (old new : Net) (input : SlotInput) (count : Bus) (cycles : ℕ) (items : List PlanFrame)
@@ -68,5 +71,5 @@ pub record AreSlotItemsIn (old new : Net) (input : SlotInput) (count : Bus) (cyc
   pub same_widths : widths outs ≡ frames_widths input.source.kinds.now items
   pub row : (run : Run) → IsRun new run → (ends : ℕ → Bool) → AreTold run input.rows ends
       → Counts run input.rows ends count
-      → TellsBySlot run input.rows ends cycles (row_of_frames input.source.kinds.now items) (rows_in run input)
-      (λ t. row_at run t outs)
+      → TellsBySlot run input.rows ends cycles (row_of_frames run.held input.source.kinds.now items)
+      (rows_in run input) (λ t. row_at run t outs)

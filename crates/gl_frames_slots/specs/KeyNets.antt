@@ -64,7 +64,8 @@ pub record AreItemsOn (run : Run) (late : KeyRows) (kinds : List Kind) (cycles :
     tuple = λ c. if line_at run late.wire.valid c then Some (row_at run (c + cycles) wire.columns) else None;
     ends = line_at run late.wire.eos;
   }) (carried run wire)
-  pub tells : TellsBySlot run late.rows ends cycles (row_of_frames kinds items) (λ t. row_at run t late.wire.columns)
+  pub tells : TellsBySlot run late.rows ends cycles (row_of_frames run.held kinds items)
+      (λ t. row_at run t late.wire.columns)
       (λ t. row_at run t wire.columns)
 
 -- as many cycles behind such rows as they wait, and the slowest item takes
@@ -90,14 +91,15 @@ key_delay cycles kinds items = cycles + 1 + delay_of_frames kinds items
 -- with no flush
 pub record AreKeyFrames (cycles : ℕ) (run : Run) (keys : Keys) (kinds : List Kind) (items : List PlanFrame)
     (source : Wire) (r : KeyFrames) : Type 0 where
-  pub runs : Runs (key_delay cycles kinds items) (by_key keys.groups (key_in keys.column) (row_of_frames kinds items))
+  pub runs : Runs (key_delay cycles kinds items)
+      (by_key keys.groups (key_in keys.column) (row_of_frames run.held kinds items))
       (carried run source) (carried run r.wire)
   pub late : Carried
   pub behind : IsDelayed cycles (carried run source) late
   pub further : (c : ℕ) → line_at run r.further c ≡ leaves_out keys.groups (key_in keys.column) late c
   pub serves : (f : Figures) → IsSound f
       → ServesWithLines f (delayed (key_delay cycles kinds items) f)
-      (OfKeys keys.groups (key_in keys.column) (row_of_frames kinds items))
+      (OfKeys keys.groups (key_in keys.column) (row_of_frames run.held kinds items))
       (record { passed = λ c. false; further = line_at run r.further }) (carried run source) (carried run r.wire)
 
 -- what all cost at most, the look-up aside: the rows beside their slots, the count, the items and the lines beside them,

@@ -2,6 +2,7 @@
 
 ghost use Rattle.std.specs.Prelude.{◌+◌, ◌-◌, ◌<◌, ◌≤◌, ◌^◌, All, IfOk, None, Some};
 ghost use Rattle.gl_algebra.specs.Columns.{BackFits, ConditionFits, OperandFits, kind_of_frame_agg, kind_of_operand};
+ghost use Rattle.gl_algebra.specs.Known.{OperandKnown};
 ghost use Rattle.gl_algebra.specs.Frames.{delay_over};
 ghost use Rattle.gl_algebra.specs.Results.{counts_in, value_over};
 ghost use Rattle.gl_algebra.specs.Rings.{digits};
@@ -15,6 +16,7 @@ ghost use Rattle.gl_frames_wire.specs.Reaches.{place_bits};
 ghost use Rattle.gl_frames_slots.specs.Averages.{IsSlotFraction, IsSlotWholeFraction};
 ghost use Rattle.gl_frames_slots.specs.ItemCosts.{cost_of_slot_average, cost_of_slot_over, cost_of_slot_passing, cost_of_slot_whole_average};
 ghost use Rattle.gl_frames_slots.specs.Items.{HasSlotInput, IsSlotItemIn, IsSlotOver};
+ghost use Rattle.gl_wire.specs.Wire.{widths};
 
 use crate::counts::{put_slot_number, put_slot_passing};
 use crate::items::SlotInput;
@@ -51,7 +53,7 @@ fn put_slot_frame_number(
     ensures { IfOk result (
         let slot = input.entry.rows.slot.width in
         IsSlotItemIn net.old net.new (cost_of_slot_passing slot back) 3 32
-        (λ rows. count_of (frame_of (Some back) (counts_in filter) rows)) input.entry count) }
+        (λ _ rows. count_of (frame_of (Some back) (counts_in filter) rows)) input.entry count) }
 {
     match filter {
         Some(column) => put_slot_passing(net, input, count, column, back),
@@ -79,6 +81,7 @@ fn put_slot_fraction(
     requires kinds { All IsKind input.source.kinds.now }
     requires filter { ConditionFits input.source.kinds.now filter }
     requires fits { OperandFits input.source.kinds.now operand }
+    requires known { OperandKnown (widths input.source.words.now) operand }
     requires back { back < 2 ^ 16 }
     requires bits { place_bits (back + 1) + 1 ≤ count.width }
     requires address { input.rows.slot.width + place_bits (back + 1) ≤ 32 }
@@ -119,6 +122,7 @@ pub fn put_slot_average_item(
     requires kinds { All IsKind input.source.kinds.now }
     requires filter { ConditionFits input.source.kinds.now filter }
     requires fits { OperandFits input.source.kinds.now operand }
+    requires known { OperandKnown (widths input.source.words.now) operand }
     requires back { back < 2 ^ 16 }
     requires bits { place_bits (back + 1) + 1 ≤ count.width }
     requires address { input.rows.slot.width + place_bits (back + 1) ≤ 32 }
@@ -127,7 +131,7 @@ pub fn put_slot_average_item(
         let kind = kind_of_operand input.entry.source.kinds.now operand in
         IsSlotItemIn net.old net.new (cost_of_slot_average input.entry.rows.slot.width (width_of kind) back)
         (width_of kind + digits (back + 1) + 4) (width_of kind)
-        (total_over (average_of kind) (value_in operand) (Some back) (counts_in filter)) input.entry count) }
+        (λ sets. total_over (average_of kind) (value_in sets operand) (Some back) (counts_in filter)) input.entry count) }
 {
     let kind = kind_of_operand(input.source.kinds, &operand);
     let fraction = put_slot_fraction(net, input, count, filter, operand, back)?;
@@ -150,6 +154,7 @@ fn put_slot_whole_fraction(
     requires kinds { All IsKind input.source.kinds.now }
     requires filter { ConditionFits input.source.kinds.now filter }
     requires fits { OperandFits input.source.kinds.now operand }
+    requires known { OperandKnown (widths input.source.words.now) operand }
     ensures { IfOk result
         (IsSlotWholeFraction net.old net.new input.entry count filter operand) }
 {
@@ -181,11 +186,12 @@ pub fn put_slot_average_all(
     requires kinds { All IsKind input.source.kinds.now }
     requires filter { ConditionFits input.source.kinds.now filter }
     requires fits { OperandFits input.source.kinds.now operand }
+    requires known { OperandKnown (widths input.source.words.now) operand }
     ensures { IfOk result (
         let kind = kind_of_operand input.entry.source.kinds.now operand in
         IsSlotItemIn net.old net.new (cost_of_slot_whole_average input.entry.rows.slot.width (width_of kind))
         (width_of kind + 34) (width_of kind)
-        (total_over (average_of kind) (value_in operand) None (counts_in filter)) input.entry count) }
+        (λ sets. total_over (average_of kind) (value_in sets operand) None (counts_in filter)) input.entry count) }
 {
     let kind = kind_of_operand(input.source.kinds, &operand);
     let fraction = put_slot_whole_fraction(net, input, count, filter, operand)?;
@@ -209,6 +215,7 @@ pub fn put_slot_average_of(
     requires kinds { All IsKind input.source.kinds.now }
     requires filter { ConditionFits input.source.kinds.now filter }
     requires fits { OperandFits input.source.kinds.now operand }
+    requires known { OperandKnown (widths input.source.words.now) operand }
     requires back { BackFits back }
     requires slot_item { IsSlotOver (count.width - 1) (Avg operand) filter back }
     requires some { 1 ≤ count.width }
@@ -218,7 +225,7 @@ pub fn put_slot_average_of(
         let kinds = input.entry.source.kinds.now in
         IsSlotItemIn net.old net.new (cost_of_slot_over input.entry.rows.slot.width kinds (Avg operand) filter back)
         (delay_over kinds (Avg operand) filter back) (width_of (kind_of_frame_agg kinds (Avg operand)))
-        (λ rows. value_over kinds filter back rows (Avg operand)) input.entry count) }
+        (λ sets rows. value_over sets kinds filter back rows (Avg operand)) input.entry count) }
 {
     match back {
         Some(back) => put_slot_average_item(net, input, count, filter, operand, back),

@@ -36,7 +36,7 @@ pub(crate) fn put_slot_number(
     requires bits { place_bits (back + 1) + 1 ≤ count.width }
     requires few { count.width ≤ 18 }
     ensures { IfOk result (IsSlotItemIn net.old net.new cost_of_slot_number 1 32
-        (λ rows. count_of (frame_of (Some back) every rows)) input.entry count) }
+        (λ _ rows. count_of (frame_of (Some back) every rows)) input.entry count) }
 {
     // The count is that of these rows.
     let _ = input;
@@ -63,7 +63,7 @@ pub(crate) fn put_slot_passing(
     ensures { IfOk result (
         let slot = input.entry.rows.slot.width in
         IsSlotItemIn net.old net.new (cost_of_slot_passing slot back) 3 32
-        (λ rows. count_of (frame_of (Some back) (counts_in (Some column)) rows)) input.entry count) }
+        (λ _ rows. count_of (frame_of (Some back) (counts_in (Some column)) rows)) input.entry count) }
 {
     let bit = put_operand(net, input.source, Operand::Column(column))?;
     let wide = Wide {
@@ -94,7 +94,7 @@ pub fn put_slot_count_last(
         let slot = input.entry.rows.slot.width in
         IsSlotItemIn net.old net.new (cost_of_slot_count slot filter back)
         (delay_of_count filter (Some back)) 32
-        (λ rows. count_of (frame_of (Some back) (counts_in filter) rows)) input.entry count) }
+        (λ _ rows. count_of (frame_of (Some back) (counts_in filter) rows)) input.entry count) }
 {
     match filter {
         Some(column) => put_slot_passing(net, input, count, column, back),

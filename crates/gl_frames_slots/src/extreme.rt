@@ -2,6 +2,7 @@
 
 ghost use Rattle.std.specs.Prelude.{◌≡◌, ◌+◌, ◌-◌, ◌<◌, ◌≤◌, ◌^◌, true, All, IfOk, None, Some};
 ghost use Rattle.gl_algebra.specs.Columns.{BackFits, ConditionFits, OperandFits, kind_of_frame_agg, kind_of_operand};
+ghost use Rattle.gl_algebra.specs.Known.{OperandKnown};
 ghost use Rattle.gl_algebra.specs.Frames.{delay_of_extreme, delay_over};
 ghost use Rattle.gl_algebra.specs.Results.{counts_in, value_over};
 ghost use Rattle.gl_algebra.specs.declared.node.PlanFrameAgg.TheVariants.{Max, Min};
@@ -16,6 +17,7 @@ ghost use Rattle.gl_frames_slots.specs.Extremes.{IsSlotBestSoFarIn, IsSlotPacked
 ghost use Rattle.gl_frames_slots.specs.ItemCosts.{cost_of_slot_best, cost_of_slot_extreme, cost_of_slot_extreme_by, cost_of_slot_extreme_over, cost_of_slot_filtered, cost_of_slot_over};
 ghost use Rattle.gl_frames_slots.specs.Items.{HasSlotInput, IsSlotItemIn, ReachFits};
 ghost use Rattle.gl_frames_slots.specs.Rows.{HasSlotRows};
+ghost use Rattle.gl_wire.specs.Wire.{widths};
 
 use crate::count::put_passing;
 use crate::doubling::put_slot_best;
@@ -56,6 +58,7 @@ fn put_slot_extreme_item(
     requires count { IsBus net.old count }
     requires kinds { All IsKind input.source.kinds.now }
     requires fits { OperandFits input.source.kinds.now ranking.operand }
+    requires known { OperandKnown (widths input.source.words.now) ranking.operand }
     requires back { back < 2 ^ 16 }
     requires bits { place_bits (back + 1) + 1 ≤ count.width }
     requires address { input.rows.slot.width + place_bits (back + 1) ≤ 32 }
@@ -64,7 +67,7 @@ fn put_slot_extreme_item(
         let kind = kind_of_operand input.entry.source.kinds.now ranking.operand in
         IsSlotItemIn net.old net.new (cost_of_slot_extreme input.entry.rows.slot.width (width_of kind) back)
         (delay_of_extreme (Some back)) (width_of kind)
-        (total_over (extreme_of ranking.extreme kind) (value_in ranking.operand) (Some back) every) input.entry count) }
+        (λ sets. total_over (extreme_of ranking.extreme kind) (value_in sets ranking.operand) (Some back) every) input.entry count) }
 {
     let kind = kind_of_operand(input.source.kinds, &ranking.operand);
     let value = put_operand(net, input.source, ranking.operand)?;
@@ -93,6 +96,7 @@ fn put_slot_filtered_item(
     requires kinds { All IsKind input.source.kinds.now }
     requires filter { ConditionFits input.source.kinds.now (Some column) }
     requires fits { OperandFits input.source.kinds.now ranking.operand }
+    requires known { OperandKnown (widths input.source.words.now) ranking.operand }
     requires back { back < 2 ^ 16 }
     requires bits { place_bits (back + 1) + 1 ≤ count.width }
     requires address { input.rows.slot.width + place_bits (back + 1) ≤ 32 }
@@ -101,7 +105,7 @@ fn put_slot_filtered_item(
         let kind = kind_of_operand input.entry.source.kinds.now ranking.operand in
         IsSlotItemIn net.old net.new (cost_of_slot_filtered input.entry.rows.slot.width (width_of kind) back)
         (delay_of_extreme (Some back)) (width_of kind)
-        (total_over (extreme_of ranking.extreme kind) (value_in ranking.operand) (Some back) (counts_in (Some column)))
+        (λ sets. total_over (extreme_of ranking.extreme kind) (value_in sets ranking.operand) (Some back) (counts_in (Some column)))
         input.entry count) }
 {
     let kind = kind_of_operand(input.source.kinds, &ranking.operand);
@@ -123,6 +127,7 @@ fn put_slot_marked(net: &mut NetBuilder, input: SlotInput, operand: Operand) -> 
     requires input { HasSlotInput net.old input }
     requires kinds { All IsKind input.source.kinds.now }
     requires fits { OperandFits input.source.kinds.now operand }
+    requires known { OperandKnown (widths input.source.words.now) operand }
     ensures { IfOk result (IsSlotPackedIn net.old net.new input.entry None operand) }
 {
     let value = put_operand(net, input.source, operand)?;
@@ -142,6 +147,7 @@ fn put_slot_packed_by(
     requires kinds { All IsKind input.source.kinds.now }
     requires filter { ConditionFits input.source.kinds.now (Some column) }
     requires fits { OperandFits input.source.kinds.now operand }
+    requires known { OperandKnown (widths input.source.words.now) operand }
     ensures { IfOk result
         (IsSlotPackedIn net.old net.new input.entry (Some column) operand) }
 {
@@ -167,6 +173,7 @@ fn put_slot_packed(
     requires kinds { All IsKind input.source.kinds.now }
     requires filter { ConditionFits input.source.kinds.now filter }
     requires fits { OperandFits input.source.kinds.now operand }
+    requires known { OperandKnown (widths input.source.words.now) operand }
     ensures { IfOk result (IsSlotPackedIn net.old net.new input.entry filter operand) }
 {
     match filter {
@@ -218,10 +225,11 @@ fn put_slot_extreme_all(
     requires kinds { All IsKind input.source.kinds.now }
     requires filter { ConditionFits input.source.kinds.now filter }
     requires fits { OperandFits input.source.kinds.now ranking.operand }
+    requires known { OperandKnown (widths input.source.words.now) ranking.operand }
     ensures { IfOk result (
         let kind = kind_of_operand input.entry.source.kinds.now ranking.operand in
         IsSlotItemIn net.old net.new (cost_of_slot_best input.entry.rows.slot.width (width_of kind)) 1 (width_of kind)
-        (total_over (extreme_of ranking.extreme kind) (value_in ranking.operand) None (counts_in filter))
+        (λ sets. total_over (extreme_of ranking.extreme kind) (value_in sets ranking.operand) None (counts_in filter))
         input.entry count) }
 {
     // No count is read.
@@ -254,6 +262,7 @@ fn put_slot_extreme_last(
     requires kinds { All IsKind input.source.kinds.now }
     requires filter { ConditionFits input.source.kinds.now filter }
     requires fits { OperandFits input.source.kinds.now ranking.operand }
+    requires known { OperandKnown (widths input.source.words.now) ranking.operand }
     requires back { back < 2 ^ 16 }
     requires bits { place_bits (back + 1) + 1 ≤ count.width }
     requires address { input.rows.slot.width + place_bits (back + 1) ≤ 32 }
@@ -263,7 +272,7 @@ fn put_slot_extreme_last(
         IsSlotItemIn net.old net.new
         (cost_of_slot_extreme_by input.entry.rows.slot.width filter (width_of kind) back)
         (delay_of_extreme (Some back)) (width_of kind)
-        (total_over (extreme_of ranking.extreme kind) (value_in ranking.operand) (Some back) (counts_in filter))
+        (λ sets. total_over (extreme_of ranking.extreme kind) (value_in sets ranking.operand) (Some back) (counts_in filter))
         input.entry count) }
 {
     match filter {
@@ -286,6 +295,7 @@ fn put_slot_extreme(
     requires kinds { All IsKind input.source.kinds.now }
     requires filter { ConditionFits input.source.kinds.now filter }
     requires fits { OperandFits input.source.kinds.now ranking.operand }
+    requires known { OperandKnown (widths input.source.words.now) ranking.operand }
     requires back { BackFits back }
     requires reach { ReachFits (count.width - 1) back }
     requires few { count.width ≤ 18 }
@@ -296,7 +306,7 @@ fn put_slot_extreme(
         IsSlotItemIn net.old net.new
         (cost_of_slot_extreme_over input.entry.rows.slot.width filter (width_of kind) back)
         (delay_of_extreme back) (width_of kind)
-        (total_over (extreme_of ranking.extreme kind) (value_in ranking.operand) back (counts_in filter))
+        (λ sets. total_over (extreme_of ranking.extreme kind) (value_in sets ranking.operand) back (counts_in filter))
         input.entry count) }
 {
     match back {
@@ -319,6 +329,7 @@ pub fn put_slot_least(
     requires kinds { All IsKind input.source.kinds.now }
     requires filter { ConditionFits input.source.kinds.now filter }
     requires fits { OperandFits input.source.kinds.now operand }
+    requires known { OperandKnown (widths input.source.words.now) operand }
     requires back { BackFits back }
     requires reach { ReachFits (count.width - 1) back }
     requires few { count.width ≤ 18 }
@@ -328,7 +339,7 @@ pub fn put_slot_least(
         let kinds = input.entry.source.kinds.now in
         IsSlotItemIn net.old net.new (cost_of_slot_over input.entry.rows.slot.width kinds (Min operand) filter back)
         (delay_over kinds (Min operand) filter back) (width_of (kind_of_frame_agg kinds (Min operand)))
-        (λ rows. value_over kinds filter back rows (Min operand)) input.entry count) }
+        (λ sets rows. value_over sets kinds filter back rows (Min operand)) input.entry count) }
 {
     let extreme = Extreme::Least;
     put_slot_extreme(
@@ -355,6 +366,7 @@ pub fn put_slot_greatest(
     requires kinds { All IsKind input.source.kinds.now }
     requires filter { ConditionFits input.source.kinds.now filter }
     requires fits { OperandFits input.source.kinds.now operand }
+    requires known { OperandKnown (widths input.source.words.now) operand }
     requires back { BackFits back }
     requires reach { ReachFits (count.width - 1) back }
     requires few { count.width ≤ 18 }
@@ -364,7 +376,7 @@ pub fn put_slot_greatest(
         let kinds = input.entry.source.kinds.now in
         IsSlotItemIn net.old net.new (cost_of_slot_over input.entry.rows.slot.width kinds (Max operand) filter back)
         (delay_over kinds (Max operand) filter back) (width_of (kind_of_frame_agg kinds (Max operand)))
-        (λ rows. value_over kinds filter back rows (Max operand)) input.entry count) }
+        (λ sets rows. value_over sets kinds filter back rows (Max operand)) input.entry count) }
 {
     let extreme = Extreme::Greatest;
     put_slot_extreme(

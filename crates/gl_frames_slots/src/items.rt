@@ -3,6 +3,7 @@
 
 ghost use Rattle.std.specs.Prelude.{◌+◌, ◌-◌, ◌≤◌, ◌^◌, All, IfOk, Some};
 ghost use Rattle.gl_algebra.specs.Columns.{BackFits, ConditionFits, FrameAggFits, FrameFits, OperandFits, kind_of_frame, kind_of_frame_agg, kind_of_operand};
+ghost use Rattle.gl_algebra.specs.Known.{FrameAggKnown, FrameKnown, OperandKnown};
 ghost use Rattle.gl_algebra.specs.Frames.{delay_of_frame, delay_of_frames, delay_over};
 ghost use Rattle.gl_algebra.specs.Results.{value_of_frame, value_over};
 ghost use Rattle.gl_algebra.specs.declared.node.PlanFrameAgg.TheVariants.{Count, Sum};
@@ -14,6 +15,7 @@ ghost use Rattle.gl_frames_stages.specs.Framing.{value_in};
 ghost use Rattle.gl_frames_wire.specs.Reaches.{place_bits};
 ghost use Rattle.gl_frames_slots.specs.ItemCosts.{cost_of_slot_item, cost_of_slot_item_late, cost_of_slot_lag, cost_of_slot_over};
 ghost use Rattle.gl_frames_slots.specs.Items.{AreSlotItemsIn, HasSlotInput, IsSlotItem, IsSlotItemIn, IsSlotOver};
+ghost use Rattle.gl_wire.specs.Wire.{widths};
 
 use crate::average::put_slot_average_of;
 use crate::counts::put_slot_count_last;
@@ -54,6 +56,7 @@ fn put_slot_lag(
     requires input { HasSlotInput net.old input }
     requires count { IsBus net.old count }
     requires fits { OperandFits input.source.kinds.now operand }
+    requires known { OperandKnown (widths input.source.words.now) operand }
     requires some { 1 ≤ back }
     requires most { back ≤ 2 ^ 16 }
     requires bits { place_bits back + 1 ≤ count.width }
@@ -61,7 +64,7 @@ fn put_slot_lag(
     ensures { IfOk result (
         let width = width_of (kind_of_operand input.entry.source.kinds.now operand) in
         IsSlotItemIn net.old net.new (cost_of_slot_lag input.entry.rows.slot.width width back) 1 width
-        (lag_of (value_in operand) back) input.entry count) }
+        (λ sets. lag_of (value_in sets operand) back) input.entry count) }
 {
     let value = put_operand(net, input.source, operand)?;
     let found = put_slot_lagged(net, input.rows, count, Reach::new(back), value)?;
@@ -79,11 +82,12 @@ fn put_slot_own(
 ) -> Result<Bus, Memory>
     requires input { HasSlotInput net.old input }
     requires fits { OperandFits input.source.kinds.now operand }
+    requires known { OperandKnown (widths input.source.words.now) operand }
     ensures { IfOk result (
         let kinds = input.entry.source.kinds.now in
         IsSlotItemIn net.old net.new (cost_of_slot_item input.entry.rows.slot.width kinds (Own operand)) 1
         (width_of (kind_of_operand kinds operand))
-        (λ rows. value_of_frame kinds rows (Own operand)) input.entry count) }
+        (λ sets rows. value_of_frame sets kinds rows (Own operand)) input.entry count) }
 {
     // No count is read.
     let _ = count;
@@ -106,6 +110,7 @@ fn put_slot_sum_of(
     requires count { IsBus net.old count }
     requires filter { ConditionFits input.source.kinds.now filter }
     requires fits { OperandFits input.source.kinds.now operand }
+    requires known { OperandKnown (widths input.source.words.now) operand }
     requires back { BackFits back }
     requires slot_item { IsSlotOver (count.width - 1) (Sum operand) filter back }
     requires some { 1 ≤ count.width }
@@ -114,7 +119,7 @@ fn put_slot_sum_of(
         let kinds = input.entry.source.kinds.now in
         IsSlotItemIn net.old net.new (cost_of_slot_over input.entry.rows.slot.width kinds (Sum operand) filter back)
         (delay_over kinds (Sum operand) filter back) (width_of (kind_of_frame_agg kinds (Sum operand)))
-        (λ rows. value_over kinds filter back rows (Sum operand)) input.entry count) }
+        (λ sets rows. value_over sets kinds filter back rows (Sum operand)) input.entry count) }
 {
     match back {
         Some(back) => put_slot_sum_item(net, input, count, filter, operand, back),
@@ -142,7 +147,7 @@ fn put_slot_count_of(
         let kinds = input.entry.source.kinds.now in
         IsSlotItemIn net.old net.new (cost_of_slot_over input.entry.rows.slot.width kinds Count filter back)
         (delay_over kinds Count filter back) (width_of (kind_of_frame_agg kinds Count))
-        (λ rows. value_over kinds filter back rows Count) input.entry count) }
+        (λ sets rows. value_over sets kinds filter back rows Count) input.entry count) }
 {
     match back {
         Some(back) => put_slot_count_last(net, input, count, filter, back),
@@ -163,6 +168,7 @@ fn put_slot_over(
     requires count { IsBus net.old count }
     requires filter { ConditionFits input.source.kinds.now filter }
     requires agg { FrameAggFits input.source.kinds.now agg }
+    requires known { FrameAggKnown (widths input.source.words.now) agg }
     requires back { BackFits back }
     requires slot_item { IsSlotOver (count.width - 1) agg filter back }
     requires kinds { All IsKind input.source.kinds.now }
@@ -173,7 +179,7 @@ fn put_slot_over(
         let kinds = input.entry.source.kinds.now in
         IsSlotItemIn net.old net.new (cost_of_slot_over input.entry.rows.slot.width kinds agg filter back)
         (delay_over kinds agg filter back) (width_of (kind_of_frame_agg kinds agg))
-        (λ rows. value_over kinds filter back rows agg) input.entry count) }
+        (λ sets rows. value_over sets kinds filter back rows agg) input.entry count) }
 {
     match agg {
         PlanFrameAgg::Count => put_slot_count_of(net, input, count, filter, back),
@@ -197,6 +203,7 @@ pub fn put_slot_item(
     requires input { HasSlotInput net.old input }
     requires count { IsBus net.old count }
     requires item { FrameFits input.source.kinds.now item }
+    requires known { FrameKnown (widths input.source.words.now) item }
     requires slot_item { IsSlotItem (count.width - 1) item }
     requires kinds { All IsKind input.source.kinds.now }
     requires few { count.width ≤ 18 }
@@ -206,7 +213,7 @@ pub fn put_slot_item(
         let kinds = input.entry.source.kinds.now in
         IsSlotItemIn net.old net.new (cost_of_slot_item input.entry.rows.slot.width kinds item)
         (delay_of_frame kinds item) (width_of (kind_of_frame kinds item))
-        (λ rows. value_of_frame kinds rows item) input.entry count) }
+        (λ sets rows. value_of_frame sets kinds rows item) input.entry count) }
 {
     match item {
         PlanFrame::Own(operand) => put_slot_own(net, input, count, operand),
@@ -228,6 +235,7 @@ fn put_slot_item_late(
     requires input { HasSlotInput net.old input }
     requires count { IsBus net.old count }
     requires item { FrameFits input.source.kinds.now item }
+    requires known { FrameKnown (widths input.source.words.now) item }
     requires slot_item { IsSlotItem (count.width - 1) item }
     requires few { count.width ≤ 18 }
     requires some { 1 ≤ count.width }
@@ -238,7 +246,7 @@ fn put_slot_item_late(
     ensures { IfOk result (
         let kinds = input.entry.source.kinds.now in
         IsSlotItemIn net.old net.new (cost_of_slot_item_late input.entry.rows.slot.width kinds cycles item)
-        cycles (width_of (kind_of_frame kinds item)) (λ rows. value_of_frame kinds rows item) input.entry count) }
+        cycles (width_of (kind_of_frame kinds item)) (λ sets rows. value_of_frame sets kinds rows item) input.entry count) }
 {
     let gone = delay_of_frame(input.source.kinds, &item);
     let early = put_slot_item(net, input, count, item)?;
@@ -259,6 +267,7 @@ fn put_slot_part(
     requires input { HasSlotInput net.old input }
     requires count { IsBus net.old count }
     requires item { FrameFits input.source.kinds.now item }
+    requires known { FrameKnown (widths input.source.words.now) item }
     requires slot_item { IsSlotItem (count.width - 1) item }
     requires few { count.width ≤ 18 }
     requires some { 1 ≤ count.width }
@@ -269,7 +278,7 @@ fn put_slot_part(
     ensures { IfOk result (
         let kinds = input.entry.source.kinds.now in
         IsSlotItemIn net.old net.new (cost_of_slot_item_late input.entry.rows.slot.width kinds cycles item)
-        cycles (width_of (kind_of_frame kinds item)) (λ rows. value_of_frame kinds rows item) input.entry count) }
+        cycles (width_of (kind_of_frame kinds item)) (λ sets rows. value_of_frame sets kinds rows item) input.entry count) }
 {
     net.note(Note::Part(place))?;
     let bus = put_slot_item_late(net, input, count, item, cycles)?;
@@ -290,6 +299,7 @@ pub fn put_slot_items(
     requires count { IsBus net.old count }
     requires kinds { All IsKind input.source.kinds.now }
     requires fit { All (FrameFits input.source.kinds.now) items.now }
+    requires known { All (FrameKnown (widths input.source.words.now)) items.now }
     requires slot_items { All (IsSlotItem (count.width - 1)) items.now }
     requires few { count.width ≤ 18 }
     requires some { 1 ≤ count.width }

@@ -2,11 +2,13 @@
 
 ghost use Rattle.std.specs.Prelude.{◌≡◌, ◌+◌, ◌≤◌, All, IfOk, map};
 ghost use Rattle.gl_algebra.specs.Columns.{FrameFits};
+ghost use Rattle.gl_algebra.specs.Known.{FrameKnown};
 ghost use Rattle.gl_values.specs.Kinds.{IsKind, width_of};
 ghost use Rattle.gl_bits.specs.Words.{IsWidth};
 ghost use Rattle.gl_net.specs.Net.{IsAddressWidth, IsBit, IsBus};
 ghost use Rattle.gl_frames_wire.specs.Reaches.{IsPlaceWidth};
 ghost use Rattle.gl_wire.specs.Wire.{IsWire, widths};
+ghost use Rattle.gl_rows.specs.Made.{AreHeldBuses};
 ghost use Rattle.gl_frames_slots.specs.Items.{IsSlotItem};
 ghost use Rattle.gl_frames_slots.specs.KeyNets.{AreKeyFramesIn, AreKeyItemsIn, AreKeyRowsIn};
 ghost use Rattle.gl_frames_slots.specs.Rows.{HasSlotRows};
@@ -21,8 +23,7 @@ use gl_frames_lanes::{KeyLane, Keys};
 use gl_frames_stages::Lines;
 use gl_frames_stages::delay::{put_late_line, put_late_lines};
 use gl_net::{Bit, NetBuilder};
-use gl_rows::Source;
-use gl_values::Kind;
+use gl_rows::{Scope, Source};
 use gl_wire::{Wire, later, later_bit, later_wire};
 use std::alloc::Global;
 
@@ -83,21 +84,24 @@ fn put_key_items(
     net: &mut NetBuilder,
     late: &KeyRows,
     partition: Partition,
-    kinds: &[Kind],
+    scope: Scope,
     items: &[PlanFrame],
 ) -> Result<Wire, Memory>
     requires wire { IsWire net.old late.now.wire }
-    requires kinds { widths late.now.wire.columns ≡ map width_of kinds.now }
-    requires are_kinds { All IsKind kinds.now }
+    requires kinds { widths late.now.wire.columns ≡ map width_of scope.kinds.now }
+    requires words { AreHeldBuses net.old scope.words.now }
+    requires are_kinds { All IsKind scope.kinds.now }
     requires rows { HasSlotRows net.old late.now.rows }
     requires bits { IsPlaceWidth partition.bits }
     requires address { late.now.rows.slot.width + partition.bits ≤ 32 }
     requires wait { partition.wait ≤ 100 }
-    requires fit { All (FrameFits kinds.now) items.now }
+    requires fit { All (FrameFits scope.kinds.now) items.now }
+    requires known { All (FrameKnown (widths scope.words.now)) items.now }
     requires slot_items { All (IsSlotItem partition.bits) items.now }
-    ensures { IfOk result (AreKeyItemsIn net.old net.new late.now partition kinds.now items.now) }
+    ensures { IfOk result
+        (AreKeyItemsIn net.old net.new late.now partition scope.entry.kinds.now items.now) }
 {
-    let cycles = partition.wait + delay_of_frames(kinds, items);
+    let cycles = partition.wait + delay_of_frames(scope.kinds, items);
     let count = put_slot_count(net, late.rows, partition.bits)?;
     let lines = Lines {
         valid: late.wire.valid,
@@ -108,7 +112,8 @@ fn put_key_items(
         rows: late.rows,
         source: Source {
             columns: late.wire.columns.as_slice(),
-            kinds,
+            kinds: scope.kinds,
+            words: scope.words,
         },
     };
     let columns = put_slot_items(alloc, net, input, count, items, cycles)?;
@@ -127,27 +132,29 @@ pub fn put_key_frames(
     net: &mut NetBuilder,
     lane: &KeyLane,
     partition: Partition,
-    kinds: &[Kind],
+    scope: Scope,
     items: &[PlanFrame],
 ) -> Result<KeyFrames, Memory>
     requires wire { IsWire net.old lane.now.wire }
-    requires kinds { widths lane.now.wire.columns ≡ map width_of kinds.now }
+    requires kinds { widths lane.now.wire.columns ≡ map width_of scope.kinds.now }
+    requires words { AreHeldBuses net.old scope.words.now }
     requires slot { IsBus net.old lane.now.slot }
     requires slot_width { lane.now.slot.width ≡ partition.keys.width }
     requires first { IsBit net.old lane.now.first }
     requires further { IsBit net.old lane.now.further }
-    requires are_kinds { All IsKind kinds.now }
+    requires are_kinds { All IsKind scope.kinds.now }
     requires width { IsWidth partition.keys.width }
     requires bits { IsPlaceWidth partition.bits }
     requires address { partition.keys.width + partition.bits ≤ 32 }
     requires wait { partition.wait ≤ 100 }
-    requires fit { All (FrameFits kinds.now) items.now }
+    requires fit { All (FrameFits scope.kinds.now) items.now }
+    requires known { All (FrameKnown (widths scope.words.now)) items.now }
     requires slot_items { All (IsSlotItem partition.bits) items.now }
     ensures { IfOk result
-        (AreKeyFramesIn net.old net.new partition kinds.now items.now lane.now) }
+        (AreKeyFramesIn net.old net.new partition scope.entry.kinds.now items.now lane.now) }
 {
     let late = put_key_rows(alloc, net, lane)?;
-    let out = put_key_items(alloc, net, &late, partition, kinds, items)?;
+    let out = put_key_items(alloc, net, &late, partition, scope, items)?;
     let further = put_late_line(net, lane.further, partition.wait)?;
     Ok(KeyFrames { wire: out, further })
 }

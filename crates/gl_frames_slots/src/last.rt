@@ -2,6 +2,7 @@
 
 ghost use Rattle.std.specs.Prelude.{IfOk, None, Option, Some, ℕ};
 ghost use Rattle.gl_algebra.specs.Columns.{BackFits, ConditionFits, OperandFits, kind_of_frame_agg, kind_of_operand};
+ghost use Rattle.gl_algebra.specs.Known.{OperandKnown};
 ghost use Rattle.gl_algebra.specs.Frames.{delay_over};
 ghost use Rattle.gl_algebra.specs.Results.{counts_in, value_over};
 ghost use Rattle.gl_algebra.specs.declared.node.PlanFrameAgg.TheVariants.{LastValue};
@@ -13,6 +14,7 @@ ghost use Rattle.gl_frames_slots.specs.ItemCosts.{cost_of_slot_last, cost_of_slo
 ghost use Rattle.gl_frames_slots.specs.Items.{HasSlotInput, IsSlotItemIn};
 ghost use Rattle.gl_frames_slots.specs.LastNets.{IsSlotLastIn};
 ghost use Rattle.gl_frames_slots.specs.Rows.{HasSlotRows};
+ghost use Rattle.gl_wire.specs.Wire.{widths};
 
 use crate::count::put_passing;
 use crate::items::SlotInput;
@@ -60,10 +62,11 @@ pub fn put_slot_last_item(
     requires input { HasSlotInput net.old input }
     requires filter { ConditionFits input.source.kinds.now (Some column) }
     requires fits { OperandFits input.source.kinds.now operand }
+    requires known { OperandKnown (widths input.source.words.now) operand }
     ensures { IfOk result (
         let width = width_of (kind_of_operand input.entry.source.kinds.now operand) in
         IsSlotItemIn net.old net.new (cost_of_slot_last input.entry.rows.slot.width width) 1 width
-        (last_value_of (value_in operand) None (counts_in (Some column))) input.entry count) }
+        (λ sets. last_value_of (value_in sets operand) None (counts_in (Some column))) input.entry count) }
 {
     // No count is read.
     let _ = count;
@@ -85,10 +88,11 @@ pub fn put_slot_own_last(
 ) -> Result<Bus, Memory>
     requires input { HasSlotInput net.old input }
     requires fits { OperandFits input.source.kinds.now operand }
+    requires known { OperandKnown (widths input.source.words.now) operand }
     ensures { (back : Option ℕ) → IfOk result (
         let width = width_of (kind_of_operand input.entry.source.kinds.now operand) in
         IsSlotItemIn net.old net.new (cost_of_own width) 1 width
-        (last_value_of (value_in operand) back every) input.entry count) }
+        (λ sets. last_value_of (value_in sets operand) back every) input.entry count) }
 {
     // No count is read.
     let _ = count;
@@ -110,6 +114,7 @@ fn put_slot_last_by(
     requires input { HasSlotInput net.old input }
     requires filter { ConditionFits input.source.kinds.now (Some column) }
     requires fits { OperandFits input.source.kinds.now operand }
+    requires known { OperandKnown (widths input.source.words.now) operand }
     requires back { BackFits back }
     ensures { IfOk result (
         let kinds = input.entry.source.kinds.now in
@@ -117,7 +122,7 @@ fn put_slot_last_by(
         IsSlotItemIn net.old net.new (cost_of_slot_over slot kinds (LastValue operand) (Some column) back)
         (delay_over kinds (LastValue operand) (Some column) back)
         (width_of (kind_of_frame_agg kinds (LastValue operand)))
-        (λ rows. value_over kinds (Some column) back rows (LastValue operand)) input.entry count) }
+        (λ sets rows. value_over sets kinds (Some column) back rows (LastValue operand)) input.entry count) }
 {
     match back {
         Some(back) => put_slot_recent_item(net, input, count, column, operand, back),
@@ -137,6 +142,7 @@ pub fn put_slot_last_of(
     requires input { HasSlotInput net.old input }
     requires filter { ConditionFits input.source.kinds.now filter }
     requires fits { OperandFits input.source.kinds.now operand }
+    requires known { OperandKnown (widths input.source.words.now) operand }
     requires back { BackFits back }
     ensures { IfOk result (
         let kinds = input.entry.source.kinds.now in
@@ -144,7 +150,7 @@ pub fn put_slot_last_of(
         IsSlotItemIn net.old net.new (cost_of_slot_over slot kinds (LastValue operand) filter back)
         (delay_over kinds (LastValue operand) filter back)
         (width_of (kind_of_frame_agg kinds (LastValue operand)))
-        (λ rows. value_over kinds filter back rows (LastValue operand)) input.entry count) }
+        (λ sets rows. value_over sets kinds filter back rows (LastValue operand)) input.entry count) }
 {
     match filter {
         Some(column) => put_slot_last_by(net, input, count, column, operand, back),

@@ -2,6 +2,7 @@
 
 ghost use Rattle.std.specs.Prelude.{◌<◌, ◌^◌, IfOk, Some};
 ghost use Rattle.gl_algebra.specs.Columns.{ConditionFits, OperandFits, kind_of_operand};
+ghost use Rattle.gl_algebra.specs.Known.{OperandKnown};
 ghost use Rattle.gl_algebra.specs.Results.{counts_in};
 ghost use Rattle.gl_net.specs.Net.{IsBit, IsBus};
 ghost use Rattle.gl_values.specs.Kinds.{width_of};
@@ -12,6 +13,7 @@ ghost use Rattle.gl_frames_slots.specs.ItemCosts.{cost_of_slot_recent};
 ghost use Rattle.gl_frames_slots.specs.Items.{HasSlotInput, IsSlotItemIn};
 ghost use Rattle.gl_frames_slots.specs.RecentNets.{IsSlotAgeIn, IsSlotRecentIn, IsSlotSinceIn};
 ghost use Rattle.gl_frames_slots.specs.Rows.{HasSlotRows};
+ghost use Rattle.gl_wire.specs.Wire.{widths};
 
 use crate::count::{put_passing, put_wound};
 use crate::items::SlotInput;
@@ -96,11 +98,12 @@ pub fn put_slot_recent_item(
     requires input { HasSlotInput net.old input }
     requires filter { ConditionFits input.source.kinds.now (Some column) }
     requires fits { OperandFits input.source.kinds.now operand }
+    requires known { OperandKnown (widths input.source.words.now) operand }
     requires back { back < 2 ^ 16 }
     ensures { IfOk result (
         let width = width_of (kind_of_operand input.entry.source.kinds.now operand) in
         IsSlotItemIn net.old net.new (cost_of_slot_recent input.entry.rows.slot.width width back) 1 width
-        (last_value_of (value_in operand) (Some back) (counts_in (Some column))) input.entry count) }
+        (λ sets. last_value_of (value_in sets operand) (Some back) (counts_in (Some column))) input.entry count) }
 {
     // No count is read: this one begins anew with each row that passes.
     let _ = count;

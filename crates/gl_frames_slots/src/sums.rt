@@ -2,6 +2,7 @@
 
 ghost use Rattle.std.specs.Prelude.{◌+◌, ◌<◌, ◌≤◌, ◌^◌, IfOk, None, Some};
 ghost use Rattle.gl_algebra.specs.Columns.{ConditionFits, OperandFits, kind_of_operand};
+ghost use Rattle.gl_algebra.specs.Known.{OperandKnown};
 ghost use Rattle.gl_algebra.specs.Results.{counts_in};
 ghost use Rattle.gl_values.specs.Kinds.{width_of};
 ghost use Rattle.gl_values.specs.Totals.{count_of, sum_total};
@@ -11,6 +12,7 @@ ghost use Rattle.gl_frames_stages.specs.Framing.{value_in};
 ghost use Rattle.gl_frames_wire.specs.Reaches.{place_bits};
 ghost use Rattle.gl_frames_slots.specs.ItemCosts.{cost_of_slot_all, cost_of_slot_sum};
 ghost use Rattle.gl_frames_slots.specs.Items.{HasSlotInput, IsSlotItemIn};
+ghost use Rattle.gl_wire.specs.Wire.{widths};
 
 use crate::items::SlotInput;
 use crate::sum::{put_slot_sum, put_slot_summed};
@@ -37,13 +39,14 @@ pub fn put_slot_sum_item(
     requires count { IsBus net.old count }
     requires filter { ConditionFits input.source.kinds.now filter }
     requires fits { OperandFits input.source.kinds.now operand }
+    requires known { OperandKnown (widths input.source.words.now) operand }
     requires back { back < 2 ^ 16 }
     requires bits { place_bits (back + 1) + 1 ≤ count.width }
     requires address { input.rows.slot.width + place_bits (back + 1) ≤ 32 }
     ensures { IfOk result (
         let width = width_of (kind_of_operand input.entry.source.kinds.now operand) in
         IsSlotItemIn net.old net.new (cost_of_slot_sum input.entry.rows.slot.width width back) 3 width
-        (total_over (sum_total width) (value_in operand) (Some back) (counts_in filter)) input.entry count) }
+        (λ sets. total_over (sum_total width) (value_in sets operand) (Some back) (counts_in filter)) input.entry count) }
 {
     let value = put_operand(net, input.source, operand)?;
     // A mask does not ask of ends.
@@ -70,10 +73,11 @@ pub fn put_slot_sum_all(
     requires input { HasSlotInput net.old input }
     requires filter { ConditionFits input.source.kinds.now filter }
     requires fits { OperandFits input.source.kinds.now operand }
+    requires known { OperandKnown (widths input.source.words.now) operand }
     ensures { IfOk result (
         let width = width_of (kind_of_operand input.entry.source.kinds.now operand) in
         IsSlotItemIn net.old net.new (cost_of_slot_all input.entry.rows.slot.width width) 1 width
-        (total_over (sum_total width) (value_in operand) None (counts_in filter)) input.entry count) }
+        (λ sets. total_over (sum_total width) (value_in sets operand) None (counts_in filter)) input.entry count) }
 {
     // No count is read.
     let _ = count;
@@ -102,7 +106,7 @@ pub fn put_slot_count_all(
     ensures { IfOk result (
         let slot = input.entry.rows.slot.width in
         IsSlotItemIn net.old net.new (cost_of_slot_all slot 32) 1 32
-        (λ rows. count_of (frame_of None (counts_in filter) rows)) input.entry count) }
+        (λ _ rows. count_of (frame_of None (counts_in filter) rows)) input.entry count) }
 {
     // No count is read.
     let _ = count;

@@ -38,9 +38,9 @@ use Rattle.gl_frames_stages.proofs.MeetLemmas.{tells_behind}
 
 pub item_late : (old mid new : Net) (input : Input) (kinds : List Kind) (item : PlanFrame) (cycles : ℕ) (early out : Bus)
     → delay_of_frame kinds item ≤ cycles
-    → IsItemIn old mid (cost_of_item kinds item) (delay_of_frame kinds item) (width_of (kind_of_frame kinds item)) (λ rows. value_of_frame kinds rows item) input early
+    → IsItemIn old mid (cost_of_item kinds item) (delay_of_frame kinds item) (width_of (kind_of_frame kinds item)) (λ sets rows. value_of_frame sets kinds rows item) input early
     → IsLateIn mid new (cycles - delay_of_frame kinds item) early out
-    → IsItemIn old new (cost_of_item_late kinds cycles item) cycles (width_of (kind_of_frame kinds item)) (λ rows. value_of_frame kinds rows item) input out
+    → IsItemIn old new (cost_of_item_late kinds cycles item) cycles (width_of (kind_of_frame kinds item)) (λ sets rows. value_of_frame sets kinds rows item) input out
 item_late old mid new input kinds item cycles early out le one late =
     let d : ℕ = delay_of_frame kinds item in
     let whole : d + (cycles - d) ≡ cycles = omega (arith, le) in
@@ -55,8 +55,8 @@ item_late old mid new input kinds item cycles early out le one late =
       bus = late.bus;
       same_width = late.same_width ∙ one.same_width;
       tells = λ run r.
-          subst (λ n. Tells run input.lines n (λ rows. value_of_frame kinds rows item) (rows_by run input) (carried_by run out)) whole
-          (tells_behind run input.lines d (cycles - d) (λ rows. value_of_frame kinds rows item) (rows_by run input) (carried_by run early) (carried_by run out) (late.value run r)
+          subst (λ n. Tells run input.lines n (λ rows. value_of_frame run.held kinds rows item) (rows_by run input) (carried_by run out)) whole
+          (tells_behind run input.lines d (cycles - d) (λ rows. value_of_frame run.held kinds rows item) (rows_by run input) (carried_by run early) (carried_by run out) (late.value run r)
           (one.tells run (late.keeps.runs run r)));
     }
 
@@ -75,7 +75,7 @@ items_none net cycles input = record {
 }
 
 pub items_more : (old mid new : Net) (cycles : ℕ) (input : Input) (items : List PlanFrame) (item : PlanFrame) (bs : List Bus) (b : Bus) → AreItemsIn old mid cycles input items bs
-    → IsItemIn mid new (cost_of_item_late input.source.kinds.now cycles item) cycles (width_of (kind_of_frame input.source.kinds.now item)) (λ rows. value_of_frame input.source.kinds.now rows item) input b
+    → IsItemIn mid new (cost_of_item_late input.source.kinds.now cycles item) cycles (width_of (kind_of_frame input.source.kinds.now item)) (λ sets rows. value_of_frame sets input.source.kinds.now rows item) input b
     → AreItemsIn old new cycles input (items ++ item ∷ []) (bs ++ b ∷ [])
 items_more old mid new cycles input items item bs b all one =
     let kinds = input.source.kinds.now in
@@ -92,7 +92,7 @@ items_more old mid new cycles input items item bs b all one =
       row = λ run r c v.
           let rows = column_of run input.lines (rows_by run input) (suc c) in
           row_at-push run (suc c + cycles) bs b ∙ ap (λ l. l ++ run.at (suc c + cycles) b.node ∷ []) (all.row run (one.keeps.runs run r) c v)
-          ∙ ap (λ n. row_of_frames kinds items rows ++ n ∷ []) (one.tells run r c v) ∙ sym (map-append (value_of_frame kinds rows) items (item ∷ []));
+          ∙ ap (λ n. row_of_frames run.held kinds items rows ++ n ∷ []) (one.tells run r c v) ∙ sym (map-append (value_of_frame run.held kinds rows) items (item ∷ []));
     }
 
 -- ---- the wire
@@ -113,7 +113,7 @@ module _ (run : Run) (a : Wire) (later : Lines) (outs : List Bus) (m : ℕ) (beh
 pub frames_behind : StreamsRun → (old mid new : Net) (a : Emitted) (items : List PlanFrame) (source : Source) (outs : List Bus) (later : Lines) → source.columns.now ≡ a.wire.columns
     → AreItemsIn old mid (delay_of_frames source.kinds.now items) (record { lines = record { valid = a.wire.valid; eos = a.wire.eos }; source = source }) items outs
     → AreLinesLate mid new (delay_of_frames source.kinds.now items) (record { valid = a.wire.valid; eos = a.wire.eos }) later
-    → IsBehind old new (Runs (delay_of_frames source.kinds.now items) (λ rows. Some (row_of_frames source.kinds.now items rows))) (frames_widths source.kinds.now items)
+    → IsBehind old new (λ sets. Runs (delay_of_frames source.kinds.now items) (λ rows. Some (row_of_frames sets source.kinds.now items rows))) (frames_widths source.kinds.now items)
     (cost_of_frames source.kinds.now (delay_of_frames source.kinds.now items) items) a (record { wire = wire_of later.valid later.eos outs; faults = a.faults })
 frames_behind streams_run old mid new a items source outs later is_columns all lines =
     let kinds = source.kinds.now in
@@ -129,9 +129,9 @@ frames_behind streams_run old mid new a items source outs later is_columns all l
       same_widths = all.same_widths;
       faults = refl;
       shape = λ run r.
-          streams_run m (row_of_frames kinds items) run a.wire (λ c. row_at run (c + m) outs) (carried run (wire_of later.valid later.eos outs))
+          streams_run m (row_of_frames run.held kinds items) run a.wire (λ c. row_at run (c + m) outs) (carried run (wire_of later.valid later.eos outs))
           (λ c v.
           all.row run (lines.keeps.runs run r) c v
-          ∙ ap (λ (bs : List Bus). row_of_frames kinds items (column_of run (record { valid = a.wire.valid; eos = a.wire.eos }) (λ t. row_at run t bs) (suc c))) is_columns)
+          ∙ ap (λ (bs : List Bus). row_of_frames run.held kinds items (column_of run (record { valid = a.wire.valid; eos = a.wire.eos }) (λ t. row_at run t bs) (suc c))) is_columns)
           (frames_delayed run a.wire later outs m (lines.behind run r));
     }

@@ -101,7 +101,7 @@ pub input_kept : (old new : Net) (input : Input) → Keeps old new → HasInput 
 input_kept old new input keeps is = record {
   valid = bit_kept old new input.lines.valid keeps is.valid;
   eos = bit_kept old new input.lines.eos keeps is.eos;
-  source = source_kept old new input.source.columns.now input.source.kinds.now keeps is.source;
+  source = source_kept old new input.source.columns.now input.source.kinds.now input.source.words.now keeps is.source;
 }
 
 -- without a FILTER all pass

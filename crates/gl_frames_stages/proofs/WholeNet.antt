@@ -4,7 +4,7 @@ use Rattle.std.specs.Prelude.{◌&&◌, filter}
 use Rattle.std.proofs.lemmas.List.{length-map}
 use Rattle.gl_algebra.specs.Results.{counts_in}
 use Rattle.gl_algebra.specs.declared.node.Operand.{Operand}
-use Rattle.gl_algebra.specs.Values.{value_of_operand}
+use Rattle.gl_algebra.specs.Values.{Sets, value_of_operand}
 use Rattle.gl_values.specs.Results.{Row}
 use Rattle.gl_values.specs.Totals.{count_of}
 use Rattle.gl_net.specs.declared.node.Bus.{Bus}
@@ -30,8 +30,8 @@ use Rattle.gl_frames_stages.proofs.MeetLemmas.{tells_next}
 use Rattle.gl_frames_stages.proofs.TotalNet.{lane_rows, total_here}
 
 -- an item, said otherwise, and counted more loosely
-pub item_as : (old new : Net) (less most : Cost) (cycles m width w : ℕ) (of other : List Row → ℕ) (input : Input) (out : Bus)
-    → less.nodes ≤ most.nodes → less.registers ≤ most.registers → less.memories ≤ most.memories → cycles ≡ m → width ≡ w → ((rows : List Row) → of rows ≡ other rows)
+pub item_as : (old new : Net) (less most : Cost) (cycles m width w : ℕ) (of other : Sets → List Row → ℕ) (input : Input) (out : Bus)
+    → less.nodes ≤ most.nodes → less.registers ≤ most.registers → less.memories ≤ most.memories → cycles ≡ m → width ≡ w → ((sets : Sets) (rows : List Row) → of sets rows ≡ other sets rows)
     → IsItemIn old new less cycles width of input out → IsItemIn old new most m w other input out
 item_as old new less most cycles m width w of other input out nodes registers memories late wide same h = record {
   keeps = h.keeps;
@@ -44,14 +44,14 @@ item_as old new less most cycles m width w of other input out nodes registers me
   same_width = h.same_width ∙ wide;
   tells = λ run r c v.
       let e : suc c + m ≡ suc c + cycles = omega (arith, late) in
-      ap (carried_by run out) e ∙ h.tells run r c v ∙ same (column_of run input.lines (rows_by run input) (suc c));
+      ap (carried_by run out) e ∙ h.tells run r c v ∙ same run.held (column_of run input.lines (rows_by run input) (suc c));
 }
 
 -- a total of an operand's values of the rows that pass, in a register
 pub whole_item : (old one two three new : Net) (input : Input) (by : Option ℕ) (operand : Operand) (lines : Lines) (x y out : Bus) (most : Cost) (width d : ℕ) (total : List ℕ → ℕ)
     → IsPassingIn old one input by lines → IsOperand one two input.source.columns.now input.source.kinds.now operand x
     → IsTotalOf two three most width d (in_register lines.valid lines.eos) x total y → IsLaterBus three new y out
-    → IsItemIn old new (with_register most width) (d + 1) width (λ rows. total (passed by operand rows)) input out
+    → IsItemIn old new (with_register most width) (d + 1) width (λ sets rows. total (passed sets by operand rows)) input out
 whole_item old one two three new input by operand lines x y out most width d total passing value sum late = record {
   keeps = keeps_then old one new passing.keeps (keeps_then one two new value.keeps (keeps_then two three new sum.keeps late.keeps));
   cost = record {
@@ -65,10 +65,10 @@ whole_item old one two three new input by operand lines x y out most width d tot
       let at_sum = late.keeps.runs run r in
       let at_value = sum.keeps.runs run at_sum in
       let at_passing = value.keeps.runs run at_value in
-      tells_next run input.lines d (λ rows. total (passed by operand rows)) (rows_by run input) (carried_by run y) (carried_by run out) (late.value run r)
+      tells_next run input.lines d (λ rows. total (passed run.held by operand rows)) (rows_by run input) (carried_by run y) (carried_by run out) (late.value run r)
       (λ c v.
       total_here run lines x y d total (sum.carries run at_sum) c
-      ∙ ap total (passed_rows run input.lines lines (counts_in by) (λ row. value_of_operand row operand) (rows_by run input) (carried_by run x) passing.same_ends
+      ∙ ap total (passed_rows run input.lines lines (counts_in by) (λ row. value_of_operand run.held row operand) (rows_by run input) (carried_by run x) passing.same_ends
       (passing.passing run at_passing) (λ t. value.carries run at_value (suc t)) (suc c)));
 }
 
@@ -89,7 +89,7 @@ module _ (run : Run) (lines passing : Lines) (p : Row → Bool) (row : ℕ → R
 
 pub count_item : (old one two new : Net) (input : Input) (by : Option ℕ) (lines : Lines) (y out : Bus) → IsPassingIn old one input by lines
     → ((x : Bus) → IsTotalOf one two (cost_of_count Register) 32 0 (in_register lines.valid lines.eos) x count_of y) → IsLaterBus two new y out
-    → IsItemIn old new cost_of_all_count 1 32 (λ rows. count_of (filter (counts_in by) rows)) input out
+    → IsItemIn old new cost_of_all_count 1 32 (λ sets rows. count_of (filter (counts_in by) rows)) input out
 count_item old one two new input by lines y out passing every late =
     let x : Bus = record { node = lines.eos.node; width = 1 } in
     let sum = every x in

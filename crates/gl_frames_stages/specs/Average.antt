@@ -1,5 +1,6 @@
 -- The average of the last rows: how wide its sum is, what its fraction carries, and what it costs at most.
 use Rattle.std.specs.Prelude.{◌≡◌, ℕ, suc, ◌+◌, ◌*◌, ◌%◌, ◌^◌, List, Option, Some, map}
+use Rattle.gl_algebra.specs.Values.{Sets}
 use Rattle.gl_algebra.specs.Results.{counts_in}
 use Rattle.gl_algebra.specs.Columns.{kind_of_operand}
 use Rattle.gl_algebra.specs.Rings.{digits}
@@ -44,8 +45,8 @@ cost_of_frame_average width back = record {
 }
 
 -- the values of an operand of the rows of a frame that pass
-abbrev pub framed_values : Operand → Option ℕ → ℕ → List Row → List ℕ
-framed_values operand by back rows = map (value_in operand) (frame_of (Some back) (counts_in by) rows)
+abbrev pub framed_values : Sets → Operand → Option ℕ → ℕ → List Row → List ℕ
+framed_values sets operand by back rows = map (value_in sets operand) (frame_of (Some back) (counts_in by) rows)
 
 -- three cycles behind each row, the sum of the numbers of the rows of its frame that pass, and how many they are
 pub record IsFrameFraction (old new : Net) (input : Input) (by : Option ℕ) (operand : Operand) (back : ℕ) (f : Fraction)
@@ -58,11 +59,12 @@ pub record IsFrameFraction (old new : Net) (input : Input) (by : Option ℕ) (op
   pub bottom : IsBus new f.bottom
   pub bottom_width : f.bottom.width ≡ digits (back + 1)
   pub values : (run : Run) → IsRun new run → (t : ℕ)
-      → value_in operand (rows_by run input (suc t)) % 2 ^ width_of (kind_of_operand input.source.kinds.now operand)
-      ≡ value_in operand (rows_by run input (suc t))
+      → value_in run.held operand (rows_by run input (suc t))
+      % 2 ^ width_of (kind_of_operand input.source.kinds.now operand)
+      ≡ value_in run.held operand (rows_by run input (suc t))
   pub sums : (run : Run) → IsRun new run → Tells run input.lines 3
       (λ rows. word_of (width_of (kind_of_operand input.source.kinds.now operand) + digits (back + 1))
-      (sum_of_numbers (kind_of_operand input.source.kinds.now operand) (framed_values operand by back rows)))
+      (sum_of_numbers (kind_of_operand input.source.kinds.now operand) (framed_values run.held operand by back rows)))
       (rows_by run input) (carried_by run f.top)
   pub numbers : (run : Run) → IsRun new run → Tells run input.lines 3
       (λ rows. count_of (frame_of (Some back) (counts_in by) rows)) (rows_by run input) (carried_by run f.bottom)

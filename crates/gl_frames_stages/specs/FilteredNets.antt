@@ -28,11 +28,13 @@ pub record IsPackedIn (old new : Net) (input : Input) (column : ℕ) (operand : 
   pub bus : IsBus new out
   pub width : out.width ≡ width_of (kind_of_operand input.source.kinds.now operand) + 1
   pub values : (run : Run) → IsRun new run → (t : ℕ)
-      → value_in operand (rows_by run input (suc t))
-      ≡ value_in operand (rows_by run input (suc t)) % 2 ^ width_of (kind_of_operand input.source.kinds.now operand)
+      → value_in run.held operand (rows_by run input (suc t))
+      ≡ value_in run.held operand (rows_by run input (suc t))
+      % 2 ^ width_of (kind_of_operand input.source.kinds.now operand)
   pub packs : (run : Run) → IsRun new run → (t : ℕ) → run.at (suc t) out.node
       ≡ pack (width_of (kind_of_operand input.source.kinds.now operand))
-      (if_passes (width_of (kind_of_operand input.source.kinds.now operand)) (counts_in (Some column)) (value_in operand)
+      (if_passes (width_of (kind_of_operand input.source.kinds.now operand)) (counts_in (Some column))
+      (value_in run.held operand)
       (rows_by run input (suc t)))
 
 -- such words, all levels of doubling of them, and a cut

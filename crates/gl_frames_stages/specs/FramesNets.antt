@@ -24,5 +24,5 @@ pub record AreItemsIn (old new : Net) (cycles : ℕ) (input : Input) (items : Li
   pub cost : CostsAtMost old new (cost_of_items input.source.kinds.now cycles items)
   pub buses : AreBuses new outs
   pub same_widths : widths outs ≡ frames_widths input.source.kinds.now items
-  pub row : (run : Run) → IsRun new run → Tells run input.lines cycles (row_of_frames input.source.kinds.now items)
-      (rows_by run input) (λ t. row_at run t outs)
+  pub row : (run : Run) → IsRun new run → Tells run input.lines cycles
+      (row_of_frames run.held input.source.kinds.now items) (rows_by run input) (λ t. row_at run t outs)

@@ -1,15 +1,15 @@
 -- Frames of the last rows: what they take of a row, and what they cost at most.
 use Rattle.std.specs.Prelude.{ℕ, ◌+◌, ◌*◌, ◌^◌, Bool, true}
 use Rattle.gl_algebra.specs.declared.node.Operand.{Operand}
-use Rattle.gl_algebra.specs.Values.{value_of_operand}
+use Rattle.gl_algebra.specs.Values.{Sets, value_of_operand}
 use Rattle.gl_values.specs.Results.{Row}
 use Rattle.gl_frames_wire.specs.Reaches.{place_bits}
 use Rattle.gl_wire.specs.Costs.{Cost}
 use Rattle.gl_frames_stages.specs.DoublingNets.{cost_of_doublings}
 
--- the value of an operand of a row
-abbrev pub value_in : Operand → Row → ℕ
-value_in operand row = value_of_operand row operand
+-- the value of an operand of a row, where the parameters have these words
+abbrev pub value_in : Sets → Operand → Row → ℕ
+value_in sets operand row = value_of_operand sets row operand
 
 -- no FILTER
 abbrev pub every : Row → Bool

@@ -1,6 +1,7 @@
 -- Rows that come to frames, in a netlist, and what an item makes of them.
 use Rattle.std.specs.Prelude.{◌≡◌, ℕ, suc, Option, List, ◌&&◌, if◌then◌else◌}
 use Rattle.gl_algebra.specs.Results.{counts_in}
+use Rattle.gl_algebra.specs.Values.{Sets}
 use Rattle.gl_values.specs.Results.{Row}
 use Rattle.gl_net.specs.declared.node.Bus.{Bus}
 use Rattle.gl_net.specs.Net.{Net, Run, IsRun, IsBit, IsBus, Keeps}
@@ -15,7 +16,7 @@ use Rattle.gl_frames_stages.specs.declared.lines.Lines.{Lines}
 pub record HasInput (net : Net) (input : Input) : Type 0 where
   pub valid : IsBit net input.lines.valid
   pub eos : IsBit net input.lines.eos
-  pub source : IsSource net input.source.columns.now input.source.kinds.now
+  pub source : IsSource net input.source.columns.now input.source.kinds.now input.source.words.now
 
 -- the row of a cycle
 abbrev pub rows_by : Run → Input → ℕ → Row
@@ -40,12 +41,13 @@ pub record IsMaskedIn (old new : Net) (input : Input) (filter : Option ℕ) (val
   pub masks : (run : Run) → IsRun new run → (t : ℕ) → run.at (suc t) out.node
       ≡ (if counts_in filter (rows_by run input (suc t)) then run.at (suc t) value.node else 0)
 
--- a bus that tells, so many cycles behind each row, what an item makes of the rows of the stream up to it
-pub record IsItemIn (old new : Net) (most : Cost) (cycles width : ℕ) (of : List Row → ℕ) (input : Input) (out : Bus)
-    : Type 0 where
+-- a bus that tells, so many cycles behind each row, what an item makes of the rows of the stream up to it, for the words
+-- of the parameters that the run holds
+pub record IsItemIn (old new : Net) (most : Cost) (cycles width : ℕ) (of : Sets → List Row → ℕ) (input : Input)
+    (out : Bus) : Type 0 where
   pub keeps : Keeps old new
   pub cost : CostsAtMost old new most
   pub bus : IsBus new out
   pub same_width : out.width ≡ width
   pub tells : (run : Run) → IsRun new run
-      → Tells run input.lines cycles of (rows_by run input) (carried_by run out)
+      → Tells run input.lines cycles (of run.held) (rows_by run input) (carried_by run out)

@@ -2,7 +2,7 @@
 use Rattle.std.specs.Prelude.{ℕ, ◌+◌, ◌*◌, Option, List, filter, map}
 use Rattle.gl_algebra.specs.Results.{counts_in}
 use Rattle.gl_algebra.specs.declared.node.Operand.{Operand}
-use Rattle.gl_algebra.specs.Values.{value_of_operand}
+use Rattle.gl_algebra.specs.Values.{Sets, value_of_operand}
 use Rattle.gl_values.specs.Results.{Row}
 use Rattle.gl_totals.specs.Costs.{cost_of_average}
 use Rattle.gl_totals.specs.declared.rows.Keep.TheVariants.{Register}
@@ -13,8 +13,8 @@ abbrev pub rows_passed : Option ℕ → List Row → List Row
 rows_passed by rows = filter (counts_in by) rows
 
 -- the values of an operand of the rows that pass
-abbrev pub passed : Option ℕ → Operand → List Row → List ℕ
-passed by operand rows = map (λ row. value_of_operand row operand) (filter (counts_in by) rows)
+abbrev pub passed : Sets → Option ℕ → Operand → List Row → List ℕ
+passed sets by operand rows = map (λ row. value_of_operand sets row operand) (filter (counts_in by) rows)
 
 -- two gates before a total, an operand, and a register behind it
 abbrev pub with_register : Cost → ℕ → Cost

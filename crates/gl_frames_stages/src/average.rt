@@ -4,12 +4,14 @@ ghost use Rattle.std.specs.Prelude.{◌≡◌, ◌+◌, ◌<◌, ◌≤◌, ◌^
 ghost use Rattle.gl_algebra.specs.Rings.{digits};
 ghost use Rattle.gl_algebra.specs.Results.{counts_in};
 ghost use Rattle.gl_algebra.specs.Columns.{ConditionFits, OperandFits, kind_of_operand};
+ghost use Rattle.gl_algebra.specs.Known.{OperandKnown};
 ghost use Rattle.gl_values.specs.Kinds.{IsKind, width_of};
 ghost use Rattle.gl_values.specs.Totals.{average_of, count_of};
 ghost use Rattle.gl_frames.specs.Frames.{frame_of, total_over};
 ghost use Rattle.gl_frames_stages.specs.Average.{IsFrameFraction, cost_of_frame_average, cost_of_frame_number};
 ghost use Rattle.gl_frames_stages.specs.Framing.{value_in};
 ghost use Rattle.gl_frames_stages.specs.Inputs.{HasInput, IsItemIn};
+ghost use Rattle.gl_wire.specs.Wire.{widths};
 
 use crate::framed::put_passing_count;
 use crate::input::{Input, put_masked};
@@ -46,7 +48,7 @@ fn put_frame_number(
     requires filter { ConditionFits input.source.kinds.now filter }
     requires back { back < 2 ^ 16 }
     ensures { IfOk result (IsItemIn net.old net.new (cost_of_frame_number back) 3 32
-        (λ rows. count_of (frame_of (Some back) (counts_in filter) rows)) input.entry) }
+        (λ _ rows. count_of (frame_of (Some back) (counts_in filter) rows)) input.entry) }
 {
     match filter {
         Some(column) => put_passing_count(net, input, column, back),
@@ -72,6 +74,7 @@ fn put_frame_fraction(
     requires kinds { All IsKind input.source.kinds.now }
     requires filter { ConditionFits input.source.kinds.now filter }
     requires fits { OperandFits input.source.kinds.now operand }
+    requires known { OperandKnown (widths input.source.words.now) operand }
     requires back { back < 2 ^ 16 }
     ensures { IfOk result (IsFrameFraction net.old net.new input.entry filter operand back) }
 {
@@ -98,12 +101,13 @@ pub fn put_average_item(
     requires kinds { All IsKind input.source.kinds.now }
     requires filter { ConditionFits input.source.kinds.now filter }
     requires fits { OperandFits input.source.kinds.now operand }
+    requires known { OperandKnown (widths input.source.words.now) operand }
     requires back { back < 2 ^ 16 }
     ensures { IfOk result (
         let kind = kind_of_operand input.entry.source.kinds.now operand in
         IsItemIn net.old net.new (cost_of_frame_average (width_of kind) back)
         (width_of kind + digits (back + 1) + 4) (width_of kind)
-        (total_over (average_of kind) (value_in operand) (Some back) (counts_in filter)) input.entry) }
+        (λ sets. total_over (average_of kind) (value_in sets operand) (Some back) (counts_in filter)) input.entry) }
 {
     let kind = kind_of_operand(input.source.kinds, &operand);
     let fraction = put_frame_fraction(net, input, filter, operand, back)?;

@@ -5,12 +5,14 @@ ghost use Rattle.std.specs.Prelude.{◌<◌, ◌^◌, All, IfOk, Some};
 ghost use Rattle.gl_algebra.specs.Frames.{delay_of_extreme};
 ghost use Rattle.gl_algebra.specs.Results.{counts_in};
 ghost use Rattle.gl_algebra.specs.Columns.{ConditionFits, OperandFits, kind_of_operand};
+ghost use Rattle.gl_algebra.specs.Known.{OperandKnown};
 ghost use Rattle.gl_values.specs.Kinds.{IsKind, width_of};
 ghost use Rattle.gl_frames.specs.Frames.{total_over};
 ghost use Rattle.gl_totals.specs.Totals.{extreme_of};
 ghost use Rattle.gl_frames_stages.specs.FilteredNets.{IsPackedIn, cost_of_filtered_extreme};
 ghost use Rattle.gl_frames_stages.specs.Framing.{value_in};
 ghost use Rattle.gl_frames_stages.specs.Inputs.{HasInput, IsItemIn};
+ghost use Rattle.gl_wire.specs.Wire.{widths};
 
 use crate::doubling::put_frame_best;
 use crate::input::{Input, put_masked};
@@ -34,6 +36,7 @@ pub fn put_packed(
     requires kinds { All IsKind input.source.kinds.now }
     requires filter { ConditionFits input.source.kinds.now (Some column) }
     requires fits { OperandFits input.source.kinds.now operand }
+    requires known { OperandKnown (widths input.source.words.now) operand }
     ensures { IfOk result (IsPackedIn net.old net.new input.entry column operand) }
 {
     let value = put_operand(net, input.source, operand)?;
@@ -56,12 +59,13 @@ pub fn put_filtered_item(
     requires kinds { All IsKind input.source.kinds.now }
     requires filter { ConditionFits input.source.kinds.now (Some column) }
     requires fits { OperandFits input.source.kinds.now operand }
+    requires known { OperandKnown (widths input.source.words.now) operand }
     requires back { back < 2 ^ 16 }
     ensures { IfOk result (
         let kind = kind_of_operand input.entry.source.kinds.now operand in
         IsItemIn net.old net.new (cost_of_filtered_extreme (width_of kind) back) (delay_of_extreme (Some back))
         (width_of kind)
-        (total_over (extreme_of extreme kind) (value_in operand) (Some back) (counts_in (Some column)))
+        (λ sets. total_over (extreme_of extreme kind) (value_in sets operand) (Some back) (counts_in (Some column)))
         input.entry) }
 {
     let kind = kind_of_operand(input.source.kinds, &operand);

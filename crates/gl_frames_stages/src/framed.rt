@@ -4,12 +4,14 @@ ghost use Rattle.std.specs.Prelude.{◌<◌, ◌≤◌, ◌^◌, All, IfOk, Some
 ghost use Rattle.gl_algebra.specs.Frames.{delay_of_extreme};
 ghost use Rattle.gl_algebra.specs.Results.{counts_in};
 ghost use Rattle.gl_algebra.specs.Columns.{ConditionFits, OperandFits, kind_of_operand};
+ghost use Rattle.gl_algebra.specs.Known.{OperandKnown};
 ghost use Rattle.gl_values.specs.Kinds.{IsKind, width_of};
 ghost use Rattle.gl_values.specs.Totals.{count_of, sum_total};
 ghost use Rattle.gl_frames.specs.Frames.{frame_of, lag_of, total_over};
 ghost use Rattle.gl_totals.specs.Totals.{extreme_of};
 ghost use Rattle.gl_frames_stages.specs.Framing.{cost_of_frame_extreme, cost_of_frame_sum, cost_of_lag, cost_of_passing_count, every, value_in};
 ghost use Rattle.gl_frames_stages.specs.Inputs.{HasInput, IsItemIn};
+ghost use Rattle.gl_wire.specs.Wire.{widths};
 
 use crate::doubling::put_frame_best;
 use crate::input::{Input, put_masked};
@@ -35,12 +37,13 @@ pub fn put_lag_item(
 ) -> Result<Bus, Memory>
     requires input { HasInput net.old input }
     requires fits { OperandFits input.source.kinds.now operand }
+    requires known { OperandKnown (widths input.source.words.now) operand }
     requires some { 1 ≤ back }
     requires most { back ≤ 2 ^ 16 }
     ensures { IfOk result (
         let width = width_of (kind_of_operand input.entry.source.kinds.now operand) in
         IsItemIn net.old net.new (cost_of_lag width back) 1 width
-        (lag_of (value_in operand) back) input.entry) }
+        (λ sets. lag_of (value_in sets operand) back) input.entry) }
 {
     let value = put_operand(net, input.source, operand)?;
     let found = put_lagged(net, input.lines, Reach::new(back), value)?;
@@ -61,11 +64,12 @@ pub fn put_sum_item(
     requires input { HasInput net.old input }
     requires filter { ConditionFits input.source.kinds.now filter }
     requires fits { OperandFits input.source.kinds.now operand }
+    requires known { OperandKnown (widths input.source.words.now) operand }
     requires back { back < 2 ^ 16 }
     ensures { IfOk result (
         let width = width_of (kind_of_operand input.entry.source.kinds.now operand) in
         IsItemIn net.old net.new (cost_of_frame_sum width back) 3 width
-        (total_over (sum_total width) (value_in operand) (Some back) (counts_in filter)) input.entry) }
+        (λ sets. total_over (sum_total width) (value_in sets operand) (Some back) (counts_in filter)) input.entry) }
 {
     let value = put_operand(net, input.source, operand)?;
     let masked = put_masked(net, input, filter, value)?;
@@ -85,7 +89,7 @@ pub fn put_passing_count(
     requires filter { ConditionFits input.source.kinds.now (Some column) }
     requires back { back < 2 ^ 16 }
     ensures { IfOk result (IsItemIn net.old net.new (cost_of_passing_count back) 3 32
-        (λ rows. count_of (frame_of (Some back) (counts_in (Some column)) rows)) input.entry) }
+        (λ _ rows. count_of (frame_of (Some back) (counts_in (Some column)) rows)) input.entry) }
 {
     let bit = put_operand(net, input.source, Operand::Column(column))?;
     // Named, since a goal speaks of the value.
@@ -111,11 +115,12 @@ pub fn put_extreme_item(
     requires input { HasInput net.old input }
     requires kinds { All IsKind input.source.kinds.now }
     requires fits { OperandFits input.source.kinds.now operand }
+    requires known { OperandKnown (widths input.source.words.now) operand }
     requires back { back < 2 ^ 16 }
     ensures { IfOk result (
         let kind = kind_of_operand input.entry.source.kinds.now operand in
         IsItemIn net.old net.new (cost_of_frame_extreme (width_of kind) back) (delay_of_extreme (Some back)) (width_of kind)
-        (total_over (extreme_of extreme kind) (value_in operand) (Some back) every) input.entry) }
+        (λ sets. total_over (extreme_of extreme kind) (value_in sets operand) (Some back) every) input.entry) }
 {
     let kind = kind_of_operand(input.source.kinds, &operand);
     let value = put_operand(net, input.source, operand)?;

@@ -2,6 +2,7 @@
 
 ghost use Rattle.std.specs.Prelude.{◌≡◌, ◌≤◌, ◌^◌, All, IfOk, Some, map};
 ghost use Rattle.gl_algebra.specs.Columns.{FrameFits, kind_of_frame};
+ghost use Rattle.gl_algebra.specs.Known.{FrameKnown};
 ghost use Rattle.gl_algebra.specs.FigureTable.{delayed, settled};
 ghost use Rattle.gl_algebra.specs.Frames.{delay_of_frame, delay_of_frames};
 ghost use Rattle.gl_algebra.specs.Results.{row_of_frames, value_of_frame};
@@ -9,6 +10,7 @@ ghost use Rattle.gl_values.specs.Kinds.{IsKind, width_of};
 ghost use Rattle.gl_frames_wire.specs.Running.{Each, Runs};
 ghost use Rattle.gl_wire.specs.Blocks.{IsBehind};
 ghost use Rattle.gl_wire.specs.Wire.{IsWire, widths};
+ghost use Rattle.gl_rows.specs.Made.{AreHeldBuses};
 ghost use Rattle.gl_frames_stages.specs.FramesNets.{AreItemsIn, frames_widths};
 ghost use Rattle.gl_frames_stages.specs.Inputs.{HasInput, IsItemIn};
 ghost use Rattle.gl_frames_stages.specs.ItemCosts.{cost_of_frames, cost_of_item_late};
@@ -32,6 +34,8 @@ use std::alloc::Global;
 pub struct FrameRows<'a> {
     /// The kinds of the columns that come in.
     pub kinds: &'a [Kind],
+    /// The buses of the parameters, in the order of their numbers.
+    pub words: &'a [Bus],
     /// The items, one for each column of the row.
     pub items: &'a [PlanFrame],
     /// The cycles that the slowest item takes: `delay_of_frames` of both.
@@ -48,12 +52,13 @@ fn put_item_late(
     requires input { HasInput net.old input }
     requires kinds { All IsKind input.source.kinds.now }
     requires item { FrameFits input.source.kinds.now item }
+    requires known { FrameKnown (widths input.source.words.now) item }
     requires late { delay_of_frame input.source.kinds.now item ≤ cycles }
     requires most { cycles ≤ 2 ^ 16 }
     ensures { IfOk result (
         let kinds = input.entry.source.kinds.now in
         IsItemIn net.old net.new (cost_of_item_late kinds cycles item) cycles
-        (width_of (kind_of_frame kinds item)) (λ rows. value_of_frame kinds rows item) input.entry) }
+        (width_of (kind_of_frame kinds item)) (λ sets rows. value_of_frame sets kinds rows item) input.entry) }
 {
     let gone = delay_of_frame(input.source.kinds, &item);
     let early = put_item(net, input, item)?;
@@ -73,12 +78,13 @@ fn put_part(
     requires input { HasInput net.old input }
     requires kinds { All IsKind input.source.kinds.now }
     requires item { FrameFits input.source.kinds.now item }
+    requires known { FrameKnown (widths input.source.words.now) item }
     requires late { delay_of_frame input.source.kinds.now item ≤ cycles }
     requires most { cycles ≤ 2 ^ 16 }
     ensures { IfOk result (
         let kinds = input.entry.source.kinds.now in
         IsItemIn net.old net.new (cost_of_item_late kinds cycles item) cycles
-        (width_of (kind_of_frame kinds item)) (λ rows. value_of_frame kinds rows item) input.entry) }
+        (width_of (kind_of_frame kinds item)) (λ sets rows. value_of_frame sets kinds rows item) input.entry) }
 {
     net.note(Note::Part(place))?;
     let bus = put_item_late(net, input, item, cycles)?;
@@ -97,6 +103,7 @@ pub fn put_items(
     requires input { HasInput net.old input }
     requires kinds { All IsKind input.source.kinds.now }
     requires fit { All (FrameFits input.source.kinds.now) items.now }
+    requires known { All (FrameKnown (widths input.source.words.now)) items.now }
     requires late { delay_of_frames input.source.kinds.now items.now ≤ cycles }
     requires most { cycles ≤ 2 ^ 16 }
     ensures { IfOk result (AreItemsIn net.old net.new cycles input.entry items.now) }
@@ -115,14 +122,18 @@ pub fn put_frames(
     net: &mut NetBuilder,
     below: Emitted,
     kinds: &[Kind],
+    words: &[Bus],
     items: &[PlanFrame],
 ) -> Result<Emitted, Memory>
     requires wire { IsWire net.old below.wire }
     requires kinds { widths below.wire.columns ≡ map width_of kinds.now }
     requires are_kinds { All IsKind kinds.now }
     requires items { All (FrameFits kinds.now) items.now }
+    requires words { AreHeldBuses net.old words.now }
+    requires known { All (FrameKnown (widths words.now)) items.now }
     ensures { IfOk result (IsBehind net.old net.new
-        (Runs (delay_of_frames kinds.now items.now) (λ rows. Some (row_of_frames kinds.now items.now rows)))
+        (λ sets. Runs (delay_of_frames kinds.now items.now)
+        (λ rows. Some (row_of_frames sets kinds.now items.now rows)))
         (frames_widths kinds.now items.now)
         (cost_of_frames kinds.now (delay_of_frames kinds.now items.now) items.now) below) }
 {
@@ -137,6 +148,7 @@ pub fn put_frames(
         source: Source {
             columns: below.wire.columns.as_slice(),
             kinds,
+            words,
         },
     };
     let columns = put_items(alloc, net, input, items, cycles)?;
@@ -152,16 +164,17 @@ pub fn put_frames(
 }
 
 impl Operator for FrameRows<'_> {
-    ghost takes = { λ s columns. (columns ≡ map width_of s.kinds.now) × All IsKind s.kinds.now
-        × All (FrameFits s.kinds.now) s.items.now × (s.cycles ≡ delay_of_frames s.kinds.now s.items.now) };
+    ghost takes = { λ s net columns. (columns ≡ map width_of s.kinds.now) × All IsKind s.kinds.now
+        × All (FrameFits s.kinds.now) s.items.now × (s.cycles ≡ delay_of_frames s.kinds.now s.items.now)
+        × AreHeldBuses net s.words.now × All (FrameKnown (widths s.words.now)) s.items.now };
 
     ghost gives = { λ s _. frames_widths s.kinds.now s.items.now };
 
     ghost most = { λ s _. cost_of_frames s.kinds.now (delay_of_frames s.kinds.now s.items.now) s.items.now };
 
-    ghost shape = { λ s. Runs (delay_of_frames s.kinds.now s.items.now) (λ rows. Some (row_of_frames s.kinds.now s.items.now rows)) };
+    ghost shape = { λ s sets. Runs (delay_of_frames s.kinds.now s.items.now) (λ rows. Some (row_of_frames sets s.kinds.now s.items.now rows)) };
 
-    ghost means = { λ s. Each (λ rows. Some (row_of_frames s.kinds.now s.items.now rows)) };
+    ghost means = { λ s sets. Each (λ rows. Some (row_of_frames sets s.kinds.now s.items.now rows)) };
 
     ghost figures_of = { λ s f. settled (delayed s.cycles f) };
 
@@ -172,7 +185,7 @@ impl Operator for FrameRows<'_> {
     fn emit(&self, alloc: Global, net: &mut NetBuilder, below: Emitted) -> Result<Emitted, Memory> {
         running_serves();
         // Named, since a goal speaks of the value.
-        let put = put_frames(alloc, net, below, self.kinds, self.items)?;
+        let put = put_frames(alloc, net, below, self.kinds, self.words, self.items)?;
         Ok(put)
     }
 }

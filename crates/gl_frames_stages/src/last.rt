@@ -3,12 +3,14 @@
 ghost use Rattle.std.specs.Prelude.{IfOk, None, Option, Some, ℕ};
 ghost use Rattle.gl_algebra.specs.Results.{counts_in};
 ghost use Rattle.gl_algebra.specs.Columns.{ConditionFits, OperandFits, kind_of_operand};
+ghost use Rattle.gl_algebra.specs.Known.{OperandKnown};
 ghost use Rattle.gl_net.specs.Net.{IsBit, IsBus};
 ghost use Rattle.gl_values.specs.Kinds.{width_of};
 ghost use Rattle.gl_frames.specs.Frames.{last_value_of};
 ghost use Rattle.gl_frames_stages.specs.Framing.{cost_of_last, cost_of_own, every, value_in};
 ghost use Rattle.gl_frames_stages.specs.Inputs.{HasInput, IsItemIn};
 ghost use Rattle.gl_frames_stages.specs.LastNets.{IsLastIn};
+ghost use Rattle.gl_wire.specs.Wire.{widths};
 
 use crate::input::Input;
 use crate::lines::Lines;
@@ -23,10 +25,11 @@ use gl_wire::{both, later, note_bus};
 pub fn put_own_item(net: &mut NetBuilder, input: Input, operand: Operand) -> Result<Bus, Memory>
     requires input { HasInput net.old input }
     requires fits { OperandFits input.source.kinds.now operand }
+    requires known { OperandKnown (widths input.source.words.now) operand }
     ensures { (back : Option ℕ) → IfOk result (
         let width = width_of (kind_of_operand input.entry.source.kinds.now operand) in
         IsItemIn net.old net.new (cost_of_own width) 1 width
-        (last_value_of (value_in operand) back every) input.entry) }
+        (λ sets. last_value_of (value_in sets operand) back every) input.entry) }
 {
     let value = put_operand(net, input.source, operand)?;
     // Named, since a goal speaks of the value.
@@ -67,10 +70,11 @@ pub fn put_last_item(
     requires input { HasInput net.old input }
     requires filter { ConditionFits input.source.kinds.now (Some column) }
     requires fits { OperandFits input.source.kinds.now operand }
+    requires known { OperandKnown (widths input.source.words.now) operand }
     ensures { IfOk result (
         let width = width_of (kind_of_operand input.entry.source.kinds.now operand) in
         IsItemIn net.old net.new (cost_of_last width) 1 width
-        (last_value_of (value_in operand) None (counts_in (Some column))) input.entry) }
+        (λ sets. last_value_of (value_in sets operand) None (counts_in (Some column))) input.entry) }
 {
     let passes = put_operand(net, input.source, Operand::Column(column))?;
     let value = put_operand(net, input.source, operand)?;

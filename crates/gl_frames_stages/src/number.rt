@@ -64,7 +64,7 @@ pub fn put_number_item(net: &mut NetBuilder, input: Input, back: u32) -> Result<
     requires input { HasInput net.old input }
     requires back { back < 2 ^ 16 }
     ensures { IfOk result (IsItemIn net.old net.new (cost_of_number back) 1 32
-        (λ rows. count_of (frame_of (Some back) every rows)) input.entry) }
+        (λ _ rows. count_of (frame_of (Some back) every rows)) input.entry) }
 {
     let out = put_number(net, input.lines, back)?;
     Ok(out)

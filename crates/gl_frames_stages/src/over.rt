@@ -6,12 +6,14 @@ ghost use Rattle.gl_algebra.specs.Results.{counts_in, value_of_frame, value_over
 ghost use Rattle.gl_algebra.specs.declared.node.PlanFrame.TheVariants.{Over, Own};
 ghost use Rattle.gl_algebra.specs.declared.node.PlanFrameAgg.TheVariants.{Count};
 ghost use Rattle.gl_algebra.specs.Columns.{BackFits, ConditionFits, FrameAggFits, FrameFits, OperandFits, kind_of_frame, kind_of_frame_agg, kind_of_operand};
+ghost use Rattle.gl_algebra.specs.Known.{FrameAggKnown, FrameKnown, OperandKnown};
 ghost use Rattle.gl_values.specs.Kinds.{IsKind, width_of};
 ghost use Rattle.gl_frames.specs.Frames.{last_value_of, total_over};
 ghost use Rattle.gl_totals.specs.Totals.{extreme_of};
 ghost use Rattle.gl_frames_stages.specs.Framing.{cost_of_last, cost_of_recent, value_in};
 ghost use Rattle.gl_frames_stages.specs.Inputs.{HasInput, IsItemIn};
 ghost use Rattle.gl_frames_stages.specs.ItemCosts.{cost_of_all, cost_of_extreme_by, cost_of_item, cost_of_last_rows};
+ghost use Rattle.gl_wire.specs.Wire.{widths};
 
 use crate::average::put_average_item;
 use crate::filtered::put_filtered_item;
@@ -38,10 +40,11 @@ fn put_all_last(
     requires input { HasInput net.old input }
     requires filter { ConditionFits input.source.kinds.now filter }
     requires fits { OperandFits input.source.kinds.now operand }
+    requires known { OperandKnown (widths input.source.words.now) operand }
     ensures { IfOk result (
         let width = width_of (kind_of_operand input.entry.source.kinds.now operand) in
         IsItemIn net.old net.new (cost_of_last width) 1 width
-        (last_value_of (value_in operand) None (counts_in filter)) input.entry) }
+        (λ sets. last_value_of (value_in sets operand) None (counts_in filter)) input.entry) }
 {
     match filter {
         Some(column) => put_last_item(net, input, column, operand),
@@ -60,11 +63,12 @@ fn put_last_of(
     requires input { HasInput net.old input }
     requires filter { ConditionFits input.source.kinds.now filter }
     requires fits { OperandFits input.source.kinds.now operand }
+    requires known { OperandKnown (widths input.source.words.now) operand }
     requires back { back < 2 ^ 16 }
     ensures { IfOk result (
         let width = width_of (kind_of_operand input.entry.source.kinds.now operand) in
         IsItemIn net.old net.new (cost_of_recent width back) 1 width
-        (last_value_of (value_in operand) (Some back) (counts_in filter)) input.entry) }
+        (λ sets. last_value_of (value_in sets operand) (Some back) (counts_in filter)) input.entry) }
 {
     match filter {
         Some(column) => put_recent_item(net, input, column, operand, back),
@@ -86,7 +90,7 @@ fn put_count_of(
         let kinds = input.entry.source.kinds.now in
         IsItemIn net.old net.new (cost_of_last_rows kinds Count filter back)
         (delay_of_count filter (Some back)) 32
-        (λ rows. value_over kinds filter (Some back) rows Count) input.entry) }
+        (λ sets rows. value_over sets kinds filter (Some back) rows Count) input.entry) }
 {
     match filter {
         Some(column) => put_passing_count(net, input, column, back),
@@ -107,12 +111,13 @@ fn put_extreme_of(
     requires kinds { All IsKind input.source.kinds.now }
     requires filter { ConditionFits input.source.kinds.now filter }
     requires fits { OperandFits input.source.kinds.now operand }
+    requires known { OperandKnown (widths input.source.words.now) operand }
     requires back { back < 2 ^ 16 }
     ensures { IfOk result (
         let kind = kind_of_operand input.entry.source.kinds.now operand in
         IsItemIn net.old net.new (cost_of_extreme_by filter (width_of kind) back) (delay_of_extreme (Some back))
         (width_of kind)
-        (total_over (extreme_of extreme kind) (value_in operand) (Some back) (counts_in filter)) input.entry) }
+        (λ sets. total_over (extreme_of extreme kind) (value_in sets operand) (Some back) (counts_in filter)) input.entry) }
 {
     match filter {
         Some(column) => put_filtered_item(net, input, extreme, column, operand, back),
@@ -131,10 +136,11 @@ fn put_over_all(
     requires kinds { All IsKind input.source.kinds.now }
     requires filter { ConditionFits input.source.kinds.now filter }
     requires agg { FrameAggFits input.source.kinds.now agg }
+    requires known { FrameAggKnown (widths input.source.words.now) agg }
     ensures { IfOk result (
         let kinds = input.entry.source.kinds.now in
         IsItemIn net.old net.new (cost_of_all kinds agg) (delay_over kinds agg filter None)
-        (width_of (kind_of_frame_agg kinds agg)) (λ rows. value_over kinds filter None rows agg) input.entry) }
+        (width_of (kind_of_frame_agg kinds agg)) (λ sets rows. value_over sets kinds filter None rows agg) input.entry) }
 {
     match agg {
         PlanFrameAgg::Count => put_all_count(net, input, filter),
@@ -164,11 +170,12 @@ fn put_over_last(
     requires kinds { All IsKind input.source.kinds.now }
     requires filter { ConditionFits input.source.kinds.now filter }
     requires agg { FrameAggFits input.source.kinds.now agg }
+    requires known { FrameAggKnown (widths input.source.words.now) agg }
     requires back { back < 2 ^ 16 }
     ensures { IfOk result (let kinds = input.entry.source.kinds.now in
         IsItemIn net.old net.new (cost_of_last_rows kinds agg filter back)
         (delay_over kinds agg filter (Some back)) (width_of (kind_of_frame_agg kinds agg))
-        (λ rows. value_over kinds filter (Some back) rows agg) input.entry) }
+        (λ sets rows. value_over sets kinds filter (Some back) rows agg) input.entry) }
 {
     match agg {
         PlanFrameAgg::Count => put_count_of(net, input, filter, back),
@@ -206,12 +213,13 @@ fn put_over(
     requires kinds { All IsKind input.source.kinds.now }
     requires filter { ConditionFits input.source.kinds.now filter }
     requires agg { FrameAggFits input.source.kinds.now agg }
+    requires known { FrameAggKnown (widths input.source.words.now) agg }
     requires back { BackFits back }
     ensures { IfOk result (
         let kinds = input.entry.source.kinds.now in
         IsItemIn net.old net.new (cost_of_item kinds (Over agg filter back))
         (delay_over kinds agg filter back) (width_of (kind_of_frame_agg kinds agg))
-        (λ rows. value_over kinds filter back rows agg) input.entry) }
+        (λ sets rows. value_over sets kinds filter back rows agg) input.entry) }
 {
     match back {
         Some(back) => put_over_last(net, input, agg, filter, back),
@@ -223,11 +231,12 @@ fn put_over(
 fn put_own(net: &mut NetBuilder, input: Input, operand: Operand) -> Result<Bus, Memory>
     requires input { HasInput net.old input }
     requires fits { OperandFits input.source.kinds.now operand }
+    requires known { OperandKnown (widths input.source.words.now) operand }
     ensures { IfOk result (
         let kinds = input.entry.source.kinds.now in
         IsItemIn net.old net.new (cost_of_item kinds (Own operand)) 1
         (width_of (kind_of_operand kinds operand))
-        (λ rows. value_of_frame kinds rows (Own operand)) input.entry) }
+        (λ sets rows. value_of_frame sets kinds rows (Own operand)) input.entry) }
 {
     let value = put_operand(net, input.source, operand)?;
     // Named, since a goal speaks of the value.
@@ -240,10 +249,11 @@ pub fn put_item(net: &mut NetBuilder, input: Input, item: PlanFrame) -> Result<B
     requires input { HasInput net.old input }
     requires kinds { All IsKind input.source.kinds.now }
     requires item { FrameFits input.source.kinds.now item }
+    requires known { FrameKnown (widths input.source.words.now) item }
     ensures { IfOk result (
         let kinds = input.entry.source.kinds.now in
         IsItemIn net.old net.new (cost_of_item kinds item) (delay_of_frame kinds item)
-        (width_of (kind_of_frame kinds item)) (λ rows. value_of_frame kinds rows item) input.entry) }
+        (width_of (kind_of_frame kinds item)) (λ sets rows. value_of_frame sets kinds rows item) input.entry) }
 {
     match item {
         PlanFrame::Own(operand) => put_own(net, input, operand),

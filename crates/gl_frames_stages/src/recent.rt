@@ -3,12 +3,14 @@
 ghost use Rattle.std.specs.Prelude.{◌≡◌, ◌<◌, ◌^◌, IfOk, Some};
 ghost use Rattle.gl_algebra.specs.Results.{counts_in};
 ghost use Rattle.gl_algebra.specs.Columns.{ConditionFits, OperandFits, kind_of_operand};
+ghost use Rattle.gl_algebra.specs.Known.{OperandKnown};
 ghost use Rattle.gl_net.specs.Net.{IsBit, IsBus};
 ghost use Rattle.gl_values.specs.Kinds.{width_of};
 ghost use Rattle.gl_frames.specs.Frames.{last_value_of};
 ghost use Rattle.gl_frames_stages.specs.Framing.{cost_of_recent, value_in};
 ghost use Rattle.gl_frames_stages.specs.Inputs.{HasInput, IsItemIn};
 ghost use Rattle.gl_frames_stages.specs.RecentNets.{IsAgeIn, IsRecentIn, IsYoungIn};
+ghost use Rattle.gl_wire.specs.Wire.{widths};
 
 use crate::input::Input;
 use crate::lagged::number_word;
@@ -94,11 +96,12 @@ pub fn put_recent_item(
     requires input { HasInput net.old input }
     requires filter { ConditionFits input.source.kinds.now (Some column) }
     requires fits { OperandFits input.source.kinds.now operand }
+    requires known { OperandKnown (widths input.source.words.now) operand }
     requires back { back < 2 ^ 16 }
     ensures { IfOk result (
         let width = width_of (kind_of_operand input.entry.source.kinds.now operand) in
         IsItemIn net.old net.new (cost_of_recent width back) 1 width
-        (last_value_of (value_in operand) (Some back) (counts_in (Some column))) input.entry) }
+        (λ sets. last_value_of (value_in sets operand) (Some back) (counts_in (Some column))) input.entry) }
 {
     let passes = put_operand(net, input.source, Operand::Column(column))?;
     let value = put_operand(net, input.source, operand)?;

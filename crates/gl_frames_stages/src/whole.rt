@@ -3,11 +3,13 @@
 
 ghost use Rattle.std.specs.Prelude.{◌+◌, All, IfOk};
 ghost use Rattle.gl_algebra.specs.Columns.{ConditionFits, OperandFits, kind_of_operand};
+ghost use Rattle.gl_algebra.specs.Known.{OperandKnown};
 ghost use Rattle.gl_values.specs.Kinds.{IsKind, width_of};
 ghost use Rattle.gl_values.specs.Totals.{average_of, count_of, sum_total};
 ghost use Rattle.gl_totals.specs.Totals.{extreme_of};
 ghost use Rattle.gl_frames_stages.specs.Inputs.{HasInput, IsItemIn};
 ghost use Rattle.gl_frames_stages.specs.Wholes.{cost_of_all_average, cost_of_all_count, cost_of_all_extreme, cost_of_all_sum, passed, rows_passed};
+ghost use Rattle.gl_wire.specs.Wire.{widths};
 
 use crate::input::{Input, put_passing};
 use gl_algebra::Operand;
@@ -27,7 +29,7 @@ pub fn put_all_count(net: &mut NetBuilder, input: Input, filter: Option<u16>) ->
     requires input { HasInput net.old input }
     requires filter { ConditionFits input.source.kinds.now filter }
     ensures { IfOk result (IsItemIn net.old net.new cost_of_all_count 1 32
-        (λ rows. count_of (rows_passed filter rows)) input.entry) }
+        (λ _ rows. count_of (rows_passed filter rows)) input.entry) }
 {
     let lines = put_passing(net, input, filter)?;
     let rows = Rows {
@@ -51,10 +53,11 @@ pub fn put_all_sum(
     requires input { HasInput net.old input }
     requires filter { ConditionFits input.source.kinds.now filter }
     requires fits { OperandFits input.source.kinds.now operand }
+    requires known { OperandKnown (widths input.source.words.now) operand }
     ensures { IfOk result (
         let width = width_of (kind_of_operand input.entry.source.kinds.now operand) in
         IsItemIn net.old net.new (cost_of_all_sum width) 1 width
-        (λ rows. sum_total width (passed filter operand rows)) input.entry) }
+        (λ sets rows. sum_total width (passed sets filter operand rows)) input.entry) }
 {
     let lines = put_passing(net, input, filter)?;
     let value = put_operand(net, input.source, operand)?;
@@ -80,10 +83,11 @@ pub fn put_all_extreme(
     requires input { HasInput net.old input }
     requires filter { ConditionFits input.source.kinds.now filter }
     requires fits { OperandFits input.source.kinds.now operand }
+    requires known { OperandKnown (widths input.source.words.now) operand }
     ensures { IfOk result (
         let kind = kind_of_operand input.entry.source.kinds.now operand in
         IsItemIn net.old net.new (cost_of_all_extreme (width_of kind)) 1 (width_of kind)
-        (λ rows. extreme_of extreme kind (passed filter operand rows)) input.entry) }
+        (λ sets rows. extreme_of extreme kind (passed sets filter operand rows)) input.entry) }
 {
     let kind = kind_of_operand(input.source.kinds, &operand);
     let lines = put_passing(net, input, filter)?;
@@ -110,10 +114,11 @@ pub fn put_all_average(
     requires kinds { All IsKind input.source.kinds.now }
     requires filter { ConditionFits input.source.kinds.now filter }
     requires fits { OperandFits input.source.kinds.now operand }
+    requires known { OperandKnown (widths input.source.words.now) operand }
     ensures { IfOk result (
         let kind = kind_of_operand input.entry.source.kinds.now operand in
         IsItemIn net.old net.new (cost_of_all_average (width_of kind)) (width_of kind + 34) (width_of kind)
-        (λ rows. average_of kind (passed filter operand rows)) input.entry) }
+        (λ sets rows. average_of kind (passed sets filter operand rows)) input.entry) }
 {
     let kind = kind_of_operand(input.source.kinds, &operand);
     let lines = put_passing(net, input, filter)?;

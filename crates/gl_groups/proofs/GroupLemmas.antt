@@ -277,8 +277,8 @@ module _ (timed_by : FitsIsTimed) (f s : Figures) (sound_f : IsSound f) (sound_s
 
 -- for a body of a plan
 pub groupings_serve : FitsIsTimed → GroupingsServe
-groupings_serve timed_by r f a b keys ins outs close further lines is sound_f front are tells closes back nodes body beats spaced fits near served =
-    groups_served timed_by f r.body sound_f is.sound is.closing r.slots (key_of r) is.some' a ins outs front 0 (omega arith) keys are further tells (OfBody nodes body) lines b close back closes
+groupings_serve timed_by r f a b keys ins outs close further lines is sound_f front are tells closes back sets nodes body beats spaced fits near served =
+    groups_served timed_by f r.body sound_f is.sound is.closing r.slots (key_of r) is.some' a ins outs front 0 (omega arith) keys are further tells (OfBody sets nodes body) lines b close back closes
     beats spaced fits near served
 
 pub groups_group : GroupsGroup

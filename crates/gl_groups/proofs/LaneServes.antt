@@ -66,8 +66,8 @@ direct_sound d m = record {
 }
 
 pub lanes_serve : FitsIsTimed → OwnBeatsFit → SteadyServes → EndsServe → LanesServe
-lanes_serve timed_by own_fits steady_serves ends_serve f count d m key step total a lane mid out b slot slot_mid slot_out keys further close nodes body sound some laned makes beats spaced fits =
-    groups_served timed_by f (direct_figures d m) sound (direct_sound d m) refl count key some a (λ k. share slot k lane) (λ k. share slot_out k out) h.front 1 in_body keys h.shown further (λ awaits. h.tells) (OfBody nodes body) (λ k. no_lines) b close
+lanes_serve timed_by own_fits steady_serves ends_serve f count d m key step total a lane mid out b slot slot_mid slot_out keys further close sets nodes body sound some laned makes beats spaced fits =
+    groups_served timed_by f (direct_figures d m) sound (direct_sound d m) refl count key some a (λ k. share slot k lane) (λ k. share slot_out k out) h.front 1 in_body keys h.shown further (λ awaits. h.tells) (OfBody sets nodes body) (λ k. no_lines) b close
     back h.closes beats spaced fits near serves
   where
     near : CarriesApart (group_gap (direct_figures d m)) a
@@ -86,7 +86,7 @@ lanes_serve timed_by own_fits steady_serves ends_serve f count d m key step tota
         (λ c. tuple_of_all keys slot_out out c count (h.within c)) (λ c. refl) h.gathers
 
     serves : (k : ℕ) → k < count → Spaced (direct_figures d m) (beats_of (share slot k lane))
-        → Serving (direct_figures d m) (λ t. OfBody nodes body (stream (share slot k lane) t)) no_lines (beats_of (share slot k lane)) (share slot_out k out)
+        → Serving (direct_figures d m) (λ t. OfBody sets nodes body (stream (share slot k lane) t)) no_lines (beats_of (share slot k lane)) (share slot_out k out)
     serves k l apart =
-        share_serves steady_serves ends_serve d m step total (OfBody nodes body) makes (share slot k lane) (share slot_mid k mid) (share slot_out k out)
+        share_serves steady_serves ends_serve d m step total (OfBody sets nodes body) makes (share slot k lane) (share slot_mid k mid) (share slot_out k out)
         (share_steady d step lane mid slot slot_mid h.rows h.no_row h.no_end h.slots k) (h.table k) (own_fits (share slot k lane)) apart

@@ -12,6 +12,7 @@ use Rattle.gl_wire.specs.Serving.{Serving}
 use Rattle.gl_wire.specs.Spills.{Lines, Relation, ServedWithLines, both_lines}
 use Rattle.gl_wire.specs.Wire.{Carried, stream}
 use Rattle.gl_wire.specs.Rotates.{lines_of_all, turns_of}
+use Rattle.gl_algebra.specs.Values.{Sets}
 use Rattle.gl_wire.specs.Bodies.{OfBody}
 use Rattle.gl_groups.specs.declared.grouping.Grouping.{Grouping}
 use Rattle.gl_slots.specs.Keys.{AwaitsTurns, line_of_further}
@@ -50,9 +51,10 @@ OfGroups count key Body xs ys p =
 abbrev pub ServesGroups
     : Grouping → Figures → Carried → (ℕ → Carried) → (ℕ → Carried) → (ℕ → Lines) → (ℕ → Bool) → Carried → Type 0
 ServesGroups r f a ins outs lines further b =
-    (nodes : List PlanNode) (body : ℕ) (beats : Beats) → Spaced (groups_over r.slots f r.body) beats → Fits f beats a
+    (sets : Sets) (nodes : List PlanNode) (body : ℕ) (beats : Beats)
+    → Spaced (groups_over r.slots f r.body) beats → Fits f beats a
     → CarriesApart (group_gap r.body) a
     → ((k : ℕ) → k < r.slots → Spaced r.body (beats_of (ins k))
-    → Serving r.body (λ u. OfBody nodes body (stream (ins k) u)) (lines k) (beats_of (ins k)) (outs k))
-    → ServedWithLines f (groups_over r.slots f r.body) (OfGroups r.slots (key_of r) (OfBody nodes body))
+    → Serving r.body (λ u. OfBody sets nodes body (stream (ins k) u)) (lines k) (beats_of (ins k)) (outs k))
+    → ServedWithLines f (groups_over r.slots f r.body) (OfGroups r.slots (key_of r) (OfBody sets nodes body))
     (both_lines (lines_of_all lines r.slots) (line_of_further further)) beats a b

@@ -9,6 +9,7 @@ use Rattle.gl_wire.specs.Serves.{Fits}
 use Rattle.gl_wire.specs.Shapes.{AtEnds, IsDelayed, Steady}
 use Rattle.gl_wire.specs.Spills.{ServedWithLines, both_lines, no_lines}
 use Rattle.gl_wire.specs.Wire.{Carried}
+use Rattle.gl_algebra.specs.Values.{Sets}
 use Rattle.gl_wire.specs.Bodies.{OfBody}
 use Rattle.gl_wire.specs.Rotates.{lines_of_all, turns_of}
 use Rattle.gl_wire_lanes.specs.Shares.{share}
@@ -50,10 +51,10 @@ abbrev pub LanesServe : Type 0
 LanesServe =
     (f : Figures) (count d m : ℕ) (key : Row → ℕ) (step : Row → Option Row) (total : List Row → Row)
     (a lane mid out b : Carried) (slot slot_mid slot_out : ℕ → ℕ) (keys : ℕ → ℕ → ℕ) (further close : ℕ → Bool)
-    (nodes : List PlanNode) (body : ℕ) → IsSound f → 1 ≤ count
+    (sets : Sets) (nodes : List PlanNode) (body : ℕ) → IsSound f → 1 ≤ count
     → (AwaitsTurns count (stride_of (direct_figures d m)) a
     → Laned count d m key step total a lane mid out b slot slot_mid slot_out keys further close)
-    → ((xs : List Row) → OfBody nodes body xs (total (filter_map step xs) ∷ []) false)
+    → ((xs : List Row) → OfBody sets nodes body xs (total (filter_map step xs) ∷ []) false)
     → (beats : Beats) → Spaced (groups_over count f (direct_figures d m)) beats → Fits f beats a
-    → ServedWithLines f (groups_over count f (direct_figures d m)) (OfGroups count key (OfBody nodes body))
+    → ServedWithLines f (groups_over count f (direct_figures d m)) (OfGroups count key (OfBody sets nodes body))
     (both_lines (lines_of_all (λ k. no_lines) count) (line_of_further further)) beats a b

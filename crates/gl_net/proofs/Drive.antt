@@ -72,7 +72,11 @@ module _ (old new : Net) (at : ℕ) (x y : Node) (r : Replaces old new at x y) w
 
   replaced_grows : ((run : Run) → Holds run at y → Holds run at x) → Grows old new
   replaced_grows weaker = record {
-    runs = λ run q. record { trace = old_trace weaker run q.trace; reset = q.reset };
+    runs = λ run q. record {
+      trace = old_trace weaker run q.trace;
+      reset = q.reset;
+      held = record { each = λ k p e. q.held.each k p (rw r.ports e) };
+    };
     shapes = same_shapes;
   }
 

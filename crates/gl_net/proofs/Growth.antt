@@ -1,5 +1,5 @@
 -- A netlist whose nodes and ports are all in another one with the same numbers.
-use Rattle.std.proofs.Common.{◌≡◌, ℕ, ◌+◌, ◌<◌, List, [], ◌∷◌, ◌++◌, length, Option, Some, None, Bool, true, false, refl, sym, ap, ◌∙◌, subst, inl, inr, arith}
+use Rattle.std.proofs.Common.{◌≡◌, ℕ, zero, suc, cond, ◌+◌, ◌<◌, List, [], ◌∷◌, ◌++◌, length, Option, Some, None, Bool, true, false, refl, sym, ap, ◌∙◌, subst, inl, inr, arith}
 use Rattle.std.specs.Prelude.{slice_get, option_and_then, IfSome, is_none, if◌then◌else◌}
 use Rattle.std.specs.Option.{option_map}
 use Rattle.std.proofs.lemmas.List.Sums.{sum_by_push}
@@ -18,7 +18,7 @@ use Rattle.gl_net.specs.declared.node.Store.{Store}
 use Rattle.gl_net.specs.declared.node.Port.{Port}
 use Rattle.gl_net.specs.declared.node.Direction.{Direction}
 use Rattle.gl_net.specs.declared.node.Direction.TheVariants.{In, Out}
-use Rattle.gl_net.specs.Net.{Net, Run, Shape, shape_of, shape_in, open_in, open_at, open_shape, Holds, IsTrace, IsRun, IsBus, IsBit, IsStore, Grows, Keeps, is_inner, size_of, register_bits, memory_bits, register_bits_of, memory_bits_of, has_no_reset, is_free, binary_width}
+use Rattle.gl_net.specs.Net.{Net, Run, Shape, shape_of, shape_in, open_in, open_at, open_shape, Holds, IsHeld, IsTrace, IsRun, held_ports, is_held, IsBus, IsBit, IsStore, Grows, Keeps, is_inner, size_of, register_bits, memory_bits, register_bits_of, memory_bits_of, has_no_reset, is_free, binary_width}
 use Rattle.gl_net.specs.WellFormed.{ReadsBus, ReadsBit, ReadsStore, IsDrive, end_at, NodeFits, EndFits, IsWellFormed}
 use Rattle.gl_net.specs.Steps.{Adds}
 use Rattle.gl_net.proofs.Lists.{get_push_other, get_push_cases, get_past}
@@ -90,6 +90,25 @@ pub record Extends (old new : Net) : Type 0 where
   pub nodes : (n : ℕ) (x : Node) → slice_get old.nodes n ≡ Some x → slice_get new.nodes n ≡ Some x
   pub ports : (k : ℕ) (p : Port) → slice_get old.ports k ≡ Some p → slice_get new.ports k ≡ Some p
 
+-- the ports that are held in the front of a list are so in the list, under their numbers
+held_there : (xs ys : List Port) → ((k : ℕ) (p : Port) → slice_get xs k ≡ Some p → slice_get ys k ≡ Some p)
+    → (k : ℕ) (p : Port) → slice_get (held_ports xs) k ≡ Some p → slice_get (held_ports ys) k ≡ Some p
+held_there [] ys front k p e = absurd (cc)
+held_there (x ∷ xs) [] front k p e = absurd (let z : None ≡ Some x = front 0 x refl in cc)
+held_there (x ∷ xs) (y ∷ ys) front k p e =
+    let same : y ≡ x = some_is y x (front 0 x refl) in
+    subst (λ (z : Port). slice_get (held_ports (z ∷ ys)) k ≡ Some p) (sym same)
+    (behind (is_held x) k p (held_there xs ys (λ i q h. front (suc i) q h)) e)
+  where
+    some_is : (y x : Port) → Some y ≡ Some x → y ≡ x
+    some_is y x h = cc
+
+    behind : (b : Bool) (k : ℕ) (p : Port) → ((i : ℕ) (q : Port) → slice_get (held_ports xs) i ≡ Some q → slice_get (held_ports ys) i ≡ Some q)
+        → slice_get (cond b (x ∷ held_ports xs) (held_ports xs)) k ≡ Some p → slice_get (cond b (x ∷ held_ports ys) (held_ports ys)) k ≡ Some p
+    behind true zero p later e = e
+    behind true (suc k) p later e = later k p e
+    behind false k p later e = later k p e
+
 module _ (old new : Net) (ext : Extends old new) where
   pub ext_shape : (n : ℕ) (s : Shape) → shape_in old.nodes n ≡ Some s → shape_in new.nodes n ≡ Some s
   unfolding shape_in
@@ -110,9 +129,12 @@ module _ (old new : Net) (ext : Extends old new) where
     line = λ n p. tr.line n (record { place = p.place; there = ext.ports p.place _ p.there });
   }
 
+  pub ext_held : (run : Run) → IsHeld new run → IsHeld old run
+  ext_held run h = record { each = λ k p e t. h.each k p (held_there old.ports new.ports ext.ports k p e) t }
+
   pub ext_grows : Grows old new
   ext_grows = record {
-    runs = λ run r. record { trace = ext_trace run r.trace; reset = r.reset };
+    runs = λ run r. record { trace = ext_trace run r.trace; reset = r.reset; held = ext_held run r.held };
     shapes = ext_shape;
   }
 

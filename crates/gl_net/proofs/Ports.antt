@@ -74,6 +74,9 @@ module _ (old new : Net) (direction : Direction) (called : List ℕ) (node : ℕ
   port_extends : Extends old new
   port_extends = record { nodes = λ k y h. rw adds.nodes h; ports = λ k p h. rw adds.ports (get_front old.ports (_ ∷ []) k p h) }
 
+  pub port_grows : Grows old new
+  port_grows = ext_grows old new port_extends
+
   pub port_size : size_of new ≡ size_of old
   unfolding size_of
   port_size = rw adds.nodes refl

@@ -10,7 +10,7 @@ use Rattle.gl_net.specs.declared.node.Bit.{Bit}
 use Rattle.gl_net.specs.declared.node.Store.{Store}
 use Rattle.gl_net.specs.declared.node.Port.{Port}
 use Rattle.gl_net.specs.declared.node.Direction.{Direction}
-use Rattle.gl_net.specs.Net.{Net, Run, IsRun, Shape, Holds, open_at, binary_of, stored_of, register_bits_of, memory_bits_of, is_free}
+use Rattle.gl_net.specs.Net.{Net, Run, IsRun, IsBus, Shape, Holds, open_at, binary_of, stored_of, register_bits_of, memory_bits_of, is_free}
 
 -- ---- gates
 
@@ -21,6 +21,11 @@ IsNode net x b = (run : Run) → IsRun net run → Holds run b.node x
 -- the bus carries the word in every cycle
 abbrev pub IsConstant : Net → Word → Bus → Type 0
 IsConstant net word b = (run : Run) → IsRun net run → (t : ℕ) → run.at t b.node ≡ word.bits
+
+-- the bus carries in every cycle of a run the word that the run holds under this number
+pub record IsHeldBus (net : Net) (number : ℕ) (b : Bus) : Type 0 where
+  pub bus : IsBus net b
+  pub carries : (run : Run) → IsRun net run → (t : ℕ) → run.at t b.node ≡ run.held number
 
 -- a bus carries the inversion of another in every run
 abbrev pub IsNot : Net → Bus → Bus → Type 0

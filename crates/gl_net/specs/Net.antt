@@ -1,7 +1,7 @@
 -- Netlists, and the runs that they allow: one clock, one value for each node in each cycle.
 -- After the two-phase view of synchronous logic: within a cycle every node follows from its operands, and registers and
 -- memories change together at the edge that ends the cycle (IEEE 1364-2005, clauses 5, 6 and 9).
-use Rattle.std.specs.Prelude.{◌≡◌, ℕ, suc, ◌+◌, ◌-◌, ◌*◌, ◌^◌, ◌<◌, ◌≤◌, List, Option, Some, None, Bool, true, false, if◌then◌else◌, ◌&&◌, nat_eq, bit_and, bit_or, bit_xor, slice_get, option_and_then, codes, count_by, sum_by}
+use Rattle.std.specs.Prelude.{◌≡◌, ℕ, suc, ◌+◌, ◌-◌, ◌*◌, ◌^◌, ◌<◌, ◌≤◌, List, [], ◌∷◌, Option, Some, None, Bool, true, false, if◌then◌else◌, ◌&&◌, ◌==◌, nat_eq, filter, bit_and, bit_or, bit_xor, slice_get, option_and_then, codes, count_by, sum_by}
 use Rattle.std.specs.Option.{option_map, option_map_or}
 use Rattle.gl_bits.specs.Words.{IsWidth, sum_of, difference_of, product_of, not_of, eq_of, lt_of, le_of, join_of, cut_of, choose_of}
 use Rattle.gl_net.specs.declared.node.BinaryOp.{BinaryOp}
@@ -13,7 +13,7 @@ use Rattle.gl_net.specs.declared.node.Bit.{Bit}
 use Rattle.gl_net.specs.declared.node.Store.{Store}
 use Rattle.gl_net.specs.declared.node.Port.{Port}
 use Rattle.gl_net.specs.declared.node.Direction.{Direction}
-use Rattle.gl_net.specs.declared.node.Direction.TheVariants.{In}
+use Rattle.gl_net.specs.declared.node.Direction.TheVariants.{In, Out}
 
 -- a netlist: its nodes, its ports in their order, and the name of its module
 pub record Net : Type 0 where
@@ -21,12 +21,13 @@ pub record Net : Type 0 where
   pub ports : List Port
   pub name : Option (List ℕ)
 
--- a run: what each node carries in each cycle, the word at each address of each memory in each cycle, and the reset
--- line
+-- a run: what each node carries in each cycle, the word at each address of each memory in each cycle, the reset line,
+-- and the words of the inputs that carry one in all cycles
 pub record Run : Type 0 where
   pub at : ℕ → ℕ → ℕ
   pub word : ℕ → ℕ → ℕ → ℕ
   pub rst : ℕ → Bool
+  pub held : ℕ → ℕ
 
 -- what a node is to those that read it: a value, or the words of a memory
 pub data Shape : Type 0 where
@@ -123,10 +124,34 @@ pub record IsReset (run : Run) : Type 0 where
   pub first : run.rst 0 ≡ true
   pub later : (t : ℕ) → run.rst (suc t) ≡ false
 
--- a run that begins with reset
+-- a direction that leads into the netlist
+abbrev pub is_inward : Direction → Bool
+is_inward In = true
+is_inward Out = false
+
+-- a name begins with these bytes
+abbrev pub begins_with : List ℕ → List ℕ → Bool
+begins_with [] name = true
+begins_with (b ∷ front) [] = false
+begins_with (b ∷ front) (c ∷ name) = (b == c) && begins_with front name
+
+-- an input port whose name begins with `set__`
+unfoldable pub is_held : Port → Bool
+is_held p = is_inward p.direction && begins_with (codes "set__") p.name
+
+-- these ports, in their order
+abbrev pub held_ports : List Port → List Port
+held_ports ports = filter is_held ports
+
+-- each of them carries one word in all cycles
+pub record IsHeld (net : Net) (run : Run) : Type 0 where
+  pub each : (k : ℕ) (p : Port) → slice_get (held_ports net.ports) k ≡ Some p → (t : ℕ) → run.at t p.node ≡ run.held k
+
+-- a run that begins with reset, and holds what is to be held
 pub record IsRun (net : Net) (run : Run) : Type 0 where
   pub trace : IsTrace net run
   pub reset : IsReset run
+  pub held : IsHeld net run
 
 -- the shape of the node with this number
 unfoldable pub shape_in : List Node → ℕ → Option Shape

@@ -261,5 +261,5 @@ module _ (timed_by : FitsIsTimed) (r : Partitioning) (is : IsPartitioning r) (f 
 
 -- for a body of a plan
 pub partitionings_serve : FitsIsTimed → PartitioningsServe
-partitionings_serve timed_by r f a b keys ins outs close further lines is sound_f law are tells closes back nodes body beats spaced fits near served =
-    parts_served timed_by r is f sound_f a b keys ins outs close further lines law are tells closes back (OfBody nodes body) beats spaced fits near served
+partitionings_serve timed_by r f a b keys ins outs close further lines is sound_f law are tells closes back sets nodes body beats spaced fits near served =
+    parts_served timed_by r is f sound_f a b keys ins outs close further lines law are tells closes back (OfBody sets nodes body) beats spaced fits near served

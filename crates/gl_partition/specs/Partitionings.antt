@@ -12,6 +12,7 @@ use Rattle.gl_wire.specs.Serves.{Fits}
 use Rattle.gl_wire.specs.Serving.{Serving}
 use Rattle.gl_wire.specs.Spills.{Lines, Relation, ServedWithLines, both_lines}
 use Rattle.gl_wire.specs.Wire.{Carried, stream}
+use Rattle.gl_algebra.specs.Values.{Sets}
 use Rattle.gl_wire.specs.Bodies.{OfBody}
 use Rattle.gl_wire.specs.Rotates.{lines_of_all}
 use Rattle.gl_wire.specs.Timed.{Rested}
@@ -86,9 +87,10 @@ OfPartitions r Body xs ys p =
 abbrev pub ServesPartitions
     : Partitioning → Figures → Carried → (ℕ → Carried) → (ℕ → Carried) → (ℕ → Lines) → (ℕ → Bool) → Carried → Type 0
 ServesPartitions r f a ins outs lines further b =
-    (nodes : List PlanNode) (body : ℕ) (beats : Beats) → Spaced (partitions_over (all_copies r) f r.body) beats
+    (sets : Sets) (nodes : List PlanNode) (body : ℕ) (beats : Beats)
+    → Spaced (partitions_over (all_copies r) f r.body) beats
     → Fits f beats a → CarriesApart (window_gap r.body) a
     → ((k : ℕ) → k < all_copies r → Spaced r.body (beats_of (ins k))
-    → Serving r.body (λ u. OfBody nodes body (stream (ins k) u)) (lines k) (beats_of (ins k)) (outs k))
-    → ServedWithLines f (partitions_over (all_copies r) f r.body) (OfPartitions r (OfBody nodes body))
+    → Serving r.body (λ u. OfBody sets nodes body (stream (ins k) u)) (lines k) (beats_of (ins k)) (outs k))
+    → ServedWithLines f (partitions_over (all_copies r) f r.body) (OfPartitions r (OfBody sets nodes body))
     (both_lines (lines_of_all lines (all_copies r)) (line_of_further further)) beats a b

@@ -31,7 +31,7 @@ pub record IsSpacerIn (run : Run) (g : ℕ) (f : Figures) (a b : Emitted) : Type
 
 -- a spacer serves the rows that come, and over beats that are spaced they leave apart
 pub record IsSpacerOf (old new : Net) (g : ℕ) (f : Figures) (a b : Emitted) : Type 0 where
-  pub behind : IsBehindLines old new f (spacer_figures g f) (never Same)
+  pub behind : IsBehindLines old new f (spacer_figures g f) (λ sets. never Same)
       (widths a.wire.columns) (cost_of_spacer f (widths a.wire.columns)) a b
   pub spaces : (run : Run) → IsRun new run → IsSpacerIn run g f a b
   pub apart : (run : Run) → IsRun new run → IsSpaced g f (carried run a.wire) (carried run b.wire)

@@ -18,7 +18,7 @@ use Rattle.gl_rows.proofs.RowLemmas.{changed_now}
 
 pub project_behind : (old new : Net) (a : Emitted) (kinds : List Kind) (items : List Operand) (bs : List Bus) → IsWire old a.wire
     → AreOperands old new a.wire.columns kinds items bs
-    → IsBehind old new (Steady 0 (λ row. Some (projected items row))) (projected_widths kinds items) (cost_of_items (projected_widths kinds items)) a (record { wire = wire_of a.wire.valid a.wire.eos bs; faults = a.faults })
+    → IsBehind old new (λ sets. Steady 0 (λ row. Some (projected sets items row))) (projected_widths kinds items) (cost_of_items (projected_widths kinds items)) a (record { wire = wire_of a.wire.valid a.wire.eos bs; faults = a.faults })
 project_behind old new a kinds items bs wire made = record {
   keeps = made.keeps;
   cost = record {
@@ -33,5 +33,5 @@ project_behind old new a kinds items bs wire made = record {
   };
   same_widths = made.same_widths;
   faults = refl;
-  shape = λ run r. changed_now run a.wire bs (projected items) (made.row run r);
+  shape = λ run r. changed_now run a.wire bs (projected run.held items) (made.row run r);
 }

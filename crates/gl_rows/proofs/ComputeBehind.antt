@@ -34,12 +34,12 @@ module _ (old mid new : Net) (a : Emitted) (kinds : List Kind) (ops : List ColOp
       length-map (kinds ++ map (kind_of_op kinds) ops) width_of ∙ length-append kinds (map (kind_of_op kinds) ops)
       ∙ ap (λ (n : ℕ). length kinds + n) (length-map ops (kind_of_op kinds))
 
-  out_row : (run : Run) → IsRun mid run → (t : ℕ) → row_at run t columns ≡ computed kinds ops (row_at run t a.wire.columns)
+  out_row : (run : Run) → IsRun mid run → (t : ℕ) → row_at run t columns ≡ computed run.held kinds ops (row_at run t a.wire.columns)
   out_row run r t =
       ap (row_at run t) is ∙ row_at-append run t a.wire.columns made ∙ ap (λ l. row_at run t a.wire.columns ++ l) (all.row run r t)
 
   pub compute_behind : (w : Wire) → IsPad mid new 1 (wire_of a.wire.valid a.wire.eos columns) w
-      → IsBehind old new (Steady 1 (λ row. Some (computed kinds ops row))) (computed_widths kinds ops) (cost_of_rows (computed_widths kinds ops) (length ops)) a (record { wire = w; faults = a.faults })
+      → IsBehind old new (λ sets. Steady 1 (λ row. Some (computed sets kinds ops row))) (computed_widths kinds ops) (cost_of_rows (computed_widths kinds ops) (length ops)) a (record { wire = w; faults = a.faults })
   compute_behind w staged = record {
     keeps = keeps_then old mid new all.keeps staged.keeps;
     cost = record {
@@ -50,5 +50,5 @@ module _ (old mid new : Net) (a : Emitted) (kinds : List Kind) (ops : List ColOp
     wire = staged.wire;
     same_widths = staged.same_widths ∙ out_widths;
     faults = refl;
-    shape = λ run r. changed_later run a.wire columns (computed kinds ops) (out_row run (staged.keeps.runs run r)) w (staged.delayed run r);
+    shape = λ run r. changed_later run a.wire columns (computed run.held kinds ops) (out_row run (staged.keeps.runs run r)) w (staged.delayed run r);
   }

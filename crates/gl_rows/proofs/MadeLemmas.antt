@@ -1,22 +1,40 @@
 -- Buses that carry values of rows, and lists of them.
-use Rattle.std.proofs.Common.{◌≡◌, ℕ, zero, suc, ◌+◌, ◌*◌, ◌<◌, List, [], ◌∷◌, ◌++◌, map, length, Some, refl, sym, ap, ◌∙◌, arith, length-append}
+use Rattle.std.proofs.Common.{◌≡◌, ℕ, zero, suc, ◌+◌, ◌*◌, ◌<◌, List, [], ◌∷◌, ◌++◌, map, length, Some, refl, subst, sym, ap, ◌∙◌, arith, length-append}
 use Rattle.std.specs.Prelude.{slice_get, slice_index, slice_index_or}
 use Rattle.std.proofs.lemmas.List.{map-append}
-use Rattle.std.proofs.lemmas.Option.{slice_get-get_or}
+use Rattle.std.proofs.lemmas.Option.{get_or_from_slice_get, slice_get-get_or}
 use Rattle.gl_values.specs.Kinds.{width_of}
 use Rattle.gl_values.specs.Results.{Row}
 use Rattle.gl_values.specs.declared.kind.Kind.{Kind}
+use Rattle.gl_algebra.specs.declared.node.Operand.TheVariants.{Parameter}
 use Rattle.gl_algebra.specs.Columns.{kind_of_column}
+use Rattle.gl_algebra.specs.Values.{Sets}
+use Rattle.gl_net.specs.Builds.{IsHeldBus}
 use Rattle.gl_net.specs.declared.node.Bus.{Bus}
 use Rattle.gl_net.specs.Net.{Net, Run, IsRun, Keeps}
 use Rattle.gl_net.proofs.Determined.{keeps_then}
 use Rattle.gl_net.proofs.Growth.{same_keeps}
 use Rattle.gl_wire.specs.Wire.{row_at, widths}
-use Rattle.gl_wire.proofs.ColumnLemmas.{AreBuses-none, AreBuses-push, buses_kept, row_at-none, row_at-push, row_at-value, widths-push}
-use Rattle.gl_rows.specs.Made.{AreMade, Carries, IsSource}
+use Rattle.gl_wire.proofs.ColumnLemmas.{AreBuses-none, AreBuses-push, bus_kept, buses_kept, column_at, row_at-none, row_at-push, row_at-value, widths-push}
+use Rattle.gl_rows.specs.Made.{AreHeldBuses, AreMade, Carries, IsOperand, IsSource}
 
-pub source_kept : (old new : Net) (columns : List Bus) (kinds : List Kind) → Keeps old new → IsSource old columns kinds → IsSource new columns kinds
-source_kept old new columns kinds keeps source = record { buses = buses_kept old new columns keeps source.buses; same_widths = source.same_widths }
+pub no_words : (net : Net) → AreHeldBuses net []
+no_words net = record { each = λ number b at. absurd (cc) }
+
+-- the buses of parameters stay
+pub words_kept : (old new : Net) (words : List Bus) → Keeps old new → AreHeldBuses old words → AreHeldBuses new words
+words_kept old new words keeps held = record {
+  each = λ number b at.
+      let is = held.each number b at in
+      record { bus = bus_kept old new b keeps is.bus; carries = λ run r. is.carries run (keeps.runs run r) };
+}
+
+pub source_kept : (old new : Net) (columns : List Bus) (kinds : List Kind) (words : List Bus) → Keeps old new → IsSource old columns kinds words → IsSource new columns kinds words
+source_kept old new columns kinds words keeps source = record {
+  buses = buses_kept old new columns keeps source.buses;
+  same_widths = source.same_widths;
+  held = words_kept old new words keeps source.held;
+}
 
 -- a column has the width of its kind
 width_at : (columns : List Bus) (kinds : List Kind) → widths columns ≡ map width_of kinds → (k : ℕ) → k < length kinds → (none : Bus)
@@ -33,9 +51,9 @@ as_many (b ∷ columns) [] same = absurd (cc)
 as_many (b ∷ columns) (kind ∷ kinds) same = ap suc (as_many columns kinds cc)
 
 -- a column as it is
-pub column_carries : (net : Net) (columns : List Bus) (kinds : List Kind) (k : ℕ) (none : Bus) → IsSource net columns kinds → k < length kinds
+pub column_carries : (net : Net) (columns : List Bus) (kinds : List Kind) (words : List Bus) (k : ℕ) (none : Bus) → IsSource net columns kinds words → k < length kinds
     → Carries net net 1 (width_of (kind_of_column kinds k)) (λ run t. slice_index (row_at run t columns) k) (slice_index_or columns k none)
-column_carries net columns kinds k none source within =
+column_carries net columns kinds words k none source within =
     let there : slice_get columns k ≡ Some (slice_index_or columns k none) = slice_get-get_or columns k none (let enough : k < length columns = omega (arith, within, as_many columns kinds source.same_widths) in enough) in
     record {
       keeps = same_keeps net;
@@ -44,6 +62,22 @@ column_carries net columns kinds k none source within =
       same_width = width_at columns kinds source.same_widths k within none;
       carries = λ run r t. sym (row_at-value run t columns k (slice_index_or columns k none) there);
     }
+
+-- the word of a parameter
+pub word_carries : (net : Net) (columns : List Bus) (kinds : List Kind) (words : List Bus) (number : ℕ) (kind : Kind) (none : Bus) → AreHeldBuses net words
+    → slice_get (widths words) number ≡ Some (width_of kind) → IsOperand net net columns kinds (Parameter number kind) (slice_index_or words number none)
+word_carries net columns kinds words number kind none held known =
+    let at = column_at words number (width_of kind) known in
+    let same : slice_index_or words number none ≡ at.0 = get_or_from_slice_get words number at.0 none at.1 in
+    let is : IsHeldBus net number at.0 = held.each number at.0 at.1 in
+    subst (IsOperand net net columns kinds (Parameter number kind)) (sym same)
+    (record {
+      keeps = same_keeps net;
+      cost = record { nodes = omega arith; registers = omega arith; memories = omega arith };
+      bus = is.bus;
+      same_width = at.2;
+      carries = is.carries;
+    })
 
 -- a bus of a bus
 pub carries_then : (old mid new : Net) (m n w v : ℕ) (value : Run → ℕ → ℕ) (f : ℕ → ℕ) (x b : Bus) → Carries old mid m w value x
@@ -95,7 +129,7 @@ carries_as old new m w value other b same one = record {
   carries = λ run r t. one.carries run r t ∙ same run r t;
 }
 
-module _ {Item : Type 0} (m : ℕ) (columns : List Bus) (kind_of : Item → Kind) (value_of : Row → Item → ℕ) where
+module _ {Item : Type 0} (m : ℕ) (columns : List Bus) (kind_of : Item → Kind) (value_of : Sets → Row → Item → ℕ) where
   pub made_none : (net : Net) → AreMade net net m columns kind_of value_of [] []
   made_none net = record {
     keeps = same_keeps net;
@@ -106,7 +140,7 @@ module _ {Item : Type 0} (m : ℕ) (columns : List Bus) (kind_of : Item → Kind
   }
 
   pub made_more : (old mid new : Net) (items : List Item) (item : Item) (bs : List Bus) (b : Bus) → AreMade old mid m columns kind_of value_of items bs
-      → Carries mid new m (width_of (kind_of item)) (λ run t. value_of (row_at run t columns) item) b
+      → Carries mid new m (width_of (kind_of item)) (λ run t. value_of run.held (row_at run t columns) item) b
       → AreMade old new m columns kind_of value_of (items ++ item ∷ []) (bs ++ b ∷ [])
   made_more old mid new items item bs b all one = record {
     keeps = keeps_then old mid new all.keeps one.keeps;
@@ -121,6 +155,6 @@ module _ {Item : Type 0} (m : ℕ) (columns : List Bus) (kind_of : Item → Kind
         ∙ sym (ap (map width_of) (map-append kind_of items (item ∷ [])) ∙ map-append width_of (map kind_of items) (kind_of item ∷ []));
     row = λ run r t.
         row_at-push run t bs b ∙ ap (λ l. l ++ run.at t b.node ∷ []) (all.row run (one.keeps.runs run r) t)
-        ∙ ap (λ v. map (value_of (row_at run t columns)) items ++ v ∷ []) (one.carries run r t)
-        ∙ sym (map-append (value_of (row_at run t columns)) items (item ∷ []));
+        ∙ ap (λ v. map (value_of run.held (row_at run t columns)) items ++ v ∷ []) (one.carries run r t)
+        ∙ sym (map-append (value_of run.held (row_at run t columns)) items (item ∷ []));
   }

@@ -1,24 +1,30 @@
 -- What is made of columns: buses that carry values of a run, in every cycle.
-use Rattle.std.specs.Prelude.{◌≡◌, ℕ, ◌-◌, ◌*◌, ◌/◌, ◌%◌, ◌^◌, List, length, map}
+use Rattle.std.specs.Prelude.{◌≡◌, ℕ, ◌-◌, ◌*◌, ◌/◌, ◌%◌, ◌^◌, List, Some, length, map, slice_get}
 use Rattle.gl_values.specs.Kinds.{number_of, signed_number, width_of, word_of}
 use Rattle.gl_values.specs.Results.{Row}
 use Rattle.gl_values.specs.declared.kind.Kind.{Kind}
 use Rattle.gl_algebra.specs.declared.node.ColOp.{ColOp}
 use Rattle.gl_algebra.specs.declared.node.Operand.{Operand}
 use Rattle.gl_algebra.specs.Columns.{kind_of_op, kind_of_operand}
-use Rattle.gl_algebra.specs.Values.{value_of_op, value_of_operand}
+use Rattle.gl_algebra.specs.Values.{Sets, value_of_op, value_of_operand}
 use Rattle.gl_values.specs.declared.op.Op.{Op}
 use Rattle.gl_values.specs.Operators.{cast_of, operate, result_kind, sort_of}
 use Rattle.gl_net.specs.declared.node.Bus.{Bus}
+use Rattle.gl_net.specs.Builds.{IsHeldBus}
 use Rattle.gl_net.specs.Net.{Net, Run, IsRun, IsBus, Keeps, binary_width}
 use Rattle.gl_rows.specs.Gates.{gate_of, gated, top_turned}
 use Rattle.gl_wire.specs.Costs.{CostsAtMost, nodes_alone}
 use Rattle.gl_wire.specs.Wire.{AreBuses, row_at, widths}
 
--- columns of these kinds
-pub record IsSource (net : Net) (columns : List Bus) (kinds : List Kind) : Type 0 where
+-- the buses of the parameters, in the order of their numbers
+pub record AreHeldBuses (net : Net) (words : List Bus) : Type 0 where
+  pub each : (number : ℕ) (b : Bus) → slice_get words number ≡ Some b → IsHeldBus net number b
+
+-- columns of these kinds, beside the buses of the parameters
+pub record IsSource (net : Net) (columns : List Bus) (kinds : List Kind) (words : List Bus) : Type 0 where
   pub buses : AreBuses net columns
   pub same_widths : widths columns ≡ map width_of kinds
+  pub held : AreHeldBuses net words
 
 -- a bus of a width that carries this value in every cycle of every run, and at most so many nodes for it
 pub record Carries (old new : Net) (most width : ℕ) (value : Run → ℕ → ℕ) (b : Bus) : Type 0 where
@@ -30,19 +36,20 @@ pub record Carries (old new : Net) (most width : ℕ) (value : Run → ℕ → �
 
 -- a bus for each item, of its kind, which carries its value of the row, and at most so many nodes for each
 pub record AreMade {Item : Type 0} (old new : Net) (most : ℕ) (columns : List Bus) (kind_of : Item → Kind)
-    (value_of : Row → Item → ℕ)
+    (value_of : Sets → Row → Item → ℕ)
     (items : List Item) (bs : List Bus) : Type 0 where
   pub keeps : Keeps old new
   pub cost : CostsAtMost old new (nodes_alone (most * length items))
   pub buses : AreBuses new bs
   pub same_widths : widths bs ≡ map width_of (map kind_of items)
-  pub row : (run : Run) → IsRun new run → (t : ℕ) → row_at run t bs ≡ map (value_of (row_at run t columns)) items
+  pub row : (run : Run) → IsRun new run → (t : ℕ)
+      → row_at run t bs ≡ map (value_of run.held (row_at run t columns)) items
 
 -- the value of an operand, for a node at most
 abbrev pub IsOperand : Net → Net → List Bus → List Kind → Operand → Bus → Type 0
 IsOperand old new columns kinds operand b =
     Carries old new 1 (width_of (kind_of_operand kinds operand))
-    (λ run t. value_of_operand (row_at run t columns) operand) b
+    (λ run t. value_of_operand run.held (row_at run t columns) operand) b
 
 -- a bus for each operand, with the operand's kind and its value of the row, for one node at most
 abbrev pub AreOperands : Net → Net → List Bus → List Kind → List Operand → List Bus → Type 0
@@ -52,11 +59,12 @@ AreOperands old new columns kinds operands bs =
 -- the value of an operation, for six nodes at most: two literals and what an operator or a CAST takes
 abbrev pub IsOperation : Net → Net → List Bus → List Kind → ColOp → Bus → Type 0
 IsOperation old new columns kinds op b =
-    Carries old new 6 (width_of (kind_of_op kinds op)) (λ run t. value_of_op kinds (row_at run t columns) op) b
+    Carries old new 6 (width_of (kind_of_op kinds op)) (λ run t. value_of_op run.held kinds (row_at run t columns) op) b
 
 -- a bus for each operation, with its kind and its value of the row, for six nodes at most
 abbrev pub AreOperations : Net → Net → List Bus → List Kind → List ColOp → List Bus → Type 0
-AreOperations old new columns kinds ops bs = AreMade old new 6 columns (kind_of_op kinds) (value_of_op kinds) ops bs
+AreOperations old new columns kinds ops bs =
+    AreMade old new 6 columns (kind_of_op kinds) (λ sets. value_of_op sets kinds) ops bs
 
 -- the bus's value as another kind, for five nodes at most
 abbrev pub IsCast : Net → Net → Kind → Kind → Bus → Bus → Type 0

@@ -54,4 +54,5 @@ IsMultiple old new value factor nodes b =
 abbrev pub IsScaled : Net → Net → List Bus → List Kind → Operand → ℕ → Bus → Type 0
 IsScaled old new columns kinds operand factor b =
     let width = width_of (kind_of_operand kinds operand) in
-    Carries old new 6 width (λ run t. product_of width (value_of_operand (row_at run t columns) operand) factor) b
+    Carries old new 6 width
+    (λ run t. product_of width (value_of_operand run.held (row_at run t columns) operand) factor) b

@@ -2,10 +2,12 @@
 
 ghost use Rattle.std.specs.Prelude.{◌≡◌, ◌++◌, All, IfOk, Some, length, map};
 ghost use Rattle.gl_algebra.specs.Columns.{OpFits};
+ghost use Rattle.gl_algebra.specs.Known.{OpKnown};
 ghost use Rattle.gl_algebra.specs.FigureTable.{delayed, settled};
 ghost use Rattle.gl_algebra.specs.Results.{computed};
 ghost use Rattle.gl_values.specs.Kinds.{width_of};
 ghost use Rattle.gl_net.specs.declared.node.Bus.{Bus};
+ghost use Rattle.gl_rows.specs.Made.{AreHeldBuses};
 ghost use Rattle.gl_rows.specs.Costs.{computed_widths, cost_of_rows};
 ghost use Rattle.gl_wire.specs.Blocks.{IsBehind};
 ghost use Rattle.gl_wire.specs.Shapes.{Mapped, Steady};
@@ -27,6 +29,8 @@ use std::alloc::Global;
 pub struct ComputeRow<'a> {
     /// The kinds of the columns that come in.
     pub kinds: &'a [Kind],
+    /// The buses of the parameters, in the order of their numbers.
+    pub words: &'a [Bus],
     /// The operations, one for each new column.
     pub ops: &'a [ColOp],
 }
@@ -51,18 +55,23 @@ pub fn put_compute(
     net: &mut NetBuilder,
     below: Emitted,
     kinds: &[Kind],
+    words: &[Bus],
     ops: &[ColOp],
 ) -> Result<Emitted, Memory>
     requires wire { IsWire net.old below.wire }
     requires kinds { widths below.wire.columns ≡ map width_of kinds.now }
     requires ops { All (OpFits kinds.now) ops.now }
+    requires words { AreHeldBuses net.old words.now }
+    requires known { All (OpKnown (widths words.now)) ops.now }
     ensures { IfOk result (IsBehind net.old net.new
-        (Steady 1 (λ row. Some (computed kinds.now ops.now row))) (computed_widths kinds.now ops.now)
+        (λ sets. Steady 1 (λ row. Some (computed sets kinds.now ops.now row)))
+        (computed_widths kinds.now ops.now)
         (cost_of_rows (computed_widths kinds.now ops.now) (length ops.now)) below) }
 {
     let source = Source {
         columns: below.wire.columns.as_slice(),
         kinds,
+        words,
     };
     let made = put_operations(alloc, net, source, ops)?;
     let columns = all_columns(alloc, below.wire.columns.as_slice(), made.as_slice())?;
@@ -80,15 +89,16 @@ pub fn put_compute(
 }
 
 impl Operator for ComputeRow<'_> {
-    ghost takes = { λ s columns. (columns ≡ map width_of s.kinds.now) × All (OpFits s.kinds.now) s.ops.now };
+    ghost takes = { λ s net columns. (columns ≡ map width_of s.kinds.now) × All (OpFits s.kinds.now) s.ops.now
+        × AreHeldBuses net s.words.now × All (OpKnown (widths s.words.now)) s.ops.now };
 
     ghost gives = { λ s _. computed_widths s.kinds.now s.ops.now };
 
     ghost most = { λ s _. cost_of_rows (computed_widths s.kinds.now s.ops.now) (length s.ops.now) };
 
-    ghost shape = { λ s. Steady 1 (λ row. Some (computed s.kinds.now s.ops.now row)) };
+    ghost shape = { λ s sets. Steady 1 (λ row. Some (computed sets s.kinds.now s.ops.now row)) };
 
-    ghost means = { λ s. Mapped (λ row. Some (computed s.kinds.now s.ops.now row)) };
+    ghost means = { λ s sets. Mapped (λ row. Some (computed sets s.kinds.now s.ops.now row)) };
 
     ghost figures_of = { λ _ f. settled (delayed 1 f) };
 
@@ -99,7 +109,7 @@ impl Operator for ComputeRow<'_> {
     fn emit(&self, alloc: Global, net: &mut NetBuilder, below: Emitted) -> Result<Emitted, Memory> {
         steady_serves();
         // Named, since a goal speaks of the value.
-        let put = put_compute(alloc, net, below, self.kinds, self.ops)?;
+        let put = put_compute(alloc, net, below, self.kinds, self.words, self.ops)?;
         Ok(put)
     }
 }

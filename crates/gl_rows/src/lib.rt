@@ -13,6 +13,6 @@ pub mod project;
 pub mod select;
 
 pub use compute::{ComputeRow, put_compute};
-pub use operand::Source;
+pub use operand::{Scope, Source};
 pub use project::{ProjectRow, put_project};
 pub use select::{SelectRow, put_select};

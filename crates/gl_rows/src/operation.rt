@@ -2,12 +2,14 @@
 
 ghost use Rattle.std.specs.Prelude.{◌≡◌, ◌-◌, ◌^◌, All, IfOk};
 ghost use Rattle.gl_algebra.specs.Columns.{OpFits, OperandFits, SortFits, kind_of_operand};
+ghost use Rattle.gl_algebra.specs.Known.{OpKnown, OperandKnown};
 ghost use Rattle.gl_values.specs.Kinds.{width_of};
 ghost use Rattle.gl_values.specs.Operators.{sort_of};
 ghost use Rattle.gl_net.specs.Net.{IsBus};
 ghost use Rattle.gl_algebra.specs.declared.node.ColOp.TheVariants.{Binary, Cast, Not};
 ghost use Rattle.gl_bits.specs.Words.{IsWidth};
 ghost use Rattle.gl_values.specs.declared.kind.Kind.TheVariants.{Signed};
+ghost use Rattle.gl_wire.specs.Wire.{widths};
 ghost use Rattle.gl_rows.specs.Gates.{gate_of, is_order, is_turned};
 ghost use Rattle.gl_rows.specs.Multiples.{IsScaled};
 ghost use Rattle.gl_values.specs.declared.op.Op.TheVariants.{Mul};
@@ -137,8 +139,9 @@ pub fn put_operator(
 
 // The other bit.
 fn put_not(net: &mut NetBuilder, source: Source, operand: Operand) -> Result<Bus, Memory>
-    requires source { IsSource net.old source.columns.now source.kinds.now }
+    requires source { IsSource net.old source.columns.now source.kinds.now source.words.now }
     requires fits { OpFits source.kinds.now (Not operand) }
+    requires known { OpKnown (widths source.words.now) (Not operand) }
     ensures { IfOk result (IsOperation net.old net.new
         source.entry.columns.now source.entry.kinds.now (Not operand)) }
 {
@@ -149,8 +152,9 @@ fn put_not(net: &mut NetBuilder, source: Source, operand: Operand) -> Result<Bus
 
 // The value as another kind.
 fn put_as(net: &mut NetBuilder, source: Source, operand: Operand, kind: Kind) -> Result<Bus, Memory>
-    requires source { IsSource net.old source.columns.now source.kinds.now }
+    requires source { IsSource net.old source.columns.now source.kinds.now source.words.now }
     requires fits { OpFits source.kinds.now (Cast operand kind) }
+    requires known { OpKnown (widths source.words.now) (Cast operand kind) }
     ensures { IfOk result (IsOperation net.old net.new
         source.entry.columns.now source.entry.kinds.now (Cast operand kind)) }
 {
@@ -168,8 +172,9 @@ fn put_binary(
     left: Operand,
     right: Operand,
 ) -> Result<Bus, Memory>
-    requires source { IsSource net.old source.columns.now source.kinds.now }
+    requires source { IsSource net.old source.columns.now source.kinds.now source.words.now }
     requires fits { OpFits source.kinds.now (Binary op left right) }
+    requires known { OpKnown (widths source.words.now) (Binary op left right) }
     ensures { IfOk result (IsOperation net.old net.new
         source.entry.columns.now source.entry.kinds.now (Binary op left right)) }
 {
@@ -187,8 +192,9 @@ fn put_scaled(
     operand: Operand,
     literal: Word,
 ) -> Result<Bus, Memory>
-    requires source { IsSource net.old source.columns.now source.kinds.now }
+    requires source { IsSource net.old source.columns.now source.kinds.now source.words.now }
     requires fits { OperandFits source.kinds.now operand }
+    requires known { OperandKnown (widths source.words.now) operand }
     requires width { literal.width ≡ width_of (kind_of_operand source.kinds.now operand) }
     ensures { IfOk result (IsScaled net.old net.new
         source.entry.columns.now source.entry.kinds.now operand literal.bits) }
@@ -205,24 +211,26 @@ fn put_product(
     left: Operand,
     right: Operand,
 ) -> Result<Bus, Memory>
-    requires source { IsSource net.old source.columns.now source.kinds.now }
+    requires source { IsSource net.old source.columns.now source.kinds.now source.words.now }
     requires fits { OpFits source.kinds.now (Binary Mul left right) }
+    requires known { OpKnown (widths source.words.now) (Binary Mul left right) }
     ensures { IfOk result (IsOperation net.old net.new
         source.entry.columns.now source.entry.kinds.now (Binary Mul left right)) }
 {
     match right {
         Operand::Literal(literal, _) => put_scaled(net, source, left, literal),
-        Operand::Column(_) => match left {
+        _ => match left {
             Operand::Literal(literal, _) => put_scaled(net, source, right, literal),
-            Operand::Column(_) => put_binary(net, source, Op::Mul, left, right),
+            _ => put_binary(net, source, Op::Mul, left, right),
         },
     }
 }
 
 /// The bus of an operation.
 pub fn put_operation(net: &mut NetBuilder, source: Source, op: ColOp) -> Result<Bus, Memory>
-    requires source { IsSource net.old source.columns.now source.kinds.now }
+    requires source { IsSource net.old source.columns.now source.kinds.now source.words.now }
     requires fits { OpFits source.kinds.now op }
+    requires known { OpKnown (widths source.words.now) op }
     ensures { IfOk result (IsOperation net.old net.new
         source.entry.columns.now source.entry.kinds.now op) }
 {
@@ -236,8 +244,9 @@ pub fn put_operation(net: &mut NetBuilder, source: Source, op: ColOp) -> Result<
 
 // The same, told as the column at this place.
 fn put_column(net: &mut NetBuilder, source: Source, op: ColOp, place: usize) -> Result<Bus, Memory>
-    requires source { IsSource net.old source.columns.now source.kinds.now }
+    requires source { IsSource net.old source.columns.now source.kinds.now source.words.now }
     requires fits { OpFits source.kinds.now op }
+    requires known { OpKnown (widths source.words.now) op }
     ensures { IfOk result (IsOperation net.old net.new
         source.entry.columns.now source.entry.kinds.now op) }
 {
@@ -254,8 +263,9 @@ pub fn put_operations(
     source: Source,
     ops: &[ColOp],
 ) -> Result<Buses, Memory>
-    requires source { IsSource net.old source.columns.now source.kinds.now }
+    requires source { IsSource net.old source.columns.now source.kinds.now source.words.now }
     requires fit { All (OpFits source.kinds.now) ops.now }
+    requires known { All (OpKnown (widths source.words.now)) ops.now }
     ensures { IfOk result (AreOperations net.old net.new
         source.entry.columns.now source.entry.kinds.now ops.now) }
 {

@@ -31,7 +31,7 @@ pub fn put_select(
 ) -> Result<Emitted, Memory>
     requires wire { IsWire net.old below.wire }
     requires column { slice_get (widths below.wire.columns) column ≡ Some 1 }
-    ensures { IfOk result (IsBehind net.old net.new (Steady 1 (keep_where column))
+    ensures { IfOk result (IsBehind net.old net.new (λ _. Steady 1 (keep_where column))
         (widths below.wire.columns) (cost_of_rows (widths below.wire.columns) 0) below) }
 {
     let test = below.wire.columns.as_slice()[column];
@@ -51,15 +51,15 @@ pub fn put_select(
 }
 
 impl Operator for SelectRow {
-    ghost takes = { λ s columns. slice_get columns s.column ≡ Some 1 };
+    ghost takes = { λ s _ columns. slice_get columns s.column ≡ Some 1 };
 
     ghost gives = { λ _ columns. columns };
 
     ghost most = { λ _ columns. cost_of_rows columns 0 };
 
-    ghost shape = { λ s. Steady 1 (keep_where s.column) };
+    ghost shape = { λ s _. Steady 1 (keep_where s.column) };
 
-    ghost means = { λ s. Mapped (keep_where s.column) };
+    ghost means = { λ s _. Mapped (keep_where s.column) };
 
     ghost figures_of = { λ _ f. settled (delayed 1 f) };
 

@@ -91,9 +91,9 @@ is_backed old new r f copies e is h many j = keyless_backed old new r.spare.copi
   where
     serving : (run : Run) → IsRun new run → IsDelayed 1 (record { tuple = tuple_of_any (gives_of run copies) r.spare.copies; ends = line_at run f.close }) (carried run e.wire)
         → ServesSpare r (carried run f.source.wire) (carried_of run f.wires) (gives_of run copies) (told_of run copies) (carried run e.wire)
-    serving run z delayed s sound n nodes source body inputs before beats end one spaced x served =
+    serving run z delayed s sound n sets nodes source body inputs before beats end one spaced x served =
         let fed = h.feeds run (j.keeps.runs run z) in
         spares_serve s r.body r.size r.advance (turns_in r) r.spare.copies r.spare.gap r.spare.shift (carried run f.source.wire) fed.late (carried run e.wire) (carried_of run f.wires) (gives_of run copies)
         (line_at run f.close) (told_of run copies) n sound is.sound is.closing
         (fed.is_late (stream_quiet r.spare.shift s (λ t. IsPlanResult nodes source (inputs t)) before beats end (carried run f.source.wire) n.at_once sound one x)) fed.front fed.closes delayed
-        nodes source body inputs before beats end one spaced x served
+        sets nodes source body inputs before beats end one spaced x served

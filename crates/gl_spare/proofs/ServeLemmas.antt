@@ -180,9 +180,9 @@ module _ (f s : Figures) (size advance turns copies gap shift : ℕ) (n : IsSpar
         }
 
 pub spares_serve : SparesServe
-spares_serve f s size advance turns copies gap shift a late b ins outs close lines n sound_f sound_s closing is_late law closes back nodes source body inputs before beats end one spaced x served =
+spares_serve f s size advance turns copies gap shift a late b ins outs close lines n sound_f sound_s closing is_late law closes back sets nodes source body inputs before beats end one spaced x served =
     spare_served f s size advance turns copies gap shift n sound_f sound_s closing a late b ins outs is_late law close closes back
-    (λ t. IsPlanResult nodes source (inputs t)) (OfBody nodes body) before lines beats end one spaced x served
+    (λ t. IsPlanResult nodes source (inputs t)) (OfBody sets nodes body) before lines beats end one spaced x served
 
 pub spares_schedule : SparesSchedule
 spares_schedule f s size advance turns copies gap shift u a ins n law source =

@@ -12,6 +12,7 @@ use Rattle.gl_wire.specs.Serving.{Serving}
 use Rattle.gl_wire.specs.Shapes.{IsDelayed}
 use Rattle.gl_wire.specs.Spills.{Lines, both_lines}
 use Rattle.gl_wire.specs.Wire.{Carried, stream}
+use Rattle.gl_algebra.specs.Values.{Sets}
 use Rattle.gl_wire.specs.Bodies.{OfBody}
 use Rattle.gl_wire.specs.Lift.{Schedules, tuple_of_any, visits}
 use Rattle.gl_wire.specs.Rotates.{flush_of, lines_of_all, turns_of}
@@ -56,13 +57,14 @@ SparesServe =
     → IsLate shift a late → IsFront size advance copies (stride_of s) late ins
     → IsClose (flush_of turns s) (flush_of turns s + 1 + s.a) late.ends close
     → IsDelayed 1 (record { tuple = tuple_of_any outs copies; ends = close }) b
-    → (nodes : List PlanNode) (source body : ℕ) (inputs : ℕ → Inputs) (before : Lines) (beats : Beats) (last : ℕ)
+    → (sets : Sets) (nodes : List PlanNode) (source body : ℕ) (inputs : ℕ → Inputs) (before : Lines)
+    → (beats : Beats) (last : ℕ)
     → OneStream beats last → Spaced (spare_over turns gap shift f s) beats
     → Serving f (λ t. IsPlanResult nodes source (inputs t)) before beats a
     → ((k : ℕ) → k < copies → Spaced s (beats_of (ins k))
-    → Serving s (λ t. OfBody nodes body (stream (ins k) t)) (lines k) (beats_of (ins k)) (outs k))
+    → Serving s (λ t. OfBody sets nodes body (stream (ins k) t)) (lines k) (beats_of (ins k)) (outs k))
     → ServingOnce (spare_over turns gap shift f s)
-    (IsOfParts (IsPlanResult nodes source (inputs last)) (slices size advance) (OfBody nodes body) (λ rows. false))
+    (IsOfParts (IsPlanResult nodes source (inputs last)) (slices size advance) (OfBody sets nodes body) (λ rows. false))
     (both_lines before (lines_of_all lines copies)) last b
 
 -- the spare copies that windows have make a rotation that suits their source

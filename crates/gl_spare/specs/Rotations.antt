@@ -12,6 +12,7 @@ use Rattle.gl_wire.specs.Once.{OneStream, ServingOnce}
 use Rattle.gl_wire.specs.Serving.{Serving}
 use Rattle.gl_wire.specs.Spills.{Lines, both_lines}
 use Rattle.gl_wire.specs.Wire.{Carried, stream}
+use Rattle.gl_algebra.specs.Values.{Sets}
 use Rattle.gl_wire.specs.Bodies.{OfBody}
 use Rattle.gl_wire.specs.Rotates.{flush_of, lines_of_all}
 use Rattle.gl_wire_registers.specs.Fronts.{Fed, Machine, keyless}
@@ -57,13 +58,14 @@ pub record FeedsSpare (r : SpareRotation) (a : Carried) (g : Fed) : Type 0 where
 abbrev pub ServesSpare : SpareRotation → Carried → (ℕ → Carried) → (ℕ → Carried) → (ℕ → Lines) → Carried → Type 0
 ServesSpare r a ins outs lines b =
     (f : Figures) → IsSound f → Suits r f
-    → (nodes : List PlanNode) (source body : ℕ) (inputs : ℕ → Inputs) (before : Lines) (beats : Beats) (last : ℕ)
+    → (sets : Sets) (nodes : List PlanNode) (source body : ℕ) (inputs : ℕ → Inputs) (before : Lines)
+    → (beats : Beats) (last : ℕ)
     → OneStream beats last → Spaced (figures_over r f) beats
     → Serving f (λ t. IsPlanResult nodes source (inputs t)) before beats a
     → ((k : ℕ) → k < r.spare.copies → Spaced r.body (beats_of (ins k))
-    → Serving r.body (λ t. OfBody nodes body (stream (ins k) t)) (lines k) (beats_of (ins k)) (outs k))
+    → Serving r.body (λ t. OfBody sets nodes body (stream (ins k) t)) (lines k) (beats_of (ins k)) (outs k))
     → ServingOnce (figures_over r f)
-    (IsOfParts (IsPlanResult nodes source (inputs last)) (slices r.size r.advance) (OfBody nodes body) (λ rows. false))
+    (IsOfParts (IsPlanResult nodes source (inputs last)) (slices r.size r.advance) (OfBody sets nodes body) (λ rows. false))
     (both_lines before (lines_of_all lines r.spare.copies)) last b
 
 -- what its front and its back promise

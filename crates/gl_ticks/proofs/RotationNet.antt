@@ -46,7 +46,7 @@ is_root_backed old new t f copies e is h many j = keyless_backed old new (copies
   where
     serving : (run : Run) → IsRun new run → IsDelayed 1 (record { tuple = tuple_of_any (gives_of run copies) (copies_of t.rotation); ends = line_at run f.close }) (carried run e.wire)
         → ServesTimesOnce t.rotation (line_of run (Some t.tick)) (carried run f.source.wire) (carried_of run f.wires) (gives_of run copies) (told_of run copies) (carried run e.wire)
-    serving run z delayed g ticks n nodes body beats last one spaced fits at apart served =
+    serving run z delayed g ticks n sets nodes body beats last one spaced fits at apart served =
         let fed = h.feeds run (j.keeps.runs run z) in
         times_serve_once t.rotation (line_at run t.tick) (carried run f.source.wire) (carried run e.wire) (carried_of run f.wires) (gives_of run copies) (line_at run f.close) (told_of run copies)
-        is (fed.front (has_room t.rotation is (line_at run t.tick) (carried run f.source.wire) beats last one fits at)) fed.closes delayed g ticks n nodes body beats last one spaced fits at apart served
+        is (fed.front (has_room t.rotation is (line_at run t.tick) (carried run f.source.wire) beats last one fits at)) fed.closes delayed g ticks n sets nodes body beats last one spaced fits at apart served

@@ -126,5 +126,5 @@ module _ (r : TimeRotation) (is : IsTimeRotation r) (tick : ℕ → Bool) (a b :
   }
 
 pub times_serve_once : TimesServeOnce
-times_serve_once r tick a b ins outs close lines is front closes back f ticks n nodes body beats last one spaced fits at apart served =
-    times_served r is tick a b ins outs close lines front closes back f ticks n (OfBody nodes body) beats last one spaced fits at apart served
+times_serve_once r tick a b ins outs close lines is front closes back f ticks n sets nodes body beats last one spaced fits at apart served =
+    times_served r is tick a b ins outs close lines front closes back f ticks n (OfBody sets nodes body) beats last one spaced fits at apart served

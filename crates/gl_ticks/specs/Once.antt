@@ -7,6 +7,7 @@ use Rattle.gl_algebra.specs.FigureTable.{input_figures}
 use Rattle.gl_values.specs.Results.{AreJoined}
 use Rattle.gl_values.specs.Times.{tslices}
 use Rattle.gl_wire.specs.Beats.{Beats, Spaced, beats_of}
+use Rattle.gl_algebra.specs.Values.{Sets}
 use Rattle.gl_wire.specs.Bodies.{OfBody}
 use Rattle.gl_wire.specs.Lift.{tuple_of_any}
 use Rattle.gl_wire.specs.Once.{OneStream, ServingOnce}
@@ -32,12 +33,13 @@ abbrev pub ServesTimesOnce : TimeRotation → (ℕ → Bool) → Carried → (�
     → Carried → Type 0
 ServesTimesOnce r tick a ins outs lines b =
     (f : Figures) (ticks : ℕ) → IsFarEnough r f ticks
-    → (nodes : List PlanNode) (body : ℕ) (beats : Beats) (last : ℕ) → OneStream beats last → Spaced f beats
+    → (sets : Sets) (nodes : List PlanNode) (body : ℕ) (beats : Beats) (last : ℕ) → OneStream beats last
+    → Spaced f beats
     → Fits input_figures beats a → TicksFit tick beats → TicksApart ticks tick beats
     → ((k : ℕ) → k < copies_of r → Spaced r.body (beats_of (ins k))
-    → Serving r.body (λ t. OfBody nodes body (stream (ins k) t)) (lines k) (beats_of (ins k)) (outs k))
+    → Serving r.body (λ t. OfBody sets nodes body (stream (ins k) t)) (lines k) (beats_of (ins k)) (outs k))
     → ServingOnce f
-    (AreJoined (OfBody nodes body)
+    (AreJoined (OfBody sets nodes body)
     (tslices r.size r.advance (times_at tick a last) (ticks_at tick a last) (stream a last)))
     (lines_of_all lines (copies_of r)) last b
 

@@ -63,5 +63,5 @@ aggs_more old mid new cycles s aggs agg bs b all one =
       row = λ run r told t fresh.
           let rows = rows_at run s (suc t) in
           row_at-push run (suc t + cycles) bs b ∙ ap (λ l. l ++ run.at (suc t + cycles) b.node ∷ []) (all.row run (one.keeps.runs run r) told t fresh)
-          ∙ ap (λ v. total_row kinds aggs rows ++ v ∷ []) (one.carries run r told t fresh) ∙ sym (map-append (total_of kinds rows) aggs (agg ∷ []));
+          ∙ ap (λ v. total_row run.held kinds aggs rows ++ v ∷ []) (one.carries run r told t fresh) ∙ sym (map-append (total_of run.held kinds rows) aggs (agg ∷ []));
     }

@@ -8,7 +8,7 @@ use Rattle.gl_algebra.specs.declared.node.PlanAgg.{PlanAgg}
 use Rattle.gl_algebra.specs.declared.node.PlanAgg.TheVariants.{Count, Max, Min}
 use Rattle.gl_algebra.specs.Columns.{kind_of_agg, kind_of_operand}
 use Rattle.gl_algebra.specs.Results.{total_of}
-use Rattle.gl_algebra.specs.Values.{value_of_operand}
+use Rattle.gl_algebra.specs.Values.{Sets, value_of_operand}
 use Rattle.gl_algebra.specs.Weights.{weight_of_agg}
 use Rattle.gl_net.specs.declared.node.Bus.{Bus}
 use Rattle.gl_net.specs.Net.{Net}
@@ -31,7 +31,7 @@ pub agg_is : (old mid new : Net) (s : Stream) (operand : Operand) (agg : PlanAgg
     → most.memories ≤ slot_words s.rows.keep * kept_of_agg s.source.kinds.now agg
     → width_of (kind_of_operand s.source.kinds.now operand) ≡ operand_of_agg s.source.kinds.now agg
     → width ≡ width_of (kind_of_agg s.source.kinds.now agg)
-    → ((rows : List Row) → total (map (λ row. value_of_operand row operand) rows) ≡ total_of s.source.kinds.now rows agg) → IsAggOf old new stages cycles s agg out
+    → ((sets : Sets) (rows : List Row) → total (map (λ row. value_of_operand sets row operand) rows) ≡ total_of sets s.source.kinds.now rows agg) → IsAggOf old new stages cycles s agg out
 agg_is old mid new s operand agg x out most width stages cycles total value h nodes registers memories bits wide same =
     let held : lag_of s.rows.keep * width_of (kind_of_operand s.source.kinds.now operand) ≡ lag_of s.rows.keep * operand_of_agg s.source.kinds.now agg =
     ap (λ (w : ℕ). lag_of s.rows.keep * w) bits in
@@ -46,7 +46,7 @@ agg_is old mid new s operand agg x out most width stages cycles total value h no
       same_width = h.same_width ∙ wide;
       carries = λ run r told t fresh.
           h.carries run r told t fresh ∙ ap total (value.values run (h.keeps.runs run r) told.led t)
-          ∙ same (rows_at run s (suc t));
+          ∙ same run.held (rows_at run s (suc t));
     }
 
 -- the number of rows
@@ -94,8 +94,8 @@ pub extreme_is : (old mid new : Net) (s : Stream) (operand : Operand) (extreme :
 extreme_is old mid new s operand Least x out value h =
     let bits = ap (λ (w : ℕ). slot_words s.rows.keep * (w + 1)) value.same_width in
     agg_is old mid new s operand (Min operand) x out (cost_of_extreme s.rows.keep x.width) x.width 0 0 (least_of (kind_of_operand s.source.kinds.now operand)) value h
-    (omega (arith, lag_small s.rows.keep)) (omega (arith, value.same_width)) (omega (arith, bits)) refl value.same_width (λ rows. refl)
+    (omega (arith, lag_small s.rows.keep)) (omega (arith, value.same_width)) (omega (arith, bits)) refl value.same_width (λ sets rows. refl)
 extreme_is old mid new s operand Greatest x out value h =
     let bits = ap (λ (w : ℕ). slot_words s.rows.keep * (w + 1)) value.same_width in
     agg_is old mid new s operand (Max operand) x out (cost_of_extreme s.rows.keep x.width) x.width 0 0 (greatest_of (kind_of_operand s.source.kinds.now operand)) value h
-    (omega (arith, lag_small s.rows.keep)) (omega (arith, value.same_width)) (omega (arith, bits)) refl value.same_width (λ rows. refl)
+    (omega (arith, lag_small s.rows.keep)) (omega (arith, value.same_width)) (omega (arith, bits)) refl value.same_width (λ sets rows. refl)

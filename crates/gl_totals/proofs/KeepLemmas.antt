@@ -20,7 +20,7 @@ stream_kept old new s keeps is = record {
   valid = bit_kept old new s.rows.valid keeps is.valid;
   eos = bit_kept old new s.rows.eos keeps is.eos;
   keep = keep_kept old new s.rows.keep keeps is.keep;
-  source = source_kept old new s.source.columns.now s.source.kinds.now keeps is.source;
+  source = source_kept old new s.source.columns.now s.source.kinds.now s.source.words.now keeps is.source;
 }
 
 pub lag_small : (keep : Keep) → lag_of keep ≤ 1

@@ -137,13 +137,13 @@ table_is old one two three new table w slot first l source outs end place kinds_
           let firsts = lines.firsts run at_lines in
           let slots = lines.slots run at_lines in
           let whole : 1 + (m - 1) ≡ m = omega (arith, least) in
-          at_ends run w slot first end outs place m (total_row kinds aggs) begins
+          at_ends run w slot first end outs place m (total_row run.held kinds aggs) begins
           (subst (λ (n : ℕ). IsLineBehind run n w.eos end) whole (line_joined run 1 (m - 1) w.eos l.eos end (line_behind_one run w.eos l.eos ends) (line.line run (later.keeps.runs run r))))
           (slot_at run (later.value run r) slots)
           (λ t fresh.
           let e : suc t + m ≡ suc (suc t) + (m - 1) = omega (arith, least) in
           ap (λ (n : ℕ). row_at run n outs) e
           ∙ all.row run at_all (lines_told run w slot first l begins valids ends firsts slots) (suc t) (fresh_later run w slot first l begins valids ends firsts slots t fresh)
-          ∙ ap (λ (bs : List Bus). total_row kinds aggs (rows_now (lane_by run (in_memory l.valid l.eos l.first first l.slot slot)) (row_by run (Slots l.first first l.slot slot) bs) (suc (suc t)))) is_columns
-          ∙ ap (total_row kinds aggs) (rows_later run w slot first l begins valids ends firsts slots t)) k;
+          ∙ ap (λ (bs : List Bus). total_row run.held kinds aggs (rows_now (lane_by run (in_memory l.valid l.eos l.first first l.slot slot)) (row_by run (Slots l.first first l.slot slot) bs) (suc (suc t)))) is_columns
+          ∙ ap (total_row run.held kinds aggs) (rows_later run w slot first l begins valids ends firsts slots t)) k;
     }

@@ -74,7 +74,7 @@ line_within kinds (agg ∷ aggs) f =
 pub totals_behind : OneIsSingle → (old mid new : Net) (a : Emitted) (aggs : List PlanAgg) (source : Source) (outs : List Bus) (end : Bit) → source.columns.now ≡ a.wire.columns
     → AreAggsOf old mid (delay_of_aggs source.kinds.now aggs) (record { rows = in_register a.wire.valid a.wire.eos; source = source }) aggs outs
     → IsBitBehind mid new (delay_of_aggs source.kinds.now aggs) a.wire.eos end
-    → IsBehind old new (AtEnds (delay_of_aggs source.kinds.now aggs) (total_row source.kinds.now aggs)) (total_widths source.kinds.now aggs)
+    → IsBehind old new (λ sets. AtEnds (delay_of_aggs source.kinds.now aggs) (total_row sets source.kinds.now aggs)) (total_widths source.kinds.now aggs)
     (cost_of_aggs source.kinds.now aggs) a (record { wire = wire_of end end outs; faults = a.faults })
 totals_behind one_is_single old mid new a aggs source outs end is_columns all line =
     let kinds = source.kinds.now in
@@ -91,9 +91,9 @@ totals_behind one_is_single old mid new a aggs source outs end is_columns all li
       faults = refl;
       shape = λ run r.
           let one = one_is_single (line_at run a.wire.valid) (line_at run a.wire.eos) (line_first run a.wire.valid) (line_first run a.wire.eos) in
-          totals_end run a.wire end outs m (total_row kinds aggs) (line.line run r)
+          totals_end run a.wire end outs m (total_row run.held kinds aggs) (line.line run r)
           (λ t.
           all.row run (line.keeps.runs run r) (record { begins = one.begins; led = tt }) t (one.fresh t)
-          ∙ ap (λ (bs : List Bus). total_row kinds aggs (rows_now (single (line_at run a.wire.valid) (line_at run a.wire.eos)) (λ c. row_at run c bs) (suc t))) is_columns
-          ∙ ap (total_row kinds aggs) (stream_single run a.wire (suc t)));
+          ∙ ap (λ (bs : List Bus). total_row run.held kinds aggs (rows_now (single (line_at run a.wire.valid) (line_at run a.wire.eos)) (λ c. row_at run c bs) (suc t))) is_columns
+          ∙ ap (total_row run.held kinds aggs) (stream_single run a.wire (suc t)));
     }

@@ -43,7 +43,7 @@ value_at_once old new s operand x h is =
       bus = h.bus;
       same_width = h.same_width;
       values = λ run r led t.
-          rows_through (λ row. value_of_operand row operand) (lane_by run (in_register s.rows.valid s.rows.eos)) (row_by run Register s.source.columns.now) (λ c. run.at c x.node)
+          rows_through (λ row. value_of_operand run.held row operand) (lane_by run (in_register s.rows.valid s.rows.eos)) (row_by run Register s.source.columns.now) (λ c. run.at c x.node)
           (λ c p. h.carries run r c) (suc t);
     })
 
@@ -62,12 +62,12 @@ value_later old mid new s operand x y first begins slot next h later is =
       bus = later.bus;
       same_width = later.same_width ∙ h.same_width;
       values = λ run r led t.
-          rows_through (λ row. value_of_operand row operand) (lane_by run (in_memory s.rows.valid s.rows.eos first begins slot next)) (row_by run (Slots first begins slot next) s.source.columns.now)
+          rows_through (λ row. value_of_operand run.held row operand) (lane_by run (in_memory s.rows.valid s.rows.eos first begins slot next)) (row_by run (Slots first begins slot next) s.source.columns.now)
           (λ c. run.at c y.node) (held run r led) (suc t);
     })
   where
     held : (run : Run) → IsRun new run → IsLed run s.rows.valid (Slots first begins slot next) → (c : ℕ) → line_at run s.rows.valid c ≡ true
-        → run.at c y.node ≡ value_of_operand (row_by run (Slots first begins slot next) s.source.columns.now c) operand
+        → run.at c y.node ≡ value_of_operand run.held (row_by run (Slots first begins slot next) s.source.columns.now c) operand
     held run r led zero p = absurd (let low = line_first run s.rows.valid in cc (low, p))
     held run r led (suc zero) p = absurd (let low = led.0 in cc (low, p))
     held run r led (suc (suc c)) p = later.value run r c ∙ h.carries run (later.keeps.runs run r) (suc c)

@@ -42,5 +42,5 @@ pub record IsTable (old new : Net) (table : Table) (rows : Wire) (slot : Bus) (f
   pub slots : (run : Run) → IsRun new run → (t : ℕ)
       → run.at (suc t + delay_of_aggs table.kinds.now table.aggs.now) out.slot.node ≡ run.at (suc t) slot.node
   pub shares : (run : Run) → IsRun new run → Begins (lane_of run rows slot first) → (k : ℕ)
-      → AtEnds (delay_of_aggs table.kinds.now table.aggs.now) (total_row table.kinds.now table.aggs.now)
+      → AtEnds (delay_of_aggs table.kinds.now table.aggs.now) (total_row run.held table.kinds.now table.aggs.now)
       (share (slot_of run slot) k (carried run rows)) (share (slot_of run out.slot) k (carried run out.wire))

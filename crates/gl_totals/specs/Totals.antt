@@ -9,7 +9,7 @@ use Rattle.gl_algebra.specs.declared.node.PlanAgg.{PlanAgg}
 use Rattle.gl_algebra.specs.declared.node.PlanAgg.TheVariants.{Max, Min}
 use Rattle.gl_algebra.specs.Columns.{kind_of_agg, kind_of_operand}
 use Rattle.gl_algebra.specs.Results.{total_of}
-use Rattle.gl_algebra.specs.Values.{value_of_operand}
+use Rattle.gl_algebra.specs.Values.{Sets, value_of_operand}
 use Rattle.gl_net.specs.declared.node.Bus.{Bus}
 use Rattle.gl_net.specs.Net.{Net, Run, IsRun, IsBit, IsBus, Keeps}
 use Rattle.gl_wire.specs.Costs.{Cost, CostsAtMost}
@@ -44,7 +44,7 @@ pub record IsStream (net : Net) (s : Stream) : Type 0 where
   pub valid : IsBit net s.rows.valid
   pub eos : IsBit net s.rows.eos
   pub keep : KeepFits net s.rows.keep
-  pub source : IsSource net s.source.columns.now s.source.kinds.now
+  pub source : IsSource net s.source.columns.now s.source.kinds.now s.source.words.now
 
 -- the rows of a cycle's stream, this cycle's own included
 abbrev pub rows_at : Run → Stream → ℕ → List Row
@@ -61,7 +61,7 @@ pub record IsValueOf (old new : Net) (s : Stream) (operand : Operand) (x : Bus) 
   pub bus : IsBus new x
   pub same_width : x.width ≡ width_of (kind_of_operand s.source.kinds.now operand)
   pub values : (run : Run) → IsRun new run → IsLed run s.rows.valid s.rows.keep → (t : ℕ)
-      → values_at run s.rows x (suc t) ≡ map (λ row. value_of_operand row operand) (rows_at run s (suc t))
+      → values_at run s.rows x (suc t) ≡ map (λ row. value_of_operand run.held row operand) (rows_at run s (suc t))
 
 -- the aggregate that takes this extreme of an operand
 abbrev pub agg_of_extreme : Extreme → Operand → PlanAgg
@@ -76,11 +76,11 @@ pub record IsAggOf (old new : Net) (stages cycles : ℕ) (s : Stream) (agg : Pla
   pub same_width : out.width ≡ width_of (kind_of_agg s.source.kinds.now agg)
   pub carries : (run : Run) → IsRun new run → AreTold run s.rows
       → (t : ℕ) → IsFresh (lane_by run s.rows) (suc t)
-      → run.at (suc t + cycles) out.node ≡ total_of s.source.kinds.now (rows_at run s (suc t)) agg
+      → run.at (suc t + cycles) out.node ≡ total_of run.held s.source.kinds.now (rows_at run s (suc t)) agg
 
--- the row of all aggregates over some rows
-abbrev pub total_row : List Kind → List PlanAgg → List Row → Row
-total_row kinds aggs rows = map (total_of kinds rows) aggs
+-- the row of all aggregates over some rows, where the parameters have these words
+abbrev pub total_row : Sets → List Kind → List PlanAgg → List Row → Row
+total_row sets kinds aggs rows = map (total_of sets kinds rows) aggs
 
 -- the widths of aggregates over columns of these kinds
 abbrev pub total_widths : List Kind → List PlanAgg → List ℕ
@@ -93,4 +93,4 @@ pub record AreAggsOf (old new : Net) (cycles : ℕ) (s : Stream) (aggs : List Pl
   pub buses : AreBuses new outs
   pub same_widths : widths outs ≡ total_widths s.source.kinds.now aggs
   pub row : (run : Run) → IsRun new run → AreTold run s.rows → (t : ℕ) → IsFresh (lane_by run s.rows) (suc t)
-      → row_at run (suc t + cycles) outs ≡ total_row s.source.kinds.now aggs (rows_at run s (suc t))
+      → row_at run (suc t + cycles) outs ≡ total_row run.held s.source.kinds.now aggs (rows_at run s (suc t))

@@ -2,8 +2,10 @@
 
 ghost use Rattle.std.specs.Prelude.{◌≡◌, ◌≤◌, All, IfOk, length, map};
 ghost use Rattle.gl_algebra.specs.Columns.{AggFits};
+ghost use Rattle.gl_algebra.specs.Known.{AggKnown};
 ghost use Rattle.gl_values.specs.Kinds.{IsKind, width_of};
 ghost use Rattle.gl_net.specs.Net.{IsBit, IsBus};
+ghost use Rattle.gl_rows.specs.Made.{AreHeldBuses};
 ghost use Rattle.gl_totals.specs.Open.{in_memory};
 ghost use Rattle.gl_totals.specs.Tables.{AreLinesBehind, IsTable};
 ghost use Rattle.gl_wire.specs.Wire.{IsWire, widths};
@@ -26,6 +28,8 @@ use std::alloc::Global;
 pub struct Table<'a> {
     /// The kinds of the columns that come.
     pub kinds: &'a [Kind],
+    /// The buses of the parameters, in the order of their numbers.
+    pub words: &'a [Bus],
     /// The aggregates, of which there is at least one.
     pub aggs: &'a [PlanAgg],
 }
@@ -109,6 +113,8 @@ impl Table<'_> {
         requires kinds { widths rows.now.columns ≡ map width_of self.now.kinds.now }
         requires are_kinds { All IsKind self.now.kinds.now }
         requires aggs { All (AggFits self.now.kinds.now) self.now.aggs.now }
+        requires words { AreHeldBuses net.old self.now.words.now }
+        requires known { All (AggKnown (widths self.now.words.now)) self.now.aggs.now }
         requires some { 1 ≤ length self.now.aggs.now }
         requires slot { IsBus net.old slot }
         requires bits { 1 ≤ slot.width }
@@ -122,6 +128,7 @@ impl Table<'_> {
             source: Source {
                 columns: rows.columns.as_slice(),
                 kinds: self.kinds,
+                words: self.words,
             },
         };
         let more = delay_of_aggs(self.kinds, self.aggs) - 1;

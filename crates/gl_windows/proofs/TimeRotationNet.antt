@@ -199,7 +199,7 @@ is_time_backed old new t f copies e is h many j = keyless_backed old new (copies
   where
     serving : (run : Run) → IsRun new run → IsDelayed 1 (record { tuple = tuple_of_any (gives_of run copies) (copies_of t.rotation); ends = line_at run f.close }) (carried run e.wire)
         → ServesTimes t.rotation (line_of run (Some t.tick)) (carried run f.source.wire) (carried_of run f.wires) (gives_of run copies) (told_of run copies) (carried run e.wire)
-    serving run z delayed nodes body beats spaced fits at served =
+    serving run z delayed sets nodes body beats spaced fits at served =
         let fed = h.feeds run (j.keeps.runs run z) in
         times_serve t.rotation (line_at run t.tick) (carried run f.source.wire) (carried run e.wire) (carried_of run f.wires) (gives_of run copies) (line_at run f.close) (told_of run copies)
-        is (fed.front (has_room t.rotation (line_at run t.tick) (carried run f.source.wire) beats is spaced fits at)) fed.closes delayed nodes body beats spaced fits at served
+        is (fed.front (has_room t.rotation (line_at run t.tick) (carried run f.source.wire) beats is spaced fits at)) fed.closes delayed sets nodes body beats spaced fits at served

@@ -110,17 +110,17 @@ module _ (r : TimeRotation) (is : IsTimeRotation r) (tick : ℕ → Bool) (a b :
 
   pub served_by : (Timed g1 g2 a (by_ticks tick a) → Rotates r.body count count g1 (λ n. n) (λ n. max n 1 - 1 + count) rows_of a (by_ticks tick a) windows_at who ins)
       → ServesTimes r tick a ins outs lines b
-  served_by rotates nodes body beats spaced fits at served =
+  served_by rotates sets nodes body beats spaced fits at served =
       let timed = in_time beats spaced fits at in
       let rot = rotates timed in
-      let lifted = lift_spills r.body (λ u. OfBody nodes body) count who lines ins outs is.sound is.closing rot.schedules (λ k l. served k l (rot.schedules.spaced k l)) in
+      let lifted = lift_spills r.body (λ u. OfBody sets nodes body) count who lines ins outs is.sound is.closing rot.schedules (λ k l. served k l (rot.schedules.spaced k l)) in
       let given = whole_serving input_figures r.body (time_figures r) count count g1 g2 (λ n. n) (λ n. max n 1 - 1 + count) rows_of (window_table count input_figures r.body some is.sound)
-      stream_sound is.sound sound some beats spaced a fits who ins outs (OfBody nodes body) lines lifted b close back close_first (closes_late timed)
+      stream_sound is.sound sound some beats spaced a fits who ins outs (OfBody sets nodes body) lines lifted b close back close_first (closes_late timed)
       (by_ticks tick a) windows_at (ticks_keep tick beats a fits at) timed rot in
       record {
         fits = given.fits;
         spill = given.spill;
-        right = λ t e p he. subst (λ z. AreJoined (OfBody nodes body) (windows_at z) (stream b e) (given.spill t)) (at_end beats spaced fits at t p) (given.right t e p he);
+        right = λ t e p he. subst (λ z. AreJoined (OfBody sets nodes body) (windows_at z) (stream b e) (given.spill t)) (at_end beats spaced fits at t p) (given.right t e p he);
         low = given.low;
         told = given.told;
         so = given.so;

@@ -187,8 +187,8 @@ module _ (timed_by : FitsIsTimed) (f s : Figures) (sound_f : IsSound f) (sound_s
 
 -- for a body of a plan
 pub rotations_serve : FitsIsTimed → RotationsServe
-rotations_serve timed_by r f a b ins outs close lines is sound_f front closes back nodes body beats spaced fits near served =
-    windows_served timed_by f r.body sound_f is.sound is.closing r.size r.advance r.copies is.rows is.step is.some' is.cover a ins outs front (OfBody nodes body) lines b close back closes
+rotations_serve timed_by r f a b ins outs close lines is sound_f front closes back sets nodes body beats spaced fits near served =
+    windows_served timed_by f r.body sound_f is.sound is.closing r.size r.advance r.copies is.rows is.step is.some' is.cover a ins outs front (OfBody sets nodes body) lines b close back closes
     beats spaced fits near served
 
 pub windows_rotate : WindowsRotate

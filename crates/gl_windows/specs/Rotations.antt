@@ -23,6 +23,7 @@ use Rattle.gl_wire_registers.specs.Lines.{carried_of}
 use Rattle.gl_wire_registers.specs.Timers.{IsClose}
 use Rattle.gl_windows.specs.declared.rotation.Rotation.{Rotation}
 use Rattle.gl_windows.specs.Costs.{cost_of_front}
+use Rattle.gl_algebra.specs.Values.{Sets}
 use Rattle.gl_wire.specs.Bodies.{OfBody}
 use Rattle.gl_windows.specs.Front.{IsFront}
 
@@ -60,12 +61,13 @@ pub record FeedsWindows (r : Rotation) (a : Carried) (g : Fed) : Type 0 where
 -- apart
 abbrev pub ServesWindows : Rotation → Figures → Carried → (ℕ → Carried) → (ℕ → Carried) → (ℕ → Lines) → Carried → Type 0
 ServesWindows r f a ins outs lines b =
-    (nodes : List PlanNode) (body : ℕ) (beats : Beats) → Spaced (windows_over r.copies f r.body) beats → Fits f beats a
+    (sets : Sets) (nodes : List PlanNode) (body : ℕ) (beats : Beats)
+    → Spaced (windows_over r.copies f r.body) beats → Fits f beats a
     → CarriesApart (window_gap r.body) a
     → ((k : ℕ) → k < r.copies → Spaced r.body (beats_of (ins k))
-    → Serving r.body (λ u. OfBody nodes body (stream (ins k) u)) (lines k) (beats_of (ins k)) (outs k))
+    → Serving r.body (λ u. OfBody sets nodes body (stream (ins k) u)) (lines k) (beats_of (ins k)) (outs k))
     → ServedWithLines f (windows_over r.copies f r.body)
-    (λ xs ys p. AreJoined (OfBody nodes body) (slices r.size r.advance xs) ys p)
+    (λ xs ys p. AreJoined (OfBody sets nodes body) (slices r.size r.advance xs) ys p)
     (lines_of_all lines r.copies) beats a b
 
 -- what its front and its back promise

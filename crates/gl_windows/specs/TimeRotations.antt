@@ -19,6 +19,7 @@ use Rattle.gl_wire.specs.Serving.{Serving}
 use Rattle.gl_wire.specs.Shapes.{IsDelayed}
 use Rattle.gl_wire.specs.Spills.{Lines}
 use Rattle.gl_wire.specs.Wire.{Carried, IsWire, carried, line_at, stream, widths}
+use Rattle.gl_algebra.specs.Values.{Sets}
 use Rattle.gl_wire.specs.Bodies.{OfBody}
 use Rattle.gl_wire.specs.Lift.{tuple_of_any}
 use Rattle.gl_wire.specs.Rotates.{flush_of, lines_of_all}
@@ -87,12 +88,13 @@ pub record FeedsTimes (r : TimeRotation) (tick : ℕ → Bool) (a : Carried) (g 
 abbrev pub ServesTimes : TimeRotation → (ℕ → Bool) → Carried → (ℕ → Carried) → (ℕ → Carried) → (ℕ → Lines) → Carried
     → Type 0
 ServesTimes r tick a ins outs lines b =
-    (nodes : List PlanNode) (body : ℕ) (beats : Beats) → Spaced (time_figures r) beats → Fits input_figures beats a
+    (sets : Sets) (nodes : List PlanNode) (body : ℕ) (beats : Beats)
+    → Spaced (time_figures r) beats → Fits input_figures beats a
     → TicksFit tick beats
     → ((k : ℕ) → k < copies_of r → Spaced r.body (beats_of (ins k))
-    → Serving r.body (λ u. OfBody nodes body (stream (ins k) u)) (lines k) (beats_of (ins k)) (outs k))
+    → Serving r.body (λ u. OfBody sets nodes body (stream (ins k) u)) (lines k) (beats_of (ins k)) (outs k))
     → Serving (time_figures r)
-    (λ t. AreJoined (OfBody nodes body)
+    (λ t. AreJoined (OfBody sets nodes body)
     (tslices r.size r.advance (times_at tick a t) (ticks_at tick a t) (stream a t)))
     (lines_of_all lines (copies_of r)) beats b
 

@@ -4,6 +4,7 @@ use Rattle.std.specs.Prelude.{◌≡◌, ℕ, ◌≤◌, List, Some, Bool, true,
 use Rattle.gl_algebra.specs.declared.figures.Figures.{Figures}
 use Rattle.gl_values.specs.Results.{Row, Results}
 use Rattle.gl_algebra.specs.Results.{Inputs}
+use Rattle.gl_algebra.specs.Values.{Sets}
 use Rattle.gl_wire.specs.Beats.{Beats, Ends}
 use Rattle.gl_wire.specs.Wire.{Carried, stream}
 use Rattle.gl_wire.specs.Serves.{HasEnd, Fits, Meaning}
@@ -27,9 +28,9 @@ pub record Serving (f : Figures) (means : ℕ → Results) (lines : Lines) (beat
   pub late : Ends beats → (c : ℕ) → lines.further c ≡ true → (e : ℕ) × (c ≤ e) × (b.ends e ≡ true)
 
 -- what the leaves give at a beat: the stream of each leaf's wire, and that of a body's input, each row at the cycle in
--- which it comes, with the times and ticks of a line beside them
-abbrev pub inputs_at : (ℕ → Bool) → (ℕ → Carried) → Carried → ℕ → Inputs
-inputs_at tick streams body t =
+-- which it comes, with the times and ticks of a line beside them, and the words of the parameters
+abbrev pub inputs_at : Sets → (ℕ → Bool) → (ℕ → Carried) → Carried → ℕ → Inputs
+inputs_at sets tick streams body t =
     record {
       streams = λ k. stream (streams k) t;
       places = λ k. cycles_at (streams k) t;
@@ -37,6 +38,7 @@ inputs_at tick streams body t =
       ticks = ticks_at tick body t;
       body = stream body t;
       body_places = cycles_at body t;
+      sets = sets;
     }
 
 -- what a block makes of results

@@ -3,7 +3,9 @@
 ghost use Rattle.std.specs.Prelude.{◌≡◌, ℕ, List, IfOk};
 ghost use Rattle.gl_algebra.specs.declared.figures.Figures.{Figures};
 ghost use Rattle.gl_algebra.specs.FigureTable.{AreSmall, IsSound};
+ghost use Rattle.gl_algebra.specs.Values.{Sets};
 ghost use Rattle.gl_values.specs.Results.{Row};
+ghost use Rattle.gl_net.specs.Net.{Net};
 ghost use Rattle.gl_wire.specs.Blocks.{IsBehind};
 ghost use Rattle.gl_wire.specs.Costs.{Cost};
 ghost use Rattle.gl_wire.specs.Operators.{ServesIn};
@@ -17,8 +19,8 @@ use std::alloc::Global;
 
 /// An operator of one input. It holds the kinds of its columns where it needs them.
 pub trait Operator {
-    /// Whether it takes an input with columns of these widths.
-    ghost takes: { Self → List ℕ → Type 0 };
+    /// Whether it takes an input with columns of these widths, in this netlist.
+    ghost takes: { Self → Net → List ℕ → Type 0 };
 
     /// The widths of the columns that it gives for those of its input.
     ghost gives: { Self → List ℕ → List ℕ };
@@ -26,11 +28,11 @@ pub trait Operator {
     /// What it costs at most.
     ghost most: { Self → List ℕ → Cost };
 
-    /// What its wire carries, for what its input carries.
-    ghost shape: { Self → Carried → Carried → Type 0 };
+    /// What its wire carries, for what its input carries and the words of the parameters.
+    ghost shape: { Self → Sets → Carried → Carried → Type 0 };
 
-    /// Which rows may come out for those that come in.
-    ghost means: { Self → List Row → List Row → Type 0 };
+    /// Which rows may come out for those that come in and the words of the parameters.
+    ghost means: { Self → Sets → List Row → List Row → Type 0 };
 
     /// The figures of its output for those of its input.
     ghost figures_of: { Self → Figures → Figures };
@@ -45,7 +47,7 @@ pub trait Operator {
     /// Adds the operator behind its input, and gives what comes out.
     fn emit(&self, alloc: Global, net: &mut NetBuilder, below: Emitted) -> Result<Emitted, Memory>
         requires wire { IsWire net.old below.wire }
-        requires columns { takes self.now (widths below.wire.columns) }
+        requires columns { takes self.now net.old (widths below.wire.columns) }
         ensures behind { IfOk result (IsBehind net.old net.new (shape self.now)
             (gives self.now (widths below.wire.columns)) (most self.now (widths below.wire.columns)) below) }
         ensures serves { IfOk result

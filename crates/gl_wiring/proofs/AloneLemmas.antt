@@ -36,7 +36,7 @@ bits_behind new old own further keys more h = omega (arith, h)
 pub once_by : LawsBelow → (nodes : List PlanNode) (id ticks : ℕ) (net : Net) (tick : Option Bit) (leaves : List Wire) (e : Emitted) → IsPlan nodes → id < length nodes
     → Gives nodes id net tick leaves e → (run : Run) → IsRun net run → ServesOnceBy (figures_of nodes id) ticks nodes id tick leaves e run
 once_by laws nodes id ticks net tick leaves e plan within gives run is beats last one spaced has apart =
-    serving_once (figures_of nodes id) (λ t. IsPlanResult nodes id (inputs_at (line_of run tick) (leaf run leaves) (leaf run leaves 0) t)) (lines_of run e.faults)
+    serving_once (figures_of nodes id) (λ t. IsPlanResult nodes id (inputs_at run.held (line_of run tick) (leaf run leaves) (leaf run leaves 0) t)) (lines_of run e.faults)
     beats (carried run e.wire) last (laws.figures_are_sound nodes id plan within) spaced one (gives.serving run is beats spaced has)
 
 pub root_alone : LawsBelow → (nodes : List PlanNode) (root : ℕ) (old new : Net) (tick : Option Bit) (leaves : List Wire) (e : Emitted) → IsPlan nodes → root < length nodes

@@ -3,10 +3,10 @@ use Rattle.std.proofs.Common.{◌≡◌, ℕ, zero, suc, ◌+◌, ◌<◌, ◌�
 use Rattle.std.specs.Option.{option_to_list}
 use Rattle.std.specs.List.{cons_option}
 use Rattle.std.proofs.lemmas.Bool.{ne_eqb, cases_eq}
-use Rattle.gl_schema.specs.Beats.{Beat, AreInOrder, row_in, input_of, last_cycle, beat_at, ends_at}
+use Rattle.gl_schema.specs.Beats.{Beat, AreInOrder, row_in, input_of, last_in, beat_at, ends_at}
 use Rattle.gl_wiring.specs.Bringing.{row_at}
 
-pub last_late : (b : Beat) (bs : List Beat) → AreInOrder (b ∷ bs) → b.cycle ≤ last_cycle (b ∷ bs)
+pub last_late : (b : Beat) (bs : List Beat) → AreInOrder (b ∷ bs) → b.cycle ≤ last_in (b ∷ bs)
 last_late b [] k = omega arith
 last_late b (c ∷ bs) k = omega (arith, k.1, last_late c bs k.2)
 
@@ -14,17 +14,17 @@ pub before_none : (b : Beat) (bs : List Beat) (n : ℕ) → AreInOrder (b ∷ bs
 before_none b [] n k lt = rw (ne_eqb b.cycle n (λ e. omega arith)) refl
 before_none b (c ∷ bs) n k lt = rw (ne_eqb b.cycle n (λ e. omega arith)) (before_none c bs n k.2 (omega (arith, k.1)))
 
-pub after_none : (beats : List Beat) (n : ℕ) → AreInOrder beats → last_cycle beats < n → beat_at beats n ≡ None
+pub after_none : (beats : List Beat) (n : ℕ) → AreInOrder beats → last_in beats < n → beat_at beats n ≡ None
 after_none [] n k lt = refl
 after_none (b ∷ []) n k lt = rw (ne_eqb b.cycle n (λ e. omega arith)) refl
 after_none (b ∷ c ∷ bs) n k lt = rw (ne_eqb b.cycle n (λ e. omega (arith, k.1, last_late c bs k.2))) (after_none (c ∷ bs) n k.2 lt)
 
-pub ends_last : (beats : List Beat) → AreInOrder beats → ends_at beats (last_cycle beats) ≡ true
+pub ends_last : (beats : List Beat) → AreInOrder beats → ends_at beats (last_in beats) ≡ true
 ends_last [] k = absurd k
 ends_last (b ∷ []) k = rw (eq-eqb b.cycle b.cycle refl) k
-ends_last (b ∷ c ∷ bs) k = rw (ne_eqb b.cycle (last_cycle (c ∷ bs)) (λ e. omega (arith, k.1, last_late c bs k.2))) (ends_last (c ∷ bs) k.2)
+ends_last (b ∷ c ∷ bs) k = rw (ne_eqb b.cycle (last_in (c ∷ bs)) (λ e. omega (arith, k.1, last_late c bs k.2))) (ends_last (c ∷ bs) k.2)
 
-pub ends_only : (beats : List Beat) (n : ℕ) → AreInOrder beats → ends_at beats n ≡ true → n ≡ last_cycle beats
+pub ends_only : (beats : List Beat) (n : ℕ) → AreInOrder beats → ends_at beats n ≡ true → n ≡ last_in beats
 ends_only [] n k e = absurd k
 ends_only (b ∷ []) n k e = elim (cases_eq b.cycle n) [
   | inl h ↦ sym h
@@ -55,7 +55,7 @@ cons_is None xs = refl
 cons_is (Some x) xs = refl
 
 -- all rows, where the cycles begin before the first beat and reach past the last one
-all_rows : (k n at : ℕ) (b : Beat) (bs : List Beat) → AreInOrder (b ∷ bs) → at ≤ b.cycle → last_cycle (b ∷ bs) < at + n → rows_from k (b ∷ bs) at n ≡ input_of k (b ∷ bs)
+all_rows : (k n at : ℕ) (b : Beat) (bs : List Beat) → AreInOrder (b ∷ bs) → at ≤ b.cycle → last_in (b ∷ bs) < at + n → rows_from k (b ∷ bs) at n ≡ input_of k (b ∷ bs)
 unfolding rows_from
 all_rows k zero at b bs h from past = absurd (omega (arith, last_late b bs h))
 all_rows k (suc n) at b [] h from past =
@@ -70,6 +70,6 @@ all_rows k (suc n) at b (c ∷ bs) h from past =
     ]
 
 -- all rows of a stream up to the last beat
-pub file_rows : (k : ℕ) (bs : List Beat) → AreInOrder bs → rows_from k bs 0 (suc (last_cycle bs)) ≡ input_of k bs
+pub file_rows : (k : ℕ) (bs : List Beat) → AreInOrder bs → rows_from k bs 0 (suc (last_in bs)) ≡ input_of k bs
 file_rows k [] h = absurd h
-file_rows k (b ∷ bs) h = all_rows k (suc (last_cycle (b ∷ bs))) 0 b bs h (omega arith) (omega arith)
+file_rows k (b ∷ bs) h = all_rows k (suc (last_in (b ∷ bs))) 0 b bs h (omega arith) (omega arith)

@@ -10,6 +10,7 @@ use Rattle.gl_algebra.specs.Shapes.{kinds_of, shape_of}
 use Rattle.gl_net.specs.declared.node.Bit.{Bit}
 use Rattle.gl_net.specs.Net.{Net, Run, IsRun, Keeps}
 use Rattle.gl_net.proofs.Determined.{keeps_then}
+use Rattle.gl_algebra.specs.Values.{Sets}
 use Rattle.gl_wire.specs.Bodies.{OfBody, alone}
 use Rattle.gl_wire_registers.specs.Joins.{gives_of, told_by, told_of, wires_of}
 use Rattle.gl_wire_registers.specs.Lines.{carried_of}
@@ -83,8 +84,8 @@ module _ (nodes : List PlanNode) (source gap : ℕ) (g : Figures) (room : Leaves
 -- ---- the copies
 
 -- a copy that gives a body's results over the beats of its own wire
-abbrev pub CopyServes : List PlanNode → ℕ → Figures → Carried → Lines → Carried → Type 0
-CopyServes nodes body s a lines b = Serving s (λ u. OfBody nodes body (stream a u)) lines (beats_of a) b
+abbrev pub CopyServes : Sets → List PlanNode → ℕ → Figures → Carried → Lines → Carried → Type 0
+CopyServes sets nodes body s a lines b = Serving s (λ u. OfBody sets nodes body (stream a u)) lines (beats_of a) b
 
 module _ (laws : LawsBelow) (nodes : List PlanNode) (source body : ℕ) (plan : IsPlan nodes) (in_body : body < length nodes) (for : IsBodyFor (shape_of nodes source) (shape_of nodes body)) where
   abbrev s : Figures
@@ -92,20 +93,20 @@ module _ (laws : LawsBelow) (nodes : List PlanNode) (source body : ℕ) (plan : 
 
   copy_serving : (mid net : Net) (run : Run) (wires : List Wire) (count : ℕ) (copies : List Emitted) → IsRun net run → AreBodies nodes body mid net wires count copies
       → (k : ℕ) (wire : Wire) (x : Emitted) → slice_get wires k ≡ Some wire → slice_get copies k ≡ Some x → Spaced s (beats_of (carried run wire))
-      → CopyServes nodes body s (carried run wire) (lines_of run x.faults) (carried run x.wire)
+      → CopyServes run.held nodes body s (carried run wire) (lines_of run x.faults) (carried run x.wire)
   copy_serving mid net run wires count copies r are k wire x at_wire at_copy spaced_beats =
       let ls : ℕ → Carried = leaf run (wire ∷ []) in
-      serving_as s (λ t. IsPlanResult nodes body (inputs_at (line_of run None) ls (ls 0) t)) (λ u. OfBody nodes body (stream (carried run wire) u)) (lines_of run x.faults)
+      serving_as s (λ t. IsPlanResult nodes body (inputs_at run.held (line_of run None) ls (ls 0) t)) (λ u. OfBody run.held nodes body (stream (carried run wire) u)) (lines_of run x.faults)
       (beats_of (carried run wire)) (carried run x.wire)
-      (λ t ys p h. laws.bodies_read_their_input nodes body plan in_body (kinds_of nodes source) for.leaves (at_positions_in (line_of run None) ls t) (alone (stream (carried run wire) t))
-      (record { rows = refl; places = refl }) ys p
-      (laws.results_go_by_order nodes body plan in_body (cycle_at (ls 0) t) (cycles_rise (ls 0) t) (at_positions_in (line_of run None) ls t) (inputs_at (line_of run None) ls (ls 0) t)
-      (turn_into_cycles (line_of run None) ls t (λ k. silent_stream t)) ys p h))
+      (λ t ys p h. laws.bodies_read_their_input nodes body plan in_body (kinds_of nodes source) for.leaves (at_positions_in run.held (line_of run None) ls t) (alone run.held (stream (carried run wire) t))
+      (record { rows = refl; places = refl; sets = refl }) ys p
+      (laws.results_go_by_order nodes body plan in_body (cycle_at (ls 0) t) (cycles_rise (ls 0) t) (at_positions_in run.held (line_of run None) ls t) (inputs_at run.held (line_of run None) ls (ls 0) t)
+      (turn_into_cycles run.held (line_of run None) ls t (λ k. silent_stream t)) ys p h))
       ((are.gives k wire x at_wire at_copy).serving run r (beats_of (carried run wire)) spaced_beats (copy_fits laws run wire))
 
   pub copies_serve : (mid net : Net) (run : Run) (wires : List Wire) (c : ℕ) (copies : List Emitted) → IsRun net run → AreBodies nodes body mid net wires c copies
       → length wires ≡ c → (k : ℕ) → k < c → Spaced s (beats_of (carried_of run wires k))
-      → CopyServes nodes body s (carried_of run wires k) (told_of run copies k) (gives_of run copies k)
+      → CopyServes run.held nodes body s (carried_of run wires k) (told_of run copies k) (gives_of run copies k)
   copies_serve mid net run wires c copies r are count k l spaced_beats =
       let wire = get_there wires k (omega (arith, l, count)) in
       let x = get_there copies k (omega (arith, l, are.as_many)) in
@@ -113,7 +114,7 @@ module _ (laws : LawsBelow) (nodes : List PlanNode) (source body : ℕ) (plan : 
       let told : told_of run copies k ≡ lines_of run x.0.faults = ap (told_by run) x.1 in
       let gives : gives_of run copies k ≡ carried run x.0.wire = carried_of-get run (wires_of copies) k x.0.wire (wires_get copies k x.0 x.1) in
       let spaced_own : Spaced s (beats_of (carried run wire.0)) = subst (λ (a : Carried). Spaced s (beats_of a)) same spaced_beats in
-      subst (λ (a : Carried). CopyServes nodes body s a (told_of run copies k) (gives_of run copies k)) (sym same)
-      (subst (λ (lines : Lines). CopyServes nodes body s (carried run wire.0) lines (gives_of run copies k)) (sym told)
-      (subst (CopyServes nodes body s (carried run wire.0) (lines_of run x.0.faults)) (sym gives)
+      subst (λ (a : Carried). CopyServes run.held nodes body s a (told_of run copies k) (gives_of run copies k)) (sym same)
+      (subst (λ (lines : Lines). CopyServes run.held nodes body s (carried run wire.0) lines (gives_of run copies k)) (sym told)
+      (subst (CopyServes run.held nodes body s (carried run wire.0) (lines_of run x.0.faults)) (sym gives)
       (copy_serving mid net run wires c copies r are k wire.0 x.0 wire.1 x.1 spaced_own)))

@@ -45,7 +45,7 @@ module _ (laws : LawsBelow) (nodes : List PlanNode) (body child : ℕ) (aggs : L
   columns_are : widths out.wire.columns ≡ total_widths kinds aggs
   columns_are = t.same_widths ∙ ap (λ (l : List Kind). total_widths l table.aggs.now) kinds_are ∙ ap (total_widths kinds) aggs_are
 
-  is_behind : (run : Run) → IsRun new run → IsDirectBehind run h.depth (delay_of_aggs kinds aggs) h.step (total_row kinds aggs) lane place out
+  is_behind : (run : Run) → IsRun new run → IsDirectBehind run h.depth (delay_of_aggs kinds aggs) (h.step run.held) (total_row run.held kinds aggs) lane place out
   is_behind run r =
       let at_mid = t.keeps.runs run r in
       record {
@@ -56,8 +56,8 @@ module _ (laws : LawsBelow) (nodes : List PlanNode) (body child : ℕ) (aggs : L
         table = λ begins k.
             let a : Carried = share (slot_of run below.place.slot) k (carried run below.rows.wire) in
             let b : Carried = share (slot_of run out.slot) k (carried run out.wire) in
-            subst (λ (l : List PlanAgg). AtEnds (delay_of_aggs kinds l) (total_row kinds l) a b) aggs_are
-            (subst (λ (l : List Kind). AtEnds (delay_of_aggs l table.aggs.now) (total_row l table.aggs.now) a b) kinds_are
+            subst (λ (l : List PlanAgg). AtEnds (delay_of_aggs kinds l) (total_row run.held kinds l) a b) aggs_are
+            (subst (λ (l : List Kind). AtEnds (delay_of_aggs l table.aggs.now) (total_row run.held l table.aggs.now) a b) kinds_are
             (t.shares run r (rows_begin laws nodes child old mid lane place below h run at_mid begins) k));
       }
 
@@ -81,9 +81,9 @@ module _ (laws : LawsBelow) (nodes : List PlanNode) (body child : ℕ) (aggs : L
         slot_width = t.slot_width ∙ h.same_width;
         depth = h.depth;
         step = h.step;
-        total = total_row kinds aggs;
+        total = λ sets. total_row sets kinds aggs;
         figures = follows.figures ∙ ap (aggregate_figures (delay_of_aggs kinds aggs)) h.figures;
-        means = λ rows. (follows.results (alone rows) (total_row kinds aggs (filter_map h.step rows) ∷ []) false).1
-            (record { rows = filter_map h.step rows; of_source = h.means rows; changed = refl });
+        means = λ sets rows. (follows.results (alone sets rows) (total_row sets kinds aggs (filter_map (h.step sets) rows) ∷ []) false).1
+            (record { rows = filter_map (h.step sets) rows; of_source = h.means sets rows; changed = refl });
         behind = is_behind;
       }

@@ -9,8 +9,8 @@ use Rattle.gl_net.specs.Net.{Net, Run}
 use Rattle.gl_net.specs.PortValues.{input_values}
 use Rattle.gl_net.specs.declared.node.Bit.{Bit}
 use Rattle.gl_net.specs.declared.node.Bus.{Bus}
-use Rattle.gl_schema.specs.Beats.{Beat, AreBeats, AreRowsOf, IsBeat, beat_at, ends_at, input_of, row_in, rows_at, ticks_at}
-use Rattle.gl_schema.specs.Ports.{Pin, pin, column_pins, stream_pins, streams_pins, IsStimulus, eos, tick, in_valid, in_column}
+use Rattle.gl_schema.specs.Beats.{Beat, Beats, AreBeats, AreRowsOf, IsBeat, beat_at, ends_at, input_of, row_in, rows_at, ticks_at}
+use Rattle.gl_schema.specs.Ports.{Pin, pin, column_pins, stream_pins, streams_pins, parameter_pins, IsStimulus, eos, tick, in_valid, in_column}
 use Rattle.gl_schema.specs.Schemas.{IsRowOf}
 use Rattle.gl_schema.specs.declared.schema.Column.{Column}
 use Rattle.gl_schema.specs.declared.schema.Schema.{Schema}
@@ -81,43 +81,43 @@ no_input schema (b ∷ beats) k all none =
 
 -- ---- the wire of a stream
 
-module _ (schema : Schema) (k : ℕ) (s : Stream) (there : slice_get schema.streams k ≡ Some s) (beats : List Beat) (are : AreBeats schema beats)
+module _ (schema : Schema) (k : ℕ) (s : Stream) (there : slice_get schema.streams k ≡ Some s) (beats : Beats) (are : AreBeats schema beats)
     (net : Net) (run : Run) (apart : AreApart net) (w : Wire) (h : IsStreamWire net s w) (stimulus : IsStimulus schema beats (input_values net run)) where
-  stream_pins_of : (n : ℕ) → AllByRecursion (Carries (input_values net run) (suc n)) (stream_pins s (row_at k beats n))
+  stream_pins_of : (n : ℕ) → AllByRecursion (Carries (input_values net run) (suc n)) (stream_pins s (row_at k beats.list n))
   stream_pins_of n =
       let all = (stimulus.carries (suc n)).1 in
       let P : Pin → Type 0 = Carries (input_values net run) (suc n) in
-      let streams = all_front P (streams_pins schema.streams (rows_at beats n)) (pin eos (bit (ends_at beats n)) ∷ pin tick (bit (ticks_at beats n)) ∷ []) all in
-      subst (λ row. AllByRecursion P (stream_pins s row)) (row_of-beat k beats n) (stream_at P schema.streams (rows_at beats n) k s there streams)
+      let streams = all_front P (streams_pins schema.streams (rows_at beats.list n)) (pin eos (bit (ends_at beats.list n)) ∷ pin tick (bit (ticks_at beats.list n)) ∷ parameter_pins schema.parameters beats.sets) all in
+      subst (λ row. AllByRecursion P (stream_pins s row)) (row_of-beat k beats.list n) (stream_at P schema.streams (rows_at beats.list n) k s there streams)
 
-  valid_line : (n : ℕ) → line_at run w.valid (suc n) ≡ is_some (row_at k beats n)
+  valid_line : (n : ℕ) → line_at run w.valid (suc n) ≡ is_some (row_at k beats.list n)
   unfolding line_at
   valid_line n =
       let name = in_valid s.name in
-      let here : run.at (suc n) w.valid.node ≡ bit (is_some (row_at k beats n)) =
+      let here : run.at (suc n) w.valid.node ≡ bit (is_some (row_at k beats.list n)) =
       sym (input_is net run (suc n) name w.valid.node apart h.valid_port)
       ∙ ports.carried (input_values net run) (suc n) name _ (has_input net run name w.valid.node apart h.valid_port) (stream_pins_of n).0 in
-      ap (λ (v : ℕ). nat_eq v 1) here ∙ bit_high (is_some (row_at k beats n))
+      ap (λ (v : ℕ). nat_eq v 1) here ∙ bit_high (is_some (row_at k beats.list n))
 
-  end_line : (n : ℕ) → line_at run w.eos (suc n) ≡ ends_at beats n
+  end_line : (n : ℕ) → line_at run w.eos (suc n) ≡ ends_at beats.list n
   unfolding line_at
   end_line n =
       let P : Pin → Type 0 = Carries (input_values net run) (suc n) in
       let all = (stimulus.carries (suc n)).1 in
-      let own = (all_back P (streams_pins schema.streams (rows_at beats n)) (pin eos (bit (ends_at beats n)) ∷ pin tick (bit (ticks_at beats n)) ∷ []) all).0 in
-      let here : run.at (suc n) w.eos.node ≡ bit (ends_at beats n) =
+      let own = (all_back P (streams_pins schema.streams (rows_at beats.list n)) (pin eos (bit (ends_at beats.list n)) ∷ pin tick (bit (ticks_at beats.list n)) ∷ parameter_pins schema.parameters beats.sets) all).0 in
+      let here : run.at (suc n) w.eos.node ≡ bit (ends_at beats.list n) =
       sym (input_is net run (suc n) eos w.eos.node apart h.end_port)
       ∙ ports.carried (input_values net run) (suc n) eos _ (has_input net run eos w.eos.node apart h.end_port) own in
-      ap (λ (v : ℕ). nat_eq v 1) here ∙ bit_high (ends_at beats n)
+      ap (λ (v : ℕ). nat_eq v 1) here ∙ bit_high (ends_at beats.list n)
 
-  is_row : (n : ℕ) (row : List ℕ) → row_at k beats n ≡ Some row → IsRowOf s.columns row
-  is_row n row e = by (beat_at beats n) refl
+  is_row : (n : ℕ) (row : List ℕ) → row_at k beats.list n ≡ Some row → IsRowOf s.columns row
+  is_row n row e = by (beat_at beats.list n) refl
     where
-      by : (o : Option Beat) → beat_at beats n ≡ o → IsRowOf s.columns row
+      by : (o : Option Beat) → beat_at beats.list n ≡ o → IsRowOf s.columns row
       by None p = absurd (let z : None ≡ Some row = rw p at e in cc)
-      by (Some b) p = row_of schema.streams b.rows k s row (found (IsBeat schema) _ beats b are.each p).rows there (rw p at e)
+      by (Some b) p = row_of schema.streams b.rows k s row (found (IsBeat schema) _ beats.list b are.each p).rows there (rw p at e)
 
-  tuple_is : (n : ℕ) (o : Option (List ℕ)) → row_at k beats n ≡ o → tuple_at run w.valid w.columns (suc n) ≡ o
+  tuple_is : (n : ℕ) (o : Option (List ℕ)) → row_at k beats.list n ≡ o → tuple_at run w.valid w.columns (suc n) ≡ o
   unfolding wire.row_at
   tuple_is n None e = tuple_by run w.valid w.columns (suc n) ∙ rw (valid_line n, e) refl
   tuple_is n (Some row) e =
@@ -126,29 +126,29 @@ module _ (schema : Schema) (k : ℕ) (s : Stream) (there : slice_get schema.stre
       let columns = columns_carry net run (suc n) s.name s.columns w.columns row apart h.columns (is_row n row e) pins in
       tuple_by run w.valid w.columns (suc n) ∙ rw (valid_line n, e, columns) refl
 
-  pub brings : Brings k beats (carried run w)
+  pub brings : Brings k beats.list (carried run w)
   brings = record {
     first = tuple_by run w.valid w.columns 0 ∙ rw (line_first run w.valid) refl;
     no_end = line_first run w.eos;
-    tuples = λ n. tuple_is n (row_at k beats n) refl;
+    tuples = λ n. tuple_is n (row_at k beats.list n) refl;
     ends = end_line;
   }
 
 -- ---- the line of ticks
 
-module _ (schema : Schema) (beats : List Beat) (net : Net) (run : Run) (apart : AreApart net) (stimulus : IsStimulus schema beats (input_values net run)) where
-  tick_line : (b : Bit) → IsTickLine net true (Some b) → (n : ℕ) → line_at run b (suc n) ≡ ticks_at beats n
+module _ (schema : Schema) (beats : Beats) (net : Net) (run : Run) (apart : AreApart net) (stimulus : IsStimulus schema beats (input_values net run)) where
+  tick_line : (b : Bit) → IsTickLine net true (Some b) → (n : ℕ) → line_at run b (suc n) ≡ ticks_at beats.list n
   unfolding line_at
   tick_line b is n =
       let P : Pin → Type 0 = Carries (input_values net run) (suc n) in
       let all = (stimulus.carries (suc n)).1 in
-      let own = (all_back P (streams_pins schema.streams (rows_at beats n)) (pin eos (bit (ends_at beats n)) ∷ pin tick (bit (ticks_at beats n)) ∷ []) all).1.0 in
-      let here : run.at (suc n) b.node ≡ bit (ticks_at beats n) =
+      let own = (all_back P (streams_pins schema.streams (rows_at beats.list n)) (pin eos (bit (ends_at beats.list n)) ∷ pin tick (bit (ticks_at beats.list n)) ∷ parameter_pins schema.parameters beats.sets) all).1.0 in
+      let here : run.at (suc n) b.node ≡ bit (ticks_at beats.list n) =
       sym (input_is net run (suc n) tick b.node apart is.1)
       ∙ ports.carried (input_values net run) (suc n) tick _ (has_input net run tick b.node apart is.1) own in
-      ap (λ (v : ℕ). nat_eq v 1) here ∙ bit_high (ticks_at beats n)
+      ap (λ (v : ℕ). nat_eq v 1) here ∙ bit_high (ticks_at beats.list n)
 
-  pub ticks_come : (reads : Bool) (line : Option Bit) → IsTickLine net reads line → BringsTicks reads beats (line_of run line)
+  pub ticks_come : (reads : Bool) (line : Option Bit) → IsTickLine net reads line → BringsTicks reads beats.list (line_of run line)
   ticks_come true None is = absurd is
   ticks_come true (Some b) is = record { first = line_first run b; ticks = λ r. tick_line b is; none = λ r. absurd (cc) }
   ticks_come false line is = rw is (record { first = refl; ticks = λ r. absurd (cc); none = λ r c. refl })

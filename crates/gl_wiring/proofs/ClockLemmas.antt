@@ -7,7 +7,7 @@ use Rattle.std.proofs.lemmas.Bool.{ne_eqb, cases_eq}
 use Rattle.gl_values.specs.Results.{Row}
 use Rattle.gl_bits.specs.Words.{bit}
 use Rattle.gl_schema.specs.Beats as beat
-use Rattle.gl_schema.specs.Beats.{Beat, AreInOrder, ends_at, input_of, last_cycle, row_in, ticks_of, times_from}
+use Rattle.gl_schema.specs.Beats.{Beat, AreInOrder, ends_at, input_of, last_in, row_in, ticks_of, times_from}
 use Rattle.gl_wire.specs.Ticks.{ticks_at, ticks_before, ticks_in, times_at, times_before, times_of}
 use Rattle.gl_wire.specs.Wire.{Carried}
 use Rattle.gl_wiring.specs.Bringing.{Brings, row_at}
@@ -93,7 +93,7 @@ no_beats_ticks : (n at : ℕ) → ticks_in (beat.ticks_at []) at n ≡ 0
 no_beats_ticks zero at = refl
 no_beats_ticks (suc n) at = let z = no_beats_ticks n (suc at) in omega (arith, z)
 
-all_ticks : (n at : ℕ) (b : Beat) (bs : List Beat) → AreInOrder (b ∷ bs) → at ≤ b.cycle → last_cycle (b ∷ bs) < at + n
+all_ticks : (n at : ℕ) (b : Beat) (bs : List Beat) → AreInOrder (b ∷ bs) → at ≤ b.cycle → last_in (b ∷ bs) < at + n
     → ticks_in (beat.ticks_at (b ∷ bs)) at n ≡ ticks_of (b ∷ bs)
 all_ticks zero at b bs h from past = absurd (omega (arith, last_late b bs h))
 all_ticks (suc n) at b [] h from past = elim (cases_eq b.cycle at) [
@@ -122,7 +122,7 @@ module _ (k : ℕ) where
   times_cons None time xs = refl
   times_cons (Some r) time xs = refl
 
-  all_times : (n before at : ℕ) (b : Beat) (bs : List Beat) → AreInOrder (b ∷ bs) → at ≤ b.cycle → last_cycle (b ∷ bs) < at + n
+  all_times : (n before at : ℕ) (b : Beat) (bs : List Beat) → AreInOrder (b ∷ bs) → at ≤ b.cycle → last_in (b ∷ bs) < at + n
       → times_in (beat.ticks_at (b ∷ bs)) (row_at k (b ∷ bs)) before at n ≡ times_from before k (b ∷ bs)
   unfolding times_in
   all_times zero before at b bs h from past = absurd (omega (arith, last_late b bs h))
@@ -145,17 +145,17 @@ module _ (k : ℕ) where
 
 -- ---- at the last beat
 
-file_all_ticks : (bs : List Beat) → AreInOrder bs → ticks_in (beat.ticks_at bs) 0 (suc (last_cycle bs)) ≡ ticks_of bs
+file_all_ticks : (bs : List Beat) → AreInOrder bs → ticks_in (beat.ticks_at bs) 0 (suc (last_in bs)) ≡ ticks_of bs
 file_all_ticks [] h = absurd h
-file_all_ticks (b ∷ bs) h = all_ticks (suc (last_cycle (b ∷ bs))) 0 b bs h (omega arith) (omega arith)
+file_all_ticks (b ∷ bs) h = all_ticks (suc (last_in (b ∷ bs))) 0 b bs h (omega arith) (omega arith)
 
-file_all_times : (k : ℕ) (bs : List Beat) → AreInOrder bs → times_in (beat.ticks_at bs) (row_at k bs) 0 0 (suc (last_cycle bs)) ≡ beat.times_of k bs
+file_all_times : (k : ℕ) (bs : List Beat) → AreInOrder bs → times_in (beat.ticks_at bs) (row_at k bs) 0 0 (suc (last_in bs)) ≡ beat.times_of k bs
 file_all_times k [] h = absurd h
-file_all_times k (b ∷ bs) h = all_times k (suc (last_cycle (b ∷ bs))) 0 0 b bs h (omega arith) (omega arith)
+file_all_times k (b ∷ bs) h = all_times k (suc (last_in (b ∷ bs))) 0 0 b bs h (omega arith) (omega arith)
 
 module _ (k : ℕ) (beats : List Beat) (order : AreInOrder beats) (line : ℕ → Bool) (first : line 0 ≡ false)
     (ticks : (n : ℕ) → line (suc n) ≡ beat.ticks_at beats n) (s : Carried) (b : Brings k beats s) where
-  quiet : (d : ℕ) → d < suc (last_cycle beats) → s.ends d ≡ false
+  quiet : (d : ℕ) → d < suc (last_in beats) → s.ends d ≡ false
   quiet zero l = b.no_end
   quiet (suc c) l = by (ends_at beats c) refl
     where
@@ -163,26 +163,26 @@ module _ (k : ℕ) (beats : List Beat) (order : AreInOrder beats) (line : ℕ �
       by true p = absurd (let z = ends_only beats c order p in omega arith)
       by false p = b.ends c ∙ p
 
-  pub file_ticks : ticks_at line s (suc (last_cycle beats)) ≡ ticks_of beats
+  pub file_ticks : ticks_at line s (suc (last_in beats)) ≡ ticks_of beats
   file_ticks =
-      ticks_all line s (suc (last_cycle beats)) quiet
-      ∙ ap (λ (x : Bool). bit x + ticks_in line 1 (suc (last_cycle beats))) first ∙ nothing (ticks_in line 1 (suc (last_cycle beats)))
-      ∙ same_ticks (beat.ticks_at beats) line ticks (suc (last_cycle beats)) 0 ∙ file_all_ticks beats order
+      ticks_all line s (suc (last_in beats)) quiet
+      ∙ ap (λ (x : Bool). bit x + ticks_in line 1 (suc (last_in beats))) first ∙ nothing (ticks_in line 1 (suc (last_in beats)))
+      ∙ same_ticks (beat.ticks_at beats) line ticks (suc (last_in beats)) 0 ∙ file_all_ticks beats order
 
-  pub file_times : times_at line s (suc (last_cycle beats)) ≡ beat.times_of k beats
+  pub file_times : times_at line s (suc (last_in beats)) ≡ beat.times_of k beats
   unfolding times_in
   file_times =
-      times_all line s (suc (last_cycle beats)) quiet
-      ∙ rw (first, b.first) (same_times (beat.ticks_at beats) line (row_at k beats) s.tuple ticks b.tuples (suc (last_cycle beats)) 0 0)
+      times_all line s (suc (last_in beats)) quiet
+      ∙ rw (first, b.first) (same_times (beat.ticks_at beats) line (row_at k beats) s.tuple ticks b.tuples (suc (last_in beats)) 0 0)
       ∙ file_all_times k beats order
 
 -- where no stream is, there are the ticks all the same, and no times
 pub no_ticks : (beats : List Beat) → AreInOrder beats → (line : ℕ → Bool) → line 0 ≡ false → ((n : ℕ) → line (suc n) ≡ beat.ticks_at beats n)
-    → ticks_at line silent (suc (last_cycle beats)) ≡ ticks_of beats
+    → ticks_at line silent (suc (last_in beats)) ≡ ticks_of beats
 no_ticks beats order line first ticks =
-    ticks_all line silent (suc (last_cycle beats)) (λ d l. refl)
-    ∙ ap (λ (x : Bool). bit x + ticks_in line 1 (suc (last_cycle beats))) first ∙ nothing (ticks_in line 1 (suc (last_cycle beats)))
-    ∙ same_ticks (beat.ticks_at beats) line ticks (suc (last_cycle beats)) 0 ∙ file_all_ticks beats order
+    ticks_all line silent (suc (last_in beats)) (λ d l. refl)
+    ∙ ap (λ (x : Bool). bit x + ticks_in line 1 (suc (last_in beats))) first ∙ nothing (ticks_in line 1 (suc (last_in beats)))
+    ∙ same_ticks (beat.ticks_at beats) line ticks (suc (last_in beats)) 0 ∙ file_all_ticks beats order
 
 silent_times : (line : ℕ → Bool) (c : ℕ) → times_before line silent c ≡ []
 silent_times line zero = refl

@@ -5,7 +5,7 @@ use Rattle.std.specs.List.{cons_option}
 use Rattle.std.proofs.lemmas.List.{append-nil}
 use Rattle.std.proofs.lemmas.Bool.{ne_eqb, cases_eq, cases_lt}
 use Rattle.gl_values.specs.Results.{Row}
-use Rattle.gl_schema.specs.Beats.{Beat, AreInOrder, ends_at, input_of, last_cycle, places_of, row_in}
+use Rattle.gl_schema.specs.Beats.{Beat, AreInOrder, ends_at, input_of, last_in, places_of, row_in}
 use Rattle.gl_schema.proofs.Timed.{places_long}
 use Rattle.gl_arrival.specs.Changes.{moved}
 use Rattle.gl_arrival.specs.Laws.{Rises}
@@ -71,7 +71,7 @@ module _ (k : ℕ) where
   cycles_cons None cycle at xs e = refl
   cycles_cons (Some r) cycle at xs e = ap (λ (n : ℕ). n ∷ xs) (sym e)
 
-  all_cycles : (n at : ℕ) (b : Beat) (bs : List Beat) → AreInOrder (b ∷ bs) → at ≤ b.cycle → last_cycle (b ∷ bs) < at + n
+  all_cycles : (n at : ℕ) (b : Beat) (bs : List Beat) → AreInOrder (b ∷ bs) → at ≤ b.cycle → last_in (b ∷ bs) < at + n
       → cycles_in (row_at k (b ∷ bs)) at n ≡ places_of k (b ∷ bs)
   unfolding cycles_in
   all_cycles zero at b bs h from past = absurd (omega (arith, last_late b bs h))
@@ -88,12 +88,12 @@ module _ (k : ℕ) where
     | inr ne ↦ rw (ne_eqb b.cycle at ne, before_none c bs at h.2 (omega (arith, h.1))) (all_cycles n (suc at) b (c ∷ bs) h (omega (arith, ne)) (omega arith))
   ]
 
-file_all_cycles : (k : ℕ) (bs : List Beat) → AreInOrder bs → cycles_in (row_at k bs) 0 (suc (last_cycle bs)) ≡ places_of k bs
+file_all_cycles : (k : ℕ) (bs : List Beat) → AreInOrder bs → cycles_in (row_at k bs) 0 (suc (last_in bs)) ≡ places_of k bs
 file_all_cycles k [] h = absurd h
-file_all_cycles k (b ∷ bs) h = all_cycles k (suc (last_cycle (b ∷ bs))) 0 b bs h (omega arith) (omega arith)
+file_all_cycles k (b ∷ bs) h = all_cycles k (suc (last_in (b ∷ bs))) 0 b bs h (omega arith) (omega arith)
 
 module _ (k : ℕ) (beats : List Beat) (order : AreInOrder beats) (s : Carried) (b : Brings k beats s) where
-  quiet : (d : ℕ) → d < suc (last_cycle beats) → s.ends d ≡ false
+  quiet : (d : ℕ) → d < suc (last_in beats) → s.ends d ≡ false
   quiet zero l = b.no_end
   quiet (suc c) l = by (ends_at beats c) refl
     where
@@ -101,11 +101,11 @@ module _ (k : ℕ) (beats : List Beat) (order : AreInOrder beats) (s : Carried) 
       by true p = absurd (let z = ends_only beats c order p in omega arith)
       by false p = b.ends c ∙ p
 
-  pub file_cycles : cycles_at s (suc (last_cycle beats)) ≡ map suc (places_of k beats)
+  pub file_cycles : cycles_at s (suc (last_in beats)) ≡ map suc (places_of k beats)
   unfolding cycles_in
   file_cycles =
-      cycles_all s (suc (last_cycle beats)) quiet
-      ∙ rw b.first (same_cycles (row_at k beats) s.tuple b.tuples (suc (last_cycle beats)) 0)
+      cycles_all s (suc (last_in beats)) quiet
+      ∙ rw b.first (same_cycles (row_at k beats) s.tuple b.tuples (suc (last_in beats)) 0)
       ∙ ap (λ (l : List ℕ). map suc l) (file_all_cycles k beats order)
 
 -- a cycle later, in the same order

@@ -1,10 +1,10 @@
 -- Where a wire serves with a choice of spill that is made elsewhere, its rows are dated with that choice.
-use Rattle.std.proofs.Common.{◌≡◌, ℕ, List, Some, Bool, true, refl, sym, ap, ◌∙◌, subst}
+use Rattle.std.proofs.Common.{◌≡◌, ℕ, Some, Bool, true, refl, sym, ap, ◌∙◌, subst}
 use Rattle.gl_algebra.specs.declared.figures.Figures.{Figures}
-use Rattle.gl_values.specs.Results.{Row, Results}
+use Rattle.gl_values.specs.Results.{Results}
 use Rattle.gl_arrival.specs.Results.{Arrivals}
 use Rattle.gl_wire.specs.Beats.{Beats}
-use Rattle.gl_wire.specs.Serves.{Fits, HasEnd}
+use Rattle.gl_wire.specs.Serves.{HasEnd}
 use Rattle.gl_wire.specs.Serving.{Serving}
 use Rattle.gl_wire.specs.Spills.{Lines}
 use Rattle.gl_wire.specs.Wire.{Carried, stream}

@@ -9,7 +9,7 @@ use Rattle.gl_wire.specs.Beats.{Spaced, gap, last, most}
 use Rattle.gl_wire.specs.Once.{OneStream}
 use Rattle.gl_wire.specs.Serves.{Fits, Caused}
 use Rattle.gl_wire.specs.Wire.{Carried, stream, rows}
-use Rattle.gl_schema.specs.Beats.{Beat, AreInOrder, KeepsGap, input_of, last_cycle, beat_at, ends_at, ticks_at}
+use Rattle.gl_schema.specs.Beats.{Beat, AreInOrder, AreSpaced, input_of, last_in, beat_at, ends_at, ticks_at}
 use Rattle.gl_gaps.specs.Keeps.{KeepsTicks}
 use Rattle.gl_ticks.specs.Apart.{TicksApart}
 use Rattle.gl_wire.specs.Ticks.{TicksFit}
@@ -49,7 +49,7 @@ ticks_fit beats line true b = record { each = each }
     each (suc n) h = at_beat n (beat_at beats n) refl (sym (b.ticks refl n) ∙ h)
 
 -- beats are the gap apart
-far : (gap : ℕ) (beats : List Beat) (n m : ℕ) (b d : Beat) → AreInOrder beats → KeepsGap gap beats
+far : (gap : ℕ) (beats : List Beat) (n m : ℕ) (b d : Beat) → AreInOrder beats → AreSpaced gap beats
     → beat_at beats n ≡ Some b → beat_at beats m ≡ Some d → n < m → n + gap ≤ m
 far gap [] n m b d h k p q l = absurd (cc)
 far gap (x ∷ []) n m b d h k p q l = elim (cases_eq x.cycle n) [
@@ -107,21 +107,21 @@ either false false (inl h) = absurd (cc)
 either false false (inr h) = absurd (cc)
 
 module _ (beats : List Beat) (order : AreInOrder beats) where
-  pub file_one : OneStream (beats_in beats) (suc (last_cycle beats))
-  file_one = record { is = flag_end beats (last_cycle beats) (ends_last beats order); only = only; until = until }
+  pub file_one : OneStream (beats_in beats) (suc (last_in beats))
+  file_one = record { is = flag_end beats (last_in beats) (ends_last beats order); only = only; until = until }
     where
-      only : (t : ℕ) → beats_in beats t ≡ Some true → t ≡ suc (last_cycle beats)
+      only : (t : ℕ) → beats_in beats t ≡ Some true → t ≡ suc (last_in beats)
       only zero h = absurd (cc)
       only (suc n) h = ap suc (ends_only beats n order (end_flag beats n h))
 
-      until : (t : ℕ) (e : Bool) → beats_in beats t ≡ Some e → t ≤ suc (last_cycle beats)
+      until : (t : ℕ) (e : Bool) → beats_in beats t ≡ Some e → t ≤ suc (last_in beats)
       until zero e h = omega arith
-      until (suc n) e h = elim (cases_lt (last_cycle beats) n) [
+      until (suc n) e h = elim (cases_lt (last_in beats) n) [
         | inl l ↦ absurd (let x = flag_of beats n e h in let z = after_none beats n order l in cc)
         | inr l ↦ omega arith
       ]
 
-  pub file_spaced : (f : Figures) (n : ℕ) → f.gt ≤ n → KeepsGap n beats → Spaced f (beats_in beats)
+  pub file_spaced : (f : Figures) (n : ℕ) → f.gt ≤ n → AreSpaced n beats → Spaced f (beats_in beats)
   file_spaced f n l keeps = record { first = refl; apart = apart }
     where
       apart : (t u : ℕ) (e d : Bool) → beats_in beats t ≡ Some e → beats_in beats u ≡ Some d → t < u → t + gap f e ≤ u
@@ -208,13 +208,13 @@ module _ (beats : List Beat) (order : AreInOrder beats) where
     later_rows (suc n) at = let e : suc (suc at) ≡ suc (at + 1) = omega arith in rw (b.tuples at, e, later_rows n (at + 1)) refl
 
     -- at the last beat the stream is the stream's input
-    pub file_stream : stream s (suc (last_cycle beats)) ≡ input_of k beats
+    pub file_stream : stream s (suc (last_in beats)) ≡ input_of k beats
     file_stream =
-        first_stream s (suc (last_cycle beats)) quiet
-        ∙ ap (λ (o : Option Row). option_to_list o ++ rows s 1 (suc (last_cycle beats))) b.first
-        ∙ later_rows (suc (last_cycle beats)) 0 ∙ file_rows k beats order
+        first_stream s (suc (last_in beats)) quiet
+        ∙ ap (λ (o : Option Row). option_to_list o ++ rows s 1 (suc (last_in beats))) b.first
+        ∙ later_rows (suc (last_in beats)) 0 ∙ file_rows k beats order
       where
-        quiet : (c : ℕ) → c < suc (last_cycle beats) → s.ends c ≡ false
+        quiet : (c : ℕ) → c < suc (last_in beats) → s.ends c ≡ false
         quiet zero l = b.no_end
         quiet (suc c) l = by (ends_at beats c) refl
           where

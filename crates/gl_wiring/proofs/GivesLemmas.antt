@@ -1,9 +1,10 @@
 -- The circuit of a node from those of its children, whatever the node.
-use Rattle.std.proofs.Common.{◌≡◌, ℕ, List, Some, Bool, true, false, ◌||◌, sym, ap, ◌∙◌, subst, Option}
+use Rattle.std.proofs.Common.{◌≡◌, ℕ, List, Some, Bool, true, false, ◌||◌, refl, sym, ap, ◌∙◌, subst, Option}
 use Rattle.std.specs.Prelude.{IsTrue}
 use Rattle.gl_algebra.specs.declared.figures.Figures.{Figures}
 use Rattle.gl_algebra.specs.FigureTable.{NoCloser}
 use Rattle.gl_algebra.specs.Results.{Arriving, Inputs, Meaning}
+use Rattle.gl_algebra.specs.Values.{Sets}
 use Rattle.gl_algebra.specs.Shapes.{Shape}
 use Rattle.gl_values.specs.Results.{Row}
 use Rattle.gl_net.specs.declared.node.Bit.{Bit}
@@ -51,22 +52,22 @@ same_faults run x y e = record {
 
 -- where each row behind a node comes of one row that came, so does each row of the node, and it is brought by the same
 -- beat
-pub record ComesBehind (s s' : Shape) (f g : Figures) (arrivals arrivals' : Arriving) (Between : Carried → Carried → Type 0) : Type 0 where
+pub record ComesBehind (s s' : Shape) (f g : Figures) (arrivals arrivals' : Arriving) (Between : Sets → Carried → Carried → Type 0) : Type 0 where
   pub before : IsTrue s'.arrives → IsTrue s.arrives
-  pub dates : IsTrue s'.arrives → (i : ℕ → Inputs) (p : ℕ → Bool) (beats : Beats) (a b : Carried) → Between a b
+  pub dates : IsTrue s'.arrives → (sets : Sets) (i : ℕ → Inputs) → ((t : ℕ) → (i t).sets ≡ sets) → (p : ℕ → Bool) (beats : Beats) (a b : Carried) → Between sets a b
       → Dated f (λ t. arrivals (i t)) (λ t n. n) p beats a → Dated g (λ t. arrivals' (i t)) (λ t n. n) p beats b
 
 -- one operator without lines behind a node
 module _ (s s' : Shape) (f g : Figures) (arrivals arrivals' : Arriving) (means means' : Meaning) (mid new : Net) (tick : Option Bit) (leaves : List Wire) (below e : Emitted)
-    (Between : Carried → Carried → Type 0) (columns : List ℕ) (most : Cost) (n : block.Meaning)
+    (Between : Sets → Carried → Carried → Type 0) (columns : List ℕ) (most : Cost) (n : Sets → block.Meaning)
     (h : GivesAs s f arrivals means mid tick leaves below) (b : IsBehind mid new Between columns most below e) (same : columns ≡ widths_of s'.kinds) (closer : NoCloser f g)
-    (law : (a b : Carried) → Between a b → (beats : Beats) → Spaced g beats → Fits f beats a → Served f g (λ t. n) beats a b)
-    (pace : (a b : Carried) (leaves : ℕ → Carried) → Between a b → KeepsPace s.pace f.a leaves a → KeepsPace s'.pace g.a leaves b)
-    (results : (i : Inputs) (xs ys : List Row) (p : Bool) → means i xs p → n xs ys → means' i ys p)
+    (law : (sets : Sets) (a b : Carried) → Between sets a b → (beats : Beats) → Spaced g beats → Fits f beats a → Served f g (λ t. n sets) beats a b)
+    (pace : (sets : Sets) (a b : Carried) (leaves : ℕ → Carried) → Between sets a b → KeepsPace s.pace f.a leaves a → KeepsPace s'.pace g.a leaves b)
+    (results : (i : Inputs) (xs ys : List Row) (p : Bool) → means i xs p → n i.sets xs ys → means' i ys p)
     (comes : ComesBehind s s' f g arrivals arrivals' Between) where
   module _ (run : Run) (r : IsRun new run) (beats : Beats) (spaced : Spaced g beats) (fits : LeavesFit run tick leaves beats) where
     abbrev ins : ℕ → Inputs
-    ins = inputs_at (line_of run tick) (leaf run leaves) (leaf run leaves 0)
+    ins = inputs_at run.held (line_of run tick) (leaf run leaves) (leaf run leaves 0)
 
     abbrev before : Serving f (λ t. means (ins t)) (lines_of run below.faults) beats (carried run below.wire)
     before = h.serving run (b.keeps.runs run r) beats (spaced_closer f g beats closer spaced) fits
@@ -77,9 +78,9 @@ module _ (s s' : Shape) (f g : Figures) (arrivals arrivals' : Arriving) (means m
         serving_lines g (WithSpill (λ t. means' (ins t)) before.spill) (lines_of run e.faults) (lines_of run below.faults) beats (carried run e.wire) (same_faults run e.faults below.faults b.faults)
         (serving_as g _ (WithSpill (λ t. means' (ins t)) before.spill) (lines_of run below.faults) beats (carried run e.wire)
         (λ t ys p x. (results (ins t) x.0 ys p x.1.0 x.2, x.1.1))
-        (serving_through f g (WithSpill (λ t. means (ins t)) before.spill) n (lines_of run below.faults) beats (carried run below.wire) (carried run e.wire)
+        (serving_through f g (WithSpill (λ t. means (ins t)) before.spill) (n run.held) (lines_of run below.faults) beats (carried run below.wire) (carried run e.wire)
         (with_spill f (lines_of run below.faults) beats (carried run below.wire) (λ t. means (ins t)) before)
-        (law (carried run below.wire) (carried run e.wire) (b.shape run r) beats spaced before.fits)))
+        (law run.held (carried run below.wire) (carried run e.wire) (b.shape run r) beats spaced before.fits)))
 
     abbrev served : Serving g (λ t. means' (ins t)) (lines_of run e.faults) beats (carried run e.wire)
     served = results_alone g (lines_of run e.faults) beats (carried run e.wire) (λ t. means' (ins t)) before.spill chosen
@@ -87,7 +88,7 @@ module _ (s s' : Shape) (f g : Figures) (arrivals arrivals' : Arriving) (means m
     comes_then : IsTrue s'.arrives → Dated g (λ t. arrivals' (ins t)) (λ t n. n) served.spill beats (carried run e.wire)
     comes_then came =
         dated_alone g (lines_of run e.faults) beats (carried run e.wire) (λ t. means' (ins t)) before.spill chosen (λ t. arrivals' (ins t)) (λ t n. n)
-        (comes.dates came ins before.spill beats (carried run below.wire) (carried run e.wire) (b.shape run r)
+        (comes.dates came run.held ins (λ t. refl) before.spill beats (carried run below.wire) (carried run e.wire) (b.shape run r)
         (h.dated run (b.keeps.runs run r) beats (spaced_closer f g beats closer spaced) fits (comes.before came)))
 
   pub behind : GivesAs s' g arrivals' means' new tick leaves e
@@ -95,34 +96,34 @@ module _ (s s' : Shape) (f g : Figures) (arrivals arrivals' : Arriving) (means m
     wire = b.wire;
     same_widths = b.same_widths ∙ same;
     lines = subst (AreLines new) (sym b.faults) (lines_kept mid new below.faults b.keeps h.lines);
-    paced = λ run r. pace (carried run below.wire) (carried run e.wire) (leaf run leaves) (b.shape run r) (h.paced run (b.keeps.runs run r));
+    paced = λ run r. pace run.held (carried run below.wire) (carried run e.wire) (leaf run leaves) (b.shape run r) (h.paced run (b.keeps.runs run r));
     serving = λ run r beats spaced fits. served run r beats spaced fits;
     dated = λ run r beats spaced fits came. comes_then run r beats spaced fits came;
   }
 
 -- one operator with lines of its own behind a node, whose spill is said of the rows that come in
 module _ (s s' : Shape) (f g : Figures) (arrivals arrivals' : Arriving) (means means' : Meaning) (mid new : Net) (tick : Option Bit) (leaves : List Wire) (below e : Emitted) (columns : List ℕ)
-    (most : Cost) (n : Relation) (h : GivesAs s f arrivals means mid tick leaves below) (b : IsBehindLines mid new f g n columns most below e) (same : columns ≡ widths_of s'.kinds)
+    (most : Cost) (n : Sets → Relation) (h : GivesAs s f arrivals means mid tick leaves below) (b : IsBehindLines mid new f g n columns most below e) (same : columns ≡ widths_of s'.kinds)
     (closer : NoCloser f g) (pace : (run : Run) → IsRun new run → KeepsPace s'.pace g.a (leaf run leaves) (carried run e.wire))
-    (results : (i : Inputs) (xs ys : List Row) (q r : Bool) → means i xs q → n xs ys r → means' i ys (q || r))
-    (said : List Row → Bool) (says : (xs ys : List Row) (r : Bool) → n xs ys r → r ≡ said xs)
+    (results : (i : Inputs) (xs ys : List Row) (q r : Bool) → means i xs q → n i.sets xs ys r → means' i ys (q || r))
+    (said : List Row → Bool) (says : (sets : Sets) (xs ys : List Row) (r : Bool) → n sets xs ys r → r ≡ said xs)
     (comes : (run : Run) (r : IsRun new run) (beats : Beats) (spaced : Spaced g beats) (fits : Fits f beats (carried run below.wire)) → IsTrue s'.arrives
-    → IsTrue s.arrives × ((i : ℕ → Inputs) (p : ℕ → Bool) → Dated f (λ t. arrivals (i t)) (λ t n. n) p beats (carried run below.wire)
+    → IsTrue s.arrives × ((i : ℕ → Inputs) → ((t : ℕ) → (i t).sets ≡ run.held) → (p : ℕ → Bool) → Dated f (λ t. arrivals (i t)) (λ t n. n) p beats (carried run below.wire)
     → Dated g (λ t. arrivals' (i t)) (λ t n. n) (λ t. p t || ((b.serves run r).2 beats spaced fits).spill t) beats (carried run e.wire))) where
   module _ (run : Run) (r : IsRun new run) (beats : Beats) (spaced : Spaced g beats) (fits : LeavesFit run tick leaves beats) where
     abbrev given : ℕ → Inputs
-    given = inputs_at (line_of run tick) (leaf run leaves) (leaf run leaves 0)
+    given = inputs_at run.held (line_of run tick) (leaf run leaves) (leaf run leaves 0)
 
     abbrev source : Serving f (λ t. means (given t)) (lines_of run below.faults) beats (carried run below.wire)
     source = h.serving run (b.keeps.runs run r) beats (spaced_closer f g beats closer spaced) fits
 
-    abbrev lane : ServedWithLines f g n (b.serves run r).0 beats (carried run below.wire) (carried run e.wire)
+    abbrev lane : ServedWithLines f g (n run.held) (b.serves run r).0 beats (carried run below.wire) (carried run e.wire)
     lane = (b.serves run r).2 beats spaced source.fits
 
-    abbrev joined : Serving g (λ t. through_lines (WithStream (λ t. means (given t)) source.spill f (carried run below.wire) t) n) (lines_of run e.faults) beats (carried run e.wire)
+    abbrev joined : Serving g (λ t. through_lines (WithStream (λ t. means (given t)) source.spill f (carried run below.wire) t) (n run.held)) (lines_of run e.faults) beats (carried run e.wire)
     joined =
         serving_lines g _ (lines_of run e.faults) (both_lines (lines_of run below.faults) (b.serves run r).0) beats (carried run e.wire) (b.serves run r).1
-        (serving_then f g (WithStream (λ t. means (given t)) source.spill f (carried run below.wire)) n (lines_of run below.faults) (b.serves run r).0 beats
+        (serving_then f g (WithStream (λ t. means (given t)) source.spill f (carried run below.wire)) (n run.held) (lines_of run below.faults) (b.serves run r).0 beats
         (carried run below.wire) (carried run e.wire)
         (with_stream f (lines_of run below.faults) beats (carried run below.wire) (λ t. means (given t)) source) lane)
 
@@ -134,14 +135,14 @@ module _ (s s' : Shape) (f g : Figures) (arrivals arrivals' : Arriving) (means m
         let o = source.fits.end t is in
         let ys : List Row = stream (carried run e.wire) k in
         let told : lane.spill t ≡ said x.0 =
-        says (stream (carried run below.wire) o.at) ys (lane.spill t) (lane.served.results t o.at k is o.here here) ∙ ap said (sym (x.3.2 o.at o.here)) in (
+        says run.held (stream (carried run below.wire) o.at) ys (lane.spill t) (lane.served.results t o.at k is o.here here) ∙ ap said (sym (x.3.2 o.at o.here)) in (
           subst (means' (given t) ys) (sym x.5) (results (given t) x.0 ys x.1 x.2 x.3.0 x.4),
-          x.5 ∙ ap (λ (q : Bool). q || x.2) x.3.1 ∙ ap (λ (q : Bool). source.spill t || q) (says x.0 ys x.2 x.4 ∙ sym told),
+          x.5 ∙ ap (λ (q : Bool). q || x.2) x.3.1 ∙ ap (λ (q : Bool). source.spill t || q) (says run.held x.0 ys x.2 x.4 ∙ sym told),
         )
 
     abbrev by_either : Serving g (WithSpill (λ t. means' (given t)) (λ t. source.spill t || lane.spill t)) (lines_of run e.faults) beats (carried run e.wire)
     by_either =
-        serving_right g (lines_of run e.faults) beats (carried run e.wire) (λ t. through_lines (WithStream (λ t. means (given t)) source.spill f (carried run below.wire) t) n)
+        serving_right g (lines_of run e.faults) beats (carried run e.wire) (λ t. through_lines (WithStream (λ t. means (given t)) source.spill f (carried run below.wire) t) (n run.held))
         (WithSpill (λ t. means' (given t)) (λ t. source.spill t || lane.spill t)) joined right_by_either
 
     abbrev served_lines : Serving g (λ t. means' (given t)) (lines_of run e.faults) beats (carried run e.wire)
@@ -151,7 +152,7 @@ module _ (s s' : Shape) (f g : Figures) (arrivals arrivals' : Arriving) (means m
     comes_by_either came =
         let c = comes run r beats spaced source.fits came in
         dated_alone g (lines_of run e.faults) beats (carried run e.wire) (λ t. means' (given t)) (λ t. source.spill t || lane.spill t) by_either (λ t. arrivals' (given t)) (λ t n. n)
-        (c.1 given source.spill (h.dated run (b.keeps.runs run r) beats (spaced_closer f g beats closer spaced) fits c.0))
+        (c.1 given (λ t. refl) source.spill (h.dated run (b.keeps.runs run r) beats (spaced_closer f g beats closer spaced) fits c.0))
 
   pub behind_lines : GivesAs s' g arrivals' means' new tick leaves e
   behind_lines = record {
@@ -187,7 +188,7 @@ behind2 s s' t f g h v v' arrivals m m' means n Cond Pace mid new tick leaves a 
       let y = right.serving run before beats (spaced_closer g h beats closer' spaced) fits in
       let alike = cond (leaf run leaves) beats (carried run a.wire) (carried run b.wire) x.fits y.fits (left.paced run before) (right.paced run before) in
       let z = join.serves run r in
-      let ins : ℕ → Inputs = inputs_at (line_of run tick) (leaf run leaves) (leaf run leaves 0) in
+      let ins : ℕ → Inputs = inputs_at run.held (line_of run tick) (leaf run leaves) (leaf run leaves 0) in
       let lines : Lines = both_lines (both_lines (lines_of run a.faults) (lines_of run b.faults)) z.0 in
       serving_lines h (λ t. means (ins t)) (lines_of run e.faults) lines beats (carried run e.wire) z.1
       (serving_as h _ (λ t. means (ins t)) lines beats (carried run e.wire)

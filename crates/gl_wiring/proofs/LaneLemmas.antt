@@ -243,7 +243,7 @@ module _ (laws : LawsBelow) (nodes : List PlanNode) (g : GroupOf) (plan : IsPlan
       run_mid : IsRun mid run
       run_mid = t.keeps.runs run run_net
 
-      behind : IsDirectBehind run t.depth delay t.step t.total l.lane.wire (place_of l.lane) out
+      behind : IsDirectBehind run t.depth delay (t.step run.held) (t.total run.held) l.lane.wire (place_of l.lane) out
       behind = t.behind run run_net
 
       came : (o : Option Row) (x : Row) → o ≡ Some x → o ≡ None → ⊥
@@ -304,7 +304,7 @@ module _ (laws : LawsBelow) (nodes : List PlanNode) (g : GroupOf) (plan : IsPlan
       words_shown : AreKeys g.groups (key_of (grouping_of nodes g)) (stride_of (figures_of nodes g.body)) 1 (carried run l.source.wire) words
       words_shown = come.words words (ga.take run run_last come.one come.registers)
 
-      laned : AwaitsTurns g.groups (stride_of d) (carried run l.source.wire) → lane_laws.Laned g.groups t.depth delay (key_of (grouping_of nodes g)) t.step t.total (carried run l.source.wire) (carried run l.lane.wire) behind.mid
+      laned : AwaitsTurns g.groups (stride_of d) (carried run l.source.wire) → lane_laws.Laned g.groups t.depth delay (key_of (grouping_of nodes g)) (t.step run.held) (t.total run.held) (carried run l.source.wire) (carried run l.lane.wire) behind.mid
           (carried run out.wire) (carried run wire) (slot_of run l.lane.slot) behind.slot_mid (slot_of run out.slot) words
           (line_at run l.lane.further) (line_at run l.lane.close)
       laned awaits =
@@ -329,15 +329,15 @@ module _ (laws : LawsBelow) (nodes : List PlanNode) (g : GroupOf) (plan : IsPlan
           }
 
       served : (beats : Beats) → Spaced h beats → Fits f beats (carried run l.source.wire)
-          → ServedWithLines f h (OfGroups g.groups (key_of (grouping_of nodes g)) (OfBody nodes g.body))
+          → ServedWithLines f h (OfGroups g.groups (key_of (grouping_of nodes g)) (OfBody run.held nodes g.body))
           (both_lines (lines_of_all (λ k. no_lines) g.groups) (line_of_further (line_at run l.lane.further))) beats (carried run l.source.wire) (carried run wire)
       served beats spaced_beats fitting =
-          subst (λ (z : Figures). ServedWithLines f (groups_over g.groups f z) (OfGroups g.groups (key_of (grouping_of nodes g)) (OfBody nodes g.body))
+          subst (λ (z : Figures). ServedWithLines f (groups_over g.groups f z) (OfGroups g.groups (key_of (grouping_of nodes g)) (OfBody run.held nodes g.body))
           (both_lines (lines_of_all (λ k. no_lines) g.groups) (line_of_further (line_at run l.lane.further))) beats (carried run l.source.wire) (carried run wire))
           (sym t.figures)
-          (laws.lanes_serve f g.groups t.depth delay (key_of (grouping_of nodes g)) t.step t.total (carried run l.source.wire) (carried run l.lane.wire) behind.mid
+          (laws.lanes_serve f g.groups t.depth delay (key_of (grouping_of nodes g)) (t.step run.held) (t.total run.held) (carried run l.source.wire) (carried run l.lane.wire) behind.mid
           (carried run out.wire) (carried run wire) (slot_of run l.lane.slot) behind.slot_mid (slot_of run out.slot) words
-          (line_at run l.lane.further) (line_at run l.lane.close) nodes g.body (sound_source laws nodes g plan at) (fits laws nodes g plan at).suits.2.least laned t.means beats
+          (line_at run l.lane.further) (line_at run l.lane.close) run.held nodes g.body (sound_source laws nodes g plan at) (fits laws nodes g plan at).suits.2.least laned (t.means run.held) beats
           (subst (λ (z : Figures). Spaced (groups_over g.groups f z) beats) t.figures spaced_beats) fitting)
 
     pub gathered_put : IsPutBehind nodes g.id old new tick leaves (record { wire = wire; faults = faults })
@@ -352,7 +352,7 @@ module _ (laws : LawsBelow) (nodes : List PlanNode) (g : GroupOf) (plan : IsPlan
         serving = λ run r beats spaced_beats has.
             let source = is.gives.serving run (run_mid run r) beats (spaced_closer f h beats (room laws nodes g plan at).closer spaced_beats) has in
             let whole = served run r beats spaced_beats source.fits in
-            let ins : ℕ → Inputs = inputs_at (line_of run tick) (leaf run leaves) (leaf run leaves 0) in
+            let ins : ℕ → Inputs = inputs_at run.held (line_of run tick) (leaf run leaves) (leaf run leaves 0) in
             let further : Lines = line_of_further (line_at run l.lane.further) in
             let told : Lines = both_lines (lines_of_all (λ k. no_lines) g.groups) further in
             let lines : Lines = both_lines (lines_of run l.source.faults) told in
@@ -361,9 +361,9 @@ module _ (laws : LawsBelow) (nodes : List PlanNode) (g : GroupOf) (plan : IsPlan
             (own_lines g.groups (lines_of run l.source.faults) further))
             (serving_as h _ (λ t. IsPlanResult nodes g.id (ins t)) lines beats (carried run wire)
             (λ t ys p v. ((follows laws nodes g plan at).results (ins t) ys p).1 v)
-            (groups_then f h (λ t. IsPlanResult nodes g.source (ins t)) g.groups (key_of (grouping_of nodes g)) (OfBody nodes g.body)
+            (groups_then f h (λ t. IsPlanResult nodes g.source (ins t)) g.groups (key_of (grouping_of nodes g)) (OfBody run.held nodes g.body)
             (λ t rows. IsPlanResult nodes g.body (given (ins t) rows))
-            (λ t rows zs q y. laws.bodies_read_their_input nodes g.body plan (in_body laws nodes g plan at) (kinds_of nodes g.source) (fits laws nodes g plan at).suits.0.leaves (alone rows) (given (ins t) rows) (record { rows = refl; places = refl }) zs q y)
+            (λ t rows zs q y. laws.bodies_read_their_input nodes g.body plan (in_body laws nodes g plan at) (kinds_of nodes g.source) (fits laws nodes g plan at).suits.0.leaves (alone run.held rows) (given (ins t) rows) (record { rows = refl; places = refl; sets = refl }) zs q y)
             (lines_of run l.source.faults) told beats (carried run l.source.wire) (carried run wire) source whole));
         dated = λ run r beats spaced_beats has came. absurd (cc);
       });

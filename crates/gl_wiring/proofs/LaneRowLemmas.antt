@@ -15,6 +15,7 @@ use Rattle.gl_algebra.specs.Columns.{kind_of_op, kind_of_operand}
 use Rattle.gl_algebra.specs.Cost.{lean_of}
 use Rattle.gl_algebra.specs.FigureTable.{delayed, figures_of, input_figures, settled}
 use Rattle.gl_algebra.specs.Fits.{IsPlan}
+use Rattle.gl_algebra.specs.Values.{Sets}
 use Rattle.gl_algebra.specs.Results.{computed, projected}
 use Rattle.gl_algebra.specs.Shapes.{Shape, kinds_of, shape_of}
 use Rattle.gl_algebra.specs.Weights.{weight_of}
@@ -81,9 +82,9 @@ body_rows laws nodes id net lane place kinds e plan at leaved slot few first the
       same_width = refl;
       no_lines = none;
       depth = 0;
-      step = λ row. Some row;
+      step = λ sets row. Some row;
       figures = follows.figures;
-      means = λ rows. (follows.results (alone rows) (filter_map (λ row. Some row) rows) false).1 (record { rows = filter_none rows; kept = refl });
+      means = λ sets rows. (follows.results (alone sets rows) (filter_map (λ row. Some row) rows) false).1 (record { rows = filter_none rows; kept = refl });
       steady = λ run r. subst (λ (w : Wire). Steady 0 (λ row. Some row) (carried run lane) (carried run w)) same (steady_none (carried run lane));
       slots = λ run r t. let z : suc t + 0 ≡ suc t = omega arith in ap (λ i. run.at i place.slot.node) z;
       no_first = λ run r t l. absurd (omega (arith, l));
@@ -101,9 +102,9 @@ later_input d = ap (λ (n : ℕ). record input_figures { a = n; lt = n; le = n }
 
 -- a step on each row, a cycle later
 module _ (nodes : List PlanNode) (id child : ℕ) (old mid net new : Net) (lane : Wire) (place : Place) (below : LaneRows) (h : AreRows nodes child old mid lane place below)
-    (later : Place) (e : Emitted) (t : Row → Option Row) (columns : List ℕ) (most : Cost) (s : IsPlaceLater mid net below.place later)
-    (b : IsBehind net new (Steady 1 t) columns most below.rows e) (same : columns ≡ widths_of (kinds_of nodes id)) (room : IsRoom nodes id child most)
-    (figures : figures_of nodes id ≡ settled (delayed 1 (figures_of nodes child))) (means : (rows : List Row) → OfBody nodes id rows (filter_map t (filter_map h.step rows)) false) where
+    (later : Place) (e : Emitted) (t : Sets → Row → Option Row) (columns : List ℕ) (most : Cost) (s : IsPlaceLater mid net below.place later)
+    (b : IsBehind net new (λ sets. Steady 1 (t sets)) columns most below.rows e) (same : columns ≡ widths_of (kinds_of nodes id)) (room : IsRoom nodes id child most)
+    (figures : figures_of nodes id ≡ settled (delayed 1 (figures_of nodes child))) (means : (sets : Sets) (rows : List Row) → OfBody sets nodes id rows (filter_map (t sets) (filter_map (h.step sets) rows)) false) where
   no_first_later : (run : Run) → IsRun new run → (c : ℕ) → c < h.depth + 1 → line_at run later.first c ≡ false
   no_first_later run r zero l = line_first run later.first
   no_first_later run r (suc c) l =
@@ -127,12 +128,12 @@ module _ (nodes : List PlanNode) (id child : ℕ) (old mid net new : Net) (lane 
     same_width = s.same_width ∙ h.same_width;
     no_lines = b.faults ∙ h.no_lines;
     depth = h.depth + 1;
-    step = λ row. option_and_then t (h.step row);
+    step = λ sets row. option_and_then (t sets) (h.step sets row);
     figures = figures ∙ ap (λ f. settled (delayed 1 f)) h.figures ∙ later_input h.depth;
-    means = λ rows. subst (λ ys. OfBody nodes id rows ys false) (sym (filter_then h.step t rows)) (means rows);
+    means = λ sets rows. subst (λ ys. OfBody sets nodes id rows ys false) (sym (filter_then (h.step sets) (t sets) rows)) (means sets rows);
     steady = λ run r.
         let at_net = b.keeps.runs run r in
-        steady_then h.depth 1 h.step t (carried run lane) (carried run below.rows.wire) (carried run e.wire) (h.steady run (s.keeps.runs run at_net)) (b.shape run r);
+        steady_then h.depth 1 (h.step run.held) (t run.held) (carried run lane) (carried run below.rows.wire) (carried run e.wire) (h.steady run (s.keeps.runs run at_net)) (b.shape run r);
     slots = λ run r c.
         let at_net = b.keeps.runs run r in
         let z : suc c + (h.depth + 1) ≡ suc (suc (c + h.depth)) = omega arith in
@@ -148,10 +149,10 @@ module _ (nodes : List PlanNode) (id child : ℕ) (old mid net new : Net) (lane 
 
 -- a step on each row, at once
 module _ (nodes : List PlanNode) (id child : ℕ) (old mid new : Net) (lane : Wire) (place : Place) (below : LaneRows) (h : AreRows nodes child old mid lane place below)
-    (e : Emitted) (t : Row → Option Row) (columns : List ℕ) (most : Cost) (b : IsBehind mid new (Steady 0 t) columns most below.rows e)
+    (e : Emitted) (t : Sets → Row → Option Row) (columns : List ℕ) (most : Cost) (b : IsBehind mid new (λ sets. Steady 0 (t sets)) columns most below.rows e)
     (same : columns ≡ widths_of (kinds_of nodes id)) (room_nodes : weight_of nodes child + most.nodes ≤ weight_of nodes id)
     (room_registers : 64 * lean_of nodes child + most.registers ≤ 64 * lean_of nodes id) (no_memory : most.memories ≡ 0)
-    (figures : figures_of nodes id ≡ settled (figures_of nodes child)) (means : (rows : List Row) → OfBody nodes id rows (filter_map t (filter_map h.step rows)) false) where
+    (figures : figures_of nodes id ≡ settled (figures_of nodes child)) (means : (sets : Sets) (rows : List Row) → OfBody sets nodes id rows (filter_map (t sets) (filter_map (h.step sets) rows)) false) where
   pub rows_now : AreRows nodes id old new lane place (record { rows = e; place = below.place })
   rows_now = record {
     keeps = keeps_then old mid new h.keeps b.keeps;
@@ -170,13 +171,13 @@ module _ (nodes : List PlanNode) (id child : ℕ) (old mid new : Net) (lane : Wi
     same_width = h.same_width;
     no_lines = b.faults ∙ h.no_lines;
     depth = h.depth;
-    step = λ row. option_and_then t (h.step row);
+    step = λ sets row. option_and_then (t sets) (h.step sets row);
     figures = figures ∙ ap settled h.figures;
-    means = λ rows. subst (λ ys. OfBody nodes id rows ys false) (sym (filter_then h.step t rows)) (means rows);
+    means = λ sets rows. subst (λ ys. OfBody sets nodes id rows ys false) (sym (filter_then (h.step sets) (t sets) rows)) (means sets rows);
     steady = λ run r.
         let z : h.depth + 0 ≡ h.depth = omega arith in
-        subst (λ n. Steady n (λ row. option_and_then t (h.step row)) (carried run lane) (carried run e.wire)) z
-        (steady_then h.depth 0 h.step t (carried run lane) (carried run below.rows.wire) (carried run e.wire) (h.steady run (b.keeps.runs run r)) (b.shape run r));
+        subst (λ n. Steady n (λ row. option_and_then (t run.held) (h.step run.held row)) (carried run lane) (carried run e.wire)) z
+        (steady_then h.depth 0 (h.step run.held) (t run.held) (carried run lane) (carried run below.rows.wire) (carried run e.wire) (h.steady run (b.keeps.runs run r)) (b.shape run r));
     slots = λ run r. h.slots run (b.keeps.runs run r);
     no_first = λ run r. h.no_first run (b.keeps.runs run r);
     firsts = λ run r. h.firsts run (b.keeps.runs run r);
@@ -190,7 +191,7 @@ module _ (laws : LawsBelow) (nodes : List PlanNode) (id : ℕ) (old mid net new 
 
   pub compute_rows : (child : ℕ) (ops : List ColOp) → slice_get nodes id ≡ Some (Compute child ops) → AreRows nodes child old mid lane place below
       → IsPlaceLater mid net below.place later
-      → (let kinds = kinds_of nodes child in IsBehind net new (Steady 1 (λ row. Some (computed kinds ops row))) (computed_widths kinds ops)
+      → (let kinds = kinds_of nodes child in IsBehind net new (λ sets. Steady 1 (λ row. Some (computed sets kinds ops row))) (computed_widths kinds ops)
       (cost_of_rows (computed_widths kinds ops) (length ops)) below.rows e)
       → AreRows nodes id old new lane place (record { rows = e; place = later })
   compute_rows child ops at h s b =
@@ -202,15 +203,15 @@ module _ (laws : LawsBelow) (nodes : List PlanNode) (id : ℕ) (old mid net new 
       let bits : sum (widths_of all) ≤ 64 * length all = bits_within all (subst (All IsKind) own (own_kinds (Compute child ops) at)) in
       let weight : weight_of nodes id ≡ weight_of nodes child + 4 * (length all + 2 + length ops) = follows.weight in
       let lean : lean_of nodes id ≡ lean_of nodes child + 4 * (length all + 2 + length ops) = follows.lean in
-      rows_later nodes id child old mid net new lane place below h later e (λ row. Some (computed kinds ops row)) (widths_of all) _ s b (ap widths_of (sym own))
+      rows_later nodes id child old mid net new lane place below h later e (λ sets row. Some (computed sets kinds ops row)) (widths_of all) _ s b (ap widths_of (sym own))
       (record { nodes' = omega (arith, weight, n); registers = omega (arith, lean, bits); memories = refl })
       follows.figures
-      (λ rows. (follows.results (alone rows) (filter_map (λ row. Some (computed kinds ops row)) (filter_map h.step rows)) false).1
-      (record { rows = filter_map h.step rows; of_source = h.means rows; changed = mapped_all (computed kinds ops) (filter_map h.step rows) }))
+      (λ sets rows. (follows.results (alone sets rows) (filter_map (λ row. Some (computed sets kinds ops row)) (filter_map (h.step sets) rows)) false).1
+      (record { rows = filter_map (h.step sets) rows; of_source = h.means sets rows; changed = mapped_all (computed sets kinds ops) (filter_map (h.step sets) rows) }))
 
   pub select_rows : (child column : ℕ) → slice_get nodes id ≡ Some (Select child column) → AreRows nodes child old mid lane place below
       → IsPlaceLater mid net below.place later
-      → IsBehind net new (Steady 1 (keep_where column)) (widths_of (kinds_of nodes child)) (cost_of_rows (widths_of (kinds_of nodes child)) 0) below.rows e
+      → IsBehind net new (λ sets. Steady 1 (keep_where column)) (widths_of (kinds_of nodes child)) (cost_of_rows (widths_of (kinds_of nodes child)) 0) below.rows e
       → AreRows nodes id old new lane place (record { rows = e; place = later })
   select_rows child column at h s b =
       let follows = laws.nodes_follow_tables nodes id (Select child column) plan at in
@@ -220,14 +221,14 @@ module _ (laws : LawsBelow) (nodes : List PlanNode) (id : ℕ) (old mid net new 
       let bits : sum (widths_of kinds) ≤ 64 * length kinds = bits_within kinds (subst (All IsKind) own (own_kinds (Select child column) at)) in
       let weight : weight_of nodes id ≡ weight_of nodes child + 4 * (length kinds + 2) = follows.weight in
       let lean : lean_of nodes id ≡ lean_of nodes child + 4 * (length kinds + 2) = follows.lean in
-      rows_later nodes id child old mid net new lane place below h later e (keep_where column) (widths_of kinds) _ s b (ap widths_of (sym own))
+      rows_later nodes id child old mid net new lane place below h later e (λ sets. keep_where column) (widths_of kinds) _ s b (ap widths_of (sym own))
       (record { nodes' = omega (arith, weight, n); registers = omega (arith, lean, bits); memories = refl })
       follows.figures
-      (λ rows. (follows.results (alone rows) (filter_map (keep_where column) (filter_map h.step rows)) false).1
-      (record { rows = filter_map h.step rows; of_source = h.means rows; changed = kept_rows column (filter_map h.step rows) }))
+      (λ sets rows. (follows.results (alone sets rows) (filter_map (keep_where column) (filter_map (h.step sets) rows)) false).1
+      (record { rows = filter_map (h.step sets) rows; of_source = h.means sets rows; changed = kept_rows column (filter_map (h.step sets) rows) }))
 
   pub project_rows : (child : ℕ) (items : List Operand) → slice_get nodes id ≡ Some (Project child items) → AreRows nodes child old mid lane place below
-      → (let kinds = kinds_of nodes child in IsBehind mid new (Steady 0 (λ row. Some (projected items row))) (projected_widths kinds items)
+      → (let kinds = kinds_of nodes child in IsBehind mid new (λ sets. Steady 0 (λ row. Some (projected sets items row))) (projected_widths kinds items)
       (cost_of_items (projected_widths kinds items)) below.rows e)
       → AreRows nodes id old new lane place (record { rows = e; place = below.place })
   project_rows child items at h b =
@@ -238,11 +239,11 @@ module _ (laws : LawsBelow) (nodes : List PlanNode) (id : ℕ) (old mid net new 
       let n : length (widths_of all) ≡ length all = length-map all width_of in
       let weight : weight_of nodes id ≡ weight_of nodes child + 4 * (length all + 2) = follows.weight in
       let lean : lean_of nodes id ≡ lean_of nodes child + 4 * (length all + 2) = follows.lean in
-      rows_now nodes id child old mid new lane place below h e (λ row. Some (projected items row)) (widths_of all) _ b (ap widths_of (sym own))
+      rows_now nodes id child old mid new lane place below h e (λ sets row. Some (projected sets items row)) (widths_of all) _ b (ap widths_of (sym own))
       (omega (arith, weight, n)) (omega (arith, lean)) refl
       follows.figures
-      (λ rows. (follows.results (alone rows) (filter_map (λ row. Some (projected items row)) (filter_map h.step rows)) false).1
-      (record { rows = filter_map h.step rows; of_source = h.means rows; changed = mapped_all (projected items) (filter_map h.step rows) }))
+      (λ sets rows. (follows.results (alone sets rows) (filter_map (λ row. Some (projected sets items row)) (filter_map (h.step sets) rows)) false).1
+      (record { rows = filter_map (h.step sets) rows; of_source = h.means sets rows; changed = mapped_all (projected sets items) (filter_map (h.step sets) rows) }))
 
 -- ---- where a lane tells where streams begin, what is behind the operators does too
 
@@ -253,7 +254,7 @@ module _ (laws : LawsBelow) (nodes : List PlanNode) (id : ℕ) (old new : Net) (
       by : (b : Bool) → tuple_at run lane.valid lane.columns c ≡ (if b then Some (row_at run c lane.columns) else None) → b ≡ true
       by true e = refl
       by false e =
-          absurd (let z = no_line run r.rows.wire.valid r.rows.wire.columns (c + h.depth) ((h.steady run is).tuples c ∙ ap (option_and_then h.step) e) in cc (z, p))
+          absurd (let z = no_line run r.rows.wire.valid r.rows.wire.columns (c + h.depth) ((h.steady run is).tuples c ∙ ap (option_and_then (h.step run.held)) e) in cc (z, p))
 
   pub rows_begin : Begins (lane_of run lane place.slot place.first) → Begins (lane_of run r.rows.wire r.place.slot r.place.first)
   rows_begin b = laws.begins_behind h.depth _ _ b (record {

@@ -4,6 +4,7 @@ use Rattle.std.specs.Prelude.{is_some}
 use Rattle.std.proofs.lemmas.Option.{slice_get_within}
 use Rattle.gl_values.specs.declared.kind.Kind.{Kind}
 use Rattle.gl_values.specs.Results.{Row, IsInput}
+use Rattle.gl_algebra.specs.Values.{Sets}
 use Rattle.gl_algebra.specs.declared.node.PlanNode.{PlanNode}
 use Rattle.gl_algebra.specs.declared.node.PlanNode.TheVariants.{Stream, Body}
 use Rattle.gl_algebra.specs.FigureTable.{input_figures}
@@ -36,12 +37,12 @@ use Rattle.gl_wiring.proofs.DatedServing.{WithSpill, dated_alone, results_alone}
 -- a leaf's wire gives the leaf
 module _ (s : Shape) (v : Arriving) (m : Meaning) (k : ℕ) (net : Net) (tick : Option Bit) (leaves : List Wire) (e : Emitted) (at : slice_get leaves k ≡ Some e.wire) (none : e.faults ≡ no_faults)
     (is : IsWire net e.wire) (columns : widths e.wire.columns ≡ widths_of s.kinds) (pace : (ls : ℕ → Carried) → KeepsPace s.pace 0 ls (ls k))
-    (results : (ticks : ℕ → Bool) (ls : ℕ → Carried) (t : ℕ) (ys : List Row) (p : Bool) → IsInput (stream (ls k) t) ys p → m (inputs_at ticks ls (ls 0) t) ys p)
-    (placed : (ticks : ℕ → Bool) (ls : ℕ → Carried) (t : ℕ) (xs : List (Placed Row)) (p : Bool) → IsArrival (at_places (stream (ls k) t) (cycles_at (ls k) t)) xs p
-    → v (inputs_at ticks ls (ls 0) t) xs p) where
+    (results : (sets : Sets) (ticks : ℕ → Bool) (ls : ℕ → Carried) (t : ℕ) (ys : List Row) (p : Bool) → IsInput (stream (ls k) t) ys p → m (inputs_at sets ticks ls (ls 0) t) ys p)
+    (placed : (sets : Sets) (ticks : ℕ → Bool) (ls : ℕ → Carried) (t : ℕ) (xs : List (Placed Row)) (p : Bool) → IsArrival (at_places (stream (ls k) t) (cycles_at (ls k) t)) xs p
+    → v (inputs_at sets ticks ls (ls 0) t) xs p) where
   module _ (run : Run) (beats : Beats) (fits : LeavesFit run tick leaves beats) where
     abbrev ins : ℕ → Inputs
-    ins = inputs_at (line_of run tick) (leaf run leaves) (leaf run leaves 0)
+    ins = inputs_at run.held (line_of run tick) (leaf run leaves) (leaf run leaves 0)
 
     same : leaf run leaves k ≡ carried run e.wire
     same = ap (carried_by run) at
@@ -50,7 +51,7 @@ module _ (s : Shape) (v : Arriving) (m : Meaning) (k : ℕ) (net : Net) (tick : 
     abbrev chosen : Serving input_figures (WithSpill (λ t. m (ins t)) (λ t. false)) (lines_of run e.faults) beats (carried run e.wire)
     chosen =
         serving_as input_figures (λ t. IsInput (stream (carried run e.wire) t)) (WithSpill (λ t. m (ins t)) (λ t. false)) (lines_of run e.faults) beats (carried run e.wire)
-        (λ t ys p x. (results (line_of run tick) (leaf run leaves) t ys p (subst (λ (c : Carried). IsInput (stream c t) ys p) (sym same) x), x.kept))
+        (λ t ys p x. (results run.held (line_of run tick) (leaf run leaves) t ys p (subst (λ (c : Carried). IsInput (stream c t) ys p) (sym same) x), x.kept))
         (leaf_serving (lines_of run e.faults) beats (carried run e.wire) (fits.each k e.wire at)
         (λ c. ap (λ (f : Faults). line_of run f.passed c) none) (λ c. ap (λ (f : Faults). line_of run f.further c) none))
 
@@ -62,7 +63,7 @@ module _ (s : Shape) (v : Arriving) (m : Meaning) (k : ℕ) (net : Net) (tick : 
         dated_alone input_figures (lines_of run e.faults) beats (carried run e.wire) (λ t. m (ins t)) (λ t. false) chosen (λ t. v (ins t)) (λ t n. n)
         (dated_as input_figures (λ t. IsArrival (at_places (stream (carried run e.wire) t) (cycles_at (carried run e.wire) t))) (λ t n. n) (λ t. false) beats
         (λ t. v (ins t)) (carried run e.wire)
-        (λ t xs p x. placed (line_of run tick) (leaf run leaves) t xs p (subst (λ (c : Carried). IsArrival (at_places (stream c t) (cycles_at c t)) xs p) (sym same) x))
+        (λ t xs p x. placed run.held (line_of run tick) (leaf run leaves) t xs p (subst (λ (c : Carried). IsArrival (at_places (stream c t) (cycles_at c t)) xs p) (sym same) x))
         (dated_leaf beats (carried run e.wire) (fits.each k e.wire at)))
 
   leaf_gives : GivesAs s input_figures v m net tick leaves e
@@ -111,8 +112,8 @@ module _ (laws : LawsBelow) (nodes : List PlanNode) (id : ℕ) (net : Net) (tick
         keeps = same_keeps net;
         cost = no_cost nodes id net;
         gives = rw (follows.shape, follows.figures) (leaf_gives _ (IsPlanArrival nodes id) (IsPlanResult nodes id) number net tick leaves e there none h.0 h.1
-            (λ ls. at_once (ls number)) (λ ticks ls t ys p x. (follows.results (inputs_at ticks ls (ls 0) t) ys p).1 x)
-            (λ ticks ls t xs p x. (follows.arrivals (inputs_at ticks ls (ls 0) t) xs p).1 x));
+            (λ ls. at_once (ls number)) (λ sets ticks ls t ys p x. (follows.results (inputs_at sets ticks ls (ls 0) t) ys p).1 x)
+            (λ sets ticks ls t xs p x. (follows.arrivals (inputs_at sets ticks ls (ls 0) t) xs p).1 x));
       }
 
   pub body_put : (e : Emitted) (kinds : List Kind) → slice_get nodes id ≡ Some (Body kinds)
@@ -124,6 +125,6 @@ module _ (laws : LawsBelow) (nodes : List PlanNode) (id : ℕ) (net : Net) (tick
         keeps = same_keeps net;
         cost = no_cost nodes id net;
         gives = rw (follows.shape, follows.figures) (leaf_gives _ (IsPlanArrival nodes id) (IsPlanResult nodes id) 0 net tick leaves e there none h.0 h.1
-            (λ ls. at_once (ls 0)) (λ ticks ls t ys p x. (follows.results (inputs_at ticks ls (ls 0) t) ys p).1 x)
-            (λ ticks ls t xs p x. (follows.arrivals (inputs_at ticks ls (ls 0) t) xs p).1 x));
+            (λ ls. at_once (ls 0)) (λ sets ticks ls t ys p x. (follows.results (inputs_at sets ticks ls (ls 0) t) ys p).1 x)
+            (λ sets ticks ls t xs p x. (follows.arrivals (inputs_at sets ticks ls (ls 0) t) xs p).1 x));
       }

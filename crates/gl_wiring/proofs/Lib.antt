@@ -8,6 +8,7 @@ pub mod ManyNames
 pub mod Finishing
 pub mod Shapes
 pub mod Resetting
+pub mod HeldRuns
 pub mod StreamLemmas
 pub mod BringLemmas
 pub mod RootLemmas
@@ -58,3 +59,4 @@ pub mod TickedLemmas
 pub mod AloneLemmas
 pub mod SpareCosts
 pub mod SpareLemmas
+pub mod WordLemmas

@@ -1,5 +1,5 @@
 -- The netlist of several results: outputs one after the other, the names of its ports, what it costs, and that its runs are right.
-use Rattle.std.proofs.Common.{◌≡◌, ℕ, Bool, true, false, ◌+◌, ◌*◌, ◌<◌, ◌≤◌, max, List, [], ◌∷◌, ◌++◌, length, map, Option, Some, None, refl, sym, ap, subst, ◌∙◌, append_assoc, arith}
+use Rattle.std.proofs.Common.{◌≡◌, ℕ, Bool, ◌+◌, ◌*◌, ◌<◌, ◌≤◌, max, List, [], ◌∷◌, ◌++◌, length, map, Option, Some, None, refl, sym, ap, subst, ◌∙◌, append_assoc, arith}
 use Rattle.std.specs.Prelude.{slice_get}
 use Rattle.std.specs.List.{AllByRecursion, flat_map, sum, sum_by}
 use Rattle.std.proofs.lemmas.List.{append-nil, map-append}
@@ -36,9 +36,9 @@ use Rattle.gl_wiring.specs.Leaves.{widths_of}
 use Rattle.gl_wiring.specs.Many.{CanWireRoot, IsRightFor, ids_of, many_ports, naming_at, result_names, root_outputs, widest_gap}
 use Rattle.gl_wiring.specs.ManyNet.{AreShownBy, CanShow, IsShown, outputs_cost}
 use Rattle.gl_wiring.specs.Naming.{Naming}
-use Rattle.gl_wiring.specs.Output.{IsOutput, input_ports, output_cost, result_outputs, tick_input}
-use Rattle.gl_wiring.specs.PlanNet.{IsEmpty, IsRootNet}
-use Rattle.gl_wiring.specs.PortNames.{module_names, result_ports, results_ports, streams_ports, tick_port}
+use Rattle.gl_wiring.specs.Output.{IsOutput, input_ports, late_inputs, output_cost, result_outputs}
+use Rattle.gl_wiring.specs.PlanNet.{HasParameters, IsEmpty, IsRootNet}
+use Rattle.gl_wiring.specs.PortNames.{module_names, result_ports, results_ports, streams_ports}
 use Rattle.gl_wiring.specs.Put.{HasColumns}
 use Rattle.gl_wiring.specs.Reached.{AreReached, CanPutAll, once_cost}
 use Rattle.gl_wiring.specs.StreamWires.{AreStreamWires, IsTickLine}
@@ -51,7 +51,7 @@ use Rattle.gl_wiring.proofs.ManyNames.{AreNamed}
 use Rattle.gl_wiring.proofs.OutputLemmas.{shown_stay}
 use Rattle.gl_wiring.proofs.Outputs.{AreApart}
 use Rattle.gl_wiring.proofs.PlanLemmas.{result_named, root_group_kept, root_runs_right}
-use Rattle.gl_wiring.proofs.Shapes.{names_in, puts_then, shape_names, streams_names}
+use Rattle.gl_wiring.proofs.Shapes.{late_named, names_in, puts_then, shape_names, streams_names}
 use Rattle.gl_wiring.proofs.MarkedLemmas.{all_by}
 use Rattle.gl_wiring.proofs.StreamLemmas.{bit_stays, leaves_have, line_there, lines_have}
 use Rattle.gl_wiring.proofs.TableLemmas.{gives_columns, taken_gives}
@@ -208,19 +208,16 @@ outputs_in schema nodes (r ∷ rs) all =
     ∙ ap (λ (x : List (List ℕ)). x ++ names_in rest) (result_named (naming_at r) (widths_of kinds) r.names.columns long)
     ∙ ap (λ (x : List (List ℕ)). map (naming_at r) (result_ports r.names.columns) ++ x) (outputs_in schema nodes rs all.1)
 
-ticks_in : (ticks : Bool) (shapes : List PortShape) → names_in (tick_input ticks ++ shapes) ≡ tick_port ticks ++ names_in shapes
-ticks_in true shapes = refl
-ticks_in false shapes = refl
-
 -- the names of a module's ports, by those of its outputs
 ports_in : (ticks : Bool) (s : Schema) (shapes : List PortShape) → names_in (input_ports ticks s ++ shapes) ≡ module_names ticks s (names_in shapes)
 ports_in ticks s shapes =
     let streams = streams_inputs s.streams in
-    let later = tick_input ticks ++ shapes in
-    ap (λ (x : List PortShape). names_in (input rst 1 ∷ x)) (append_assoc streams (input eos 1 ∷ tick_input ticks) shapes)
+    let late = late_inputs ticks s.parameters in
+    let later = late ++ shapes in
+    ap (λ (x : List PortShape). names_in (input rst 1 ∷ x)) (append_assoc streams (input eos 1 ∷ late) shapes)
     ∙ ap (λ (x : List (List ℕ)). rst ∷ x) (map-append (λ (p : PortShape). p.name) streams (input eos 1 ∷ later)
     ∙ ap (λ (x : List (List ℕ)). x ++ eos ∷ names_in later) (streams_names s.streams)
-    ∙ ap (λ (x : List (List ℕ)). streams_ports s.streams ++ eos ∷ x) (ticks_in ticks shapes))
+    ∙ ap (λ (x : List (List ℕ)). streams_ports s.streams ++ eos ∷ x) (late_named ticks s.parameters shapes))
 
 pub many_are : (ticks : Bool) (net : Net) (s : Schema) (nodes : List PlanNode) (roots : List Root) → AllByRecursion (CanWireRoot s nodes) roots
     → port_shapes net ≡ many_ports ticks s nodes roots → names_of net ≡ module_names ticks s (results_ports (result_names roots))
@@ -274,7 +271,8 @@ all_can schema nodes net tick leaves table (r ∷ rs) all have = (
 )
 
 module _ (laws : LawsBelow) (schema : Schema) (nodes : List PlanNode) (plan : IsPlan nodes) (tick : Option Bit) (leaves : List Wire) (table : List (Option Emitted)) (mid net : Net)
-    (x : Extends mid net) (wires : AreStreamWires net schema.streams leaves) (line : IsTickLine net (reads_time nodes) tick) (reset : HasReset net) where
+    (x : Extends mid net) (wires : AreStreamWires net schema.streams leaves) (line : IsTickLine net (reads_time nodes) tick) (reset : HasReset net)
+    (parameters : HasParameters net schema) where
   one_net : (r : Root) → r.id < length nodes → HasCircuit nodes mid tick leaves table r.id → IsShown net table r
       → IsRootNet schema nodes r.id (figures_of nodes r.id) 0 (naming_at r) r.names.columns net
   one_net r within has shown = record {
@@ -285,6 +283,7 @@ module _ (laws : LawsBelow) (schema : Schema) (nodes : List PlanNode) (plan : Is
     e = shown.e;
     wires = wires;
     line = line;
+    parameters = parameters;
     serves = λ run is. once_by laws nodes r.id 0 mid tick leaves shown.e plan within (taken_gives has shown.there) run (x.runs run is);
     output = shown.output;
     reset = reset;

@@ -54,11 +54,11 @@ keyed_columns source key within body columns copies of_source of_body =
 pub record InRun (nodes : List PlanNode) (source body gap : ℕ) (m : Machine) (between : Emitted) (mid new : Net) (tick : Option Bit) (leaves : List Wire) (e : Emitted)
     (o : IsPutOver nodes body m between mid new e) (run : Run) (beats : Beats) : Type 0 where
   pub source' : Serving (spaced gap (figures_of nodes source))
-      (λ t. IsPlanResult nodes source (inputs_at (line_of run tick) (leaf run leaves) (leaf run leaves 0) t))
+      (λ t. IsPlanResult nodes source (inputs_at run.held (line_of run tick) (leaf run leaves) (leaf run leaves 0) t))
       (lines_of run o.front.source.faults) beats (carried run o.front.source.wire)
   pub apart : CarriesApart gap (carried run o.front.source.wire)
   pub copies : (k : ℕ) → k < m.count → Spaced (figures_of nodes body) (beats_of (carried_of run o.front.wires k))
-      → CopyServes nodes body (figures_of nodes body) (carried_of run o.front.wires k) (told_of run o.copies k) (gives_of run o.copies k)
+      → CopyServes run.held nodes body (figures_of nodes body) (carried_of run o.front.wires k) (told_of run o.copies k) (gives_of run o.copies k)
 
 -- what stands around such a machine
 pub record Around (nodes : List PlanNode) (source body gap : ℕ) (g : Figures) (m : Machine) (between : Emitted) (old mid new : Net) (tick : Option Bit) (leaves : List Wire) (e : Emitted)

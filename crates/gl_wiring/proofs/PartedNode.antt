@@ -17,6 +17,7 @@ use Rattle.gl_algebra.specs.Fits.{IsPlan, KeyFits}
 use Rattle.gl_algebra.specs.Keys.{delay_by_key}
 use Rattle.gl_algebra.specs.Results.{IsPlanArrival, IsPlanResult, row_of_frames}
 use Rattle.gl_algebra.specs.Shapes.{kinds_of, shape_of}
+use Rattle.gl_algebra.specs.Values.{Sets}
 use Rattle.gl_algebra.specs.Weights.{weight_by_key}
 use Rattle.gl_algebra.proofs.SoundLemmas.{delayed_sound}
 use Rattle.gl_net.specs.declared.node.Bit.{Bit}
@@ -111,8 +112,8 @@ module _ (laws : LawsBelow) (nodes : List PlanNode) (id : ℕ) (old mid new : Ne
   abbrev e : Emitted
   e = record { wire = r.wire; faults = record { passed = below.faults.passed; further = further } }
 
-  abbrev relation : Relation
-  relation = OfKeys by.groups (key_in by.key) (row_of_frames kinds items)
+  abbrev relation : Sets → Relation
+  relation sets = OfKeys by.groups (key_in by.key) (row_of_frames sets kinds items)
 
   in_child : child < length nodes
   in_child = first_within nodes id (Frames child (Some by) items) plan at child [] refl
@@ -131,7 +132,7 @@ module _ (laws : LawsBelow) (nodes : List PlanNode) (id : ℕ) (old mid new : Ne
         let own : Lines = record { passed = λ c. false; further = line_at run r.further } in (
           own,
           record { passed = λ c. sym (or_none (line_of run below.faults.passed c)); further = line.line run z },
-          settled_lines f (delayed m f) relation own (carried run below.wire) (carried run r.wire) (delayed_sound m f sound) (is.serves run (line.keeps.runs run z) f sound),
+          settled_lines f (delayed m f) (relation run.held) own (carried run below.wire) (carried run r.wire) (delayed_sound m f sound) (is.serves run (line.keeps.runs run z) f sound),
         );
   }
 
@@ -154,16 +155,18 @@ module _ (laws : LawsBelow) (nodes : List PlanNode) (id : ℕ) (old mid new : Ne
             (λ run z. tt)
             (λ i xs ys q s of n. (follows.results i ys (q || s)).1
             (record { rows = xs; source_spill = q; of_source = of; changed = n.rows; any = ap (λ (b : Bool). q || b) n.left_out }))
-            (has_further by.groups (key_in by.key)) (λ xs ys s n. n.left_out)
+            (has_further by.groups (key_in by.key)) (λ sets xs ys s n. n.left_out)
             (λ run z beats apart fits came. (
               came,
-              λ i p d.
+              λ i held p d.
                   let w = (keyed.serves run z).2 beats apart fits in
-                  dated_as (settled (delayed m f)) (λ t. IsPartedInPlace (IsPlanArrival nodes child (i t)) (each_at (by_key by.groups (key_in by.key) (row_of_frames kinds items)) [])
+                  dated_as (settled (delayed m f)) (λ t. IsPartedInPlace (IsPlanArrival nodes child (i t)) (each_at (by_key by.groups (key_in by.key) (row_of_frames run.held kinds items)) [])
                   (has_further by.groups (key_in by.key))) (λ t n. n) (λ t. p t || w.spill t) beats (λ t. IsPlanArrival nodes id (i t)) (carried run r.wire)
-                  (λ t xs q x. (follows.arrivals (i t) xs q).1 x)
+                  (λ t xs q x. (follows.arrivals (i t) xs q).1
+                  (subst (λ (z : Sets). IsPartedInPlace (IsPlanArrival nodes child (i t)) (each_at (by_key by.groups (key_in by.key) (row_of_frames z kinds items)) [])
+                  (has_further by.groups (key_in by.key)) xs q) (sym (held t)) x))
                   (dated_by_key f (λ t. IsPlanArrival nodes child (i t)) (λ t n. n) p beats (carried run below.wire) (carried run r.wire) m
-                  (by_key by.groups (key_in by.key) (row_of_frames kinds items)) (has_further by.groups (key_in by.key)) w.spill
+                  (by_key by.groups (key_in by.key) (row_of_frames run.held kinds items)) (has_further by.groups (key_in by.key)) w.spill
                   (λ t k l ends first last. (w.served.results t k l ends first last).left_out)
                   (is.runs run (line.keeps.runs run z)) d),
             )));

@@ -169,16 +169,16 @@ module _ (laws : LawsBelow) (nodes : List PlanNode) (p : PartitionOf) (plan : Is
           paced = λ run r. tt;
           serving = λ run r beats spaced_beats has.
               let y = x.in_run run r beats spaced_beats has in
-              let whole = b.serves run r f sound_source nodes p.body beats spaced_beats y.source'.fits y.apart y.copies in
-              let ins : ℕ → Inputs = inputs_at (line_of run tick) (leaf run leaves) (leaf run leaves 0) in
+              let whole = b.serves run r f sound_source run.held nodes p.body beats spaced_beats y.source'.fits y.apart y.copies in
+              let ins : ℕ → Inputs = inputs_at run.held (line_of run tick) (leaf run leaves) (leaf run leaves 0) in
               let told : Lines = both_lines (lines_of_all (told_of run o.copies) c) (line_of_further (line_of run o.front.further)) in
               let lines : Lines = both_lines (lines_of run o.front.source.faults) told in
               serving_lines h (λ t. IsPlanResult nodes p.id (ins t)) (lines_of run e.faults) lines beats (carried run e.wire) (b.told run r)
               (serving_as h _ (λ t. IsPlanResult nodes p.id (ins t)) lines beats (carried run e.wire)
               (λ t ys x v. (follows.results (ins t) ys x).1 v)
-              (parts_then f h (λ t. IsPlanResult nodes p.source (ins t)) (partitioning_of nodes p) (OfBody nodes p.body)
+              (parts_then f h (λ t. IsPlanResult nodes p.source (ins t)) (partitioning_of nodes p) (OfBody run.held nodes p.body)
               (λ t rows. IsPlanResult nodes p.body (given (ins t) rows))
-              (λ t rows zs q y. laws.bodies_read_their_input nodes p.body plan in_body (kinds_of nodes p.source) fits.suits.0.leaves (alone rows) (given (ins t) rows) (record { rows = refl; places = refl }) zs q y)
+              (λ t rows zs q y. laws.bodies_read_their_input nodes p.body plan in_body (kinds_of nodes p.source) fits.suits.0.leaves (alone run.held rows) (given (ins t) rows) (record { rows = refl; places = refl; sets = refl }) zs q y)
               (lines_of run o.front.source.faults) told beats (carried run o.front.source.wire) (carried run e.wire) y.source' whole));
           dated = λ run r beats spaced_beats has came. absurd (cc);
         });

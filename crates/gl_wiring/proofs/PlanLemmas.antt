@@ -1,6 +1,6 @@
 -- The netlist of a plan: the names of its ports, what it costs, and that its runs are right.
-use Rattle.std.proofs.Common.{◌≡◌, ℕ, suc, Bool, true, false, ◌+◌, ◌*◌, ◌<◌, ◌≤◌, List, [], ◌∷◌, ◌++◌, length, map, Some, None, refl, sym, ap, subst, ◌∙◌, append_assoc, arith}
-use Rattle.std.specs.Prelude.{slice_get}
+use Rattle.std.proofs.Common.{◌≡◌, ℕ, suc, Bool, ◌+◌, ◌*◌, ◌<◌, ◌≤◌, List, [], ◌∷◌, ◌++◌, length, map, Some, None, refl, sym, ap, subst, ◌∙◌, append_assoc, arith}
+use Rattle.std.specs.Prelude.{slice_get, slice_index}
 use Rattle.std.specs.List.{sum}
 use Rattle.std.proofs.lemmas.List.{map-append}
 use Rattle.gl_algebra.specs.Fits.{IsPlan}
@@ -13,17 +13,18 @@ use Rattle.gl_algebra.specs.Roots.{most_memory, most_registers, weight_with_outp
 use Rattle.gl_bits.proofs.AllLists.{length_map}
 use Rattle.gl_bits.proofs.Options.{some_same}
 use Rattle.gl_values.specs.Kinds.{width_of}
-use Rattle.gl_net.specs.Net.{Net, Run, IsRun, IsTrace, memory_bits_of, register_bits_of, size_of}
+use Rattle.gl_net.specs.Net.{Net, Run, IsHeld, IsRun, IsTrace, memory_bits_of, register_bits_of, size_of}
 use Rattle.gl_net.specs.PortValues.{PortShape, input_values, port_shapes}
 use Rattle.gl_wiring.specs.Below.{LawsBelow}
 use Rattle.gl_wiring.specs.Leaves.{widths_of}
 use Rattle.gl_wiring.specs.Roots.{root_cost}
 use Rattle.gl_wiring.proofs.CostLemmas.{bits_within}
-use Rattle.gl_schema.specs.Beats.{Beat, AreBeats, inputs_of, last_cycle}
+use Rattle.gl_schema.specs.Beats.{Beats, AreBeats, inputs_of, last_cycle}
 use Rattle.gl_gaps.specs.Keeps.{KeepsGaps}
-use Rattle.gl_schema.specs.Ports.{IsStimulus, rst, eos, tick, out_valid, out_column, out_eos, fault_group, fault_queue}
+use Rattle.gl_schema.specs.Ports.{IsStimulus, rst, eos, out_valid, out_column, out_eos, fault_group, fault_queue}
 use Rattle.gl_schema.specs.Right.{IsRight}
 use Rattle.gl_gaps.specs.declared.Gaps.{Gaps}
+use Rattle.gl_schema.specs.declared.schema.Column.{Column}
 use Rattle.gl_schema.specs.declared.schema.Schema.{Schema}
 use Rattle.gl_wire.specs.Costs.{CostsAtMost}
 use Rattle.gl_wire.specs.Wire.{carried, line_at}
@@ -33,15 +34,16 @@ use Rattle.gl_wiring.specs.Bringing.{Brings}
 use Rattle.gl_wiring.specs.Emitted.{CostsNothing, names_of}
 use Rattle.gl_wiring.specs.EmittedPorts.{input, output, streams_inputs}
 use Rattle.gl_wiring.specs.Naming.{Naming, plain, seen_as}
-use Rattle.gl_wiring.specs.Output.{column_outputs, input_ports, output_cost, output_ports, plan_ports, result_outputs, tick_input}
+use Rattle.gl_wiring.specs.Output.{column_outputs, early_inputs, input_ports, late_inputs, output_cost, output_ports, plan_ports, result_outputs}
 use Rattle.gl_wiring.specs.PlanNet.{IsEmpty, IsRootNet}
-use Rattle.gl_wiring.specs.PortNames.{port_names, result_ports, streams_ports, tick_port}
+use Rattle.gl_wiring.specs.PortNames.{late_ports, port_names, result_ports, streams_ports}
 use Rattle.gl_wiring.specs.Root.{ShowsRight}
 use Rattle.gl_wiring.specs.Wired.{KeepsGroup, OverBeats, plan_inputs, plan_means}
 use Rattle.gl_wiring.proofs.BringLemmas.{brings, no_input, ticks_come}
+use Rattle.gl_wiring.proofs.HeldRuns.{is_held_run, trace_held, with_held}
 use Rattle.gl_wiring.proofs.Outputs.{AreApart}
 use Rattle.gl_wiring.proofs.Resetting.{is_reset}
-use Rattle.gl_wiring.proofs.Shapes.{names_in, shape_names, streams_names}
+use Rattle.gl_wiring.proofs.Shapes.{late_named, names_in, shape_names, streams_names}
 use Rattle.gl_wiring.proofs.ShownLemmas.{shown_group, shown_right}
 use Rattle.gl_wiring.proofs.StreamLemmas.{no_stream, wire_at}
 use Rattle.gl_wiring.proofs.TopLemmas.{plan_right}
@@ -69,23 +71,25 @@ same_names : (ns : List (List ℕ)) → map plain ns ≡ ns
 same_names [] = refl
 same_names (n ∷ ns) = ap (λ (x : List (List ℕ)). n ∷ x) (same_names ns)
 
--- with the tick in front, where it is asked for
-later_named : (ticks : Bool) (ws : List ℕ) (ns : List (List ℕ)) → length ns ≡ length ws
-    → names_in (tick_input ticks ++ output_ports ws ns) ≡ tick_port ticks ++ result_ports ns
-later_named true ws ns e = ap (λ (x : List (List ℕ)). tick ∷ x) (result_named plain ws ns e ∙ same_names (result_ports ns))
-later_named false ws ns e = result_named plain ws ns e ∙ same_names (result_ports ns)
+-- with the inputs behind the end in front
+later_named : (ticks : Bool) (ps : List Column) (ws : List ℕ) (ns : List (List ℕ)) → length ns ≡ length ws
+    → names_in (late_inputs ticks ps ++ output_ports ws ns) ≡ late_ports ticks ps ++ result_ports ns
+later_named ticks ps ws ns e =
+    late_named ticks ps (output_ports ws ns)
+    ∙ ap (λ (x : List (List ℕ)). late_ports ticks ps ++ x) (result_named plain ws ns e ∙ same_names (result_ports ns))
 
 -- the names of the ports of a plan's netlist
 pub plan_named : (ticks : Bool) (s : Schema) (ws : List ℕ) (ns : List (List ℕ)) → length ns ≡ length ws
     → names_in (input_ports ticks s ++ output_ports ws ns) ≡ port_names ticks s ns
 plan_named ticks s ws ns e =
     let result = output_ports ws ns in
-    let later = tick_input ticks ++ result in
+    let late = late_inputs ticks s.parameters in
+    let later = late ++ result in
     let streams = streams_inputs s.streams in
-    ap (λ (x : List PortShape). names_in (input rst 1 ∷ x)) (append_assoc streams (input eos 1 ∷ tick_input ticks) result)
+    ap (λ (x : List PortShape). names_in (input rst 1 ∷ x)) (append_assoc streams (input eos 1 ∷ late) result)
     ∙ ap (λ (x : List (List ℕ)). rst ∷ x) (map-append (λ (p : PortShape). p.name) streams (input eos 1 ∷ later)
     ∙ ap (λ (x : List (List ℕ)). x ++ eos ∷ names_in later) (streams_names s.streams)
-    ∙ ap (λ (x : List (List ℕ)). streams_ports s.streams ++ eos ∷ x) (later_named ticks ws ns e))
+    ∙ ap (λ (x : List (List ℕ)). streams_ports s.streams ++ eos ∷ x) (later_named ticks s.parameters ws ns e))
 
 pub plan_names : (ticks : Bool) (net : Net) (s : Schema) (nodes : List PlanNode) (root : ℕ) (ns : List (List ℕ)) → length ns ≡ length (kinds_of nodes root)
     → port_shapes net ≡ plan_ports ticks s (kinds_of nodes root) ns → names_of net ≡ port_names ticks s ns
@@ -94,9 +98,9 @@ plan_names ticks net s nodes root ns e h =
     sym (shape_names net net.ports) ∙ ap names_in h
     ∙ plan_named ticks s (widths_of (kinds_of nodes root)) ns (e ∙ sym (length_map width_of (kinds_of nodes root)))
 
--- the tick stands behind the other inputs
-pub inputs_joined : (ticks : Bool) (s : Schema) → input_ports false s ++ tick_input ticks ≡ input_ports ticks s
-inputs_joined ticks s = ap (λ (x : List PortShape). input rst 1 ∷ x) (append_assoc (streams_inputs s.streams) (input eos 1 ∷ []) (tick_input ticks))
+-- the tick and the parameters stand behind the other inputs
+pub inputs_joined : (ticks : Bool) (s : Schema) → early_inputs s ++ late_inputs ticks s.parameters ≡ input_ports ticks s
+inputs_joined ticks s = ap (λ (x : List PortShape). input rst 1 ∷ x) (append_assoc (streams_inputs s.streams) (input eos 1 ∷ []) (late_inputs ticks s.parameters))
 
 -- ---- costs
 
@@ -124,22 +128,22 @@ costs_within laws nodes root n0 n1 n2 n3 columns plan within empty none put out 
 
 module _ (laws : LawsBelow) (schema : Schema) (nodes : List PlanNode) (root : ℕ) (f : Figures) (ticks : ℕ) (naming : Naming) (names : List (List ℕ)) (net : Net)
     (is : IsRootNet schema nodes root f ticks naming names net) (apart : AreApart net) (gaps : Gaps) (close : f.gt ≤ gaps.of_beats) (near : ticks ≤ gaps.of_ticks) where
-  module _ (run : Run) (beats : List Beat) (trace : IsTrace net run) (are : AreBeats schema beats) (keeps : KeepsGaps gaps beats)
-      (stimulus : IsStimulus schema beats (input_values net run)) where
+  module _ (run : Run) (beats : Beats) (trace : IsTrace net run) (are : AreBeats schema beats) (keeps : KeepsGaps gaps beats)
+      (stimulus : IsStimulus schema beats (input_values net run)) (words : run.held ≡ (λ (k : ℕ). slice_index beats.sets k)) (held : IsHeld net run) where
     runs : IsRun net run
-    runs = record { trace = trace; reset = is_reset schema beats net run apart is.reset trace stimulus }
+    runs = record { trace = trace; reset = is_reset schema beats net run apart is.reset trace stimulus; held = held }
 
-    leaf_brings : (k : ℕ) (w : Wire) → slice_get is.leaves k ≡ Some w → Brings k beats (carried run w)
+    leaf_brings : (k : ℕ) (w : Wire) → slice_get is.leaves k ≡ Some w → Brings k beats.list (carried run w)
     leaf_brings k w e =
         let r = wire_at net schema.streams is.leaves k w is.wires e in
         let same : r.wire ≡ w = some_same r.wire w (sym r.at ∙ e) in
-        subst (λ (x : Wire). Brings k beats (carried run x)) same
+        subst (λ (x : Wire). Brings k beats.list (carried run x)) same
         (brings schema k r.stream r.there beats are net run apart r.wire r.is stimulus)
 
     shows : ShowsRight f (IsPlanResult nodes root (plan_inputs (inputs_of beats))) (suc (last_cycle beats))
         (carried run is.output.wire) (line_at run is.output.group) (line_at run is.output.queue)
     shows = plan_right laws run is.leaves beats are.order leaf_brings
-        (λ k e. no_input schema beats k are.each (no_stream net schema.streams is.leaves k is.wires e))
+        (λ k e. no_input schema beats.list k are.each (no_stream net schema.streams is.leaves k is.wires e)) words
         nodes root is.tick is.plan is.within (ticks_come schema beats net run apart stimulus (reads_time nodes) is.tick is.line)
         f ticks gaps is.e (carried run is.output.wire) (line_at run is.output.group) (line_at run is.output.queue)
         close near (is.serves run runs) keeps (is.output.delayed run runs) (is.output.group_line run runs) (is.output.queue_line run runs)
@@ -147,12 +151,29 @@ module _ (laws : LawsBelow) (schema : Schema) (nodes : List PlanNode) (root : �
     first : (carried run is.output.wire).tuple 0 ≡ None
     first = tuple_by run is.output.wire.valid is.output.wire.columns 0 ∙ rw (line_first run is.output.wire.valid) refl
 
+  -- a trace over beats, with the words that they set as those that it holds
+  module _ (run : Run) (beats : Beats) (trace : IsTrace net run) (stimulus : IsStimulus schema beats (input_values net run)) where
+    abbrev set : Run
+    set = with_held run (λ (k : ℕ). slice_index beats.sets k)
+
+    set_trace : IsTrace net set
+    set_trace = trace_held run (λ (k : ℕ). slice_index beats.sets k) net trace
+
+    set_held : IsHeld net set
+    set_held = is_held_run schema beats net run stimulus apart is.parameters
+
   pub root_runs_right : OverBeats schema gaps (λ all port. IsRight (plan_means nodes root) (f.le + 1) all (map out_column names) (seen_as naming port)) net
   root_runs_right run beats trace are keeps stimulus =
-      shown_right naming net run names is.output.wire is.output.group is.output.queue apart is.output.shows f nodes root beats
-      (first run beats trace are keeps stimulus) (shows run beats trace are keeps stimulus)
+      let over = set run beats trace stimulus in
+      let traced = set_trace run beats trace stimulus in
+      let held = set_held run beats trace stimulus in
+      shown_right naming net over names is.output.wire is.output.group is.output.queue apart is.output.shows f nodes root beats
+      (first over beats traced are keeps stimulus refl held) (shows over beats traced are keeps stimulus refl held)
 
   pub root_group_kept : OverBeats schema gaps (λ all port. KeepsGroup (map out_column names) (seen_as naming port)) net
   root_group_kept run beats trace are keeps stimulus =
-      shown_group naming net run names is.output.wire is.output.group is.output.queue apart is.output.shows f nodes root beats
-      (first run beats trace are keeps stimulus) (shows run beats trace are keeps stimulus)
+      let over = set run beats trace stimulus in
+      let traced = set_trace run beats trace stimulus in
+      let held = set_held run beats trace stimulus in
+      shown_group naming net over names is.output.wire is.output.group is.output.queue apart is.output.shows f nodes root beats
+      (first over beats traced are keeps stimulus refl held) (shows over beats traced are keeps stimulus refl held)

@@ -9,12 +9,12 @@ use Rattle.gl_schema.specs.declared.schema.Column.{Column}
 use Rattle.gl_schema.specs.declared.schema.Stream.{Stream}
 use Rattle.gl_schema.specs.declared.schema.Schema.{Schema}
 use Rattle.gl_schema.specs.Names.{IsName, reserved}
-use Rattle.gl_schema.specs.Schemas.{IsStream, IsSchema, stream_names}
-use Rattle.gl_schema.specs.Ports.{rst, eos, tick, in_valid, in_column, out_valid, out_column, out_eos, fault_group, fault_queue}
-use Rattle.gl_schema.specs.Profile.{ProfilePort, column_inputs, stream_inputs, streams_inputs, port_names as profile_names}
+use Rattle.gl_schema.specs.Schemas.{IsStream, IsSchema, column_names, stream_names}
+use Rattle.gl_schema.specs.Ports.{rst, eos, tick, in_valid, in_column, in_parameter, out_valid, out_column, out_eos, fault_group, fault_queue}
+use Rattle.gl_schema.specs.Profile.{ProfilePort, column_inputs, stream_inputs, streams_inputs, parameter_inputs, port_names as profile_names}
 use Rattle.gl_schema.proofs.InputNames.{Apart, AreApart, apart_distinct, both_apart, first_byte, is_reserved, no_valid}
 use Rattle.gl_schema.proofs.InputNames as inputs
-use Rattle.gl_wiring.specs.PortNames.{column_ports, stream_ports, streams_ports, result_ports, tick_port, module_names, port_names}
+use Rattle.gl_wiring.specs.PortNames.{column_ports, stream_ports, streams_ports, result_ports, parameter_ports, late_ports, module_names, port_names}
 
 -- ---- lists of names
 
@@ -45,6 +45,18 @@ streams_apart ss all h = subst AreApart (streams_are ss) (inputs.streams_apart s
 
 streams_first : (ss : List Stream) → AllByRecursion IsStream ss → AllByRecursion (λ n. first_byte n ≡ 105) (streams_ports ss)
 streams_first ss all = subst (AllByRecursion (λ n. first_byte n ≡ 105)) (streams_are ss) (inputs.streams_first ss all)
+
+-- ---- and so are those of the parameters
+
+parameters_are : (ps : List Column) → profile_names (parameter_inputs ps) ≡ parameter_ports ps
+parameters_are [] = refl
+parameters_are (p ∷ ps) = ap (λ (ns : List (List ℕ)). in_parameter p.name ∷ ns) (parameters_are ps)
+
+parameters_apart : (ps : List Column) → AreApart (column_names ps) → AreApart (parameter_ports ps)
+parameters_apart ps h = subst AreApart (parameters_are ps) (inputs.parameters_apart ps h)
+
+parameters_first : (ps : List Column) → AllByRecursion (λ n. first_byte n ≡ 115) (parameter_ports ps)
+parameters_first ps = subst (AllByRecursion (λ n. first_byte n ≡ 115)) (parameters_are ps) (inputs.parameters_first ps)
 
 -- ---- the ports of the result
 
@@ -131,9 +143,13 @@ result_first cs =
 no_byte : (b : ℕ) → (b ≡ 105 → ⊥) → (n m : List ℕ) → first_byte n ≡ b → first_byte m ≡ 105 → n ≡ m → ⊥
 no_byte b differ n m h k e = differ (sym h ∙ ap first_byte e ∙ k)
 
--- the first byte of a port behind the end of the input is a t, or one of the result
+-- the first byte of a port behind the tick is an s, or one of the result
+abbrev IsHeldByte : ℕ → Type 0
+IsHeldByte b = IsResultByte b ⊎ (b ≡ 115)
+
+-- the first byte of a port behind the end of the input is a t, or one of those
 abbrev IsLaterByte : ℕ → Type 0
-IsLaterByte b = IsResultByte b ⊎ (b ≡ 116)
+IsLaterByte b = IsHeldByte b ⊎ (b ≡ 116)
 
 no_later : (b : ℕ) → (IsLaterByte b → ⊥) → (n m : List ℕ) → first_byte n ≡ b → IsLaterByte (first_byte m) → n ≡ m → ⊥
 no_later b differ n m h k e = differ (subst IsLaterByte (sym (ap first_byte e) ∙ h) k)
@@ -151,73 +167,103 @@ unfolding tick
 tick_first = refl
 
 differ-114 : IsLaterByte 114 → ⊥
-differ-114 (inl (inl e)) = absurd (omega arith)
+differ-114 (inl (inl (inl e))) = absurd (omega arith)
+differ-114 (inl (inl (inr e))) = absurd (omega arith)
 differ-114 (inl (inr e)) = absurd (omega arith)
 differ-114 (inr e) = absurd (omega arith)
 
 differ-101 : IsLaterByte 101 → ⊥
-differ-101 (inl (inl e)) = absurd (omega arith)
+differ-101 (inl (inl (inl e))) = absurd (omega arith)
+differ-101 (inl (inl (inr e))) = absurd (omega arith)
 differ-101 (inl (inr e)) = absurd (omega arith)
 differ-101 (inr e) = absurd (omega arith)
 
 differ-105 : IsLaterByte 105 → ⊥
-differ-105 (inl (inl e)) = absurd (omega arith)
+differ-105 (inl (inl (inl e))) = absurd (omega arith)
+differ-105 (inl (inl (inr e))) = absurd (omega arith)
 differ-105 (inl (inr e)) = absurd (omega arith)
 differ-105 (inr e) = absurd (omega arith)
 
-differ-116 : IsResultByte 116 → ⊥
-differ-116 (inl e) = absurd (omega arith)
+differ-116 : IsHeldByte 116 → ⊥
+differ-116 (inl (inl e)) = absurd (omega arith)
+differ-116 (inl (inr e)) = absurd (omega arith)
 differ-116 (inr e) = absurd (omega arith)
+
+differ-115 : IsResultByte 115 → ⊥
+differ-115 (inl e) = absurd (omega arith)
+differ-115 (inr e) = absurd (omega arith)
 
 rst_eos : rst ≡ eos → ⊥
 unfolding rst eos
 rst_eos e = bytes_differ rst eos refl e
 
--- the ports behind the end of the input: the tick, where it is asked for, and the outputs of results
-module _ (ticks : Bool) (outs : List (List ℕ)) (first : AllByRecursion (λ n. IsResultByte (first_byte n)) outs) where
+-- the ports behind the tick: the parameters, and the outputs of results
+module _ (ps : List Column) (outs : List (List ℕ)) (first : AllByRecursion (λ n. IsResultByte (first_byte n)) outs) where
+  abbrev held : List (List ℕ)
+  held = parameter_ports ps ++ outs
+
+  held_first : AllByRecursion (λ n. IsHeldByte (first_byte n)) held
+  held_first =
+      all_append (λ n. IsHeldByte (first_byte n)) (parameter_ports ps) outs
+      (all_weaker (λ n. first_byte n ≡ 115) (λ n. IsHeldByte (first_byte n)) (λ n k. inr k) (parameter_ports ps) (parameters_first ps))
+      (all_weaker (λ n. IsResultByte (first_byte n)) (λ n. IsHeldByte (first_byte n)) (λ n k. inl k) outs first)
+
+  no_output : (n : List ℕ) → first_byte n ≡ 115 → Apart n outs
+  no_output n h =
+      all_weaker (λ m. IsResultByte (first_byte m)) (λ m. n ≡ m → ⊥) (λ m k e. differ-115 (subst IsResultByte (sym (ap first_byte e) ∙ h) k)) outs first
+
+  held_apart : AreApart (column_names ps) → AreApart outs → AreApart held
+  held_apart declared apart =
+      both_apart (parameter_ports ps) outs (parameters_apart ps declared) apart
+      (all_weaker (λ n. first_byte n ≡ 115) (λ n. Apart n outs) no_output (parameter_ports ps) (parameters_first ps))
+
+  tick_apart : Apart tick held
+  tick_apart =
+      all_weaker (λ n. IsHeldByte (first_byte n)) (λ m. tick ≡ m → ⊥) (λ m k e. differ-116 (subst IsHeldByte (sym (ap first_byte e) ∙ tick_first) k)) held held_first
+
+  later_first : (ticks : Bool) → AllByRecursion (λ n. IsLaterByte (first_byte n)) (late_ports ticks ps ++ outs)
+  later_first true = (inr tick_first, all_weaker (λ n. IsHeldByte (first_byte n)) (λ n. IsLaterByte (first_byte n)) (λ n k. inl k) held held_first)
+  later_first false = all_weaker (λ n. IsHeldByte (first_byte n)) (λ n. IsLaterByte (first_byte n)) (λ n k. inl k) held held_first
+
+  later_apart : (ticks : Bool) → AreApart (column_names ps) → AreApart outs → AreApart (late_ports ticks ps ++ outs)
+  later_apart true declared apart = (tick_apart, held_apart declared apart)
+  later_apart false declared apart = held_apart declared apart
+
+-- the ports behind the end of the input: the tick, where it is asked for, and those
+module _ (ticks : Bool) (outs : List (List ℕ)) (first : AllByRecursion (λ n. IsResultByte (first_byte n)) outs) (schema : Schema) where
   abbrev later : List (List ℕ)
-  later = tick_port ticks ++ outs
+  later = late_ports ticks schema.parameters ++ outs
 
-  later_by : (b : Bool) → AllByRecursion (λ n. IsLaterByte (first_byte n)) (tick_port b ++ outs)
-  later_by true = (inr tick_first, all_weaker (λ n. IsResultByte (first_byte n)) (λ n. IsLaterByte (first_byte n)) (λ n k. inl k) outs first)
-  later_by false = all_weaker (λ n. IsResultByte (first_byte n)) (λ n. IsLaterByte (first_byte n)) (λ n k. inl k) outs first
-
-  later_first : AllByRecursion (λ n. IsLaterByte (first_byte n)) later
-  later_first = later_by ticks
-
-  later_apart : (b : Bool) → AreApart outs → AreApart (tick_port b ++ outs)
-  later_apart true apart = (
-    all_weaker (λ n. IsResultByte (first_byte n)) (λ m. tick ≡ m → ⊥) (λ m k e. differ-116 (subst IsResultByte (sym (ap first_byte e) ∙ tick_first) k)) outs first,
-    apart,
-  )
-  later_apart false apart = apart
+  bytes : AllByRecursion (λ n. IsLaterByte (first_byte n)) later
+  bytes = later_first schema.parameters outs first ticks
 
   -- in front of these ports stands the end of the input
   eos_apart : Apart eos later
-  eos_apart = all_weaker (λ n. IsLaterByte (first_byte n)) (λ m. eos ≡ m → ⊥) (λ m k. no_later 101 differ-101 eos m eos_first k) later later_first
+  eos_apart = all_weaker (λ n. IsLaterByte (first_byte n)) (λ m. eos ≡ m → ⊥) (λ m k. no_later 101 differ-101 eos m eos_first k) later bytes
 
   rst_apart : Apart rst later
-  rst_apart = all_weaker (λ n. IsLaterByte (first_byte n)) (λ m. rst ≡ m → ⊥) (λ m k. no_later 114 differ-114 rst m rst_first k) later later_first
+  rst_apart = all_weaker (λ n. IsLaterByte (first_byte n)) (λ m. rst ≡ m → ⊥) (λ m k. no_later 114 differ-114 rst m rst_first k) later bytes
 
   inputs_apart : (ss : List Stream) → AllByRecursion IsStream ss → AllByRecursion (λ n. Apart n (eos ∷ later)) (streams_ports ss)
   inputs_apart ss all =
       all_weaker (λ n. first_byte n ≡ 105) (λ n. Apart n (eos ∷ later))
       (λ n h. (
         λ e. no_byte 101 (λ k. absurd (omega arith)) eos n eos_first h (sym e),
-        all_weaker (λ m. IsLaterByte (first_byte m)) (λ m. n ≡ m → ⊥) (λ m k. no_later 105 differ-105 n m h k) later later_first,
+        all_weaker (λ m. IsLaterByte (first_byte m)) (λ m. n ≡ m → ⊥) (λ m k. no_later 105 differ-105 n m h k) later bytes,
       ))
       (streams_ports ss) (streams_first ss all)
 
   -- no two ports of a module with these outputs have one name
-  pub module_names-distinct : (schema : Schema) → IsSchema schema → AreApart outs → IsDistinct bytes_eq (module_names ticks schema outs)
-  module_names-distinct schema is apart =
+  pub module_names-distinct : IsSchema schema → AreApart outs → IsDistinct bytes_eq (module_names ticks schema outs)
+  module_names-distinct is apart =
       let streams = streams_ports schema.streams in
       distinct_apart (module_names ticks schema outs) (
         all_append (λ m. rst ≡ m → ⊥) streams (eos ∷ later)
             (all_weaker (λ n. first_byte n ≡ 105) (λ m. rst ≡ m → ⊥) (λ m k. no_byte 114 (λ j. absurd (omega arith)) rst m rst_first k) streams (streams_first schema.streams is.streams))
             (rst_eos, rst_apart),
         both_apart streams (eos ∷ later) (streams_apart schema.streams is.streams (apart_distinct (stream_names schema.streams) is.distinct))
-            (eos_apart, later_apart ticks apart) (inputs_apart schema.streams is.streams),
+            (eos_apart, later_apart schema.parameters outs first ticks (apart_distinct (column_names schema.parameters) is.declared.distinct) apart)
+            (inputs_apart schema.streams is.streams),
       )
 
 -- no two ports of an emitted module have one name

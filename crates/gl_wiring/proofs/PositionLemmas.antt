@@ -9,6 +9,7 @@ use Rattle.gl_arrival.specs.Places.{at_place, at_places}
 use Rattle.gl_values.specs.Results.{Row}
 use Rattle.gl_algebra.specs.Laws.{TurnInto}
 use Rattle.gl_algebra.specs.Results.{Inputs}
+use Rattle.gl_algebra.specs.Values.{Sets}
 use Rattle.gl_wire.specs.Serving.{inputs_at}
 use Rattle.gl_wire.specs.Ticks.{cycles_at, cycles_before, times_of}
 use Rattle.gl_wire.specs.Wire.{Carried, pending, stream}
@@ -110,9 +111,9 @@ placed_turned g above k (x ∷ xs) (c ∷ cs) many h =
 
 -- ---- what a body's leaves give, each row at its position
 
-abbrev pub at_positions_in : (ℕ → Bool) → (ℕ → Carried) → ℕ → Inputs
-at_positions_in tick ls t =
-    record (inputs_at tick ls (ls 0) t) {
+abbrev pub at_positions_in : Sets → (ℕ → Bool) → (ℕ → Carried) → ℕ → Inputs
+at_positions_in sets tick ls t =
+    record (inputs_at sets tick ls (ls 0) t) {
       places = λ k. range_with_len 0 (length (stream (ls k) t));
       body_places = range_with_len 0 (length (stream (ls 0) t));
     }
@@ -124,15 +125,16 @@ quiet_stream (suc c) = ap (λ (l : List Row). l ++ []) (quiet_stream c)
 pub silent_stream : (c : ℕ) → stream silent c ≡ []
 silent_stream c = ap (λ (l : List Row). l ++ []) (quiet_stream c)
 
-pub turn_into_cycles : (tick : ℕ → Bool) (ls : ℕ → Carried) (t : ℕ) → ((k : ℕ) → stream (ls (suc k)) t ≡ [])
-    → TurnInto (cycle_at (ls 0) t) (at_positions_in tick ls t) (inputs_at tick ls (ls 0) t)
-turn_into_cycles tick ls t none = record {
+pub turn_into_cycles : (sets : Sets) (tick : ℕ → Bool) (ls : ℕ → Carried) (t : ℕ) → ((k : ℕ) → stream (ls (suc k)) t ≡ [])
+    → TurnInto (cycle_at (ls 0) t) (at_positions_in sets tick ls t) (inputs_at sets tick ls (ls 0) t)
+turn_into_cycles sets tick ls t none = record {
   streams = λ k. refl;
   places = placed;
   times = λ k. refl;
   ticks = refl;
   body = refl;
   body_places = first;
+  sets = refl;
 }
   where
     first : at_places (stream (ls 0) t) (cycles_at (ls 0) t) ≡ moved (cycle_at (ls 0) t) (at_places (stream (ls 0) t) (range_with_len 0 (length (stream (ls 0) t))))

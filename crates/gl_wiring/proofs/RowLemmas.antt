@@ -21,6 +21,7 @@ use Rattle.gl_algebra.specs.FigureTable.{delayed, settled, aggregate_figures, de
 use Rattle.gl_algebra.specs.Fits.{IsPlan}
 use Rattle.gl_algebra.specs.Frames.{delay_of_frames}
 use Rattle.gl_algebra.specs.Results.{IsPlanArrival, IsPlanResult, computed, selected, projected, row_of_frames}
+use Rattle.gl_algebra.specs.Values.{Sets}
 use Rattle.gl_algebra.specs.Shapes.{Shape, kinds_of, shape_of}
 use Rattle.gl_algebra.specs.Weights.{weight_of_frames}
 use Rattle.gl_algebra.proofs.FigureLemmas.{delayed_by_none}
@@ -44,7 +45,7 @@ use Rattle.gl_wire.specs.Serves.{Serves}
 use Rattle.gl_wire.specs.Shapes.{Steady, AtEnds, Mapped, Totalled, keep_where}
 use Rattle.gl_wire.proofs.PaceLemmas.{steady_pace}
 use Rattle.gl_wire.proofs.SettledLemmas.{settled_serves}
-use Rattle.gl_arrival.specs.Changes.{each_at, stepped_at}
+use Rattle.gl_arrival.specs.Changes.{each_at, mapped_at, stepped_at}
 use Rattle.gl_arrival.specs.Results.{IsChangedInPlace}
 use Rattle.gl_arrival.proofs.ChangeLemmas.{stepped_kept, stepped_mapped}
 use Rattle.gl_turns.specs.Dated.{Dated}
@@ -90,7 +91,7 @@ frames_counted law kinds items are fit =
 
 module _ (laws : LawsBelow) (nodes : List PlanNode) (id : ℕ) (old new : Net) (tick : Option Bit) (leaves : List Wire) (below e : Emitted) (plan : IsPlan nodes) where
   pub compute_put : (child : ℕ) (ops : List ColOp) → slice_get nodes id ≡ Some (Compute child ops) → Gives nodes child old tick leaves below
-      → (let kinds = kinds_of nodes child in IsBehind old new (Steady 1 (λ row. Some (computed kinds ops row))) (computed_widths kinds ops)
+      → (let kinds = kinds_of nodes child in IsBehind old new (λ sets. Steady 1 (λ row. Some (computed sets kinds ops row))) (computed_widths kinds ops)
       (cost_of_rows (computed_widths kinds ops) (length ops)) below e)
       → IsPutBehind nodes id old new tick leaves e
   compute_put child ops at h b =
@@ -98,7 +99,7 @@ module _ (laws : LawsBelow) (nodes : List PlanNode) (id : ℕ) (old new : Net) (
       let parts = parts_at nodes id (Compute child ops) at in
       let f : Figures = figures_of nodes child in
       let kinds = kinds_of nodes child in
-      let step : Row → Option Row = λ row. Some (computed kinds ops row) in
+      let step : Sets → Row → Option Row = λ sets row. Some (computed sets kinds ops row) in
       let within = first_within nodes id (Compute child ops) plan at child [] refl in
       let sound = laws.figures_are_sound nodes child plan within in
       let own : All IsKind (kinds ++ map (kind_of_op kinds) ops) =
@@ -109,22 +110,26 @@ module _ (laws : LawsBelow) (nodes : List PlanNode) (id : ℕ) (old new : Net) (
             (record { weight' = parts.weight; lean' = omega (arith, parts.lean, parts.keys); store' = parts.store })
             b.cost (rows_counted (kinds ++ map (kind_of_op kinds) ops) (length ops) own);
         gives = rw (follows.shape, follows.figures) (behind (shape_of nodes child) _ f (settled (delayed 1 f)) (IsPlanArrival nodes child) (IsPlanArrival nodes id) (IsPlanResult nodes child)
-            (IsPlanResult nodes id) old new tick leaves below e _ _ _ (Mapped step)
+            (IsPlanResult nodes id) old new tick leaves below e _ _ _ (λ sets. Mapped (step sets))
             h b refl (record { gt = omega arith; ge = omega arith })
-            (λ x y s. settled_serves f (delayed 1 f) (Mapped step) x y (delayed_sound 1 f sound) (laws.steady_serves 1 step x y f s))
-            (λ x y ls s. steady_pace 1 (computed kinds ops) x y s (shape_of nodes child).pace f.a ls)
-            (λ i xs ys p r m. (follows.results i ys p).1 (record { rows = xs; of_source = r; changed = m ∙ mapped_all (computed kinds ops) xs }))
+            (λ sets x y s. settled_serves f (delayed 1 f) (Mapped (step sets)) x y (delayed_sound 1 f sound) (laws.steady_serves 1 (step sets) x y f s))
+            (λ sets x y ls s. steady_pace 1 (computed sets kinds ops) x y s (shape_of nodes child).pace f.a ls)
+            (λ i xs ys p r m. (follows.results i ys p).1 (record { rows = xs; of_source = r; changed = m ∙ mapped_all (computed i.sets kinds ops) xs }))
             (record {
               before = λ t. t;
-              dates = λ t i p beats x y s d.
-                  dated_as (settled (delayed 1 f)) (λ u. IsChangedInPlace (IsPlanArrival nodes child (i u)) (stepped_at step)) (λ u n. n) p beats (λ u. IsPlanArrival nodes id (i u)) y
-                  (λ u xs q r. (follows.arrivals (i u) xs q).1 (record { rows = r.rows; of_source = r.of_source; changed = r.changed ∙ stepped_mapped (computed kinds ops) r.rows }))
-                  (dated_steady f (λ u. IsPlanArrival nodes child (i u)) (λ u n. n) p beats x y 1 step s d);
+              dates = λ t sets i held p beats x y s d.
+                  dated_as (settled (delayed 1 f)) (λ u. IsChangedInPlace (IsPlanArrival nodes child (i u)) (stepped_at (step sets))) (λ u n. n) p beats (λ u. IsPlanArrival nodes id (i u)) y
+                  (λ u xs q r. (follows.arrivals (i u) xs q).1 (record {
+                    rows = r.rows;
+                    of_source = r.of_source;
+                    changed = r.changed ∙ stepped_mapped (computed sets kinds ops) r.rows ∙ ap (λ (z : Sets). mapped_at (computed z kinds ops) r.rows) (sym (held u));
+                  }))
+                  (dated_steady f (λ u. IsPlanArrival nodes child (i u)) (λ u n. n) p beats x y 1 (step sets) s d);
             }));
       }
 
   pub select_put : (child column : ℕ) → slice_get nodes id ≡ Some (Select child column) → Gives nodes child old tick leaves below
-      → IsBehind old new (Steady 1 (keep_where column)) (widths_of (kinds_of nodes child)) (cost_of_rows (widths_of (kinds_of nodes child)) 0) below e
+      → IsBehind old new (λ sets. Steady 1 (keep_where column)) (widths_of (kinds_of nodes child)) (cost_of_rows (widths_of (kinds_of nodes child)) 0) below e
       → IsPutBehind nodes id old new tick leaves e
   select_put child column at h b =
       let follows = laws.nodes_follow_tables nodes id (Select child column) plan at in
@@ -139,14 +144,14 @@ module _ (laws : LawsBelow) (nodes : List PlanNode) (id : ℕ) (old new : Net) (
             (record { weight' = parts.weight; lean' = omega (arith, parts.lean, parts.keys); store' = parts.store })
             b.cost (selected_counted kinds (laws.columns_have_kinds nodes child plan within));
         gives = rw (follows.shape, follows.figures) (behind (shape_of nodes child) _ f (settled (delayed 1 f)) (IsPlanArrival nodes child) (IsPlanArrival nodes id) (IsPlanResult nodes child)
-            (IsPlanResult nodes id) old new tick leaves below e _ _ _ (Mapped (keep_where column))
+            (IsPlanResult nodes id) old new tick leaves below e _ _ _ (λ sets. Mapped (keep_where column))
             h b refl (record { gt = omega arith; ge = omega arith })
-            (λ x y s. settled_serves f (delayed 1 f) (Mapped (keep_where column)) x y (delayed_sound 1 f sound) (laws.steady_serves 1 (keep_where column) x y f s))
-            (λ x y ls s p. tt)
+            (λ sets x y s. settled_serves f (delayed 1 f) (Mapped (keep_where column)) x y (delayed_sound 1 f sound) (laws.steady_serves 1 (keep_where column) x y f s))
+            (λ sets x y ls s p. tt)
             (λ i xs ys p r m. (follows.results i ys p).1 (record { rows = xs; of_source = r; changed = m ∙ kept_rows column xs }))
             (record {
               before = λ t. t;
-              dates = λ t i p beats x y s d.
+              dates = λ t sets i held p beats x y s d.
                   dated_as (settled (delayed 1 f)) (λ u. IsChangedInPlace (IsPlanArrival nodes child (i u)) (stepped_at (keep_where column))) (λ u n. n) p beats (λ u. IsPlanArrival nodes id (i u)) y
                   (λ u xs q r. (follows.arrivals (i u) xs q).1
                   (record { rows = r.rows; of_source = r.of_source; changed = r.changed ∙ stepped_kept (λ row. nat_eq (slice_index row column) 1) r.rows }))
@@ -155,7 +160,7 @@ module _ (laws : LawsBelow) (nodes : List PlanNode) (id : ℕ) (old new : Net) (
       }
 
   pub project_put : (child : ℕ) (items : List Operand) → slice_get nodes id ≡ Some (Project child items) → Gives nodes child old tick leaves below
-      → (let kinds = kinds_of nodes child in IsBehind old new (Steady 0 (λ row. Some (projected items row))) (projected_widths kinds items)
+      → (let kinds = kinds_of nodes child in IsBehind old new (λ sets. Steady 0 (λ row. Some (projected sets items row))) (projected_widths kinds items)
       (cost_of_items (projected_widths kinds items)) below e)
       → IsPutBehind nodes id old new tick leaves e
   project_put child items at h b =
@@ -163,7 +168,7 @@ module _ (laws : LawsBelow) (nodes : List PlanNode) (id : ℕ) (old new : Net) (
       let parts = parts_at nodes id (Project child items) at in
       let f : Figures = figures_of nodes child in
       let kinds = kinds_of nodes child in
-      let step : Row → Option Row = λ row. Some (projected items row) in
+      let step : Sets → Row → Option Row = λ sets row. Some (projected sets items row) in
       let within = first_within nodes id (Project child items) plan at child [] refl in
       let sound = laws.figures_are_sound nodes child plan within in
       record {
@@ -172,25 +177,29 @@ module _ (laws : LawsBelow) (nodes : List PlanNode) (id : ℕ) (old new : Net) (
             (record { weight' = parts.weight; lean' = omega (arith, parts.lean, parts.keys); store' = parts.store })
             b.cost (items_counted (map (kind_of_operand kinds) items));
         gives = rw (follows.shape, follows.figures) (behind (shape_of nodes child) _ f (settled f) (IsPlanArrival nodes child) (IsPlanArrival nodes id) (IsPlanResult nodes child)
-            (IsPlanResult nodes id) old new tick leaves below e _ _ _ (Mapped step)
+            (IsPlanResult nodes id) old new tick leaves below e _ _ _ (λ sets. Mapped (step sets))
             h b refl (record { gt = omega arith; ge = omega arith })
-            (λ x y s. settled_serves f f (Mapped step) x y sound
-            (subst (λ (g : Figures). Serves f g (Mapped step) x y) (delayed_by_none f) (laws.steady_serves 0 step x y f s)))
-            (λ x y ls s p. let n : f.a + 0 ≡ f.a = omega arith in
-            subst (λ (a : ℕ). KeepsPace (shape_of nodes child).pace a ls y) n (steady_pace 0 (projected items) x y s (shape_of nodes child).pace f.a ls p))
-            (λ i xs ys p r m. (follows.results i ys p).1 (record { rows = xs; of_source = r; changed = m ∙ mapped_all (projected items) xs }))
+            (λ sets x y s. settled_serves f f (Mapped (step sets)) x y sound
+            (subst (λ (g : Figures). Serves f g (Mapped (step sets)) x y) (delayed_by_none f) (laws.steady_serves 0 (step sets) x y f s)))
+            (λ sets x y ls s p. let n : f.a + 0 ≡ f.a = omega arith in
+            subst (λ (a : ℕ). KeepsPace (shape_of nodes child).pace a ls y) n (steady_pace 0 (projected sets items) x y s (shape_of nodes child).pace f.a ls p))
+            (λ i xs ys p r m. (follows.results i ys p).1 (record { rows = xs; of_source = r; changed = m ∙ mapped_all (projected i.sets items) xs }))
             (record {
               before = λ t. t;
-              dates = λ t i p beats x y s d.
+              dates = λ t sets i held p beats x y s d.
                   subst (λ (g : Figures). Dated (settled g) (λ u. IsPlanArrival nodes id (i u)) (λ u n. n) p beats y) (delayed_by_none f)
-                  (dated_as (settled (delayed 0 f)) (λ u. IsChangedInPlace (IsPlanArrival nodes child (i u)) (stepped_at step)) (λ u n. n) p beats (λ u. IsPlanArrival nodes id (i u)) y
-                  (λ u xs q r. (follows.arrivals (i u) xs q).1 (record { rows = r.rows; of_source = r.of_source; changed = r.changed ∙ stepped_mapped (projected items) r.rows }))
-                  (dated_steady f (λ u. IsPlanArrival nodes child (i u)) (λ u n. n) p beats x y 0 step s d));
+                  (dated_as (settled (delayed 0 f)) (λ u. IsChangedInPlace (IsPlanArrival nodes child (i u)) (stepped_at (step sets))) (λ u n. n) p beats (λ u. IsPlanArrival nodes id (i u)) y
+                  (λ u xs q r. (follows.arrivals (i u) xs q).1 (record {
+                    rows = r.rows;
+                    of_source = r.of_source;
+                    changed = r.changed ∙ stepped_mapped (projected sets items) r.rows ∙ ap (λ (z : Sets). mapped_at (projected z items) r.rows) (sym (held u));
+                  }))
+                  (dated_steady f (λ u. IsPlanArrival nodes child (i u)) (λ u n. n) p beats x y 0 (step sets) s d));
             }));
       }
 
   pub frames_put : (child : ℕ) (items : List PlanFrame) → slice_get nodes id ≡ Some (Frames child None items) → Gives nodes child old tick leaves below
-      → (let kinds = kinds_of nodes child in IsBehind old new (Runs (delay_of_frames kinds items) (λ rows. Some (row_of_frames kinds items rows))) (frames_widths kinds items)
+      → (let kinds = kinds_of nodes child in IsBehind old new (λ sets. Runs (delay_of_frames kinds items) (λ rows. Some (row_of_frames sets kinds items rows))) (frames_widths kinds items)
       (cost_of_frames kinds (delay_of_frames kinds items) items) below e)
       → IsPutBehind nodes id old new tick leaves e
   frames_put child items at h b =
@@ -199,7 +208,7 @@ module _ (laws : LawsBelow) (nodes : List PlanNode) (id : ℕ) (old new : Net) (
       let f : Figures = figures_of nodes child in
       let kinds = kinds_of nodes child in
       let m : ℕ = delay_of_frames kinds items in
-      let step : List Row → Option Row = λ rows. Some (row_of_frames kinds items rows) in
+      let step : Sets → List Row → Option Row = λ sets rows. Some (row_of_frames sets kinds items rows) in
       let within = first_within nodes id (Frames child None items) plan at child [] refl in
       let sound = laws.figures_are_sound nodes child plan within in
       let suits = (plan.fits id (Frames child None items) at).suits.0 in
@@ -209,22 +218,23 @@ module _ (laws : LawsBelow) (nodes : List PlanNode) (id : ℕ) (old new : Net) (
             (record { weight' = parts.weight; lean' = omega (arith, parts.lean, parts.keys); store' = parts.store })
             b.cost (frames_counted laws.frames_are_counted kinds items (laws.columns_have_kinds nodes child plan within) suits);
         gives = rw (follows.shape, follows.figures) (behind (shape_of nodes child) _ f (settled (delayed m f)) (IsPlanArrival nodes child) (IsPlanArrival nodes id) (IsPlanResult nodes child)
-            (IsPlanResult nodes id) old new tick leaves below e _ _ _ (Each step)
+            (IsPlanResult nodes id) old new tick leaves below e _ _ _ (λ sets. Each (step sets))
             h b refl (record { gt = omega arith; ge = omega arith })
-            (λ x y s. laws.running_settles m step x y f (delayed_sound m f sound) s)
-            (λ x y ls s p. laws.followers_keep_pace m x y (laws.running_keeps_pace m (row_of_frames kinds items) x y s) (shape_of nodes child).pace f.a ls p)
+            (λ sets x y s. laws.running_settles m (step sets) x y f (delayed_sound m f sound) s)
+            (λ sets x y ls s p. laws.followers_keep_pace m x y (laws.running_keeps_pace m (row_of_frames sets kinds items) x y s) (shape_of nodes child).pace f.a ls p)
             (λ i xs ys p r made. (follows.results i ys p).1 (record { rows = xs; of_source = r; changed = made }))
             (record {
               before = λ t. t;
-              dates = λ t i p beats x y s d.
-                  dated_as (settled (delayed m f)) (λ u. IsChangedInPlace (IsPlanArrival nodes child (i u)) (each_at step [])) (λ u n. n) p beats (λ u. IsPlanArrival nodes id (i u)) y
-                  (λ u xs q r. (follows.arrivals (i u) xs q).1 r)
-                  (dated_runs f (λ u. IsPlanArrival nodes child (i u)) (λ u n. n) p beats x y m step s d);
+              dates = λ t sets i held p beats x y s d.
+                  dated_as (settled (delayed m f)) (λ u. IsChangedInPlace (IsPlanArrival nodes child (i u)) (each_at (step sets) [])) (λ u n. n) p beats (λ u. IsPlanArrival nodes id (i u)) y
+                  (λ u xs q r. (follows.arrivals (i u) xs q).1
+                  (subst (λ (z : Sets). IsChangedInPlace (IsPlanArrival nodes child (i u)) (each_at (step z) []) xs q) (sym (held u)) r))
+                  (dated_runs f (λ u. IsPlanArrival nodes child (i u)) (λ u n. n) p beats x y m (step sets) s d);
             }));
       }
 
   pub aggregate_put : (child : ℕ) (aggs : List PlanAgg) → slice_get nodes id ≡ Some (Aggregate child aggs) → Gives nodes child old tick leaves below
-      → (let kinds = kinds_of nodes child in IsBehind old new (AtEnds (delay_of_aggs kinds aggs) (total_row kinds aggs)) (total_widths kinds aggs)
+      → (let kinds = kinds_of nodes child in IsBehind old new (λ sets. AtEnds (delay_of_aggs kinds aggs) (total_row sets kinds aggs)) (total_widths kinds aggs)
       (cost_of_aggs kinds aggs) below e)
       → IsPutBehind nodes id old new tick leaves e
   aggregate_put child aggs at h b =
@@ -241,10 +251,10 @@ module _ (laws : LawsBelow) (nodes : List PlanNode) (id : ℕ) (old new : Net) (
             (record { weight' = parts.weight; lean' = omega (arith, parts.lean, parts.keys); store' = parts.store })
             b.cost (aggs_counted kinds (laws.columns_have_kinds nodes child plan within) aggs suits);
         gives = rw (follows.shape, follows.figures) (behind (shape_of nodes child) _ f (aggregate_figures m f) (IsPlanArrival nodes child) (IsPlanArrival nodes id) (IsPlanResult nodes child)
-            (IsPlanResult nodes id) old new tick leaves below e _ _ _ (Totalled (total_row kinds aggs))
+            (IsPlanResult nodes id) old new tick leaves below e _ _ _ (λ sets. Totalled (total_row sets kinds aggs))
             h b refl (record { gt = omega arith; ge = omega arith })
-            (λ x y s. laws.ends_serve m (total_row kinds aggs) x y f s)
-            (λ x y ls s p. laws.totals_come_with_ends m (total_row kinds aggs) x y s)
+            (λ sets x y s. laws.ends_serve m (total_row sets kinds aggs) x y f s)
+            (λ sets x y ls s p. laws.totals_come_with_ends m (total_row sets kinds aggs) x y s)
             (λ i xs ys p r t. (follows.results i ys p).1 (record { rows = xs; of_source = r; changed = t }))
-            (record { before = λ t. absurd (cc); dates = λ t i p beats x y s d. absurd (cc) }));
+            (record { before = λ t. absurd (cc); dates = λ t sets i held p beats x y s d. absurd (cc) }));
       }

@@ -1,20 +1,21 @@
 -- The ports of a netlist, with their directions and bits, while it grows.
-use Rattle.std.proofs.Common.{◌≡◌, ℕ, zero, suc, ◌+◌, ◌<◌, List, [], ◌∷◌, ◌++◌, length, take, get_or, Some, refl, sym, ap, subst, ◌∙◌, append_assoc, arith}
+use Rattle.std.proofs.Common.{◌≡◌, ℕ, zero, suc, Bool, true, false, ◌+◌, ◌<◌, List, [], ◌∷◌, ◌++◌, length, take, get_or, Some, refl, sym, ap, subst, ◌∙◌, append_assoc, arith}
 use Rattle.std.specs.Prelude.{map, slice_get}
 use Rattle.std.proofs.lemmas.List.{append-nil, map-append}
 use Rattle.gl_bits.proofs.AllLists.{taken_next}
 use Rattle.gl_values.specs.Kinds.{width_of}
 use Rattle.gl_schema.specs.declared.schema.Column.{Column}
 use Rattle.gl_schema.specs.declared.schema.Stream.{Stream}
-use Rattle.gl_schema.specs.Ports.{in_valid, in_column}
+use Rattle.gl_schema.specs.Ports.{tick, in_valid, in_column, in_parameter}
 use Rattle.gl_net.specs.declared.node.Bus.{Bus}
 use Rattle.gl_net.specs.declared.node.Node.{Node}
 use Rattle.gl_net.specs.declared.node.Port.{Port}
 use Rattle.gl_net.specs.declared.node.Direction.{Direction}
 use Rattle.gl_net.specs.Net.{Net, Shape, Value, shape_in, IsPort}
 use Rattle.gl_net.specs.PortValues.{PortShape, port_shape, port_shapes, bits_of}
-use Rattle.gl_wiring.specs.PortNames.{column_ports, stream_ports, streams_ports}
-use Rattle.gl_wiring.specs.EmittedPorts.{input, column_widths, column_inputs, stream_inputs, streams_inputs}
+use Rattle.gl_wiring.specs.PortNames.{column_ports, stream_ports, streams_ports, parameter_ports, late_ports}
+use Rattle.gl_wiring.specs.EmittedPorts.{input, column_widths, column_inputs, stream_inputs, streams_inputs, parameter_inputs}
+use Rattle.gl_wiring.specs.Output.{late_inputs}
 use Rattle.gl_wiring.specs.Emitted.{bus_widths, IsPortOf, ArePorts, HasPorts, Puts}
 
 -- ---- ports one by one
@@ -114,6 +115,18 @@ streams_next a b c ss i s lt e x y =
     (sym (ap streams_inputs (taken_next ss i s lt e) ∙ streams_join (take i ss) (s ∷ []) ∙ ap (λ (t : List PortShape). streams_inputs (take i ss) ++ t) (append-nil (stream_inputs s))))
     (puts_then a b c (streams_inputs (take i ss)) (stream_inputs s) x y)
 
+-- ---- parameters
+
+parameters_push : (ps : List Column) (p : Column) → parameter_inputs (ps ++ p ∷ []) ≡ parameter_inputs ps ++ input (in_parameter p.name) (width_of p.kind) ∷ []
+parameters_push [] p = refl
+parameters_push (q ∷ ps) p = ap (λ (x : List PortShape). input (in_parameter q.name) (width_of q.kind) ∷ x) (parameters_push ps p)
+
+-- one parameter more
+pub parameters_next : (a b c : Net) (ps : List Column) (i : ℕ) (p : Column) → take (i + 1) ps ≡ take i ps ++ p ∷ [] → Puts a b (parameter_inputs (take i ps)) → Puts b c (input (in_parameter p.name) (width_of p.kind) ∷ []) → Puts a c (parameter_inputs (take (i + 1) ps))
+parameters_next a b c ps i p more x y =
+    subst (λ (shapes : List PortShape). Puts a c shapes) (sym (ap parameter_inputs more ∙ parameters_push (take i ps) p))
+    (puts_then a b c (parameter_inputs (take i ps)) (input (in_parameter p.name) (width_of p.kind) ∷ []) x y)
+
 -- ---- widths
 
 pub widths_push : (cs : List Column) (bs : List Bus) (c : Column) (b : Bus) → bus_widths bs ≡ column_widths cs → b.width ≡ width_of c.kind → bus_widths (bs ++ b ∷ []) ≡ column_widths (cs ++ c ∷ [])
@@ -150,3 +163,16 @@ stream_names s = ap (λ (x : List (List ℕ)). in_valid s.name ∷ x) (column_na
 pub streams_names : (ss : List Stream) → names_in (streams_inputs ss) ≡ streams_ports ss
 streams_names [] = refl
 streams_names (s ∷ ss) = map-append (λ (x : PortShape). x.name) (stream_inputs s) (streams_inputs ss) ∙ ap (λ (x : List (List ℕ)). x ++ names_in (streams_inputs ss)) (stream_names s) ∙ ap (λ (x : List (List ℕ)). stream_ports s ++ x) (streams_names ss)
+
+parameter_names : (ps : List Column) → names_in (parameter_inputs ps) ≡ parameter_ports ps
+parameter_names [] = refl
+parameter_names (p ∷ ps) = ap (λ (x : List (List ℕ)). in_parameter p.name ∷ x) (parameter_names ps)
+
+late_names : (ticks : Bool) (ps : List Column) → names_in (late_inputs ticks ps) ≡ late_ports ticks ps
+late_names true ps = ap (λ (x : List (List ℕ)). tick ∷ x) (parameter_names ps)
+late_names false ps = parameter_names ps
+
+-- the inputs behind the end, and outputs behind them
+pub late_named : (ticks : Bool) (ps : List Column) (shapes : List PortShape) → names_in (late_inputs ticks ps ++ shapes) ≡ late_ports ticks ps ++ names_in shapes
+late_named ticks ps shapes =
+    map-append (λ (x : PortShape). x.name) (late_inputs ticks ps) shapes ∙ ap (λ (x : List (List ℕ)). x ++ names_in shapes) (late_names ticks ps)

@@ -12,7 +12,7 @@ use Rattle.gl_net.specs.PortValues.{port_values}
 use Rattle.gl_net.specs.declared.node.Bit.{Bit}
 use Rattle.gl_net.specs.declared.node.Bus.{Bus}
 use Rattle.gl_net.specs.declared.node.Direction.TheVariants.{Out}
-use Rattle.gl_schema.specs.Beats.{Beat, inputs_of, last_cycle}
+use Rattle.gl_schema.specs.Beats.{Beats, inputs_of, last_cycle}
 use Rattle.gl_schema.specs.Ports.{PortValues, out_valid, out_column, out_eos, fault_group, fault_queue}
 use Rattle.gl_schema.specs.Right.{IsRight}
 use Rattle.gl_schema.specs.Seen.{Shown, rows_of, seen, shown, value_at}
@@ -75,7 +75,7 @@ module _ (naming : Naming) (net : Net) (run : Run) (names : List (List ℕ)) (w 
       ∙ ap (λ (i : ℕ). rows a 1 (suc n) ++ rows a i 1) (sym k)
       ∙ sym (ap (rows a 1) m ∙ rows-split a (suc n) 1 1)
 
-  module _ (f : Figures) (nodes : List PlanNode) (root : ℕ) (beats : List Beat) (first : (carried run w).tuple 0 ≡ None)
+  module _ (f : Figures) (nodes : List PlanNode) (root : ℕ) (beats : Beats) (first : (carried run w).tuple 0 ≡ None)
       (s : ShowsRight f (IsPlanResult nodes root (plan_inputs (inputs_of beats))) (suc (last_cycle beats))
       (carried run w) (line_at run group) (line_at run queue)) where
     -- what the ports show of a right output is right

@@ -114,7 +114,7 @@ no_closer gap f = by (needs_spacer gap f)
 
 -- a node's results behind a block with lines that changes no rows
 pub behind_same : (s : Shape) (f g : Figures) (arrivals : Arriving) (means : Meaning) (mid new : Net) (tick : Option Bit) (leaves : List Wire) (below e : Emitted) (columns : List ℕ) (most : Cost)
-    → GivesAs s f arrivals means mid tick leaves below → IsBehindLines mid new f g (never Same) columns most below e → columns ≡ widths_of s.kinds → NoCloser f g
+    → GivesAs s f arrivals means mid tick leaves below → IsBehindLines mid new f g (λ sets. never Same) columns most below e → columns ≡ widths_of s.kinds → NoCloser f g
     → GivesAs (paceless s) g arrivals means new tick leaves e
 behind_same s f g arrivals means mid new tick leaves below e columns most h b same closer = record {
   wire = b.wire;
@@ -124,7 +124,7 @@ behind_same s f g arrivals means mid new tick leaves below e columns most h b sa
   serving = λ run r beats apart fits.
       let before = h.serving run (b.keeps.runs run r) beats (spaced_closer f g beats closer apart) fits in
       let z = b.serves run r in
-      let ins : ℕ → Inputs = inputs_at (line_of run tick) (leaf run leaves) (leaf run leaves 0) in
+      let ins : ℕ → Inputs = inputs_at run.held (line_of run tick) (leaf run leaves) (leaf run leaves 0) in
       let lines : Lines = both_lines (lines_of run below.faults) z.0 in
       serving_lines g (λ t. means (ins t)) (lines_of run e.faults) lines beats (carried run e.wire) z.1
       (serving_as g _ (λ t. means (ins t)) lines beats (carried run e.wire)

@@ -110,7 +110,7 @@ module _ (laws : LawsBelow) (nodes : List PlanNode) (w : SpareWindowOf) (plan : 
 
   -- the results of all windows are those of the root
   abbrev parts_of : Inputs → List Row → Bool → Type 0
-  parts_of inputs = IsOfParts (IsPlanResult nodes of_source inputs) (slices w.window.size w.window.advance) (OfBody nodes of_body) (λ rows. false)
+  parts_of inputs = IsOfParts (IsPlanResult nodes of_source inputs) (slices w.window.size w.window.advance) (OfBody inputs.sets nodes of_body) (λ rows. false)
 
   of_root : (inputs : Inputs) (ys : List Row) (p : Bool) → parts_of inputs ys p → IsPlanResult nodes id inputs ys p
   of_root inputs ys p v =
@@ -119,8 +119,8 @@ module _ (laws : LawsBelow) (nodes : List PlanNode) (w : SpareWindowOf) (plan : 
         source_spill = v.source_spill;
         parts_spill = v.parts_spill;
         of_source = v.of_source;
-        of_parts = joined_as (OfBody nodes of_body) (λ slice. IsPlanResult nodes of_body (given inputs slice))
-            (λ slice zs q y. laws.bodies_read_their_input nodes of_body plan in_body (kinds_of nodes of_source) fits.suits.0.leaves (alone slice) (given inputs slice) (record { rows = refl; places = refl }) zs q y)
+        of_parts = joined_as (OfBody inputs.sets nodes of_body) (λ slice. IsPlanResult nodes of_body (given inputs slice))
+            (λ slice zs q y. laws.bodies_read_their_input nodes of_body plan in_body (kinds_of nodes of_source) fits.suits.0.leaves (alone inputs.sets slice) (given inputs slice) (record { rows = refl; places = refl; sets = refl }) zs q y)
             (slices w.window.size w.window.advance v.rows) ys v.parts_spill v.of_parts;
         any = v.any;
       })
@@ -150,10 +150,10 @@ module _ (laws : LawsBelow) (nodes : List PlanNode) (w : SpareWindowOf) (plan : 
         once = λ run run_new beats last one spaced has apart.
             let run_behind = b.keeps.runs run run_new in
             let run_mid = o.bodies.keeps.runs run run_behind in
-            let ins : ℕ → Inputs = inputs_at (line_of run tick) (leaf run leaves) (leaf run leaves 0) in
+            let ins : ℕ → Inputs = inputs_at run.held (line_of run tick) (leaf run leaves) (leaf run leaves 0) in
             let here : Spaced (figures_over r f) beats = subst (λ (g : Figures). Spaced g beats) once_are spaced in
             let source = given.serving run run_mid beats (spaced_once f (figures_over r f) beats last rotates.1.source_gap one here) has in
-            let whole = b.serves run run_new f sound_source rotates.1 nodes of_source of_body ins (lines_of run o.front.source.faults) beats last one here source
+            let whole = b.serves run run_new f sound_source rotates.1 run.held nodes of_source of_body ins (lines_of run o.front.source.faults) beats last one here source
             (λ k l own. copies_serve laws nodes of_source of_body plan in_body fits.suits.0 o.mid o.behind run o.front.wires w.spare.copies o.copies run_behind o.bodies o.fronted.fronts.as_many k l own) in
             let lines : Lines = both_lines (lines_of run o.front.source.faults) (lines_of_all (told_of run o.copies) w.spare.copies) in
             subst (λ (g : Figures). ServingOnce g (IsPlanResult nodes id (ins last)) (lines_of run e.faults) last (carried run e.wire)) (sym once_are)

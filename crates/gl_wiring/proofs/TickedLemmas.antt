@@ -201,9 +201,9 @@ module _ (laws : LawsBelow) (nodes : List PlanNode) (w : TimeWindowOf) (plan : I
             let near : Spaced input_figures beats =
             spaced_once input_figures (once_figures nodes w.id) beats last (omega (arith, room.beats', sound.tuples_gap)) one spaced in
             let of_stream = times.source laws nodes w plan at o.mid run run_mid tick leaves o.front.source given here beats near fit in
-            let whole = b.serves run run_new (once_figures nodes w.id) (once_ticks nodes w.id) room nodes w.body beats last one spaced of_stream.fits fit.ticks apart
+            let whole = b.serves run run_new (once_figures nodes w.id) (once_ticks nodes w.id) room run.held nodes w.body beats last one spaced of_stream.fits fit.ticks apart
             (λ k l own. copies_serve laws nodes w.source w.body plan in_body (times.fits laws nodes w plan at).suits.0 o.mid o.behind run o.front.wires c o.copies run_behind o.bodies o.fronted.fronts.as_many k l own) in
-            let ins : ℕ → Inputs = inputs_at (line_of run (Some tick)) (leaf run leaves) (leaf run leaves 0) in
+            let ins : ℕ → Inputs = inputs_at run.held (line_of run (Some tick)) (leaf run leaves) (leaf run leaves 0) in
             let told : Lines = lines_of_all (told_of run o.copies) c in
             let lines : Lines = both_lines (lines_of run o.front.source.faults) told in
             let end : Ends beats = record { ends = λ t d q. (last, one.until t d q, one.is) } in

@@ -142,7 +142,7 @@ module _ (laws : LawsBelow) (nodes : List PlanNode) (w : TimeWindowOf) (plan : I
     a = carried run e.wire
 
     abbrev ins : ℕ → Inputs
-    ins = inputs_at line (leaf run leaves) (leaf run leaves 0)
+    ins = inputs_at run.held line (leaf run leaves) (leaf run leaves 0)
 
     of_source : GivesAs stream_shape input_figures (IsPlanArrival nodes w.source) (IsPlanResult nodes w.source) net (Some tick) leaves e
     of_source = rw (of_stream.shape, of_stream.figures) at gives
@@ -181,11 +181,11 @@ module _ (laws : LawsBelow) (nodes : List PlanNode) (w : TimeWindowOf) (plan : I
 
     -- results of all windows of time are results of the node
     pub joined : (t : ℕ) (ys : List Row) (p : Bool) → beats t ≡ Some true
-        → AreJoined (OfBody nodes w.body) (tslices w.size w.advance (times_at line a t) (ticks_at line a t) (stream a t)) ys p
+        → AreJoined (OfBody run.held nodes w.body) (tslices w.size w.advance (times_at line a t) (ticks_at line a t) (stream a t)) ys p
         → IsPlanResult nodes w.id (ins t) ys p
     joined t ys p q v =
-        let as_given = joined_as (OfBody nodes w.body) (λ slice. IsPlanResult nodes w.body (given (ins t) slice))
-        (λ slice zs b y. laws.bodies_read_their_input nodes w.body plan in_body (kinds_of nodes w.source) fits.suits.0.leaves (alone slice) (given (ins t) slice) (record { rows = refl; places = refl }) zs b y)
+        let as_given = joined_as (OfBody run.held nodes w.body) (λ slice. IsPlanResult nodes w.body (given (ins t) slice))
+        (λ slice zs b y. laws.bodies_read_their_input nodes w.body plan in_body (kinds_of nodes w.source) fits.suits.0.leaves (alone run.held slice) (given (ins t) slice) (record { rows = refl; places = refl; sets = refl }) zs b y)
         (tslices w.size w.advance (times_at line a t) (ticks_at line a t) (stream a t)) ys p v in
         (follows.results (ins t) ys p).1 (record {
           rows = stream a t;
@@ -235,9 +235,9 @@ module _ (laws : LawsBelow) (nodes : List PlanNode) (w : TimeWindowOf) (plan : I
               } in
               let near = spaced_closer input_figures (time_figures r) beats closer spaced_beats in
               let of_stream = source o.mid run run_mid tick leaves o.front.source given here beats near fit in
-              let all = b.serves run is nodes w.body beats spaced_beats of_stream.fits fit.ticks
+              let all = b.serves run is run.held nodes w.body beats spaced_beats of_stream.fits fit.ticks
               (λ k l own. copies_serve laws nodes w.source w.body plan in_body fits.suits.0 o.mid o.behind run o.front.wires c o.copies run_behind o.bodies o.fronted.fronts.as_many k l own) in
-              let ins : ℕ → Inputs = inputs_at (line_of run (Some tick)) (leaf run leaves) (leaf run leaves 0) in
+              let ins : ℕ → Inputs = inputs_at run.held (line_of run (Some tick)) (leaf run leaves) (leaf run leaves 0) in
               let own : Lines = lines_of_all (told_of run o.copies) c in
               let lines : Lines = both_lines (lines_of run o.front.source.faults) own in
               serving_lines (time_figures r) (λ t. IsPlanResult nodes w.id (ins t)) (lines_of run e.faults) lines beats (carried run e.wire) (b.told run is)

@@ -9,7 +9,7 @@ use Rattle.gl_values.specs.Kinds.{IsKind, width_of}
 use Rattle.gl_values.specs.declared.kind.Kind.{Kind}
 use Rattle.gl_values.proofs.KindLemmas.{kind_width}
 use Rattle.gl_algebra.specs.declared.node.Operand.{Operand}
-use Rattle.gl_algebra.specs.declared.node.Operand.TheVariants.{Column, Literal}
+use Rattle.gl_algebra.specs.declared.node.Operand.TheVariants.{Column, Literal, Parameter}
 use Rattle.gl_algebra.specs.declared.node.PlanAgg.{PlanAgg}
 use Rattle.gl_algebra.specs.declared.node.PlanAgg.TheVariants.{Count, Sum, Min, Max, Avg, Wsum}
 use Rattle.gl_algebra.specs.Columns.{AggFits, OperandFits, bit_kind, kind_of_agg, kind_of_operand}
@@ -22,6 +22,7 @@ module _ (kinds : List Kind) (are : All IsKind kinds) where
   operand_within : (operand : Operand) → OperandFits kinds operand → width_of (kind_of_operand kinds operand) ≤ 64
   operand_within (Column column) h = kind_width (kind_of_operand kinds (Column column)) (are column bit_kind h)
   operand_within (Literal word kind) h = kind_width kind h.1
+  operand_within (Parameter number kind) h = kind_width kind h
 
   agg_within : (agg : PlanAgg) → AggFits kinds agg → width_of (kind_of_agg kinds agg) ≤ 64
   agg_within Count h = omega arith

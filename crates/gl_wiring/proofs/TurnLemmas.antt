@@ -60,7 +60,7 @@ module _ (s s' t : Shape) (p q : Figures) (v v' arrivals : Arriving) (m m' means
 
   module _ (run : Run) (r : IsRun new run) (beats : Beats) (apart : Spaced h beats) (fits : LeavesFit run tick leaves beats) where
     abbrev ins : ℕ → Inputs
-    ins = inputs_at (line_of run tick) (leaf run leaves) (leaf run leaves 0)
+    ins = inputs_at run.held (line_of run tick) (leaf run leaves) (leaf run leaves 0)
 
     before : IsRun old run
     before = turns.behind.keeps.runs run r

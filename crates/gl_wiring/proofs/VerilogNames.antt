@@ -9,12 +9,12 @@ use Rattle.gl_schema.specs.declared.schema.Schema.{Schema}
 use Rattle.gl_schema.specs.Names as schema
 use Rattle.gl_schema.specs.Names.{is_lower, is_name_byte, is_name, has_loose_underscore, begins_with_letter, has_name_bytes, is_taken}
 use Rattle.gl_schema.specs.Schemas.{IsColumn, IsStream, IsSchema}
-use Rattle.gl_schema.specs.Ports.{rst, eos, tick, in_valid, in_column, out_valid, out_column, out_eos, fault_group, fault_queue}
+use Rattle.gl_schema.specs.Ports.{rst, eos, tick, in_valid, in_column, in_parameter, out_valid, out_column, out_eos, fault_group, fault_queue}
 use Rattle.gl_net.specs.Finished as net
 use Rattle.gl_net.specs.Finished.{IsName, is_letter, clock_name}
 use Rattle.std.proofs.lemmas.Bool.{leb-true}
 use Rattle.gl_bits.proofs.Bools.{and_left, and_right, and_both}
-use Rattle.gl_wiring.specs.PortNames.{column_ports, stream_ports, streams_ports, result_ports, tick_port, module_names, port_names}
+use Rattle.gl_wiring.specs.PortNames.{column_ports, stream_ports, streams_ports, result_ports, tick_port, parameter_ports, late_ports, module_names, port_names}
 
 -- a letter or a digit of the Verilog subset
 abbrev pub is_word_byte : ℕ → Bool
@@ -87,6 +87,18 @@ in_column-name s c h k = record {
   clock = refl;
 }
 
+in_parameter-name : (p : List ℕ) → schema.IsName p → IsPortName (in_parameter p)
+unfolding in_parameter
+in_parameter-name p h = record {
+  name = record {
+    first = refl;
+    each = behind (codes "set__") p refl (plain p h).bytes;
+    short = omega (arith, length-append (codes "set__") p, (plain p h).short);
+    free = refl;
+  };
+  clock = refl;
+}
+
 out_column-name : (c : List ℕ) → schema.IsName c → IsPortName (out_column c)
 unfolding out_column
 out_column-name c k = record {
@@ -153,6 +165,13 @@ streams_named [] all = tt
 streams_named (s ∷ ss) all =
     All-append IsPortName (stream_ports s) (streams_ports ss) (in_valid-name s.name all.0.name, columns_named s.name s.columns all.0.name all.0.columns) (streams_named ss all.1)
 
+parameters_named : (ps : List Column) → AllByRecursion IsColumn ps → AllByRecursion IsPortName (parameter_ports ps)
+parameters_named [] all = tt
+parameters_named (p ∷ ps) all = (in_parameter-name p.name all.0.name, parameters_named ps all.1)
+
+late_named : (ticks : Bool) (ps : List Column) → AllByRecursion IsColumn ps → AllByRecursion IsPortName (late_ports ticks ps)
+late_named ticks ps all = All-append IsPortName (tick_port ticks) (parameter_ports ps) (ticks_named ticks) (parameters_named ps all)
+
 outs_named : (cs : List (List ℕ)) → AllByRecursion schema.IsName cs → AllByRecursion IsPortName (map out_column cs)
 outs_named [] all = tt
 outs_named (c ∷ cs) all = (out_column-name c all.0, outs_named cs all.1)
@@ -166,8 +185,8 @@ pub modules_named : (ticks : Bool) (s : Schema) (outs : List (List ℕ)) → IsS
     → AllByRecursion IsPortName (module_names ticks s outs)
 modules_named ticks s outs is all = (
   rst-name,
-  All-append IsPortName (streams_ports s.streams) (eos ∷ (tick_port ticks ++ outs)) (streams_named s.streams is.streams)
-      (eos-name, All-append IsPortName (tick_port ticks) outs (ticks_named ticks) all),
+  All-append IsPortName (streams_ports s.streams) (eos ∷ (late_ports ticks s.parameters ++ outs)) (streams_named s.streams is.streams)
+      (eos-name, All-append IsPortName (late_ports ticks s.parameters) outs (late_named ticks s.parameters is.declared.each) all),
 )
 
 pub ports_named : (ticks : Bool) (s : Schema) (cs : List (List ℕ)) → IsSchema s → AllByRecursion schema.IsName cs

@@ -133,8 +133,8 @@ module _ (laws : LawsBelow) (nodes : List PlanNode) (w : WindowOf) (plan : IsPla
           paced = λ run r. tt;
           serving = λ run r beats spaced_beats has.
               let y = x.in_run run r beats spaced_beats has in
-              let whole = b.serves run r f sound_source nodes w.body beats spaced_beats y.source'.fits y.apart y.copies in
-              let ins : ℕ → Inputs = inputs_at (line_of run tick) (leaf run leaves) (leaf run leaves 0) in
+              let whole = b.serves run r f sound_source run.held nodes w.body beats spaced_beats y.source'.fits y.apart y.copies in
+              let ins : ℕ → Inputs = inputs_at run.held (line_of run tick) (leaf run leaves) (leaf run leaves 0) in
               let own : Lines = lines_of_all (told_of run o.copies) c in
               let lines : Lines = both_lines (lines_of run o.front.source.faults) own in
               serving_lines g (λ t. IsPlanResult nodes w.id (ins t)) (lines_of run e.faults) lines beats (carried run e.wire) (b.told run r)
@@ -144,12 +144,12 @@ module _ (laws : LawsBelow) (nodes : List PlanNode) (w : WindowOf) (plan : IsPla
                 source_spill = v.1;
                 parts_spill = v.2;
                 of_source = v.3;
-                of_parts = joined_as (OfBody nodes w.body) (λ slice. IsPlanResult nodes w.body (given (ins t) slice))
-                    (λ slice zs q y. laws.bodies_read_their_input nodes w.body plan in_body (kinds_of nodes w.source) fits.suits.0.leaves (alone slice) (given (ins t) slice) (record { rows = refl; places = refl }) zs q y)
+                of_parts = joined_as (OfBody run.held nodes w.body) (λ slice. IsPlanResult nodes w.body (given (ins t) slice))
+                    (λ slice zs q y. laws.bodies_read_their_input nodes w.body plan in_body (kinds_of nodes w.source) fits.suits.0.leaves (alone run.held slice) (given (ins t) slice) (record { rows = refl; places = refl; sets = refl }) zs q y)
                     (slices w.size w.advance v.0) ys v.2 v.4;
                 any = no_further p (v.1 || v.2) v.5;
               }))
-              (serving_then f g (λ t. IsPlanResult nodes w.source (ins t)) (λ xs zs q. AreJoined (OfBody nodes w.body) (slices w.size w.advance xs) zs q)
+              (serving_then f g (λ t. IsPlanResult nodes w.source (ins t)) (λ xs zs q. AreJoined (OfBody run.held nodes w.body) (slices w.size w.advance xs) zs q)
               (lines_of run o.front.source.faults) own beats (carried run o.front.source.wire) (carried run e.wire) y.source' whole));
           dated = λ run r beats spaced_beats has came. absurd (cc);
         });

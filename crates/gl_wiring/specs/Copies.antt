@@ -60,7 +60,7 @@ cost_from nodes source gap fore =
 
 -- a wire that carries the same rows, as far apart as this gap over all beats that leave room for it
 pub record IsSpacedFor (old new : Net) (gap : ℕ) (f : Figures) (a b : Emitted) : Type 0 where
-  pub behind : IsBehindLines old new f (spaced gap f) (never Same)
+  pub behind : IsBehindLines old new f (spaced gap f) (λ sets. never Same)
       (widths a.wire.columns) (cost_of_spaced gap f (widths a.wire.columns)) a b
   pub apart : (run : Run) → IsRun new run → (g : Figures) → LeavesRoom gap (spaced gap f) g → (beats : Beats)
       → Spaced g beats

@@ -3,7 +3,7 @@ use Rattle.std.specs.Prelude.{ℕ, List, [], ◌∷◌, ◌++◌, map}
 use Rattle.gl_values.specs.Kinds.{width_of}
 use Rattle.gl_schema.specs.declared.schema.Column.{Column}
 use Rattle.gl_schema.specs.declared.schema.Stream.{Stream}
-use Rattle.gl_schema.specs.Ports.{in_valid, in_column}
+use Rattle.gl_schema.specs.Ports.{in_valid, in_column, in_parameter}
 use Rattle.gl_net.specs.declared.node.Direction.TheVariants.{In, Out}
 use Rattle.gl_net.specs.PortValues.{PortShape}
 
@@ -31,3 +31,8 @@ stream_inputs s = input (in_valid s.name) 1 ∷ stream_columns s
 abbrev pub streams_inputs : List Stream → List PortShape
 streams_inputs [] = []
 streams_inputs (s ∷ ss) = stream_inputs s ++ streams_inputs ss
+
+-- the inputs of parameters, in order
+abbrev pub parameter_inputs : List Column → List PortShape
+parameter_inputs [] = []
+parameter_inputs (p ∷ ps) = input (in_parameter p.name) (width_of p.kind) ∷ parameter_inputs ps

@@ -18,6 +18,7 @@ use Rattle.gl_wire.specs.Shapes.{AtEnds, Steady}
 use Rattle.gl_wire.specs.Wire.{Carried, IsWire, carried, line_at, widths}
 use Rattle.gl_groups.specs.declared.laning.Lane.{Lane}
 use Rattle.gl_groups.specs.LaneLaws.{direct_figures}
+use Rattle.gl_algebra.specs.Values.{Sets}
 use Rattle.gl_wire.specs.Bodies.{OfBody}
 use Rattle.gl_wire_lanes.specs.declared.table.TableOut.{TableOut}
 use Rattle.gl_wire_lanes.specs.Lanes.{Begins}
@@ -63,10 +64,10 @@ pub record AreRows (nodes : List PlanNode) (id : ℕ) (old new : Net) (lane : Wi
   pub same_width : r.place.slot.width ≡ place.slot.width
   pub no_lines : r.rows.faults ≡ no_faults
   pub depth : ℕ
-  pub step : Row → Option Row
+  pub step : Sets → Row → Option Row
   pub figures : figures_of nodes id ≡ delayed depth input_figures
-  pub means : (rows : List Row) → OfBody nodes id rows (filter_map step rows) false
-  pub steady : (run : Run) → IsRun new run → Steady depth step (carried run lane) (carried run r.rows.wire)
+  pub means : (sets : Sets) (rows : List Row) → OfBody sets nodes id rows (filter_map (step sets) rows) false
+  pub steady : (run : Run) → IsRun new run → Steady depth (step run.held) (carried run lane) (carried run r.rows.wire)
   pub slots : (run : Run) → IsRun new run → (t : ℕ)
       → run.at (suc t + depth) r.place.slot.node ≡ run.at (suc t) place.slot.node
   pub no_first : (run : Run) → IsRun new run → (t : ℕ) → t < depth → line_at run r.place.first t ≡ false
@@ -111,9 +112,11 @@ pub record IsBodyTable (nodes : List PlanNode) (body : ℕ) (old new : Net) (lan
   pub slot_bus : IsBus new out.slot
   pub slot_width : out.slot.width ≡ place.slot.width
   pub depth : ℕ
-  pub step : Row → Option Row
-  pub total : List Row → Row
+  pub step : Sets → Row → Option Row
+  pub total : Sets → List Row → Row
   pub figures : figures_of nodes body ≡ direct_figures depth (delay_of_aggs (kinds_of nodes child) aggs)
-  pub means : (rows : List Row) → OfBody nodes body rows (total (filter_map step rows) ∷ []) false
+  pub means : (sets : Sets) (rows : List Row)
+      → OfBody sets nodes body rows (total sets (filter_map (step sets) rows) ∷ []) false
   pub behind : (run : Run) → IsRun new run
-      → IsDirectBehind run depth (delay_of_aggs (kinds_of nodes child) aggs) step total lane place out
+      → IsDirectBehind run depth (delay_of_aggs (kinds_of nodes child) aggs) (step run.held) (total run.held)
+      lane place out

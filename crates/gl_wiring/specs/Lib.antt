@@ -26,3 +26,4 @@ pub mod Roots
 pub mod SpareWindows
 pub mod TimeWindows
 pub mod Below
+pub mod Words

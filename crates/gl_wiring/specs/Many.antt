@@ -1,6 +1,7 @@
 -- The netlist of several results of one plan: every run of it over beats that keep the gaps is right for each.
 use Rattle.std.specs.Prelude.{◌≡◌, ℕ, ◌+◌, ◌*◌, ◌<◌, ◌≤◌, List, [], ◌∷◌, ◌++◌, length, map, max, Bool, Some, codes, bytes_eq}
 use Rattle.std.specs.List.{AllByRecursion, IsDistinct, flat_map, sum_by}
+use Rattle.gl_algebra.specs.Known.{AreKnown}
 use Rattle.gl_algebra.specs.FigureTable.{figures_of}
 use Rattle.gl_algebra.specs.Shapes.{kinds_of, shape_of}
 use Rattle.gl_algebra.specs.Small.{AreFigures}
@@ -17,6 +18,7 @@ use Rattle.gl_schema.specs.Right.{IsRight}
 use Rattle.gl_schema.specs.Schemas.{IsSchema}
 use Rattle.gl_gaps.specs.declared.Gaps.{Gaps}
 use Rattle.gl_schema.specs.declared.schema.Schema.{Schema}
+use Rattle.gl_wiring.specs.EmittedPorts.{column_widths}
 use Rattle.gl_wiring.specs.Leaves.{widths_of}
 use Rattle.gl_wiring.specs.Naming.{Naming, beside_others, seen_as}
 use Rattle.gl_wiring.specs.Output.{input_ports, result_outputs}
@@ -63,6 +65,7 @@ pub record CanWireAll (schema : Schema) (nodes : List PlanNode) (figures : List 
     : Type 0 where
   pub schema' : IsSchema schema
   pub figured : AreFigures nodes figures
+  pub known : AreKnown (column_widths schema.parameters) nodes
   pub each : AllByRecursion (CanWireRoot schema nodes) roots
   pub distinct : IsDistinct bytes_eq (intos (result_names roots))
 

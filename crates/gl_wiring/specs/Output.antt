@@ -10,6 +10,7 @@ use Rattle.gl_net.specs.declared.node.Bus.{Bus}
 use Rattle.gl_net.specs.declared.node.Direction.TheVariants.{Out}
 use Rattle.gl_wiring.specs.Leaves.{widths_of}
 use Rattle.gl_schema.specs.Ports.{rst, eos, tick, out_valid, out_column, out_eos, fault_group, fault_queue}
+use Rattle.gl_schema.specs.declared.schema.Column.{Column}
 use Rattle.gl_schema.specs.declared.schema.Schema.{Schema}
 use Rattle.gl_wire.specs.Costs.{Cost, CostsAtMost}
 use Rattle.gl_wire.specs.Faults.{line_of}
@@ -17,7 +18,7 @@ use Rattle.gl_wire.specs.Shapes.{IsDelayed}
 use Rattle.gl_wire.specs.Wire.{carried, line_at}
 use Rattle.gl_wire.specs.declared.emitted.Emitted.{Emitted}
 use Rattle.gl_wire.specs.declared.wire.Wire.{Wire}
-use Rattle.gl_wiring.specs.EmittedPorts.{input, output, streams_inputs}
+use Rattle.gl_wiring.specs.EmittedPorts.{input, output, parameter_inputs, streams_inputs}
 use Rattle.gl_wiring.specs.Naming.{Naming, plain}
 use Rattle.gl_wiring.specs.Root.{IsSticky, later_line}
 
@@ -49,9 +50,18 @@ abbrev pub tick_input : Bool → List PortShape
 tick_input true = input tick 1 ∷ []
 tick_input false = []
 
--- the inputs of a schema: reset, those of the streams, the end, and the tick where it is asked for
+-- the inputs of a schema from the reset to the end
+abbrev pub early_inputs : Schema → List PortShape
+early_inputs schema = input rst 1 ∷ (streams_inputs schema.streams ++ input eos 1 ∷ [])
+
+-- those behind the end: the tick where it is asked for, and the parameters
+abbrev pub late_inputs : Bool → List Column → List PortShape
+late_inputs ticks parameters = tick_input ticks ++ parameter_inputs parameters
+
+-- all inputs of a schema
 abbrev pub input_ports : Bool → Schema → List PortShape
-input_ports ticks schema = input rst 1 ∷ (streams_inputs schema.streams ++ input eos 1 ∷ tick_input ticks)
+input_ports ticks schema =
+    input rst 1 ∷ (streams_inputs schema.streams ++ input eos 1 ∷ late_inputs ticks schema.parameters)
 
 -- all ports of a module for a schema and a result whose columns have these kinds and names
 abbrev pub plan_ports : Bool → Schema → List Kind → List (List ℕ) → List PortShape

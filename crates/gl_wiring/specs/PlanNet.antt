@@ -1,5 +1,5 @@
 -- What the nodes and ports of a plan's netlist are, before it is finished.
-use Rattle.std.specs.Prelude.{◌≡◌, ℕ, ◌<◌, ◌≤◌, List, [], length, Option}
+use Rattle.std.specs.Prelude.{◌≡◌, ℕ, ◌<◌, ◌≤◌, List, [], length, map, Option}
 use Rattle.gl_algebra.specs.Fits.{IsPlan}
 use Rattle.gl_algebra.specs.Shapes.{kinds_of}
 use Rattle.gl_algebra.specs.Views.{reads_time}
@@ -7,9 +7,12 @@ use Rattle.gl_algebra.specs.declared.figures.Figures.{Figures}
 use Rattle.gl_algebra.specs.declared.node.PlanNode.{PlanNode}
 use Rattle.gl_algebra.specs.Roots.{most_memory, most_registers, weight_with_output}
 use Rattle.gl_net.specs.declared.node.Bit.{Bit}
+use Rattle.gl_net.specs.declared.node.Port.{Port}
 use Rattle.gl_net.specs.Finished.{HasReset}
-use Rattle.gl_net.specs.Net.{Net, Run, IsRun, memory_bits_of, register_bits_of, size_of}
+use Rattle.gl_net.specs.Net.{Net, Run, IsRun, held_ports, memory_bits_of, register_bits_of, size_of}
 use Rattle.gl_net.specs.PortValues.{port_shapes}
+use Rattle.gl_schema.specs.Ports.{in_parameter}
+use Rattle.gl_schema.specs.declared.schema.Column.{Column}
 use Rattle.gl_schema.specs.declared.schema.Schema.{Schema}
 use Rattle.gl_wire.specs.declared.emitted.Emitted.{Emitted}
 use Rattle.gl_wire.specs.declared.wire.Wire.{Wire}
@@ -25,8 +28,14 @@ pub record IsEmpty (net : Net) : Type 0 where
   pub registers : register_bits_of net ≡ 0
   pub memories : memory_bits_of net ≡ 0
 
+-- the ports that are held are those of the parameters, in their order
+abbrev pub HasParameters : Net → Schema → Type 0
+HasParameters net schema =
+    map (λ (p : Port). p.name) (held_ports net.ports)
+    ≡ map (λ (c : Column). in_parameter c.name) schema.parameters
+
 -- the circuit of a root, with these figures, over ticks so far apart, between the wires of the streams, with the line
--- of ticks, and an output whose ports are called so
+-- of ticks, the ports of the parameters, and an output whose ports are called so
 pub record IsRootNet (schema : Schema) (nodes : List PlanNode) (root : ℕ) (f : Figures) (ticks : ℕ) (naming : Naming)
     (names : List (List ℕ)) (net : Net) : Type 0 where
   pub plan : IsPlan nodes
@@ -36,6 +45,7 @@ pub record IsRootNet (schema : Schema) (nodes : List PlanNode) (root : ℕ) (f :
   pub e : Emitted
   pub wires : AreStreamWires net schema.streams leaves
   pub line : IsTickLine net (reads_time nodes) tick
+  pub parameters : HasParameters net schema
   pub serves : (run : Run) → IsRun net run → ServesOnceBy f ticks nodes root tick leaves e run
   pub output : IsOutput naming net names e
   pub reset : HasReset net

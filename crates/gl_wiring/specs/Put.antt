@@ -57,8 +57,9 @@ pub record HasColumns (nodes : List PlanNode) (id : ℕ) (net : Net) (e : Emitte
   pub same_widths : widths e.wire.columns ≡ widths_of (kinds_of nodes id)
   pub lines : AreLines net e.faults
 
--- a wire and lines that give these results of the leaves' streams and of the ticks in every run, as a node of this shape
--- and with these figures. Where each row comes of one row that came, it is brought by the beat of that row
+-- a wire and lines that give these results of the leaves' streams, of the ticks and of the words that are held in every
+-- run, as a node of this shape and with these figures. Where each row comes of one row that came, it is brought by the
+-- beat of that row
 pub record GivesAs (shape : Shape) (f : Figures) (arrivals : Arriving) (means : Meaning) (net : Net) (tick : Option Bit) (leaves : List Wire)
     (e : Emitted) : Type 0 where
   pub wire : IsWire net e.wire
@@ -66,11 +67,12 @@ pub record GivesAs (shape : Shape) (f : Figures) (arrivals : Arriving) (means : 
   pub lines : AreLines net e.faults
   pub paced : (run : Run) → IsRun net run → KeepsPace shape.pace f.a (leaf run leaves) (carried run e.wire)
   pub serving : (run : Run) → IsRun net run → (beats : Beats) → Spaced f beats → LeavesFit run tick leaves beats
-      → Serving f (λ t. means (inputs_at (line_of run tick) (leaf run leaves) (leaf run leaves 0) t))
+      → Serving f (λ t. means (inputs_at run.held (line_of run tick) (leaf run leaves) (leaf run leaves 0) t))
       (lines_of run e.faults) beats (carried run e.wire)
   pub dated : (run : Run) (is : IsRun net run) (beats : Beats) (apart : Spaced f beats) (fits : LeavesFit run tick leaves beats)
       → IsTrue shape.arrives
-      → Dated f (λ t. arrivals (inputs_at (line_of run tick) (leaf run leaves) (leaf run leaves 0) t)) (λ t n. n)
+      → Dated f (λ t. arrivals (inputs_at run.held (line_of run tick) (leaf run leaves) (leaf run leaves 0) t))
+      (λ t n. n)
       (serving run is beats apart fits).spill beats (carried run e.wire)
 
 -- a wire and lines that give a node's results

@@ -29,7 +29,8 @@ abbrev pub ServesOnceBy : Figures → ℕ → List PlanNode → ℕ → Option B
 ServesOnceBy f ticks nodes root tick leaves e run =
     (beats : Beats) (last : ℕ) → OneStream beats last → Spaced f beats → LeavesFit run tick leaves beats
     → TicksApart ticks (line_of run tick) beats
-    → ServingOnce f (IsPlanResult nodes root (inputs_at (line_of run tick) (leaf run leaves) (leaf run leaves 0) last))
+    → ServingOnce f
+    (IsPlanResult nodes root (inputs_at run.held (line_of run tick) (leaf run leaves) (leaf run leaves 0) last))
     (lines_of run e.faults) last (carried run e.wire)
 
 -- these figures, with the gap of ticks that are farther apart

@@ -15,7 +15,7 @@ use Rattle.gl_algebra.specs.contracts.figures.Figures as figures
 use Rattle.gl_algebra.specs.declared.node.PlanNode.{PlanNode}
 use Rattle.gl_algebra.specs.declared.node.PlanNode.TheVariants.{Stream, Body, Compute, Select, Project, Frames, Aggregate, Union, Merge, Beside, Window, TimeWindow, Group, Partition}
 use Rattle.gl_algebra.specs.declared.node.Operand.{Operand}
-use Rattle.gl_algebra.specs.declared.node.Operand.TheVariants.{Column, Literal}
+use Rattle.gl_algebra.specs.declared.node.Operand.TheVariants.{Column, Literal, Parameter}
 use Rattle.gl_algebra.specs.declared.node.ColOp.{ColOp}
 use Rattle.gl_algebra.specs.declared.node.ColOp.TheVariants.{Not, Cast, Binary}
 use Rattle.gl_algebra.specs.declared.node.PlanAgg.{PlanAgg}
@@ -46,6 +46,7 @@ ruleset sets = (props, kind_code, node_code, figures_code)
 operand_prop : (kinds : List Kind) (operand : Operand) → IsProp (OperandFits kinds operand)
 operand_prop kinds (Column column) = hlevel sets
 operand_prop kinds (Literal word k) = hlevel sets
+operand_prop kinds (Parameter number k) = hlevel sets
 
 sort_prop : (sort : Sort) (k : Kind) → IsProp (SortFits sort k)
 sort_prop Arithmetic k = hlevel sets

@@ -1,6 +1,7 @@
 -- The netlist of a plan: every run of it over beats that keep the gaps is right for the plan.
-use Rattle.std.specs.Prelude.{◌≡◌, ℕ, suc, ◌<◌, ◌≤◌, List, ◌++◌, length, map, Option, Some, IsTrue, codes, bytes_eq}
+use Rattle.std.specs.Prelude.{◌≡◌, ℕ, suc, ◌<◌, ◌≤◌, List, ◌++◌, length, map, Option, Some, IsTrue, codes, bytes_eq, slice_index}
 use Rattle.std.specs.List.{AllByRecursion, IsDistinct}
+use Rattle.gl_algebra.specs.Known.{AreKnown}
 use Rattle.gl_algebra.specs.Results.{Inputs, IsPlanResult}
 use Rattle.gl_algebra.specs.Shapes.{kinds_of, shape_of}
 use Rattle.gl_algebra.specs.Small.{AreFigures}
@@ -13,7 +14,7 @@ use Rattle.gl_root_gaps.specs.Roots.{gap_of, ticks_of}
 use Rattle.gl_net.specs.Net.{Net, Run, IsTrace, memory_bits_of, register_bits_of, size_of}
 use Rattle.gl_net.specs.PortValues.{input_values, port_shapes, port_values}
 use Rattle.gl_schema.specs.Beats as beats
-use Rattle.gl_schema.specs.Beats.{Beat, AreBeats}
+use Rattle.gl_schema.specs.Beats.{Beats, AreBeats}
 use Rattle.gl_gaps.specs.Keeps.{KeepsGaps, gaps_with}
 use Rattle.gl_schema.specs.Names.{IsName}
 use Rattle.gl_schema.specs.Ports.{IsStimulus, PortValues, out_column}
@@ -22,6 +23,7 @@ use Rattle.gl_schema.specs.Schemas.{IsSchema}
 use Rattle.gl_schema.specs.Seen.{shown}
 use Rattle.gl_gaps.specs.declared.Gaps.{Gaps}
 use Rattle.gl_schema.specs.declared.schema.Schema.{Schema}
+use Rattle.gl_wiring.specs.EmittedPorts.{column_widths}
 use Rattle.gl_wiring.specs.Output.{plan_ports}
 use Rattle.gl_wiring.specs.StreamWires.{AreStreamLeaves}
 use Rattle.gl_wiring.specs.declared.names.ResultNames.{ResultNames}
@@ -34,6 +36,7 @@ plan_inputs inputs =
       places = inputs.places;
       times = inputs.times;
       ticks = inputs.ticks;
+      sets = λ k. slice_index inputs.sets k;
       body = inputs.rows 0;
       body_places = inputs.places 0;
     }
@@ -48,9 +51,9 @@ pub record KeepsGroup (outs : List (List ℕ)) (port : PortValues) : Type 0 wher
   pub stays : (e n : ℕ) → IsTrue (shown port outs e).end → e ≤ n → (shown port outs n).group ≡ (shown port outs e).group
 
 -- this holds of each run of the netlist that has beats of the schema on its input ports which keep the gaps
-abbrev pub OverBeats : Schema → Gaps → (List Beat → PortValues → Type 0) → Net → Type 0
+abbrev pub OverBeats : Schema → Gaps → (Beats → PortValues → Type 0) → Net → Type 0
 OverBeats schema gaps P net =
-    (run : Run) (all : List Beat) → IsTrace net run → AreBeats schema all → KeepsGaps gaps all
+    (run : Run) (all : Beats) → IsTrace net run → AreBeats schema all → KeepsGaps gaps all
     → IsStimulus schema all (input_values net run)
     → P all (port_values net run)
 
@@ -65,13 +68,14 @@ pub record AreResultNames (many : ℕ) (names : ResultNames) : Type 0 where
   pub columns : AllByRecursion IsName names.columns
   pub distinct : IsDistinct bytes_eq names.columns
 
--- a plan that can be wired: its leaves are streams of the schema
+-- a plan that can be wired: its leaves are streams of the schema, and the parameters that it names are the schema's
 pub record CanWire (schema : Schema) (nodes : List PlanNode) (root : ℕ) (figures : List Figures) (spare : Option Spare)
     (names : ResultNames) : Type 0 where
   pub schema' : IsSchema schema
   pub within : root < length nodes
   pub leaves : AreStreamLeaves schema.streams (shape_of nodes root).leaves
   pub figured : AreFigures nodes figures
+  pub known : AreKnown (column_widths schema.parameters) nodes
   pub spared : spare ≡ spare_at nodes root
   pub named : AreResultNames (length (kinds_of nodes root)) names
 

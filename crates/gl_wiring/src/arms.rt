@@ -5,6 +5,7 @@ ghost use Rattle.gl_algebra.specs.declared.node.PlanNode.TheVariants.{Compute, S
 ghost use Rattle.gl_wire.specs.Faults.{no_faults};
 ghost use Rattle.gl_wiring.specs.Put.{IsPutBehind};
 ghost use Rattle.gl_wiring.specs.Tables.{HasCircuit};
+ghost use Rattle.gl_wiring.specs.Words.{HaveWords};
 
 use crate::below::laws_below;
 use crate::site::Site;
@@ -54,6 +55,7 @@ pub(crate) fn compute_node(
 ) -> Result<Emitted, Memory>
     requires node { slice_get site.plan.now id ≡ Some (Compute child ops.now) }
     requires there { HasCircuit site.plan.now net.old site.tick site.leaves.now table.now child }
+    requires words { HaveWords site.plan.now net.old site.words.now }
     ensures { let s = site.entry in
         IfOk result (λ e. IsPutBehind s.plan.now id net.old net.new s.tick s.leaves.now e) }
 {
@@ -64,6 +66,7 @@ pub(crate) fn compute_node(
         net,
         below,
         site.plan.kinds(child),
+        site.words,
         ops.as_slice(),
     )?;
     Ok(e)
@@ -100,6 +103,7 @@ pub(crate) fn project_node(
 ) -> Result<Emitted, Memory>
     requires node { slice_get site.plan.now id ≡ Some (Project child items.now) }
     requires there { HasCircuit site.plan.now net.old site.tick site.leaves.now table.now child }
+    requires words { HaveWords site.plan.now net.old site.words.now }
     ensures { let s = site.entry in
         IfOk result (λ e. IsPutBehind s.plan.now id net.old net.new s.tick s.leaves.now e) }
 {
@@ -110,6 +114,7 @@ pub(crate) fn project_node(
         net,
         below,
         site.plan.kinds(child),
+        site.words,
         items.as_slice(),
     )?;
     Ok(e)
@@ -126,6 +131,7 @@ pub(crate) fn frames_node(
 ) -> Result<Emitted, Memory>
     requires node { slice_get site.plan.now id ≡ Some (Frames child None items.now) }
     requires there { HasCircuit site.plan.now net.old site.tick site.leaves.now table.now child }
+    requires words { HaveWords site.plan.now net.old site.words.now }
     ensures { let s = site.entry in
         IfOk result (λ e. IsPutBehind s.plan.now id net.old net.new s.tick s.leaves.now e) }
 {
@@ -136,6 +142,7 @@ pub(crate) fn frames_node(
         net,
         below,
         site.plan.kinds(child),
+        site.words,
         items.as_slice(),
     )?;
     Ok(e)
@@ -152,6 +159,7 @@ pub(crate) fn aggregate_node(
 ) -> Result<Emitted, Memory>
     requires node { slice_get site.plan.now id ≡ Some (Aggregate child aggs.now) }
     requires there { HasCircuit site.plan.now net.old site.tick site.leaves.now table.now child }
+    requires words { HaveWords site.plan.now net.old site.words.now }
     ensures { let s = site.entry in
         IfOk result (λ e. IsPutBehind s.plan.now id net.old net.new s.tick s.leaves.now e) }
 {
@@ -162,6 +170,7 @@ pub(crate) fn aggregate_node(
         net,
         below,
         site.plan.kinds(child),
+        site.words,
         aggs.as_slice(),
     )?;
     Ok(e)

@@ -4,6 +4,7 @@ ghost use Rattle.std.specs.Prelude.{◌≡◌, IfOk, Some, false, option_map, sl
 ghost use Rattle.gl_wiring.specs.Copies.{is_over};
 ghost use Rattle.gl_wiring.specs.Put.{CanPut, IsPutBehind};
 ghost use Rattle.gl_wiring.specs.Tables.{HaveChildren};
+ghost use Rattle.gl_wiring.specs.Words.{HaveWords};
 
 use crate::arms::{
     aggregate_node, beside_node, compute_node, leaf_of, merge_node, project_node, select_node,
@@ -40,6 +41,7 @@ pub(crate) fn put_behind(
     requires alone { option_map is_over (slice_get site.plan.now id) ≡ Some false }
     requires can { CanPut site.plan.now site.figures.now id net.old site.tick site.leaves.now }
     requires children { HaveChildren site.plan.now id net.old site.tick site.leaves.now table.now }
+    requires words { HaveWords site.plan.now net.old site.words.now }
     ensures { let s = site.entry in
         IfOk result (λ e. IsPutBehind s.plan.now id net.old net.new s.tick s.leaves.now e) }
 {

@@ -3,6 +3,7 @@
 ghost use Rattle.std.specs.Prelude.{IfOk};
 ghost use Rattle.gl_wiring.specs.Put.{CanPut, IsPut};
 ghost use Rattle.gl_wiring.specs.Reached.{AreReached, CanPutAll};
+ghost use Rattle.gl_wiring.specs.Words.{HaveWords};
 
 use crate::below::laws_below;
 use crate::put::put_marked;
@@ -20,8 +21,9 @@ use std::slice::from_ref;
 /// Where a plan over streams reads the time, the site has a line of ticks. Want of memory is the one other answer; what the builder then
 /// holds is not said.
 pub fn put_reached(net: &mut NetBuilder, site: Site<'_>, roots: &[PlanId]) -> Result<Table, Memory>
-    requires { CanPutAll site.plan.now site.figures.now roots.now net.old site.tick
+    requires can { CanPutAll site.plan.now site.figures.now roots.now net.old site.tick
         site.leaves.now }
+    requires words { HaveWords site.plan.now net.old site.words.now }
     ensures { let s = site.entry in IfOk result (λ table.
         AreReached s.plan.now roots.now net.old net.new s.tick s.leaves.now table.items) }
 {
@@ -34,7 +36,8 @@ pub fn put_reached(net: &mut NetBuilder, site: Site<'_>, roots: &[PlanId]) -> Re
 
 /// The same for one root: adds the circuits of a node and of all below it, and gives the node's wire and its lines.
 pub fn put_circuit(net: &mut NetBuilder, site: Site<'_>, id: PlanId) -> Result<Emitted, Memory>
-    requires { CanPut site.plan.now site.figures.now id net.old site.tick site.leaves.now }
+    requires can { CanPut site.plan.now site.figures.now id net.old site.tick site.leaves.now }
+    requires words { HaveWords site.plan.now net.old site.words.now }
     ensures { let s = site.entry in
         IfOk result (λ e. IsPut s.plan.now id net.old net.new s.tick s.leaves.now e) }
 {

@@ -14,12 +14,15 @@ ghost use Rattle.gl_totals.specs.Costs.{kept_of_agg};
 ghost use Rattle.gl_totals.specs.Tables.{IsTable};
 ghost use Rattle.gl_wire.specs.declared.wire.Wire.{Wire as WireOf};
 ghost use Rattle.gl_wire.specs.Wire.{IsWire, widths};
+ghost use Rattle.gl_algebra.specs.Known.{AggKnown};
+ghost use Rattle.gl_rows.specs.Made.{AreHeldBuses};
 ghost use Rattle.gl_wiring.specs.Groups.{IsGroupNode};
 ghost use Rattle.gl_wiring.specs.LaneGroups.{HasLane, IsGroupLane};
 ghost use Rattle.gl_wiring.specs.Lanes.{IsBodyTable, has_room, place_of};
 ghost use Rattle.gl_wiring.specs.Leaves.{HaveLeaves};
 ghost use Rattle.gl_wiring.specs.Put.{CanPut, IsPutBehind};
 ghost use Rattle.gl_wiring.specs.Tables.{HasCircuit, HaveChildren};
+ghost use Rattle.gl_wiring.specs.Words.{HaveWords};
 
 use crate::apart::put_source;
 use crate::below::laws_below;
@@ -72,6 +75,8 @@ fn put_states(
     requires kinds { widths rows.now.columns ≡ map width_of table.now.kinds.now }
     requires are_kinds { All IsKind table.now.kinds.now }
     requires aggs { All (AggFits table.now.kinds.now) table.now.aggs.now }
+    requires words { AreHeldBuses net.old table.now.words.now }
+    requires known { All (AggKnown (widths table.now.words.now)) table.now.aggs.now }
     requires some { 1 ≤ length table.now.aggs.now }
     requires slot { IsBus net.old place.slot }
     requires bits { 1 ≤ place.slot.width }
@@ -101,6 +106,7 @@ pub(crate) fn put_table(
     requires bits { 1 ≤ place.slot.width }
     requires few { place.slot.width ≤ 8 }
     requires first { IsBit net.old place.first }
+    requires words { HaveWords site.plan.now net.old site.words.now }
     ensures { let s = site.entry in
         IfOk result (IsBodyTable s.plan.now body net.old net.new lane.now place) }
 {
@@ -110,6 +116,7 @@ pub(crate) fn put_table(
             let below = put_rows(net, site, *child, lane, place)?;
             let table = Table {
                 kinds: site.plan.kinds(*child),
+                words: site.words,
                 aggs: aggs.as_slice(),
             };
             let rows = &below.rows.wire;
@@ -227,6 +234,7 @@ pub(crate) fn put_on_lane(
     requires children { HaveChildren site.plan.now group.id net.old site.tick site.leaves.now
         table.now }
     requires direct { is_direct (form_of site.plan.now group.body) ≡ true }
+    requires words { HaveWords site.plan.now net.old site.words.now }
     ensures { let s = site.entry in IfOk result (λ e.
         IsPutBehind s.plan.now group.id net.old net.new s.tick s.leaves.now e) }
 {

@@ -10,7 +10,7 @@ ghost use Rattle.gl_wiring.specs.declared.names.Face.TheVariants.{Among};
 
 use crate::below::laws_below;
 use crate::circuits::put_reached;
-use crate::leaves::{put_leaves, put_tick};
+use crate::leaves::{put_last_inputs, put_leaves};
 use crate::names::{Face, ResultNames};
 use crate::output::put_result;
 use crate::site::Site;
@@ -112,14 +112,17 @@ fn put_many(
     // That its nodes are a plan, which a site keeps.
     let _ = plan.len();
     let leaves = put_leaves(alloc, net, schema)?;
-    let tick = put_tick(net, plan.reads_time())?;
+    let parameters = schema.parameters.as_slice();
+    let last = put_last_inputs(alloc, net, plan.reads_time(), parameters)?;
+    let words = last.words.as_slice();
     let ids = ids_of(alloc, roots)?;
     let site = Site {
         alloc,
         plan,
         figures,
-        tick,
+        tick: last.tick,
         leaves: &leaves,
+        words,
     };
     let table = put_reached(net, site, &ids)?;
     put_results(net, site, &table, roots, 0)?;

@@ -1,7 +1,7 @@
 //! The names of an emitted module's ports.
 
 ghost use Rattle.std.specs.Prelude.{◌≡◌, ◌++◌, IfOk, OnOk, codes};
-ghost use Rattle.gl_schema.specs.Ports.{in_valid, in_column};
+ghost use Rattle.gl_schema.specs.Ports.{in_valid, in_column, in_parameter};
 ghost use Rattle.gl_wiring.specs.Naming.{WorkedNames, naming_of, with_shown};
 
 use gl_bits::{Listed, Memory};
@@ -67,6 +67,17 @@ pub fn in_column_name(alloc: Global, stream: &[u8], column: &[u8]) -> Result<Vec
     add(&mut name, stream)?;
     add(&mut name, b"__")?;
     add(&mut name, column)?;
+    Ok(name)
+}
+
+/// `set__NAME`.
+#[tactic(auto, unfolding(gl_schema::specs::Ports::in_parameter))]
+pub(crate) fn in_parameter_name(alloc: Global, parameter: &[u8]) -> Result<Vec<u8>, Memory>
+    ensures { IfOk result (λ v. v.items ≡ in_parameter parameter.now) }
+{
+    let mut name = Vec::new(alloc);
+    add(&mut name, b"set__")?;
+    add(&mut name, parameter)?;
     Ok(name)
 }
 

@@ -4,6 +4,7 @@ ghost use Rattle.std.specs.Prelude.{◌≡◌, Some, slice_get, IfOk};
 ghost use Rattle.gl_algebra.specs.declared.node.PlanNode.TheVariants.{Frames};
 ghost use Rattle.gl_wiring.specs.Put.{IsPutBehind};
 ghost use Rattle.gl_wiring.specs.Tables.{HasCircuit};
+ghost use Rattle.gl_wiring.specs.Words.{HaveWords};
 
 use crate::arms::frames_node;
 use crate::below::laws_below;
@@ -13,6 +14,7 @@ use gl_algebra::{PlanFrames, PlanId, PlanKey};
 use gl_bits::Memory;
 use gl_frames_parted::put_parted_frames;
 use gl_net::NetBuilder;
+use gl_rows::Scope;
 use gl_wire::{Emitted, Faults, either_line};
 
 /// A node of frames: its number, that of its child, and the key by which rows are parted, if there is one.
@@ -40,19 +42,17 @@ fn key_frames_node(
         ≡ Some (Frames frames.child (Some by) items.now) }
     requires there { HasCircuit site.plan.now net.old site.tick site.leaves.now table.now
         frames.child }
+    requires words { HaveWords site.plan.now net.old site.words.now }
     ensures { let s = site.entry in IfOk result (λ e.
         IsPutBehind s.plan.now frames.id net.old net.new s.tick s.leaves.now e) }
 {
     laws_below();
     let below = circuit_at(site.alloc, table, frames.child)?;
-    let put = put_parted_frames(
-        site.alloc,
-        net,
-        &below.wire,
-        site.plan.kinds(frames.child),
-        by,
-        items.as_slice(),
-    )?;
+    let scope = Scope {
+        kinds: site.plan.kinds(frames.child),
+        words: site.words,
+    };
+    let put = put_parted_frames(site.alloc, net, &below.wire, scope, by, items.as_slice())?;
     let further = either_line(net, below.faults.further, Some(put.further))?;
     Ok(Emitted {
         wire: put.wire,
@@ -76,6 +76,7 @@ pub(crate) fn frames_by(
         ≡ Some (Frames frames.child frames.by items.now) }
     requires there { HasCircuit site.plan.now net.old site.tick site.leaves.now table.now
         frames.child }
+    requires words { HaveWords site.plan.now net.old site.words.now }
     ensures { let s = site.entry in IfOk result (λ e.
         IsPutBehind s.plan.now frames.id net.old net.new s.tick s.leaves.now e) }
 {

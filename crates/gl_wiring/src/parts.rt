@@ -5,6 +5,7 @@ ghost use Rattle.std.specs.List.{AllByRecursion};
 ghost use Rattle.gl_bits.specs.Words.{IsWidth};
 ghost use Rattle.gl_schema.specs.Schemas.{IsColumn, IsStream};
 ghost use Rattle.gl_schema.specs.Ports.{in_valid};
+ghost use Rattle.gl_net.specs.Builds.{PutsPort};
 ghost use Rattle.gl_net.specs.Net.{IsBus, IsPort};
 ghost use Rattle.gl_net.specs.declared.node.Direction.TheVariants.{In, Out};
 ghost use Rattle.gl_wiring.specs.EmittedPorts.{input, output, column_widths, stream_columns, stream_inputs};
@@ -32,6 +33,7 @@ pub(crate) fn put_input(net: &mut NetBuilder, name: &[u8], width: u8) -> Result<
     ensures ports { OnOk result (Puts net.old net.new (input name.now width ∷ [])) }
     ensures cost { OnOk result (CostsNothing net.old net.new) }
     ensures port { IfOk result (λ b. IsPort net.new In name.now b.node) }
+    ensures last { IfOk result (λ b. PutsPort net.old net.new In name.now b.node) }
     ensures bus { IfOk result (λ b. IsBus net.new b) }
     ensures width { IfOk result (λ b. b.width ≡ width) }
 {

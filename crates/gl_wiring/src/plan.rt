@@ -6,7 +6,7 @@ ghost use Rattle.gl_wiring.specs.PlanNet.{IsEmpty, IsPlanNet};
 ghost use Rattle.gl_wiring.specs.Wired.{CanWire, IsWired};
 
 use crate::below::laws_below;
-use crate::leaves::{put_leaves, put_tick};
+use crate::leaves::{put_last_inputs, put_leaves};
 use crate::many::Root;
 use crate::names::{Face, module_name};
 use crate::output::put_result;
@@ -35,13 +35,16 @@ fn put_plan(
 {
     laws_below();
     let leaves = put_leaves(bare.alloc, net, schema)?;
-    let tick = put_tick(net, bare.plan.reads_time())?;
+    let parameters = schema.parameters.as_slice();
+    let last = put_last_inputs(bare.alloc, net, bare.plan.reads_time(), parameters)?;
+    let words = last.words.as_slice();
     let site = Site {
         alloc: bare.alloc,
         plan: bare.plan,
         figures: bare.figures,
-        tick,
+        tick: last.tick,
         leaves: &leaves,
+        words,
     };
     let e = put_root(net, site, root.id, spare)?;
     let names = root.names.columns.as_slice();
@@ -77,6 +80,7 @@ pub fn wire_plan(
         figures,
         tick: None,
         leaves: &[],
+        words: &[],
     };
     put_plan(&mut net, bare, schema, root, spare)?;
     Ok(net.finish())

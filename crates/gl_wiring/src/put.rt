@@ -13,6 +13,7 @@ ghost use Rattle.gl_wire.specs.Wire.{IsWire, widths};
 ghost use Rattle.gl_wire_registers.specs.Fronts.{HasColumn};
 ghost use Rattle.gl_wiring.specs.Copies.{AreBodies, CanCopy, CanStandBehind, IsOverCopies, IsPutOver};
 ghost use Rattle.gl_wiring.specs.Machines.{CanBe, machine_of};
+ghost use Rattle.gl_wiring.specs.Words.{HaveWords};
 
 use crate::apart::put_source;
 use crate::behind::{is_over, put_behind};
@@ -50,6 +51,7 @@ fn put_root_of(
 ) -> Result<Emitted, Memory>
     requires marks { AreMarks site.plan.now (id ∷ []) marks.now }
     requires can { CanPut site.plan.now site.figures.now id net.old site.tick site.leaves.now }
+    requires words { HaveWords site.plan.now net.old site.words.now }
     ensures { let s = site.entry in
         IfOk result (λ e. IsPut s.plan.now id net.old net.new s.tick s.leaves.now e) }
 {
@@ -72,6 +74,7 @@ pub(crate) fn put_marked(
     requires within { limit ≤ length site.plan.now }
     requires can { CanPutMarked site.plan.now site.figures.now marks.now net.old site.tick
         site.leaves.now }
+    requires words { HaveWords site.plan.now net.old site.words.now }
     ensures { let s = site.entry in IfOk result (λ table.
         ArePutTo s.plan.now marks.now limit net.old net.new s.tick s.leaves.now table.items) }
 {
@@ -100,6 +103,7 @@ fn put_slot(
         → CanPut site.plan.now site.figures.now number net.old site.tick site.leaves.now }
     requires children { marked ≡ true
         → HaveChildren site.plan.now number net.old site.tick site.leaves.now table.now }
+    requires words { HaveWords site.plan.now net.old site.words.now }
     ensures { let s = site.entry in IfOk result (λ slot.
         IsSlot s.plan.now number net.old net.new s.tick s.leaves.now marked slot) }
 {
@@ -131,6 +135,7 @@ fn put_over(
     requires over { IsOverCopies site.plan.now id }
     requires can { CanPut site.plan.now site.figures.now id net.old site.tick site.leaves.now }
     requires children { HaveChildren site.plan.now id net.old site.tick site.leaves.now table.now }
+    requires words { HaveWords site.plan.now net.old site.words.now }
     ensures { let s = site.entry in
         IfOk result (λ e. IsPutBehind s.plan.now id net.old net.new s.tick s.leaves.now e) }
 {
@@ -169,6 +174,7 @@ fn put_window(
         site.leaves.now }
     requires children { HaveChildren site.plan.now window.id net.old site.tick site.leaves.now
         table.now }
+    requires words { HaveWords site.plan.now net.old site.words.now }
     ensures { let s = site.entry in IfOk result (λ e.
         IsPutBehind s.plan.now window.id net.old net.new s.tick s.leaves.now e) }
 {
@@ -195,6 +201,7 @@ fn put_time_window(
         site.leaves.now }
     requires children { HaveChildren site.plan.now window.id net.old site.tick site.leaves.now
         table.now }
+    requires words { HaveWords site.plan.now net.old site.words.now }
     ensures { let s = site.entry in IfOk result (λ e.
         IsPutBehind s.plan.now window.id net.old net.new s.tick s.leaves.now e) }
 {
@@ -223,6 +230,7 @@ fn put_group(
         site.leaves.now }
     requires children { HaveChildren site.plan.now group.id net.old site.tick site.leaves.now
         table.now }
+    requires words { HaveWords site.plan.now net.old site.words.now }
     ensures { let s = site.entry in IfOk result (λ e.
         IsPutBehind s.plan.now group.id net.old net.new s.tick s.leaves.now e) }
 {
@@ -251,6 +259,7 @@ fn put_partition(
         site.leaves.now }
     requires children { HaveChildren site.plan.now partition.id net.old site.tick site.leaves.now
         table.now }
+    requires words { HaveWords site.plan.now net.old site.words.now }
     ensures { let s = site.entry in IfOk result (λ e.
         IsPutBehind s.plan.now partition.id net.old net.new s.tick s.leaves.now e) }
 {
@@ -280,6 +289,7 @@ pub(crate) fn put_over_copies(
     requires tick { IsLine net.old (machine_of machine).tick }
     requires stands { CanStandBehind site.plan.now site.figures.now body
         (widths source.wire.columns) }
+    requires words { HaveWords site.plan.now net.old site.words.now }
     ensures { let s = site.entry in IfOk result
         (IsPutOver s.plan.now body (machine_of machine) source net.old net.new) }
 {
@@ -298,7 +308,8 @@ fn put_copies(
     body: PlanId,
     wires: &[Wire],
 ) -> Result<Copies, Memory>
-    requires { CanCopy site.plan.now site.figures.now body net.old wires.now }
+    requires can { CanCopy site.plan.now site.figures.now body net.old wires.now }
+    requires words { HaveWords site.plan.now net.old site.words.now }
     ensures { let s = site.entry in IfOk result (λ copies.
         AreBodies s.plan.now body net.old net.new wires.now (length wires.now) copies) }
 {
@@ -311,6 +322,7 @@ fn put_copies(
             figures: site.figures,
             tick: None,
             leaves: from_ref(wire),
+            words: site.words,
         };
         net.note(Note::Copy(copies.len()))?;
         let copy = put_root_of(net, behind, body, marks.as_slice())?;

@@ -11,6 +11,7 @@ ghost use Rattle.gl_wiring.specs.Put.{CanPut};
 ghost use Rattle.gl_wiring.specs.Roots.{IsRootPut};
 ghost use Rattle.gl_wiring.specs.SpareWindows.{IsSpareWindow};
 ghost use Rattle.gl_wiring.specs.TimeWindows.{IsTimeWindow};
+ghost use Rattle.gl_wiring.specs.Words.{HaveWords};
 
 use crate::below::laws_below;
 use crate::circuits::put_circuit;
@@ -39,6 +40,7 @@ pub(crate) fn put_root(
 ) -> Result<Emitted, Memory>
     requires can { CanPut site.plan.now site.figures.now root net.old site.tick site.leaves.now }
     requires spare { spare ≡ spare_at site.plan.now root }
+    requires words { HaveWords site.plan.now net.old site.words.now }
     ensures { let s = site.entry in
         IfOk result (λ e. IsRootPut s.plan.now root net.old net.new s.tick s.leaves.now e) }
 {
@@ -59,6 +61,7 @@ pub(crate) fn put_root(
 fn put_unspared(net: &mut NetBuilder, site: Site<'_>, root: PlanId) -> Result<Emitted, Memory>
     requires can { CanPut site.plan.now site.figures.now root net.old site.tick site.leaves.now }
     requires none { spare_at site.plan.now root ≡ None }
+    requires words { HaveWords site.plan.now net.old site.words.now }
     ensures { let s = site.entry in
         IfOk result (λ e. IsRootPut s.plan.now root net.old net.new s.tick s.leaves.now e) }
 {
@@ -91,6 +94,7 @@ fn put_machine(
     requires tick { IsLine net.old (machine_of machine).tick }
     requires stands { CanStandBehind site.plan.now site.figures.now body
         (widths source.wire.columns) }
+    requires words { HaveWords site.plan.now net.old site.words.now }
     ensures { let s = site.entry in IfOk result
         (IsPutOver s.plan.now body (machine_of machine) source net.old net.new) }
 {
@@ -106,6 +110,7 @@ fn put_spare(net: &mut NetBuilder, site: Site<'_>, w: SpareWindowOf) -> Result<E
     requires node { IsSpareWindow site.plan.now w }
     requires can { CanPut site.plan.now site.figures.now w.window.id net.old site.tick
         site.leaves.now }
+    requires words { HaveWords site.plan.now net.old site.words.now }
     ensures { let s = site.entry in IfOk result (λ e.
         IsRootPut s.plan.now w.window.id net.old net.new s.tick s.leaves.now e) }
 {
@@ -125,6 +130,7 @@ fn put_times(net: &mut NetBuilder, site: Site<'_>, w: TimeWindowOf) -> Result<Em
     requires can { CanPut site.plan.now site.figures.now w.id net.old site.tick
         site.leaves.now }
     requires none { spare_at site.plan.now w.id ≡ None }
+    requires words { HaveWords site.plan.now net.old site.words.now }
     ensures { let s = site.entry in IfOk result (λ e.
         IsRootPut s.plan.now w.id net.old net.new s.tick s.leaves.now e) }
 {

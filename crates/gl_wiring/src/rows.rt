@@ -9,6 +9,7 @@ ghost use Rattle.gl_algebra.specs.Direct.{form_of, rowwise};
 ghost use Rattle.gl_wiring.specs.Lanes.{AreRows, HasRows, IsPlaceLater};
 ghost use Rattle.gl_wiring.specs.Leaves.{HaveLeaves};
 ghost use Rattle.gl_wiring.specs.declared.rows.Place.{Place as PlaceOf};
+ghost use Rattle.gl_wiring.specs.Words.{HaveWords};
 
 use crate::arms::leaf_of;
 use crate::below::laws_below;
@@ -71,6 +72,7 @@ fn compute_rows(
 ) -> Result<LaneRows, Memory>
     requires node { slice_get site.plan.now id ≡ Some (Compute child ops.now) }
     requires below { HasRows site.plan.now child net.old below }
+    requires words { HaveWords site.plan.now net.old site.words.now }
     ensures { let s = site.entry in (old : Net) (lane : WireOf) (place : PlaceOf)
         → AreRows s.plan.now child old net.old lane place below
         → IfOk result (AreRows s.plan.now id old net.new lane place) }
@@ -82,6 +84,7 @@ fn compute_rows(
         net,
         below.rows,
         site.plan.kinds(child),
+        site.words,
         ops.as_slice(),
     )?;
     Ok(LaneRows { rows, place })
@@ -119,6 +122,7 @@ fn project_rows(
 ) -> Result<LaneRows, Memory>
     requires node { slice_get site.plan.now id ≡ Some (Project child items.now) }
     requires below { HasRows site.plan.now child net.old below }
+    requires words { HaveWords site.plan.now net.old site.words.now }
     ensures { let s = site.entry in (old : Net) (lane : WireOf) (place : PlaceOf)
         → AreRows s.plan.now child old net.old lane place below
         → IfOk result (AreRows s.plan.now id old net.new lane place) }
@@ -129,6 +133,7 @@ fn project_rows(
         net,
         below.rows,
         site.plan.kinds(child),
+        site.words,
         items.as_slice(),
     )?;
     Ok(LaneRows {
@@ -152,6 +157,7 @@ pub(crate) fn put_rows(
     requires slot { IsBus net.old place.slot }
     requires few { place.slot.width ≤ 8 }
     requires first { IsBit net.old place.first }
+    requires words { HaveWords site.plan.now net.old site.words.now }
     ensures { let s = site.entry in
         IfOk result (AreRows s.plan.now id net.old net.new lane.now place) }
 {

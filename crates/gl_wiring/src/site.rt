@@ -7,11 +7,11 @@ ghost use Rattle.gl_algebra.specs.Small.{AreFigures};
 ghost use Rattle.gl_wiring.specs.Sites.{Figures-prop, IsPlan-prop};
 
 use gl_algebra::{Figures, Plan, PlanId};
-use gl_net::Bit;
+use gl_net::{Bit, Bus};
 use gl_wire::Wire;
 use std::alloc::Global;
 
-/// What circuits of a plan's nodes are put with: the plan, the figures of its nodes, and the wires of its leaves.
+/// What circuits of a plan's nodes are put with: the plan, the figures of its nodes, the wires of its leaves, and the buses of the parameters.
 #[derive(Clone, Copy)]
 pub struct Site<'a> {
     /// Where lists of buses are made.
@@ -24,6 +24,8 @@ pub struct Site<'a> {
     pub tick: Option<Bit>,
     /// The wires of the streams, by the streams' numbers, or that of a body's input alone.
     pub leaves: &'a [Wire],
+    /// The buses of the parameters, in the order of their numbers.
+    pub words: &'a [Bus],
     pub ghost planned: { IsPlan plan.now } by { IsPlan-prop plan.now },
     pub ghost figured: { AreFigures plan.now figures.now } by { Figures-prop plan.now figures.now },
 }

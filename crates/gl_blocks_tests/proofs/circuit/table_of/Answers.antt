@@ -1,5 +1,9 @@
 use Rattle.std.proofs.Common.{List, arith, sym, subst}
-use Rattle.std.specs.Prelude.{slice_index_or}
+use Rattle.std.specs.Prelude.{All, slice_index_or}
+use Rattle.gl_algebra.specs.Known.{AggKnown}
+use Rattle.gl_rows.specs.Made.{AreHeldBuses}
+use Rattle.gl_rows.proofs.MadeLemmas.{no_words}
+use Rattle.gl_wire.specs.Wire.{widths}
 use Rattle.gl_net.specs.declared.node.Bus.{Bus}
 use Rattle.gl_net.specs.Net.{IsBus}
 use Rattle.gl_net.proofs.Determined.{keeps_then}
@@ -22,6 +26,13 @@ pub emit-requires-clause-wire : goal.emit-requires-clause-wire
 emit-requires-clause-wire c =
     wire_kept c.put_source.new.net _ c.in_ok-source.source.wire (keeps_then _ c.cut.new.self _ c.in_ok-slot.ensures.keeps c.in_ok-begins.ensures.keeps)
     c.in_ok-source.ensures.wire
+
+pub emit-requires-clause-words : goal.emit-requires-clause-words
+emit-requires-clause-words c = subst (AreHeldBuses c.cut-2.new.self) (sym c.requires.words) (no_words c.cut-2.new.self)
+
+pub emit-requires-clause-known : goal.emit-requires-clause-known
+emit-requires-clause-known c =
+    subst (λ (bs : List Bus). All (AggKnown (widths bs)) c.args.table.now.aggs.now) (sym c.requires.words) c.requires.known
 
 pub finish-requires : goal.finish-requires
 finish-requires c =

@@ -19,7 +19,7 @@ pub returns-in-Some : goal.returns-in-Some
 returns-in-Some c =
     let back = c.args.back in
     subst (λ (f : Option ℕ). IfOk c.put_slot_passing.result (IsSlotItemIn c.args.net.now c.put_slot_passing.new.net (cost_of_slot_passing c.args.input.rows.slot.width back) 3 32
-    (λ rows. count_of (frame_of (Some back) (counts_in f) rows)) c.args.input c.args.count)) (sym c.in-Some.is) c.put_slot_passing.ensures
+    (λ sets rows. count_of (frame_of (Some back) (counts_in f) rows)) c.args.input c.args.count)) (sym c.in-Some.is) c.put_slot_passing.ensures
 
 pub returns-in_ok-out-in-None : goal.returns-in_ok-out-in-None
 returns-in_ok-out-in-None c =
@@ -30,7 +30,7 @@ returns-in_ok-out-in-None c =
     let n = c.in_ok-number-in-None.number in
     let o = c.in_ok-out-in-None.out in
     let new = c.delay_bus.new.net in
-    subst (λ (f : Option ℕ). IsSlotItemIn c.args.net.now new (cost_of_slot_passing input.rows.slot.width back) 3 32 (λ rows. count_of (frame_of (Some back) (counts_in f) rows)) input c.args.count o)
+    subst (λ (f : Option ℕ). IsSlotItemIn c.args.net.now new (cost_of_slot_passing input.rows.slot.width back) 3 32 (λ sets rows. count_of (frame_of (Some back) (counts_in f) rows)) input c.args.count o)
     (sym c.in-None.is)
     (record {
       keeps = keeps_then _ c.put_slot_number.new.net _ number.keeps out.keeps;

@@ -50,7 +50,6 @@ pub returns : goal.returns
 returns c =
     let input = c.args.input in
     let slot = input.rows.slot.width in
-    let v = value_in c.args.operand in
     let p = counts_in c.args.filter in
     let kind = kind_of_operand input.source.kinds.now c.args.operand in
     let w : ℕ = width_of kind in
@@ -80,12 +79,13 @@ returns c =
       bottom = bottom.bus;
       bottom_width = bottom.same_width;
       sums = λ run r ends told.
+          let v = value_in run.held c.args.operand in
           let at_top = bottom.keeps.runs run r in
           let at_wide = top.keeps.runs run at_top in
           let at_masks = wide.keeps.runs run at_wide in
           let at_value = masks.keeps.runs run at_masks in
           tells_as run input.rows ends 1 (λ rows. sum_total x.width (map (widened k (m.width + 32)) (map (masked v p) rows)))
-          (λ rows. word_of (w + 32) (sum_of_numbers kind (values_in c.args.filter None rows c.args.operand))) (rows_in run input) (carried_by run t')
+          (λ rows. word_of (w + 32) (sum_of_numbers kind (values_in run.held c.args.filter None rows c.args.operand))) (rows_in run input) (carried_by run t')
           (λ rows.
           ap (λ n. sum_total n (map (widened k (m.width + 32)) (map (masked v p) rows))) whole
           ∙ ap (λ n. sum_total (w + 32) (map (widened k (n + 32)) (map (masked v p) rows))) narrow
@@ -96,5 +96,6 @@ returns c =
           (tells_made run input.rows ends 1 (widened k (m.width + 32)) (sum_total x.width) (carried_by run m) (carried_by run x) (carried_by run t')
           (λ t. wide.carries run at_wide (suc t)) (top.tells run at_top ends told)));
       numbers = λ run r ends told counts d u.
+          let v = value_in run.held c.args.operand in
           bottom.tells run r ends told counts d u ∙ counted_values v (frame_of None p (slot_here run input.rows ends (rows_in run input) (suc d)));
     }

@@ -9,6 +9,7 @@ use Rattle.gl_totals.proofs.KindLemmas.{operand_kind}
 use Rattle.gl_totals.specs.Totals.{extreme_of}
 use Rattle.gl_net.proofs.Determined.{keeps_then}
 use Rattle.gl_wire.specs.Costs.{Cost}
+use Rattle.gl_wire.proofs.ColumnLemmas.{bus_kept}
 use Rattle.gl_frames_stages.specs.Columns.{carried_by}
 use Rattle.gl_frames_stages.specs.Framing.{every, value_in}
 use Rattle.gl_frames_stages.proofs.DoublingNet.{plain_best}
@@ -25,6 +26,9 @@ put_operand-requires-clause-source c = c.requires.input.source
 pub put_slot_best-requires-clause-rows : goal.put_slot_best-requires-clause-rows
 put_slot_best-requires-clause-rows c = (input_kept _ _ c.args.input c.in_ok-value.ensures.keeps c.requires.input).rows
 
+pub put_slot_best-requires-clause-count : goal.put_slot_best-requires-clause-count
+put_slot_best-requires-clause-count c = bus_kept _ _ c.args.count c.in_ok-value.ensures.keeps c.requires.count
+
 pub put_slot_best-requires-clause-width : goal.put_slot_best-requires-clause-width
 put_slot_best-requires-clause-width c = c.in_ok-value.ensures.same_width ∙ ap width_of (sym c.kind_of_operand-kind.ensures)
 
@@ -36,7 +40,6 @@ pub returns : goal.returns
 returns c =
     let input = c.args.input in
     let slot = input.rows.slot.width in
-    let v = value_in c.args.ranking.operand in
     let x = c.in_ok-value.value in
     let value = c.in_ok-value.ensures in
     let best = c.in_ok-best.ensures in
@@ -57,6 +60,7 @@ returns c =
       bus = best.bus;
       same_width = best.same_width ∙ wide;
       tells = λ run r ends told counts.
+          let v = value_in run.held c.args.ranking.operand in
           let at_value = best.keeps.runs run r in
           tells_as run input.rows ends (delay_of_extreme (Some back)) (λ rows. extreme_of extreme k (last_ones (suc back) (map v rows))) (total_over (extreme_of extreme kind) v (Some back) every) (rows_in run input)
           (carried_by run c.in_ok-best.best)

@@ -15,5 +15,5 @@ pub returns-in-None : goal.returns-in-None
 returns-in-None c =
     let kind = kind_of_operand c.args.input.source.kinds.now c.args.ranking.operand in
     subst (λ (f : Option ℕ). IfOk c.put_slot_extreme_item.result (IsSlotItemIn c.args.net.now c.put_slot_extreme_item.new.net (cost_of_slot_extreme_by c.args.input.rows.slot.width f (width_of kind) c.args.back)
-    (delay_of_extreme (Some c.args.back)) (width_of kind) (total_over (extreme_of c.args.ranking.extreme kind) (value_in c.args.ranking.operand) (Some c.args.back) (counts_in f)) c.args.input c.args.count))
+    (delay_of_extreme (Some c.args.back)) (width_of kind) (λ sets. total_over (extreme_of c.args.ranking.extreme kind) (value_in sets c.args.ranking.operand) (Some c.args.back) (counts_in f)) c.args.input c.args.count))
     (sym c.in-None.is) c.put_slot_extreme_item.ensures

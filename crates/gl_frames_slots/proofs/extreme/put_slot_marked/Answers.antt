@@ -46,5 +46,5 @@ returns c =
           ∙ ap (λ k. join_of k (run.at (suc t) b.node) (run.at (suc t) x.node)) wide
           ∙ ap (λ n. join_of w n (run.at (suc t) x.node)) (one.value run at_one (suc t) ∙ c.small_word.ensures.bits)
           ∙ ap (join_of w 1) (value.carries run at_value (suc t))
-          ∙ packed_word w 1 (value_in c.args.operand row) (omega arith) (subst (λ n. n < 2 ^ w) (value.carries run at_value (suc t)) (fits (suc t)));
+          ∙ packed_word w 1 (value_in run.held c.args.operand row) (omega arith) (subst (λ n. n < 2 ^ w) (value.carries run at_value (suc t)) (fits (suc t)));
     }

@@ -24,6 +24,6 @@ returns c =
       bus = out.bus;
       same_width = out.same_width ∙ value.same_width;
       tells = λ run r ends told counts.
-          own_told run input.rows ends (value_in c.args.operand) (rows_in run input) (carried_by run c.in_ok-out.out)
+          own_told run input.rows ends (value_in run.held c.args.operand) (rows_in run input) (carried_by run c.in_ok-out.out)
           (λ t. out.value run r t ∙ value.carries run (out.keeps.runs run r) (suc t));
     }

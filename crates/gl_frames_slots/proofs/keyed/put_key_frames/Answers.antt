@@ -1,10 +1,14 @@
 use Rattle.std.proofs.Common.{arith, ap, ◌∙◌}
 use Rattle.gl_net.proofs.Determined.{keeps_then}
+use Rattle.gl_rows.proofs.MadeLemmas.{words_kept}
 use Rattle.gl_wire.proofs.ColumnLemmas.{bit_kept, wire_kept}
 use Rattle.gl_wire.specs.Costs.{Cost}
 use Rattle.gl_frames_slots.specs.KeyNets.{cost_of_key_items, items_delay}
 use Rattle.gl_frames_slots.proofs.KeyNet.{ends, frames_are, told}
 use Rattle.gl_frames_slots.proofs.keyed.put_key_frames.Goals as goal
+
+pub put_key_items-requires-clause-words : goal.put_key_items-requires-clause-words
+put_key_items-requires-clause-words c = words_kept c.args.net.now c.put_key_rows.new.net c.args.scope.words.now c.in_ok-late.ensures.keeps c.requires.words
 
 pub put_late_line-requires-clause-line : goal.put_late_line-requires-clause-line
 put_late_line-requires-clause-line c =
@@ -16,7 +20,7 @@ returns c =
     let late = c.in_ok-late.ensures in
     let out = c.in_ok-out.ensures in
     let line = c.in_ok-further.ensures in
-    let kinds = c.args.kinds.now in
+    let kinds = c.args.scope.kinds.now in
     let items = c.args.items.now in
     let keys = c.args.partition.keys in
     let wait = c.args.partition.wait in

@@ -6,6 +6,7 @@ use Rattle.gl_algebra.specs.Results.{row_of_frames}
 use Rattle.gl_wire.specs.Wire.{row_at}
 use Rattle.gl_wire.proofs.ColumnLemmas.{bit_kept, bus_kept, wire_kept}
 use Rattle.gl_rows.specs.Made.{IsSource}
+use Rattle.gl_rows.proofs.MadeLemmas.{words_kept}
 use Rattle.gl_rows.specs.declared.operand.Source.{Source}
 use Rattle.gl_frames_stages.specs.DelayNets.{AreLinesLate}
 use Rattle.gl_frames_stages.specs.declared.lines.Lines.{Lines}
@@ -26,19 +27,19 @@ put_late_lines-requires-clause-eos c = bit_kept c.args.net.now c.put_slot_count.
 
 pub overflow_add-cycles : goal.overflow_add-cycles
 overflow_add-cycles c =
-    let few = items_few c.args.kinds.now c.args.items.now c.requires.are_kinds c.requires.fit in
+    let few = items_few c.args.scope.kinds.now c.args.items.now c.requires.are_kinds c.requires.fit in
     let is = c.delay_of_frames.ensures in
     omega (arith, few, is, c.requires.wait)
 
 pub put_late_lines-requires-clause-most : goal.put_late_lines-requires-clause-most
 put_late_lines-requires-clause-most c =
-    let few = items_few c.args.kinds.now c.args.items.now c.requires.are_kinds c.requires.fit in
+    let few = items_few c.args.scope.kinds.now c.args.items.now c.requires.are_kinds c.requires.fit in
     let is = c.delay_of_frames.ensures in
     omega (arith, few, is, c.requires.wait)
 
 pub put_slot_items-requires-clause-most : goal.put_slot_items-requires-clause-most
 put_slot_items-requires-clause-most c =
-    let few = items_few c.args.kinds.now c.args.items.now c.requires.are_kinds c.requires.fit in
+    let few = items_few c.args.scope.kinds.now c.args.items.now c.requires.are_kinds c.requires.fit in
     let is = c.delay_of_frames.ensures in
     omega (arith, few, is, c.requires.wait)
 
@@ -51,8 +52,8 @@ put_slot_items-requires-clause-input c =
     let late = c.args.late.now in
     record {
       rows = rows_kept c.args.net.now c.put_late_lines.new.net late.rows all c.requires.rows;
-      source = subst (λ (bs : List Bus). IsSource c.put_late_lines.new.net bs c.args.kinds.now) (sym c.as_slice.ensures)
-          (record { buses = (wire_kept c.args.net.now c.put_late_lines.new.net late.wire all c.requires.wire).columns; same_widths = c.requires.kinds });
+      source = subst (λ (bs : List Bus). IsSource c.put_late_lines.new.net bs c.args.scope.kinds.now c.args.scope.words.now) (sym c.as_slice.ensures)
+          (record { buses = (wire_kept c.args.net.now c.put_late_lines.new.net late.wire all c.requires.wire).columns; same_widths = c.requires.kinds; held = words_kept c.args.net.now c.put_late_lines.new.net c.args.scope.words.now all c.requires.words });
     }
 
 pub put_slot_items-requires-clause-count : goal.put_slot_items-requires-clause-count
@@ -76,12 +77,12 @@ put_slot_items-requires-clause-address c = let w = c.in_ok-count.ensures.width i
 pub returns : goal.returns
 returns c =
     let late = c.args.late.now in
-    let kinds = c.args.kinds.now in
+    let kinds = c.args.scope.kinds.now in
     let items = c.args.items.now in
     let mid = c.put_late_lines.new.net in
     let new = c.put_slot_items.new.net in
     let lines : Lines = record { valid = late.wire.valid; eos = late.wire.eos } in
-    let source : Source = record { columns = c.as_slice.result; kinds = c.args.kinds } in
+    let source : Source = record { columns = c.as_slice.result; kinds = c.args.scope.kinds; words = c.args.scope.words } in
     let input : SlotInput = record { rows = late.rows; source = source } in
     let count = c.in_ok-count.ensures in
     let is = ap (λ n. c.args.partition.wait + n) c.delay_of_frames.ensures in
@@ -106,7 +107,7 @@ returns c =
           let m : ℕ = items_delay c.args.partition.wait kinds items in
           record {
             delayed = frames_delayed run late.wire c.in_ok-out.out c.in_ok-columns.columns m (out.behind run in_out);
-            tells = subst (λ (bs : List Bus). TellsBySlot run late.rows ends m (row_of_frames kinds items) (λ t. row_at run t bs) (λ t. row_at run t c.in_ok-columns.columns)) c.as_slice.ensures
+            tells = subst (λ (bs : List Bus). TellsBySlot run late.rows ends m (row_of_frames run.held kinds items) (λ t. row_at run t bs) (λ t. row_at run t c.in_ok-columns.columns)) c.as_slice.ensures
                 (all.row run r ends told (count.counts run in_count ends told));
           };
     }

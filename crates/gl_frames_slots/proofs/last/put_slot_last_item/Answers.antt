@@ -48,7 +48,6 @@ pub returns : goal.returns
 returns c =
     let input = c.args.input in
     let slot = input.rows.slot.width in
-    let v = value_in c.args.operand in
     let p = counts_in (Some c.args.column) in
     let x = c.in_ok-value.value in
     let passes = c.in_ok-passes.ensures in
@@ -67,6 +66,7 @@ returns c =
       bus = out.bus;
       same_width = out.same_width ∙ last.same_width ∙ value.same_width;
       tells = λ run r ends told counts.
+          let v = value_in run.held c.args.operand in
           let at_last = out.keeps.runs run r in
           let at_takes = last.keeps.runs run at_last in
           let at_value = takes.keeps.runs run at_takes in

@@ -14,4 +14,4 @@ returns-in-None c =
     let operand = c.args.operand in
     let back = c.args.back in
     subst (λ (f : Option ℕ). IfOk c.put_slot_own_last.result (IsSlotItemIn c.args.net.now c.put_slot_own_last.new.net (cost_of_slot_over c.args.input.rows.slot.width kinds (LastValue operand) f back) 1
-    (width_of (kind_of_operand kinds operand)) (λ rows. value_over kinds f back rows (LastValue operand)) c.args.input c.args.count)) (sym c.in-None.is) (c.put_slot_own_last.ensures back)
+    (width_of (kind_of_operand kinds operand)) (λ sets rows. value_over sets kinds f back rows (LastValue operand)) c.args.input c.args.count)) (sym c.in-None.is) (c.put_slot_own_last.ensures back)

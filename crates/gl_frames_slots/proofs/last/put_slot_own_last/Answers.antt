@@ -27,6 +27,6 @@ returns c = λ back.
       bus = out.bus;
       same_width = out.same_width ∙ value.same_width;
       tells = λ run r ends told counts.
-          tells_next run input.rows ends 0 (last_value_of (value_in c.args.operand) back every) (rows_in run input) (carried_by run x) (carried_by run c.in_ok-out.out) (out.value run r)
-          (own_value run input.rows ends (value_in c.args.operand) back (rows_in run input) (carried_by run x) (λ t. value.carries run (out.keeps.runs run r) (suc t)));
+          tells_next run input.rows ends 0 (last_value_of (value_in run.held c.args.operand) back every) (rows_in run input) (carried_by run x) (carried_by run c.in_ok-out.out) (out.value run r)
+          (own_value run input.rows ends (value_in run.held c.args.operand) back (rows_in run input) (carried_by run x) (λ t. value.carries run (out.keeps.runs run r) (suc t)));
     }

@@ -37,7 +37,6 @@ put_slot_recent-requires-clause-passes c =
 pub returns : goal.returns
 returns c =
     let input = c.args.input in
-    let v = value_in c.args.operand in
     let p = counts_in (Some c.args.column) in
     let passes = c.in_ok-passes.ensures in
     let value = c.in_ok-value.ensures in
@@ -53,6 +52,7 @@ returns c =
       bus = out.bus;
       same_width = out.same_width ∙ value.same_width;
       tells = λ run r ends told counts.
+          let v = value_in run.held c.args.operand in
           let at_value = out.keeps.runs run r in
           let at_passes = value.keeps.runs run at_value in
           out.tells run r ends told p v (rows_in run input)

@@ -35,7 +35,6 @@ pub returns : goal.returns
 returns c =
     let input = c.args.input in
     let slot = input.rows.slot.width in
-    let v = value_in c.args.operand in
     let p = counts_in c.args.filter in
     let m = c.in_ok-masked.masked in
     let value = c.in_ok-value.ensures in
@@ -59,6 +58,7 @@ returns c =
       bus = sum.bus;
       same_width = sum.same_width ∙ wide;
       tells = λ run r ends told counts.
+          let v = value_in run.held c.args.operand in
           let at_masks = sum.keeps.runs run r in
           let at_value = masks.keeps.runs run at_masks in
           tells_as run input.rows ends 3 (λ rows. sum_total m.width (last_ones c.new.result.back (map (masked v p) rows))) (total_over (sum_total w) v (Some c.args.back) p) (rows_in run input)

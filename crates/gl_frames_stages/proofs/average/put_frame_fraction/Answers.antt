@@ -71,7 +71,6 @@ pub returns : goal.returns
 returns c =
     let input = c.args.input in
     let back = c.args.back in
-    let v = value_in c.args.operand in
     let p = counts_in c.args.filter in
     let kind = kind_of_operand input.source.kinds.now c.args.operand in
     let w : ℕ = width_of kind in
@@ -110,12 +109,13 @@ returns c =
           let fits : (u : ℕ) → run.at u x.node < 2 ^ w = subst (λ n. (u : ℕ) → run.at u x.node < 2 ^ n) value.same_width (bus_fits c.put_operand.new.net x run value.bus at_value) in
           mod-eq_of_lt (subst (λ n. n < 2 ^ w) (value.carries run at_value (suc t)) (fits (suc t)));
       sums = λ run r.
+          let v = value_in run.held c.args.operand in
           let at_top = rest.runs run r in
           let at_masks = top.keeps.runs run at_top in
           let at_value = masks.keeps.runs run at_masks in
           let width : ℕ = x.width + c.digits_of_rows-bits.result in
           tells_as run input.lines 3 (λ rows. sum_total width (map (widened k width) (last_ones c.new.result.back (map (masked v p) rows))))
-          (λ rows. word_of (w + digits (back + 1)) (sum_of_numbers kind (framed_values c.args.operand c.args.filter back rows))) (rows_by run input) (carried_by run t')
+          (λ rows. word_of (w + digits (back + 1)) (sum_of_numbers kind (framed_values run.held c.args.operand c.args.filter back rows))) (rows_by run input) (carried_by run t')
           (λ rows.
           ap (λ n. sum_total width (map (widened k width) (last_ones n (map (masked v p) rows)))) next
           ∙ ap (λ (o : Kind). sum_total width (map (widened o width) (last_ones (suc back) (map (masked v p) rows)))) is
@@ -125,6 +125,7 @@ returns c =
           (λ t. masks.masks run at_masks t ∙ ap (λ n. if p (rows_by run input (suc t)) then n else 0) (value.carries run at_value (suc t)))
           (top.tells run at_top));
       numbers = λ run r d u.
+          let v = value_in run.held c.args.operand in
           let covered = exponent_covers (back + 1 + 1) 0 (back + 1 + 1) (omega arith) in
           let fits : suc back < 2 ^ digits (back + 1) = omega (arith, covered) in
           cut.carries run r (suc d + 3)

@@ -23,12 +23,12 @@ returns-in-Some c =
     let p = counts_in (Some c.in-Some.column) in
     let old = c.args.net.now in
     let new = c.put_passing_count.new.net in
-    subst (λ (f : Option ℕ). IfOk c.put_passing_count.result (IsItemIn old new (cost_of_frame_number back) 3 32 (λ rows. count_of (frame_of (Some back) (counts_in f) rows)) c.args.input))
+    subst (λ (f : Option ℕ). IfOk c.put_passing_count.result (IsItemIn old new (cost_of_frame_number back) 3 32 (λ sets rows. count_of (frame_of (Some back) (counts_in f) rows)) c.args.input))
     (sym c.in-Some.is)
-    (IfOk-weaker c.put_passing_count.result (IsItemIn old new (cost_of_passing_count back) 3 32 (λ rows. count_of (frame_of (Some back) p rows)) c.args.input)
-    (IsItemIn old new (cost_of_frame_number back) 3 32 (λ rows. count_of (frame_of (Some back) p rows)) c.args.input)
-    (λ out. item_as old new (cost_of_passing_count back) (cost_of_frame_number back) 3 3 32 32 (λ rows. count_of (frame_of (Some back) p rows)) (λ rows. count_of (frame_of (Some back) p rows)) c.args.input out
-    (omega arith) (omega arith) (omega arith) refl refl (λ rows. refl)) c.put_passing_count.ensures)
+    (IfOk-weaker c.put_passing_count.result (IsItemIn old new (cost_of_passing_count back) 3 32 (λ sets rows. count_of (frame_of (Some back) p rows)) c.args.input)
+    (IsItemIn old new (cost_of_frame_number back) 3 32 (λ sets rows. count_of (frame_of (Some back) p rows)) c.args.input)
+    (λ out. item_as old new (cost_of_passing_count back) (cost_of_frame_number back) 3 3 32 32 (λ sets rows. count_of (frame_of (Some back) p rows)) (λ sets rows. count_of (frame_of (Some back) p rows)) c.args.input out
+    (omega arith) (omega arith) (omega arith) refl refl (λ sets rows. refl)) c.put_passing_count.ensures)
 
 pub returns-in_ok-out-in-None : goal.returns-in_ok-out-in-None
 returns-in_ok-out-in-None c =
@@ -39,7 +39,7 @@ returns-in_ok-out-in-None c =
     let n = c.in_ok-number-in-None.number in
     let o = c.in_ok-out-in-None.out in
     let new = c.delay_bus.new.net in
-    subst (λ (f : Option ℕ). IsItemIn c.args.net.now new (cost_of_frame_number back) 3 32 (λ rows. count_of (frame_of (Some back) (counts_in f) rows)) input o)
+    subst (λ (f : Option ℕ). IsItemIn c.args.net.now new (cost_of_frame_number back) 3 32 (λ sets rows. count_of (frame_of (Some back) (counts_in f) rows)) input o)
     (sym c.in-None.is)
     (record {
       keeps = keeps_then _ c.put_number_item.new.net _ number.keeps out.keeps;

@@ -78,6 +78,6 @@ returns c =
           ∙ ap (λ k. join_of k (run.at (suc t) b.node) (run.at (suc t) m.node)) wide
           ∙ ap (λ n. join_of w n (run.at (suc t) m.node)) (passes.carries run at_passes (suc t))
           ∙ ap (join_of w (slice_index row column)) (masked.masks run at_masked t ∙ ap (λ n. if counts_in (Some column) row then n else 0) (value.carries run at_value (suc t)))
-          ∙ packed_word w (slice_index row column) (value_in c.args.operand row) (subst (λ n. n < 2) (passes.carries run at_passes (suc t)) (small (suc t)))
+          ∙ packed_word w (slice_index row column) (value_in run.held c.args.operand row) (subst (λ n. n < 2) (passes.carries run at_passes (suc t)) (small (suc t)))
           (subst (λ n. n < 2 ^ w) (value.carries run at_value (suc t)) (fits (suc t)));
     }

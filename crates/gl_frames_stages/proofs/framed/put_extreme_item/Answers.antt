@@ -37,7 +37,6 @@ put_frame_best-requires-clause-some c =
 pub returns : goal.returns
 returns c =
     let input = c.args.input in
-    let v = value_in c.args.operand in
     let x = c.in_ok-value.value in
     let value = c.in_ok-value.ensures in
     let best = c.in_ok-best.ensures in
@@ -58,6 +57,7 @@ returns c =
       bus = best.bus;
       same_width = best.same_width ∙ wide;
       tells = λ run r.
+          let v = value_in run.held c.args.operand in
           let at_value = best.keeps.runs run r in
           tells_as run input.lines (delay_of_extreme (Some back)) (λ rows. extreme_of extreme k (last_ones (suc back) (map v rows))) (total_over (extreme_of extreme kind) v (Some back) every) (rows_by run input)
           (carried_by run c.in_ok-best.best)

@@ -44,9 +44,9 @@ returns c =
       tells = λ run r.
           let at_found = out.keeps.runs run r in
           let at_value = found.keeps.runs run at_found in
-          tells_as run input.lines 1 (λ rows. lag_of itself c.new.result.back (map (value_in c.args.operand) rows)) (lag_of (value_in c.args.operand) c.args.back) (rows_by run input) (carried_by run c.in_ok-out.out)
-          (λ rows. lag_through (value_in c.args.operand) c.new.result.back rows ∙ ap (λ n. lag_of (value_in c.args.operand) n rows) back)
-          (tells_made run input.lines 1 (value_in c.args.operand) (lag_of itself c.new.result.back) (rows_by run input) (carried_by run x) (carried_by run c.in_ok-out.out)
+          tells_as run input.lines 1 (λ rows. lag_of itself c.new.result.back (map (value_in run.held c.args.operand) rows)) (lag_of (value_in run.held c.args.operand) c.args.back) (rows_by run input) (carried_by run c.in_ok-out.out)
+          (λ rows. lag_through (value_in run.held c.args.operand) c.new.result.back rows ∙ ap (λ n. lag_of (value_in run.held c.args.operand) n rows) back)
+          (tells_made run input.lines 1 (value_in run.held c.args.operand) (lag_of itself c.new.result.back) (rows_by run input) (carried_by run x) (carried_by run c.in_ok-out.out)
           (λ t. value.carries run at_value (suc t))
           (told_or_none run input.lines (row_before c.new.result.back) (carried_by run x) c.in_ok-found.found c.in_ok-out.out (found.tells run at_found) (out.chosen run r)));
     }

@@ -32,7 +32,6 @@ put_slide_sum-requires-clause-eos c =
 pub returns : goal.returns
 returns c =
     let input = c.args.input in
-    let v = value_in c.args.operand in
     let p = counts_in c.args.filter in
     let x = c.in_ok-value.value in
     let m = c.in_ok-masked.masked in
@@ -56,6 +55,7 @@ returns c =
       bus = sum.bus;
       same_width = sum.same_width ∙ wide;
       tells = λ run r.
+          let v = value_in run.held c.args.operand in
           let at_masks = sum.keeps.runs run r in
           let at_value = masks.keeps.runs run at_masks in
           tells_as run input.lines 3 (λ rows. sum_total m.width (last_ones c.new.result.back (map (masked v p) rows))) (total_over (sum_total w) v (Some c.args.back) p) (rows_by run input)

@@ -14,7 +14,7 @@ pub put_items-requires-clause-input : goal.put_items-requires-clause-input
 put_items-requires-clause-input c = record {
   valid = c.requires.wire.valid;
   eos = c.requires.wire.eos;
-  source = subst (λ (bs : List Bus). IsSource c.args.net.now bs c.args.kinds.now) (sym c.as_slice.ensures) (record { buses = c.requires.wire.columns; same_widths = c.requires.kinds });
+  source = subst (λ (bs : List Bus). IsSource c.args.net.now bs c.args.kinds.now c.args.words.now) (sym c.as_slice.ensures) (record { buses = c.requires.wire.columns; same_widths = c.requires.kinds; held = c.requires.words });
 }
 
 pub put_items-requires-clause-most : goal.put_items-requires-clause-most
@@ -38,7 +38,7 @@ returns c =
     let new = c.put_late_lines.new.net in
     let wire = c.args.below.wire in
     let lines : Lines = record { valid = wire.valid; eos = wire.eos } in
-    let source : Source = record { columns = c.as_slice.result; kinds = c.args.kinds } in
+    let source : Source = record { columns = c.as_slice.result; kinds = c.args.kinds; words = c.args.words } in
     let input : Input = record { lines = lines; source = source } in
     frames_behind c.running_serves.ensures.streams c.args.net.now mid new c.args.below c.args.items.now source c.in_ok-columns.columns c.in_ok-late.late c.as_slice.ensures
     (subst (λ (m : ℕ). AreItemsIn c.args.net.now mid m input c.args.items.now c.in_ok-columns.columns) c.delay_of_frames-cycles.ensures c.in_ok-columns.ensures)

@@ -47,7 +47,6 @@ put_last-requires-clause-value c = bus_kept _ _ c.in_ok-value.value c.in_ok-take
 pub returns : goal.returns
 returns c =
     let input = c.args.input in
-    let v = value_in c.args.operand in
     let p = counts_in (Some c.args.column) in
     let x = c.in_ok-value.value in
     let passes = c.in_ok-passes.ensures in
@@ -66,6 +65,7 @@ returns c =
       bus = out.bus;
       same_width = out.same_width ∙ last.now_width ∙ value.same_width;
       tells = λ run r.
+          let v = value_in run.held c.args.operand in
           let at_last = out.keeps.runs run r in
           let at_takes = last.keeps.runs run at_last in
           let at_value = takes.keeps.runs run at_takes in

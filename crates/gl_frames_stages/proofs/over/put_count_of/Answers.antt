@@ -16,10 +16,10 @@ pub returns-in-Some : goal.returns-in-Some
 returns-in-Some c =
     let back = c.args.back in
     subst (λ (f : Option ℕ). IfOk c.put_passing_count.result (IsItemIn c.args.net.now c.put_passing_count.new.net (cost_of_count_by f back) (delay_of_count f (Some back)) 32
-    (λ rows. count_of (frame_of (Some back) (counts_in f) rows)) c.args.input)) (sym c.in-Some.is) c.put_passing_count.ensures
+    (λ sets rows. count_of (frame_of (Some back) (counts_in f) rows)) c.args.input)) (sym c.in-Some.is) c.put_passing_count.ensures
 
 pub returns-in-None : goal.returns-in-None
 returns-in-None c =
     let back = c.args.back in
     subst (λ (f : Option ℕ). IfOk c.put_number_item.result (IsItemIn c.args.net.now c.put_number_item.new.net (cost_of_count_by f back) (delay_of_count f (Some back)) 32
-    (λ rows. count_of (frame_of (Some back) (counts_in f) rows)) c.args.input)) (sym c.in-None.is) c.put_number_item.ensures
+    (λ sets rows. count_of (frame_of (Some back) (counts_in f) rows)) c.args.input)) (sym c.in-None.is) c.put_number_item.ensures

@@ -18,10 +18,10 @@ pub returns-in-Some : goal.returns-in-Some
 returns-in-Some c =
     let kind = kind_of_operand c.args.input.source.kinds.now c.args.operand in
     subst (λ (f : Option ℕ). IfOk c.put_filtered_item.result (IsItemIn c.args.net.now c.put_filtered_item.new.net (cost_of_extreme_by f (width_of kind) c.args.back) (delay_of_extreme (Some c.args.back)) (width_of kind)
-    (total_over (extreme_of c.args.extreme kind) (value_in c.args.operand) (Some c.args.back) (counts_in f)) c.args.input)) (sym c.in-Some.is) c.put_filtered_item.ensures
+    (λ sets. total_over (extreme_of c.args.extreme kind) (value_in sets c.args.operand) (Some c.args.back) (counts_in f)) c.args.input)) (sym c.in-Some.is) c.put_filtered_item.ensures
 
 pub returns-in-None : goal.returns-in-None
 returns-in-None c =
     let kind = kind_of_operand c.args.input.source.kinds.now c.args.operand in
     subst (λ (f : Option ℕ). IfOk c.put_extreme_item.result (IsItemIn c.args.net.now c.put_extreme_item.new.net (cost_of_extreme_by f (width_of kind) c.args.back) (delay_of_extreme (Some c.args.back)) (width_of kind)
-    (total_over (extreme_of c.args.extreme kind) (value_in c.args.operand) (Some c.args.back) (counts_in f)) c.args.input)) (sym c.in-None.is) c.put_extreme_item.ensures
+    (λ sets. total_over (extreme_of c.args.extreme kind) (value_in sets c.args.operand) (Some c.args.back) (counts_in f)) c.args.input)) (sym c.in-None.is) c.put_extreme_item.ensures

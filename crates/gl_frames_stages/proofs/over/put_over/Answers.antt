@@ -17,7 +17,7 @@ returns-in-Some c =
     let agg = c.args.agg in
     let by = c.args.filter in
     subst (λ (b : Option ℕ). IfOk c.put_over_last.result (IsItemIn c.args.net.now c.put_over_last.new.net (cost_of_frame kinds agg by b) (delay_over kinds agg by b)
-    (width_of (kind_of_frame_agg kinds agg)) (λ rows. value_over kinds by b rows agg) c.args.input)) (sym c.in-Some.is) c.put_over_last.ensures
+    (width_of (kind_of_frame_agg kinds agg)) (λ sets rows. value_over sets kinds by b rows agg) c.args.input)) (sym c.in-Some.is) c.put_over_last.ensures
 
 pub returns-in-None : goal.returns-in-None
 returns-in-None c =
@@ -25,4 +25,4 @@ returns-in-None c =
     let agg = c.args.agg in
     let by = c.args.filter in
     subst (λ (b : Option ℕ). IfOk c.put_over_all.result (IsItemIn c.args.net.now c.put_over_all.new.net (cost_of_frame kinds agg by b) (delay_over kinds agg by b)
-    (width_of (kind_of_frame_agg kinds agg)) (λ rows. value_over kinds by b rows agg) c.args.input)) (sym c.in-None.is) c.put_over_all.ensures
+    (width_of (kind_of_frame_agg kinds agg)) (λ sets rows. value_over sets kinds by b rows agg) c.args.input)) (sym c.in-None.is) c.put_over_all.ensures

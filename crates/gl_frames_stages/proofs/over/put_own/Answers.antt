@@ -14,7 +14,6 @@ put_operand-requires-clause-source c = c.requires.input.source
 pub returns : goal.returns
 returns c =
     let input = c.args.input in
-    let v = value_in c.args.operand in
     let value = c.in_ok-value.ensures in
     let out = c.in_ok-out.ensures in
     record {
@@ -27,6 +26,7 @@ returns c =
       bus = out.bus;
       same_width = out.same_width ∙ value.same_width;
       tells = λ run r.
+          let v = value_in run.held c.args.operand in
           tells_next run input.lines 0 (own_of v) (rows_by run input) (carried_by run c.in_ok-value.value) (carried_by run c.in_ok-out.out) (out.value run r)
           (λ d u.
           let e : suc d + 0 ≡ suc d = omega arith in

@@ -34,8 +34,8 @@ returns c =
     let late : x.width + 33 + 1 ≡ w + 34 = omega (arith, wide) in
     let cost : with_register (cost_of_average Register x.width) x.width ≡ cost_of_all_average w = ap cost_of_all_average wide in
     item_as c.args.net.now c.later.new.net (with_register (cost_of_average Register x.width) x.width) (cost_of_all_average w) (x.width + 33 + 1) (w + 34) x.width w
-    (λ rows. average_of k (passed c.args.filter c.args.operand rows)) (λ rows. average_of kind (passed c.args.filter c.args.operand rows)) input c.in_ok-out.out
+    (λ sets rows. average_of k (passed sets c.args.filter c.args.operand rows)) (λ sets rows. average_of kind (passed sets c.args.filter c.args.operand rows)) input c.in_ok-out.out
     (omega (arith, ap (λ (e : Cost). e.nodes) cost)) (omega (arith, ap (λ (e : Cost). e.registers) cost)) (omega (arith, ap (λ (e : Cost). e.memories) cost)) late wide
-    (λ rows. ap (λ (n : Kind). average_of n (passed c.args.filter c.args.operand rows)) is)
+    (λ sets rows. ap (λ (n : Kind). average_of n (passed sets c.args.filter c.args.operand rows)) is)
     (whole_item c.args.net.now c.put_passing.new.net c.put_operand.new.net c.put_average.new.net c.later.new.net input c.args.filter c.args.operand c.in_ok-lines.lines x c.in_ok-average.average c.in_ok-out.out
     (cost_of_average Register x.width) x.width (x.width + 33) (average_of k) c.in_ok-lines.ensures c.in_ok-value.ensures c.in_ok-average.ensures c.in_ok-out.ensures)

@@ -26,7 +26,7 @@ returns c =
     let k = c.kind_of_operand-kind.result in
     let is = c.kind_of_operand-kind.ensures in
     item_as c.args.net.now c.later.new.net (with_register (cost_of_extreme Register x.width) x.width) (cost_of_all_extreme w) 1 1 x.width w
-    (λ rows. extreme_of c.args.extreme k (passed c.args.filter c.args.operand rows)) (λ rows. extreme_of c.args.extreme kind (passed c.args.filter c.args.operand rows)) input c.in_ok-out.out
-    (omega arith) (omega (arith, wide)) (omega arith) refl wide (λ rows. ap (λ (n : Kind). extreme_of c.args.extreme n (passed c.args.filter c.args.operand rows)) is)
+    (λ sets rows. extreme_of c.args.extreme k (passed sets c.args.filter c.args.operand rows)) (λ sets rows. extreme_of c.args.extreme kind (passed sets c.args.filter c.args.operand rows)) input c.in_ok-out.out
+    (omega arith) (omega (arith, wide)) (omega arith) refl wide (λ sets rows. ap (λ (n : Kind). extreme_of c.args.extreme n (passed sets c.args.filter c.args.operand rows)) is)
     (whole_item c.args.net.now c.put_passing.new.net c.put_operand.new.net c.put_extreme.new.net c.later.new.net input c.args.filter c.args.operand c.in_ok-lines.lines x c.in_ok-best.best c.in_ok-out.out
     (cost_of_extreme Register x.width) x.width 0 (extreme_of c.args.extreme k) c.in_ok-lines.ensures c.in_ok-value.ensures c.in_ok-best.ensures c.in_ok-out.ensures)

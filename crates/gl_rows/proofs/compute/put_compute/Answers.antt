@@ -9,8 +9,8 @@ use Rattle.gl_rows.proofs.compute.put_compute.Goals as goal
 
 pub put_operations-requires-clause-source : goal.put_operations-requires-clause-source
 put_operations-requires-clause-source c =
-    subst (λ (bs : List Bus). IsSource c.args.net.now bs c.args.kinds.now) (sym c.as_slice.ensures)
-    (record { buses = c.requires.wire.columns; same_widths = c.requires.kinds })
+    subst (λ (bs : List Bus). IsSource c.args.net.now bs c.args.kinds.now c.args.words.now) (sym c.as_slice.ensures)
+    (record { buses = c.requires.wire.columns; same_widths = c.requires.kinds; held = c.requires.words })
 
 pub stage-requires-clause-columns : goal.stage-requires-clause-columns
 stage-requires-clause-columns c =

@@ -15,7 +15,7 @@ loop-operand-init c =
 
 pub put_operand-requires-clause-source : goal.put_operand-requires-clause-source
 put_operand-requires-clause-source c =
-    source_kept c.args.net.now c.loop-operand.net c.args.source.columns.now c.args.source.kinds.now c.loop-operand.invariant.keeps c.requires.source
+    source_kept c.args.net.now c.loop-operand.net c.args.source.columns.now c.args.source.kinds.now c.args.source.words.now c.loop-operand.invariant.keeps c.requires.source
 
 pub loop-operand-preserved : goal.loop-operand-preserved
 loop-operand-preserved c =

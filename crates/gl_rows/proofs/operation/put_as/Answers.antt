@@ -23,5 +23,5 @@ returns c =
     let from = kind_of_operand c.args.source.kinds.now c.args.operand in
     let arg = c.in_ok-arg.ensures in
     carries_then c.args.net.now c.put_operand.new.net c.put_cast.new.net 1 5 (width_of from) (width_of c.args.kind)
-    (λ run t. value_of_operand (row_at run t columns) c.args.operand) (cast_of from c.args.kind) c.in_ok-arg.arg c.in_ok-bus.bus arg
+    (λ run t. value_of_operand run.held (row_at run t columns) c.args.operand) (cast_of from c.args.kind) c.in_ok-arg.arg c.in_ok-bus.bus arg
     (subst (λ (k : Kind). IsCast c.put_operand.new.net c.put_cast.new.net k c.args.kind c.in_ok-arg.arg c.in_ok-bus.bus) c.kind_of_operand-from.ensures c.in_ok-bus.ensures)

@@ -12,8 +12,9 @@ use Rattle.gl_rows.proofs.operation.put_binary.Goals as goal
 
 pub put_operand-requires-2 : goal.put_operand-requires-2
 put_operand-requires-2 c = record {
-  source = source_kept c.args.net.now c.put_operand.new.net c.args.source.columns.now c.args.source.kinds.now c.in_ok-first.ensures.keeps c.requires.source;
+  source = source_kept c.args.net.now c.put_operand.new.net c.args.source.columns.now c.args.source.kinds.now c.args.source.words.now c.in_ok-first.ensures.keeps c.requires.source;
   fits = c.requires.fits.1;
+  known = c.requires.known.1;
 }
 
 pub put_operator-requires : goal.put_operator-requires
@@ -32,7 +33,7 @@ returns c =
     let kind = kind_of_operand kinds c.args.left in
     carries_then2 c.args.net.now c.put_operand.new.net c.put_operand-2.new.net c.put_operator.new.net 1 1 4 (width_of kind)
     (width_of (kind_of_operand kinds c.args.right)) (width_of (result_kind (sort_of c.args.op) kind))
-    (λ run t. value_of_operand (row_at run t columns) c.args.left) (λ run t. value_of_operand (row_at run t columns) c.args.right) (operate c.args.op kind)
+    (λ run t. value_of_operand run.held (row_at run t columns) c.args.left) (λ run t. value_of_operand run.held (row_at run t columns) c.args.right) (operate c.args.op kind)
     c.in_ok-first.first c.in_ok-second.second c.in_ok-bus.bus c.in_ok-first.ensures c.in_ok-second.ensures
     (subst (λ (k : Kind). IsOperated c.put_operand-2.new.net c.put_operator.new.net c.args.op k c.in_ok-first.first c.in_ok-second.second c.in_ok-bus.bus)
     c.kind_of_operand-kind.ensures c.in_ok-bus.ensures)

@@ -31,8 +31,8 @@ returns-in-Literal-left c =
       same_width = one.same_width ∙ wide;
       carries = λ run r t.
           let row = row_at run t columns in
-          one.carries run r t ∙ product_turned (width_of (kind_of_operand kinds right)) (value_of_operand row right) factor
-          ∙ ap (λ (w : ℕ). product_of w factor (value_of_operand row right)) wide
-          ∙ ap (λ (o : Operand). product_of (width_of (kind_of_operand kinds left)) (value_of_operand row o) (value_of_operand row right)) (sym c.in-Literal-left.is);
+          one.carries run r t ∙ product_turned (width_of (kind_of_operand kinds right)) (value_of_operand run.held row right) factor
+          ∙ ap (λ (w : ℕ). product_of w factor (value_of_operand run.held row right)) wide
+          ∙ ap (λ (o : Operand). product_of (width_of (kind_of_operand kinds left)) (value_of_operand run.held row o) (value_of_operand run.held row right)) (sym c.in-Literal-left.is);
     })
     c.put_scaled-in-Literal-left.ensures

@@ -6,8 +6,8 @@ use Rattle.gl_rows.proofs.project.put_project.Goals as goal
 
 pub put_operands-requires-clause-source : goal.put_operands-requires-clause-source
 put_operands-requires-clause-source c =
-    subst (λ (bs : List Bus). IsSource c.args.net.now bs c.args.kinds.now) (sym c.as_slice.ensures)
-    (record { buses = c.requires.wire.columns; same_widths = c.requires.kinds })
+    subst (λ (bs : List Bus). IsSource c.args.net.now bs c.args.kinds.now c.args.words.now) (sym c.as_slice.ensures)
+    (record { buses = c.requires.wire.columns; same_widths = c.requires.kinds; held = c.requires.words })
 
 pub returns : goal.returns
 returns c =

@@ -43,4 +43,4 @@ returns c =
     let signs : 1 * (width_of kind + 33) ≤ width_of kind * (width_of kind + 33) = mul-le-mul_right (width_of kind + 33) (kind_some kind some) in
     let gone_stages : width_of kind * (width_of kind + 34 - 1) ≡ width_of kind * (width_of kind + 33) = ap (λ (n : ℕ). width_of kind * n) (omega arith) in
     agg_is c.args.net.now mid new s c.args.operand (Avg c.args.operand) x out (cost_of_average keep (width_of kind)) x.width (width_of kind + 34 - 1)
-    (width_of kind + 34 - 1) (average_of kind) value total (omega (arith, lag_small keep)) (omega (arith, signs, gone_stages)) (omega arith) refl value.same_width (λ rows. refl)
+    (width_of kind + 34 - 1) (average_of kind) value total (omega (arith, lag_small keep)) (omega (arith, signs, gone_stages)) (omega arith) refl value.same_width (λ sets rows. refl)

@@ -18,4 +18,4 @@ returns c =
     let bits = ap (λ (w : ℕ). slot_words keep * w) value.same_width in
     agg_is c.args.net.now c.put_value.new.net c.put_sum.new.net c.args.stream c.args.operand (Sum c.args.operand) x c.in_ok-sum.sum (cost_of_fold keep 1 x.width) x.width 0 0
     (sum_total x.width) value c.in_ok-sum.ensures (omega (arith, lag_small keep)) (omega (arith, value.same_width)) (omega (arith, bits)) refl value.same_width
-    (λ rows. ap (λ (w : ℕ). sum_total w (map (λ row. value_of_operand row c.args.operand) rows)) value.same_width)
+    (λ sets rows. ap (λ (w : ℕ). sum_total w (map (λ row. value_of_operand sets row c.args.operand) rows)) value.same_width)

@@ -27,4 +27,4 @@ returns c =
     let bits = ap (λ (w : ℕ). slot_words keep * (w + length ws)) value.same_width in
     agg_is c.args.net.now mid new s c.args.operand (Wsum c.args.operand ws) x c.in_ok-sum.sum (cost_of_weighted keep x.width (length ws)) x.width 0 0
     (weighted_sum x.width (bits_of ws)) value total (omega (arith, lag_small keep)) (omega (arith, value.same_width)) (omega (arith, bits)) refl value.same_width
-    (λ rows. ap (λ (w : ℕ). weighted_sum w (bits_of ws) (map (λ row. value_of_operand row c.args.operand) rows)) value.same_width)
+    (λ sets rows. ap (λ (w : ℕ). weighted_sum w (bits_of ws) (map (λ row. value_of_operand sets row c.args.operand) rows)) value.same_width)

@@ -26,6 +26,12 @@ put_totals-requires-clause-are_kinds c =
 pub put_totals-requires-clause-aggs : goal.put_totals-requires-clause-aggs
 put_totals-requires-clause-aggs c = rw (c.kinds.ensures.kinds, c.as_slice.ensures) ((c.args.site.planned.fits c.args.id _ c.requires.node).suits)
 
+pub put_totals-requires-clause-words : goal.put_totals-requires-clause-words
+put_totals-requires-clause-words c = c.requires.words.held
+
+pub put_totals-requires-clause-known : goal.put_totals-requires-clause-known
+put_totals-requires-clause-known c = rw c.as_slice.ensures (c.requires.words.known.each c.args.id _ c.requires.node)
+
 pub returns : goal.returns
 returns c =
     aggregate_put c.laws_below.ensures c.args.site.plan.now c.args.id c.args.net.now c.put_totals.new.net c.args.site.tick c.args.site.leaves.now c.in_ok-below.below c.in_ok-e.e c.args.site.planned

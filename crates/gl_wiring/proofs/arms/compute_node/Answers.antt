@@ -20,6 +20,12 @@ kinds-requires c = first_within c.args.site.plan.now c.args.id (Compute c.args.c
 pub put_compute-requires-clause-ops : goal.put_compute-requires-clause-ops
 put_compute-requires-clause-ops c = rw (c.kinds.ensures.kinds, c.as_slice.ensures) ((c.args.site.planned.fits c.args.id _ c.requires.node).suits)
 
+pub put_compute-requires-clause-words : goal.put_compute-requires-clause-words
+put_compute-requires-clause-words c = c.requires.words.held
+
+pub put_compute-requires-clause-known : goal.put_compute-requires-clause-known
+put_compute-requires-clause-known c = rw c.as_slice.ensures (c.requires.words.known.each c.args.id _ c.requires.node)
+
 pub returns : goal.returns
 returns c =
     compute_put c.laws_below.ensures c.args.site.plan.now c.args.id c.args.net.now c.put_compute.new.net c.args.site.tick c.args.site.leaves.now c.in_ok-below.below c.in_ok-e.e c.args.site.planned

@@ -25,6 +25,12 @@ put_frames-requires-clause-are_kinds c =
 pub put_frames-requires-clause-items : goal.put_frames-requires-clause-items
 put_frames-requires-clause-items c = rw (c.kinds.ensures.kinds, c.as_slice.ensures) (c.args.site.planned.fits c.args.id (Frames c.args.child None c.args.items.now) c.requires.node).suits.0
 
+pub put_frames-requires-clause-words : goal.put_frames-requires-clause-words
+put_frames-requires-clause-words c = c.requires.words.held
+
+pub put_frames-requires-clause-known : goal.put_frames-requires-clause-known
+put_frames-requires-clause-known c = rw c.as_slice.ensures (c.requires.words.known.each c.args.id _ c.requires.node)
+
 pub returns : goal.returns
 returns c =
     frames_put c.laws_below.ensures c.args.site.plan.now c.args.id c.args.net.now c.put_frames.new.net c.args.site.tick c.args.site.leaves.now c.in_ok-below.below c.in_ok-e.e c.args.site.planned

@@ -20,6 +20,12 @@ kinds-requires c = first_within c.args.site.plan.now c.args.id (Project c.args.c
 pub put_project-requires-clause-items : goal.put_project-requires-clause-items
 put_project-requires-clause-items c = rw (c.kinds.ensures.kinds, c.as_slice.ensures) ((c.args.site.planned.fits c.args.id _ c.requires.node).suits)
 
+pub put_project-requires-clause-words : goal.put_project-requires-clause-words
+put_project-requires-clause-words c = c.requires.words.held
+
+pub put_project-requires-clause-known : goal.put_project-requires-clause-known
+put_project-requires-clause-known c = rw c.as_slice.ensures (c.requires.words.known.each c.args.id _ c.requires.node)
+
 pub returns : goal.returns
 returns c =
     project_put c.laws_below.ensures c.args.site.plan.now c.args.id c.args.net.now c.put_project.new.net c.args.site.tick c.args.site.leaves.now c.in_ok-below.below c.in_ok-e.e c.args.site.planned

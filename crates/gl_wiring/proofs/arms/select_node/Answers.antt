@@ -23,5 +23,5 @@ pub returns : goal.returns
 returns c =
     select_put c.laws_below.ensures c.args.site.plan.now c.args.id c.args.net.now c.put_select.new.net c.args.site.tick c.args.site.leaves.now c.in_ok-below.below c.in_ok-e.e c.args.site.planned
     c.args.child c.args.column c.requires.node (taken_gives c.requires.there c.in_ok-below.ensures)
-    (subst (λ (columns : List ℕ). IsBehind c.args.net.now c.put_select.new.net (Steady 1 (keep_where c.args.column)) columns (cost_of_rows columns 0)
+    (subst (λ (columns : List ℕ). IsBehind c.args.net.now c.put_select.new.net (λ sets. Steady 1 (keep_where c.args.column)) columns (cost_of_rows columns 0)
     c.in_ok-below.below c.in_ok-e.e) (taken_gives c.requires.there c.in_ok-below.ensures).same_widths (rw c.from.ensures at c.in_ok-e.ensures))

@@ -2,6 +2,7 @@ use Rattle.std.proofs.Common.{◌∙◌, ap, refl}
 use Rattle.gl_algebra.specs.declared.node.PlanNode.TheVariants.{Group}
 use Rattle.gl_wiring.proofs.CanLemmas.{second_within}
 use Rattle.gl_wiring.proofs.LaneLemmas.{few_slots, lane_leaves, lane_there, some_slots}
+use Rattle.gl_wiring.proofs.WordLemmas.{have_words}
 use Rattle.gl_wiring.proofs.lanes.put_on_lane.Goals as goal
 
 pub lane-requires-clause-there : goal.lane-requires-clause-there
@@ -44,6 +45,9 @@ pub gather-requires-clause-slot_width : goal.gather-requires-clause-slot_width
 gather-requires-clause-slot_width c =
     c.in_ok-out.ensures.slot_width ∙ ap (λ p. p.slot.width) c.place-place.ensures
     ∙ c.in_ok-laned.ensures.lane.slot_width
+
+pub put_table-requires-clause-words : goal.put_table-requires-clause-words
+put_table-requires-clause-words c = have_words c.args.site.plan.now c.args.net.now c.lane.new.net c.args.site.words.now c.in_ok-laned.ensures.keeps c.requires.words
 
 pub returns : goal.returns
 returns c =

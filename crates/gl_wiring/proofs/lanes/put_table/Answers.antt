@@ -5,6 +5,7 @@ use Rattle.gl_wiring.specs.Leaves.{HaveLeaves}
 use Rattle.gl_wiring.proofs.BodyTables.{table_put}
 use Rattle.gl_wiring.proofs.CanLemmas.{first_within}
 use Rattle.gl_wiring.proofs.FormLemmas.{direct_is, never, others_not_direct}
+use Rattle.gl_rows.proofs.MadeLemmas.{words_kept}
 use Rattle.gl_wiring.proofs.lanes.put_table.Goals as goal
 
 pub put_rows-requires-clause-within : goal.put_rows-requires-clause-within
@@ -47,9 +48,15 @@ unreachable-requires c =
     never (others_not_direct (shape_of c.args.site.plan.now) (form_of c.args.site.plan.now) c.node.result.now c.in_default.not-Aggregate
     ∙ sym (ap is_direct follows.form) ∙ c.requires.direct)
 
+pub put_states-requires-clause-words : goal.put_states-requires-clause-words
+put_states-requires-clause-words c = words_kept c.args.net.now c.put_rows.new.net c.args.site.words.now c.in_ok-below-in-Aggregate.ensures.keeps c.requires.words.held
+
+pub put_states-requires-clause-known : goal.put_states-requires-clause-known
+put_states-requires-clause-known c = rw c.as_slice.ensures (c.requires.words.known.each c.args.body _ (c.node.ensures.node ∙ ap Some c.in-Aggregate.is))
+
 pub returns : goal.returns
 returns c =
     table_put c.laws_below.ensures c.args.site.plan.now c.args.body c.in-Aggregate.child c.in-Aggregate.aggs c.node.ensures.plan (c.node.ensures.node ∙ ap Some c.in-Aggregate.is)
     c.args.net.now c.put_rows.new.net c.put_states.new.net c.args.lane.now c.args.place c.in_ok-below-in-Aggregate.below c.in_ok-below-in-Aggregate.ensures
-    (record { kinds = c.kinds.result; aggs = c.as_slice.result }) c.kinds.ensures.kinds c.as_slice.ensures c.in_ok-out-in-Aggregate.out
+    (record { kinds = c.kinds.result; words = c.args.site.words; aggs = c.as_slice.result }) c.kinds.ensures.kinds c.as_slice.ensures c.in_ok-out-in-Aggregate.out
     c.in_ok-out-in-Aggregate.ensures

@@ -40,6 +40,12 @@ either_line-requires-clause-left c =
 pub either_line-requires-clause-right : goal.either_line-requires-clause-right
 either_line-requires-clause-right c = c.in_ok-put.ensures.further
 
+pub put_parted_frames-requires-clause-words : goal.put_parted_frames-requires-clause-words
+put_parted_frames-requires-clause-words c = c.requires.words.held
+
+pub put_parted_frames-requires-clause-known : goal.put_parted_frames-requires-clause-known
+put_parted_frames-requires-clause-known c = rw c.as_slice.ensures (c.requires.words.known.each c.args.frames.id _ c.requires.node)
+
 pub returns : goal.returns
 returns c =
     key_frames_put c.laws_below.ensures c.args.site.plan.now c.args.frames.id c.args.net.now c.put_parted_frames.new.net c.either_line.new.net c.args.site.tick c.args.site.leaves.now c.in_ok-below.below

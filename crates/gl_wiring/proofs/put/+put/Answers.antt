@@ -14,6 +14,7 @@ use Rattle.gl_wiring.proofs.PartitionLemmas as partitions
 use Rattle.gl_wiring.proofs.TableLemmas.{children_there, is_there, one_is_put, root_is_there, slot_next, taken_gives}
 use Rattle.gl_wiring.proofs.TimeWindowLemmas as times
 use Rattle.gl_wiring.proofs.WindowLemmas as windows
+use Rattle.gl_wiring.proofs.WordLemmas.{have_words}
 use Rattle.gl_wiring.proofs.put.+put.Goals as goal
 
 pub put_root_of-put_marked-requires : goal.put_root_of-put_marked-requires
@@ -21,8 +22,11 @@ put_root_of-put_marked-requires t c = (
   omega (arith, c.number-limit.ensures),
   (
     omega (arith, c.number-limit.ensures, c.requires.can.within),
-    one_marked c.laws_below.ensures c.args.site.plan.now c.args.site.figures.now c.args.net.now c.args.site.tick c.args.site.leaves.now c.args.site.planned c.args.id c.args.marks.now
-        c.requires.marks c.requires.can,
+    (
+      one_marked c.laws_below.ensures c.args.site.plan.now c.args.site.figures.now c.args.net.now c.args.site.tick c.args.site.leaves.now c.args.site.planned c.args.id c.args.marks.now
+          c.requires.marks c.requires.can,
+      c.requires.words,
+    ),
   ),
 )
 
@@ -48,8 +52,11 @@ put_marked-put_slot-requires t c =
         omega (arith, c.loop-number-test.true, c.requires.within),
         (
           λ marked. can.can c.loop-number.number marked,
-          λ marked. rw c.as_slice.ensures.value (children_there c.args.site.plan.now c.args.site.planned c.args.site.figures.now c.args.marks.now c.loop-number.net
-              c.args.site.tick c.args.site.leaves.now can c.loop-number.number marked c.args.net.now c.loop-number.net c.loop-number.table.items c.loop-number.invariant.put),
+          (
+            λ marked. rw c.as_slice.ensures.value (children_there c.args.site.plan.now c.args.site.planned c.args.site.figures.now c.args.marks.now c.loop-number.net
+                c.args.site.tick c.args.site.leaves.now can c.loop-number.number marked c.args.net.now c.loop-number.net c.loop-number.table.items c.loop-number.invariant.put),
+            have_words c.args.site.plan.now c.args.net.now c.loop-number.net c.args.site.words.now c.loop-number.invariant.put.keeps c.requires.words,
+          ),
         ),
       ),
     )
@@ -88,8 +95,11 @@ put_window-put_over_copies-requires t c =
               tt,
               (
                 tt,
-                windows.window_stands c.laws_below.ensures c.args.site.plan.now w c.args.site.planned c.requires.node c.args.site.figures.now c.args.net.now c.args.site.tick c.args.site.leaves.now
-                    (widths c.in_ok-source.source.wire.columns) c.requires.can same,
+                (
+                  windows.window_stands c.laws_below.ensures c.args.site.plan.now w c.args.site.planned c.requires.node c.args.site.figures.now c.args.net.now c.args.site.tick c.args.site.leaves.now
+                      (widths c.in_ok-source.source.wire.columns) c.requires.can same,
+                  have_words c.args.site.plan.now c.args.net.now c.put_source.new.net c.args.site.words.now x.spaced'.behind.keeps c.requires.words,
+                ),
               ),
             ),
           ),
@@ -126,8 +136,11 @@ put_time_window-put_over_copies-requires t c =
               tt,
               (
                 rw c.in-Some.is at c.requires.can.ticked,
-                times.time_stands c.laws_below.ensures c.args.site.plan.now w c.args.site.planned c.requires.node c.args.site.figures.now c.args.net.now c.args.site.tick c.args.site.leaves.now
-                    (widths c.in_ok-source.source.wire.columns) c.requires.can x.same_widths,
+                (
+                  times.time_stands c.laws_below.ensures c.args.site.plan.now w c.args.site.planned c.requires.node c.args.site.figures.now c.args.net.now c.args.site.tick c.args.site.leaves.now
+                      (widths c.in_ok-source.source.wire.columns) c.requires.can x.same_widths,
+                  c.requires.words,
+                ),
               ),
             ),
           ),
@@ -151,6 +164,7 @@ put_group-put_on_lane-requires t c = record {
   node = c.requires.node;
   can = c.requires.can;
   children = c.requires.children;
+  words = c.requires.words;
   direct = sym c.is_direct.ensures ∙ c.if-is_direct.true;
 }
 
@@ -181,8 +195,11 @@ put_group-put_over_copies-requires t c =
               rw c.grouping-grouping.ensures.value (groups.key_there c.laws_below.ensures c.args.site.plan.now g c.args.site.planned c.requires.node _ same),
               (
                 tt,
-                groups.group_stands c.laws_below.ensures c.args.site.plan.now g c.args.site.planned c.requires.node c.args.site.figures.now c.args.net.now c.args.site.tick c.args.site.leaves.now
-                    (widths c.in_ok-source.source.wire.columns) c.requires.can same,
+                (
+                  groups.group_stands c.laws_below.ensures c.args.site.plan.now g c.args.site.planned c.requires.node c.args.site.figures.now c.args.net.now c.args.site.tick c.args.site.leaves.now
+                      (widths c.in_ok-source.source.wire.columns) c.requires.can same,
+                  have_words c.args.site.plan.now c.args.net.now c.put_source.new.net c.args.site.words.now x.spaced'.behind.keeps c.requires.words,
+                ),
               ),
             ),
           ),
@@ -223,8 +240,11 @@ put_partition-put_over_copies-requires t c =
               rw c.partitioning-partitioning.ensures.value (partitions.key_there c.laws_below.ensures c.args.site.plan.now p c.args.site.planned c.requires.node _ same),
               (
                 tt,
-                partitions.partition_stands c.laws_below.ensures c.args.site.plan.now p c.args.site.planned c.requires.node c.args.site.figures.now c.args.net.now c.args.site.tick c.args.site.leaves.now
-                    (widths c.in_ok-source.source.wire.columns) c.requires.can same,
+                (
+                  partitions.partition_stands c.laws_below.ensures c.args.site.plan.now p c.args.site.planned c.requires.node c.args.site.figures.now c.args.net.now c.args.site.tick c.args.site.leaves.now
+                      (widths c.in_ok-source.source.wire.columns) c.requires.can same,
+                  have_words c.args.site.plan.now c.args.net.now c.put_source.new.net c.args.site.words.now x.spaced'.behind.keeps c.requires.words,
+                ),
               ),
             ),
           ),
@@ -240,9 +260,12 @@ put_partition-returns t c =
 pub put_over_copies-put_copies-requires : goal.put_over_copies-put_copies-requires
 put_over_copies-put_copies-requires t c = (
   omega arith,
-  rw c.as_slice.ensures (can_copies c.args.site.plan.now c.args.site.figures.now c.args.body (widths c.args.source.wire.columns) c.front.new.net c.in_ok-front.front.wires
-      c.requires.stands (λ k wire at.
-      let x = c.in_ok-front.ensures.fronts.wires k wire at in (x.0, x.1 ∙ ap (λ (e : Emitted). widths e.wire.columns) c.in_ok-front.ensures.same))),
+  (
+    rw c.as_slice.ensures (can_copies c.args.site.plan.now c.args.site.figures.now c.args.body (widths c.args.source.wire.columns) c.front.new.net c.in_ok-front.front.wires
+        c.requires.stands (λ k wire at.
+        let x = c.in_ok-front.ensures.fronts.wires k wire at in (x.0, x.1 ∙ ap (λ (e : Emitted). widths e.wire.columns) c.in_ok-front.ensures.same))),
+    have_words c.args.site.plan.now c.args.net.now c.front.new.net c.args.site.words.now c.in_ok-front.ensures.keeps c.requires.words,
+  ),
 )
 
 pub put_over_copies-back-requires-clause-front : goal.put_over_copies-back-requires-clause-front
@@ -286,7 +309,7 @@ put_over-at-window-requires t c = (
 pub put_over-put_window-requires : goal.put_over-put_window-requires
 put_over-put_window-requires t c =
     let at = c.at-window.ensures in
-    (omega (arith, at.id), (at.node, (rw at.id c.requires.can, rw at.id c.requires.children)))
+    (omega (arith, at.id), (at.node, (rw at.id c.requires.can, (rw at.id c.requires.children, c.requires.words))))
 
 pub put_over-at-window-requires-in-TimeWindow : goal.put_over-at-window-requires-in-TimeWindow
 put_over-at-window-requires-in-TimeWindow t c = (
@@ -304,7 +327,7 @@ put_over-at-window-requires-in-TimeWindow t c = (
 pub put_over-put_time_window-requires : goal.put_over-put_time_window-requires
 put_over-put_time_window-requires t c =
     let at = c.at-window-in-TimeWindow.ensures in
-    (omega (arith, at.id), (at.node, (rw at.id c.requires.can, rw at.id c.requires.children)))
+    (omega (arith, at.id), (at.node, (rw at.id c.requires.can, (rw at.id c.requires.children, c.requires.words))))
 
 pub put_over-at-group-requires : goal.put_over-at-group-requires
 put_over-at-group-requires t c = (
@@ -322,7 +345,7 @@ put_over-at-group-requires t c = (
 pub put_over-put_group-requires : goal.put_over-put_group-requires
 put_over-put_group-requires t c =
     let at = c.at-group.ensures in
-    (omega (arith, at.id), (at.node, (rw at.id c.requires.can, rw at.id c.requires.children)))
+    (omega (arith, at.id), (at.node, (rw at.id c.requires.can, (rw at.id c.requires.children, c.requires.words))))
 
 pub put_over-at-partition-requires : goal.put_over-at-partition-requires
 put_over-at-partition-requires t c = (
@@ -342,16 +365,19 @@ put_over-at-partition-requires t c = (
 pub put_over-put_partition-requires : goal.put_over-put_partition-requires
 put_over-put_partition-requires t c =
     let at = c.at-partition.ensures in
-    (omega (arith, at.id), (at.node, (rw at.id c.requires.can, rw at.id c.requires.children)))
+    (omega (arith, at.id), (at.node, (rw at.id c.requires.can, (rw at.id c.requires.children, c.requires.words))))
 
 pub put_copies-put_root_of-requires : goal.put_copies-put_root_of-requires
 put_copies-put_root_of-requires t c = (
   omega arith,
   (
     rw c.as_slice.ensures.value c.in_ok-marks.ensures,
-    rw (c.note.ensures, c.from_ref.ensures.value) (can_copy c.args.site.plan.now c.args.site.figures.now c.args.body c.args.net.now c.loop-wire.net c.args.wires.now c.loop-wire.wire-index
-        c.wire-item.result c.loop-wire.invariant.keeps c.requires
-        (slice_get-get_or c.args.wires.now c.loop-wire.wire-index c.wire-item.result c.loop-wire-test.true ∙ ap Some (sym c.wire-item.is))),
+    (
+      rw (c.note.ensures, c.from_ref.ensures.value) (can_copy c.args.site.plan.now c.args.site.figures.now c.args.body c.args.net.now c.loop-wire.net c.args.wires.now c.loop-wire.wire-index
+          c.wire-item.result c.loop-wire.invariant.keeps c.requires.can
+          (slice_get-get_or c.args.wires.now c.loop-wire.wire-index c.wire-item.result c.loop-wire-test.true ∙ ap Some (sym c.wire-item.is))),
+      rw c.note.ensures (have_words c.args.site.plan.now c.args.net.now c.loop-wire.net c.args.site.words.now c.loop-wire.invariant.keeps c.requires.words),
+    ),
   ),
 )
 

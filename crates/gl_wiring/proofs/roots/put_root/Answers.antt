@@ -3,7 +3,7 @@ use Rattle.gl_figures.proofs.RootLemmas.{no_windows}
 use Rattle.gl_wiring.proofs.roots.put_root.Goals as goal
 
 pub put_unspared-requires : goal.put_unspared-requires
-put_unspared-requires c = record { can = c.requires.can; none = sym c.requires.spare ∙ c.in_default.is }
+put_unspared-requires c = record { can = c.requires.can; none = sym c.requires.spare ∙ c.in_default.is; words = c.requires.words }
 
 pub at-window-requires : goal.at-window-requires
 at-window-requires c = (
@@ -24,6 +24,7 @@ put_spare-requires c =
     record {
       node = record { window' = at.node; spare' = rw at.id (sym c.requires.spare ∙ c.in-Some.is) };
       can = rw at.id c.requires.can;
+      words = c.requires.words;
     }
 
 pub returns : goal.returns

@@ -5,6 +5,7 @@ use Rattle.gl_wire.proofs.FaultLemmas.{line_kept}
 use Rattle.gl_wiring.proofs.CanLemmas.{can_child}
 use Rattle.gl_wiring.proofs.TickedLemmas.{ticked_put}
 use Rattle.gl_wiring.proofs.TimeWindowLemmas.{line_is_there, time_stands}
+use Rattle.gl_wiring.proofs.WordLemmas.{have_words}
 use Rattle.gl_wiring.proofs.roots.put_times.Goals as goal
 
 pub unreachable-requires : goal.unreachable-requires
@@ -14,8 +15,11 @@ unreachable-requires c =
 pub put_circuit-requires : goal.put_circuit-requires
 put_circuit-requires c =
     let w = c.args.w in
-    (can_child c.laws_below.ensures c.args.site.plan.now c.args.site.figures.now w.id (TimeWindow w.source w.body w.size w.advance) c.args.net.now c.args.site.tick c.args.site.leaves.now
-    c.args.site.planned c.requires.node c.requires.can w.source (w.body ∷ []) refl refl).can
+    record {
+      can = (can_child c.laws_below.ensures c.args.site.plan.now c.args.site.figures.now w.id (TimeWindow w.source w.body w.size w.advance) c.args.net.now c.args.site.tick c.args.site.leaves.now
+          c.args.site.planned c.requires.node c.requires.can w.source (w.body ∷ []) refl refl).can;
+      words = c.requires.words;
+    }
 
 pub put_machine-requires : goal.put_machine-requires
 put_machine-requires c =
@@ -28,6 +32,7 @@ put_machine-requires c =
       tick = rw c.in-Some.is at (line_kept c.args.net.now c.put_circuit.new.net c.args.site.tick c.in_ok-source.ensures.keeps c.requires.can.ticked);
       stands = time_stands c.laws_below.ensures c.args.site.plan.now c.args.w c.args.site.planned c.requires.node c.args.site.figures.now c.args.net.now c.args.site.tick c.args.site.leaves.now
           (widths c.in_ok-source.source.wire.columns) c.requires.can x.same_widths;
+      words = have_words c.args.site.plan.now c.args.net.now c.put_circuit.new.net c.args.site.words.now c.in_ok-source.ensures.keeps c.requires.words;
     }
 
 pub returns : goal.returns

@@ -19,7 +19,7 @@ at-window-requires c = (
 pub put_times-requires : goal.put_times-requires
 put_times-requires c =
     let at = c.at-window.ensures in
-    record { node = at.node; can = rw at.id c.requires.can; none = rw at.id c.requires.none }
+    record { node = at.node; can = rw at.id c.requires.can; none = rw at.id c.requires.none; words = c.requires.words }
 
 pub returns-in-TimeWindow : goal.returns-in-TimeWindow
 returns-in-TimeWindow c = rw c.at-window.ensures.id at c.put_times.ensures

@@ -5,6 +5,7 @@ use Rattle.gl_wiring.specs.Leaves.{HaveLeaves}
 use Rattle.gl_wiring.proofs.CanLemmas.{first_before, first_within}
 use Rattle.gl_wiring.proofs.FormLemmas.{child_rowwise, never, others_no_rows}
 use Rattle.gl_wiring.proofs.LaneRowLemmas.{body_rows}
+use Rattle.gl_wiring.proofs.WordLemmas.{have_words}
 use Rattle.gl_wiring.proofs.rows.+put_rows.Goals as goal
 
 pub put_rows-requires : goal.put_rows-requires
@@ -20,7 +21,7 @@ put_rows-requires t c =
           child_rowwise (form_of nodes c.in-Compute.child) (sym follows.form ∙ c.requires.form),
           (
             subst (λ (s : Shape). HaveLeaves c.args.net.now (c.args.lane.now ∷ []) s.leaves) follows.shape c.requires.leaves,
-            (c.requires.slot, (c.requires.few, c.requires.first)),
+            (c.requires.slot, (c.requires.few, (c.requires.first, c.requires.words))),
           ),
         ),
       ),
@@ -39,7 +40,7 @@ put_rows-requires-in-Select t c =
           child_rowwise (form_of nodes c.in-Select.child) (sym follows.form ∙ c.requires.form),
           (
             subst (λ (s : Shape). HaveLeaves c.args.net.now (c.args.lane.now ∷ []) s.leaves) follows.shape c.requires.leaves,
-            (c.requires.slot, (c.requires.few, c.requires.first)),
+            (c.requires.slot, (c.requires.few, (c.requires.first, c.requires.words))),
           ),
         ),
       ),
@@ -58,11 +59,20 @@ put_rows-requires-in-Project t c =
           child_rowwise (form_of nodes c.in-Project.child) (sym follows.form ∙ c.requires.form),
           (
             subst (λ (s : Shape). HaveLeaves c.args.net.now (c.args.lane.now ∷ []) s.leaves) follows.shape c.requires.leaves,
-            (c.requires.slot, (c.requires.few, c.requires.first)),
+            (c.requires.slot, (c.requires.few, (c.requires.first, c.requires.words))),
           ),
         ),
       ),
     )
+
+pub compute_rows-requires-clause-words : goal.compute_rows-requires-clause-words
+compute_rows-requires-clause-words t c =
+    rw c.note.ensures (have_words c.args.site.plan.now c.args.net.now c.put_rows.new.net c.args.site.words.now c.in_ok-below-in-Compute.ensures.keeps c.requires.words)
+
+pub project_rows-requires-clause-words : goal.project_rows-requires-clause-words
+project_rows-requires-clause-words t c =
+    rw c.note-in-Project.ensures
+    (have_words c.args.site.plan.now c.args.net.now c.put_rows-in-Project.new.net c.args.site.words.now c.in_ok-below-in-Project.ensures.keeps c.requires.words)
 
 pub unreachable-requires : goal.unreachable-requires
 unreachable-requires t c =

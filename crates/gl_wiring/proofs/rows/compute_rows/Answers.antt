@@ -3,6 +3,7 @@ use Rattle.gl_algebra.specs.declared.node.PlanNode.TheVariants.{Compute}
 use Rattle.gl_wire.proofs.ColumnLemmas.{wire_kept}
 use Rattle.gl_wiring.proofs.CanLemmas.{first_within}
 use Rattle.gl_wiring.proofs.LaneRowLemmas.{compute_rows}
+use Rattle.gl_rows.proofs.MadeLemmas.{words_kept}
 use Rattle.gl_wiring.proofs.rows.compute_rows.Goals as goal
 
 pub kinds-requires : goal.kinds-requires
@@ -14,6 +15,12 @@ put_compute-requires-clause-wire c =
 
 pub put_compute-requires-clause-ops : goal.put_compute-requires-clause-ops
 put_compute-requires-clause-ops c = rw (c.kinds.ensures.kinds, c.as_slice.ensures) ((c.args.site.planned.fits c.args.id _ c.requires.node).suits)
+
+pub put_compute-requires-clause-words : goal.put_compute-requires-clause-words
+put_compute-requires-clause-words c = words_kept c.args.net.now c.later_place.new.net c.args.site.words.now c.in_ok-place.ensures.keeps c.requires.words.held
+
+pub put_compute-requires-clause-known : goal.put_compute-requires-clause-known
+put_compute-requires-clause-known c = rw c.as_slice.ensures (c.requires.words.known.each c.args.id _ c.requires.node)
 
 pub returns : goal.returns
 returns c = λ old lane place h.

@@ -22,5 +22,5 @@ pub returns : goal.returns
 returns c = λ old lane place h.
     select_rows c.laws_below.ensures c.args.site.plan.now c.args.id old c.args.net.now c.later_place.new.net c.put_select.new.net lane place c.in_ok-place.place c.args.below c.in_ok-rows.rows
     c.args.site.planned c.args.child c.args.column c.requires.node h c.in_ok-place.ensures
-    (subst (λ (columns : List ℕ). IsBehind c.later_place.new.net c.put_select.new.net (Steady 1 (keep_where c.args.column)) columns (cost_of_rows columns 0)
+    (subst (λ (columns : List ℕ). IsBehind c.later_place.new.net c.put_select.new.net (λ sets. Steady 1 (keep_where c.args.column)) columns (cost_of_rows columns 0)
     c.args.below.rows c.in_ok-rows.rows) c.requires.below.same_widths (rw c.from.ensures at c.in_ok-rows.ensures))

@@ -13,5 +13,5 @@ returns-clause-serves c = λ run r f sound.
     let items = self.items.now in
     let below = carried run c.args.below.wire in
     let put = carried run c.in_ok-put.put.wire in
-    c.running_serves.ensures.settles self.cycles (λ (rows : List Row). Some (row_of_frames kinds items rows)) below put f (delayed_sound self.cycles f sound)
-    (subst (λ (m : ℕ). Runs m (λ (rows : List Row). Some (row_of_frames kinds items rows)) below put) (sym c.requires.columns.3) (c.in_ok-put.ensures.shape run r))
+    c.running_serves.ensures.settles self.cycles (λ (rows : List Row). Some (row_of_frames run.held kinds items rows)) below put f (delayed_sound self.cycles f sound)
+    (subst (λ (m : ℕ). Runs m (λ (rows : List Row). Some (row_of_frames run.held kinds items rows)) below put) (sym c.requires.columns.3) (c.in_ok-put.ensures.shape run r))

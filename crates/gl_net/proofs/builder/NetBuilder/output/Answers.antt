@@ -1,5 +1,8 @@
-use Rattle.gl_net.proofs.Ports.{port_size, port_register_bits, port_memory_bits}
+use Rattle.gl_net.proofs.Ports.{port_grows, port_size, port_register_bits, port_memory_bits}
 use Rattle.gl_net.proofs.builder.NetBuilder.output.Goals as goal
+
+pub returns-clause-grows : goal.returns-clause-grows
+returns-clause-grows c = port_grows _ _ _ _ _ c.in_ok-push_output.ensures.ok
 
 pub returns-clause-size : goal.returns-clause-size
 returns-clause-size c = port_size _ _ _ _ _ c.in_ok-push_output.ensures.ok

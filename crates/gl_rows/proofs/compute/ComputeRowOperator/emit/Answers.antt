@@ -14,5 +14,5 @@ returns-clause-serves c = λ run r f sound.
     let ops = c.args.self.now.ops.now in
     let a = carried run c.args.below.wire in
     let b = carried run c.in_ok-put.put.wire in
-    settled_serves f (delayed 1 f) (Mapped (λ (row : Row). Some (computed kinds ops row))) a b (delayed_sound 1 f sound)
-    (c.steady_serves.ensures 1 (λ (row : Row). Some (computed kinds ops row)) a b f (c.in_ok-put.ensures.shape run r))
+    settled_serves f (delayed 1 f) (Mapped (λ (row : Row). Some (computed run.held kinds ops row))) a b (delayed_sound 1 f sound)
+    (c.steady_serves.ensures 1 (λ (row : Row). Some (computed run.held kinds ops row)) a b f (c.in_ok-put.ensures.shape run r))

@@ -14,6 +14,6 @@ returns-clause-serves c = λ run r f sound.
     let items = c.args.self.now.items.now in
     let a = carried run c.args.below.wire in
     let b = carried run c.in_ok-put.put.wire in
-    settled_serves f f (Mapped (λ (row : Row). Some (projected items row))) a b sound
-    (subst (λ (g : Figures). Serves f g (Mapped (λ (row : Row). Some (projected items row))) a b) (delayed_by_none f)
-    (c.steady_serves.ensures 0 (λ (row : Row). Some (projected items row)) a b f (c.in_ok-put.ensures.shape run r)))
+    settled_serves f f (Mapped (λ (row : Row). Some (projected run.held items row))) a b sound
+    (subst (λ (g : Figures). Serves f g (Mapped (λ (row : Row). Some (projected run.held items row))) a b) (delayed_by_none f)
+    (c.steady_serves.ensures 0 (λ (row : Row). Some (projected run.held items row)) a b f (c.in_ok-put.ensures.shape run r)))

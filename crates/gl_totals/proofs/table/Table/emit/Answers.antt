@@ -1,6 +1,7 @@
 use Rattle.std.proofs.Common.{◌≡◌, ◌-◌, ℕ, List, sym, subst, arith}
 use Rattle.gl_net.specs.declared.node.Bus.{Bus}
 use Rattle.gl_rows.specs.Made.{IsSource}
+use Rattle.gl_rows.proofs.MadeLemmas.{words_kept}
 use Rattle.gl_wire.proofs.ColumnLemmas.{bit_kept, bus_kept, buses_kept}
 use Rattle.gl_rows.specs.declared.operand.Source.{Source}
 use Rattle.gl_totals.specs.Delays.{IsBitBehind, IsBusBehind}
@@ -15,7 +16,7 @@ pub put_aggs-requires-clause-stream : goal.put_aggs-requires-clause-stream
 put_aggs-requires-clause-stream c =
     let lines = c.in_ok-lines.ensures in
     let rows = c.args.rows.now in
-    let source : Source = record { columns = c.as_slice.result; kinds = c.args.self.now.kinds } in
+    let source : Source = record { columns = c.as_slice.result; kinds = c.args.self.now.kinds; words = c.args.self.now.words } in
     let wide : c.in_ok-lines.lines.slot.width ≡ c.args.slot.width = lines.same_width in
     subst (λ (k : Rows). IsStream c.put_lines.new.net (record { rows = k; source = source })) (sym c.rows.ensures)
     (record {
@@ -29,8 +30,8 @@ put_aggs-requires-clause-stream c =
         record { some' = omega (arith, wide, c.requires.bits); most = omega (arith, wide, c.requires.few) },
         sym wide,
       );
-      source = subst (λ (bs : List Bus). IsSource c.put_lines.new.net bs c.args.self.now.kinds.now) (sym c.as_slice.ensures)
-          (record { buses = buses_kept _ _ rows.columns lines.keeps c.requires.wire.columns; same_widths = c.requires.kinds });
+      source = subst (λ (bs : List Bus). IsSource c.put_lines.new.net bs c.args.self.now.kinds.now c.args.self.now.words.now) (sym c.as_slice.ensures)
+          (record { buses = buses_kept _ _ rows.columns lines.keeps c.requires.wire.columns; same_widths = c.requires.kinds; held = words_kept _ _ c.args.self.now.words.now lines.keeps c.requires.words });
     })
 
 pub delay_bus-requires : goal.delay_bus-requires
@@ -47,7 +48,7 @@ returns c =
     let table = c.args.self.now in
     let aggs = table.aggs.now in
     let l = c.in_ok-lines.lines in
-    let source : Source = record { columns = c.as_slice.result; kinds = table.kinds } in
+    let source : Source = record { columns = c.as_slice.result; kinds = table.kinds; words = table.words } in
     let s : Stream = record { rows = in_memory l.valid l.eos l.first c.args.first l.slot c.args.slot; source = source } in
     let kept = subst (λ (k : Rows). AreAggsOf one two (c.delay_of_aggs-more.result - 1) (record { rows = k; source = source }) aggs c.in_ok-columns.columns) c.rows.ensures
     c.in_ok-columns.ensures in

@@ -7,4 +7,4 @@ pub returns-clause-serves : goal.returns-clause-serves
 returns-clause-serves c = λ run r f sound.
     let kinds = c.args.self.now.kinds.now in
     let aggs = c.args.self.now.aggs.now in
-    c.ends_serve.ensures (delay_of_aggs kinds aggs) (total_row kinds aggs) (carried run c.args.below.wire) (carried run c.in_ok-put.put.wire) f (c.in_ok-put.ensures.shape run r)
+    c.ends_serve.ensures (delay_of_aggs kinds aggs) (total_row run.held kinds aggs) (carried run c.args.below.wire) (carried run c.in_ok-put.put.wire) f (c.in_ok-put.ensures.shape run r)
