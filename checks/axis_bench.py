@@ -5,7 +5,8 @@ import subprocess
 import sys
 import tempfile
 
-from common import ended, schema_of, verilated, width_of
+import axis_registers
+from common import ended, parameters_of, schema_of, verilated, width_of
 
 BUSY = '''task choose;
 begin
@@ -17,6 +18,7 @@ endtask
 function coin(input integer of);
 coin = ($urandom % 256) < of;
 endfunction'''
+REGISTERS = ('write', 'wrote', 'read', 'got', 'reset')  # lines that sessions do not consist of
 
 
 # ---- the testbench
@@ -24,9 +26,10 @@ endfunction'''
 
 def ports_of_wrapper(text):
     """The ports of a wrapper: direction, bits and name."""
+    first = text.partition('endmodule')[0]
     return [
         (way, int(high or 0) + 1, name)
-        for way, high, name in re.findall(r'^    (input|output) (?:wire|reg) (?:\[(\d+):0\] )?(\w+),?$', text, re.M)
+        for way, high, name in re.findall(r'^    (input|output) (?:wire|reg) (?:\[(\d+):0\] )?(\w+),?$', first, re.M)
     ]
 
 
@@ -97,14 +100,14 @@ def driven(schema, results, ticks, bench):
     yield f'if (cycle > 400 * TRANSFERS + 100000) begin $display("{bench} late"); over = 1; end'
 
 
-def testbench(bench, text, schema, results, ticks, transfers):
+def testbench(bench, text, inputs, results, ticks, transfers):
     """A testbench that offers transfers and ticks to a wrapper at random, and is ready at random; its lines begin with
-    its name."""
-    ports = ports_of_wrapper(text)
+    its name. The inputs are the schema's streams and the ports of its parameters."""
+    (schema, sets), ports = inputs, ports_of_wrapper(text)
     lines = [f'module {bench}(output reg over);', f'localparam TRANSFERS = {transfers};']
     lines += ['integer cycle = 0, count = 0, given = 0, now, valid_in = 256, ready_in = 256, tick_in = 0, left = 7;']
     lines += [f'integer had [0:{len(results) - 1}];', f'reg {", ".join(f"took_{name} = 0" for name, _ in schema)};']
-    lines += ['reg stop = 0, ends = 0;']
+    lines += ['reg stop = 0, ends = 0, wrote = 0, asked = 0;']
     lines += [
         f'{"reg" if way == "input" else "wire"} [{bits - 1}:0] {name}{" = 0" * (way == "input")};'
         for way, bits, name in ports
@@ -113,9 +116,15 @@ def testbench(bench, text, schema, results, ticks, transfers):
     lines += [f'{module} unit({", ".join(f".{name}({name})" for _, _, name in ports)});', BUSY, *drawing(schema)]
     first = [f'had[{at}] = 0;' for at in range(len(results))] + ['over = 0;']
     lines += ['initial begin', *first, 'end', 'always #5 aclk = ~aclk;']
-    lines += ['always @(posedge aclk) if (aresetn && !over) begin', *logged(schema, results, ticks, bench), 'end']
+    told, more = (axis_registers.logged(sets, bench), axis_registers.driven(sets)) if sets else ((), ())
+    lines += [
+        'always @(posedge aclk) if (aresetn && !over) begin',
+        *told,
+        *logged(schema, results, ticks, bench),
+        'end',
+    ]
     lines += ['always @(posedge aclk) if (!over) begin #1', 'cycle = cycle + 1; aresetn = cycle > 3;']
-    lines += ['if (cycle > 4) begin', *driven(schema, results, ticks, bench), 'end', 'end', 'endmodule', '']
+    lines += ['if (cycle > 4) begin', *driven(schema, results, ticks, bench), *more, 'end', 'end', 'endmodule', '']
     return '\n'.join(lines)
 
 
@@ -148,6 +157,8 @@ def sessions_of(log, schema, apart):
     sessions, now, at, ticked, cycle, came = [], [], 0, None, None, {}
     for line in log:
         words = line.split()
+        if words[1] in REGISTERS:
+            continue
         if words[0] == 'out':
             came.setdefault(int(words[1]), []).append(words[2:])
             continue
@@ -164,6 +175,19 @@ def sessions_of(log, schema, apart):
             sessions.append(''.join(now) + f'{at},end\n')
             now, at, ticked = [], 0, None
     return sessions, came
+
+
+def fronts_of(log, parameters):
+    """The records of each session that set the parameters, and what is wrong with the registers, or nothing."""
+    if not parameters:
+        return [], ''
+    sets = axis_registers.ports_of_sets(parameters)
+    values, why = axis_registers.sets_in(log, sets)
+    fronts = []
+    for words in values:
+        texts = [next(values_of([it], word)) for it, word in zip(parameters, words)]
+        fronts.append(''.join(f'set,{name},{text}\n' for (name, _), text in zip(parameters, texts)))
+    return fronts, why or axis_registers.answered(log, sets)
 
 
 def words_of(row, widths):
@@ -187,19 +211,24 @@ def differs(rows, overflow, transfers, columns):
         if last == '1':
             return '' if at == len(rows) - 1 and int(user) == overflow else f'the end came with row {at + 1}'
     keep, last, user, _ = transfers.pop(0) if transfers else ('', '', '0', '')
-    return '' if last == '1' and '1' not in keep and int(user) == overflow else f'no end behind {len(rows)} rows: {keep}'
+    return (
+        '' if last == '1' and '1' not in keep and int(user) == overflow else f'no end behind {len(rows)} rows: {keep}'
+    )
 
 
 def compared(program, files, log, results, apart):
     """What differs between a log and what the program says of its sessions, or nothing; and the sessions and rows."""
     with open(files[0], encoding='utf8') as file:
-        schema = schema_of(file.read())
-    sessions, came = sessions_of(log, schema, apart)
+        text = file.read()
+    sessions, came = sessions_of(log, schema_of(text), apart)
+    fronts, why = fronts_of(log, parameters_of(text))
+    if why:
+        return why, len(sessions), 0
     rows_there = 0
     with tempfile.TemporaryDirectory() as room:
         for number, text in enumerate(sessions):
             with open(f'{room}/tuples.csv', 'w', encoding='utf8') as file:
-                file.write(text)
+                file.write((fronts[number] if fronts else '') + text)
             command = 'run' if results[0][0] == '' else 'manyrun'
             ran = subprocess.run([program, command, *files, f'{room}/tuples.csv'], stdout=subprocess.PIPE, text=True)
             if ran.returncode:

@@ -3,7 +3,8 @@ the solver's run."""
 import re
 import sys
 
-from common import ended, has_tick, ports_of, results_of, schema_of, width_of
+from axis_registers import ports_of_sets, registers_kept
+from common import ended, has_tick, parameters_of, ports_of, results_of, schema_of, width_of
 
 COUNT = 8  # bits of counters: the runs are shorter than 256 cycles
 
@@ -12,7 +13,9 @@ def figures_in(text):
     """The gap, the distance of ticks where there is one, and of each result what the heading of a wrapper says: rows,
     cycles, rows of the end."""
     calm = re.search(r'behind a tick by (\d+)', text)
-    told = re.findall(r'^// m_axis\w*: .* at most (\d+) rows of a beat, in (\d+) cycles, and (\d+) of the end', text, re.M)
+    told = re.findall(
+        r'^// m_axis\w*: .* at most (\d+) rows of a beat, in (\d+) cycles, and (\d+) of the end', text, re.M
+    )
     gap = int(re.search(r'apart by (\d+) cycles', text)[1])
     return gap, calm and int(calm[1]), [tuple(map(int, it)) for it in told]
 
@@ -38,7 +41,9 @@ def budget(at, front, columns, figures):
     yield 'always @(posedge clk) begin'
     yield f"    {slots[0]} <= rst || !beat || eos ? {bits}'d0 : {bits}'d{rows};"
     for k in range(1, cycles):
-        older = ' && '.join([f'row{at}', *(f"{slot} == {bits}'d0" for slot in slots[k:]), f"{slots[k - 1]} != {bits}'d0"])
+        older = ' && '.join(
+            [f'row{at}', *(f"{slot} == {bits}'d0" for slot in slots[k:]), f"{slots[k - 1]} != {bits}'d0"]
+        )
         yield f"    {slots[k]} <= rst ? {bits}'d0 : {older} ? {slots[k - 1]} - {bits}'d1 : {slots[k - 1]};"
     used = f"row{at} && !some{at} ? left{at} - {bits}'d1 : left{at}"
     yield f"    left{at} <= rst ? {bits}'d0 : eos ? {bits}'d{end_rows} : {used};"
@@ -140,23 +145,26 @@ def exit_kept(line, columns):
     yield 'end'
 
 
-def with_assertions(text, schema, results, ticks, calm):
+def with_assertions(text, inputs, results, ticks, calm):
     """A wrapper with assertions in front of its end. The first cycle is a reset, and no later one."""
+    schema, sets = inputs
     more = ['reg there = 0;', 'always @(posedge aclk) there <= 1;', 'always @* assume (aresetn == there);']
     more += [*entry_kept(schema, calm), *(ticks_kept(schema, calm) if ticks else ())]
     for front, columns in results:
         more += exit_kept(f'm_axis_{front[:-2]}' if front else 'm_axis', columns)
-    return text.replace('endmodule', '\n'.join([*more, 'endmodule']))
+    more += registers_kept(sets)
+    return text.replace('endmodule', '\n'.join([*more, 'endmodule']), 1)
 
 
 def proved(case, schema_file, module_text, text, steps, room):
     """Whether the assertions hold in all runs of so many steps; a line tells of it."""
     with open(schema_file, encoding='utf8') as file:
-        schema = schema_of(file.read())
+        said = file.read()
+    schema, sets = schema_of(said), ports_of_sets(parameters_of(said))
     figures = figures_in(text)
     module, top = ports_of(module_text)[0], re.search(r'^module (\w+)', text, re.M)[1]
     with open(f'{room}/proof.v', 'w', encoding='utf8') as file:
-        file.write(with_assertions(text, schema, results_of(module_text), has_tick(module_text), figures[1]))
+        file.write(with_assertions(text, (schema, sets), results_of(module_text), has_tick(module_text), figures[1]))
         file.write(stand_in(module_text, module, schema, figures))
     script = f'read_verilog -formal -sv {room}/proof.v; prep -flatten -nordff -top {top}; write_smt2 -wires {room}/proof.smt2'
     said = ended(['yosys', '-q', '-p', script])

@@ -10,7 +10,7 @@ from drawing import weight_of
 from meaning import query_text, shown
 
 SECONDS = 120  # of the processor, for one call of the program
-Case = collections.namedtuple('Case', 'schema query into start')
+Case = collections.namedtuple('Case', 'schema query into start sets')
 
 
 def written(path, text):
@@ -26,18 +26,20 @@ def called(program, room, *words):
     return ran.returncode, ran.stdout.decode(), ran.stderr.decode().strip()
 
 
-def schema_text(schema):
-    """The text of a schema."""
+def schema_text(schema, sets):
+    """The text of a schema, with parameters."""
     return ''.join(
         f"stream {name} ({', '.join(f'{column} {kind}' for column, kind in columns)});\n"
         for name, columns in schema.items()
-    )
+    ) + ''.join(f'parameter {name} {kind};\n' for name, (kind, _) in sets.items())
 
 
-def tuples_text(schema, beats, end):
-    """The tuple file of beats, with a record of the end where it has a cycle."""
+def tuples_text(schema, sets, beats, end):
+    """The tuple file of beats, with a record of the end where it has a cycle, and a record for each parameter."""
     out = io.StringIO()
     write = csv.writer(out, lineterminator='\n').writerow
+    for name, (kind, word) in reversed(sets.items()):
+        write(['set', name, shown(word, kind)])
     for cycle, rows in beats:
         for name, words in rows:
             write([cycle, name] + [shown(word, kind) for word, (_, kind) in zip(words, schema.get(name, []))])

@@ -64,9 +64,9 @@ def may_have_spare(query):
 class Maker:
     """Draws schemas, queries and tuples. What it draws is accepted, unless its plan passes a limit."""
 
-    def __init__(self, draw, groups, signed, ticks, times, keyed, frames=False, arrival=False, asof=False):
+    def __init__(self, draw, groups, signed, ticks, times, keyed, frames=False, arrival=False, asof=False, sets=False):
         self.frames, self.many = frames or arrival and draw.random() < 0.4, frames and draw.random() < 0.4
-        self.arrival, self.asof = arrival, asof
+        self.arrival, self.asof, self.sets = arrival, asof, {}
         if asof:
             self.frames, self.arrival = (it or draw.random() < 0.4 for it in (frames, arrival))
             self.many = draw.random() < 0.4
@@ -85,6 +85,8 @@ class Maker:
         }
         if asof and self.often(0.7):
             self.schema = self.of_one_key()
+        if sets:
+            self.sets = {name: self.parameter() for name in self.names(draw.randint(1, 4))}
 
     def of_one_key(self):
         """A schema whose streams have one column in common, of one kind, and no other."""
@@ -128,6 +130,12 @@ class Maker:
             )
         return self.draw.choice(self.words[kind])
 
+    def parameter(self):
+        """A parameter's kind, mostly that of a column, and the word that a file sets."""
+        kinds = [kind for columns in self.schema.values() for _, kind in columns] + ['u1']
+        kind = self.draw.choice(kinds) if self.often(0.8) else self.kind()
+        return kind, self.word(kind)
+
     def literal(self, kind):
         """A literal of a kind."""
         word = self.word(kind)
@@ -146,7 +154,8 @@ class Maker:
     def expression(self, columns, kind, depth, loose=True):
         """An expression of a kind; where `loose` is false, one that does not take its kind from its place."""
         same = [name for name, its in columns if its == kind]
-        ways = ['column'] * 3 * bool(same) + ['literal'] * loose
+        held = [name for name, (its, _) in self.sets.items() if its == kind]
+        ways = ['column'] * 3 * bool(same) + ['literal'] * loose + ['parameter'] * 2 * bool(held)
         if depth > 0:
             ways += (
                 ['CAST']
@@ -158,6 +167,9 @@ class Maker:
             return (way, kind, *[self.draw.choice(same)] * 2)
         if way == 'literal':
             return self.literal(kind)
+        if way == 'parameter':
+            name = self.draw.choice(held)
+            return (way, kind, self.sets[name][1], f":{' ' * self.often(0.1)}{name}")
         if way == 'CAST':
             had = [its for _, its in columns if (its[0] == 't') == (kind[0] == 't')]
             if kind[0] != 't' and self.signed and self.often(0.1):

@@ -12,7 +12,8 @@ A query is a dict. Its 'sort' is
                     (key, groups), each None where it is missing
     each            'body' over 'source' by its 'window' or its 'group', or by both, the windows of each key, as 'var'
 and each has its 'columns' [(name, kind)]. An expression is (sort, kind, part, ..): ('column', kind, name, name),
-('literal', kind, word, text), ('NOT', kind, e), ('CAST', kind, e), and (operator, kind, e, e).
+('literal', kind, word, text), ('parameter', kind, word, text) whose word is the one that the
+file sets, ('NOT', kind, e), ('CAST', kind, e), and (operator, kind, e, e).
 
 The right outcomes of a query are {spill: tree}, where a tree stands for a set of lists of rows: ('rows', row, ..) is
 one list, ('merge', a, b) every interleaving, ('chain', a, b) what comes of a and then of b, ('either', a, b, ..) what
@@ -168,7 +169,7 @@ def value_of(expression, row):
     sort, kind, *parts = expression
     if sort == 'column':
         return row[parts[0]]
-    if sort == 'literal':
+    if sort in ('literal', 'parameter'):
         return parts[0]
     x = value_of(parts[0], row)
     if sort == 'NOT':
@@ -509,7 +510,7 @@ def results(query, sources, clock=None):
 def expression_text(expression, level=0):
     """The text of an expression, in brackets where its place asks for them."""
     sort, kind, *parts = expression
-    if sort in ('column', 'literal'):
+    if sort in ('column', 'literal', 'parameter'):
         return parts[-1]
     if sort == 'CAST':
         return f'CAST({expression_text(parts[0])} AS {kind})'

@@ -12,12 +12,12 @@ from meaning import come, first_places, framed, kept, readers
 def depth_of(expression):
     """The levels of operations of an expression."""
     sort, _, *parts = expression
-    return 0 if sort in ('column', 'literal') else 1 + max(map(depth_of, parts))
+    return 0 if sort in ('column', 'literal', 'parameter') else 1 + max(map(depth_of, parts))
 
 
 def depth_of_condition(expression):
-    """The levels of a condition, or of none; a literal alone is looked at by an operation of its own."""
-    return max(depth_of(expression), expression[0] == 'literal') if expression else 0
+    """The levels of a condition, or of none; an operation of its own looks at a literal or a parameter alone."""
+    return max(depth_of(expression), expression[0] in ('literal', 'parameter')) if expression else 0
 
 
 def delay_of(item):

@@ -59,32 +59,37 @@ def drawn(program, seed, room, number):
     sort = draw.choice(SORTS)
     signed, ticks = draw.random() < 0.4, draw.random() < 0.3
     keyed, frames, arrival, asof = (sort == it for it in ('keyed', 'frames', 'arrival', 'asof'))
-    maker = Maker(draw, True, signed, ticks, sort == 'times', keyed, frames, arrival, asof)
+    maker = Maker(draw, True, signed, ticks, sort == 'times', keyed, frames, arrival, asof, draw.random() < 0.3)
     query = query_of(maker, draw, sort)
     if sort == 'lists':
         statements, text = statements_of(maker, draw, query, draw.randint(2, 8), max(WEIGHTS))
     else:
         statements = [(query, maker.names(1)[0])]
         text = f'{query_text(query)} INTO {statements[0][1]}\n'
-    cases = [Case(maker.schema, it, into, []) for it, into in statements]
+    cases = [Case(maker.schema, it, into, [], maker.sets) for it, into in statements]
     figures, runs, compiles = [('figures', 'run', 'compile'), ('manyfigures', 'manyrun', 'many')][sort == 'lists']
-    written(f'{room}/schema.txt', schema_text(maker.schema))
+    written(f'{room}/schema.txt', schema_text(maker.schema, maker.sets))
     written(f'{room}/query.txt', text)
     status, out, notes = called(program, room, figures, 'schema.txt', 'query.txt')
     if status == 9 and notes.startswith('limit: '):
         return LIMIT
     if status:
-        return f'case {number}: {figures}: status {status}, {notes}\n{schema_text(maker.schema)}{text}'
+        return f'case {number}: {figures}: status {status}, {notes}\n{schema_text(maker.schema, maker.sets)}{text}'
     gap, *ticks = (int(it) for it in re.findall(r'^(?:gap|ticks) (\d+)$', out, re.M))
     compiled, design, more = called(program, room, compiles, 'schema.txt', 'query.txt')
     cycles = min(CYCLES[1], max(CYCLES[0], WORK // max(1, len(design))))
     beats, end = maker.tuples(gap, max(1, min(40, cycles // gap)), *ticks)
-    written(f'{room}/tuples.csv', tuples_text(maker.schema, beats, end))
+    written(f'{room}/tuples.csv', tuples_text(maker.schema, maker.sets, beats, end))
     status, want, notes = called(program, room, runs, 'schema.txt', 'query.txt', 'tuples.csv')
     if status or compiled:
-        return f'case {number}: status {status} and {compiled}, {notes}{more}\n{schema_text(maker.schema)}{text}'
+        return f'case {number}: status {status} and {compiled}, {notes}{more}\n{schema_text(maker.schema, maker.sets)}{text}'
     names = sorted(set().union(*(forms_of(case.query) for case in cases)))
-    names += [f'drawn as {sort}'] + ['GROUPS 1'] * ('GROUPS 1 ' in f'{text} ') + ['ticks'] * has_tick(design)
+    names += (
+        ['parameters'] * (':' in text)
+        + [f'drawn as {sort}']
+        + ['GROUPS 1'] * ('GROUPS 1 ' in f'{text} ')
+        + ['ticks'] * has_tick(design)
+    )
     return Drawn(number, cases, text, beats, end, want, design, names, resets_of(draw, beats, gap))
 
 
@@ -188,14 +193,23 @@ def bench(drawn, want, unknown):
     ticks, schema, begin = has_tick(drawn.design), drawn.cases[0].schema, sum(drawn.resets)
     inputs, idle = inputs_of(schema.items(), ticks), idle_of(schema.items(), ticks, unknown)
     last = max(int(lines[-1].split()[0]) for lines in want if lines)
-    ports = ['clk', 'rst', 'eos', *(name for name, _ in inputs), *(name for _, name in outs)]
+    sets = [(f'set__{name}', width_of(kind), word) for name, (kind, word) in drawn.cases[0].sets.items()]
+    ports = ['clk', 'rst', 'eos', *(it[0] for it in [*inputs, *sets]), *(name for _, name in outs)]
     lines = [f'module bench{number};', 'reg clk = 0, rst = 1, eos = 0, done = 0;']
     lines += [f'integer at = 0, cycle = {-begin};']
     lines += [f'reg [{width - 1}:0] {name};' for name, width in inputs]
+    lines += [f"wire [{width - 1}:0] {name} = {width}'d{word};" for name, width, word in sets]
     lines += [f'wire [{width or 0}:0] {name};' for width, name in outs]
     lines += [f'reg [{len(results) - 1}:0] told = 0, stopped = 0;']
     lines += [f'unit{drawn.number} unit(' + ', '.join(f'.{name}({name})' for name in ports) + ');']
-    lines += [*contents_of(drawn.design), 'initial begin', *idle, 'while (!done) #5 clk = ~clk;', 'end', 'always @(negedge clk) if (at > 0) begin']
+    lines += [
+        *contents_of(drawn.design),
+        'initial begin',
+        *idle,
+        'while (!done) #5 clk = ~clk;',
+        'end',
+        'always @(negedge clk) if (at > 0) begin',
+    ]
     lines += [f"if (^{{{', '.join(steering)}}} === 1'bx) $display(\"{number} unknown %0d\", cycle);"]
     lines += ['if (cycle >= 0) begin']
     for at, result in enumerate(results):
@@ -213,8 +227,9 @@ def bench(drawn, want, unknown):
 def told_of(drawn, want, came, unknown):
     """All that a difference is about."""
     lines = [f"== case {drawn.number}{', columns unknown' * unknown}: resets {drawn.resets}"]
-    lines += [schema_text(drawn.cases[0].schema) + drawn.text]
-    lines += ['-- tuples', tuples_text(drawn.cases[0].schema, drawn.beats, drawn.end), '-- wanted, came']
+    first = drawn.cases[0]
+    lines += [schema_text(first.schema, first.sets) + drawn.text]
+    lines += ['-- tuples', tuples_text(first.schema, first.sets, drawn.beats, drawn.end), '-- wanted, came']
     for at, its in enumerate(want):
         own = [line.split(' ', 1)[1] for line in came if line.startswith(f'{at} ')]
         lines += [f'{at} {"=" if a == b else "!"} {a} | {b}' for a, b in itertools.zip_longest(its, own)]

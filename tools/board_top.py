@@ -1,6 +1,9 @@
 """The text of a top for the iCE40-HX8K breakout board: the wrapper of tools/axis behind the serial line of its USB
 port."""
+from registers import address_bits, lite_ports
 from wrapper import bytes_of
+
+PARAMETER = 64  # what is added to the number of a parameter in front of its value
 
 INPUT = 12.0  # MHz of the board's oscillator
 PINS = {
@@ -58,14 +61,50 @@ def receiver(divide):
     )
 
 
+def most_bytes(plan):
+    """The bytes of the longest frame, of a stream or of a parameter."""
+    return max(map(bytes_of, [*(it.columns for it in plan.sides), *([it] for it in plan.sets)]))
+
+
+def writes(plan):
+    """The write of a parameter's value over AXI4-Lite: the bits from 32 on first, where it has such."""
+    most, bits = 8 * most_bytes(plan), address_bits(plan.sets)
+    places = [(f"7'd{2 * at + half}", 32 * half, bytes_of([it])) for at, it in enumerate(plan.sets) for half in (0, 1)]
+    yield 'reg offer_set; reg high; wire took_set; wire [31:0] set_data;'
+    yield 'wire [6:0] set_word = {which[5:0], high};'
+    words = ''
+    for word, low, many in places:
+        first, last = most - 8 * many + low, min(most - 8 * many + low + 31, most - 1)
+        if first <= last:
+            padded = (
+                f"{{{31 - last + first}'d0, data[{last}:{first}]}}" if last - first < 31 else f'data[{last}:{first}]'
+            )
+            words += f'set_word == {word} ? {padded} : '
+    yield f"assign set_data = {words}32'd0;"
+    wide = (
+        ' || '.join(f"which == 8'd{PARAMETER + at}" for at, (_, width) in enumerate(plan.sets) if width > 32) or "1'd0"
+    )
+    named = f"which >= 8'd{PARAMETER} && which < 8'd{PARAMETER + len(plan.sets)}"
+    yield 'always @(posedge clk) begin'
+    yield f"    offer_set <= aresetn && (offer_set ? !took_set || high : rx_done && left == 8'd1 && {named});"
+    yield f'    high <= offer_set ? high && !took_set : {wide};'
+    yield 'end'
+    yield f"wire [{bits - 1}:0] set_address = {{set_word[{bits - 3}:0], 2'd0}};"
+
+
 def frames(plan):
-    """Transfers of the bytes that came: the number of a stream and its bytes, 128 for the end, 129 for a tick."""
-    most = max(bytes_of(it.columns) for it in plan.sides)
+    """Transfers of the bytes that came: the number of a stream and its bytes, 64 and the number of a parameter and its
+    value, 128 for the end, 129 for a tick."""
+    most = most_bytes(plan)
     one = len(plan.sides) == 1
-    free = ' && '.join(['!offer_end', *(f'!offer_{at}' for at in range(len(plan.sides)))])
+    free = ' && '.join(
+        ['!offer_end', *['!offer_set'] * bool(plan.sets), *(f'!offer_{at}' for at in range(len(plan.sides)))]
+    )
     yield f'reg [{8 * most - 1}:0] data; reg [7:0] left; reg [7:0] which; reg late; reg offer_end; reg tick;'
     yield from (f'reg offer_{at}; wire took_{at};' for at in range(len(plan.sides)))
     yield 'wire took_end;'
+    if plan.sets:
+        yield from writes(plan)
     yield f'wire free = {free};'
     yield 'always @(posedge clk) begin'
     yield '    late <= aresetn && (late || (rx_done && !free));'
@@ -74,7 +113,8 @@ def frames(plan):
     shifted = 'rx_byte' if most == 1 else f'{{rx_byte, data[{8 * most - 1}:8]}}'
     yield f"    if (rx_done && left != 8'd0) data <= {shifted};"
     yield "    if (rx_done && left == 8'd0) which <= rx_byte;"
-    sizes = ''.join(f"rx_byte == 8'd{at} ? 8'd{bytes_of(it.columns)} : " for at, it in enumerate(plan.sides))
+    frames_of = [*enumerate(it.columns for it in plan.sides), *enumerate(([it] for it in plan.sets), PARAMETER)]
+    sizes = ''.join(f"rx_byte == 8'd{at} ? 8'd{bytes_of(columns)} : " for at, columns in frames_of)
     yield f"    left <= !aresetn ? 8'd0 : !rx_done ? left : left != 8'd0 ? left - 8'd1 : {sizes}8'd0;"
     for at in range(len(plan.sides)):
         yield f"    offer_{at} <= aresetn && (offer_{at} ? !took_{at} : rx_done && left == 8'd1 && which == 8'd{at});"
@@ -117,7 +157,21 @@ def sender(plan, divide):
 def connections(plan):
     """The ports of the wrapper."""
     yield from ('.aclk(clk)', '.aresetn(aresetn)')
-    most = 8 * max(bytes_of(it.columns) for it in plan.sides)
+    most = 8 * most_bytes(plan)
+    if plan.sets:
+        driven = {
+            'awvalid': 'offer_set',
+            'wvalid': 'offer_set',
+            'awaddr': 'set_address',
+            'wdata': 'set_data',
+            'wstrb': "4'd15",
+            'bready': "1'd1",
+            'arvalid': "1'd0",
+            'araddr': f"{address_bits(plan.sets)}'d0",
+            'rready': "1'd1",
+            'awready': 'took_set',
+        }
+        yield from (f'.s_axil_{name}({driven.get(name, "")})' for _, _, name in lite_ports(plan.sets))
     for at, it in enumerate(plan.sides):
         many, end = bytes_of(it.columns), ' || offer_end' if len(plan.sides) == 1 else ''
         yield f'.{it.line}_tvalid(offer_{at}{end})'

@@ -130,10 +130,34 @@ def schema_of(text):
     ]
 
 
+def parameters_of(text):
+    """The parameters of a schema's text, each with its kind."""
+    text = re.sub(r'stream\s+\w+\s*\([^)]*\)', '', re.sub(r'--.*', '', text))
+    return re.findall(r'parameter\s+(\w+)\s+(\w+)', text)
+
+
+def sets_of(parameters, rows):
+    """The ports of parameters, each with its width, and with the word that the records of a tuple file give it."""
+    values = {row[1]: row[2] for row in rows if row[0] == 'set'}
+    return [(f'set__{name}', width_of(kind), word_of(values[name], kind)) for name, kind in parameters]
+
+
+def fits(value, kind):
+    """Whether a field of a tuple file is a value of a kind."""
+    if kind.startswith('text'):
+        return len(value.encode()) <= int(kind[4:]) and bool(re.fullmatch('[ -~]*', value))
+    bits, signed = int(kind[1:]), kind[0] == 's'
+    spelled = re.fullmatch(r'-?\d+' if signed else r'\d+', value)
+    return bool(spelled) and -(2 ** (bits - 1)) * signed <= int(value) < 2 ** (bits - signed)
+
+
 def beats_of(rows):
-    """The records of a tuple file by their cycle, a tick as ['tick'], and the cycle of the end."""
+    """The records of a tuple file by their cycle, a tick as ['tick'], and the cycle of the end. Those that set a
+    parameter have none."""
     beats, last, end = {}, 0, None
     for row in rows:
+        if row[0] == 'set':
+            continue
         last = int(row[0])
         if row[1] == 'end':
             end = last
@@ -208,14 +232,17 @@ def contents_of(text, unit='unit'):
     """The lines that give each word of a memory of slots by key its first contents. Any will do; a simulator with four
     values knows nothing of a row whose key is looked up in a word without."""
     memories = re.findall(r'^ *reg (?:\[\d+:0\] )?(\w*_slot_mem_n\d+) \[0:(\d+)\];', text, re.M)
-    loops = [f'for (word = 0; word <= {last}; word = word + 1) {unit}.{name}[word] = $random;' for name, last in memories]
+    loops = [
+        f'for (word = 0; word <= {last}; word = word + 1) {unit}.{name}[word] = $random;' for name, last in memories
+    ]
     return ['integer word;', 'initial begin', *loops, 'end'] if loops else []
 
 
-def harness(module, schema, outs, shown, steps, more=(), ticks=False, results=('',)):
+def harness(module, schema, outs, shown, steps, more=(), ticks=False, results=('',), sets=()):
     """A testbench: `shown` is what is done with outputs in the middle of a cycle, `steps` sets the inputs right behind
     the edge that begins one, `more` stands behind the declarations, `ticks` says whether the module has the port of
-    ticks. `results` are what stands behind `out__` and `fault__` in the names of each result's lines."""
+    ticks. `results` are what stands behind `out__` and `fault__` in the names of each result's lines. `sets` are the
+    ports of the parameters, with their widths and the words that they hold from time 0 on."""
     told = [
         f'{front}__{result}{line}'
         for result in results
@@ -224,8 +251,9 @@ def harness(module, schema, outs, shown, steps, more=(), ticks=False, results=('
     inputs = inputs_of(schema, ticks)
     lines = ['module testbench;', 'reg clk = 0, rst = 1, eos = 0, told = 0;', 'integer cycle = -1;']
     lines += [f'reg [{w - 1}:0] {name} = 0;' for name, w in inputs]
+    lines += [f"reg [{w - 1}:0] {name} = {w}'d{word};" for name, w, word in sets]
     lines += ['wire ' + ', '.join(told) + ';'] + [f'wire [{w - 1}:0] {name};' for name, w in outs] + list(more)
-    names = ['clk', 'rst'] + [n for n, _ in inputs] + ['eos'] + told + [n for n, _ in outs]
+    names = ['clk', 'rst'] + [n for n, _ in inputs] + ['eos'] + [n for n, _, _ in sets] + told + [n for n, _ in outs]
     lines += [
         f'{module} unit(' + ', '.join(f'.{n}({n})' for n in names) + ');',
         'always #5 clk = ~clk;',

@@ -120,8 +120,8 @@ def end_of(beats, asked):
     return max(beats[-1].cycle, next_tick(beats[:-1], asked)) if beats else 0
 
 
-def written(beats, asked):
-    """Writes a tuple file to standard output."""
+def written(beats, asked, sets=()):
+    """Writes a tuple file to standard output, with the values of the parameters in front."""
     end = end_of(beats, asked)
     if end > LAST:
         sys.exit(
@@ -129,6 +129,8 @@ def written(beats, asked):
             'shorten its pauses by --idle, or take a slower clock'
         )
     write = csv.writer(sys.stdout, lineterminator='\n').writerow
+    for name, value in sets:
+        write(['set', name, value])
     for beat in beats:
         if beat.ticked:
             write([beat.cycle, 'tick'])

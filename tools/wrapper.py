@@ -9,6 +9,7 @@ from common import (
     compiled,
     ended,
     has_tick,
+    parameters_of,
     ports_of,
     refused,
     results_of,
@@ -17,6 +18,7 @@ from common import (
     text_of,
     width_of,
 )
+from registers import declared, lite_ports, register_file
 
 # A stream of the schema: what stands in front of its lines, its name, and its columns with their widths.
 Side = collections.namedtuple('Side', 'line stream columns')
@@ -27,8 +29,9 @@ Side = collections.namedtuple('Side', 'line stream columns')
 Result = collections.namedtuple('Result', 'line front columns rows end_rows last depth kept')
 
 # A module behind its wrapper: its name, the sides, whether it has ticks, its gap, the distance of ticks where it is
-# more than that, the cycles between two beats and those between the last of them and the end, and the results.
-Plan = collections.namedtuple('Plan', 'module sides ticks gap calm pace rest results')
+# more than that, the cycles between two beats and those between the last of them and the end, the results, the
+# ports of the parameters with their widths, and whether registers behind AXI4-Lite hold these.
+Plan = collections.namedtuple('Plan', 'module sides ticks gap calm pace rest results sets lite')
 
 
 def bytes_of(columns):
@@ -129,13 +132,16 @@ def planned(plan, depth=None):
     return plan._replace(pace=pace, rest=rest, results=results)
 
 
-def plan_of(program, files, depth=None, room=None):
+def plan_of(program, files, depth=None, room=None, lite=False):
     """How the wrapper of a query is laid out, and the text of its module; the module alone stays in the room."""
     command = command_of(files[1])
     design, text = compiled(program, files, room, command)
     if design is None:
         refused(text, command, files)
     schema, statements = schema_of(text_of(files[0])), statements_of(text_of(files[1]))
+    sets = [(f'set__{name}', width_of(kind)) for name, kind in parameters_of(text_of(files[0]))]
+    if lite and not sets:
+        sys.exit(f'{files[0]}: it has no parameters, so there is nothing that registers could hold')
     said = ended([program, 'figures' if command == 'compile' else 'manyfigures', *files]).stdout
     gap, *ticks = (int(it) for it in re.findall(r'^(?:gap|ticks) (\d+)$', said, re.M))
     results = [
@@ -143,7 +149,7 @@ def plan_of(program, files, depth=None, room=None):
         for (front, columns), it in zip(results_of(text), figures_of(program, files[0], statements))
     ]
     calm = ticks[0] if ticks and ticks[0] > gap else None
-    plan = Plan(ports_of(text)[0], sides_of(schema), has_tick(text), gap, calm, gap, gap, results)
+    plan = Plan(ports_of(text)[0], sides_of(schema), has_tick(text), gap, calm, gap, gap, results, sets, lite)
     return planned(plan, depth), text
 
 
@@ -161,6 +167,10 @@ def ports(plan):
     if len(plan.sides) > 1:
         yield from ('input wire s_axis_end_tvalid', 'output wire s_axis_end_tready')
     yield from ['input wire tick'] * plan.ticks
+    if plan.lite:
+        yield from (declared(way, bits, f's_axil_{name}') for way, bits, name in lite_ports(plan.sets))
+    else:
+        yield from (f'input wire [{width - 1}:0] {name}' for name, width in plan.sets)
     for it in plan.results:
         yield from (f'output reg {it.line}_tvalid', f'input wire {it.line}_tready')
         yield f'output wire [{8 * bytes_of(it.columns) - 1}:0] {it.line}_tdata'
@@ -244,8 +254,21 @@ def steering(plan):
         '    ending <= !off && (ending || last) && !close;',
         '    eos <= aresetn && close;',
     )
-    done = ' && '.join(f'{it.line}_done' for it in plan.results)
-    yield from (f'    rst <= !aresetn || {done};', 'end')
+    yield from ('    rst <= resets;', 'end')
+
+
+def holding(plan):
+    """The registers of the parameters: what was written is taken in the cycle before the module's reset, which lasts
+    until each parameter has been written."""
+    yield from (f'wire [{width - 1}:0] {name};' for name, width in plan.sets)
+    names = ['aclk', 'aresetn'] + [name for name, _ in plan.sets]
+    lines = [f'.{name}({name})' for name in names] + ['.take(resets)', '.complete(complete)']
+    lines += [f'.{name}(s_axil_{name})' for _, _, name in lite_ports(plan.sets)]
+    yield from (
+        f'registers__{plan.module.removeprefix("q__")} registers(',
+        ',\n'.join(f'    {it}' for it in lines),
+        ');',
+    )
 
 
 def told(plan, line):
@@ -294,6 +317,7 @@ def connections(plan):
         yield f'.in__{stream}__valid(valid__{stream}{" && !held" if plan.calm else ""})'
         yield from (f'.in__{stream}__{name}({stream}__{name})' for name, _ in columns)
     yield from ('.eos(eos)', *['.tick(tick_in)'] * plan.ticks)
+    yield from (f'.{name}({name})' for name, _ in plan.sets)
     for it in plan.results:
         yield f'.out__{it.front}valid({it.line}_row)'
         at = 0
@@ -316,6 +340,9 @@ def heading(plan):
     yield f'// {plan.module} behind AXI4-Stream: beats are apart by {plan.pace} cycles, the end by {plan.rest}{calm}'
     for it in plan.sides:
         yield f'// {it.line}_tdata: {layout(it.columns)}'
+    if plan.lite:
+        words = ', '.join(f'{name} at {8 * at}' for at, (name, _) in enumerate(plan.sets))
+        yield f'// s_axil: {words}; the state at {8 * len(plan.sets)}'
     for it in plan.results:
         yield f'// {it.line}_tdata: {layout(it.columns)}'
         yield (
@@ -336,6 +363,11 @@ def wrapper(plan):
     lines += ['wire off = !aresetn || rst;', *(ticking(plan) if plan.ticks else ()), *entry(plan)]
     for it in plan.results:
         lines += exit_of(it)
+    done = ' && '.join(f'{it.line}_done' for it in plan.results)
+    if plan.lite:
+        lines += [f'wire complete; wire resets = !aresetn || ({done}) || !complete;', *holding(plan)]
+    else:
+        lines.append(f'wire resets = !aresetn || {done};')
     lines += steering(plan)
     full = ' || '.join(f'({it.line}_push && {it.line}_stored[{bits_for(it.depth - 1)}])' for it in plan.results)
     lines += [
@@ -348,6 +380,7 @@ def wrapper(plan):
         f'    lost <= aresetn && (lost || {full});',
         'end',
         'endmodule',
+        *(register_file(f'registers__{plan.module.removeprefix("q__")}', plan.sets) if plan.lite else ()),
         '',
     ]
     return '\n'.join(lines)

@@ -5,7 +5,7 @@ use Rattle.gl_bits.specs.Limits.{latest_time}
 use Rattle.gl_bits.proofs.Bools.{not_both}
 use Rattle.gl_gaps.specs.declared.Gaps.{Gaps}
 use Rattle.gl_schema.specs.declared.schema.Schema.{Schema}
-use Rattle.gl_schema.specs.Beats.{Beat, AreBeats, last_cycle}
+use Rattle.gl_schema.specs.Beats.{Beats, AreBeats, last_cycle}
 use Rattle.gl_gaps.specs.Keeps.{KeepsGaps}
 use Rattle.gl_schema.specs.Schemas.{IsSchema}
 use Rattle.gl_schema.specs.Seen.{shown}
@@ -50,7 +50,7 @@ module _ (real_columns : AcceptedHaveRealColumns) (one_module : OneModule) (read
       }
 
   -- the end is seen within the latency
-  ends_by : (beats : List Beat) (start : Start) (m : Module) (value : ℕ → Nets) (word : ℕ → Memories) (n : ℕ) → AreBeats schema beats → KeepsGaps gaps beats → HasModule text m
+  ends_by : (beats : Beats) (start : Start) (m : Module) (value : ℕ → Nets) (word : ℕ → Memories) (n : ℕ) → AreBeats schema beats → KeepsGaps gaps beats → HasModule text m
       → IsRunOver m schema beats start value word → IsEnd beats (result_names m) (port_of m value) n → n ≤ last_cycle beats + latency
   ends_by beats start m value word n are keeps has over end =
       let same : meets.design ≡ m = one_module text meets.design m meets.has has in

@@ -4,7 +4,7 @@ use Rattle.std.specs.Prelude.{IsOk}
 use Rattle.gl_values.specs.declared.kind.Kind.{Kind}
 use Rattle.gl_values.specs.Kinds.{width_of}
 use Rattle.gl_schema.specs.declared.schema.Schema.{Schema}
-use Rattle.gl_schema.specs.Beats.{Beat, AreBeats}
+use Rattle.gl_schema.specs.Beats.{Beats, AreBeats}
 use Rattle.gl_schema.specs.Ports.{PortValues}
 use Rattle.gl_verilog.specs.Module.{Module}
 use Rattle.gl_verilog.specs.declared.module.Module.{Module as Rust}
@@ -27,7 +27,7 @@ abbrev pub HasOne : List ℕ → Type 0
 HasOne text = (m n : Module) → HasModule text m → HasModule text n → m ≡ n
 
 -- the module that was read is the one that can run
-pub can_follow : (text : List ℕ) (schema : Schema) (kinds : List Kind) (beats : List Beat) (latency : ℕ) (start : Start) (d : Rust) → HasOne text → HasInputPorts (module_of d)
+pub can_follow : (text : List ℕ) (schema : Schema) (kinds : List Kind) (beats : Beats) (latency : ℕ) (start : Start) (d : Rust) → HasOne text → HasInputPorts (module_of d)
     → CanRun text schema kinds beats latency start → HasModule text (module_of d) → AreBeats schema beats → CanFollow (module_of d) schema kinds beats
 can_follow text schema kinds beats latency start d one inputs can has are =
     let mine : can.design ≡ module_of d = one can.design (module_of d) can.has has in
@@ -40,7 +40,7 @@ can_follow text schema kinds beats latency start d one inputs can has are =
     }
 
 -- each run of the text's module ends in time
-pub of_each_run : (text : List ℕ) (schema : Schema) (kinds : List Kind) (beats : List Beat) (latency : ℕ) (start : Start) (d : Rust) (Q : List (List ℕ) → PortValues → Type 0) → HasOne text → CanRun text schema kinds beats latency start → HasModule text (module_of d)
+pub of_each_run : (text : List ℕ) (schema : Schema) (kinds : List Kind) (beats : Beats) (latency : ℕ) (start : Start) (d : Rust) (Q : List (List ℕ) → PortValues → Type 0) → HasOne text → CanRun text schema kinds beats latency start → HasModule text (module_of d)
     → OfTimely latency (module_of d) schema beats start Q → OfEachRun text schema beats start Q
 of_each_run text schema kinds beats latency start d Q one can has h = λ m value word its run.
     let this : m ≡ module_of d = one m (module_of d) its has in
@@ -51,7 +51,7 @@ of_each_run text schema kinds beats latency start d Q one can has h = λ m value
     subst (λ (x : Module). Q (result_names x) (port_of x value)) (sym this) (h value word over ends)
 
 -- how the dump of the text's module ended is how that of each run of the text did
-pub of_each_ports : (text : List ℕ) (schema : Schema) (kinds : List Kind) (beats : List Beat) (latency : ℕ) (start : Start) (d : Rust) (Q : Module → PortValues → Type 0) → HasOne text → CanRun text schema kinds beats latency start → HasModule text (module_of d)
+pub of_each_ports : (text : List ℕ) (schema : Schema) (kinds : List Kind) (beats : Beats) (latency : ℕ) (start : Start) (d : Rust) (Q : Module → PortValues → Type 0) → HasOne text → CanRun text schema kinds beats latency start → HasModule text (module_of d)
     → OfTimelyPorts latency (module_of d) schema beats start Q → OfEachPorts text schema beats start Q
 of_each_ports text schema kinds beats latency start d Q one can has h = λ m value word its run.
     let this : m ≡ module_of d = one m (module_of d) its has in
@@ -61,14 +61,14 @@ of_each_ports text schema kinds beats latency start d Q one can has h = λ m val
     subst (λ (x : Module). EndsWithin latency beats (result_names x) (port_of x value)) (sym mine) (can.ends value word (subst (λ (x : Module). IsRunOver x schema beats start value word) mine over)) in
     subst (λ (x : Module). Q x (port_of x value)) (sym this) (h value word over ends)
 
-pub dumped_each : (text : List ℕ) (schema : Schema) (kinds : List Kind) (beats : List Beat) (latency : ℕ) (start : Start) (d : Rust) (old new : SinkState) (r : Outcome) → HasOne text → CanRun text schema kinds beats latency start → HasModule text (module_of d)
+pub dumped_each : (text : List ℕ) (schema : Schema) (kinds : List Kind) (beats : Beats) (latency : ℕ) (start : Start) (d : Rust) (old new : SinkState) (r : Outcome) → HasOne text → CanRun text schema kinds beats latency start → HasModule text (module_of d)
     → Dumped (OfTimelyPorts latency (module_of d) schema beats start) beats old new r → Dumped (OfEachPorts text schema beats start) beats old new r
 dumped_each text schema kinds beats latency start d old new Done one can has h = (h.0, of_each_ports text schema kinds beats latency start d (λ m port. DumpsWhole m beats port old.taken new.taken) one can has h.1)
 dumped_each text schema kinds beats latency start d old new WriteFault one can has h = (h.0, of_each_ports text schema kinds beats latency start d (λ m port. DumpsFront m beats port old.taken new.taken) one can has h.1)
 dumped_each text schema kinds beats latency start d old new Memory one can has h = h
 
 -- how the run of the text's module ended is how each run of the text did
-pub ran_each : (text : List ℕ) (schema : Schema) (kinds : List Kind) (beats : List Beat) (latency : ℕ) (start : Start) (d : Rust) (old new : SinkState) (r : Outcome) → HasOne text → CanRun text schema kinds beats latency start → HasModule text (module_of d)
+pub ran_each : (text : List ℕ) (schema : Schema) (kinds : List Kind) (beats : Beats) (latency : ℕ) (start : Start) (d : Rust) (old new : SinkState) (r : Outcome) → HasOne text → CanRun text schema kinds beats latency start → HasModule text (module_of d)
     → Ran (OfTimely latency (module_of d) schema beats start) kinds beats old new r → Ran (OfEachRun text schema beats start) kinds beats old new r
 ran_each text schema kinds beats latency start d old new Done one can has h = (h.0, of_each_run text schema kinds beats latency start d (λ outs port. Writes kinds beats outs port old.taken new.taken) one can has h.1)
 ran_each text schema kinds beats latency start d old new WriteFault one can has h = (h.0, of_each_run text schema kinds beats latency start d (λ outs port. WritesFront kinds beats outs port old.taken new.taken) one can has h.1)

@@ -6,15 +6,15 @@ use Rattle.gl_schema.specs.declared.schema.Column.{Column}
 use Rattle.gl_schema.specs.declared.schema.Stream.{Stream}
 use Rattle.gl_schema.specs.declared.schema.Schema.{Schema}
 use Rattle.gl_schema.specs.Schemas.{column_names, kinds_of}
-use Rattle.gl_schema.specs.Ports.{rst, eos, in_valid, in_column, out_valid, out_column, out_eos, fault_group, fault_queue}
+use Rattle.gl_schema.specs.Ports.{rst, eos, tick, in_valid, in_column, in_parameter, out_valid, out_column, out_eos, fault_group, fault_queue}
 use Rattle.gl_schema.specs.Profile as profile
 use Rattle.gl_schema.specs.Profile.{ProfilePort}
 use Rattle.gl_net.specs.Net.{Net}
 use Rattle.gl_net.specs.PortValues.{port_shapes}
 use Rattle.gl_verilog_ports.proofs.Profiled.{outputs_out}
 use Rattle.gl_wiring.specs.Leaves.{widths_of}
-use Rattle.gl_wiring.specs.EmittedPorts.{input, output, column_inputs, stream_inputs, streams_inputs}
-use Rattle.gl_wiring.specs.Output.{input_ports, named_outputs, output_ports, plan_ports, tick_input}
+use Rattle.gl_wiring.specs.EmittedPorts.{input, output, column_inputs, parameter_inputs, stream_inputs, streams_inputs}
+use Rattle.gl_wiring.specs.Output.{input_ports, late_inputs, named_outputs, output_ports, plan_ports}
 use Rattle.gl_testbench.specs.Emission.{TakesBeats, port_like}
 
 columns_in : (s : List ℕ) (cs : List Column) → map port_like (column_inputs s cs) ≡ profile.column_inputs s cs
@@ -28,16 +28,21 @@ streams_in (s ∷ ss) =
     ∙ ap (λ (x : List ProfilePort). profile.input (in_valid s.name) 1 ∷ (x ++ map port_like (streams_inputs ss))) (columns_in s.name s.columns)
     ∙ ap (λ (x : List ProfilePort). profile.stream_inputs s ++ x) (streams_in ss)
 
-tick_is : (ticks : Bool) → map port_like (tick_input ticks) ≡ profile.tick_input ticks
-tick_is true = refl
-tick_is false = refl
+parameters_in : (ps : List Column) → map port_like (parameter_inputs ps) ≡ profile.parameter_inputs ps
+parameters_in [] = refl
+parameters_in (p ∷ ps) = ap (λ (x : List ProfilePort). profile.input (in_parameter p.name) (width_of p.kind) ∷ x) (parameters_in ps)
+
+late_in : (ticks : Bool) (ps : List Column) → map port_like (late_inputs ticks ps) ≡ profile.tick_input ticks ++ profile.parameter_inputs ps
+late_in true ps = ap (λ (x : List ProfilePort). profile.input tick 1 ∷ x) (parameters_in ps)
+late_in false ps = parameters_in ps
 
 pub inputs_are : (ticks : Bool) (schema : Schema) → map port_like (input_ports ticks schema) ≡ profile.input_ports ticks schema
 inputs_are ticks schema =
+    let late = late_inputs ticks schema.parameters in
     ap (λ (x : List ProfilePort). profile.input rst 1 ∷ x)
-    (map-append port_like (streams_inputs schema.streams) (input eos 1 ∷ tick_input ticks)
-    ∙ ap (λ (x : List ProfilePort). x ++ profile.input eos 1 ∷ map port_like (tick_input ticks)) (streams_in schema.streams)
-    ∙ ap (λ (x : List ProfilePort). profile.streams_inputs schema.streams ++ profile.input eos 1 ∷ x) (tick_is ticks))
+    (map-append port_like (streams_inputs schema.streams) (input eos 1 ∷ late)
+    ∙ ap (λ (x : List ProfilePort). x ++ profile.input eos 1 ∷ map port_like late) (streams_in schema.streams)
+    ∙ ap (λ (x : List ProfilePort). profile.streams_inputs schema.streams ++ profile.input eos 1 ∷ x) (late_in ticks schema.parameters))
 
 columns_out : (cs : List Column) → map port_like (named_outputs (widths_of (kinds_of cs)) (column_names cs)) ≡ profile.column_outputs cs
 columns_out [] = refl

@@ -6,7 +6,7 @@ use Rattle.gl_schema.specs.declared.schema.Column.{Column}
 use Rattle.gl_gaps.specs.declared.Gaps.{Gaps}
 use Rattle.gl_schema.specs.declared.schema.Schema.{Schema}
 use Rattle.gl_schema.specs.Schemas.{column_names}
-use Rattle.gl_schema.specs.Beats.{Beat}
+use Rattle.gl_schema.specs.Beats.{Beats}
 use Rattle.gl_gaps.specs.Keeps.{gaps_with}
 use Rattle.gl_schema.specs.Ports.{PortValues, out_column}
 use Rattle.gl_schema.specs.Profile.{ProfilePort, clk, input, output_ports}
@@ -85,7 +85,7 @@ module _ (time : PlansTellTime) (schema : Schema) (statement : Statement) (net :
   face = text.face ∙ ap (λ (ps : List ProfilePort). map declared (input clk 1 ∷ ps)) takes.ports
 
   -- the columns of the result are found on the module
-  named : (Q : List Beat → List (List ℕ) → PortValues → Type 0) → OverRuns text.design schema gaps (λ beats port. Q beats outs port) → WhereDriven text.design schema gaps Q
+  named : (Q : Beats → List (List ℕ) → PortValues → Type 0) → OverRuns text.design schema gaps (λ beats port. Q beats outs port) → WhereDriven text.design schema gaps Q
   named Q over = λ beats value word driven.
       subst (λ (names : List (List ℕ)). Q beats names (port_of text.design value)) (sym (names_shown ticks text.design schema columns text.has.valid.names face)) (over beats value word driven)
 
@@ -100,7 +100,7 @@ module _ (time : PlansTellTime) (schema : Schema) (statement : Statement) (net :
   text_keeps keeps = holds_of_runs net schema made.text.items text gaps (λ all port. KeepsLine outs port) (keeps_past outs none)
       (λ run all trace are keep stimulus. let h = keeps run all trace are keep stimulus in record { lasts = h.lasts; stays = h.stays })
 
-  -- it has at most 303 ports
+  -- it has at most 335 ports
   few : length net.ports ≤ 3900
   few = omega (arith, ports_few ticks schema (output_ports columns) net is.of_schema takes, outputs_many columns, k.columns.most)
 

@@ -13,6 +13,7 @@ use Rattle.gl_query.specs.Shapes as shape
 use Rattle.gl_algebra.specs.declared.node.PlanNode.{PlanNode}
 use Rattle.gl_algebra.specs.declared.node.PlanNode.TheVariants as node
 use Rattle.gl_elaborate.specs.Plans.{stream_node, stream_number}
+use Rattle.gl_elaborate.proofs.PastLemmas.{among_streams}
 use Rattle.gl_elaborate.specs.Right.{leaves_of}
 use Rattle.gl_wiring.specs.StreamWires.{AreStreamLeaves}
 
@@ -42,7 +43,7 @@ join_streams schema (x ∷ xs) ys h k = (h.0, join_streams schema xs ys h.1 k)
 
 pub leaves_are_streams : (schema : Schema) (q : QueryShape) → IsAcceptedOver (schema_scope schema) q → AreStreamLeaves schema.streams (leaves_of (stream_node schema.streams) q)
 leaves_are_streams schema (shape.Read name) a =
-    let f = first_of schema.streams name a in (
+    let f = first_of schema.streams name (among_streams schema.parameters schema.streams name a) in (
       record {
         number = stream_number schema.streams name;
         stream = f.stream;

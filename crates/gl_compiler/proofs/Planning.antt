@@ -6,6 +6,7 @@ use Rattle.gl_schema.specs.declared.schema.Schema.{Schema}
 use Rattle.gl_gaps.specs.Keeps.{gaps_with}
 use Rattle.gl_query.specs.declared.tree.Statement.{Statement}
 use Rattle.gl_query.specs.Checked.{IsChecked}
+use Rattle.gl_query.specs.Columns.{sources_of}
 use Rattle.gl_query.specs.Shapes.{QueryShape, query_shape}
 use Rattle.gl_algebra.specs.Added.{Placed}
 use Rattle.gl_algebra.specs.FigureTable.{figures_of}
@@ -23,7 +24,7 @@ use Rattle.gl_compiler.specs.Built.{GapsAreNoFarther, IsBuilt, IsNoFarther, copi
 
 -- the gaps of a query of this shape
 abbrev pub gaps_at : Schema → QueryShape → Gaps
-gaps_at s q = gaps_with (gap_with (query_ticks s.streams q) (whole_figures s q).gt) (ticks_with (query_ticks s.streams q))
+gaps_at s q = gaps_with (gap_with (query_ticks (sources_of s) q) (whole_figures s q).gt) (ticks_with (query_ticks (sources_of s) q))
 
 -- ticks with a gap of their own, or with that of beats, are no farther apart than both
 within_own : (own gap : ℕ) (ticks : Option ℕ) → gap ≤ own → ((n : ℕ) → ticks ≡ Some n → n ≤ own) → unwrap_or ticks gap ≤ own

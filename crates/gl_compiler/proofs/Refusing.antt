@@ -42,6 +42,7 @@ told_as (fault.OutOfRange at) real = refl
 told_as (fault.TooDeep at) real = refl
 told_as (fault.NoTime at) real = refl
 told_as (fault.NoArrival at) real = refl
+told_as (fault.UnknownParameter at) real = refl
 
 -- why a text is refused that has no accepted statement
 pub refusal : (schema : Schema) (text : List ℕ) (f : QueryFault) → IsFaultOrMemory schema text f → IsQueryRefused schema text (fault_of_query f)

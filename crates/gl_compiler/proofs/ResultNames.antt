@@ -7,7 +7,7 @@ use Rattle.gl_schema.specs.declared.schema.Stream.{Stream}
 use Rattle.gl_schema.specs.declared.schema.Schema.{Schema}
 use Rattle.gl_schema.specs.Names.{IsName}
 use Rattle.gl_schema.specs.Schemas.{IsColumn, IsSchema, IsStream, column_names}
-use Rattle.gl_query.specs.Columns.{agg_column, but_key, columns_of, frame_column, item_column, picked_columns, source_columns, variable}
+use Rattle.gl_query.specs.Columns.{agg_column, but_key, columns_of, frame_column, item_column, picked_columns, source_columns, colon, inside, reach_of, sources_of}
 use Rattle.gl_query.specs.Names.{HasNames, QueryHasNames}
 use Rattle.gl_query.specs.Values.{column_number}
 use Rattle.gl_query.specs.Parts.{InAggItem, InFrameItem, InItem, InPick}
@@ -49,9 +49,9 @@ frames_named : (columns : List Column) (items : List FrameItemShape) → AllByRe
 frames_named columns [] h = tt
 frames_named columns (i ∷ items) h = (h.0.1, frames_named columns items h.1)
 
-picked_named : (columns : List Column) (pick : PickShape) → AreNamed columns → InPick HasNames IsName pick → AreNamed (picked_columns columns pick)
-picked_named columns shape.All h p = h
-picked_named columns (shape.Items items) h p = items_named columns items p
+picked_named : (columns reach : List Column) (pick : PickShape) → AreNamed columns → InPick HasNames IsName pick → AreNamed (picked_columns columns reach pick)
+picked_named columns reach shape.All h p = h
+picked_named columns reach (shape.Items items) h p = items_named reach items p
 
 join_named : (xs ys : List Column) → AreNamed xs → AreNamed ys → AreNamed (xs ++ ys)
 join_named [] ys h k = k
@@ -64,18 +64,22 @@ but_named [] (suc i) h = tt
 but_named (c ∷ cs) zero h = h.1
 but_named (c ∷ cs) (suc i) h = (h.0, but_named cs i h.1)
 
+-- what a body sees has names where what is around it has
+inside_named : (sources : List Stream) (var : List ℕ) (columns : List Column) → SourcesAreNamed sources → AreNamed columns → SourcesAreNamed (inside sources var columns)
+inside_named sources var columns h k = (source_named sources colon h, (k, tt))
+
 query_named : (q : QueryShape) (sources : List Stream) → SourcesAreNamed sources → QueryHasNames q → AreNamed (columns_of sources q)
 query_named (shape.Read name) sources h q = source_named sources name h
 query_named (shape.Rows pick filter source) sources h q =
-    picked_named (columns_of sources source) pick (query_named source sources h q.0) q.1
-query_named (shape.Total aggs source) sources h q = aggs_named (columns_of sources source) aggs q.1
-query_named (shape.Frames items filter slots source) sources h q = frames_named (columns_of sources source) items q.1
+    picked_named (columns_of sources source) (reach_of sources (columns_of sources source)) pick (query_named source sources h q.0) q.1
+query_named (shape.Total aggs source) sources h q = aggs_named (reach_of sources (columns_of sources source)) aggs q.1
+query_named (shape.Frames items filter slots source) sources h q = frames_named (reach_of sources (columns_of sources source)) items q.1
 query_named (shape.Each measure var source size advance body) sources h q =
-    query_named body (variable var (columns_of sources source)) (query_named source sources h q.0, tt) q.1
+    query_named body (inside sources var (columns_of sources source)) (inside_named sources var (columns_of sources source) h (query_named source sources h q.0)) q.1
 query_named (shape.PerGroup var source key groups body) sources h q =
-    (q.3, query_named body (variable var (columns_of sources source)) (query_named source sources h q.0, tt) q.1)
+    (q.3, query_named body (inside sources var (columns_of sources source)) (inside_named sources var (columns_of sources source) h (query_named source sources h q.0)) q.1)
 query_named (shape.Partition var source key groups size advance body) sources h q =
-    (q.3, query_named body (variable var (columns_of sources source)) (query_named source sources h q.0, tt) q.1)
+    (q.3, query_named body (inside sources var (columns_of sources source)) (inside_named sources var (columns_of sources source) h (query_named source sources h q.0)) q.1)
 query_named (shape.Union l r) sources h q = query_named l sources h q.0
 query_named (shape.ByArrival l r) sources h q = query_named l sources h q.0
 query_named (shape.AsOf l r slots) sources h q =
@@ -89,5 +93,6 @@ names_of [] h = tt
 names_of (c ∷ cs) h = (h.0, names_of cs h.1)
 
 -- over a schema the columns of a query whose names are names have names
-pub columns_named : (schema : Schema) (q : QueryShape) → IsSchema schema → QueryHasNames q → AllByRecursion IsName (column_names (columns_of schema.streams q))
-columns_named schema q s h = names_of (columns_of schema.streams q) (query_named q schema.streams (streams_are schema.streams s.streams) h)
+pub columns_named : (schema : Schema) (q : QueryShape) → IsSchema schema → QueryHasNames q → AllByRecursion IsName (column_names (columns_of (sources_of schema) q))
+columns_named schema q s h =
+    names_of (columns_of (sources_of schema) q) (query_named q (sources_of schema) (columns_are schema.parameters s.declared.each, streams_are schema.streams s.streams) h)

@@ -8,7 +8,7 @@ use Rattle.gl_schema.specs.declared.schema.Column.{Column}
 use Rattle.gl_gaps.specs.declared.Gaps.{Gaps}
 use Rattle.gl_schema.specs.declared.schema.Schema.{Schema}
 use Rattle.gl_schema.specs.Schemas.{IsSchema, kinds_of}
-use Rattle.gl_schema.specs.Beats.{Beat, AreBeats}
+use Rattle.gl_schema.specs.Beats.{Beats, AreBeats}
 use Rattle.gl_gaps.specs.Keeps.{KeepsGaps}
 use Rattle.gl_query.specs.declared.tree.Statement.{Statement}
 use Rattle.gl_query.specs.Laws.{AcceptedHaveRealColumns}
@@ -28,7 +28,7 @@ use Rattle.gl_runner.specs.Dumps.{Dumped, OfEachPorts}
 use Rattle.gl_runner.specs.Prints.{CanRun, OfEachRun, Ran}
 use Rattle.gl_compiler.specs.Runnable.{IsRunnable}
 
-can_run : AcceptedHaveRealColumns → (schema : Schema) (statement : Statement) (latency : ℕ) (gaps : Gaps) (text : List ℕ) (kinds : List Kind) (beats : List Beat) (start : Start)
+can_run : AcceptedHaveRealColumns → (schema : Schema) (statement : Statement) (latency : ℕ) (gaps : Gaps) (text : List ℕ) (kinds : List Kind) (beats : Beats) (start : Start)
     → IsSchema schema → Meets schema statement latency gaps text → kinds ≡ kinds_of (result_columns schema statement) → latency ≤ 2 ^ 32 → AreBeats schema beats → KeepsGaps gaps beats → CanRun text schema kinds beats latency start
 can_run real_columns schema statement latency gaps text kinds beats start fine m e short are keeps = record {
   design = m.design;
@@ -40,7 +40,7 @@ can_run real_columns schema statement latency gaps text kinds beats start fine m
 }
 
 -- the text of a compiled query, with its schema and its kinds
-pub can_run_compiled : AcceptedHaveRealColumns → (c : Compiled) (beats : List Beat) (text : List ℕ) (schema : Schema) (kinds : List Kind) (printed : Printed) (start : Start) → IsRunnable c → AreBeats c.schema beats → KeepsGaps (printed_gaps c.printed) beats
+pub can_run_compiled : AcceptedHaveRealColumns → (c : Compiled) (beats : Beats) (text : List ℕ) (schema : Schema) (kinds : List Kind) (printed : Printed) (start : Start) → IsRunnable c → AreBeats c.schema beats → KeepsGaps (printed_gaps c.printed) beats
     → text ≡ c.text.items → schema ≡ c.schema → kinds ≡ c.kinds → printed ≡ c.printed → CanRun text schema kinds beats printed.latency start
 can_run_compiled real_columns c beats text schema kinds printed start is are gaps a b d e =
     let p : printed.latency ≡ c.printed.latency = ap (λ (x : Printed). x.latency) e in
@@ -51,7 +51,7 @@ can_run_compiled real_columns c beats text schema kinds printed start is are gap
     subst (λ (x : ℕ). CanRun c.text.items c.schema c.kinds beats x start) (sym p) run)))
 
 -- how its run ended
-pub ran_compiled : (c : Compiled) (beats : List Beat) (text : List ℕ) (schema : Schema) (kinds : List Kind) (start : Start) (old new : SinkState) (r : Outcome) → IsRunnable c → text ≡ c.text.items → schema ≡ c.schema → kinds ≡ c.kinds
+pub ran_compiled : (c : Compiled) (beats : Beats) (text : List ℕ) (schema : Schema) (kinds : List Kind) (start : Start) (old new : SinkState) (r : Outcome) → IsRunnable c → text ≡ c.text.items → schema ≡ c.schema → kinds ≡ c.kinds
     → Ran (OfEachRun text schema beats start) kinds beats old new r → Ran (OfEachRun c.text.items c.schema beats start) (kinds_of (result_columns c.schema c.statement)) beats old new r
 ran_compiled c beats text schema kinds start old new r is a b d h =
     subst (λ (x : List ℕ). Ran (OfEachRun x c.schema beats start) (kinds_of (result_columns c.schema c.statement)) beats old new r) a (
@@ -59,7 +59,7 @@ ran_compiled c beats text schema kinds start old new r is a b d h =
     subst (λ (x : List Kind). Ran (OfEachRun text schema beats start) x beats old new r) (d ∙ is.columns) h))
 
 -- how its dump ended
-pub dumped_compiled : (c : Compiled) (beats : List Beat) (text : List ℕ) (schema : Schema) (start : Start) (old new : SinkState) (r : Outcome) → text ≡ c.text.items → schema ≡ c.schema
+pub dumped_compiled : (c : Compiled) (beats : Beats) (text : List ℕ) (schema : Schema) (start : Start) (old new : SinkState) (r : Outcome) → text ≡ c.text.items → schema ≡ c.schema
     → Dumped (OfEachPorts text schema beats start) beats old new r → Dumped (OfEachPorts c.text.items c.schema beats start) beats old new r
 dumped_compiled c beats text schema start old new r a b h =
     subst (λ (x : List ℕ). Dumped (OfEachPorts x c.schema beats start) beats old new r) a (

@@ -3,6 +3,7 @@ use Rattle.std.proofs.Common.{◌≡◌, [], sym, ap, subst, ◌∙◌}
 use Rattle.gl_schema.specs.declared.schema.Schema.{Schema}
 use Rattle.gl_query.specs.declared.tree.Statement.{Statement}
 use Rattle.gl_query.specs.Accepted.{IsAcceptedOver, schema_scope}
+use Rattle.gl_query.specs.Columns.{sources_of}
 use Rattle.gl_query.specs.Shapes.{QueryShape, query_shape}
 use Rattle.gl_query.specs.Trees.{StatementTree, statement_tree}
 use Rattle.gl_query.specs.Alike.{query_alike}
@@ -18,7 +19,7 @@ shapes_alike s t e = sym (query_same s.query) ∙ ap (λ (x : StatementTree). qu
 -- and one plan
 pub plans_alike : (schema : Schema) (s t : Statement) → statement_tree s ≡ statement_tree t → plan_of schema s ≡ plan_of schema t
 plans_alike schema s t e =
-    ap (λ (q : QueryShape). placed (stream_node schema.streams) schema.streams q []) (shapes_alike s t e)
+    ap (λ (q : QueryShape). placed (stream_node schema.streams) (sources_of schema) q []) (shapes_alike s t e)
 
 -- what is built of one statement is of every other one of its tree
 pub built_alike : (schema : Schema) (s t : Statement) → statement_tree s ≡ statement_tree t → IsBuilt schema s → IsBuilt schema t

@@ -9,8 +9,8 @@ use Rattle.gl_schema.specs.declared.schema.Column.{Column}
 use Rattle.gl_schema.specs.declared.schema.Stream.{Stream}
 use Rattle.gl_schema.specs.declared.schema.Schema.{Schema}
 use Rattle.gl_schema.specs.Schemas.{kinds_of}
-use Rattle.gl_schema.specs.Ports.{rst, eos, tick, in_valid, in_column, out_valid, out_column, out_eos, fault_group, fault_queue}
-use Rattle.gl_schema.specs.Profile.{ProfilePort, column_inputs, column_outputs, input, input_ports, output, output_ports, profile, stream_inputs, streams_inputs, tick_input}
+use Rattle.gl_schema.specs.Ports.{rst, eos, tick, in_valid, in_column, in_parameter, out_valid, out_column, out_eos, fault_group, fault_queue}
+use Rattle.gl_schema.specs.Profile.{ProfilePort, column_inputs, column_outputs, input, input_ports, last_inputs, output, output_ports, parameter_inputs, profile, stream_inputs, streams_inputs, tick_input}
 use Rattle.gl_vcd.specs.Dumped.{Port}
 use Rattle.gl_vcd.specs.RoundTrip.{signal_at, signals_from}
 use Rattle.gl_vcd.specs.Signals.{Signal, are_columns, columns_of, has_line, has_wide, show_none, shows_column}
@@ -71,9 +71,21 @@ unfolding tick fault_group out_valid out_eos
 tick_aside true = ((refl, refl), tt)
 tick_aside false = tt
 
+parameter_aside : (p : List ℕ) (width : ℕ) → IsAside (input (in_parameter p) width)
+unfolding in_parameter fault_group out_valid out_eos
+parameter_aside p width = (refl, refl)
+
+parameters_aside : (ps : List Column) → AllByRecursion IsAside (parameter_inputs ps)
+parameters_aside [] = tt
+parameters_aside (p ∷ ps) = (parameter_aside p.name (width_of p.kind), parameters_aside ps)
+
+last_aside : (ticks : Bool) (schema : Schema) → AllByRecursion IsAside (last_inputs ticks schema)
+last_aside ticks schema =
+    (eos_aside, all_append IsAside (tick_input ticks) (parameter_inputs schema.parameters) (tick_aside ticks) (parameters_aside schema.parameters))
+
 pub inputs_aside : (ticks : Bool) (schema : Schema) → AllByRecursion IsAside (input_ports ticks schema)
 inputs_aside ticks schema =
-    (rst_aside, all_append IsAside (streams_inputs schema.streams) (input eos 1 ∷ tick_input ticks) (streams_aside schema.streams) (eos_aside, tick_aside ticks))
+    (rst_aside, all_append IsAside (streams_inputs schema.streams) (last_inputs ticks schema) (streams_aside schema.streams) (last_aside ticks schema))
 
 valid_out : IsAside (output out_valid 1)
 unfolding fault_group out_valid out_eos

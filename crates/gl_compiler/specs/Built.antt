@@ -6,6 +6,7 @@ use Rattle.gl_gaps.specs.Keeps.{gaps_with}
 use Rattle.gl_query.specs.declared.tree.Statement.{Statement}
 use Rattle.gl_query.specs.Accepted.{IsAccepted}
 use Rattle.gl_query.specs.Checked.{IsChecked}
+use Rattle.gl_query.specs.Columns.{sources_of}
 use Rattle.gl_query.specs.Shapes.{query_shape}
 use Rattle.gl_algebra.specs.Roots.{copies_with_spare}
 use Rattle.gl_root_gaps.specs.Roots.{gap_with, ticks_with}
@@ -48,7 +49,7 @@ copies_of schema statement = copies_with_spare (plan_of schema statement).nodes 
 
 -- the gap of its query, form by form, without spare copies
 abbrev pub own_gap_of : Schema → Statement → ℕ
-own_gap_of schema statement = (query_figures schema.streams (query_shape statement.query)).gt
+own_gap_of schema statement = (query_figures (sources_of schema) (query_shape statement.query)).gt
 
 -- with these gaps beats and ticks may come as close as its query's own gap says. Beats may come closer where the
 -- statement has spare copies, and where its ticks are farther apart

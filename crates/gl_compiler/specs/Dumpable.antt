@@ -6,7 +6,7 @@ use Rattle.gl_bits.specs.Limits.{latest_time, most_ports}
 use Rattle.gl_bits.specs.Words.{IsWidth}
 use Rattle.gl_gaps.specs.declared.Gaps.{Gaps}
 use Rattle.gl_schema.specs.declared.schema.Schema.{Schema}
-use Rattle.gl_schema.specs.Beats.{Beat, AreBeats, last_cycle}
+use Rattle.gl_schema.specs.Beats.{Beats, AreBeats, last_cycle}
 use Rattle.gl_gaps.specs.Keeps.{KeepsGaps}
 use Rattle.gl_schema.specs.Schemas.{IsSchema}
 use Rattle.gl_schema.specs.Ports.{PortValues}
@@ -40,7 +40,7 @@ pub record TellsRun (m : Module) (port : PortValues) (n : ℕ) (text : List ℕ)
       (λ bytes. bytes ≡ lines (map Unsigned (result_widths m)) (seen port (result_names m) n))
 
 -- where the times up to the end have room in a dump, what is dumped of a run of the text up to its end tells that run
-abbrev pub DumpTells : ℕ → Schema → List Beat → Start → List ℕ → Type 0
+abbrev pub DumpTells : ℕ → Schema → Beats → Start → List ℕ → Type 0
 DumpTells latency schema beats start text =
     last_cycle beats + latency + 1 ≤ latest_time
     → OfEachPorts text schema beats start
@@ -49,7 +49,7 @@ DumpTells latency schema beats start text =
 -- this is so of each text that meets a statement, over beats that keep its gaps
 abbrev pub DumpsTell : Type 0
 DumpsTell =
-    (schema : Schema) (statement : Statement) (latency : ℕ) (gaps : Gaps) (text : List ℕ) (beats : List Beat)
+    (schema : Schema) (statement : Statement) (latency : ℕ) (gaps : Gaps) (text : List ℕ) (beats : Beats)
     (start : Start)
     → IsSchema schema → Meets schema statement latency gaps text → AreBeats schema beats → KeepsGaps gaps beats
     → DumpTells latency schema beats start text

@@ -6,12 +6,12 @@ use Rattle.gl_outside.specs.declared.shelf.TheConstants.{TEXT_LIMIT}
 use Rattle.gl_schema.specs.declared.schema.Column.{Column}
 use Rattle.gl_gaps.specs.declared.Gaps.{Gaps}
 use Rattle.gl_schema.specs.declared.schema.Schema.{Schema}
-use Rattle.gl_schema.specs.Beats.{Beat}
+use Rattle.gl_schema.specs.Beats.{Beats}
 use Rattle.gl_schema.specs.Ports.{PortValues}
 use Rattle.gl_schema.specs.Right.{IsRight}
 use Rattle.gl_query.specs.declared.tree.Statement.{Statement}
 use Rattle.gl_query.specs.Shapes.{query_shape}
-use Rattle.gl_query.specs.Columns.{columns_of}
+use Rattle.gl_query.specs.Columns.{columns_of, sources_of}
 use Rattle.gl_query.specs.Windows.{has_time}
 use Rattle.gl_query.specs.Accepted.{IsAccepted}
 use Rattle.gl_query.specs.Results.{IsResult}
@@ -25,15 +25,15 @@ use Rattle.gl_testbench.specs.Overflow.{TellsGroup}
 
 -- the columns of a statement's result
 abbrev pub result_columns : Schema → Statement → List Column
-result_columns schema statement = columns_of schema.streams (query_shape statement.query)
+result_columns schema statement = columns_of (sources_of schema) (query_shape statement.query)
 
 -- the circuit of a statement takes ticks where the statement has a window of time
 abbrev pub takes_ticks : Statement → Bool
 takes_ticks statement = has_time (query_shape statement.query)
 
 -- a fact holds of the beats and of what is seen on the result's columns, whatever drives the module
-abbrev pub WhereDriven : Module → Schema → Gaps → (List Beat → List (List ℕ) → PortValues → Type 0) → Type 0
-WhereDriven m schema gaps P = (beats : List Beat) (value : ℕ → Nets) (word : ℕ → Memories)
+abbrev pub WhereDriven : Module → Schema → Gaps → (Beats → List (List ℕ) → PortValues → Type 0) → Type 0
+WhereDriven m schema gaps P = (beats : Beats) (value : ℕ → Nets) (word : ℕ → Memories)
     → Drives m schema gaps beats value word → P beats (result_names m) (port_of m value)
 
 -- the text has a module of the statement's name, whose ports are in order the clock, the inputs of the schema, the tick

@@ -19,7 +19,7 @@ pub fn result_columns(
 ) -> Result<Columns, Memory>
     ensures { IfOk result (λ v. v ≡ result_columns schema.now statement.now) }
 {
-    let sources = Sources::Schema(schema.streams.as_slice());
+    let sources = Sources::Schema(schema.streams.as_slice(), schema.parameters.as_slice());
     columns_of(alloc, sources, &statement.query)
 }
 

@@ -7,8 +7,8 @@ use Rattle.std.proofs.lemmas.List.{map-append}
 use Rattle.std.proofs.lemmas.List.FromFn.{map-range_with_len_more}
 use Rattle.gl_schema.specs.Schemas.{IsRowOf, text_word}
 use Rattle.gl_tuples.specs.declared.beats.Beat as files
-use Rattle.gl_tuples.specs.Gaps.{plain_beat, plain_beats}
-use Rattle.gl_schema.specs.Beats.{Beat, AreBeats, AreInOrder, IsBeat, KeepsGap}
+use Rattle.gl_tuples.specs.Gaps.{plain_beat, plain_list}
+use Rattle.gl_schema.specs.Beats.{Beat, AreBeats, AreInOrder, AreSpaced, IsBeat}
 use Rattle.gl_gaps.specs.Keeps.{KeepsGaps, even_gaps}
 use Rattle.gl_gaps.proofs.EvenGaps.{keeps_even}
 use Rattle.gl_load.specs.Query.{load_columns, load_schema}
@@ -38,21 +38,21 @@ order : (n i k : ℕ) → i + suc k ≡ n → AreInOrder (map (load_beat n) (ran
 order n i zero e = eq-eqb (i + 1) n (omega (arith, e))
 order n i (suc k) e = (ne_eqb (i + 1) n (λ same. omega (arith, e, same)), omega arith, order n (i + 1) k (omega (arith, e)))
 
-keeps : (n i k : ℕ) → KeepsGap 1 (map (load_beat n) (range_with_len i k))
+keeps : (n i k : ℕ) → AreSpaced 1 (map (load_beat n) (range_with_len i k))
 keeps n i zero = tt
 keeps n i (suc zero) = tt
 keeps n i (suc (suc k)) = (omega arith, keeps n (i + 1) (suc k))
 
 -- one beat more
-pub more_beats : (n i : ℕ) (old new : List files.Beat) (b : files.Beat) → plain_beats old ≡ map (load_beat n) (range_with_len 0 i) → plain_beat b ≡ load_beat n i → new ≡ old ++ b ∷ []
-    → plain_beats new ≡ map (load_beat n) (range_with_len 0 (i + 1))
+pub more_beats : (n i : ℕ) (old new : List files.Beat) (b : files.Beat) → plain_list old ≡ map (load_beat n) (range_with_len 0 i) → plain_beat b ≡ load_beat n i → new ≡ old ++ b ∷ []
+    → plain_list new ≡ map (load_beat n) (range_with_len 0 (i + 1))
 more_beats n i old new b before is more =
-    ap plain_beats more ∙ map-append plain_beat old (b ∷ []) ∙ ap (λ (xs : List Beat). xs ++ plain_beat b ∷ []) before
+    ap plain_list more ∙ map-append plain_beat old (b ∷ []) ∙ ap (λ (xs : List Beat). xs ++ plain_beat b ∷ []) before
     ∙ ap (λ (x : Beat). map (load_beat n) (range_with_len 0 i) ++ x ∷ []) is ∙ sym (map-range_with_len_more (load_beat n) 0 i i (omega arith))
 
 pub are_beats : (n : ℕ) → 1 ≤ n → AreBeats load_schema (load_beats n)
 are_beats zero some = absurd (omega arith)
-are_beats (suc k) some = record { each = each (suc k) 0 (suc k); order = order (suc k) 0 k (omega arith) }
+are_beats (suc k) some = record { each = each (suc k) 0 (suc k); order = order (suc k) 0 k (omega arith); held = tt }
 
 pub keep_gaps : (n : ℕ) → KeepsGaps (even_gaps 1) (load_beats n)
 keep_gaps n = keeps_even 1 (load_beats n) (keeps n 0 n)

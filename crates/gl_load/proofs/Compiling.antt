@@ -8,6 +8,7 @@ use Rattle.gl_schema.proofs.Readings.{not_both, one_schema}
 use Rattle.gl_query.specs.declared.tree.Statement.{Statement}
 use Rattle.gl_query.specs.declared.fault.QueryFault.{QueryFault}
 use Rattle.gl_query.specs.Alike.{query_alike}
+use Rattle.gl_query.specs.Columns.{sources_of}
 use Rattle.gl_query.specs.Faults.{first_fault}
 use Rattle.gl_query.specs.Shapes.{QueryShape, query_shape}
 use Rattle.gl_query.specs.Trees.{StatementTree, statement_tree}
@@ -38,7 +39,7 @@ pub query_is : LawsBelow → (s : Statement) → HasStatement query_text (statem
 query_is laws s has = sym (query_same s.query) ∙ ap (λ (x : StatementTree). query_alike x.query) (one_meaning laws.texts_have_one_verdict query_text (statement_tree s) load_tree has query_has)
 
 plan_is : LawsBelow → (s : Statement) → HasStatement query_text (statement_tree s) → plan_of load_schema s ≡ load_plan
-plan_is laws s has = ap (λ (q : QueryShape). placed (stream_node load_schema.streams) load_schema.streams q []) (query_is laws s has)
+plan_is laws s has = ap (λ (q : QueryShape). placed (stream_node load_schema.streams) (sources_of load_schema) q []) (query_is laws s has)
 
 pub gaps_are : LawsBelow → (s : Statement) → HasStatement query_text (statement_tree s) → gaps_of load_schema s ≡ even_gaps 1
 gaps_are laws s has = ap (λ (q : QueryShape). gaps_at load_schema q) (query_is laws s has) ∙ load_gaps

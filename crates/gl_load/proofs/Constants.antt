@@ -1,11 +1,11 @@
 -- The texts of the load have its schema and its query, which breaks no rule.
-use Rattle.std.proofs.Common.{◌≡◌, true, List, None, refl, subst, arith}
+use Rattle.std.proofs.Common.{◌≡◌, true, List, [], ◌∷◌, None, codes, refl, subst, arith}
 use Rattle.std.specs.Fmt.{digits}
 use Rattle.std.specs.List.{IsDistinct}
 use Rattle.gl_schema.specs.Names.{is_name, begins_with_letter, has_name_bytes, has_loose_underscore, is_taken, keywords, reserved}
 use Rattle.gl_schema.specs.Schemas.{IsSchema, has_column, has_stream}
 use Rattle.gl_schema.specs.SchemaText as schemas
-use Rattle.gl_schema.specs.SchemaText.{IsSchemaText}
+use Rattle.gl_schema.specs.SchemaText.{IsSchemaText, OfStream}
 use Rattle.gl_schema.specs.Written.{is_written, kinds}
 use Rattle.gl_query.specs.Trees.{StatementTree}
 use Rattle.gl_query.specs.Faults.{first_fault}
@@ -17,7 +17,7 @@ use Rattle.gl_query_reader.specs.Grammar.{HasStatement, bare_tokens}
 use Rattle.gl_query_reader.specs.Written.{spell_statement}
 use Rattle.gl_query_reader.specs.Meaning.{statement_meaning}
 use Rattle.gl_query_reader.specs.Limits.{keeps_limits, none_counted}
-use Rattle.gl_load.specs.Query.{load_schema, load_written, query_text, schema_text}
+use Rattle.gl_load.specs.Query.{load_columns, load_schema, load_written, query_text, schema_text}
 
 -- ---- the schema
 
@@ -37,11 +37,17 @@ is_schema = record {
     tt,
   );
   distinct = (tt, tt);
+  declared = record { most = omega arith; each = tt; distinct = tt };
 }
 
 pub schema_spelled : IsSchemaText schema_text load_schema
 unfolding schema_text schemas.tokens_of schemas.class_of schemas.kind_text schemas.row_of digits
-schema_spelled = record { schema' = is_schema; spelled = refl }
+schema_spelled = record {
+  schema' = is_schema;
+  all = OfStream (record { name = codes "trades"; columns = load_columns }) ∷ [];
+  same = refl;
+  spelled = refl;
+}
 
 -- ---- the query
 

@@ -8,7 +8,7 @@ use Rattle.gl_values.specs.Totals.{count_of}
 use Rattle.gl_bits.proofs.AllLists.{all_append}
 use Rattle.gl_schema.specs.Schemas.{kinds_of}
 use Rattle.gl_query.specs.Alike.{query_alike}
-use Rattle.gl_query.specs.Columns.{columns_of}
+use Rattle.gl_query.specs.Columns.{columns_of, sources_of}
 use Rattle.gl_query.specs.Results.{Env, IsResultIn}
 use Rattle.gl_query.specs.Shapes.{QueryShape}
 use Rattle.gl_load.specs.Query.{load_schema}
@@ -26,13 +26,14 @@ small_count : {A : Type 0} (xs : List A) → count_of xs < 2 ^ 64
 unfolding count_of
 small_count xs = let l : length xs % 2 ^ 32 < 2 ^ 32 = mod-lt (length xs) (omega arith) in omega (arith, l)
 
-one_counted : (count second : ℕ) (rest : List ℕ) (out : List Row) → out ≡ (count ∷ second ∷ rest) ∷ [] → count < 2 ^ 64 → AllByRecursion IsCounted out
-one_counted count second rest out e low = subst (AllByRecursion IsCounted) (sym e) (record { count = count; second = second; rest = rest; is = refl; small' = low }, tt)
+one_counted : (rows : List Row) (second : ℕ) (rest : List ℕ) (out : List Row) → out ≡ (count_of rows ∷ second ∷ rest) ∷ [] → AllByRecursion IsCounted out
+one_counted rows second rest out e =
+    subst (AllByRecursion IsCounted) (sym e) (record { count = count_of rows; second = second; rest = rest; is = refl; small' = small_count rows }, tt)
 
 pub are_counted : (q : QueryShape) (env : Env) (rows : List Row) (spill : Bool) → q ≡ query_alike load_tree.query → IsResultIn q env rows spill → AllByRecursion IsCounted rows
 are_counted q env rows spill e is =
     let r = subst (λ (x : QueryShape). IsResultIn x env rows spill) e is in
-    all_joined IsCounted _ (λ part out s h. one_counted (count_of h.rows) _ _ out h.changed (small_count h.rows)) _ rows r.parts_spill r.of_parts
+    all_joined IsCounted _ (λ part out s h. one_counted _ _ _ out h.changed) _ rows r.parts_spill r.of_parts
 
-pub are_numbers : (q : QueryShape) → q ≡ query_alike load_tree.query → kinds_of (columns_of load_schema.streams q) ≡ Unsigned 32 ∷ Unsigned 32 ∷ Unsigned 32 ∷ []
-are_numbers q e = ap (λ (x : QueryShape). kinds_of (columns_of load_schema.streams x)) e
+pub are_numbers : (q : QueryShape) → q ≡ query_alike load_tree.query → kinds_of (columns_of (sources_of load_schema) q) ≡ Unsigned 32 ∷ Unsigned 32 ∷ Unsigned 32 ∷ []
+are_numbers q e = ap (λ (x : QueryShape). kinds_of (columns_of (sources_of load_schema) x)) e

@@ -6,6 +6,7 @@ use Rattle.std.proofs.lemmas.Bool.{eqb-true, eqb-false, leb-true}
 use Rattle.gl_bits.proofs.Bools.{and_left, and_right}
 use Rattle.gl_bits.proofs.Options.{some_there}
 use Rattle.gl_gaps.specs.Keeps.{even_gaps}
+use Rattle.gl_query.specs.Columns.{sources_of}
 use Rattle.gl_query.specs.Alike.{query_alike}
 use Rattle.gl_algebra.specs.declared.node.PlanNode.{PlanNode}
 use Rattle.gl_algebra.specs.Added.{Placed, added}
@@ -26,7 +27,7 @@ use Rattle.gl_load.specs.Query.{load_schema}
 use Rattle.gl_load.proofs.Constants.{load_tree}
 
 abbrev pub load_plan : Placed
-load_plan = placed (stream_node load_schema.streams) load_schema.streams (query_alike load_tree.query) []
+load_plan = placed (stream_node load_schema.streams) (sources_of load_schema) (query_alike load_tree.query) []
 
 -- the figures of so many nodes are small
 abbrev small_to : List PlanNode → ℕ → Bool

@@ -6,7 +6,7 @@ use Rattle.gl_values.specs.declared.kind.Kind.TheVariants.{Unsigned}
 use Rattle.gl_gaps.specs.declared.Gaps.{Gaps}
 use Rattle.gl_schema.specs.declared.schema.Schema.{Schema}
 use Rattle.gl_schema.specs.Schemas.{kinds_of}
-use Rattle.gl_schema.specs.Beats.{Beat, inputs_of}
+use Rattle.gl_schema.specs.Beats.{Beats, inputs_of}
 use Rattle.gl_gaps.specs.Keeps.{KeepsGaps}
 use Rattle.gl_schema.specs.Ports.{PortValues}
 use Rattle.gl_schema.specs.Right.{IsRight}
@@ -40,7 +40,7 @@ use Rattle.gl_load.proofs.Counting.{are_counted, are_numbers}
 use Rattle.gl_load.proofs.Telling.{told_seen}
 
 -- the sink was empty before, and has the lines now
-pub ran_load : (c : Compiled) (beats : List Beat) (old new : Kept) → IsCompiledLoad c → old.bytes ≡ []
+pub ran_load : (c : Compiled) (beats : Beats) (old new : Kept) → IsCompiledLoad c → old.bytes ≡ []
     → Ran (OfEachRun c.text.items c.schema beats Zero) (kinds_of (result_columns c.schema c.statement)) beats (kept_state old) (kept_state new) Done → AreRunLines c beats new.bytes
 ran_load c beats old new is none h = λ m value word has over.
     let w = all m value word has over in

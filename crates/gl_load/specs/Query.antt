@@ -24,7 +24,7 @@ load_columns =
 
 -- the load's schema: the one stream `trades`
 abbrev pub load_schema : Schema
-load_schema = record { streams = record { name = codes "trades"; columns = load_columns } ∷ [] }
+load_schema = record { streams = record { name = codes "trades"; columns = load_columns } ∷ []; parameters = [] }
 
 -- the text of the load's schema
 unfoldable pub schema_text : List ℕ

@@ -2,7 +2,7 @@
 -- A middle layer, proved equal to `Tallies` and `Loads`: no promise rests on it.
 use Rattle.std.specs.Prelude.{◌≡◌, ℕ, ◌*◌, ◌≤◌, List, Some}
 use Rattle.gl_schema.specs.Schemas.{kinds_of}
-use Rattle.gl_schema.specs.Beats.{Beat}
+use Rattle.gl_schema.specs.Beats.{Beats}
 use Rattle.gl_gaps.specs.Keeps.{even_gaps}
 use Rattle.gl_verilog.specs.declared.start.Start.TheVariants.{Zero}
 use Rattle.gl_compiler.specs.declared.compiling.Compiled.{Compiled}
@@ -39,7 +39,7 @@ pub record IsCompiledLoad (c : Compiled) : Type 0 where
   pub gaps : printed_gaps c.printed ≡ even_gaps 1
 
 -- the bytes are the lines of each run of its text over these beats, from registers and words of 0
-abbrev pub AreRunLines : Compiled → List Beat → List ℕ → Type 0
+abbrev pub AreRunLines : Compiled → Beats → List ℕ → Type 0
 AreRunLines c beats bytes = OfEachRun c.text.items load_schema beats Zero
     (λ outs port. (lines : List ℕ) × AreLinesOf (kinds_of (result_columns load_schema c.statement))
     beats outs port lines × (bytes ≡ lines))

@@ -2,7 +2,7 @@
 use Rattle.std.specs.Prelude.{ℕ, zero, suc, ◌+◌, ◌*◌, ◌%◌, false, List, [], ◌∷◌, map, codes, Some, ◌==◌}
 use Rattle.std.specs.List.{range_with_len}
 use Rattle.gl_schema.specs.Schemas.{text_word}
-use Rattle.gl_schema.specs.Beats.{Beat}
+use Rattle.gl_schema.specs.Beats.{Beat, Beats}
 
 -- four symbols, one after the other
 abbrev pub symbol_at : ℕ → List ℕ
@@ -19,6 +19,6 @@ load_row i = text_word 4 (symbol_at (i % 4)) ∷ (100 + (7 * i) % 1000) ∷ (1 +
 abbrev pub load_beat : ℕ → ℕ → Beat
 load_beat n i = record { cycle = i; rows = Some (load_row i) ∷ []; tick = false; end = i + 1 == n }
 
--- the first beats of the load, one for each tuple
-abbrev pub load_beats : ℕ → List Beat
-load_beats n = map (load_beat n) (range_with_len 0 n)
+-- the beats of the load, one for each tuple; its schema has no parameter
+abbrev pub load_beats : ℕ → Beats
+load_beats n = record { list = map (load_beat n) (range_with_len 0 n); sets = [] }

@@ -76,5 +76,5 @@ pub(crate) fn load_beats(alloc: Global, schema: &Schema, count: u32) -> Result<B
     for index in 0..count {
         beats.push(&load_beat(alloc, count, index)?)?;
     }
-    Ok(beats.done())
+    Ok(beats.done(Vec::new(alloc)))
 }

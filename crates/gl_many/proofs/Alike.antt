@@ -3,6 +3,7 @@ use Rattle.std.proofs.Common.{◌≡◌, List, [], ◌∷◌, refl, sym, ap, ◌
 use Rattle.gl_schema.specs.declared.schema.Schema.{Schema}
 use Rattle.gl_query.specs.declared.tree.Statement.{Statement}
 use Rattle.gl_query.specs.Alike.{query_alike}
+use Rattle.gl_query.specs.Columns.{sources_of}
 use Rattle.gl_query.specs.Shapes.{QueryShape}
 use Rattle.gl_query.specs.Trees.{StatementTree}
 use Rattle.gl_query.proofs.Alike.{query_same}
@@ -15,7 +16,7 @@ abbrev followed : Placed → Several → Several
 followed at rest = record { nodes = rest.nodes; roots = at.root ∷ rest.roots }
 
 abbrev shape_at : List PlanNode → Schema → QueryShape → Placed
-shape_at nodes schema q = placed (stream_node schema.streams) schema.streams q nodes
+shape_at nodes schema q = placed (stream_node schema.streams) (sources_of schema) q nodes
 
 -- the joint plan of statements of these trees
 abbrev trees_plan : List PlanNode → Schema → List StatementTree → Several

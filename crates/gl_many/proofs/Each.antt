@@ -2,7 +2,7 @@
 use Rattle.std.proofs.Common.{◌≡◌, ℕ, List, sym, subst}
 use Rattle.std.specs.List.{AllByRecursion}
 use Rattle.gl_schema.specs.declared.schema.Schema.{Schema}
-use Rattle.gl_schema.specs.Beats.{Beat}
+use Rattle.gl_schema.specs.Beats.{Beats}
 use Rattle.gl_schema.specs.Ports.{PortValues}
 use Rattle.gl_verilog.specs.Module.{Module}
 use Rattle.gl_verilog.specs.declared.module.Module.{Module as Rust}
@@ -24,7 +24,7 @@ use Rattle.gl_many.specs.Runs.{CanRunAll, OfAllRuns}
 abbrev HasOne : List ℕ → Type 0
 HasOne text = (m n : Module) → HasModule text m → HasModule text n → m ≡ n
 
-module _ (text : List ℕ) (schema : Schema) (faces : List Face) (beats : List Beat) (latency : ℕ) (start : Start) (d : Rust)
+module _ (text : List ℕ) (schema : Schema) (faces : List Face) (beats : Beats) (latency : ℕ) (start : Start) (d : Rust)
     (one : HasOne text) (can : CanRunAll text schema faces beats latency start) (has : HasModule text (module_of d)) where
   -- the module that was read is the one that can run
   mine : can.design ≡ module_of d

@@ -3,6 +3,7 @@ use Rattle.std.proofs.Common.{◌≡◌, ℕ, max, List, [], ◌∷◌, Ok, Err,
 use Rattle.gl_schema.specs.declared.schema.Schema.{Schema}
 use Rattle.gl_query.specs.declared.fault.QueryFault.{QueryFault}
 use Rattle.gl_query.specs.declared.tree.Statement.{Statement}
+use Rattle.gl_query.specs.Columns.{sources_of}
 use Rattle.gl_query.specs.Shapes.{QueryShape, query_shape}
 use Rattle.gl_query.specs.Trees.{statement_tree}
 use Rattle.gl_query_texts.specs.Lists.{HasStatements}
@@ -38,7 +39,7 @@ no_list laws schema text f ss h k =
 -- ---- statements of the same trees
 
 abbrev gap_at : Schema → QueryShape → ℕ
-gap_at schema q = (query_figures schema.streams q).gt
+gap_at schema q = (query_figures (sources_of schema) q).gt
 
 -- they have one gap
 pub gaps_alike : (schema : Schema) (ss ts : List Statement) → trees_of ss ≡ trees_of ts → shared_gap schema ss ≡ shared_gap schema ts

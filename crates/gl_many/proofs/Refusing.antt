@@ -39,6 +39,7 @@ answered (fault.OutOfRange at) = inr ((λ e. absurd cc), refl)
 answered (fault.TooDeep at) = inr ((λ e. absurd cc), refl)
 answered (fault.NoTime at) = inr ((λ e. absurd cc), refl)
 answered (fault.NoArrival at) = inr ((λ e. absurd cc), refl)
+answered (fault.UnknownParameter at) = inr ((λ e. absurd cc), refl)
 
 pub list_cause : (schema : Schema) (text : List ℕ) (f : QueryFault) → IsFaultOrMemory schema text f → AreRefused schema text (fault_of_query f)
 list_cause schema text f (inl found) = elim (answered f) [

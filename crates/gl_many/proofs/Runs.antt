@@ -4,7 +4,7 @@ use Rattle.std.specs.List.{AllByRecursion}
 use Rattle.gl_bits.proofs.AllLists.{all_of_mapped, all_weaker}
 use Rattle.gl_gaps.specs.declared.Gaps.{Gaps}
 use Rattle.gl_schema.specs.declared.schema.Schema.{Schema}
-use Rattle.gl_schema.specs.Beats.{Beat, AreBeats}
+use Rattle.gl_schema.specs.Beats.{Beats, AreBeats}
 use Rattle.gl_gaps.specs.Keeps.{KeepsGaps, even_gaps}
 use Rattle.gl_schema.specs.Schemas.{IsSchema}
 use Rattle.gl_query.specs.declared.tree.Statement.{Statement}
@@ -41,7 +41,7 @@ greatest_within (n ∷ ns) most h = omega (arith, h.0, greatest_within ns most h
 
 -- ---- the ends
 
-all_end : (schema : Schema) (statements : List Statement) (gaps : Gaps) (latency : ℕ) (design : Module) (beats : List Beat) (value : ℕ → Nets) (word : ℕ → Memories)
+all_end : (schema : Schema) (statements : List Statement) (gaps : Gaps) (latency : ℕ) (design : Module) (beats : Beats) (value : ℕ → Nets) (word : ℕ → Memories)
     → AllByRecursion (IsRightAmong schema gaps design) statements → AllByRecursion (λ s. own_latency schema s ≤ latency) statements → Drives design schema gaps beats value word
     → AllEndWithin latency beats (faces_of schema statements) (port_of design value)
 all_end schema [] gaps latency design beats value word each long driven = tt
@@ -52,7 +52,7 @@ all_end schema (s ∷ ss) gaps latency design beats value word each long driven 
     (first, all_end schema ss gaps latency design beats value word each.1 long.1 driven)
 
 -- by the law of ports
-can_run : AcceptedHaveRealColumns → (are_ports : (text : List ℕ) (m : Module) → HasModule text m → HasInputPorts m) (m : Many) (beats : List Beat) (start : Start) → AreRunnable m → AreBeats m.schema beats → KeepsGaps (even_gaps m.planned.gap) beats
+can_run : AcceptedHaveRealColumns → (are_ports : (text : List ℕ) (m : Module) → HasModule text m → HasInputPorts m) (m : Many) (beats : Beats) (start : Start) → AreRunnable m → AreBeats m.schema beats → KeepsGaps (even_gaps m.planned.gap) beats
     → CanRunAll m.text.items m.schema (faces_of m.schema (statements_in m)) beats (greatest m.planned.latencies.items) start
 can_run real_columns are_ports m beats start is are keep =
     let meets = is.meets in
@@ -78,7 +78,7 @@ can_run real_columns are_ports m beats start is are keep =
     }
 
 -- the text of several compiled queries, with their schema, their faces and the longest of their latencies
-pub can_run_many : AcceptedHaveRealColumns → (are_ports : (text : List ℕ) (m : Module) → HasModule text m → HasInputPorts m) (m : Many) (beats : List Beat) (text : List ℕ) (schema : Schema) (faces : List Face) (latency : ℕ) (start : Start) → AreRunnable m → AreBeats m.schema beats → KeepsGaps (even_gaps m.planned.gap) beats
+pub can_run_many : AcceptedHaveRealColumns → (are_ports : (text : List ℕ) (m : Module) → HasModule text m → HasInputPorts m) (m : Many) (beats : Beats) (text : List ℕ) (schema : Schema) (faces : List Face) (latency : ℕ) (start : Start) → AreRunnable m → AreBeats m.schema beats → KeepsGaps (even_gaps m.planned.gap) beats
     → text ≡ m.text.items → schema ≡ m.schema → faces ≡ faces_of m.schema (statements_in m) → latency ≡ greatest m.planned.latencies.items
     → CanRunAll text schema faces beats latency start
 can_run_many real_columns are_ports m beats text schema faces latency start is are keep a b d e =
@@ -88,7 +88,7 @@ can_run_many real_columns are_ports m beats text schema faces latency start is a
     subst (λ (x : ℕ). CanRunAll m.text.items m.schema (faces_of m.schema (statements_in m)) beats x start) (sym e) (can_run real_columns are_ports m beats start is are keep))))
 
 -- how its run ended
-pub ran_many : (m : Many) (beats : List Beat) (text : List ℕ) (schema : Schema) (faces : List Face) (start : Start) (old new : SinkState) (r : Outcome)
+pub ran_many : (m : Many) (beats : Beats) (text : List ℕ) (schema : Schema) (faces : List Face) (start : Start) (old new : SinkState) (r : Outcome)
     → text ≡ m.text.items → schema ≡ m.schema → faces ≡ faces_of m.schema (statements_in m)
     → RanAll (OfAllRuns text schema beats start) faces beats old new r
     → RanAll (OfAllRuns m.text.items m.schema beats start) (faces_of m.schema (statements_in m)) beats old new r

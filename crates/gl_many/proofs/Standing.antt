@@ -8,6 +8,7 @@ use Rattle.gl_query.specs.declared.tree.Statement.{Statement}
 use Rattle.gl_query.specs.Accepted.{IsAccepted}
 use Rattle.gl_query.specs.Checked.{IsChecked}
 use Rattle.gl_query.specs.Laws.{AcceptedHaveRealColumns}
+use Rattle.gl_algebra.specs.Known.{AreKnown}
 use Rattle.gl_algebra.specs.declared.figures.Figures.{Figures}
 use Rattle.gl_algebra.specs.declared.node.PlanNode.{PlanNode}
 use Rattle.gl_algebra.specs.FigureTable.{figures_of}
@@ -15,7 +16,7 @@ use Rattle.gl_algebra.specs.Shapes.{Shape}
 use Rattle.gl_algebra.specs.Shapes as shapes
 use Rattle.gl_algebra.specs.Small.{AreFigures}
 use Rattle.gl_algebra.specs.Views.{reads_time}
-use Rattle.gl_elaborate.specs.Laws.{IsRightAt, PlansAreRight, PlansTellTime, SeveralAreRight}
+use Rattle.gl_elaborate.specs.Laws.{IsRightAt, PlansAreRight, PlansTellTime, SeveralAreRight, parameter_widths}
 use Rattle.gl_elaborate.specs.Plans.{Several}
 use Rattle.gl_plan.specs.Planned.{AreAllSmall}
 use Rattle.gl_plan.specs.declared.several.PlannedSeveral.{PlannedSeveral}
@@ -81,11 +82,12 @@ module _ (nodes : List PlanNode) (schema : Schema) where
   each_wires (s ∷ ss) [] all = absurd all
   each_wires (s ∷ ss) (id ∷ ids) all = (can_wire nodes schema s id all.0, each_wires ss ids all.1)
 
-  pub can_wire_all : (figures : List Figures) (ss : List Statement) (ids : List ℕ) → CanStand schema ss → AreFigures nodes figures → AllStand nodes schema ss ids
+  pub can_wire_all : (figures : List Figures) (ss : List Statement) (ids : List ℕ) → CanStand schema ss → AreFigures nodes figures → AreKnown (parameter_widths schema) nodes → AllStand nodes schema ss ids
       → CanWireAll schema nodes figures (roots_of schema ss ids)
-  can_wire_all figures ss ids can figured all = record {
+  can_wire_all figures ss ids can figured are_known all = record {
     schema' = can.of_schema;
     figured = figured;
+    known = are_known;
     each = each_wires ss ids all;
     distinct = subst (λ (names : List (List ℕ)). IsDistinct bytes_eq names) (sym (intos_are ss ids all)) can.distinct;
   }
@@ -146,6 +148,9 @@ module _ (laws : Laws) (schema : Schema) (ss : List Statement) (p : PlannedSever
   pub they_stand : AllStand p.plan schema ss p.roots.items
   they_stand = subst (λ (all : Several). AllStand all.nodes schema ss all.roots) (sym is.at)
       (all_stand laws _ schema ss _ can.checked can.named (laws.several schema ss can.checked).each)
+
+  pub no_others : AreKnown (parameter_widths schema) p.plan
+  no_others = subst (λ (all : Several). AreKnown (parameter_widths schema) all.nodes) (sym is.at) (laws.several schema ss can.checked).known
 
   pub reads_ticks : Global → reads_time p.plan ≡ take_ticks ss
   reads_ticks heap = ap (λ (all : Several). reads_time all.nodes) is.at ∙ several-time laws.time heap schema ss

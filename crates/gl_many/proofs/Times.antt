@@ -7,6 +7,7 @@ use Rattle.gl_schema.specs.declared.schema.Schema.{Schema}
 use Rattle.gl_query.specs.declared.tree.Query.{Query}
 use Rattle.gl_query.specs.declared.tree.Query.TheVariants as query
 use Rattle.gl_query.specs.declared.tree.Statement.{Statement}
+use Rattle.gl_query.specs.Columns.{sources_of}
 use Rattle.gl_query.specs.Shapes.{QueryShape, query_shape}
 use Rattle.gl_query.specs.Windows.{has_time}
 use Rattle.gl_algebra.specs.declared.node.PlanNode.{PlanNode}
@@ -37,7 +38,7 @@ united_time heap [] s = sym (or_none (takes_ticks s))
 united_time heap (t ∷ ss) s = ap (λ (b : Bool). takes_ticks s || b) (united_time heap ss t)
 
 abbrev shape_at : List PlanNode → Schema → QueryShape → Placed
-shape_at nodes schema q = placed (stream_node schema.streams) schema.streams q nodes
+shape_at nodes schema q = placed (stream_node schema.streams) (sources_of schema) q nodes
 
 -- a UNION above a plan's nodes reads no time
 union_quiet : (nodes : List PlanNode) (left right : ℕ) → reads_time (added nodes (node.Union left right)).nodes ≡ reads_time nodes

@@ -13,6 +13,7 @@ use Rattle.gl_schema.specs.Profile.{ProfilePort, clk, input, input_ports, output
 use Rattle.gl_schema.specs.Right.{IsRight}
 use Rattle.gl_query.specs.declared.tree.Statement.{Statement}
 use Rattle.gl_query.specs.Accepted.{IsAccepted}
+use Rattle.gl_query.specs.Columns.{sources_of}
 use Rattle.gl_query.specs.Results.{IsResult}
 use Rattle.gl_query.specs.Shapes.{query_shape}
 use Rattle.gl_algebra.specs.declared.figures.Figures.{Figures}
@@ -34,7 +35,7 @@ use Rattle.gl_compiler.specs.Meets.{result_columns, takes_ticks}
 
 -- the figures of a statement among others: those of its query, form by form, since no root has spare copies here
 abbrev pub own_figures : Schema → Statement → Figures
-own_figures schema statement = query_figures schema.streams (query_shape statement.query)
+own_figures schema statement = query_figures (sources_of schema) (query_shape statement.query)
 
 -- the cycles from the last beat to the end of a statement's result, whatever stands beside it
 abbrev pub own_latency : Schema → Statement → ℕ

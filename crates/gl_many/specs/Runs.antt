@@ -2,7 +2,7 @@
 use Rattle.std.specs.Prelude.{◌≡◌, ℕ, ◌≤◌, ◌^◌, max, List, [], ◌∷◌, map}
 use Rattle.std.specs.List.{AllByRecursion}
 use Rattle.gl_schema.specs.declared.schema.Schema.{Schema}
-use Rattle.gl_schema.specs.Beats.{Beat}
+use Rattle.gl_schema.specs.Beats.{Beats}
 use Rattle.gl_schema.specs.Ports.{PortValues}
 use Rattle.gl_schema.specs.Schemas.{IsSchema}
 use Rattle.gl_query.specs.declared.tree.Statement.{Statement}
@@ -34,14 +34,14 @@ greatest [] = 0
 greatest (n ∷ ns) = max n (greatest ns)
 
 -- a fact about the ports in each run of the text's module from this start over these beats
-abbrev pub OfAllRuns : List ℕ → Schema → List Beat → Start → (PortValues → Type 0) → Type 0
+abbrev pub OfAllRuns : List ℕ → Schema → Beats → Start → (PortValues → Type 0) → Type 0
 OfAllRuns text schema beats start P =
     (m : Module) (value : ℕ → Nets) (word : ℕ → Memories) → HasModule text m → IsRunOver m schema beats start value word
     → P (port_of m value)
 
 -- the text has a module that these beats can drive and that has the ports of each result, and in each of its runs from this
 -- start over these beats the end of each comes in time
-pub record CanRunAll (text : List ℕ) (schema : Schema) (faces : List Face) (beats : List Beat) (latency : ℕ)
+pub record CanRunAll (text : List ℕ) (schema : Schema) (faces : List Face) (beats : Beats) (latency : ℕ)
     (start : Start) : Type 0 where
   pub design : Module
   pub has : HasModule text design

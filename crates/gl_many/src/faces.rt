@@ -16,7 +16,7 @@ use std::alloc::Global;
 fn face_of(alloc: Global, schema: &Schema, statement: &Statement) -> Result<Face, Memory>
     ensures { IfOk result (λ v. v ≡ face_of schema.now statement.now) }
 {
-    let sources = Sources::Schema(schema.streams.as_slice());
+    let sources = Sources::Schema(schema.streams.as_slice(), schema.parameters.as_slice());
     Ok(Face {
         name: copy_of_name(alloc, statement.name.text.as_slice())?,
         columns: columns_of(alloc, sources, &statement.query)?,

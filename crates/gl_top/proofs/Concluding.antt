@@ -15,7 +15,7 @@ use Rattle.gl_top_forms.specs.Forms.{IsCommand, IsForm, IsOfRun, IsOfWhy, extra_
 use Rattle.gl_top_forms.proofs.Named.{form_of, help_form, named_form, one_command, why_names_query}
 use Rattle.gl_outside.specs.States.{IsCalm, Took}
 use Rattle.gl_verilog.specs.declared.start.Start.TheVariants.{Zero}
-use Rattle.gl_tuples.specs.declared.beats.Beat.{Beat}
+use Rattle.gl_tuples.specs.Flat.{BeatList}
 use Rattle.gl_tuples.specs.Gaps.{plain_beats}
 use Rattle.gl_verilog.specs.Module.{Module}
 use Rattle.gl_runner.specs.declared.executing.Outcome.TheVariants as outcome
@@ -116,7 +116,7 @@ ending_status (end.NoEnd cycle) notes answered (inr n) = inr (inl n.0)
 ending_status end.WriteFault notes answered h = inr (inl (noted_write status.WriteFault answered write_line notes refl h))
 ending_status end.Memory notes answered h = absurd h
 
-module _ (call : Call) (schema : Schema) (design : Module) (beats : List Beat) (passes : FilePasses call.shelf.old.told call.words schema design beats)
+module _ (call : Call) (schema : Schema) (design : Module) (beats : BeatList) (passes : FilePasses call.shelf.old.told call.words schema design beats)
     (run : HasRunOver design schema (plain_beats beats) Zero) (calm : IsCalm call.shelf.old call.shelf.new) where
   abbrev IsSo : Ending → Type 0
   IsSo ending = traces.Traced (OfRunsOf design schema (plain_beats beats) Zero) (decimal_kinds design) (plain_beats beats) (extra_of call.words) call.out.old call.out.new ending

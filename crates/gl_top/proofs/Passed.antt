@@ -17,7 +17,7 @@ use Rattle.gl_compiler.proofs.Planning.{gaps_by_shape}
 use Rattle.gl_compiler.proofs.Shaped.{shapes_alike}
 use Rattle.gl_compiler.specs.Built.{gaps_of}
 use Rattle.gl_compiler.specs.Queries.{IsQuery}
-use Rattle.gl_tuples.specs.declared.beats.Beat.{Beat}
+use Rattle.gl_tuples.specs.Flat.{BeatList}
 use Rattle.gl_tuples.specs.declared.fault.TupleFault.{TupleFault}
 use Rattle.gl_many.specs.Meets.{shared_gap}
 use Rattle.gl_many.specs.Queries.{AreQueries}
@@ -162,22 +162,22 @@ other_file told words s t tells p q a f =
     let e : t ≡ s = one_schema told words t s tells q p in
     subst (λ (x : Schema). FailsAt told words part.Tuples (TuplesFail (filed x)) a) e f
 
-abbrev AreTuples : (List ℕ → Result (List Beat) TupleFault) → List ℕ → Type 0
-AreTuples read text = (beats : List Beat) × (read text ≡ Ok beats)
+abbrev AreTuples : (List ℕ → Result BeatList TupleFault) → List ℕ → Type 0
+AreTuples read text = (beats : BeatList) × (read text ≡ Ok beats)
 
 -- beats that are there do not fail
-beats_go : (t : Told) (read : List ℕ → Result (List Beat) TupleFault) (beats : List Beat) (a : Refusal) → t ≢ Untold → Fine t (λ text. read text ≡ Ok beats) → Failing t part.Tuples (TuplesFail read) a → ⊥
+beats_go : (t : Told) (read : List ℕ → Result BeatList TupleFault) (beats : BeatList) (a : Refusal) → t ≢ Untold → Fine t (λ text. read text ≡ Ok beats) → Failing t part.Tuples (TuplesFail read) a → ⊥
 beats_go t read beats a told fine f =
     not_both t part.Tuples (AreTuples read) (TuplesFail read) a told (λ text is fails. no_error (read text) is.0 fails.fault is.1 fails.found)
     (weaker t (λ text. read text ≡ Ok beats) (AreTuples read) (λ text h. (beats, h)) fine) f
 
-tuples_third : LawsBelow → (told : List ℕ → Told) (words : List (List ℕ)) (s t : Schema) (gaps : Gaps) (beats : List Beat) (a : Refusal) → IsTelling told words → AsksGaps told words s gaps → HasText told words part.Tuples (λ text. kept_beats s gaps text ≡ Ok beats)
+tuples_third : LawsBelow → (told : List ℕ → Told) (words : List (List ℕ)) (s t : Schema) (gaps : Gaps) (beats : BeatList) (a : Refusal) → IsTelling told words → AsksGaps told words s gaps → HasText told words part.Tuples (λ text. kept_beats s gaps text ≡ Ok beats)
     → ThirdStops told words t a → ⊥
 tuples_third laws told words s t gaps beats a tells asks fine (AtTuples n q f) =
     beats_go (told (name_of words part.Tuples)) (kept_beats s gaps) beats a (tells part.Tuples (asks_named told words s gaps asks)) fine (other_gaps laws told words s t gaps n tells asks q a f)
 tuples_third laws told words s t gaps beats a tells asks fine (AtFile m q f) = asks_no_sim told words s gaps asks q.sims
 
-file_third : (told : List ℕ → Told) (words : List (List ℕ)) (s t : Schema) (m : Module) (beats : List Beat) (a : Refusal) → IsTelling told words → FilePasses told words s m beats → ThirdStops told words t a → ⊥
+file_third : (told : List ℕ → Told) (words : List (List ℕ)) (s t : Schema) (m : Module) (beats : BeatList) (a : Refusal) → IsTelling told words → FilePasses told words s m beats → ThirdStops told words t a → ⊥
 file_third told words s t m beats a tells p (AtTuples gaps asks f) = asks_no_sim told words t gaps asks p.before.sims
 file_third told words s t m beats a tells p (AtFile n q f) =
     beats_go (told (name_of words part.Tuples)) (filed s) beats a (tells part.Tuples (sim_names_tuples words q.sims)) p.text (other_file told words s t tells p.before.before q.before a f)
@@ -195,14 +195,14 @@ two_go laws told words s a tells p one several (AtSecond t q h) = query_second l
 two_go laws told words s a tells p one several (AtThird t q h) = no_third told words s t a p one several h
 two_go laws told words s a tells p one several (AtDump named f) = passed_no_dump told words s p named
 
-three_go : LawsBelow → (told : List ℕ → Told) (words : List (List ℕ)) (s : Schema) (gaps : Gaps) (beats : List Beat) (a : Refusal) → IsTelling told words → AsksGaps told words s gaps → HasText told words part.Tuples (λ text. kept_beats s gaps text ≡ Ok beats) → Stops told words a → ⊥
+three_go : LawsBelow → (told : List ℕ → Told) (words : List (List ℕ)) (s : Schema) (gaps : Gaps) (beats : BeatList) (a : Refusal) → IsTelling told words → AsksGaps told words s gaps → HasText told words part.Tuples (λ text. kept_beats s gaps text ≡ Ok beats) → Stops told words a → ⊥
 three_go laws told words s gaps beats a tells asks fine (AtWords n e) = n (named_form words part.Tuples (asks_named told words s gaps asks))
 three_go laws told words s gaps beats a tells asks fine (AtSchema named f) = schema_goes told words s a tells (asks_schema told words s gaps asks) f
 three_go laws told words s gaps beats a tells asks fine (AtSecond t q h) = query_second laws told words s t a tells (asked_passed told words s gaps asks) q h
 three_go laws told words s gaps beats a tells asks fine (AtThird t q h) = tuples_third laws told words s t gaps beats a tells asks fine h
 three_go laws told words s gaps beats a tells asks fine (AtDump named f) = passed_no_dump told words s (asked_passed told words s gaps asks) named
 
-file_goes : LawsBelow → (told : List ℕ → Told) (words : List (List ℕ)) (s : Schema) (m : Module) (beats : List Beat) (a : Refusal) → IsTelling told words → FilePasses told words s m beats → Stops told words a → ⊥
+file_goes : LawsBelow → (told : List ℕ → Told) (words : List (List ℕ)) (s : Schema) (m : Module) (beats : BeatList) (a : Refusal) → IsTelling told words → FilePasses told words s m beats → Stops told words a → ⊥
 file_goes laws told words s m beats a tells p (AtWords n e) = n (form_of words command.Sim p.before.sims)
 file_goes laws told words s m beats a tells p (AtSchema named f) = schema_goes told words s a tells p.before.before f
 file_goes laws told words s m beats a tells p (AtSecond t q h) = module_second laws told words s t m a tells p.before q h

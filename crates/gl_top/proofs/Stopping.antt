@@ -12,9 +12,10 @@ use Rattle.gl_query.specs.declared.tree.Statement.{Statement}
 use Rattle.gl_query.specs.declared.fault.QueryFault.{QueryFault}
 use Rattle.gl_query_texts.specs.Limits.{IsOverLimit}
 use Rattle.gl_figures.specs.declared.Limit.{Limit}
-use Rattle.gl_tuples.specs.declared.beats.Beat.{Beat}
+use Rattle.gl_tuples.specs.Flat.{BeatList}
 use Rattle.gl_tuples.specs.declared.fault.TupleFault.{TupleFault}
-use Rattle.gl_tuple_reader.specs.Filing.{beats_of, records_of}
+use Rattle.gl_tuple_reader.specs.Filing.{records_of}
+use Rattle.gl_tuple_reader.specs.Settings.{beats_of}
 use Rattle.gl_verilog.specs.Module.{Module}
 use Rattle.gl_verilog_tokens.specs.declared.fault.VerilogFault.{VerilogFault}
 use Rattle.gl_compiler.specs.declared.compiling.Compiled.{Compiled}
@@ -59,10 +60,10 @@ pub record ModuleFails (s : Schema) (text : List ℕ) (r : Refusal) : Type 0 whe
   pub is : r ≡ refusal.Verilog fault
 
 -- the beats of a file of which no gap is asked
-abbrev pub filed : Schema → List ℕ → Result (List Beat) TupleFault
+abbrev pub filed : Schema → List ℕ → Result BeatList TupleFault
 filed s text = beats_of s (records_of text)
 
-pub record TuplesFail (read : List ℕ → Result (List Beat) TupleFault) (text : List ℕ) (r : Refusal) : Type 0 where
+pub record TuplesFail (read : List ℕ → Result BeatList TupleFault) (text : List ℕ) (r : Refusal) : Type 0 where
   pub fault : TupleFault
   pub found : read text ≡ Err fault
   pub is : r ≡ refusal.Tuples fault
@@ -74,7 +75,7 @@ schema_once a b text f g = f.is ∙ ap refusal.Schema (one_error (schema_of text
 pub module_once : LawsBelow → (s : Schema) (a b : Refusal) (text : List ℕ) → ModuleFails s text a → ModuleFails s text b → a ≡ b
 module_once laws s a b text f g = f.is ∙ ap refusal.Verilog (one_module_fault laws.one_verdict s text f.fault g.fault f.found g.found) ∙ sym g.is
 
-pub tuples_once : (read : List ℕ → Result (List Beat) TupleFault) (a b : Refusal) (text : List ℕ) → TuplesFail read text a → TuplesFail read text b → a ≡ b
+pub tuples_once : (read : List ℕ → Result BeatList TupleFault) (a b : Refusal) (text : List ℕ) → TuplesFail read text a → TuplesFail read text b → a ≡ b
 tuples_once read a b text f g = f.is ∙ ap refusal.Tuples (one_error (read text) f.fault g.fault f.found g.found) ∙ sym g.is
 
 -- the limits that plans of a text's statements pass are one
@@ -138,7 +139,7 @@ at_tuples told words s gaps r asks f = AtThird s (asks_schema told words s gaps 
 at_file : (told : List ℕ → Told) (words : List (List ℕ)) (s : Schema) (m : Module) (r : Refusal) → ModulePasses told words s m → FailsAt told words part.Tuples (TuplesFail (filed s)) r → Stops told words r
 at_file told words s m r before f = AtThird s before.before (AtFile m before f)
 
-bad_tuples : (t : Told) (read : List ℕ → Result (List Beat) TupleFault) (fault : TupleFault) → Fine t (λ text. read text ≡ Err fault) → Failing t part.Tuples (TuplesFail read) (refusal.Tuples fault)
+bad_tuples : (t : Told) (read : List ℕ → Result BeatList TupleFault) (fault : TupleFault) → Fine t (λ text. read text ≡ Err fault) → Failing t part.Tuples (TuplesFail read) (refusal.Tuples fault)
 bad_tuples t read fault h = bad t part.Tuples (λ text. read text ≡ Err fault) (TuplesFail read) (refusal.Tuples fault) (λ text e. record { fault = fault; found = e; is = refl }) h
 
 -- what stops a command at the tuple file, whatever else a file may fail at

@@ -9,7 +9,7 @@ use Rattle.gl_schema.specs.Schemas.{kinds_of}
 use Rattle.gl_query.specs.declared.tree.Statement.{Statement}
 use Rattle.gl_verilog.specs.declared.start.Start.{Start}
 use Rattle.gl_verilog.specs.declared.start.Start.TheVariants.{Zero}
-use Rattle.gl_tuples.specs.declared.beats.Beat.{Beat}
+use Rattle.gl_tuples.specs.Flat.{BeatList}
 use Rattle.gl_tuples.specs.Gaps.{plain_beats}
 use Rattle.gl_compiler.specs.Built.{latency_of, gaps_of}
 use Rattle.gl_compiler.specs.Meets.{Meets, result_columns}
@@ -56,23 +56,23 @@ use Rattle.gl_top_status.specs.Refusals.{Puts, Notes, status_of, note_of, no_end
 -- ---- what was written
 
 -- how the run of the text over these beats ended
-abbrev pub RanLines : Schema → Statement → List Beat → Start → List ℕ → SinkState → SinkState → Outcome → Type 0
+abbrev pub RanLines : Schema → Statement → BeatList → Start → List ℕ → SinkState → SinkState → Outcome → Type 0
 RanLines schema statement beats start text old new outcome =
     prints.Ran (OfEachRun text schema (plain_beats beats) start) (kinds_of (result_columns schema statement))
     (plain_beats beats) old new outcome
 
 -- how dumping the run of the text over these beats ended
-abbrev pub DumpedRun : Schema → List Beat → Start → List ℕ → SinkState → SinkState → Outcome → Type 0
+abbrev pub DumpedRun : Schema → BeatList → Start → List ℕ → SinkState → SinkState → Outcome → Type 0
 DumpedRun schema beats start text old new outcome =
     dumps.Dumped (OfEachPorts text schema (plain_beats beats) start) (plain_beats beats) old new outcome
 
 -- where the times of the run have room in a dump, what is dumped of it is a dump of that run, and shows its lines
-abbrev pub TellsDumped : Schema → Statement → List Beat → Start → List ℕ → Type 0
+abbrev pub TellsDumped : Schema → Statement → BeatList → Start → List ℕ → Type 0
 TellsDumped schema statement beats start text =
     DumpTells (latency_of schema statement) schema (plain_beats beats) start text
 
 -- how the run of the text of several statements over these beats ended
-abbrev pub RanLinesOfAll : Schema → List Statement → List Beat → Start → List ℕ → SinkState → SinkState → Outcome
+abbrev pub RanLinesOfAll : Schema → List Statement → BeatList → Start → List ℕ → SinkState → SinkState → Outcome
     → Type 0
 RanLinesOfAll schema statements beats start text old new outcome =
     RanAll (OfAllRuns text schema (plain_beats beats) start) (faces_of schema statements) (plain_beats beats) old new
@@ -80,13 +80,13 @@ RanLinesOfAll schema statements beats start text old new outcome =
 
 -- the texts pass, and the text that was emitted for them meets the statement
 pub record IsEmitted (told : List ℕ → Told) (words : List (List ℕ)) (schema : Schema) (statement : Statement)
-    (beats : List Beat) (text : List ℕ) : Type 0 where
+    (beats : BeatList) (text : List ℕ) : Type 0 where
   pub passes : TuplesPass told words schema statement beats
   pub meets : Meets schema statement (latency_of schema statement) (gaps_of schema statement) text
 
 -- the tuples pass over several statements, and the text meets all of these together
 pub record AreEmitted (told : List ℕ → Told) (words : List (List ℕ)) (schema : Schema) (statements : List Statement)
-    (beats : List Beat) (text : List ℕ) : Type 0 where
+    (beats : BeatList) (text : List ℕ) : Type 0 where
   pub passes : TuplesPassAll told words schema statements beats
   pub meets : MeetTogether schema statements (shared_gap schema statements) text
 
@@ -94,15 +94,15 @@ pub record AreEmitted (told : List ℕ → Told) (words : List (List ℕ)) (sche
 -- each result of `manyrun`, with its statement's name, or the dump of `vcd`, which tells the run
 pub data IsRun (told : List ℕ → Told) (words : List (List ℕ)) (text : List ℕ) (old new : SinkState) (outcome : Outcome)
     : Type 0 where
-  OfResult : (is : IsCommand words Run) (schema : Schema) (statement : Statement) (beats : List Beat)
+  OfResult : (is : IsCommand words Run) (schema : Schema) (statement : Statement) (beats : BeatList)
       (emitted : IsEmitted told words schema statement beats text)
       (wrote : RanLines schema statement beats (start_of words) text old new outcome)
       → IsRun told words text old new outcome
-  OfNamedLines : (is : IsCommand words ManyRun) (schema : Schema) (statements : List Statement) (beats : List Beat)
+  OfNamedLines : (is : IsCommand words ManyRun) (schema : Schema) (statements : List Statement) (beats : BeatList)
       (emitted : AreEmitted told words schema statements beats text)
       (wrote : RanLinesOfAll schema statements beats (start_of words) text old new outcome)
       → IsRun told words text old new outcome
-  OfPorts : (is : IsCommand words Vcd) (schema : Schema) (statement : Statement) (beats : List Beat)
+  OfPorts : (is : IsCommand words Vcd) (schema : Schema) (statement : Statement) (beats : BeatList)
       (emitted : IsEmitted told words schema statement beats text)
       (wrote : DumpedRun schema beats (start_of words) text old new outcome)
       (tells : TellsDumped schema statement beats (start_of words) text)
@@ -123,7 +123,7 @@ pub record IsUndumped (told : List ℕ → Told) (words : List (List ℕ)) (byte
 pub data AreFine (told : List ℕ → Told) (words : List (List ℕ)) : Type 0 where
   OfQuery : (is : IsCommand words Why) (schema : Schema) (statement : Statement)
       (passes : QueryPasses told words schema statement) → AreFine told words
-  OfItsRun : (is : IsCommand words WhyRun) (schema : Schema) (statement : Statement) (beats : List Beat)
+  OfItsRun : (is : IsCommand words WhyRun) (schema : Schema) (statement : Statement) (beats : BeatList)
       (passes : TuplesPass told words schema statement beats) → AreFine told words
 
 -- what is written, and the text that is left: what a command shows of the texts that it names, what is told of a load,
@@ -149,9 +149,9 @@ TellsEnding end.Memory notes answered = ⊥
 -- no text was emitted, or one that meets the statement, or all of several
 abbrev pub IsNoneOrEmitted : (List ℕ → Told) → List (List ℕ) → List ℕ → Type 0
 IsNoneOrEmitted told words text =
-    (text ≡ []) ⊎ (((schema : Schema) × (statement : Statement) × (beats : List Beat)
+    (text ≡ []) ⊎ (((schema : Schema) × (statement : Statement) × (beats : BeatList)
     × IsEmitted told words schema statement beats text)
-    ⊎ ((schema : Schema) × (statements : List Statement) × (beats : List Beat)
+    ⊎ ((schema : Schema) × (statements : List Statement) × (beats : BeatList)
     × AreEmitted told words schema statements beats text))
 
 -- ---- how a call ended
@@ -174,7 +174,7 @@ pub record HasRunInPart (call : Call) : Type 0 where
 pub record HasTraced (call : Call) : Type 0 where
   pub schema : Schema
   pub design : Module
-  pub beats : List Beat
+  pub beats : BeatList
   pub passes : FilePasses call.shelf.old.told call.words schema design beats
   pub run : HasRunOver design schema (plain_beats beats) Zero
   pub ending : Ending
@@ -235,7 +235,7 @@ pub data IsAnswer (call : Call) : Type 0 where
 pub record IsEndless (call : Call) : Type 0 where
   pub schema : Schema
   pub design : Module
-  pub beats : List Beat
+  pub beats : BeatList
   pub passes : FilePasses call.shelf.old.told call.words schema design beats
   pub run : HasRunOver design schema (plain_beats beats) Zero
   pub cycle : ℕ
@@ -277,13 +277,13 @@ Says call = SaysBy call.status call
 pub data AllPass (told : List ℕ → Told) (words : List (List ℕ)) : Type 0 where
   Two : (schema : Schema) (statement : Statement) (passes : QueryPasses told words schema statement)
       (others : IsOfRun words → ⊥) → AllPass told words
-  Three : (schema : Schema) (statement : Statement) (beats : List Beat)
+  Three : (schema : Schema) (statement : Statement) (beats : BeatList)
       (pass : TuplesPass told words schema statement beats) → AllPass told words
   TwoOfAll : (schema : Schema) (statements : List Statement) (passes : QueriesPass told words schema statements)
       (others : IsCommand words ManyRun → ⊥) → AllPass told words
-  ThreeOfAll : (schema : Schema) (statements : List Statement) (beats : List Beat)
+  ThreeOfAll : (schema : Schema) (statements : List Statement) (beats : BeatList)
       (pass : TuplesPassAll told words schema statements beats) → AllPass told words
-  OfFile : (schema : Schema) (design : Module) (beats : List Beat)
+  OfFile : (schema : Schema) (design : Module) (beats : BeatList)
       (pass : FilePasses told words schema design beats) → AllPass told words
   Loads : (count : ℕ) (is : IsLoadOf words count) → AllPass told words
   Undumps : (bytes : List ℕ) (shown : IsUndumped told words bytes) → AllPass told words

@@ -26,6 +26,7 @@ told_as (fault.OutOfRange at) real = refl
 told_as (fault.TooDeep at) real = refl
 told_as (fault.NoTime at) real = refl
 told_as (fault.NoArrival at) real = refl
+told_as (fault.UnknownParameter at) real = refl
 
 pub explain_refused : (schema : Schema) (text : List ℕ) (f : QueryFault) → IsFaultOrMemory schema text f → IsExplainRefused schema text (query_refusal f)
 explain_refused schema text f (inl is) = rw (told_as f is.real) is

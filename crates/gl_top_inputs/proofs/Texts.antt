@@ -10,12 +10,12 @@ use Rattle.gl_schema.specs.Schemas.{IsSchema}
 use Rattle.gl_gaps.specs.Keeps.{KeepsGaps, even_gaps}
 use Rattle.gl_query.specs.declared.tree.Statement.{Statement}
 use Rattle.gl_query.specs.declared.fault.QueryFault.{QueryFault}
-use Rattle.gl_tuples.specs.declared.beats.Beat.{Beat}
 use Rattle.gl_tuples.specs.declared.fault.TupleFault.{TupleFault}
 use Rattle.gl_tuples.specs.declared.fault.TupleFault.TheVariants as tuples
 use Rattle.gl_tuple_reader.specs.Entries.{Fails}
-use Rattle.gl_tuple_reader.specs.Filing.{beats_of, records_of}
-use Rattle.gl_tuple_reader.specs.FileBeats.{AreBeatsOf}
+use Rattle.gl_tuple_reader.specs.Filing.{records_of}
+use Rattle.gl_tuple_reader.specs.Settings.{beats_of}
+use Rattle.gl_tuples.specs.Flat.{BeatList}
 use Rattle.gl_tuples.specs.Gaps.{AreFileBeats, plain_beats, first_close, close_answer}
 use Rattle.gl_verilog.specs.Module.{Module}
 use Rattle.gl_compiler.specs.declared.fault.CompileFault.{CompileFault}
@@ -39,7 +39,7 @@ use Rattle.gl_top_status.specs.declared.refusal.Refusal.TheVariants as refusal
 use Rattle.gl_top_status.specs.Refusals.{tuples_refusal}
 use Rattle.gl_top_status.specs.Texts.{HasText, SchemaPasses, IsUnfetched, HasNoSchema}
 use Rattle.gl_top_status.proofs.Fetched.{has_text}
-use Rattle.gl_top_inputs.specs.Passing.{AreCompiledTogether, AsksGaps, IsCompiled, OfAll, OfOne, QueriesPass, QueryPasses, TuplesPass, TuplesPassAll, ModulePasses, FilePasses, kept_beats}
+use Rattle.gl_top_inputs.specs.Passing.{AreCompiledTogether, AsksGaps, IsCompiled, OfAll, OfOne, QueriesPass, QueryPasses, TuplesPass, TuplesPassAll, ModulePasses, kept_beats}
 use Rattle.gl_top_inputs.specs.Readings.{One, Reading, Several, IsFaultBy, IsOverBy, part_read}
 use Rattle.gl_top_inputs.specs.Causes.{OfRun, OfRunAll, OfSim, PassBeforeTuples, IsNext, AreBadTuples, ToRun, ToRunAll, ToSim, Change, HasCause, compile_refusal}
 
@@ -174,20 +174,20 @@ pub all_ask : (told : List ℕ → Told) (words : List (List ℕ)) (m : Many) (s
 all_ask told words m s gaps runs passes is e g = subst (λ (x : Schema). AsksGaps told words x gaps) (sym e) (OfAll runs (statements_in m) passes (g ∙ ap even_gaps is.gap))
 
 -- beats that keep gaps keep them as they are said elsewhere
-abbrev pub FileKeeps : (List ℕ → Told) → List (List ℕ) → Schema → Gaps → List Beat → Type 0
+abbrev pub FileKeeps : (List ℕ → Told) → List (List ℕ) → Schema → Gaps → BeatList → Type 0
 FileKeeps told words s gaps beats = AreFileBeats s beats × KeepsGaps gaps (plain_beats beats) × HasText told words part.Tuples (λ text. kept_beats s gaps text ≡ Ok beats)
 
-keeps_as : (told : List ℕ → Told) (words : List (List ℕ)) (s t : Schema) (gaps others : Gaps) (beats : List Beat) → s ≡ t → gaps ≡ others → FileKeeps told words s gaps beats → FileKeeps told words t others beats
+keeps_as : (told : List ℕ → Told) (words : List (List ℕ)) (s t : Schema) (gaps others : Gaps) (beats : BeatList) → s ≡ t → gaps ≡ others → FileKeeps told words s gaps beats → FileKeeps told words t others beats
 keeps_as told words s t gaps others beats e g f =
     subst (λ (x : Schema). FileKeeps told words x others beats) e (subst (λ (k : Gaps). FileKeeps told words s k beats) g f)
 
-pub tuples_pass : (told : List ℕ → Told) (words : List (List ℕ)) (c : Compiled) (s : Schema) (gaps : Gaps) (beats : List Beat) → IsOfRun words → QueryPasses told words c.schema c.statement → IsCompiled c → s ≡ c.schema → gaps ≡ printed_gaps c.printed
+pub tuples_pass : (told : List ℕ → Told) (words : List (List ℕ)) (c : Compiled) (s : Schema) (gaps : Gaps) (beats : BeatList) → IsOfRun words → QueryPasses told words c.schema c.statement → IsCompiled c → s ≡ c.schema → gaps ≡ printed_gaps c.printed
     → FileKeeps told words s gaps beats → TuplesPass told words c.schema c.statement beats
 tuples_pass told words c s gaps beats runs passes is e g f =
     let k = keeps_as told words s c.schema gaps (gaps_of c.schema c.statement) beats e (g ∙ is.gaps) f in
     record { runs = runs; before = passes; fine = k.0; gaps = k.1; text = k.2 }
 
-pub tuples_pass_all : (told : List ℕ → Told) (words : List (List ℕ)) (m : Many) (s : Schema) (gaps : Gaps) (beats : List Beat) → IsCommand words ManyRun → QueriesPass told words m.schema (statements_in m) → AreCompiledTogether m → s ≡ m.schema → gaps ≡ even_gaps m.planned.gap
+pub tuples_pass_all : (told : List ℕ → Told) (words : List (List ℕ)) (m : Many) (s : Schema) (gaps : Gaps) (beats : BeatList) → IsCommand words ManyRun → QueriesPass told words m.schema (statements_in m) → AreCompiledTogether m → s ≡ m.schema → gaps ≡ even_gaps m.planned.gap
     → FileKeeps told words s gaps beats → TuplesPassAll told words m.schema (statements_in m) beats
 tuples_pass_all told words m s gaps beats runs passes is e g f =
     let k = keeps_as told words s m.schema gaps (even_gaps (shared_gap m.schema (statements_in m))) beats e (g ∙ ap even_gaps is.gap) f in
@@ -202,7 +202,7 @@ are_bad words c v s gaps fault (OfAll runs sts before is) h f =
     ToRunAll runs s sts before (has_text c.old.told words part.Tuples (λ text. kept_beats s (even_gaps (shared_gap s sts)) text ≡ Err fault) v h (subst (λ (n : Gaps). kept_beats s n v ≡ Err fault) is f))
 
 -- a fault is told as it is, unless memory ran out
-tuples_told : (fault : TupleFault) (read : Result (List Beat) TupleFault) → Fails fault read → (tuples_refusal fault ≡ refusal.Memory) ⊎ ((tuples_refusal fault ≡ refusal.Tuples fault) × (read ≡ Err fault))
+tuples_told : (fault : TupleFault) (read : Result BeatList TupleFault) → Fails fault read → (tuples_refusal fault ≡ refusal.Memory) ⊎ ((tuples_refusal fault ≡ refusal.Tuples fault) × (read ≡ Err fault))
 tuples_told tuples.Memory read f = inl refl
 tuples_told (tuples.NotUtf8 n) read f = inr (refl, f)
 tuples_told (tuples.BadCycle n) read f = inr (refl, f)
@@ -215,8 +215,11 @@ tuples_told (tuples.StreamTwice n) read f = inr (refl, f)
 tuples_told (tuples.TickTwice n) read f = inr (refl, f)
 tuples_told (tuples.AfterEnd n) read f = inr (refl, f)
 tuples_told (tuples.TooClose n) read f = inr (refl, f)
+tuples_told (tuples.UnknownParameter n) read f = inr (refl, f)
+tuples_told (tuples.SetTwice n) read f = inr (refl, f)
+tuples_told (tuples.NotSet n) read f = inr (refl, f)
 
-bad_cause : (words : List (List ℕ)) (c : Change) (fault : TupleFault) (read : Result (List Beat) TupleFault) → IsCalm c.old c.new → (read ≡ Err fault → AreBadTuples c.old.told words fault) → Fails fault read → HasCause words c (tuples_refusal fault)
+bad_cause : (words : List (List ℕ)) (c : Change) (fault : TupleFault) (read : Result BeatList TupleFault) → IsCalm c.old c.new → (read ≡ Err fault → AreBadTuples c.old.told words fault) → Fails fault read → HasCause words c (tuples_refusal fault)
 bad_cause words c fault read calm bad f = elim (tuples_told fault read f) [
   | inl e ↦ rw e calm
   | inr h ↦ rw h.0 (bad h.1, calm)
@@ -235,16 +238,8 @@ pub file_cause : (words : List (List ℕ)) (c : Change) (v : List ℕ) (s : Sche
     → Fails fault (beats_of s (records_of v)) → HasCause words c (tuples_refusal fault)
 file_cause words c v s m fault calm before h f = bad_cause words c fault (beats_of s (records_of v)) calm (are_bad_file words c v s m fault before h) f
 
-pub file_passes : (told : List ℕ → Told) (words : List (List ℕ)) (v : List ℕ) (s : Schema) (m : Module) (beats : List Beat) → ModulePasses told words s m → HasText told words part.Tuples (λ text. v ≡ text)
-    → AreBeatsOf s (records_of v) beats → beats_of s (records_of v) ≡ Ok beats → FilePasses told words s m beats
-file_passes told words v s m beats before h are read = record {
-  before = before;
-  fine = are.fine;
-  text = has_text told words part.Tuples (λ text. beats_of s (records_of text) ≡ Ok beats) v h read;
-}
-
 -- beats that keep the gaps
-pub kept_ok : (s : Schema) (gaps : Gaps) (v : List ℕ) (beats : List Beat) → beats_of s (records_of v) ≡ Ok beats → Ok tt ≡ close_answer (first_close gaps 0 0 beats) → kept_beats s gaps v ≡ Ok beats
+pub kept_ok : (s : Schema) (gaps : Gaps) (v : List ℕ) (beats : BeatList) → beats_of s (records_of v) ≡ Ok beats → Ok tt ≡ close_answer (first_close gaps 0 0 beats.list) → kept_beats s gaps v ≡ Ok beats
 unfolding kept_beats
 kept_ok s gaps v beats read close = rw (read, ← close) refl
 
@@ -253,13 +248,13 @@ close_fault : (o : Option ℕ) (fault : TupleFault) → Err fault ≡ close_answ
 close_fault None fault e = absurd cc
 close_fault (Some n) fault e = (n, refl, cc)
 
-close_is : (s : Schema) (gaps : Gaps) (v : List ℕ) (beats : List Beat) (n : ℕ) → beats_of s (records_of v) ≡ Ok beats → first_close gaps 0 0 beats ≡ Some n → kept_beats s gaps v ≡ Err (tuples.TooClose n)
+close_is : (s : Schema) (gaps : Gaps) (v : List ℕ) (beats : BeatList) (n : ℕ) → beats_of s (records_of v) ≡ Ok beats → first_close gaps 0 0 beats.list ≡ Some n → kept_beats s gaps v ≡ Err (tuples.TooClose n)
 unfolding kept_beats
 close_is s gaps v beats n read close = rw (read, close) refl
 
-pub kept_close : (s : Schema) (gaps : Gaps) (v : List ℕ) (beats : List Beat) (fault : TupleFault) → beats_of s (records_of v) ≡ Ok beats → Err fault ≡ close_answer (first_close gaps 0 0 beats) → Fails fault (kept_beats s gaps v)
+pub kept_close : (s : Schema) (gaps : Gaps) (v : List ℕ) (beats : BeatList) (fault : TupleFault) → beats_of s (records_of v) ≡ Ok beats → Err fault ≡ close_answer (first_close gaps 0 0 beats.list) → Fails fault (kept_beats s gaps v)
 kept_close s gaps v beats fault read close =
-    let p = close_fault (first_close gaps 0 0 beats) fault close in
+    let p = close_fault (first_close gaps 0 0 beats.list) fault close in
     subst (λ (f : TupleFault). Fails f (kept_beats s gaps v)) (sym p.2) (close_is s gaps v beats p.0 read p.1)
 
 -- no beats at all
@@ -280,3 +275,6 @@ kept_bad s gaps v (tuples.StreamTwice n) f = unkept s gaps v (tuples.StreamTwice
 kept_bad s gaps v (tuples.TickTwice n) f = unkept s gaps v (tuples.TickTwice n) f
 kept_bad s gaps v (tuples.AfterEnd n) f = unkept s gaps v (tuples.AfterEnd n) f
 kept_bad s gaps v (tuples.TooClose n) f = unkept s gaps v (tuples.TooClose n) f
+kept_bad s gaps v (tuples.UnknownParameter n) f = unkept s gaps v (tuples.UnknownParameter n) f
+kept_bad s gaps v (tuples.SetTwice n) f = unkept s gaps v (tuples.SetTwice n) f
+kept_bad s gaps v (tuples.NotSet n) f = unkept s gaps v (tuples.NotSet n) f

@@ -27,7 +27,8 @@ use Rattle.gl_top_status.specs.declared.refusal.Refusal.{Refusal}
 use Rattle.gl_top_status.specs.declared.refusal.Refusal.TheVariants as refusal
 use Rattle.gl_top_forms.specs.declared.command.Command.TheVariants.{ManyRun, Sim}
 use Rattle.gl_top_forms.specs.Forms.{IsCommand, IsForm, IsNamed, IsOfRun, name_of}
-use Rattle.gl_tuple_reader.specs.Filing.{beats_of, records_of}
+use Rattle.gl_tuple_reader.specs.Filing.{records_of}
+use Rattle.gl_tuple_reader.specs.Settings.{beats_of}
 use Rattle.gl_top_status.specs.Texts.{HasText, SchemaPasses}
 use Rattle.gl_top_inputs.specs.Passing.{QueryPasses, QueriesPass, ModulePasses, kept_beats}
 use Rattle.gl_top_inputs.specs.Readings.{Reading, part_read, IsFaultBy, IsOverBy}

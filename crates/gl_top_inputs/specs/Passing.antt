@@ -9,10 +9,11 @@ use Rattle.gl_schema.specs.Schemas.{IsSchema, kinds_of}
 use Rattle.gl_schema.specs.Beats.{AreBeats}
 use Rattle.gl_gaps.specs.Keeps.{KeepsGaps, even_gaps}
 use Rattle.gl_query.specs.declared.tree.Statement.{Statement}
-use Rattle.gl_tuples.specs.declared.beats.Beat.{Beat}
 use Rattle.gl_tuples.specs.declared.fault.TupleFault.{TupleFault}
 use Rattle.gl_tuple_reader.specs.Entries.{◌>>=◌}
-use Rattle.gl_tuple_reader.specs.Filing.{beats_of, records_of}
+use Rattle.gl_tuple_reader.specs.Filing.{records_of}
+use Rattle.gl_tuple_reader.specs.Settings.{beats_of}
+use Rattle.gl_tuples.specs.Flat.{BeatList}
 use Rattle.gl_tuples.specs.Gaps.{AreFileBeats, plain_beats, first_close, close_answer}
 use Rattle.gl_verilog.specs.Module.{Module}
 use Rattle.gl_verilog.specs.Text.{HasModule}
@@ -54,13 +55,14 @@ pub record QueriesPass (told : List ℕ → Told) (words : List (List ℕ)) (sch
   pub text : HasText told words part.Queries (λ text. AreQueries schema text statements)
 
 -- the beats of a text, where they keep the gaps; else the first fault
-unfoldable pub kept_beats : Schema → Gaps → List ℕ → Result (List Beat) TupleFault
+unfoldable pub kept_beats : Schema → Gaps → List ℕ → Result BeatList TupleFault
 kept_beats schema gaps text =
-    beats_of schema (records_of text) >>= λ beats. (close_answer (first_close gaps 0 0 beats) >>= λ _. Ok beats)
+    beats_of schema (records_of text) >>= λ (beats : BeatList).
+    (close_answer (first_close gaps 0 0 beats.list) >>= λ _. Ok beats)
 
 -- the words are of `run` or of `vcd`, and the tuple file is that of these beats, which keep the statement's gaps
 pub record TuplesPass (told : List ℕ → Told) (words : List (List ℕ)) (schema : Schema) (statement : Statement)
-    (beats : List Beat) : Type 0 where
+    (beats : BeatList) : Type 0 where
   pub runs : IsOfRun words
   pub before : QueryPasses told words schema statement
   pub fine : AreFileBeats schema beats
@@ -69,7 +71,7 @@ pub record TuplesPass (told : List ℕ → Told) (words : List (List ℕ)) (sche
 
 -- the words are of `manyrun`, and the tuple file is that of these beats, which keep the gap of all statements
 pub record TuplesPassAll (told : List ℕ → Told) (words : List (List ℕ)) (schema : Schema) (statements : List Statement)
-    (beats : List Beat) : Type 0 where
+    (beats : BeatList) : Type 0 where
   pub runs : IsCommand words ManyRun
   pub before : QueriesPass told words schema statements
   pub fine : AreFileBeats schema beats
@@ -97,7 +99,7 @@ pub record ModulePasses (told : List ℕ → Told) (words : List (List ℕ)) (sc
   pub text : HasText told words part.Module (λ text. HasModule text m)
 
 -- the module's text passes, and the tuple file is that of these beats, of which no gap is asked
-pub record FilePasses (told : List ℕ → Told) (words : List (List ℕ)) (schema : Schema) (m : Module) (beats : List Beat)
+pub record FilePasses (told : List ℕ → Told) (words : List (List ℕ)) (schema : Schema) (m : Module) (beats : BeatList)
     : Type 0 where
   pub before : ModulePasses told words schema m
   pub fine : AreFileBeats schema beats

@@ -94,6 +94,7 @@ query_kind (query.OutOfRange at) = codes "OutOfRange"
 query_kind (query.TooDeep at) = codes "TooDeep"
 query_kind (query.NoTime at) = codes "NoTime"
 query_kind (query.NoArrival at) = codes "NoArrival"
+query_kind (query.UnknownParameter at) = codes "UnknownParameter"
 query_kind query.Memory = codes "Memory"
 
 -- where in the query's text a fault is; want of memory gives 0
@@ -113,6 +114,7 @@ query_place (query.OutOfRange at) = at
 query_place (query.TooDeep at) = at
 query_place (query.NoTime at) = at
 query_place (query.NoArrival at) = at
+query_place (query.UnknownParameter at) = at
 query_place query.Memory = 0
 
 -- the word by which a fault of a module is told
@@ -162,6 +164,9 @@ tuples_kind (tuples.StreamTwice number) = codes "StreamTwice"
 tuples_kind (tuples.TickTwice number) = codes "TickTwice"
 tuples_kind (tuples.AfterEnd number) = codes "AfterEnd"
 tuples_kind (tuples.TooClose number) = codes "TooClose"
+tuples_kind (tuples.UnknownParameter number) = codes "UnknownParameter"
+tuples_kind (tuples.SetTwice number) = codes "SetTwice"
+tuples_kind (tuples.NotSet number) = codes "NotSet"
 tuples_kind tuples.Memory = codes "Memory"
 
 -- which record of a tuple file is at fault, counted from 1; want of memory gives 0
@@ -177,6 +182,9 @@ tuples_record (tuples.StreamTwice number) = number
 tuples_record (tuples.TickTwice number) = number
 tuples_record (tuples.AfterEnd number) = number
 tuples_record (tuples.TooClose number) = number
+tuples_record (tuples.UnknownParameter number) = number
+tuples_record (tuples.SetTwice number) = number
+tuples_record (tuples.NotSet number) = number
 tuples_record tuples.Memory = 0
 
 -- the word by which a fault of a dump is told

@@ -59,6 +59,7 @@ pub fn query_kind(fault: &QueryFault) -> &'static [u8]
         QueryFault::TooDeep { .. } => b"TooDeep",
         QueryFault::NoTime { .. } => b"NoTime",
         QueryFault::NoArrival { .. } => b"NoArrival",
+        QueryFault::UnknownParameter { .. } => b"UnknownParameter",
         QueryFault::Memory => b"Memory",
     }
 }
@@ -82,7 +83,8 @@ pub fn query_place(fault: &QueryFault) -> u64
         | QueryFault::OutOfRange { at }
         | QueryFault::TooDeep { at }
         | QueryFault::NoTime { at }
-        | QueryFault::NoArrival { at } => *at,
+        | QueryFault::NoArrival { at }
+        | QueryFault::UnknownParameter { at } => *at,
         QueryFault::Memory => 0,
     }
 }
@@ -149,6 +151,9 @@ pub fn tuples_kind(fault: &TupleFault) -> &'static [u8]
         TupleFault::TickTwice { .. } => b"TickTwice",
         TupleFault::AfterEnd { .. } => b"AfterEnd",
         TupleFault::TooClose { .. } => b"TooClose",
+        TupleFault::UnknownParameter { .. } => b"UnknownParameter",
+        TupleFault::SetTwice { .. } => b"SetTwice",
+        TupleFault::NotSet { .. } => b"NotSet",
         TupleFault::Memory => b"Memory",
     }
 }
@@ -168,7 +173,10 @@ pub fn tuples_record(fault: &TupleFault) -> u64
         | TupleFault::StreamTwice { number }
         | TupleFault::TickTwice { number }
         | TupleFault::AfterEnd { number }
-        | TupleFault::TooClose { number } => *number,
+        | TupleFault::TooClose { number }
+        | TupleFault::UnknownParameter { number }
+        | TupleFault::SetTwice { number }
+        | TupleFault::NotSet { number } => *number,
         TupleFault::Memory => 0,
     }
 }

@@ -57,18 +57,22 @@ fn operator_cure(word: &[u8]) -> Option<&'static str> {
     cure_in(&OPERATORS, word)
 }
 
-const MARKS: [Row; 5] = [
+const MARKS: [Row; 6] = [
     Row {
         words: &[b"&", b"|", b"^", b"~", b"<<", b">>"],
         cure: "There are no bit operations: give each flag a column of kind u1 in the feed, and each network a column of its own.",
     },
     Row {
-        words: &[b"::", b":"],
+        words: &[b"::"],
         cure: "Write CAST in its place: CAST(price AS u64).",
     },
     Row {
+        words: &[b":"],
+        cure: "A parameter stands where a value stands: in items, arguments and conditions. A size, a number of groups, a weight and a name are constants of the circuit.",
+    },
+    Row {
         words: &[b"?", b"$", b"@"],
-        cure: "There are no parameters at run time: a literal is a constant of the circuit, so write the number itself.",
+        cure: "A parameter has a name behind a colon, :cap, and the schema declares it: parameter cap u32;",
     },
     Row {
         words: &[b"//", b"/*", b"#"],

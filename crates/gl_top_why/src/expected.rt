@@ -108,14 +108,19 @@ fn source_words(state: State) -> &'static str {
 // What stands in items and expressions.
 fn item_words(state: State) -> Option<&'static str> {
     match state {
-        State::FirstItem => Some("*, an aggregate, a column, a number, a text, CAST, NOT or ("),
-        State::Item => Some("an aggregate, a column, a number, a text, CAST, NOT or ("),
-        State::Operand => Some("a column, a number, a text, CAST, NOT or ("),
-        State::TightOperand => Some("a column, a number, a text, CAST or ("),
+        State::FirstItem => {
+            Some("*, an aggregate, a column, a parameter, a number, a text, CAST, NOT or (")
+        }
+        State::Item => {
+            Some("an aggregate, a column, a parameter, a number, a text, CAST, NOT or (")
+        }
+        State::Operand => Some("a column, a parameter, a number, a text, CAST, NOT or ("),
+        State::TightOperand => Some("a column, a parameter, a number, a text, CAST or ("),
         State::Number | State::SignedNumber | State::Weight => Some("a number"),
         State::CallOpen => Some("("),
         State::CountEnd | State::CastEnd | State::WeightsEnd => Some(")"),
         State::TotalAs => Some("AS"),
+        State::ParameterName => Some("a parameter's name"),
         State::BehindItem => Some("a comma or FROM"),
         State::From => Some("FROM"),
         State::Weights => Some("["),

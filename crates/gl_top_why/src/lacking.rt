@@ -2,6 +2,7 @@
 
 use crate::expected::{expression_call, is_bare_item};
 use crate::frames::frame_lacking;
+use crate::joins::is_join_key;
 use crate::pieces::{Pieces, is_one_of, is_sign, is_spelled};
 use crate::states::State;
 use crate::unions::is_behind_arrival;
@@ -10,8 +11,11 @@ use crate::words::is_operator;
 pub(crate) const ITEM_NAMES: &str =
     "An item that is no column's bare name has AS and a name: sum(price) AS total.";
 
-pub(crate) const GROUPS: &str =
+const GROUPS: &str =
     "GROUPS and a number are lacking: GROUP BY symbol GROUPS 64. The circuit has so many slots, at most 256.";
+
+const JOIN_GROUPS: &str =
+    "GROUPS and a number are lacking: FROM trades ASOF quotes BY symbol GROUPS 64. The circuit has so many slots, 1 to 4,096.";
 
 pub(crate) const WINDOW: &str =
     "A window is [SIZE 600 ADVANCE 60 TUPLES], in this order, or [SIZE 5 ADVANCE 1 TIME] over ticks.";
@@ -34,8 +38,14 @@ pub(crate) const ONE_STATEMENT: &str =
 pub(crate) const ARRIVAL: &str =
     "UNION BY ARRIVAL has the rows of both sides in the order in which they came. UNION alone has them in some order.";
 
+pub(crate) const ONE_JOIN: &str =
+    "A source has one ASOF. A join of a join has a select in brackets on one side: FROM (SELECT * FROM trades ASOF quotes BY symbol GROUPS 64) ASOF news BY symbol GROUPS 64.";
+
 pub(crate) const JOIN_BY: &str =
     "Behind the right side of ASOF stand BY, a column of both sides, GROUPS and a number: FROM trades ASOF quotes BY symbol GROUPS 64.";
+
+const PARAMETER: &str =
+    "A parameter's name stands behind its colon, price > :cap, and the schema declares it: parameter cap u32;";
 
 const INTO: &str =
     "INTO and a name are lacking: a statement ends in INTO r, which names the module.";
@@ -43,6 +53,15 @@ const INTO: &str =
 const FROM: &str = "FROM and a source are lacking: SELECT price FROM trades INTO r.";
 
 const BRACKET: &str = "A bracket is open in front, and nothing closes it.";
+
+/// What is lacking behind the key of groups, or of an ASOF.
+pub(crate) fn behind_key(pieces: &Pieces<'_>, at: usize) -> &'static str {
+    if is_join_key(pieces, at.saturating_sub(1)) {
+        JOIN_GROUPS
+    } else {
+        GROUPS
+    }
+}
 
 // Behind a query or in a condition.
 fn behind_query(pieces: &Pieces<'_>, at: usize) -> &'static str {
@@ -116,6 +135,7 @@ fn item(state: State) -> Option<&'static str> {
             "Weights are numbers without a sign, parted by commas: wsum(price, [1, 2]).",
         ),
         State::SignedNumber => Some(SIGN),
+        State::ParameterName => Some(PARAMETER),
         _ => frame_lacking(state),
     }
 }
@@ -134,7 +154,6 @@ fn source(state: State) -> &'static str {
         State::Arrival => ARRIVAL,
         State::JoinBy => JOIN_BY,
         State::Key => KEY,
-        State::Groups => GROUPS,
         State::ResultName => "A name is lacking behind INTO.",
         State::BehindName | State::End => ONE_STATEMENT,
         _ => WINDOW,
@@ -146,6 +165,7 @@ pub(crate) fn lacking(pieces: &Pieces<'_>, at: usize, state: State) -> &'static 
     match state {
         State::Term => term(pieces, at),
         State::Number => number(pieces, at),
+        State::Groups => behind_key(pieces, at),
         State::Operand | State::TightOperand => operand(pieces, at),
         State::BehindOperand => behind_operand(pieces, at),
         State::BehindSource | State::BehindWindow | State::BehindQuery => behind_query(pieces, at),
@@ -180,6 +200,7 @@ pub(crate) fn is_lacking(pieces: &Pieces<'_>, at: usize, state: State) -> bool {
         | State::Body
         | State::GroupBody
         | State::CallOpen
+        | State::ParameterName
         | State::Weight
         | State::BehindWeight
         | State::WeightsEnd => true,

@@ -23,6 +23,7 @@ mod querying;
 mod records;
 mod rules;
 mod schemas;
+mod settings;
 mod states;
 mod syntax;
 mod texts;

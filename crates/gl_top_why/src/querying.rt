@@ -7,6 +7,7 @@ use crate::lines::put_bytes;
 use crate::names::{each_around, put_columns_around, put_kind, put_streams, stream_around};
 use crate::pieces::{Pieces, is_one_of, is_sign, is_spelled};
 use crate::rules::put_rule;
+use crate::settings::put_parameters;
 use crate::states::{State, call_at, state_at};
 use crate::syntax::{is_word_for_name, syntax_cure};
 use crate::words::{is_number, is_operator, number_of};
@@ -74,6 +75,25 @@ fn put_column(
     put_columns_around(out, pieces, at, schema)?;
     out.push_str(". ")?;
     out.push_str(value_cure(word).unwrap_or("A select below has the columns that it names."))
+}
+
+// A parameter that the schema has not.
+fn put_parameter(
+    out: &mut String,
+    pieces: &Pieces<'_>,
+    at: usize,
+    schema: &Schema,
+) -> Result<(), AllocError> {
+    out.push_str("There is no parameter ")?;
+    put_bytes(out, pieces.get(at.saturating_add(1)))?;
+    if schema.parameters.as_slice().is_empty() {
+        return out.push_str(
+            "; the schema has none. It declares one as parameter NAME KIND; beside its streams.",
+        );
+    }
+    out.push_str("; the schema has ")?;
+    put_parameters(out, schema)?;
+    out.push('.')
 }
 
 // A side of another kind.
@@ -283,6 +303,7 @@ pub(crate) fn put_query(
         QueryFault::Syntax { .. } => put_syntax(out, pieces, at, byte),
         QueryFault::UnknownStream { .. } => put_stream(out, pieces, at, schema),
         QueryFault::UnknownColumn { .. } => put_column(out, pieces, at, schema),
+        QueryFault::UnknownParameter { .. } => put_parameter(out, pieces, at, schema),
         QueryFault::KindsDiffer { .. } => put_kinds(out, pieces, at, schema),
         QueryFault::LiteralTooWide { .. } => put_literal(out, pieces, at, schema),
         QueryFault::OutOfRange { .. } => put_range(out, pieces, at),

@@ -3,6 +3,9 @@
 use crate::fields::{Record, field, field_begins};
 use crate::lines::put_bytes;
 use crate::names::{put_columns, put_kind, put_streams, stream_named};
+use crate::settings::{
+    FRONT, SHAPE, parameter_of, put_unknown_parameter, put_unset, says_set, setting_begins,
+};
 use crate::words::{is_number, number_of};
 use gl_gaps::Gaps;
 use gl_schema::{Column, Schema, Stream, kind_size};
@@ -109,6 +112,9 @@ fn stream_of<'a>(record: &[u8], schema: &'a Schema) -> Option<&'a Stream> {
 
 // A value that its column has no room for.
 fn put_bad_value(out: &mut String, record: &[u8], schema: &Schema) -> Result<(), AllocError> {
+    if says_set(record) {
+        return put_bad_setting(out, record, schema);
+    }
     let bad = match stream_of(record, schema) {
         Some(stream) => bad_field(record, stream),
         None => None,
@@ -116,9 +122,22 @@ fn put_bad_value(out: &mut String, record: &[u8], schema: &Schema) -> Result<(),
     let Some((at, column)) = bad else {
         return out.push_str("A value does not fit the kind of its column.");
     };
-    let value = field(record, at).unwrap_or(b"");
     let number = at.saturating_add(1);
     write!(out, "Field {number}, column ")?;
+    put_misfit(out, column, field(record, at).unwrap_or(b""))
+}
+
+// A value that its parameter has no room for.
+fn put_bad_setting(out: &mut String, record: &[u8], schema: &Schema) -> Result<(), AllocError> {
+    let Some(parameter) = parameter_of(record, schema) else {
+        return out.push_str("A value does not fit the kind of its parameter.");
+    };
+    out.push_str("Field 3, parameter ")?;
+    put_misfit(out, parameter, field(record, 2).unwrap_or(b""))
+}
+
+// That a value does not fit its column or its parameter, and why.
+fn put_misfit(out: &mut String, column: &Column, value: &[u8]) -> Result<(), AllocError> {
     put_bytes(out, column.name.as_slice())?;
     out.push_str(" of kind ")?;
     put_kind(out, column.kind)?;
@@ -134,6 +153,9 @@ fn put_bad_value(out: &mut String, record: &[u8], schema: &Schema) -> Result<(),
 
 // What a record of the stream that this one names has.
 fn put_shape(out: &mut String, record: &[u8], schema: &Schema) -> Result<(), AllocError> {
+    if says_set(record) {
+        return out.push_str(SHAPE);
+    }
     let Some(stream) = stream_of(record, schema) else {
         return out.push_str(
             "A record is a cycle, a stream and a value for each column, or a cycle and tick, or a cycle and end.",
@@ -180,6 +202,9 @@ fn put_close(out: &mut String, record: Record<'_>, gaps: Gaps) -> Result<(), All
 
 // What the first field may not be.
 fn put_cycle(out: &mut String, record: &[u8]) -> Result<(), AllocError> {
+    if says_set(record) {
+        return out.push_str(FRONT);
+    }
     put_bytes(out, field(record, 0).unwrap_or(b""))?;
     out.push_str(
         " is no cycle: the first field has decimal digits alone. A file has no header; tools/beats makes cycles of time stamps.",
@@ -201,6 +226,9 @@ fn count_begins(record: &[u8], schema: &Schema) -> usize {
 
 /// Where the fault of a record stands in it: where its field begins, if that is known.
 pub(crate) fn fault_begins(fault: &TupleFault, record: &[u8], schema: &Schema) -> usize {
+    if says_set(record) {
+        return setting_begins(fault, record);
+    }
     match fault {
         TupleFault::UnknownStream { .. }
         | TupleFault::StreamTwice { .. }
@@ -231,6 +259,8 @@ pub(crate) fn put_record(
         TupleFault::FieldCount { .. } => put_shape(out, record.bytes, schema),
         TupleFault::BadValue { .. } => put_bad_value(out, record.bytes, schema),
         TupleFault::TooClose { .. } => put_close(out, record, gaps),
+        TupleFault::UnknownParameter { .. } => put_unknown_parameter(out, record.bytes, schema),
+        TupleFault::NotSet { .. } => put_unset(out, schema),
         _ => out.push_str(sentence_of(fault)),
     }
 }
@@ -247,6 +277,7 @@ fn sentence_of(fault: &TupleFault) -> &'static str {
         TupleFault::StreamTwice { .. } =>
             "The stream has a tuple in this cycle already: one cycle has one of each stream, and tools/beats moves the second on.",
         TupleFault::TickTwice { .. } => "The cycle has a tick already: one cycle has one.",
+        TupleFault::SetTwice { .. } => "The parameter has a value already: each is set once.",
         TupleFault::AfterEnd { .. } => "The end stands in front: write its record last.",
         _ => "",
     }

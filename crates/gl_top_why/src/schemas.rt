@@ -8,7 +8,7 @@ use gl_schema::SchemaFault;
 use std::alloc::AllocError;
 
 const FORM: &str =
-    "A schema is stream NAME (NAME KIND, ..); once or more, as stream trades (symbol text4, price u32);";
+    "A schema is stream NAME (NAME KIND, ..); once or more, as stream trades (symbol text4, price u32); and parameter NAME KIND; for each value that a user sets.";
 
 // What a schema waits for.
 #[derive(Clone, Copy, PartialEq, Eq)]
@@ -20,11 +20,14 @@ enum Wanted {
     Kind,
     Behind,
     End,
+    Parameter,
+    ParameterKind,
 }
 
 // What it waits for behind a piece.
 fn behind(wanted: Wanted, piece: &[u8]) -> Wanted {
     match wanted {
+        Wanted::Stream if piece == b"parameter".as_slice() => Wanted::Parameter,
         Wanted::Stream => Wanted::Name,
         Wanted::Name => Wanted::Open,
         Wanted::Open => Wanted::Column,
@@ -33,6 +36,8 @@ fn behind(wanted: Wanted, piece: &[u8]) -> Wanted {
         Wanted::Behind if is_sign(piece, b',') => Wanted::Column,
         Wanted::Behind => Wanted::End,
         Wanted::End => Wanted::Stream,
+        Wanted::Parameter => Wanted::ParameterKind,
+        Wanted::ParameterKind => Wanted::End,
     }
 }
 
@@ -43,10 +48,10 @@ fn wanted_at(pieces: &Pieces<'_>, at: usize) -> &'static str {
         wanted = behind(wanted, pieces.get(place));
     }
     match wanted {
-        Wanted::Stream => "stream",
-        Wanted::Name | Wanted::Column => "a name",
+        Wanted::Stream => "stream or parameter",
+        Wanted::Name | Wanted::Column | Wanted::Parameter => "a name",
         Wanted::Open => "(",
-        Wanted::Kind => "a kind",
+        Wanted::Kind | Wanted::ParameterKind => "a kind",
         Wanted::Behind => "a comma or )",
         Wanted::End => ";",
     }
@@ -57,6 +62,12 @@ fn syntax_cure(pieces: &Pieces<'_>, at: usize) -> &'static str {
     let (word, before) = (pieces.get(at), pieces.before(at, 1));
     if is_spelled(word, b"stream") && at == 0 {
         return "The word stream is in small letters.";
+    }
+    if is_spelled(word, b"parameter") && (at == 0 || is_sign(before, b';')) {
+        return "The word parameter is in small letters.";
+    }
+    if at >= pieces.len() && is_sign(before, b';') {
+        return "A schema has a stream: stream trades (symbol text4, price u32);";
     }
     if is_one_of(word, &[b"create", b"table"]) {
         return "Leave CREATE and TABLE out: stream trades (symbol text4, price u32);";
@@ -110,12 +121,14 @@ pub(crate) fn put_schema(
             ))
         }
         SchemaFault::Twice { .. } => {
-            out.push_str("Another stream, or another column of this one, has the name ")?;
+            out.push_str(
+                "Another stream, another column of this one, or another parameter, has the name ",
+            )?;
             put_bytes(out, word)?;
             out.push_str(": write another.")
         }
         SchemaFault::TooMany { .. } => out.push_str(
-            "A schema has at most 8 streams, and a stream at most 32 columns: write two schemas, or one column of two.",
+            "A schema has at most 8 streams and 32 parameters, and a stream at most 32 columns: write two schemas, or one column of two.",
         ),
         SchemaFault::Syntax { .. } | SchemaFault::Memory => {
             if word.is_empty() {

@@ -7,7 +7,7 @@ use crate::frames::frame_state;
 use crate::joins::{behind_asof, is_behind_asof};
 use crate::pieces::{Pieces, is_one_of, is_sign, is_spelled};
 use crate::unions::{behind_union, is_behind_arrival};
-use crate::words::{is_name, is_number, is_total};
+use crate::words::{ends_operand, is_number, is_total};
 
 /// What a statement waits for.
 #[derive(Clone, Copy, PartialEq, Eq)]
@@ -102,6 +102,8 @@ pub(crate) enum State {
     TightOperand,
     /// The number behind a sign.
     SignedNumber,
+    /// The name behind a colon.
+    ParameterName,
     /// An operator, or what ends an expression.
     BehindOperand,
     /// A kind.
@@ -282,11 +284,6 @@ fn behind_comma(pieces: &Pieces<'_>, at: usize) -> State {
     }
 }
 
-// Whether an operand may end with a piece.
-fn ends_operand(word: &[u8]) -> bool {
-    is_name(word) || is_number(word) || is_sign(word, b')') || word.starts_with(b"'")
-}
-
 // Behind another sign.
 fn behind_sign(pieces: &Pieces<'_>, at: usize) -> Option<State> {
     let front = pieces.before(at, 2);
@@ -297,6 +294,7 @@ fn behind_sign(pieces: &Pieces<'_>, at: usize) -> Option<State> {
         b"*" => Some(State::TightOperand),
         b"-" if ends_operand(front) => Some(State::TightOperand),
         b"-" => Some(State::SignedNumber),
+        b":" => Some(State::ParameterName),
         b"(" => Some(behind_open(pieces, at)),
         b")" => Some(behind_close(pieces, at)),
         b"]" => Some(behind_square(pieces, at)),

@@ -3,8 +3,10 @@
 use crate::calls::calls_cure;
 use crate::elsewhere::cure_of;
 use crate::expected::expression_call;
+use crate::joins::is_behind_join;
 use crate::lacking::{
-    EACH_WINDOW, GROUPS, ITEM_NAMES, JOIN_BY, KEY, ONE_STATEMENT, SIGN, WINDOW, is_lacking, lacking,
+    EACH_WINDOW, ITEM_NAMES, JOIN_BY, KEY, ONE_JOIN, ONE_STATEMENT, SIGN, WINDOW, behind_key,
+    is_lacking, lacking,
 };
 use crate::pieces::{Pieces, is_one_of, is_sign, is_spelled};
 use crate::states::{State, state_at};
@@ -124,11 +126,19 @@ fn foreign_cure(pieces: &Pieces<'_>, at: usize, state: State) -> Option<&'static
     if state == State::JoinBy && is_spelled(before, b"join") {
         return cure_of(before);
     }
+    if state == State::SignedNumber && is_sign(pieces.get(at), b':') {
+        return Some(SIGN);
+    }
     if state == State::Key && is_spelled(pieces.get(at), b"all") {
         return Some(KEY);
     }
     if state == State::Variable || is_other_name(pieces, at, state) {
         return None;
+    }
+    if is_spelled(pieces.get(at), b"asof")
+        && (state == State::JoinBy || is_behind_join(pieces, at))
+    {
+        return Some(ONE_JOIN);
     }
     cure_of(pieces.get(at))
 }
@@ -160,7 +170,7 @@ fn group_cure(pieces: &Pieces<'_>, at: usize, state: State) -> Option<&'static s
     if is_operator(word) {
         return Some(KEY);
     }
-    Some(GROUPS)
+    Some(behind_key(pieces, at))
 }
 
 // Sources: one, without another name.
@@ -326,6 +336,7 @@ fn wants_name(state: State) -> bool {
             | State::Item
             | State::Operand
             | State::TightOperand
+            | State::ParameterName
     )
 }
 
@@ -345,7 +356,7 @@ fn is_followed(next: &[u8], state: State) -> bool {
         State::FirstItem | State::Item => {
             is_operator(next) || is_one_of(next, &[b",", b"from", b"as"])
         }
-        State::Operand | State::TightOperand => {
+        State::Operand | State::TightOperand | State::ParameterName => {
             is_operator(next) || is_one_of(next, &[b")", b"into", b"group", b"as"])
         }
         _ => false,

@@ -36,10 +36,11 @@ fn sort_of(pieces: &Pieces<'_>) -> Option<Sort> {
     if is_one_of(begun, &[b"select", b"each"]) {
         return Some(Sort::Query);
     }
-    if is_spelled(first, b"stream") {
+    if is_one_of(first, &[b"stream", b"parameter"]) {
         return Some(Sort::Schema);
     }
-    if matches!(first, [b'0'..=b'9', ..]) {
+    let is_setting = is_spelled(first, b"set") && is_sign(pieces.get(1), b',');
+    if is_setting || matches!(first, [b'0'..=b'9', ..]) {
         return Some(Sort::Tuples);
     }
     None

@@ -1,6 +1,6 @@
 //! What a piece of a query is.
 
-use crate::pieces::{is_one_of, is_word_byte};
+use crate::pieces::{is_one_of, is_sign, is_word_byte};
 
 /// The words of the language, none of which is a name.
 const TAKEN: [&[u8]; 30] = [
@@ -44,6 +44,11 @@ pub(crate) fn is_number(word: &[u8]) -> bool {
 /// Whether a piece is a word that may be a name.
 pub(crate) fn is_name(word: &[u8]) -> bool {
     is_word(word) && !is_number(word) && !is_taken(word)
+}
+
+/// Whether an operand may end with a piece.
+pub(crate) fn ends_operand(word: &[u8]) -> bool {
+    is_name(word) || is_number(word) || is_sign(word, b')') || word.starts_with(b"'")
 }
 
 /// Whether a word has a capital letter.

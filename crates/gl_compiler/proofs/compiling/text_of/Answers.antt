@@ -17,6 +17,8 @@ use Rattle.gl_wiring.specs.Output.{plan_ports}
 use Rattle.gl_wiring.specs.StreamWires.{AreStreamLeaves}
 use Rattle.gl_wiring.specs.Wired as wired
 use Rattle.gl_wiring.specs.Wired.{KeepsGroup, OverBeats, plan_means}
+use Rattle.gl_algebra.specs.Known.{AreKnown}
+use Rattle.gl_elaborate.specs.Laws.{parameter_widths}
 use Rattle.gl_compiler.specs.Meets.{result_columns}
 use Rattle.gl_compiler.proofs.KnownOf.{known}
 use Rattle.gl_compiler.proofs.Meeting.{text_costs, text_meets}
@@ -34,6 +36,7 @@ wire_plan-requires c =
       within = is.within;
       leaves = subst (λ (x : Placed). AreStreamLeaves schema.streams (shapes.shape_of x.nodes x.root).leaves) (sym is.at) k.leaves;
       figured = rw c.deref.ensures.value is.figures';
+      known = subst (λ (x : Placed). AreKnown (parameter_widths schema) x.nodes) (sym is.at) k.right.known;
       spared = is.spare';
       named = record {
         many' = ap length columns ∙ k.many ∙ ap (λ (x : Placed). length (shapes.kinds_of x.nodes x.root)) (sym is.at);

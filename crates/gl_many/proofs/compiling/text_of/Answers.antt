@@ -7,7 +7,7 @@ use Rattle.gl_wiring.specs.Many.{AreWired}
 use Rattle.gl_wiring.specs.declared.many.Root.{Root}
 use Rattle.gl_many.specs.Roots.{roots_of}
 use Rattle.gl_many.proofs.Meeting.{text_meets}
-use Rattle.gl_many.proofs.Standing.{Laws, can_wire_all, they_stand}
+use Rattle.gl_many.proofs.Standing.{Laws, can_wire_all, no_others, they_stand}
 use Rattle.gl_many.proofs.compiling.text_of.Goals as goal
 
 laws : AcceptedHaveRealColumns → PlansAreRight → SeveralAreRight → PlansTellTime → Laws
@@ -21,7 +21,9 @@ wire_roots-requires c =
     let can = c.requires.can in
     let is = c.requires.planned in
     let roots : c.deref-3.result.now ≡ roots_of schema ss p.roots.items = c.deref-3.ensures.value ∙ c.in_ok-roots.ensures ∙ ap (roots_of schema ss) c.deref.ensures.value in
-    rw (c.deref-2.ensures.value, roots) (can_wire_all p.plan schema p.figures.items ss p.roots.items can is.figures' (they_stand (laws c.accepted_have_real_columns.ensures c.plans_are_right.ensures c.several_are_right.ensures c.plans_tell_time.ensures) schema ss p can is))
+    rw (c.deref-2.ensures.value, roots) (can_wire_all p.plan schema p.figures.items ss p.roots.items can is.figures'
+    (no_others (laws c.accepted_have_real_columns.ensures c.plans_are_right.ensures c.several_are_right.ensures c.plans_tell_time.ensures) schema ss p can is)
+    (they_stand (laws c.accepted_have_real_columns.ensures c.plans_are_right.ensures c.several_are_right.ensures c.plans_tell_time.ensures) schema ss p can is))
 
 pub returns : goal.returns
 returns c =

@@ -1,6 +1,7 @@
 use Rattle.std.proofs.Common.{List, ℕ, subst}
 use Rattle.gl_tuple_reader.specs.Entries.{Fails}
-use Rattle.gl_tuple_reader.specs.Filing.{beats_of, records_of}
+use Rattle.gl_tuple_reader.specs.Filing.{records_of}
+use Rattle.gl_tuple_reader.specs.Settings.{beats_of}
 use Rattle.gl_verilog.specs.View.{module_of}
 use Rattle.gl_top_forms.specs.declared.command.Part.TheVariants.{Tuples}
 use Rattle.gl_top_inputs.specs.Causes.{OfSim, change}
