@@ -22,7 +22,8 @@ use Rattle.std.proofs.lemmas.Option.{slice_get_within}
 use Rattle.gl_figures.specs.Answered.{capped, IsPrinted}
 use Rattle.gl_figures.specs.Known.{copies_in_body, copies_inside, weight_alone}
 use Rattle.gl_figures.proofs.CapLemmas.{copies_light, further-capped}
-use Rattle.gl_figures.proofs.RootLemmas.{IsSpareRoot, body_within, figures_there, further_there, none_further, spare_there, ticks_there}
+use Rattle.gl_figures.proofs.RootLemmas.{IsSpareRoot, body_within, figures_there, further_there, none_further, spare_there}
+use Rattle.gl_root_gaps.proofs.GapLemmas.{ticks_there}
 use Rattle.gl_figures.proofs.SpareLemmas.{spare_is}
 
 -- the copies in the body of a root, whichever node it is
@@ -103,7 +104,7 @@ module _ (nodes : List PlanNode) (root : ℕ) {source body size advance : ℕ} (
   printed_with follow last copies inside ended copied within =
       let figures : root_figures nodes root ≡ spare_over turns it.gap it.shift f s = figures_there nodes root (Window source body size advance) (Some it) at h in
       let le = ap (λ (y : Figures). y.le) figures in
-      let none : tick_gaps_at nodes root ≡ None = ticks_there nodes root (Window source body size advance) at in
+      let none : tick_gaps_at nodes root ≡ None = ticks_there nodes root (Window source body size advance) plan at in
       let part = part_of_copy (shape_of nodes) (weight_of nodes) (lines_of (shape_of nodes root)) in
       let weight = further_there part nodes root (Window source body size advance) (Some it) at h in
       let more = further_there (λ node. 1 + of_body (copies_of nodes) node) nodes root (Window source body size advance) (Some it) at h in

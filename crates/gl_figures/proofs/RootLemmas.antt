@@ -17,7 +17,9 @@ use Rattle.gl_algebra.specs.Views.{copies_of_time}
 use Rattle.gl_algebra.specs.Laws.{FiguresAreSound, NodesFollowTables}
 use Rattle.gl_algebra.specs.Nodewise.{value_at_node}
 use Rattle.gl_algebra.specs.Roots.{figures_with, further_copies, of_further, output_part, part_of_copy, root_figures, spare_at, spare_in, weight_with_further, weight_with_output, where_light}
-use Rattle.gl_root_gaps.specs.Roots.{RootsComeCloser, gap_of, gap_with, tick_gaps_at, tick_gaps_in, ticks_of, ticks_with}
+use Rattle.gl_root_gaps.specs.Roots.{RootsComeCloser, gap_of, gap_with, rows_below, tick_gaps_at, tick_gaps_from, ticks_of, ticks_with}
+use Rattle.gl_root_gaps.proofs.GapLemmas.{rows_above, ticks_there}
+use Rattle.gl_algebra.proofs.PlanLemmas.{by_nodes}
 use Rattle.gl_algebra.specs.Shapes.{shape_of}
 use Rattle.gl_algebra.specs.Weights.{lines_of, weight_of}
 use Rattle.gl_figures.specs.Answered.{capped, IsHeavy}
@@ -59,11 +61,6 @@ unfolding root_figures
 figures_there nodes root node o at h =
     ap (value_at_node (figures_with nodes root (spare_at nodes root)) (figures_of nodes root)) at
     ∙ ap (λ (s : Option Spare). figures_with nodes root s node) h
-
--- the gaps of its ticks, whichever node it is
-pub ticks_there : (nodes : List PlanNode) (root : ℕ) (node : PlanNode) → slice_get nodes root ≡ Some node → tick_gaps_at nodes root ≡ tick_gaps_in (figures_of nodes) node
-unfolding tick_gaps_at
-ticks_there nodes root node at = ap (value_at_node (tick_gaps_in (figures_of nodes)) None) at
 
 -- what the further copies add, whichever node the root is
 pub further_there : (each : PlanNode → ℕ) (nodes : List PlanNode) (root : ℕ) (node : PlanNode) (o : Option Spare) → slice_get nodes root ≡ Some node
@@ -128,25 +125,35 @@ module _ (nodes : List PlanNode) (root : ℕ) (node : PlanNode) (at : slice_get 
       by (Group source body key groups) not = refl
       by (Partition source body key groups size advance) not = refl
 
-  -- and one that is no windows of time has no gaps of ticks
-  pub no_time_windows : ((source body size advance : ℕ) → node ≡ TimeWindow source body size advance → ⊥) → None ≡ tick_gaps_at nodes root
-  no_time_windows not = sym (ticks_there nodes root node at ∙ by node not)
+  -- one that is neither windows of time nor takes rows one by one has no gaps of ticks
+  pub no_time_windows : IsPlan nodes → rows_below node ≡ None → ((source body size advance : ℕ) → node ≡ TimeWindow source body size advance → ⊥)
+      → None ≡ tick_gaps_at nodes root
+  no_time_windows plan alone not = sym (ticks_there nodes root node plan at ∙ by node alone not)
     where
-      by : (n : PlanNode) → ((source body size advance : ℕ) → n ≡ TimeWindow source body size advance → ⊥) → tick_gaps_in (figures_of nodes) n ≡ None
-      by (TimeWindow source body size advance) not = absurd (not source body size advance refl)
-      by (Stream number kinds) not = refl
-      by (Body kinds) not = refl
-      by (Compute child ops) not = refl
-      by (Select child column) not = refl
-      by (Project child items) not = refl
-      by (Frames child key items) not = refl
-      by (Aggregate child aggs) not = refl
-      by (Union left right) not = refl
-      by (Merge left right) not = refl
-      by (Beside left right) not = refl
-      by (Window source body size advance) not = refl
-      by (Group source body key groups) not = refl
-      by (Partition source body key groups size advance) not = refl
+      by : (n : PlanNode) → rows_below n ≡ None → ((source body size advance : ℕ) → n ≡ TimeWindow source body size advance → ⊥)
+          → tick_gaps_from (figures_of nodes) (tick_gaps_at nodes) n ≡ None
+      by (TimeWindow source body size advance) alone not = absurd (not source body size advance refl)
+      by (Stream number kinds) alone not = refl
+      by (Body kinds) alone not = refl
+      by (Compute child ops) alone not = absurd (cc (alone))
+      by (Select child column) alone not = absurd (cc (alone))
+      by (Project child items) alone not = absurd (cc (alone))
+      by (Frames child key items) alone not = refl
+      by (Aggregate child aggs) alone not = refl
+      by (Union left right) alone not = refl
+      by (Merge left right) alone not = refl
+      by (Beside left right) alone not = refl
+      by (Window source body size advance) alone not = refl
+      by (Group source body key groups) alone not = refl
+      by (Partition source body key groups size advance) alone not = refl
+
+  -- and one that has gaps of ticks has no spare copies
+  pub ticked_alone : IsPlan nodes → (it : TickGaps) → tick_gaps_at nodes root ≡ Some it → None ≡ spare_at nodes root
+  ticked_alone plan it h =
+      no_windows (λ source body size advance e.
+      let none : tick_gaps_at nodes root ≡ None = ticks_there nodes root node plan at ∙ ap (tick_gaps_from (figures_of nodes) (tick_gaps_at nodes)) e in
+      let z : None ≡ Some it = sym none ∙ h in
+      cc (z))
 
   pub is_light : (it : Spare) (weight : ℕ) → spare_in (figures_of nodes) node ≡ Some it
       → weight ≡ capped (weight_with_further nodes root node (further_copies (Some it) node)) → weight ≤ most_weight → Some it ≡ spare_at nodes root
@@ -202,9 +209,57 @@ time_body_within nodes root {source} {body} {size} {advance} plan at =
     let before = (plan.fits root (TimeWindow source body size advance) at).before 1 0 (lit< tt) in
     omega (arith, before, slice_get_within nodes root _ at)
 
+-- gaps of ticks are below a node's own gap, and ticks no farther apart
+module _ (follow : NodesFollowTables) (sound : FiguresAreSound) (nodes : List PlanNode) (plan : IsPlan nodes) where
+  abbrev AreCloser : ℕ → Type 0
+  AreCloser number = (it : TickGaps) → tick_gaps_at nodes number ≡ Some it → (it.gap < (figures_of nodes number).gt) × (it.ticks ≤ (figures_of nodes number).gt)
+
+  -- a node without such gaps has none that could be farther
+  no_closer : (root : ℕ) (node : PlanNode) → slice_get nodes root ≡ Some node → tick_gaps_from (figures_of nodes) (tick_gaps_at nodes) node ≡ None → AreCloser root
+  no_closer root node at none it h = absurd (let z : None ≡ Some it = sym (ticks_there nodes root node plan at ∙ none) ∙ h in cc (z))
+
+  -- rows that are taken one by one have the gaps of the node below, and its figures' gap
+  above_closer : (root child : ℕ) → (figures_of nodes root).gt ≡ (figures_of nodes child).gt → tick_gaps_at nodes root ≡ tick_gaps_at nodes child → AreCloser child → AreCloser root
+  above_closer root child own same below it h =
+      let z = below it (sym same ∙ h) in
+      (let less = z.0 in omega (arith, own, less), let few = z.1 in omega (arith, own, few))
+
+  node_closer : (root : ℕ) (node : PlanNode) → slice_get nodes root ≡ Some node → ((child : ℕ) → child < root → AreCloser child) → AreCloser root
+  node_closer root (TimeWindow source body size advance) at below it h =
+      let s = figures_of nodes body in
+      let x = tick_gaps_are size advance s it (sym (ticks_there nodes root (TimeWindow source body size advance) plan at) ∙ h) in
+      let own = ap (λ (f : Figures). f.gt) (follow nodes root (TimeWindow source body size advance) plan at).figures in
+      let over = over_gap (copies_of_time size advance) (spaced (window_gap s) (figures_of nodes source)) s in
+      let few = no_farther size advance s (sound nodes body plan (time_body_within nodes root plan at)) in
+      let gap = ap (λ (t : TickGaps). t.gap) x.0 in
+      let ticks = ap (λ (t : TickGaps). t.ticks) x.0 in
+      (omega (arith, own, over, gap, x.1), omega (arith, own, over, few, ticks))
+  node_closer root (Compute child ops) at below it h =
+      let x = rows_above nodes root (Compute child ops) child plan at refl in
+      above_closer root child (ap (λ (f : Figures). f.gt) (follow nodes root (Compute child ops) plan at).figures) x.same (below child x.before) it h
+  node_closer root (Select child column) at below it h =
+      let x = rows_above nodes root (Select child column) child plan at refl in
+      above_closer root child (ap (λ (f : Figures). f.gt) (follow nodes root (Select child column) plan at).figures) x.same (below child x.before) it h
+  node_closer root (Project child items) at below it h =
+      let x = rows_above nodes root (Project child items) child plan at refl in
+      above_closer root child (ap (λ (f : Figures). f.gt) (follow nodes root (Project child items) plan at).figures) x.same (below child x.before) it h
+  node_closer root (Stream number kinds) at below it h = no_closer root (Stream number kinds) at refl it h
+  node_closer root (Body kinds) at below it h = no_closer root (Body kinds) at refl it h
+  node_closer root (Frames child by items) at below it h = no_closer root (Frames child by items) at refl it h
+  node_closer root (Aggregate child aggs) at below it h = no_closer root (Aggregate child aggs) at refl it h
+  node_closer root (Union left right) at below it h = no_closer root (Union left right) at refl it h
+  node_closer root (Merge left right) at below it h = no_closer root (Merge left right) at refl it h
+  node_closer root (Beside left right) at below it h = no_closer root (Beside left right) at refl it h
+  node_closer root (Window source body size advance) at below it h = no_closer root (Window source body size advance) at refl it h
+  node_closer root (Group source body key groups) at below it h = no_closer root (Group source body key groups) at refl it h
+  node_closer root (Partition source body key groups size advance) at below it h = no_closer root (Partition source body key groups size advance) at refl it h
+
+  pub ticks_closer : (root : ℕ) → root < length nodes → AreCloser root
+  ticks_closer root within = by_nodes nodes plan AreCloser (λ number node at fits below. node_closer number node at below) root within
+
 module _ (follow : NodesFollowTables) (sound : FiguresAreSound) (nodes : List PlanNode) (root : ℕ) (plan : IsPlan nodes) (within : root < length nodes) where
   closer : (node : PlanNode) (it : Spare) → slice_get nodes root ≡ Some node → spare_in (figures_of nodes) node ≡ Some it
-      → (tick_gaps_in (figures_of nodes) node ≡ None) × ((figures_with nodes root (Some it) node).gt < (figures_of nodes root).gt)
+      → (tick_gaps_from (figures_of nodes) (tick_gaps_at nodes) node ≡ None) × ((figures_with nodes root (Some it) node).gt < (figures_of nodes root).gt)
   closer (Window source body size advance) it at h =
       let x = spare_is size advance (figures_of nodes source) (figures_of nodes body) it h in
       let own = ap (λ (f : Figures). f.gt) (follow nodes root (Window source body size advance) plan at).figures in
@@ -224,38 +279,13 @@ module _ (follow : NodesFollowTables) (sound : FiguresAreSound) (nodes : List Pl
   closer (Group source body key groups) it at h = absurd (cc (h))
   closer (Partition source body key groups size advance) it at h = absurd (cc (h))
 
-  ticks_closer : (node : PlanNode) (it : TickGaps) → slice_get nodes root ≡ Some node → tick_gaps_in (figures_of nodes) node ≡ Some it
-      → (it.gap < (figures_of nodes root).gt) × (it.ticks ≤ (figures_of nodes root).gt)
-  ticks_closer (TimeWindow source body size advance) it at h =
-      let s = figures_of nodes body in
-      let x = tick_gaps_are size advance s it h in
-      let own = ap (λ (f : Figures). f.gt) (follow nodes root (TimeWindow source body size advance) plan at).figures in
-      let over = over_gap (copies_of_time size advance) (spaced (window_gap s) (figures_of nodes source)) s in
-      let few = no_farther size advance s (sound nodes body plan (time_body_within nodes root plan at)) in
-      let gap = ap (λ (t : TickGaps). t.gap) x.0 in
-      let ticks = ap (λ (t : TickGaps). t.ticks) x.0 in
-      (omega (arith, own, over, gap, x.1), omega (arith, own, over, few, ticks))
-  ticks_closer (Stream number kinds) it at h = absurd (cc (h))
-  ticks_closer (Body kinds) it at h = absurd (cc (h))
-  ticks_closer (Compute child ops) it at h = absurd (cc (h))
-  ticks_closer (Select child column) it at h = absurd (cc (h))
-  ticks_closer (Project child items) it at h = absurd (cc (h))
-  ticks_closer (Frames child by items) it at h = absurd (cc (h))
-  ticks_closer (Aggregate child aggs) it at h = absurd (cc (h))
-  ticks_closer (Union left right) it at h = absurd (cc (h))
-  ticks_closer (Merge left right) it at h = absurd (cc (h))
-  ticks_closer (Beside left right) it at h = absurd (cc (h))
-  ticks_closer (Window source body size advance) it at h = absurd (cc (h))
-  ticks_closer (Group source body key groups) it at h = absurd (cc (h))
-  ticks_closer (Partition source body key groups size advance) it at h = absurd (cc (h))
-
   with_spare : (it : Spare) → spare_at nodes root ≡ Some it → gap_of nodes root < (figures_of nodes root).gt
   with_spare it h =
       let here = get_there nodes root within in
       let x = spare_there nodes root here.0 it here.1 h in
       let f = ap (λ (f : Figures). f.gt) (figures_there nodes root here.0 (Some it) here.1 h) in
       let z = closer here.0 it here.1 x.of_node in
-      let none = ticks_there nodes root here.0 here.1 ∙ z.0 in
+      let none = ticks_there nodes root here.0 plan here.1 ∙ z.0 in
       let own : gap_of nodes root ≡ (root_figures nodes root).gt = ap (λ (o : Option TickGaps). gap_with o (root_figures nodes root).gt) none in
       let less = z.1 in
       omega (arith, less, f, own)
@@ -276,7 +306,7 @@ module _ (follow : NodesFollowTables) (sound : FiguresAreSound) (nodes : List Pl
           omega (arith, f, less)
 
   with_gaps : (it : TickGaps) → tick_gaps_at nodes root ≡ Some it → (it.gap < (figures_of nodes root).gt) × (it.ticks ≤ (figures_of nodes root).gt)
-  with_gaps it h = let here = get_there nodes root within in ticks_closer here.0 it here.1 (sym (ticks_there nodes root here.0 here.1) ∙ h)
+  with_gaps = ticks_closer follow sound nodes plan root within
 
   never_farther : gap_of nodes root ≤ (figures_of nodes root).gt
   never_farther = by (tick_gaps_at nodes root) refl

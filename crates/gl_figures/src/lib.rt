@@ -22,7 +22,7 @@ pub use gl_root_gaps::TickGaps;
 pub use marks::marks_of;
 pub use roots::{figures_at, root_spare};
 use thiserror::Error;
-pub use ticks::root_ticks;
+pub use ticks::{gap_alone, root_ticks, ticks_alone};
 pub use weighed::{weigh, zeros};
 
 /// What is printed of a query's circuit.

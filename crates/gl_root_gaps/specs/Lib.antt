@@ -1,2 +1,3 @@
 pub mod TickGaps
 pub mod Roots
+pub mod Together

@@ -1,24 +1,33 @@
 -- How close beats may come to the root of a plan, and ticks where they are farther apart than tuples.
-use Rattle.std.specs.Prelude.{◌≡◌, ℕ, ◌<◌, ◌≤◌, List, length, Option, Some, None, slice_get}
+use Rattle.std.specs.Prelude.{◌≡◌, ℕ, ◌<◌, ◌≤◌, List, length, Option, Some, None, option_and_then}
 use Rattle.gl_algebra.specs.declared.figures.Figures.{Figures}
 use Rattle.gl_algebra.specs.declared.figures.Spare.{Spare}
 use Rattle.gl_algebra.specs.declared.node.PlanNode.{PlanNode}
-use Rattle.gl_algebra.specs.declared.node.PlanNode.TheVariants.{TimeWindow}
+use Rattle.gl_algebra.specs.declared.node.PlanNode.TheVariants.{Compute, Select, Project, TimeWindow}
 use Rattle.gl_algebra.specs.FigureTable.{figures_of}
 use Rattle.gl_algebra.specs.Fits.{IsPlan}
-use Rattle.gl_algebra.specs.Nodewise.{value_at_node}
+use Rattle.gl_algebra.specs.Nodewise.{nodewise}
 use Rattle.gl_algebra.specs.Roots.{root_figures, spare_at}
 use Rattle.gl_root_gaps.specs.declared.TickGaps.{TickGaps}
 use Rattle.gl_root_gaps.specs.TickGaps.{tick_gaps_of}
 
--- the gaps of windows of time, where ticks are farther apart than tuples
-abbrev pub tick_gaps_in : (ℕ → Figures) → PlanNode → Option TickGaps
-tick_gaps_in figures (TimeWindow source body size advance) = tick_gaps_of size advance (figures body)
-tick_gaps_in figures node = None
+-- the node whose rows this one takes one by one. Each goes on a fixed number of cycles later: with computed columns,
+-- where a filter keeps it, or with picked columns
+abbrev pub rows_below : PlanNode → Option ℕ
+rows_below (Compute child ops) = Some child
+rows_below (Select child column) = Some child
+rows_below (Project child items) = Some child
+rows_below node = None
 
--- those of a root
+-- the gaps of a node whose ticks are farther apart than tuples, from those of the nodes that it names: windows of time
+-- have their own, and a node that takes rows one by one has those of the node below
+abbrev pub tick_gaps_from : (ℕ → Figures) → (ℕ → Option TickGaps) → PlanNode → Option TickGaps
+tick_gaps_from figures gaps (TimeWindow source body size advance) = tick_gaps_of size advance (figures body)
+tick_gaps_from figures gaps node = option_and_then gaps (rows_below node)
+
+-- those of a root: windows of time, or rows above them
 unfoldable pub tick_gaps_at : List PlanNode → ℕ → Option TickGaps
-tick_gaps_at nodes root = value_at_node (tick_gaps_in (figures_of nodes)) None (slice_get nodes root)
+tick_gaps_at nodes = nodewise (tick_gaps_from (figures_of nodes)) None nodes
 
 -- the gap of beats with them, or this one; and that of ticks, where it is another one
 abbrev pub gap_with : Option TickGaps → ℕ → ℕ

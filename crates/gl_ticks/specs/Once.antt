@@ -1,5 +1,5 @@
--- Windows of time over one stream, in a netlist: what front, copies and back serve where ticks are farther apart than
--- tuples.
+-- Windows of time in a netlist: what front, copies and back serve over all beats, and over one stream where ticks are
+-- farther apart than tuples.
 use Rattle.std.specs.Prelude.{ℕ, ◌<◌, Bool, List, Some}
 use Rattle.gl_algebra.specs.declared.figures.Figures.{Figures}
 use Rattle.gl_algebra.specs.declared.node.PlanNode.{PlanNode}
@@ -23,7 +23,7 @@ use Rattle.gl_wire_registers.specs.Timers.{IsClose}
 use Rattle.gl_windows.specs.declared.times.TimeRotation.{TimeRotation}
 use Rattle.gl_windows.specs.Costs.{cost_of_time_front}
 use Rattle.gl_windows.specs.TimeFront.{IsTimeFront}
-use Rattle.gl_windows.specs.TimeRotations.{FeedsTimes, IsTimeRotation, copies_of, machine_of, time_close_delay}
+use Rattle.gl_windows.specs.TimeRotations.{FeedsTimes, IsTimeRotation, ServesTimes, copies_of, machine_of, time_close_delay}
 use Rattle.gl_ticks.specs.declared.rotation.RootTicked.{RootTicked}
 use Rattle.gl_ticks.specs.Apart.{IsFarEnough, TicksApart}
 
@@ -43,12 +43,18 @@ ServesTimesOnce r tick a ins outs lines b =
     (tslices r.size r.advance (times_at tick a last) (ticks_at tick a last) (stream a last)))
     (lines_of_all lines (copies_of r)) last b
 
+-- that, and over all beats what windows of time serve, where a tick is a beat like any other
+pub record ServesBoth (r : TimeRotation) (tick : ℕ → Bool) (a : Carried) (ins outs : ℕ → Carried) (lines : ℕ → Lines)
+    (b : Carried) : Type 0 where
+  pub each : ServesTimes r tick a ins outs lines b
+  pub once : ServesTimesOnce r tick a ins outs lines b
+
 -- what its front and its back promise beside a line of ticks
 abbrev pub root_machine : RootTicked → Machine
 root_machine t =
     let r = t.ticked.rotation in
     keyless (copies_of r) (Some t.ticked.tick) (cost_of_time_front (copies_of r) r.body.a) (FeedsTimes r)
-    (λ tick a g. ServesTimesOnce r tick a g.ins)
+    (λ tick a g. ServesBoth r tick a g.ins)
 
 -- the law of both: wires behind the machine of windows of time, a line of ends that comes late, and a wire one cycle
 -- behind all copies

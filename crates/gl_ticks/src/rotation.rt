@@ -1,4 +1,4 @@
-//! Windows of time at the root: the front and the back of windows of time, with what they owe over one stream.
+//! The front and the back of windows of time, with what they owe over all beats and over one stream.
 
 ghost use Rattle.gl_windows.specs.TimeRotations.{IsTimeRotation};
 ghost use Rattle.gl_ticks.specs.Once.{root_machine};
@@ -10,7 +10,7 @@ use gl_wire::Emitted;
 use gl_wire_registers::{Front, OverCopies, join_all};
 use std::alloc::Global;
 
-/// Windows of time at the root of a plan, beside the line of their ticks.
+/// Windows of time whose ticks may be farther apart than tuples, beside the line of their ticks.
 #[derive(Clone, Copy)]
 pub struct RootTicked {
     /// The windows and the line.
