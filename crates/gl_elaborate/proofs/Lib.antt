@@ -24,6 +24,7 @@ pub mod KnownNodes
 pub mod StatementLemmas
 pub mod WholeLemmas
 pub mod SeveralLemmas
+pub mod TickLemmas
 pub mod TimeLemmas
 pub mod StepLemmas
 pub mod CanLemmas

@@ -13,6 +13,7 @@ use Rattle.gl_algebra.proofs.FigureLemmas.{figures-kept}
 use Rattle.gl_algebra.proofs.PlanLemmas.{in_order}
 use Rattle.gl_algebra.proofs.ResultLemmas.{meaning-kept, moved}
 use Rattle.gl_algebra.proofs.ShapeLemmas.{shape-kept}
+use Rattle.gl_root_gaps.proofs.GapLemmas.{ticks-kept}
 use Rattle.gl_elaborate.specs.Laws.{IsRightAt, SeveralAreRight, leaf_inputs, parameter_widths}
 use Rattle.gl_elaborate.specs.Plans.{Several, plan_behind, plans_of}
 use Rattle.gl_elaborate.proofs.StatementLemmas.{empty, known-behind, right-behind}
@@ -29,6 +30,7 @@ right-kept old new schema statement root plan kept longer at =
       within = omega (arith, here, longer);
       shape = sym (shape-kept old new (length old) order kept root here) ∙ at.shape;
       figures = sym (figures-kept old new (length old) order kept root here) ∙ at.figures;
+      ticks = sym (ticks-kept old new (length old) order kept root here) ∙ at.ticks;
       results = λ inputs body out spill rows r.
           at.results inputs body out spill rows (moved (IsPlanResult new root) (IsPlanResult old root) (sym meaning) (leaf_inputs inputs body) out spill r);
     }

@@ -33,6 +33,7 @@ use Rattle.gl_query.specs.Checked.{IsChecked}
 use Rattle.gl_elaborate.proofs.PlacedLemmas.{IsOver}
 use Rattle.gl_elaborate.proofs.QueryLemmas.{right}
 use Rattle.gl_elaborate.proofs.FigureLemmas.{figures-right}
+use Rattle.gl_elaborate.proofs.TickLemmas.{ticks-right}
 
 pub schema-reader : (schema : Schema) → IsSchema schema → IsReader (stream_node schema.streams) (sources_of schema) true
 schema-reader schema is = record {
@@ -174,6 +175,7 @@ right-behind lengths nodes schema statement checked plan =
         within = done.1.over.within;
         shape = done.1.is;
         figures = (figures-right lengths (query_shape statement.query) (stream_node schema.streams) (sources_of schema) true nodes reader checked.accepted plan).is;
+        ticks = (ticks-right lengths schema.streams (sources_of schema) reader (query_shape statement.query) nodes checked.accepted plan).is;
         results = λ inputs body out spill rows r. done.1.means (leaf_inputs inputs body) out spill r (env_of schema inputs) (schema-sees schema inputs body rows);
       };
     }

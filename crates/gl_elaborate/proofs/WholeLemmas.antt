@@ -20,25 +20,19 @@ use Rattle.gl_algebra.specs.Fits.{IsPlan}
 use Rattle.gl_algebra.specs.Nodewise.{value_at_node}
 use Rattle.gl_algebra.specs.Roots as roots
 use Rattle.gl_algebra.specs.Roots.{is_light, is_light_at, root_figures, spare_at, spare_in, where_light}
-use Rattle.gl_root_gaps.specs.Roots.{tick_gaps_at, tick_gaps_in}
 use Rattle.gl_algebra.specs.Spares.{spare_of, spare_over}
-use Rattle.gl_root_gaps.specs.TickGaps.{tick_gaps_of}
 use Rattle.gl_algebra.specs.Views.{copies_of_window}
 use Rattle.gl_algebra.proofs.FigureLemmas.{figures-kept}
-use Rattle.gl_algebra.proofs.PlanLemmas.{in_order, node_inserted}
+use Rattle.gl_algebra.proofs.PlanLemmas.{in_order}
 use Rattle.gl_elaborate.specs.Figures.{query_figures}
 use Rattle.gl_elaborate.specs.Plans.{placed, stream_node}
-use Rattle.gl_elaborate.specs.Whole.{RootsAreRight, figures_with, if_light, query_spare, query_ticks}
+use Rattle.gl_elaborate.specs.Whole.{RootsAreRight, figures_with, if_light, query_spare}
 use Rattle.gl_elaborate.proofs.FigureLemmas.{figures-right}
 use Rattle.gl_elaborate.proofs.PlacedLemmas.{IsOver, is_added, over-then}
 use Rattle.gl_elaborate.proofs.QueryLemmas.{columns-are, right}
 use Rattle.gl_elaborate.proofs.ReadLemmas.{body-reader}
+use Rattle.gl_elaborate.proofs.TickLemmas.{there, ticks-right}
 use Rattle.gl_elaborate.proofs.StatementLemmas.{empty, schema-reader}
-
--- the node that was added is at the root
-there : (nodes : List PlanNode) (n : PlanNode) → slice_get (added nodes n).nodes (added nodes n).root ≡ Some n
-unfolding added
-there nodes n = (node_inserted nodes n).number
 
 -- ---- a root, by the node that is there
 
@@ -54,10 +48,6 @@ module _ (nodes : List PlanNode) (root : ℕ) (n : PlanNode) (at : slice_get nod
       ap (value_at_node (roots.figures_with nodes root (spare_at nodes root)) (figures_of nodes root)) at
       ∙ ap (λ (s : Option Spare). roots.figures_with nodes root s n) e
 
-  ticks_by : tick_gaps_at nodes root ≡ tick_gaps_in (figures_of nodes) n
-  unfolding tick_gaps_at
-  ticks_by = ap (value_at_node (tick_gaps_in (figures_of nodes)) None) at
-
   light_by : (o : Option Spare) → where_light nodes root n o ≡ if_light (record { nodes = nodes; root = root }) o
   unfolding is_light_at
   light_by None = refl
@@ -72,7 +62,6 @@ record IsWhole (schema : Schema) (q : QueryShape) : Type 0 where
   spare : spare_at (plan_at schema q).nodes (plan_at schema q).root ≡ if_light (plan_at schema q) (query_spare (sources_of schema) q)
   figures : root_figures (plan_at schema q).nodes (plan_at schema q).root
       ≡ figures_with (sources_of schema) (if_light (plan_at schema q) (query_spare (sources_of schema) q)) q
-  ticks : tick_gaps_at (plan_at schema q).nodes (plan_at schema q).root ≡ query_ticks (sources_of schema) q
 
 -- a root that is no windows of tuples has no spare copies, and the figures of its node
 record IsPlain (at : Placed) : Type 0 where
@@ -84,10 +73,6 @@ plain nodes n e =
     let new = added nodes n in
     let none = spare_by new.nodes new.root n (there nodes n) None e in
     record { none = none; own = figures_by new.nodes new.root n (there nodes n) None none }
-
--- and one that is no windows of time has no gaps of ticks
-untimed : (nodes : List PlanNode) (n : PlanNode) → tick_gaps_in (figures_of (added nodes n).nodes) n ≡ None → tick_gaps_at (added nodes n).nodes (added nodes n).root ≡ None
-untimed nodes n e = ticks_by (added nodes n).nodes (added nodes n).root n (there nodes n) ∙ e
 
 -- the figures of a node stay where a plan grows
 stay : (l r : Placed) → IsPlan l.nodes → IsOver l.nodes r → l.root < length l.nodes → figures_of r.nodes l.root ≡ figures_of l.nodes l.root
@@ -128,40 +113,19 @@ module _ (lengths : ResultsAreLong) (schema : Schema) (fine : IsSchema schema) w
   whole : (q : QueryShape) → IsAcceptedOver (schema_scope schema) q → IsWhole schema q
   whole (shape.Read name) a =
       let p = plain [] (stream_node schema.streams name) refl in
-      record { spare = p.none; figures = p.own ∙ own_figures (shape.Read name) a; ticks = untimed [] (stream_node schema.streams name) refl }
+      record { spare = p.none; figures = p.own ∙ own_figures (shape.Read name) a }
   whole (shape.Rows pick filter source) a =
       let p = plain _ (node.Project _ _) refl in
-      record { spare = p.none; figures = p.own ∙ own_figures (shape.Rows pick filter source) a; ticks = untimed _ (node.Project _ _) refl }
+      record { spare = p.none; figures = p.own ∙ own_figures (shape.Rows pick filter source) a }
   whole (shape.Total aggs source) a =
       let p = plain _ (node.Aggregate _ _) refl in
-      record { spare = p.none; figures = p.own ∙ own_figures (shape.Total aggs source) a; ticks = untimed _ (node.Aggregate _ _) refl }
+      record { spare = p.none; figures = p.own ∙ own_figures (shape.Total aggs source) a }
   whole (shape.Frames items filter slots source) a =
       let p = plain _ (node.Frames _ _ _) refl in
-      record { spare = p.none; figures = p.own ∙ own_figures (shape.Frames items filter slots source) a; ticks = untimed _ (node.Frames _ _ _) refl }
+      record { spare = p.none; figures = p.own ∙ own_figures (shape.Frames items filter slots source) a }
   whole (shape.Each Time var source size advance body) a =
-      let read = stream_node schema.streams in
-      let sources = sources_of schema in
-      let columns = columns_of sources source in
-      let inner : List ℕ → PlanNode = λ name. node.Body (kinds_of columns) in
-      let q = shape.Each Time var source size advance body in
-      let reader = schema-reader schema fine in
-      let done = right lengths q read sources true [] reader a empty in
-      let below = right lengths source read sources true [] reader a.0 empty in
-      let from = placed read sources source [] in
-      let kinds = body-reader sources true reader.scope var columns (columns-are source read sources true reader a.0) in
-      let inside = right lengths body inner (query.inside sources var columns) false from.nodes kinds a.2 below.1.over.plan in
-      let into = placed inner (query.inside sources var columns) body from.nodes in
-      let windows = node.TimeWindow from.root into.root size advance in
-      let top = (is_added into.nodes windows inside.1.over.plan done.0.2).over in
-      let new = added into.nodes windows in
-      let of_body = stay into new inside.1.over.plan top inside.1.over.within
-      ∙ (figures-right lengths body inner (query.inside sources var columns) false from.nodes kinds a.2 below.1.over.plan).is in
-      let p = plain into.nodes windows refl in
-      record {
-        spare = p.none;
-        figures = p.own ∙ own_figures q a;
-        ticks = ticks_by new.nodes new.root windows (there into.nodes windows) ∙ ap (tick_gaps_of size advance) of_body;
-      }
+      let p = plain _ (node.TimeWindow _ _ size advance) refl in
+      record { spare = p.none; figures = p.own ∙ own_figures (shape.Each Time var source size advance body) a }
   whole (shape.Each Tuples var source size advance body) a =
       let read = stream_node schema.streams in
       let sources = sources_of schema in
@@ -188,28 +152,29 @@ module _ (lengths : ResultsAreLong) (schema : Schema) (fine : IsSchema schema) w
       record {
         spare = windows_spare into.nodes from.root into.root size advance f s own of_source of_body of_root (λ it. refl);
         figures = windows_figures into.nodes from.root into.root size advance f s own of_source of_body of_root (λ it. refl);
-        ticks = untimed into.nodes (node.Window from.root into.root size advance) refl;
       }
   whole (shape.PerGroup var source key count body) a =
       let p = plain _ (node.Group _ _ _ count) refl in
-      record { spare = p.none; figures = p.own ∙ own_figures (shape.PerGroup var source key count body) a; ticks = untimed _ (node.Group _ _ _ count) refl }
+      record { spare = p.none; figures = p.own ∙ own_figures (shape.PerGroup var source key count body) a }
   whole (shape.Partition var source key count size advance body) a =
       let p = plain _ (node.Partition _ _ _ count size advance) refl in
-      record { spare = p.none; figures = p.own ∙ own_figures (shape.Partition var source key count size advance body) a; ticks = untimed _ (node.Partition _ _ _ count size advance) refl }
+      record { spare = p.none; figures = p.own ∙ own_figures (shape.Partition var source key count size advance body) a }
   whole (shape.Union l r) a =
       let p = plain _ (node.Union _ _) refl in
-      record { spare = p.none; figures = p.own ∙ own_figures (shape.Union l r) a; ticks = untimed _ (node.Union _ _) refl }
+      record { spare = p.none; figures = p.own ∙ own_figures (shape.Union l r) a }
   whole (shape.ByArrival l r) a =
       let p = plain _ (node.Merge _ _) refl in
-      record { spare = p.none; figures = p.own ∙ own_figures (shape.ByArrival l r) a; ticks = untimed _ (node.Merge _ _) refl }
+      record { spare = p.none; figures = p.own ∙ own_figures (shape.ByArrival l r) a }
   whole (shape.AsOf l r slots) a =
       let p = plain _ (node.Project _ _) refl in
-      record { spare = p.none; figures = p.own ∙ own_figures (shape.AsOf l r slots) a; ticks = untimed _ (node.Project _ _) refl }
+      record { spare = p.none; figures = p.own ∙ own_figures (shape.AsOf l r slots) a }
   whole (shape.Concat l r) a =
       let p = plain _ (node.Beside _ _) refl in
-      record { spare = p.none; figures = p.own ∙ own_figures (shape.Concat l r) a; ticks = untimed _ (node.Beside _ _) refl }
+      record { spare = p.none; figures = p.own ∙ own_figures (shape.Concat l r) a }
 
 pub roots-right : ResultsAreLong → RootsAreRight
 roots-right lengths schema statement checked =
-    let w = whole lengths schema checked.of_schema (query_shape statement.query) checked.accepted in
-    record { spare = w.spare; figures = w.figures; ticks = w.ticks }
+    let q = query_shape statement.query in
+    let w = whole lengths schema checked.of_schema q checked.accepted in
+    let gaps = ticks-right lengths schema.streams (sources_of schema) (schema-reader schema checked.of_schema) q [] checked.accepted empty in
+    record { spare = w.spare; figures = w.figures; ticks = gaps.is }

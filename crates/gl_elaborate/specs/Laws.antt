@@ -26,6 +26,8 @@ use Rattle.gl_elaborate.specs.Fitting.{PlacedFit}
 use Rattle.gl_elaborate.specs.Plans.{Several, plan_of, plans_of, stream_node}
 use Rattle.gl_elaborate.specs.Right.{shape_for}
 use Rattle.gl_elaborate.specs.Figures.{query_figures}
+use Rattle.gl_elaborate.specs.Whole.{query_ticks}
+use Rattle.gl_root_gaps.specs.Roots.{tick_gaps_at}
 
 -- what comes in is of a schema: each stream's rows are as long as its columns are many, and each parameter has a word
 -- of its kind
@@ -71,12 +73,14 @@ pub record IsRightPlan (schema : Schema) (statement : Statement) : Type 0 where
 abbrev pub PlansAreRight : Type 0
 PlansAreRight = (schema : Schema) (statement : Statement) → IsChecked schema statement → IsRightPlan schema statement
 
--- a node of a plan has a statement's shape, its figures, and no result that is not one of the statement
+-- a node of a plan has a statement's shape, its figures, the gaps of its ticks, and no result that is not one of the
+-- statement
 pub record IsRightAt (nodes : List PlanNode) (schema : Schema) (statement : Statement) (root : ℕ) : Type 0 where
   pub within : root < length nodes
   pub shape : shape_of nodes root
       ≡ shape_for (stream_node schema.streams) (sources_of schema) (query_shape statement.query)
   pub figures : figures_of nodes root ≡ query_figures (sources_of schema) (query_shape statement.query)
+  pub ticks : tick_gaps_at nodes root ≡ query_ticks (sources_of schema) (query_shape statement.query)
   pub results : (inputs : beats.Inputs) (body : List Row) (out : List Row) (spill : Bool)
       → AreInputsOf schema inputs
       → IsPlanResult nodes root (leaf_inputs inputs body) out spill

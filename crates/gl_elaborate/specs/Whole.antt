@@ -1,6 +1,6 @@
 -- The figures of a statement. Its query stands under no other, so where it is windows of tuples, these may have spare
 -- copies of their body; whether the plan is light enough with them is all that is asked of the plan. Where it is
--- windows of time, their ticks may be farther apart than tuples.
+-- windows of time, or rows above them, their ticks may be farther apart than tuples.
 use Rattle.std.specs.Prelude.{◌≡◌, List, [], Option, Some, None, if◌then◌else◌}
 use Rattle.gl_schema.specs.declared.schema.Schema.{Schema}
 use Rattle.gl_schema.specs.declared.schema.Stream.{Stream}
@@ -50,10 +50,11 @@ whole_spare schema q =
 abbrev pub whole_figures : Schema → QueryShape → Figures
 whole_figures schema q = figures_with (sources_of schema) (whole_spare schema q) q
 
--- the gaps of its windows of time, where ticks are farther apart than tuples
+-- the gaps of its windows of time, where ticks are farther apart than tuples; a select of rows has those of its source
 abbrev pub query_ticks : List Stream → QueryShape → Option TickGaps
 query_ticks sources (shape.Each Time var source size advance body) =
     tick_gaps_of size advance (query_figures (inside sources var (columns_of sources source)) body)
+query_ticks sources (shape.Rows pick filter source) = query_ticks sources source
 query_ticks sources q = None
 
 -- the spare copies and the figures of a statement that stands alone are those of its query

@@ -114,6 +114,15 @@ fn put_latencies(
     Ok(())
 }
 
+// Appends how far apart beats are, and ticks where they are farther apart.
+fn put_gaps(line: &mut Vec<u8>, front: &[u8], gap: u32, ticks: Option<u32>) -> Result<(), Memory> {
+    put_number(line, front, u128::from(gap))?;
+    match ticks {
+        Some(ticks) => put_number(line, b", ticks ", u128::from(ticks)),
+        None => Ok(()),
+    }
+}
+
 // Adds the figures of the whole, and its bits.
 fn push_figures(
     alloc: Global,
@@ -125,14 +134,11 @@ fn push_figures(
     match subject.figured {
         Figured::Alone(_, printed, _) => {
             put_number(&mut line, b"latency ", u128::from(printed.latency))?;
-            put_number(&mut line, b", gap ", u128::from(printed.gap))?;
-            if let Some(ticks) = printed.ticks {
-                put_number(&mut line, b", ticks ", u128::from(ticks))?;
-            }
+            put_gaps(&mut line, b", gap ", printed.gap, printed.ticks)?;
             put_number(&mut line, b", copies ", u128::from(printed.copies))?;
         }
-        Figured::Together(latencies, gap) => {
-            put_number(&mut line, b"gap ", u128::from(gap))?;
+        Figured::Together(latencies, gap, ticks) => {
+            put_gaps(&mut line, b"gap ", gap, ticks)?;
             put_latencies(&mut line, subject.statements, latencies)?;
         }
     }
@@ -199,7 +205,7 @@ fn push_roots(alloc: Global, head: &mut Vec<Vec<u8>>, subject: Subject<'_>) -> R
         let mut line = line_of(alloc, b"        ")?;
         put_root(&mut line, *root)?;
         let _ = line.pop();
-        if let Figured::Together(_, _) = subject.figured {
+        if let Figured::Together(_, _, _) = subject.figured {
             put(&mut line, b" ")?;
             put(&mut line, checked.statement.name.text.as_slice())?;
         }
@@ -207,7 +213,7 @@ fn push_roots(alloc: Global, head: &mut Vec<Vec<u8>>, subject: Subject<'_>) -> R
     }
     match subject.figured {
         Figured::Alone(_, _, spare) => push_spare(alloc, head, spare),
-        Figured::Together(_, _) => Ok(()),
+        Figured::Together(_, _, _) => Ok(()),
     }
 }
 

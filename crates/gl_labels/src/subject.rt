@@ -13,8 +13,8 @@ use std::alloc::Global;
 pub enum Figured<'a> {
     /// Of one query: those of each node of its plan, what is printed of the whole, and its root's spare copies.
     Alone(&'a [Figures], Printed, Option<Spare>),
-    /// Of several queries: the latency of each, and the gap of them all.
-    Together(&'a [u64], u32),
+    /// Of several queries: the latency of each, the gap of them all, and that of ticks where it is another one.
+    Together(&'a [u64], u32, Option<u32>),
 }
 
 /// What a module was made of.

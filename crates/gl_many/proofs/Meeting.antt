@@ -7,7 +7,6 @@ use Rattle.gl_schema.specs.declared.schema.Column.{Column}
 use Rattle.gl_gaps.specs.declared.Gaps.{Gaps}
 use Rattle.gl_schema.specs.declared.schema.Schema.{Schema}
 use Rattle.gl_schema.specs.Schemas.{column_names}
-use Rattle.gl_gaps.specs.Keeps.{even_gaps}
 use Rattle.gl_schema.specs.Ports.{PortValues, out_column}
 use Rattle.gl_schema.specs.Profile.{ProfilePort, clk, input}
 use Rattle.gl_schema.specs.Right.{IsRight, Meaning}
@@ -37,12 +36,12 @@ use Rattle.gl_testbench.proofs.Views.{past_within, view_steady}
 use Rattle.gl_plan.specs.declared.several.PlannedSeveral.{PlannedSeveral}
 use Rattle.gl_plan.specs.Together.{ArePlanned, several_at}
 use Rattle.gl_compiler.specs.Meets.{result_columns}
-use Rattle.gl_many.specs.Meets.{IsRightAmong, MeetTogether, most_memory_of_all, most_registers_of_all, outputs_among, outs_of, own_latency, shared_gap, take_ticks}
+use Rattle.gl_many.specs.Meets.{IsRightAmong, MeetTogether, most_memory_of_all, most_registers_of_all, outputs_among, outs_of, own_latency, shared_gaps, take_ticks}
 use Rattle.gl_many.specs.Roots.{CanStand, root_of, roots_of}
 use Rattle.gl_many.proofs.Ports.{takes_beats}
 use Rattle.gl_many.proofs.Results.{root_result}
 use Rattle.gl_many.proofs.Sizes.{few, light}
-use Rattle.gl_many.proofs.Standing.{AllStand, Laws, StandsAt, all_accepted, figures_own, ids_are, reads_ticks, they_stand, widest_own}
+use Rattle.gl_many.proofs.Standing.{AllStand, Laws, StandsAt, all_accepted, figures_own, gaps_own, ids_are, reads_ticks, they_stand}
 
 -- ---- one of them
 
@@ -113,7 +112,7 @@ module _ (schema : Schema) (ss : List Statement) (p : PlannedSeveral) (is : AreP
 module _ (laws : Laws) (schema : Schema) (ss : List Statement) (p : PlannedSeveral) (can : CanStand schema ss) (is : ArePlanned schema ss p) where
   -- a text of the netlist of the statements' roots meets them
   pub text_meets : RunLaws → OnceIsLess → (heap : Global) (net : Net) (made : Emitted) → AreWired schema p.plan (roots_of schema ss p.roots.items) net → IsEmitted net made
-      → MeetTogether schema ss (shared_gap schema ss) made.text.items
+      → MeetTogether schema ss (shared_gaps schema ss) made.text.items
   text_meets runs once heap net made wired t =
       let ids = p.roots.items in
       let all = they_stand laws schema ss p can is in
@@ -122,7 +121,7 @@ module _ (laws : Laws) (schema : Schema) (ss : List Statement) (p : PlannedSever
       let ports = wired.ports ∙ ap (λ b. many_ports b schema p.plan (roots_of schema ss ids)) (reads_ticks laws schema ss p can is heap) in
       let takes : TakesBeats ticks schema outputs net = takes_beats p.plan schema ss ids net all ports in
       let text : IsEmission net schema made.text.items = t.text ticks schema outputs can.of_schema takes in
-      let gap = widest_own p.plan schema ss ids all in
+      let gaps = gaps_own p.plan schema ss ids all in
       let own = ids_are p.plan schema ss ids all in
       record {
         accepted = all_accepted p.plan schema ss ids all;
@@ -134,6 +133,6 @@ module _ (laws : Laws) (schema : Schema) (ss : List Statement) (p : PlannedSever
         few_registers = subst (λ (n : ℕ). n ≤ most_registers_of_all (plans_of [] schema ss)) (sym text.registers) (few_registers schema ss p is net wired own);
         few_memories = subst (λ (n : ℕ). n ≤ most_memory_of_all (plans_of [] schema ss)) (sym text.memories) (few_memories schema ss p is net wired own);
         runs = text.runs;
-        each = all_right runs schema p.plan (even_gaps (shared_gap schema ss)) net made.text.items text ss ids all
-            (subst (λ (g : ℕ). AllByRecursion (IsRightFor schema p.plan (even_gaps g) net) (roots_of schema ss ids)) gap wired.each);
+        each = all_right runs schema p.plan (shared_gaps schema ss) net made.text.items text ss ids all
+            (subst (λ (g : Gaps). AllByRecursion (IsRightFor schema p.plan g net) (roots_of schema ss ids)) gaps wired.each);
       }

@@ -1,5 +1,9 @@
--- A text of several queries has one list of trees, or one fault; and its statements one plan, one gap and one limit.
-use Rattle.std.proofs.Common.{◌≡◌, ℕ, max, List, [], ◌∷◌, Ok, Err, refl, sym, ap, subst, ◌∙◌}
+-- A text of several queries has one list of trees, or one fault; and its statements one plan, one limit and the same gaps.
+use Rattle.std.proofs.Common.{◌≡◌, ℕ, max, List, [], ◌∷◌, Ok, Err, Some, None, refl, sym, subst, ◌∙◌}
+use Rattle.std.specs.Prelude.{is_some, unwrap_or, ◌||◌, if◌then◌else◌}
+use Rattle.std.specs.List.{list_any}
+use Rattle.gl_gaps.specs.Keeps.{gaps_with}
+use Rattle.gl_root_gaps.specs.Roots.{gap_with, ticks_with}
 use Rattle.gl_schema.specs.declared.schema.Schema.{Schema}
 use Rattle.gl_query.specs.declared.fault.QueryFault.{QueryFault}
 use Rattle.gl_query.specs.declared.tree.Statement.{Statement}
@@ -11,10 +15,11 @@ use Rattle.gl_query_texts.specs.ListLaws.{IsVerdict, Verdict}
 use Rattle.gl_figures.specs.declared.Limit.{Limit}
 use Rattle.gl_elaborate.specs.Figures.{query_figures}
 use Rattle.gl_elaborate.specs.Plans.{Several, plans_of}
+use Rattle.gl_elaborate.specs.Whole.{query_ticks, statement_ticks}
 use Rattle.gl_compiler.proofs.Shaped.{shapes_alike}
 use Rattle.gl_plan.specs.Together.{AreWithinLimits, PassLimit}
 use Rattle.gl_many.specs.Below.{LawsBelow}
-use Rattle.gl_many.specs.Meets.{shared_gap}
+use Rattle.gl_many.specs.Meets.{shared_gap, shared_gaps, shared_tick_gap}
 use Rattle.gl_many.specs.Queries.{AreOverLimit, AreQueries, IsFaultOfAll, trees_of}
 use Rattle.gl_many.proofs.Alike.{joint_plans_alike}
 
@@ -39,18 +44,37 @@ no_list laws schema text f ss h k =
 -- ---- statements of the same trees
 
 abbrev gap_at : Schema → QueryShape → ℕ
-gap_at schema q = (query_figures (sources_of schema) q).gt
+gap_at schema q = gap_with (query_ticks (sources_of schema) q) (query_figures (sources_of schema) q).gt
 
--- they have one gap
-pub gaps_alike : (schema : Schema) (ss ts : List Statement) → trees_of ss ≡ trees_of ts → shared_gap schema ss ≡ shared_gap schema ts
-gaps_alike schema [] [] e = refl
-gaps_alike schema [] (t ∷ ts) e = absurd cc
-gaps_alike schema (s ∷ ss) [] e = absurd cc
-gaps_alike schema (s ∷ ss) (t ∷ ts) e =
+abbrev tick_gap_at : Schema → QueryShape → ℕ
+tick_gap_at schema q = unwrap_or (ticks_with (query_ticks (sources_of schema) q)) (gap_at schema q)
+
+-- what their gaps are read off is one
+record AreAsFar (schema : Schema) (ss ts : List Statement) : Type 0 where
+  gap : shared_gap schema ss ≡ shared_gap schema ts
+  ticks : shared_tick_gap schema ss ≡ shared_tick_gap schema ts
+  some : list_any (λ s. is_some (statement_ticks schema s)) ss ≡ list_any (λ s. is_some (statement_ticks schema s)) ts
+
+as_far : (schema : Schema) (ss ts : List Statement) → trees_of ss ≡ trees_of ts → AreAsFar schema ss ts
+as_far schema [] [] e = record { gap = refl; ticks = refl; some = refl }
+as_far schema [] (t ∷ ts) e = absurd cc
+as_far schema (s ∷ ss) [] e = absurd cc
+as_far schema (s ∷ ss) (t ∷ ts) e =
     let first : statement_tree s ≡ statement_tree t = cc in
     let others : trees_of ss ≡ trees_of ts = cc in
-    ap (λ (q : QueryShape). max (gap_at schema q) (shared_gap schema ss)) (shapes_alike s t first)
-    ∙ ap (max (gap_at schema (query_shape t.query))) (gaps_alike schema ss ts others)
+    let shape : query_shape s.query ≡ query_shape t.query = shapes_alike s t first in
+    let rest = as_far schema ss ts others in
+    record {
+      gap = λ i. max (gap_at schema (shape i)) (rest.gap i);
+      ticks = λ i. max (tick_gap_at schema (shape i)) (rest.ticks i);
+      some = λ i. is_some (query_ticks (sources_of schema) (shape i)) || rest.some i;
+    }
+
+-- they have the same gaps
+pub gaps_alike : (schema : Schema) (ss ts : List Statement) → trees_of ss ≡ trees_of ts → shared_gaps schema ss ≡ shared_gaps schema ts
+gaps_alike schema ss ts e =
+    let far = as_far schema ss ts e in
+    λ i. gaps_with (far.gap i) (if far.some i then Some (far.ticks i) else None)
 
 -- ---- what a text's statements have
 
@@ -58,8 +82,8 @@ gaps_alike schema (s ∷ ss) (t ∷ ts) e =
 same_plans : LawsBelow → (schema : Schema) (text : List ℕ) (ss ts : List Statement) → HasStatements schema text (trees_of ss) → HasStatements schema text (trees_of ts) → plans_of [] schema ss ≡ plans_of [] schema ts
 same_plans laws schema text ss ts h k = joint_plans_alike schema ss ts (one_list laws schema text ss ts h k)
 
-pub one_gap_of_all : LawsBelow → (schema : Schema) (text : List ℕ) (ss ts : List Statement) → AreQueries schema text ss → AreQueries schema text ts → shared_gap schema ss ≡ shared_gap schema ts
-one_gap_of_all laws schema text ss ts p q = gaps_alike schema ss ts (one_list laws schema text ss ts p.has q.has)
+pub one_gaps_of_all : LawsBelow → (schema : Schema) (text : List ℕ) (ss ts : List Statement) → AreQueries schema text ss → AreQueries schema text ts → shared_gaps schema ss ≡ shared_gaps schema ts
+one_gaps_of_all laws schema text ss ts p q = gaps_alike schema ss ts (one_list laws schema text ss ts p.has q.has)
 
 -- the limits that their joint plans pass are one
 pub one_limit_of_all : LawsBelow → (schema : Schema) (text : List ℕ) (l m : Limit) → AreOverLimit schema text l → AreOverLimit schema text m → l ≡ m

@@ -1,7 +1,8 @@
 -- Statements at their roots in a joint plan: what is known of each, and that they can be wired together.
-use Rattle.std.proofs.Common.{◌≡◌, ℕ, ◌+◌, ◌<◌, ◌≤◌, ◌^◌, max, List, [], ◌∷◌, length, map, Global, refl, sym, ap, subst, ◌∙◌, arith}
-use Rattle.std.specs.Prelude.{bytes_eq}
-use Rattle.std.specs.List.{AllByRecursion, AllZip, IsDistinct}
+use Rattle.std.proofs.Common.{◌≡◌, ℕ, ◌+◌, ◌<◌, ◌≤◌, ◌^◌, max, List, [], ◌∷◌, length, map, Some, None, Global, refl, sym, ap, subst, ◌∙◌, arith}
+use Rattle.std.specs.Prelude.{bytes_eq, is_some, unwrap_or, ◌||◌, if◌then◌else◌}
+use Rattle.std.specs.List.{AllByRecursion, AllZip, IsDistinct, list_any}
+use Rattle.gl_gaps.specs.Keeps.{gaps_with}
 use Rattle.gl_schema.specs.declared.schema.Schema.{Schema}
 use Rattle.gl_schema.specs.Schemas.{kinds_of}
 use Rattle.gl_query.specs.declared.tree.Statement.{Statement}
@@ -18,14 +19,17 @@ use Rattle.gl_algebra.specs.Small.{AreFigures}
 use Rattle.gl_algebra.specs.Views.{reads_time}
 use Rattle.gl_elaborate.specs.Laws.{IsRightAt, PlansAreRight, PlansTellTime, SeveralAreRight, parameter_widths}
 use Rattle.gl_elaborate.specs.Plans.{Several}
+use Rattle.gl_elaborate.specs.Whole.{statement_ticks}
 use Rattle.gl_plan.specs.Planned.{AreAllSmall}
 use Rattle.gl_plan.specs.declared.several.PlannedSeveral.{PlannedSeveral}
-use Rattle.gl_plan.specs.Together.{ArePlanned, gap_together, latency_alone}
-use Rattle.gl_wiring.specs.Many.{CanWireAll, CanWireRoot, ids_of, intos, result_names, widest_gap}
+use Rattle.gl_plan.specs.Together.{ArePlanned, latency_alone}
+use Rattle.gl_root_gaps.specs.Roots.{gap_with, tick_gaps_at, ticks_with}
+use Rattle.gl_root_gaps.specs.Together.{farthest_ticks, gap_alone, gap_together, ticks_alone, ticks_together}
+use Rattle.gl_wiring.specs.Many.{CanWireAll, CanWireRoot, gaps_together, ids_of, intos, result_names}
 use Rattle.gl_wiring.specs.StreamWires.{AreStreamLeaves}
 use Rattle.gl_compiler.specs.Meets.{result_columns}
 use Rattle.gl_compiler.proofs.KnownOf.{Known, known}
-use Rattle.gl_many.specs.Meets.{own_figures, own_latency, shared_gap, take_ticks}
+use Rattle.gl_many.specs.Meets.{own_figures, own_gap, own_latency, own_tick_gap, shared_gap, shared_gaps, shared_tick_gap, shared_ticks, take_ticks}
 use Rattle.gl_many.specs.Roots.{CanStand, IsNamed, names_of, root_of, roots_of}
 use Rattle.gl_many.proofs.Times.{several-time}
 
@@ -42,6 +46,13 @@ module _ (nodes : List PlanNode) (schema : Schema) (statement : Statement) (id :
 
   pub kinds_own : shapes.kinds_of nodes id ≡ kinds_of (result_columns schema statement)
   kinds_own = ap (λ (x : Shape). x.kinds) at.right.shape
+
+  -- and so are its gaps
+  gap_at : gap_alone nodes id ≡ own_gap schema statement
+  gap_at = λ i. gap_with (at.right.ticks i) (figures_own i).gt
+
+  ticks_at : ticks_alone nodes id ≡ own_tick_gap schema statement
+  ticks_at = λ i. unwrap_or (ticks_with (at.right.ticks i)) (gap_at i)
 
   can_wire : CanWireRoot schema nodes (root_of schema statement id)
   can_wire =
@@ -104,14 +115,27 @@ module _ (nodes : List PlanNode) (schema : Schema) where
   gap_own [] (id ∷ ids) all = absurd all
   gap_own (s ∷ ss) [] all = absurd all
   gap_own (s ∷ ss) (id ∷ ids) all =
-      ap (λ (f : Figures). max f.gt (gap_together nodes ids)) (figures_own nodes schema s id all.0) ∙ ap (max (own_figures schema s).gt) (gap_own ss ids all.1)
+      ap (λ n. max n (gap_together nodes ids)) (gap_at nodes schema s id all.0) ∙ ap (max (own_gap schema s)) (gap_own ss ids all.1)
 
-  widest_is : (ids : List ℕ) → widest_gap nodes ids ≡ gap_together nodes ids
-  widest_is [] = refl
-  widest_is (id ∷ ids) = ap (max (figures_of nodes id).gt) (widest_is ids)
+  farthest_own : (ss : List Statement) (ids : List ℕ) → AllStand nodes schema ss ids → farthest_ticks nodes ids ≡ shared_tick_gap schema ss
+  farthest_own [] [] all = refl
+  farthest_own [] (id ∷ ids) all = absurd all
+  farthest_own (s ∷ ss) [] all = absurd all
+  farthest_own (s ∷ ss) (id ∷ ids) all =
+      ap (λ n. max n (farthest_ticks nodes ids)) (ticks_at nodes schema s id all.0) ∙ ap (max (own_tick_gap schema s)) (farthest_own ss ids all.1)
 
-  pub widest_own : (ss : List Statement) (ids : List ℕ) → AllStand nodes schema ss ids → widest_gap nodes (ids_of (roots_of schema ss ids)) ≡ shared_gap schema ss
-  widest_own ss ids all = ap (widest_gap nodes) (ids_are ss ids all) ∙ widest_is ids ∙ gap_own ss ids all
+  any_own : (ss : List Statement) (ids : List ℕ) → AllStand nodes schema ss ids
+      → list_any (λ id. is_some (tick_gaps_at nodes id)) ids ≡ list_any (λ s. is_some (statement_ticks schema s)) ss
+  any_own [] [] all = refl
+  any_own [] (id ∷ ids) all = absurd all
+  any_own (s ∷ ss) [] all = absurd all
+  any_own (s ∷ ss) (id ∷ ids) all = λ i. is_some (all.0.right.ticks i) || any_own ss ids all.1 i
+
+  ticks_own : (ss : List Statement) (ids : List ℕ) → AllStand nodes schema ss ids → ticks_together nodes ids ≡ shared_ticks schema ss
+  ticks_own ss ids all = λ i. if any_own ss ids all i then Some (farthest_own ss ids all i) else None
+
+  pub gaps_own : (ss : List Statement) (ids : List ℕ) → AllStand nodes schema ss ids → gaps_together nodes (ids_of (roots_of schema ss ids)) ≡ shared_gaps schema ss
+  gaps_own ss ids all = ap (gaps_together nodes) (ids_are ss ids all) ∙ (λ i. gaps_with (gap_own ss ids all i) (ticks_own ss ids all i))
 
   latencies_own : (ss : List Statement) (ids : List ℕ) → AllStand nodes schema ss ids → map (latency_alone nodes) ids ≡ map (own_latency schema) ss
   latencies_own [] [] all = refl
@@ -160,6 +184,9 @@ module _ (laws : Laws) (schema : Schema) (ss : List Statement) (p : PlannedSever
 
   pub gap_is : p.gap ≡ shared_gap schema ss
   gap_is = is.gap' ∙ gap_own p.plan schema ss p.roots.items they_stand
+
+  pub ticks_are : p.ticks ≡ shared_ticks schema ss
+  ticks_are = is.ticks' ∙ ticks_own p.plan schema ss p.roots.items they_stand
 
   pub short : AllByRecursion (λ latency. latency ≤ 2 ^ 32) p.latencies.items
   short =

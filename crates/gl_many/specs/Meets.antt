@@ -1,13 +1,13 @@
 -- What the text of several statements is: one module with the ports of the schema and of each result. Every run of it is
--- right for each statement as if it stood alone: in any order of events, over any beats that keep the gap, from any
+-- right for each statement as if it stood alone: in any order of events, over any beats that keep the gaps, from any
 -- start. Each result has its own latency and its own overflow line.
-use Rattle.std.specs.Prelude.{◌≡◌, ℕ, ◌+◌, ◌*◌, ◌≤◌, ◌∷◌, ◌++◌, max, List, [], length, map, Bool, codes}
+use Rattle.std.specs.Prelude.{◌≡◌, ℕ, ◌+◌, ◌*◌, ◌≤◌, ◌∷◌, ◌++◌, max, List, [], length, map, Option, Some, None, Bool, codes, is_some, unwrap_or, if◌then◌else◌}
 use Rattle.std.specs.List.{AllByRecursion, flat_map, list_any, sum_by}
 use Rattle.gl_outside.specs.declared.shelf.TheConstants.{TEXT_LIMIT}
 use Rattle.gl_schema.specs.declared.schema.Column.{Column}
 use Rattle.gl_gaps.specs.declared.Gaps.{Gaps}
 use Rattle.gl_schema.specs.declared.schema.Schema.{Schema}
-use Rattle.gl_gaps.specs.Keeps.{even_gaps}
+use Rattle.gl_gaps.specs.Keeps.{gaps_with}
 use Rattle.gl_schema.specs.Ports.{out_column}
 use Rattle.gl_schema.specs.Profile.{ProfilePort, clk, input, input_ports, output_ports}
 use Rattle.gl_schema.specs.Right.{IsRight}
@@ -21,6 +21,8 @@ use Rattle.gl_algebra.specs.Roots.{output_part}
 use Rattle.gl_figures.specs.Reach.{keys_of_reached, lean_of_reached, store_of_reached}
 use Rattle.gl_elaborate.specs.Figures.{query_figures}
 use Rattle.gl_elaborate.specs.Plans.{Several, plans_of}
+use Rattle.gl_elaborate.specs.Whole.{statement_ticks}
+use Rattle.gl_root_gaps.specs.Roots.{gap_with, ticks_with}
 use Rattle.gl_verilog.specs.Cost.{memory_bits, register_bits}
 use Rattle.gl_verilog.specs.Module.{Module}
 use Rattle.gl_verilog.specs.Text.{HasModule}
@@ -46,10 +48,33 @@ abbrev pub longest : Schema → List Statement → ℕ
 longest schema [] = 0
 longest schema (s ∷ ss) = max (own_latency schema s) (longest schema ss)
 
--- the cycles from a beat to the next, at least, for all of them
+-- the cycles from a beat to the next, at least, for one of them: its figures', or those from tuple to tuple where ticks
+-- are farther apart
+abbrev pub own_gap : Schema → Statement → ℕ
+own_gap schema statement = gap_with (statement_ticks schema statement) (own_figures schema statement).gt
+
+-- and from a tick to the next one and to the end
+abbrev pub own_tick_gap : Schema → Statement → ℕ
+own_tick_gap schema statement =
+    unwrap_or (ticks_with (statement_ticks schema statement)) (own_gap schema statement)
+
+-- the greatest of these for all of them
 abbrev pub shared_gap : Schema → List Statement → ℕ
 shared_gap schema [] = 0
-shared_gap schema (s ∷ ss) = max (own_figures schema s).gt (shared_gap schema ss)
+shared_gap schema (s ∷ ss) = max (own_gap schema s) (shared_gap schema ss)
+
+abbrev pub shared_tick_gap : Schema → List Statement → ℕ
+shared_tick_gap schema [] = 0
+shared_tick_gap schema (s ∷ ss) = max (own_tick_gap schema s) (shared_tick_gap schema ss)
+
+-- that of ticks is another one where ticks of some statement are farther apart than tuples
+abbrev pub shared_ticks : Schema → List Statement → Option ℕ
+shared_ticks schema ss =
+    if list_any (λ s. is_some (statement_ticks schema s)) ss then Some (shared_tick_gap schema ss) else None
+
+-- how far apart beats and ticks are to be for all of them
+abbrev pub shared_gaps : Schema → List Statement → Gaps
+shared_gaps schema ss = gaps_with (shared_gap schema ss) (shared_ticks schema ss)
 
 -- ---- bits
 
@@ -101,7 +126,7 @@ pub record IsRightAmong (schema : Schema) (gaps : Gaps) (design : Module) (state
 -- the text has one module, whose ports are in order the clock, the inputs of the schema and the outputs of each
 -- statement, and which declares no more bits than their joint plan counts; there is a run of it from any start over any
 -- beats of the schema, and it is right for each statement; it is no longer than a text that is read may be
-pub record MeetTogether (schema : Schema) (statements : List Statement) (gap : ℕ) (text : List ℕ) : Type 0 where
+pub record MeetTogether (schema : Schema) (statements : List Statement) (gaps : Gaps) (text : List ℕ) : Type 0 where
   pub accepted : AllByRecursion (IsAccepted schema) statements
   pub design : Module
   pub has : HasModule text design
@@ -111,4 +136,4 @@ pub record MeetTogether (schema : Schema) (statements : List Statement) (gap : �
   pub few_registers : register_bits design ≤ most_registers_of_all (plans_of [] schema statements)
   pub few_memories : memory_bits design ≤ most_memory_of_all (plans_of [] schema statements)
   pub runs : HasRunsOver design schema
-  pub each : AllByRecursion (IsRightAmong schema (even_gaps gap) design) statements
+  pub each : AllByRecursion (IsRightAmong schema gaps design) statements

@@ -17,7 +17,7 @@ use Rattle.gl_runner.specs.Prints.{IsRunOver}
 use Rattle.gl_runner.specs.Several.{AllEndWithin}
 use Rattle.gl_runner.specs.declared.faces.Face.{Face}
 use Rattle.gl_many.specs.Compiles.{statements_in}
-use Rattle.gl_many.specs.Meets.{MeetTogether, own_latency, shared_gap}
+use Rattle.gl_many.specs.Meets.{MeetTogether, own_latency, shared_gap, shared_gaps, shared_ticks}
 use Rattle.gl_many.specs.declared.compiling.Many.{Many}
 
 -- where a statement's result is shown: its name, and its columns
@@ -51,10 +51,11 @@ pub record CanRunAll (text : List ℕ) (schema : Schema) (faces : List Face) (be
   pub end : (value : ℕ → Nets) (word : ℕ → Memories) → IsRunOver design schema beats start value word
       → AllEndWithin latency beats faces (port_of design value)
 
--- the text meets its statements, within the latencies and the gap that are printed
+-- the text meets its statements, within the latencies and the gaps that are printed
 pub record AreRunnable (m : Many) : Type 0 where
   pub fine : IsSchema m.schema
-  pub meets : MeetTogether m.schema (statements_in m) (shared_gap m.schema (statements_in m)) m.text.items
+  pub meets : MeetTogether m.schema (statements_in m) (shared_gaps m.schema (statements_in m)) m.text.items
   pub latencies : m.planned.latencies.items ≡ map (own_latency m.schema) (statements_in m)
   pub gap : m.planned.gap ≡ shared_gap m.schema (statements_in m)
+  pub ticks : m.planned.ticks ≡ shared_ticks m.schema (statements_in m)
   pub short : AllByRecursion (λ latency. latency ≤ 2 ^ 32) m.planned.latencies.items

@@ -7,8 +7,8 @@ ghost use Rattle.gl_query.specs.declared.tree.Statement.{Statement as Stated};
 ghost use Rattle.gl_elaborate.specs.Plans.{plans_of};
 ghost use Rattle.gl_plan.specs.Together.{statements_of, ArePlanned, IsCheckedOver, PassOr};
 ghost use Rattle.gl_compiler.specs.Queries.{IfRefused};
-ghost use Rattle.gl_many.specs.Compiles.{AreCompiled};
-ghost use Rattle.gl_many.specs.Meets.{MeetTogether, shared_gap};
+ghost use Rattle.gl_many.specs.Compiles.{planned_gaps, AreCompiled};
+ghost use Rattle.gl_many.specs.Meets.{MeetTogether, shared_gaps};
 ghost use Rattle.gl_many.specs.Queries.{AreQueries, AreRefused, TellsCausesOfAll};
 ghost use Rattle.gl_many.specs.Roots.{CanStand};
 
@@ -18,6 +18,7 @@ use gl_bits::Memory;
 use gl_compiler::CompileFault;
 use gl_elaborate::laws::{plans_are_right, plans_tell_time, several_are_right};
 use gl_figures::reach_laws::once_is_less;
+use gl_gaps::Gaps;
 use gl_labels::{Figured, Subject, labels_of};
 use gl_net::Netlist;
 use gl_plan::{PlanFault, PlannedSeveral, plan_several};
@@ -65,11 +66,18 @@ impl Many {
         self.statements.as_slice()
     }
 
-    /// Their joint plan, with the latency of each statement and the gap of them all.
+    /// Their joint plan, with the latency of each statement and how far apart beats and ticks are for them all.
     pub fn planned(&self) -> &PlannedSeveral
         ensures { result.now ≡ self.now.planned }
     {
         &self.planned
+    }
+
+    /// How far apart beats and ticks are to be for them all.
+    pub fn gaps(&self) -> Gaps
+        ensures { result ≡ planned_gaps self.now }
+    {
+        Gaps::new(self.planned.gap, self.planned.ticks)
     }
 }
 
@@ -86,7 +94,7 @@ fn labels_for(
         statements,
         plan: &planned.plan,
         roots: &planned.roots,
-        figured: Figured::Together(&planned.latencies, planned.gap),
+        figured: Figured::Together(&planned.latencies, planned.gap, planned.ticks),
     };
     labels_of(alloc, net, subject)
 }
@@ -101,7 +109,7 @@ fn text_of(
     requires can { CanStand schema.now (statements_of statements.now) }
     requires planned { ArePlanned schema.now (statements_of statements.now) planned.now }
     ensures { let asked = statements_of statements.now in IfOk result (λ text.
-        MeetTogether schema.now asked (shared_gap schema.now asked) text.items) }
+        MeetTogether schema.now asked (shared_gaps schema.now asked) text.items) }
 {
     accepted_have_real_columns();
     once_is_less();
@@ -130,7 +138,7 @@ fn built(
     ensures planned { let asked = statements_of statements.now in
         IfOk result (λ made. ArePlanned schema.now asked made.0) }
     ensures meets { let asked = statements_of statements.now in IfOk result (λ made.
-        MeetTogether schema.now asked (shared_gap schema.now asked) made.1.items) }
+        MeetTogether schema.now asked (shared_gaps schema.now asked) made.1.items) }
     ensures fault { let asked = statements_of statements.now in
         IfErr result (PassOr (plans_of [] schema.now asked)) }
 {

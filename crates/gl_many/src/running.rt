@@ -2,10 +2,10 @@
 
 ghost use Rattle.std.specs.Prelude.{◌≡◌};
 ghost use Rattle.gl_schema.specs.Beats.{AreBeats};
-ghost use Rattle.gl_gaps.specs.Keeps.{KeepsGaps, even_gaps};
+ghost use Rattle.gl_gaps.specs.Keeps.{KeepsGaps};
 ghost use Rattle.gl_tuples.specs.Gaps.{plain_beats};
 ghost use Rattle.gl_runner.specs.Several.{RanAll};
-ghost use Rattle.gl_many.specs.Compiles.{statements_in};
+ghost use Rattle.gl_many.specs.Compiles.{planned_gaps, statements_in};
 ghost use Rattle.gl_many.specs.Runs.{AreRunnable, OfAllRuns, faces_of, greatest};
 
 use crate::Many;
@@ -29,7 +29,7 @@ fn longest(latencies: &[u64]) -> u64
     }
 }
 
-/// Runs the text of several compiled queries over beats of their schema that keep the gap, in cycles, and
+/// Runs the text of several compiled queries over beats of their schema that keep the gaps, in cycles, and
 /// writes the lines of each result with the name of its statement.
 pub fn run_many<K: Sink>(
     alloc: Global,
@@ -40,7 +40,7 @@ pub fn run_many<K: Sink>(
 ) -> Outcome
     requires many { AreRunnable many.now }
     requires beats { AreBeats many.now.schema (plain_beats beats.now) }
-    requires gap { KeepsGaps (even_gaps many.now.planned.gap) (plain_beats beats.now) }
+    requires gaps { KeepsGaps (planned_gaps many.now) (plain_beats beats.now) }
     ensures { let m = many.now in let beats' = plain_beats beats.now in
         RanAll (OfAllRuns m.text.items m.schema beats' start)
         (faces_of m.schema (statements_in m)) beats' (K.state out.old) (K.state out.new) result }

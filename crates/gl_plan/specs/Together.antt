@@ -1,5 +1,5 @@
 -- What the joint plan of several statements gives, and the limit that it passes. No root has spare copies there.
-use Rattle.std.specs.Prelude.{ℕ, ◌≡◌, ◌+◌, ◌<◌, ◌≤◌, max, sum_by, List, [], ◌∷◌, map, length}
+use Rattle.std.specs.Prelude.{ℕ, ◌≡◌, ◌+◌, ◌<◌, ◌≤◌, sum_by, List, [], map, length}
 use Rattle.std.specs.List.{AllByRecursion}
 use Rattle.gl_bits.specs.Limits.{most_weight}
 use Rattle.gl_schema.specs.declared.schema.Schema.{Schema}
@@ -11,6 +11,7 @@ use Rattle.gl_algebra.specs.FigureTable.{figures_of}
 use Rattle.gl_algebra.specs.Small.{AreFigures}
 use Rattle.gl_algebra.specs.Roots.{output_part}
 use Rattle.gl_algebra.specs.Weights.{weight_of}
+use Rattle.gl_root_gaps.specs.Together.{gap_together, ticks_together}
 use Rattle.gl_figures.specs.declared.Limit.{Limit}
 use Rattle.gl_figures.specs.declared.Limit.TheVariants.{Latency, Nodes}
 use Rattle.gl_figures.specs.Answered.{capped}
@@ -72,11 +73,6 @@ PassOr all fault.Memory = Unit {0}
 abbrev pub latency_alone : List PlanNode → ℕ → ℕ
 latency_alone nodes root = (figures_of nodes root).le + 1
 
--- the greatest of the gaps of roots: the cycles from a beat to the next, at least
-abbrev pub gap_together : List PlanNode → List ℕ → ℕ
-gap_together nodes [] = 0
-gap_together nodes (root ∷ roots) = max (figures_of nodes root).gt (gap_together nodes roots)
-
 -- the joint plan of statements, which is within the limits, the figures of its nodes, and what is printed
 pub record ArePlanned (schema : Schema) (statements : List Statement) (p : PlannedSeveral) : Type 0 where
   pub at : several_at p.plan p.roots.items ≡ plans_of [] schema statements
@@ -85,6 +81,7 @@ pub record ArePlanned (schema : Schema) (statements : List Statement) (p : Plann
   pub figures' : AreFigures p.plan p.figures.items
   pub latencies' : p.latencies.items ≡ map (latency_alone p.plan) p.roots.items
   pub gap' : p.gap ≡ gap_together p.plan p.roots.items
+  pub ticks' : p.ticks ≡ ticks_together p.plan p.roots.items
 
 -- ---- laws
 

@@ -9,7 +9,8 @@ use Rattle.gl_query.specs.declared.tree.Statement.{Statement}
 use Rattle.gl_query.specs.Shapes.{AggShape, QueryShape, query_shape}
 use Rattle.gl_query.specs.Shapes as shape
 use Rattle.gl_elaborate.specs.Plans.{Several, plans_of}
-use Rattle.gl_plan.specs.Together.{gap_together, latency_alone, weight_together}
+use Rattle.gl_root_gaps.specs.Together.{gap_together}
+use Rattle.gl_plan.specs.Together.{latency_alone, weight_together}
 
 -- a column of this name and kind
 abbrev pub column : List ℕ → Kind → NamedColumn

@@ -9,7 +9,7 @@ ghost use Rattle.gl_plan.specs.Planned.{AreAllSmall};
 ghost use Rattle.gl_plan.specs.Together.{plans_over, several_at, statements_of, ArePlanned, IsCheckedOver, PassLimit, PassOr};
 
 use crate::PlanFault;
-use crate::printed::{gap_together, latencies_of};
+use crate::printed::{gap_together, latencies_of, ticks_together};
 use crate::weights::{weight_limit, weights_of};
 use gl_algebra::{Figures, Plan, PlanId};
 use gl_bits::Memory as NoMemory;
@@ -33,6 +33,8 @@ pub struct PlannedSeveral {
     pub latencies: Vec<u64>,
     /// The fewest cycles from one beat to the next.
     pub gap: u32,
+    /// The fewest cycles from a tick to the next one and to the end, where they are others.
+    pub ticks: Option<u32>,
 }
 
 // Adds the plans of statements to a plan, each behind those before it, and their roots to others. Of the
@@ -114,11 +116,13 @@ pub fn plan_several(
     }
     let latencies = latencies_of(alloc, &plan, &roots, &figures)?;
     let gap = gap_together(&plan, &roots, &figures);
+    let ticks = ticks_together(&plan, &roots, &figures);
     Ok(PlannedSeveral {
         plan,
         roots,
         figures,
         latencies,
         gap,
+        ticks,
     })
 }

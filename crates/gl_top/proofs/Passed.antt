@@ -1,11 +1,10 @@
 -- What passes does not stop a command, where the texts are told.
-use Rattle.std.proofs.Common.{◌≡◌, ◌≢◌, ℕ, List, Result, Ok, inl, inr, refl, sym, ap, subst, ◌∙◌}
+use Rattle.std.proofs.Common.{◌≡◌, ◌≢◌, ℕ, List, Result, Ok, inl, inr, refl, sym, subst, ◌∙◌}
 use Rattle.gl_outside.specs.Told.{Told, Untold}
 use Rattle.gl_vcd.specs.Dumped.{OfLines}
 use Rattle.gl_vcd.specs.Reading.{dump_of}
 use Rattle.gl_gaps.specs.declared.Gaps.{Gaps}
 use Rattle.gl_schema.specs.declared.schema.Schema.{Schema}
-use Rattle.gl_gaps.specs.Keeps.{even_gaps}
 use Rattle.gl_schema.specs.declared.fault.SchemaFault.{SchemaFault}
 use Rattle.gl_schema.specs.SchemaFaults.{schema_of}
 use Rattle.gl_schema.specs.SchemaText.{IsSchemaText}
@@ -19,9 +18,9 @@ use Rattle.gl_compiler.specs.Built.{gaps_of}
 use Rattle.gl_compiler.specs.Queries.{IsQuery}
 use Rattle.gl_tuples.specs.Flat.{BeatList}
 use Rattle.gl_tuples.specs.declared.fault.TupleFault.{TupleFault}
-use Rattle.gl_many.specs.Meets.{shared_gap}
+use Rattle.gl_many.specs.Meets.{shared_gaps}
 use Rattle.gl_many.specs.Queries.{AreQueries}
-use Rattle.gl_many.proofs.OneVerdict.{one_gap_of_all}
+use Rattle.gl_many.proofs.OneVerdict.{one_gaps_of_all}
 use Rattle.gl_verilog.specs.Module.{Module}
 use Rattle.gl_verilog.specs.Text.{HasModule}
 use Rattle.gl_top_forms.specs.declared.command.Command.TheVariants as command
@@ -57,9 +56,9 @@ same_for_one : LawsBelow → (told : List ℕ → Told) (words : List (List ℕ)
 same_for_one laws told words s st st' tells p q =
     with_both (told (name_of words part.Query)) (λ text. IsQuery s text st) (λ text. IsQuery s text st') (tells part.Query p.named) p.text q.text (same_gaps laws s st st')
 
-same_for_all : LawsBelow → (told : List ℕ → Told) (words : List (List ℕ)) (s : Schema) (sts sts' : List Statement) → IsTelling told words → QueriesPass told words s sts → QueriesPass told words s sts' → shared_gap s sts ≡ shared_gap s sts'
+same_for_all : LawsBelow → (told : List ℕ → Told) (words : List (List ℕ)) (s : Schema) (sts sts' : List Statement) → IsTelling told words → QueriesPass told words s sts → QueriesPass told words s sts' → shared_gaps s sts ≡ shared_gaps s sts'
 same_for_all laws told words s sts sts' tells p q =
-    with_both (told (name_of words part.Queries)) (λ text. AreQueries s text sts) (λ text. AreQueries s text sts') (tells part.Queries p.named) p.text q.text (λ text. one_gap_of_all laws.several s text sts sts')
+    with_both (told (name_of words part.Queries)) (λ text. AreQueries s text sts) (λ text. AreQueries s text sts') (tells part.Queries p.named) p.text q.text (λ text. one_gaps_of_all laws.several s text sts sts')
 
 -- words name one query, or several
 pub not_both_named : (words : List (List ℕ)) {A : Type 0} → IsNamed words part.Query → IsNamed words part.Queries → A
@@ -70,7 +69,7 @@ asked_gaps : LawsBelow → (told : List ℕ → Told) (words : List (List ℕ)) 
 asked_gaps laws told words s m n tells (OfOne runs st p e) (OfOne runs' st' q h) = e ∙ same_for_one laws told words s st st' tells p q ∙ sym h
 asked_gaps laws told words s m n tells (OfOne runs st p e) (OfAll runs' sts q h) = not_both_named words p.named q.named
 asked_gaps laws told words s m n tells (OfAll runs sts p e) (OfOne runs' st q h) = not_both_named words q.named p.named
-asked_gaps laws told words s m n tells (OfAll runs sts p e) (OfAll runs' sts' q h) = e ∙ ap even_gaps (same_for_all laws told words s sts sts' tells p q) ∙ sym h
+asked_gaps laws told words s m n tells (OfAll runs sts p e) (OfAll runs' sts' q h) = e ∙ same_for_all laws told words s sts sts' tells p q ∙ sym h
 
 -- ---- what passes does not stop
 
@@ -247,7 +246,7 @@ pub passes_goes : LawsBelow → (told : List ℕ → Told) (words : List (List �
 passes_goes laws told words a tells (Two s st p other) h = two_go laws told words s a tells (PassedOne st p) other (λ runs. one_query_part words p.named (many_run_names_queries words runs)) h
 passes_goes laws told words a tells (Three s st beats p) h = three_go laws told words s (gaps_of s st) beats a tells (OfOne p.runs st p.before refl) p.text h
 passes_goes laws told words a tells (TwoOfAll s sts p other) h = two_go laws told words s a tells (PassedAll sts p) (λ runs. one_query_part words (run_names_query words runs) p.named) other h
-passes_goes laws told words a tells (ThreeOfAll s sts beats p) h = three_go laws told words s (even_gaps (shared_gap s sts)) beats a tells (OfAll p.runs sts p.before refl) p.text h
+passes_goes laws told words a tells (ThreeOfAll s sts beats p) h = three_go laws told words s (shared_gaps s sts) beats a tells (OfAll p.runs sts p.before refl) p.text h
 passes_goes laws told words a tells (OfFile s m beats p) h = file_goes laws told words s m beats a tells p h
 passes_goes laws told words a tells (Loads count is) h = load_goes told words count a is h
 passes_goes laws told words a tells (Undumps bytes d) h = dump_goes told words bytes a tells d h

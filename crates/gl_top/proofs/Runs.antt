@@ -21,4 +21,4 @@ runnable_of c is = record {
 
 -- and so is what is compiled of several queries
 pub runnable_together : (m : Many) → AreCompiledTogether m → AreRunnable m
-runnable_together m is = record { fine = is.fine; meets = is.meets; latencies = is.latencies; gap = is.gap; short = is.short }
+runnable_together m is = record { fine = is.fine; meets = is.meets; latencies = is.latencies; gap = is.gap; ticks = is.ticks; short = is.short }

@@ -4,7 +4,6 @@ use Rattle.gl_outside.specs.Told.{Told}
 use Rattle.gl_vcd.specs.Reading.{dump_of}
 use Rattle.gl_gaps.specs.declared.Gaps.{Gaps}
 use Rattle.gl_schema.specs.declared.schema.Schema.{Schema}
-use Rattle.gl_gaps.specs.Keeps.{even_gaps}
 use Rattle.gl_schema.specs.declared.fault.SchemaFault.{SchemaFault}
 use Rattle.gl_schema.specs.SchemaFaults.{schema_of}
 use Rattle.gl_schema.specs.Schemas.{IsSchema}
@@ -24,7 +23,7 @@ use Rattle.gl_compiler.specs.Queries.{IsQuery}
 use Rattle.gl_compiler.specs.declared.fault.CompileFault.{CompileFault}
 use Rattle.gl_compiler.specs.declared.fault.CompileFault.TheVariants as compile
 use Rattle.gl_compiler.proofs.Refusing.{over_goes, query_accepted, tells_of}
-use Rattle.gl_many.specs.Meets.{shared_gap}
+use Rattle.gl_many.specs.Meets.{shared_gaps}
 use Rattle.gl_many.specs.Queries.{AreQueries}
 use Rattle.gl_many.proofs.OneVerdict.{all_within, no_list, one_fault_of_all, one_limit_of_all}
 use Rattle.gl_top_forms.specs.declared.command.Command.TheVariants as command
@@ -145,7 +144,7 @@ bad_tuples t read fault h = bad t part.Tuples (λ text. read text ≡ Err fault)
 -- what stops a command at the tuple file, whatever else a file may fail at
 by_file : (told : List ℕ → Told) (words : List (List ℕ)) (r : Refusal) → PassBeforeTuples told words → ((F : List ℕ → Refusal → Type 0) → FailsAt told words part.Tuples F r) → Stops told words r
 by_file told words r (OfRun runs s st passes) f = at_tuples told words s (gaps_of s st) r (OfOne runs st passes refl) (f (TuplesFail (kept_beats s (gaps_of s st))))
-by_file told words r (OfRunAll runs s sts passes) f = at_tuples told words s (even_gaps (shared_gap s sts)) r (OfAll runs sts passes refl) (f (TuplesFail (kept_beats s (even_gaps (shared_gap s sts)))))
+by_file told words r (OfRunAll runs s sts passes) f = at_tuples told words s (shared_gaps s sts) r (OfAll runs sts passes refl) (f (TuplesFail (kept_beats s (shared_gaps s sts))))
 by_file told words r (OfSim s m passes) f = at_file told words s m r passes (f (TuplesFail (filed s)))
 
 -- what stops it at the text of a query, or of several
@@ -185,7 +184,7 @@ stops told words (refusal.Verilog fault) h =
 stops told words (refusal.Tuples fault) (ToRun runs s st before text) =
     at_tuples told words s (gaps_of s st) (refusal.Tuples fault) (OfOne runs st before refl) (bad_tuples (told (name_of words part.Tuples)) (kept_beats s (gaps_of s st)) fault text)
 stops told words (refusal.Tuples fault) (ToRunAll runs s sts before text) =
-    at_tuples told words s (even_gaps (shared_gap s sts)) (refusal.Tuples fault) (OfAll runs sts before refl) (bad_tuples (told (name_of words part.Tuples)) (kept_beats s (even_gaps (shared_gap s sts))) fault text)
+    at_tuples told words s (shared_gaps s sts) (refusal.Tuples fault) (OfAll runs sts before refl) (bad_tuples (told (name_of words part.Tuples)) (kept_beats s (shared_gaps s sts)) fault text)
 stops told words (refusal.Tuples fault) (ToSim s m before text) =
     at_file told words s m (refusal.Tuples fault) before (bad_tuples (told (name_of words part.Tuples)) (filed s) fault text)
 stops told words (refusal.Dump fault) h =

@@ -7,7 +7,7 @@ use Rattle.gl_elaborate.specs.Plans.{plan_of}
 use Rattle.gl_explain.specs.Lines.{plan_text}
 use Rattle.gl_compiler.specs.Built.{latency_of, gaps_of}
 use Rattle.gl_compiler.specs.Meets.{Meets}
-use Rattle.gl_many.specs.Meets.{MeetTogether, shared_gap}
+use Rattle.gl_many.specs.Meets.{MeetTogether, shared_gaps}
 use Rattle.gl_top_forms.specs.declared.command.Command.{Command}
 use Rattle.gl_top_forms.specs.declared.command.Command.TheVariants.{Compile, Figures, Explain, Many, ManyFigures}
 use Rattle.gl_top_forms.specs.Forms.{IsCommand}
@@ -46,13 +46,13 @@ pub record IsShownOf (told : List ℕ → Told) (words : List (List ℕ)) (bytes
 -- ---- of several statements on one module
 
 -- what such a command writes of them, and the Verilog text that it leaves, which meets all of them: that text, or the
--- latency of each and the gap
+-- latency of each and the gaps
 abbrev pub ShowsAll : Command → Schema → List Statement → List ℕ → List ℕ → Type 0
 ShowsAll Many schema statements bytes text =
-    (bytes ≡ text) × MeetTogether schema statements (shared_gap schema statements) text
+    (bytes ≡ text) × MeetTogether schema statements (shared_gaps schema statements) text
 ShowsAll ManyFigures schema statements bytes text =
     (bytes ≡ figure_lines_of_all schema statements)
-    × MeetTogether schema statements (shared_gap schema statements) text
+    × MeetTogether schema statements (shared_gaps schema statements) text
 ShowsAll command schema statements bytes text = ⊥
 
 -- the texts that such a command names pass, and this is what it shows of them

@@ -20,7 +20,7 @@ use Rattle.gl_runner.specs.Dumps as dumps
 use Rattle.gl_runner.specs.Dumps.{OfEachPorts}
 use Rattle.gl_runner.specs.Several.{RanAll}
 use Rattle.gl_compiler.specs.Dumpable.{DumpTells}
-use Rattle.gl_many.specs.Meets.{MeetTogether, shared_gap}
+use Rattle.gl_many.specs.Meets.{MeetTogether, shared_gaps}
 use Rattle.gl_many.specs.Runs.{OfAllRuns, faces_of}
 use Rattle.gl_runner.specs.declared.executing.Outcome.TheVariants as outcome
 use Rattle.gl_vcd.specs.declared.fault.VcdFault.{VcdFault}
@@ -88,7 +88,7 @@ pub record IsEmitted (told : List ℕ → Told) (words : List (List ℕ)) (schem
 pub record AreEmitted (told : List ℕ → Told) (words : List (List ℕ)) (schema : Schema) (statements : List Statement)
     (beats : BeatList) (text : List ℕ) : Type 0 where
   pub passes : TuplesPassAll told words schema statements beats
-  pub meets : MeetTogether schema statements (shared_gap schema statements) text
+  pub meets : MeetTogether schema statements (shared_gaps schema statements) text
 
 -- what a command ran, from the start that its words say, and how that ended: the lines of the result of `run`, those of
 -- each result of `manyrun`, with its statement's name, or the dump of `vcd`, which tells the run

@@ -7,7 +7,7 @@ use Rattle.gl_outside.specs.Told.{Told}
 use Rattle.gl_gaps.specs.declared.Gaps.{Gaps}
 use Rattle.gl_schema.specs.declared.schema.Schema.{Schema}
 use Rattle.gl_schema.specs.Schemas.{IsSchema}
-use Rattle.gl_gaps.specs.Keeps.{KeepsGaps, even_gaps}
+use Rattle.gl_gaps.specs.Keeps.{KeepsGaps, gaps_with}
 use Rattle.gl_query.specs.declared.tree.Statement.{Statement}
 use Rattle.gl_query.specs.declared.fault.QueryFault.{QueryFault}
 use Rattle.gl_tuples.specs.declared.fault.TupleFault.{TupleFault}
@@ -25,8 +25,8 @@ use Rattle.gl_compiler.specs.declared.compiling.Compiled.{Compiled}
 use Rattle.gl_compiler.specs.Built.{gaps_of, printed_gaps}
 use Rattle.gl_compiler.specs.Queries.{IsQuery, IsQueryRefused}
 use Rattle.gl_many.specs.declared.compiling.Many.{Many}
-use Rattle.gl_many.specs.Compiles.{AreCompiled, statements_in}
-use Rattle.gl_many.specs.Meets.{MeetTogether, own_latency, shared_gap}
+use Rattle.gl_many.specs.Compiles.{AreCompiled, planned_gaps, statements_in}
+use Rattle.gl_many.specs.Meets.{MeetTogether, own_latency, shared_gap, shared_gaps, shared_ticks}
 use Rattle.gl_many.specs.Queries.{AreQueries, AreRefused}
 use Rattle.gl_top_forms.specs.declared.command.Part.{Part}
 use Rattle.gl_top_forms.specs.declared.command.Part.TheVariants as part
@@ -144,9 +144,10 @@ queries_pass told words v s m named before h is =
 pub compiled_together : (s : Schema) (v : List ℕ) (m : Many) → IsSchema s → AreCompiled s v m → AreCompiledTogether m
 compiled_together s v m fine is = record {
   fine = subst IsSchema (sym is.schema') fine;
-  meets = subst (λ (x : Schema). MeetTogether x (statements_in m) (shared_gap x (statements_in m)) m.text.items) (sym is.schema') is.meets;
+  meets = subst (λ (x : Schema). MeetTogether x (statements_in m) (shared_gaps x (statements_in m)) m.text.items) (sym is.schema') is.meets;
   latencies = subst (λ (x : Schema). m.planned.latencies.items ≡ map (own_latency x) (statements_in m)) (sym is.schema') is.latencies;
   gap = subst (λ (x : Schema). m.planned.gap ≡ shared_gap x (statements_in m)) (sym is.schema') is.gap;
+  ticks = subst (λ (x : Schema). m.planned.ticks ≡ shared_ticks x (statements_in m)) (sym is.schema') is.ticks;
   short = is.short;
 }
 
@@ -170,8 +171,11 @@ asks_fine told words s gaps asks = (asks_schema told words s gaps asks).fine
 pub one_asks : (told : List ℕ → Told) (words : List (List ℕ)) (c : Compiled) (s : Schema) (gaps : Gaps) → IsOfRun words → QueryPasses told words c.schema c.statement → IsCompiled c → s ≡ c.schema → gaps ≡ printed_gaps c.printed → AsksGaps told words s gaps
 one_asks told words c s gaps runs passes is e g = subst (λ (x : Schema). AsksGaps told words x gaps) (sym e) (OfOne runs c.statement passes (g ∙ is.gaps))
 
-pub all_ask : (told : List ℕ → Told) (words : List (List ℕ)) (m : Many) (s : Schema) (gaps : Gaps) → IsCommand words ManyRun → QueriesPass told words m.schema (statements_in m) → AreCompiledTogether m → s ≡ m.schema → gaps ≡ even_gaps m.planned.gap → AsksGaps told words s gaps
-all_ask told words m s gaps runs passes is e g = subst (λ (x : Schema). AsksGaps told words x gaps) (sym e) (OfAll runs (statements_in m) passes (g ∙ ap even_gaps is.gap))
+together_gaps : (m : Many) → AreCompiledTogether m → planned_gaps m ≡ shared_gaps m.schema (statements_in m)
+together_gaps m is = λ i. gaps_with (is.gap i) (is.ticks i)
+
+pub all_ask : (told : List ℕ → Told) (words : List (List ℕ)) (m : Many) (s : Schema) (gaps : Gaps) → IsCommand words ManyRun → QueriesPass told words m.schema (statements_in m) → AreCompiledTogether m → s ≡ m.schema → gaps ≡ planned_gaps m → AsksGaps told words s gaps
+all_ask told words m s gaps runs passes is e g = subst (λ (x : Schema). AsksGaps told words x gaps) (sym e) (OfAll runs (statements_in m) passes (g ∙ together_gaps m is))
 
 -- beats that keep gaps keep them as they are said elsewhere
 abbrev pub FileKeeps : (List ℕ → Told) → List (List ℕ) → Schema → Gaps → BeatList → Type 0
@@ -187,10 +191,10 @@ tuples_pass told words c s gaps beats runs passes is e g f =
     let k = keeps_as told words s c.schema gaps (gaps_of c.schema c.statement) beats e (g ∙ is.gaps) f in
     record { runs = runs; before = passes; fine = k.0; gaps = k.1; text = k.2 }
 
-pub tuples_pass_all : (told : List ℕ → Told) (words : List (List ℕ)) (m : Many) (s : Schema) (gaps : Gaps) (beats : BeatList) → IsCommand words ManyRun → QueriesPass told words m.schema (statements_in m) → AreCompiledTogether m → s ≡ m.schema → gaps ≡ even_gaps m.planned.gap
+pub tuples_pass_all : (told : List ℕ → Told) (words : List (List ℕ)) (m : Many) (s : Schema) (gaps : Gaps) (beats : BeatList) → IsCommand words ManyRun → QueriesPass told words m.schema (statements_in m) → AreCompiledTogether m → s ≡ m.schema → gaps ≡ planned_gaps m
     → FileKeeps told words s gaps beats → TuplesPassAll told words m.schema (statements_in m) beats
 tuples_pass_all told words m s gaps beats runs passes is e g f =
-    let k = keeps_as told words s m.schema gaps (even_gaps (shared_gap m.schema (statements_in m))) beats e (g ∙ ap even_gaps is.gap) f in
+    let k = keeps_as told words s m.schema gaps (shared_gaps m.schema (statements_in m)) beats e (g ∙ together_gaps m is) f in
     record { runs = runs; before = passes; fine = k.0; gaps = k.1; text = k.2 }
 
 -- of a tuple file that is refused
@@ -199,7 +203,7 @@ are_bad : (words : List (List ℕ)) (c : Change) (v : List ℕ) (s : Schema) (ga
 are_bad words c v s gaps fault (OfOne runs st before is) h f =
     ToRun runs s st before (has_text c.old.told words part.Tuples (λ text. kept_beats s (gaps_of s st) text ≡ Err fault) v h (subst (λ (n : Gaps). kept_beats s n v ≡ Err fault) is f))
 are_bad words c v s gaps fault (OfAll runs sts before is) h f =
-    ToRunAll runs s sts before (has_text c.old.told words part.Tuples (λ text. kept_beats s (even_gaps (shared_gap s sts)) text ≡ Err fault) v h (subst (λ (n : Gaps). kept_beats s n v ≡ Err fault) is f))
+    ToRunAll runs s sts before (has_text c.old.told words part.Tuples (λ text. kept_beats s (shared_gaps s sts) text ≡ Err fault) v h (subst (λ (n : Gaps). kept_beats s n v ≡ Err fault) is f))
 
 -- a fault is told as it is, unless memory ran out
 tuples_told : (fault : TupleFault) (read : Result BeatList TupleFault) → Fails fault read → (tuples_refusal fault ≡ refusal.Memory) ⊎ ((tuples_refusal fault ≡ refusal.Tuples fault) × (read ≡ Err fault))

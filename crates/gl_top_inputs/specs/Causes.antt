@@ -3,7 +3,6 @@ use Rattle.std.specs.Prelude.{◌≡◌, ◌⊎◌, ℕ, ◌<◌, List, length, 
 use Rattle.gl_outside.specs.States.{ShelfState, IsCalm, Missed, Faulted}
 use Rattle.gl_outside.specs.Told.{Told, IsLacking, IfTold}
 use Rattle.gl_schema.specs.declared.schema.Schema.{Schema}
-use Rattle.gl_gaps.specs.Keeps.{even_gaps}
 use Rattle.gl_schema.specs.declared.fault.SchemaFault as faults
 use Rattle.gl_schema.specs.SchemaFaults.{schema_of}
 use Rattle.gl_query.specs.declared.fault.QueryFault.{QueryFault}
@@ -15,7 +14,7 @@ use Rattle.gl_vcd.specs.declared.fault.VcdFault.{VcdFault}
 use Rattle.gl_vcd.specs.Reading.{dump_of}
 use Rattle.gl_figures.specs.declared.Limit.{Limit}
 use Rattle.gl_compiler.specs.Built.{gaps_of}
-use Rattle.gl_many.specs.Meets.{shared_gap}
+use Rattle.gl_many.specs.Meets.{shared_gaps}
 use Rattle.gl_verilog.specs.Module.{Module}
 use Rattle.gl_verilog_tokens.specs.declared.fault.VerilogFault.{VerilogFault}
 use Rattle.gl_verilog_tokens.specs.declared.fault.VerilogFault.TheVariants as verilog
@@ -108,7 +107,7 @@ pub data AreBadTuples (told : List ℕ → Told) (words : List (List ℕ)) (faul
   ToRunAll : (runs : IsCommand words ManyRun) (schema : Schema) (statements : List Statement)
       (before : QueriesPass told words schema statements)
       (text : HasText told words part.Tuples
-      (λ text. kept_beats schema (even_gaps (shared_gap schema statements)) text ≡ Err fault))
+      (λ text. kept_beats schema (shared_gaps schema statements) text ≡ Err fault))
       → AreBadTuples told words fault
   ToSim : (schema : Schema) (m : Module) (before : ModulePasses told words schema m)
       (text : HasText told words part.Tuples (λ text. beats_of schema (records_of text) ≡ Err fault))

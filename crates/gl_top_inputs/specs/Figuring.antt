@@ -7,7 +7,7 @@ use Rattle.gl_figures.specs.declared.Printed.{Printed}
 use Rattle.gl_net.specs.declared.counting.Cost.{Cost}
 use Rattle.gl_compiler.specs.Compiles.{HasCost}
 use Rattle.gl_compiler.specs.Built.{IsNoFarther, copies_of, gaps_of, latency_of, printed_gaps}
-use Rattle.gl_many.specs.Meets.{own_latency, shared_gap}
+use Rattle.gl_many.specs.Meets.{own_latency, shared_gap, shared_ticks}
 
 -- one figure on a line: its name and its number
 unfoldable pub figure_line : List ℕ → ℕ → List ℕ
@@ -45,7 +45,9 @@ pub record IsFigured (schema : Schema) (statement : Statement) (bytes text : Lis
 abbrev pub latency_line : Schema → Statement → List ℕ
 latency_line schema s = s.name.text ++ figure_line (codes " latency ") (own_latency schema s)
 
--- a line for each statement, in order, and the gap of all
+-- a line for each statement, in order, and the gaps of all
 abbrev pub figure_lines_of_all : Schema → List Statement → List ℕ
 figure_lines_of_all schema statements =
-    flat_map (latency_line schema) statements ++ figure_line (codes "gap ") (shared_gap schema statements)
+    flat_map (latency_line schema) statements
+    ++ figure_line (codes "gap ") (shared_gap schema statements)
+    ++ ticks_line (shared_ticks schema statements)

@@ -7,7 +7,7 @@ use Rattle.gl_gaps.specs.declared.Gaps.{Gaps}
 use Rattle.gl_schema.specs.declared.schema.Schema.{Schema}
 use Rattle.gl_schema.specs.Schemas.{IsSchema, kinds_of}
 use Rattle.gl_schema.specs.Beats.{AreBeats}
-use Rattle.gl_gaps.specs.Keeps.{KeepsGaps, even_gaps}
+use Rattle.gl_gaps.specs.Keeps.{KeepsGaps}
 use Rattle.gl_query.specs.declared.tree.Statement.{Statement}
 use Rattle.gl_tuples.specs.declared.fault.TupleFault.{TupleFault}
 use Rattle.gl_tuple_reader.specs.Entries.{◌>>=◌}
@@ -27,7 +27,7 @@ use Rattle.gl_compiler.specs.Queries.{IsQuery}
 use Rattle.gl_compiler.specs.Meets.{Meets, result_columns}
 use Rattle.gl_many.specs.declared.compiling.Many.{Many}
 use Rattle.gl_many.specs.Compiles.{statements_in}
-use Rattle.gl_many.specs.Meets.{MeetTogether, own_latency, shared_gap}
+use Rattle.gl_many.specs.Meets.{MeetTogether, own_latency, shared_gap, shared_gaps, shared_ticks}
 use Rattle.gl_many.specs.Queries.{AreQueries}
 use Rattle.gl_top_forms.specs.declared.command.Part.TheVariants as part
 use Rattle.gl_top_inputs.specs.declared.judging.Job.{Job}
@@ -75,17 +75,17 @@ pub record TuplesPassAll (told : List ℕ → Told) (words : List (List ℕ)) (s
   pub runs : IsCommand words ManyRun
   pub before : QueriesPass told words schema statements
   pub fine : AreFileBeats schema beats
-  pub gaps : KeepsGaps (even_gaps (shared_gap schema statements)) (plain_beats beats)
+  pub gaps : KeepsGaps (shared_gaps schema statements) (plain_beats beats)
   pub text : HasText told words part.Tuples
-      (λ text. kept_beats schema (even_gaps (shared_gap schema statements)) text ≡ Ok beats)
+      (λ text. kept_beats schema (shared_gaps schema statements) text ≡ Ok beats)
 
 -- the texts before the tuple file of a run pass, and these are the gaps that its beats are to keep: those of the
--- statement, or the one of all of several
+-- statement, or those of all of several
 pub data AsksGaps (told : List ℕ → Told) (words : List (List ℕ)) (schema : Schema) (gaps : Gaps) : Type 0 where
   OfOne : (runs : IsOfRun words) (statement : Statement) (passes : QueryPasses told words schema statement)
       (is : gaps ≡ gaps_of schema statement) → AsksGaps told words schema gaps
   OfAll : (runs : IsCommand words ManyRun) (statements : List Statement)
-      (passes : QueriesPass told words schema statements) (is : gaps ≡ even_gaps (shared_gap schema statements))
+      (passes : QueriesPass told words schema statements) (is : gaps ≡ shared_gaps schema statements)
       → AsksGaps told words schema gaps
 
 -- the words are of `sim`, and the Verilog text is that of this module, whose ports are those of the schema and of a
@@ -127,9 +127,10 @@ pub record IsReady (told : List ℕ → Told) (words : List (List ℕ)) (job : J
 -- the compiled queries: their text meets all of them, and what is printed is theirs
 pub record AreCompiledTogether (m : Many) : Type 0 where
   pub fine : IsSchema m.schema
-  pub meets : MeetTogether m.schema (statements_in m) (shared_gap m.schema (statements_in m)) m.text.items
+  pub meets : MeetTogether m.schema (statements_in m) (shared_gaps m.schema (statements_in m)) m.text.items
   pub latencies : m.planned.latencies.items ≡ map (own_latency m.schema) (statements_in m)
   pub gap : m.planned.gap ≡ shared_gap m.schema (statements_in m)
+  pub ticks : m.planned.ticks ≡ shared_ticks m.schema (statements_in m)
   pub short : AllByRecursion (λ latency. latency ≤ 2 ^ 32) m.planned.latencies.items
 
 -- the three of `manyrun` passed, and this is what they gave

@@ -87,7 +87,7 @@ fn put_latencies(
     put_latencies(text, schema, others, rest)
 }
 
-/// The lines of several compiled queries: the latency of each behind its name, in order, and the gap of all, in cycles.
+/// The lines of several compiled queries: the latency of each behind its name, in order, and the gaps of all, in cycles.
 pub fn many_figures_text(alloc: Global, many: &Many) -> Result<Vec<u8>, Memory>
     requires { AreCompiledTogether many.now }
     ensures { IfOk result (λ v. v.items
@@ -102,5 +102,6 @@ pub fn many_figures_text(alloc: Global, many: &Many) -> Result<Vec<u8>, Memory>
         &planned.latencies,
     )?;
     put_line(&mut text, b"gap ", u128::from(planned.gap))?;
+    put_ticks(&mut text, planned.ticks)?;
     Ok(text)
 }

@@ -10,7 +10,6 @@ ghost use Rattle.gl_top_inputs.specs.Passing.{AreCompiledTogether, AreReady, Que
 ghost use Rattle.gl_top_status.specs.Texts.{SchemaPasses};
 
 use crate::judging::{compile_refusal, judge_tuples};
-use gl_gaps::Gaps;
 use gl_many::{Many, compile_many};
 use gl_outside::Shelf;
 use gl_schema::Schema;
@@ -66,11 +65,7 @@ fn judge_behind_queries<S: Shelf>(
     ensures ready { IfOk result (λ job. AreReady (S.state shelf.old).told words.now job) }
     ensures leaves { Leaves words.now (S.state shelf.old) (S.state shelf.new) result }
 {
-    let gap = many.planned().gap;
-    let gaps = Gaps {
-        of_beats: gap,
-        of_ticks: gap,
-    };
+    let gaps = many.gaps();
     let mut kept = Vec::new(alloc);
     let beats = judge_tuples(alloc, shelf, words, many.schema(), gaps, &mut kept)?;
     Ok(ManyJob { many, beats })

@@ -1,5 +1,6 @@
--- The circuit of a root that has no spare copies and is no windows of time: its node's own.
-use Rattle.std.proofs.Common.{◌≡◌, ℕ, ◌+◌, ◌*◌, ◌<◌, ◌≤◌, List, length, None, sym, subst, arith, Option}
+-- What a node's circuit gives over one stream, and the circuit of a root that has no spare copies: its node's own.
+use Rattle.std.proofs.Common.{◌≡◌, ℕ, ◌+◌, ◌*◌, ◌<◌, ◌≤◌, List, length, Option, Some, None, refl, sym, subst, arith}
+use Rattle.std.specs.Prelude.{unwrap_or}
 use Rattle.gl_bits.proofs.AllLists.{get_there}
 use Rattle.gl_algebra.specs.declared.figures.Figures.{Figures}
 use Rattle.gl_algebra.specs.declared.node.PlanNode.{PlanNode}
@@ -7,7 +8,9 @@ use Rattle.gl_algebra.specs.FigureTable.{figures_of}
 use Rattle.gl_algebra.specs.Fits.{IsPlan}
 use Rattle.gl_algebra.specs.Results.{IsPlanResult}
 use Rattle.gl_algebra.specs.Roots.{root_figures, spare_at}
-use Rattle.gl_root_gaps.specs.Roots.{tick_gaps_at}
+use Rattle.gl_root_gaps.specs.declared.TickGaps.{TickGaps}
+use Rattle.gl_root_gaps.specs.Roots.{gap_with, tick_gaps_at, ticks_with}
+use Rattle.gl_root_gaps.specs.Together.{ticks_alone}
 use Rattle.gl_figures.proofs.RootLemmas.{figures_there}
 use Rattle.gl_net.specs.declared.node.Bit.{Bit}
 use Rattle.gl_net.specs.Net.{Net, Run, IsRun}
@@ -22,7 +25,7 @@ use Rattle.gl_wire.proofs.OnceLemmas.{serving_once}
 use Rattle.gl_wiring.specs.Below.{LawsBelow}
 use Rattle.gl_wiring.specs.Leaves.{leaf}
 use Rattle.gl_wiring.specs.Put.{Gives, IsPut}
-use Rattle.gl_wiring.specs.Roots.{IsRootPut, ServesOnceBy, ServesOnceIn, gapped, once_figures, once_ticks}
+use Rattle.gl_wiring.specs.Roots.{GivesOnce, IsRootPut, ServesAlone, ServesOnceBy, ServesOnceIn, alone_figures, gapped}
 use Rattle.gl_wiring.proofs.CanLemmas.{put_columns}
 
 -- what a plan counts for a root is no less than for its node
@@ -39,9 +42,21 @@ once_by laws nodes id ticks net tick leaves e plan within gives run is beats las
     serving_once (figures_of nodes id) (λ t. IsPlanResult nodes id (inputs_at run.held (line_of run tick) (leaf run leaves) (leaf run leaves 0) t)) (lines_of run e.faults)
     beats (carried run e.wire) last (laws.figures_are_sound nodes id plan within) spaced one (gives.serving run is beats spaced has)
 
+-- and so it does over ticks that are farther apart than tuples, where the node's are
+pub serves_alone : LawsBelow → (nodes : List PlanNode) (id : ℕ) (net : Net) (tick : Option Bit) (leaves : List Wire) (e : Emitted) → IsPlan nodes → id < length nodes
+    → Gives nodes id net tick leaves e → GivesOnce nodes id net tick leaves e → (run : Run) → IsRun net run → ServesAlone nodes id tick leaves e run
+serves_alone laws nodes id net tick leaves e plan within gives once run is = by (tick_gaps_at nodes id) refl
+  where
+    by : (o : Option TickGaps) → tick_gaps_at nodes id ≡ o → ServesAlone nodes id tick leaves e run
+    by None h =
+        let alike : alone_figures nodes id ≡ figures_of nodes id = λ i. gapped (h i) (figures_of nodes id) in
+        subst (λ (g : Figures). ServesOnceBy g (ticks_alone nodes id) nodes id tick leaves e run) (sym alike)
+        (once_by laws nodes id (ticks_alone nodes id) net tick leaves e plan within gives run is)
+    by (Some it) h = once.serves (it, h) run is
+
 pub root_alone : LawsBelow → (nodes : List PlanNode) (root : ℕ) (old new : Net) (tick : Option Bit) (leaves : List Wire) (e : Emitted) → IsPlan nodes → root < length nodes
-    → spare_at nodes root ≡ None → tick_gaps_at nodes root ≡ None → IsPut nodes root old new tick leaves e → IsRootPut nodes root old new tick leaves e
-root_alone laws nodes root old new tick leaves e plan within none even put =
+    → spare_at nodes root ≡ None → IsPut nodes root old new tick leaves e → GivesOnce nodes root new tick leaves e → IsRootPut nodes root old new tick leaves e
+root_alone laws nodes root old new tick leaves e plan within none put over =
     record {
       keeps = put.keeps;
       cost = record {
@@ -56,10 +71,8 @@ root_alone laws nodes root old new tick leaves e plan within none even put =
     same : root_figures nodes root ≡ figures_of nodes root
     same = let here = get_there nodes root within in figures_there nodes root here.0 None here.1 none
 
-    alike : once_figures nodes root ≡ figures_of nodes root
-    alike = λ i. gapped (even i) (same i)
-
     once : (run : Run) → IsRun new run → ServesOnceIn nodes root tick leaves e run
     once run is =
-        subst (λ (g : Figures). ServesOnceBy g (once_ticks nodes root) nodes root tick leaves e run) (sym alike)
-        (once_by laws nodes root (once_ticks nodes root) new tick leaves e plan within put.gives run is)
+        subst (λ (f : Figures). ServesOnceBy (gapped (tick_gaps_at nodes root) f)
+        (unwrap_or (ticks_with (tick_gaps_at nodes root)) (gap_with (tick_gaps_at nodes root) f.gt)) nodes root tick leaves e run) (sym same)
+        (serves_alone laws nodes root new tick leaves e plan within put.gives over run is)

@@ -56,6 +56,7 @@ pub mod TickLemmas
 pub mod TimeWindowCosts
 pub mod TimeWindowLemmas
 pub mod TickedLemmas
+pub mod AboveLemmas
 pub mod AloneLemmas
 pub mod SpareCosts
 pub mod SpareLemmas

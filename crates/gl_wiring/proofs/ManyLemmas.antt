@@ -1,7 +1,7 @@
 -- The netlist of several results: outputs one after the other, the names of its ports, what it costs, and that its runs are right.
-use Rattle.std.proofs.Common.{◌≡◌, ℕ, Bool, ◌+◌, ◌*◌, ◌<◌, ◌≤◌, max, List, [], ◌∷◌, ◌++◌, length, map, Option, Some, None, refl, sym, ap, subst, ◌∙◌, append_assoc, arith}
-use Rattle.std.specs.Prelude.{slice_get}
-use Rattle.std.specs.List.{AllByRecursion, flat_map, sum, sum_by}
+use Rattle.std.proofs.Common.{◌≡◌, ℕ, Bool, false, ◌+◌, ◌*◌, ◌<◌, ◌≤◌, max, List, [], ◌∷◌, ◌++◌, length, map, Option, Some, None, refl, sym, ap, subst, ◌∙◌, append_assoc, arith}
+use Rattle.std.specs.Prelude.{if◌then◌else◌, is_some, slice_get, unwrap_or}
+use Rattle.std.specs.List.{AllByRecursion, flat_map, list_any, sum, sum_by}
 use Rattle.std.proofs.lemmas.List.{append-nil, map-append}
 use Rattle.std.proofs.lemmas.List.Sums.{sum_by-append}
 use Rattle.gl_algebra.specs.FigureTable.{figures_of}
@@ -13,6 +13,7 @@ use Rattle.gl_algebra.specs.declared.figures.Figures.{Figures}
 use Rattle.gl_algebra.specs.declared.node.PlanNode.{PlanNode}
 use Rattle.gl_algebra.specs.Roots.{output_part}
 use Rattle.gl_bits.proofs.AllLists.{all_of_mapped, length_map}
+use Rattle.gl_bits.proofs.Bools.{by_cases, neither_left, neither_right}
 use Rattle.gl_bits.proofs.Options.{some_same}
 use Rattle.gl_values.specs.Kinds.{width_of}
 use Rattle.gl_net.specs.Finished.{HasReset}
@@ -20,6 +21,9 @@ use Rattle.gl_net.specs.Net.{Net, memory_bits_of, register_bits_of, size_of}
 use Rattle.gl_net.specs.PortValues.{PortShape, port_shapes}
 use Rattle.gl_net.specs.declared.node.Bit.{Bit}
 use Rattle.gl_net.specs.declared.node.Direction.TheVariants.{Out}
+use Rattle.gl_root_gaps.specs.declared.TickGaps.{TickGaps}
+use Rattle.gl_root_gaps.specs.Roots.{gap_with, tick_gaps_at, ticks_with}
+use Rattle.gl_root_gaps.specs.Together.{farthest_ticks, gap_alone, gap_together, ticks_alone}
 use Rattle.gl_figures.specs.Reach.{keys_of_reached, lean_of_reached, store_of_reached, weight_of_reached}
 use Rattle.gl_schema.specs.Ports.{rst, eos, out_valid, out_eos, fault_group, fault_queue}
 use Rattle.gl_gaps.specs.declared.Gaps.{Gaps}
@@ -33,18 +37,19 @@ use Rattle.gl_wiring.specs.Below.{LawsBelow}
 use Rattle.gl_wiring.specs.Emitted.{CostsNothing, Extends, Puts, names_of}
 use Rattle.gl_wiring.specs.EmittedPorts.{input, streams_inputs}
 use Rattle.gl_wiring.specs.Leaves.{widths_of}
-use Rattle.gl_wiring.specs.Many.{CanWireRoot, IsRightFor, ids_of, many_ports, naming_at, result_names, root_outputs, widest_gap}
+use Rattle.gl_wiring.specs.Many.{CanWireRoot, IsRightFor, gaps_together, ids_of, many_ports, naming_at, result_names, root_outputs}
 use Rattle.gl_wiring.specs.ManyNet.{AreShownBy, CanShow, IsShown, outputs_cost}
 use Rattle.gl_wiring.specs.Naming.{Naming}
 use Rattle.gl_wiring.specs.Output.{IsOutput, input_ports, late_inputs, output_cost, result_outputs}
 use Rattle.gl_wiring.specs.PlanNet.{HasParameters, IsEmpty, IsRootNet}
 use Rattle.gl_wiring.specs.PortNames.{module_names, result_ports, results_ports, streams_ports}
 use Rattle.gl_wiring.specs.Put.{HasColumns}
+use Rattle.gl_wiring.specs.Roots.{alone_figures}
 use Rattle.gl_wiring.specs.Reached.{AreReached, CanPutAll, once_cost}
 use Rattle.gl_wiring.specs.StreamWires.{AreStreamWires, IsTickLine}
 use Rattle.gl_wiring.specs.Tables.{HasCircuit}
 use Rattle.gl_wiring.specs.declared.many.Root.{Root}
-use Rattle.gl_wiring.proofs.AloneLemmas.{once_by}
+use Rattle.gl_wiring.proofs.AloneLemmas.{serves_alone}
 use Rattle.gl_wiring.proofs.CostLemmas.{bits_within}
 use Rattle.gl_wiring.proofs.Inputs.{extends_then}
 use Rattle.gl_wiring.proofs.ManyNames.{AreNamed}
@@ -54,7 +59,7 @@ use Rattle.gl_wiring.proofs.PlanLemmas.{result_named, root_group_kept, root_runs
 use Rattle.gl_wiring.proofs.Shapes.{late_named, names_in, puts_then, shape_names, streams_names}
 use Rattle.gl_wiring.proofs.MarkedLemmas.{all_by}
 use Rattle.gl_wiring.proofs.StreamLemmas.{bit_stays, leaves_have, line_there, lines_have}
-use Rattle.gl_wiring.proofs.TableLemmas.{gives_columns, taken_gives}
+use Rattle.gl_wiring.proofs.TableLemmas.{gives_columns, taken_gives, taken_once}
 
 -- ---- in a netlist that grows
 
@@ -274,7 +279,7 @@ module _ (laws : LawsBelow) (schema : Schema) (nodes : List PlanNode) (plan : Is
     (x : Extends mid net) (wires : AreStreamWires net schema.streams leaves) (line : IsTickLine net (reads_time nodes) tick) (reset : HasReset net)
     (parameters : HasParameters net schema) where
   one_net : (r : Root) → r.id < length nodes → HasCircuit nodes mid tick leaves table r.id → IsShown net table r
-      → IsRootNet schema nodes r.id (figures_of nodes r.id) 0 (naming_at r) r.names.columns net
+      → IsRootNet schema nodes r.id (alone_figures nodes r.id) (ticks_alone nodes r.id) (naming_at r) r.names.columns net
   one_net r within has shown = record {
     plan = plan;
     within = within;
@@ -284,14 +289,14 @@ module _ (laws : LawsBelow) (schema : Schema) (nodes : List PlanNode) (plan : Is
     wires = wires;
     line = line;
     parameters = parameters;
-    serves = λ run is. once_by laws nodes r.id 0 mid tick leaves shown.e plan within (taken_gives has shown.there) run (x.runs run is);
+    serves = λ run is. serves_alone laws nodes r.id mid tick leaves shown.e plan within (taken_gives has shown.there) (taken_once has shown.there) run (x.runs run is);
     output = shown.output;
     reset = reset;
   }
 
   pub all_nets : (roots : List Root) → AllByRecursion (λ (r : Root). r.id < length nodes) roots
       → AllByRecursion (λ (r : Root). HasCircuit nodes mid tick leaves table r.id) roots → AllByRecursion (IsShown net table) roots
-      → AllByRecursion (λ (r : Root). IsRootNet schema nodes r.id (figures_of nodes r.id) 0 (naming_at r) r.names.columns net) roots
+      → AllByRecursion (λ (r : Root). IsRootNet schema nodes r.id (alone_figures nodes r.id) (ticks_alone nodes r.id) (naming_at r) r.names.columns net) roots
   all_nets [] within has shown = tt
   all_nets (r ∷ rs) within has shown = (one_net r within.0 has.0 shown.0, all_nets rs within.1 has.1 shown.1)
 
@@ -303,23 +308,49 @@ max_left a b c h = omega (arith, h)
 max_right : (a b c : ℕ) → max a b ≤ c → b ≤ c
 max_right a b c h = omega (arith, h)
 
--- the gap of the netlist is that of each root, or more
-pub all_close : (nodes : List PlanNode) (roots : List Root) (gap : ℕ) → widest_gap nodes (ids_of roots) ≤ gap
-    → AllByRecursion (λ (r : Root). (figures_of nodes r.id).gt ≤ gap) roots
-all_close nodes [] gap h = tt
-all_close nodes (r ∷ rs) gap h =
-    let own = (figures_of nodes r.id).gt in
-    let rest = widest_gap nodes (ids_of rs) in
-    (max_left own rest gap h, all_close nodes rs gap (max_right own rest gap h))
+-- the gaps of the netlist are those of each root, or more
+pub all_close : (nodes : List PlanNode) (roots : List Root) (gap ticks : ℕ) → gap_together nodes (ids_of roots) ≤ gap → farthest_ticks nodes (ids_of roots) ≤ ticks
+    → AllByRecursion (λ (r : Root). (gap_alone nodes r.id ≤ gap) × (ticks_alone nodes r.id ≤ ticks)) roots
+all_close nodes [] gap ticks h k = tt
+all_close nodes (r ∷ rs) gap ticks h k =
+    let gaps = gap_together nodes (ids_of rs) in
+    let far = farthest_ticks nodes (ids_of rs) in (
+      (max_left (gap_alone nodes r.id) gaps gap h, max_left (ticks_alone nodes r.id) far ticks k),
+      all_close nodes rs gap ticks (max_right (gap_alone nodes r.id) gaps gap h) (max_right (ticks_alone nodes r.id) far ticks k),
+    )
+
+-- where no root has ticks that are farther apart, the farthest are beats like any other
+even_alone : (nodes : List PlanNode) (id : ℕ) (o : Option TickGaps) → tick_gaps_at nodes id ≡ o → is_some o ≡ false → ticks_alone nodes id ≡ gap_alone nodes id
+even_alone nodes id None h e = ap (λ (o : Option TickGaps). unwrap_or (ticks_with o) (gap_with o (figures_of nodes id).gt)) h ∙ sym (ap (λ (o : Option TickGaps). gap_with o (figures_of nodes id).gt) h)
+even_alone nodes id (Some it) h e = absurd (cc (e))
+
+even_together : (nodes : List PlanNode) (ids : List ℕ) → list_any (λ id. is_some (tick_gaps_at nodes id)) ids ≡ false → farthest_ticks nodes ids ≡ gap_together nodes ids
+even_together nodes [] h = refl
+even_together nodes (id ∷ ids) h =
+    let own = even_alone nodes id (tick_gaps_at nodes id) refl (neither_left (is_some (tick_gaps_at nodes id)) (list_any (λ x. is_some (tick_gaps_at nodes x)) ids) h) in
+    let rest = even_together nodes ids (neither_right (is_some (tick_gaps_at nodes id)) (list_any (λ x. is_some (tick_gaps_at nodes x)) ids) h) in
+    (λ i. max (own i) (rest i))
+
+-- so ticks that keep the gaps of all are far enough apart for each
+pub far_together : (nodes : List PlanNode) (ids : List ℕ) → farthest_ticks nodes ids ≤ (gaps_together nodes ids).of_ticks
+far_together nodes ids =
+    by_cases (list_any (λ id. is_some (tick_gaps_at nodes id)) ids)
+    (λ e. let same = ap (λ (b : Bool). unwrap_or (if b then Some (farthest_ticks nodes ids) else None) (gap_together nodes ids)) e in omega (arith, same))
+    (λ e.
+    let same = ap (λ (b : Bool). unwrap_or (if b then Some (farthest_ticks nodes ids) else None) (gap_together nodes ids)) e in
+    let even = even_together nodes ids e in
+    omega (arith, same, even))
 
 pub all_right : LawsBelow → (schema : Schema) (nodes : List PlanNode) (gaps : Gaps) (net : Net) → AreApart net → (roots : List Root)
-    → AllByRecursion (λ (r : Root). IsRootNet schema nodes r.id (figures_of nodes r.id) 0 (naming_at r) r.names.columns net) roots
-    → AllByRecursion (λ (r : Root). (figures_of nodes r.id).gt ≤ gaps.of_beats) roots → AllByRecursion (IsRightFor schema nodes gaps net) roots
+    → AllByRecursion (λ (r : Root). IsRootNet schema nodes r.id (alone_figures nodes r.id) (ticks_alone nodes r.id) (naming_at r) r.names.columns net) roots
+    → AllByRecursion (λ (r : Root). (gap_alone nodes r.id ≤ gaps.of_beats) × (ticks_alone nodes r.id ≤ gaps.of_ticks)) roots → AllByRecursion (IsRightFor schema nodes gaps net) roots
 all_right laws schema nodes gaps net apart [] all close = tt
-all_right laws schema nodes gaps net apart (r ∷ rs) all close = (
-  record {
-    right = root_runs_right laws schema nodes r.id (figures_of nodes r.id) 0 (naming_at r) r.names.columns net all.0 apart gaps close.0 (omega arith);
-    group = root_group_kept laws schema nodes r.id (figures_of nodes r.id) 0 (naming_at r) r.names.columns net all.0 apart gaps close.0 (omega arith);
-  },
-  all_right laws schema nodes gaps net apart rs all.1 close.1,
-)
+all_right laws schema nodes gaps net apart (r ∷ rs) all close =
+    let f = alone_figures nodes r.id in
+    let far = ticks_alone nodes r.id in (
+      record {
+        right = root_runs_right laws schema nodes r.id f far (naming_at r) r.names.columns net all.0 apart gaps close.0.0 close.0.1;
+        group = root_group_kept laws schema nodes r.id f far (naming_at r) r.names.columns net all.0 apart gaps close.0.0 close.0.1;
+      },
+      all_right laws schema nodes gaps net apart rs all.1 close.1,
+    )

@@ -22,9 +22,10 @@ use Rattle.gl_wire.specs.declared.wire.Wire.{Wire}
 use Rattle.gl_wiring.specs.Below.{LawsBelow}
 use Rattle.gl_wiring.specs.Put.{CanPut, IsPut}
 use Rattle.gl_wiring.specs.Reached.{AreReached, CanPutAll}
+use Rattle.gl_wiring.specs.Roots.{GivesOnce}
 use Rattle.gl_wiring.specs.Tables.{ArePutTo, CanPutMarked, is_marked}
 use Rattle.gl_wiring.proofs.MarkedLemmas.{all_by, can_marked}
-use Rattle.gl_wiring.proofs.TableLemmas.{is_there, taken_gives}
+use Rattle.gl_wiring.proofs.TableLemmas.{is_there, taken_gives, taken_once}
 
 module _ (laws : LawsBelow) (nodes : List PlanNode) (figures : List Figures) (roots : List ℕ) (net : Net) (tick : Option Bit) (leaves : List Wire) (plan : IsPlan nodes)
     (can : CanPutAll nodes figures roots net tick leaves) where
@@ -82,3 +83,6 @@ module _ (laws : LawsBelow) (nodes : List PlanNode) (plan : IsPlan nodes) (root 
         };
         gives = taken_gives (h.gives root one) at;
       }
+
+  pub one_once : (e : Emitted) → slice_get table root ≡ Some (Some e) → GivesOnce nodes root new tick leaves e
+  one_once e at = taken_once (h.gives root one) at

@@ -13,7 +13,8 @@ use Rattle.gl_algebra.specs.Roots.{root_figures}
 use Rattle.gl_root_gaps.specs.Roots.{tick_gaps_at}
 use Rattle.gl_algebra.specs.Shapes.{Shape, kinds_of}
 use Rattle.std.specs.Prelude.{Some}
-use Rattle.gl_figures.proofs.RootLemmas.{figures_there, spare_there, ticks_there}
+use Rattle.gl_figures.proofs.RootLemmas.{figures_there, spare_there}
+use Rattle.gl_root_gaps.proofs.GapLemmas.{ticks_there}
 use Rattle.gl_net.specs.declared.node.Bit.{Bit}
 use Rattle.gl_net.specs.Net.{Net}
 use Rattle.gl_net.proofs.Determined.{keeps_then}
@@ -97,7 +98,7 @@ module _ (laws : LawsBelow) (nodes : List PlanNode) (w : SpareWindowOf) (plan : 
 
   -- windows of tuples have no ticks
   even : tick_gaps_at nodes id ≡ None
-  even = ticks_there nodes id node is.window'
+  even = ticks_there nodes id node plan is.window'
 
   once_are : once_figures nodes id ≡ figures_over r f
   once_are = λ i. gapped (even i) (figures_are i)

@@ -32,6 +32,7 @@ use Rattle.gl_wire.specs.declared.emitted.Emitted.{Emitted}
 use Rattle.gl_wire.specs.declared.wire.Wire.{Wire}
 use Rattle.gl_wire.specs.Costs.{CostsAtMost}
 use Rattle.gl_wiring.specs.Put.{Gives, HasColumns, IsPut, IsPutBehind, plan_cost}
+use Rattle.gl_wiring.specs.Roots.{GivesOnce}
 use Rattle.gl_wiring.specs.Tables.{ArePutTo, CanPutMarked, HasCircuit, HaveChildren, IsSlot, is_marked}
 use Rattle.gl_wiring.proofs.GivesLemmas.{gives_kept}
 use Rattle.gl_wiring.proofs.MarkedLemmas.{all_by}
@@ -52,6 +53,17 @@ taken_gives {nodes} {net} {tick} {leaves} {table} {id} {e} h at =
     let same : h.circuit ≡ e = some_same h.circuit e (some_same (Some h.circuit) (Some e) (sym h.there ∙ at)) in
     subst (λ (x : Emitted). Gives nodes id net tick leaves x) same h.gives
 
+pub taken_once : {nodes : List PlanNode} {net : Net} {tick : Option Bit} {leaves : List Wire} {table : List (Option Emitted)} {id : ℕ} {e : Emitted}
+    → HasCircuit nodes net tick leaves table id → slice_get table id ≡ Some (Some e) → GivesOnce nodes id net tick leaves e
+taken_once {nodes} {net} {tick} {leaves} {table} {id} {e} h at =
+    let same : h.circuit ≡ e = some_same h.circuit e (some_same (Some h.circuit) (Some e) (sym h.there ∙ at)) in
+    subst (λ (x : Emitted). GivesOnce nodes id net tick leaves x) same h.once
+
+-- it does so in a netlist that grows
+pub once_kept : (nodes : List PlanNode) (id : ℕ) (old new : Net) (tick : Option Bit) (leaves : List Wire) (e : Emitted) → Keeps old new
+    → GivesOnce nodes id old tick leaves e → GivesOnce nodes id new tick leaves e
+once_kept nodes id old new tick leaves e keeps h = record { serves = λ ticked run is. h.serves ticked run (keeps.runs run is) }
+
 -- ---- one node after the other
 
 -- a circuit stays in a larger table and in a larger netlist
@@ -61,6 +73,7 @@ circuit_kept nodes old new tick leaves table more id below keeps h = record {
   circuit = h.circuit;
   there = get-append table more id below ∙ h.there;
   gives = gives_kept (shape_of nodes id) (figures_of nodes id) (IsPlanArrival nodes id) (IsPlanResult nodes id) old new tick leaves h.circuit keeps h.gives;
+  once = once_kept nodes id old new tick leaves h.circuit keeps h.once;
 }
 
 pub put_none : (nodes : List PlanNode) (marks : List Bool) (net : Net) (tick : Option Bit) (leaves : List Wire) → ArePutTo nodes marks 0 net net tick leaves []
@@ -90,9 +103,9 @@ module _ (nodes : List PlanNode) (marks : List Bool) (k : ℕ) (old mid new : Ne
   }
 
   -- a marked node is put once
-  put_more : (e : Emitted) → is_marked marks k ≡ true → IsPutBehind nodes k mid new tick leaves e
+  put_more : (e : Emitted) → is_marked marks k ≡ true → IsPutBehind nodes k mid new tick leaves e → GivesOnce nodes k new tick leaves e
       → ArePutTo nodes marks (suc k) old new tick leaves (table ++ Some e ∷ [])
-  put_more e marked put = record {
+  put_more e marked put once = record {
     as_many = (let long = length-append table (Some e ∷ []) in omega (arith, h.as_many, long));
     keeps = keeps_then old mid new h.keeps put.keeps;
     cost = rw marked (record {
@@ -107,6 +120,7 @@ module _ (nodes : List PlanNode) (marks : List Bool) (k : ℕ) (old mid new : Ne
             circuit = e;
             there = ap (slice_get (table ++ Some e ∷ [])) (sym h.as_many) ∙ get_last table (Some e);
             gives = put.gives;
+            once = once;
           }))
     ];
   }
@@ -119,7 +133,7 @@ slot_step nodes marks k old mid new tick leaves table h slot is =
     by_cases (is_marked marks k)
     (λ e. let s = is.once e in
     subst (λ (o : Option Emitted). ArePutTo nodes marks (suc k) old new tick leaves (table ++ o ∷ [])) (sym s.1)
-    (put_more nodes marks k old mid new tick leaves table h s.0 e s.2))
+    (put_more nodes marks k old mid new tick leaves table h s.0 e s.2 s.3))
     (λ e. let s = is.over e in
     subst (λ (o : Option Emitted). ArePutTo nodes marks (suc k) old new tick leaves (table ++ o ∷ [])) (sym s.0)
     (subst (λ (n : Net). ArePutTo nodes marks (suc k) old n tick leaves (table ++ None ∷ [])) (sym s.1)

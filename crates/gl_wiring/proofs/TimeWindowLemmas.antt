@@ -23,7 +23,8 @@ use Rattle.gl_net.specs.Net.{Net, Run, IsRun}
 use Rattle.gl_net.proofs.Determined.{keeps_then}
 use Rattle.gl_windows.specs.declared.times.TimeRotation.{TimeRotation}
 use Rattle.gl_windows.specs.Costs.{cost_of_time_front}
-use Rattle.gl_windows.specs.TimeRotations.{IsTimeRotation, ticked_machine, time_figures}
+use Rattle.gl_windows.specs.TimeRotations.{IsTimeRotation, time_figures}
+use Rattle.gl_ticks.specs.Once.{root_machine}
 use Rattle.gl_wire.specs.Bodies.{OfBody, alone}
 use Rattle.gl_wire.specs.Rotates.{lines_of_all}
 use Rattle.gl_wire_registers.specs.Joins.{columns_of, cost_of_back, told_of}
@@ -201,12 +202,12 @@ module _ (laws : LawsBelow) (nodes : List PlanNode) (w : TimeWindowOf) (plan : I
 
   -- the machine behind the stream
   pub time_put : (old new : Net) (tick : Bit) (leaves : List Wire) (below e : Emitted) → HaveLeaves old leaves (shape_of nodes w.id).leaves
-      → Gives nodes w.source old (Some tick) leaves below → IsPutOver nodes w.body (ticked_machine (record { rotation = r; tick = tick })) below old new e
+      → Gives nodes w.source old (Some tick) leaves below → IsPutOver nodes w.body (root_machine (record { ticked = record { rotation = r; tick = tick } })) below old new e
       → IsPutBehind nodes w.id old new (Some tick) leaves e
   time_put old new tick leaves below e leaved h o =
       let b = o.backed in
       let columns : columns_of o.copies ≡ widths_of (kinds_of nodes w.body) =
-      over_columns nodes w.body (ticked_machine (record { rotation = r; tick = tick })) below old new e o (one_in_time w.size w.advance) in
+      over_columns nodes w.body (root_machine (record { ticked = record { rotation = r; tick = tick } })) below old new e o (one_in_time w.size w.advance) in
       let fore : CostsAtMost old o.mid (cost_of_time_front c s.a (widths_of (kinds_of nodes w.source))) =
       subst (λ (cs : List ℕ). CostsAtMost old o.mid (cost_of_time_front c s.a cs)) h.same_widths o.fronted.cost in
       let rear : CostsAtMost o.behind new (cost_of_back c (widths_of (kinds_of nodes w.body))) =
@@ -235,7 +236,7 @@ module _ (laws : LawsBelow) (nodes : List PlanNode) (w : TimeWindowOf) (plan : I
               } in
               let near = spaced_closer input_figures (time_figures r) beats closer spaced_beats in
               let of_stream = source o.mid run run_mid tick leaves o.front.source given here beats near fit in
-              let all = b.serves run is run.held nodes w.body beats spaced_beats of_stream.fits fit.ticks
+              let all = (b.serves run is).each run.held nodes w.body beats spaced_beats of_stream.fits fit.ticks
               (λ k l own. copies_serve laws nodes w.source w.body plan in_body fits.suits.0 o.mid o.behind run o.front.wires c o.copies run_behind o.bodies o.fronted.fronts.as_many k l own) in
               let ins : ℕ → Inputs = inputs_at run.held (line_of run (Some tick)) (leaf run leaves) (leaf run leaves 0) in
               let own : Lines = lines_of_all (told_of run o.copies) c in

@@ -2,6 +2,7 @@
 use Rattle.gl_algebra.specs.Laws.{BodiesReadTheirInput, ClosingNodesWait, ColumnsHaveKinds, FiguresAreSound, NodesFollowTables, PacesFixFigures, ResultsGoByOrder, UntimedResults}
 use Rattle.gl_figures.specs.Reach.{OnceIsLess}
 use Rattle.gl_wire.specs.Laws.{EndsServe, FollowersKeepPace, OwnBeatsFit, SteadyServes, TotalsComeWithEnds, UnspacedIsApart}
+use Rattle.gl_above.specs.Above.{RowsServeOnce}
 use Rattle.gl_wire_lanes.specs.Laws.{BeginsBehind}
 use Rattle.gl_frames_wire.specs.Laws.{RunningKeepsPace, RunningSettles}
 use Rattle.gl_frames_stages.specs.Counted.{FramesAreCounted}
@@ -36,6 +37,7 @@ pub record LawsBelow : Type 0 where
   pub steady_serves : SteadyServes
   pub totals_come_with_ends : TotalsComeWithEnds
   pub unspaced_is_apart : UnspacedIsApart
+  pub rows_serve_once : RowsServeOnce
   pub begins_behind : BeginsBehind
   pub running_settles : RunningSettles
   pub running_keeps_pace : RunningKeepsPace

@@ -4,18 +4,17 @@ use Rattle.gl_groups.specs.Groupings.{IsGrouping}
 use Rattle.gl_partition.specs.Partitioned.{partitioning_machine}
 use Rattle.gl_partition.specs.Partitionings.{IsPartitioning}
 use Rattle.gl_windows.specs.Rotations.{IsRotation, rotation_machine}
-use Rattle.gl_windows.specs.TimeRotations.{IsTimeRotation, ticked_machine}
+use Rattle.gl_windows.specs.TimeRotations.{IsTimeRotation}
 use Rattle.gl_spare.specs.Rotations as spare
 use Rattle.gl_ticks.specs.Once.{root_machine}
 use Rattle.gl_wire_registers.specs.Fronts.{Machine}
 use Rattle.gl_wiring.specs.declared.machines.CopyMachine.{CopyMachine}
-use Rattle.gl_wiring.specs.declared.machines.CopyMachine.TheVariants.{Windows, Times, TimesOnce, Groups, Partitions, Spare}
+use Rattle.gl_wiring.specs.declared.machines.CopyMachine.TheVariants.{Windows, Times, Groups, Partitions, Spare}
 
 -- a circuit can have the numbers of a machine
 abbrev pub CanBe : CopyMachine → Type 0
 CanBe (Windows r) = IsRotation r
-CanBe (Times t) = IsTimeRotation t.rotation
-CanBe (TimesOnce t) = IsTimeRotation t.ticked.rotation
+CanBe (Times t) = IsTimeRotation t.ticked.rotation
 CanBe (Groups r) = IsGrouping r
 CanBe (Partitions r) = IsPartitioning r
 CanBe (Spare r) = spare.IsRotation r
@@ -23,8 +22,7 @@ CanBe (Spare r) = spare.IsRotation r
 -- what its front and its back promise
 abbrev pub machine_of : CopyMachine → Machine
 machine_of (Windows r) = rotation_machine r
-machine_of (Times t) = ticked_machine t
-machine_of (TimesOnce t) = root_machine t
+machine_of (Times t) = root_machine t
 machine_of (Groups r) = grouping_machine r
 machine_of (Partitions r) = partitioning_machine r
 machine_of (Spare r) = spare.spare_machine r

@@ -1,5 +1,5 @@
 -- The netlist of several results of one plan: every run of it over beats that keep the gaps is right for each.
-use Rattle.std.specs.Prelude.{◌≡◌, ℕ, ◌+◌, ◌*◌, ◌<◌, ◌≤◌, List, [], ◌∷◌, ◌++◌, length, map, max, Bool, Some, codes, bytes_eq}
+use Rattle.std.specs.Prelude.{◌≡◌, ℕ, ◌+◌, ◌*◌, ◌<◌, ◌≤◌, List, ◌++◌, length, map, Bool, Some, codes, bytes_eq}
 use Rattle.std.specs.List.{AllByRecursion, IsDistinct, flat_map, sum_by}
 use Rattle.gl_algebra.specs.Known.{AreKnown}
 use Rattle.gl_algebra.specs.FigureTable.{figures_of}
@@ -12,7 +12,8 @@ use Rattle.gl_algebra.specs.Roots.{output_part}
 use Rattle.gl_net.specs.Net.{Net, memory_bits_of, register_bits_of, size_of}
 use Rattle.gl_net.specs.PortValues.{PortShape, port_shapes}
 use Rattle.gl_figures.specs.Reach.{keys_of_reached, lean_of_reached, store_of_reached, weight_of_reached}
-use Rattle.gl_gaps.specs.Keeps.{even_gaps}
+use Rattle.gl_gaps.specs.Keeps.{gaps_with}
+use Rattle.gl_root_gaps.specs.Together.{gap_together, ticks_together}
 use Rattle.gl_schema.specs.Ports.{out_column}
 use Rattle.gl_schema.specs.Right.{IsRight}
 use Rattle.gl_schema.specs.Schemas.{IsSchema}
@@ -49,10 +50,9 @@ root_outputs nodes r = result_outputs (naming_at r) (widths_of (kinds_of nodes r
 abbrev pub many_ports : Bool → Schema → List PlanNode → List Root → List PortShape
 many_ports ticks schema nodes roots = input_ports ticks schema ++ flat_map (root_outputs nodes) roots
 
--- the cycles from a beat to the next, at least: the greatest gap of the nodes
-abbrev pub widest_gap : List PlanNode → List ℕ → ℕ
-widest_gap nodes [] = 0
-widest_gap nodes (id ∷ ids) = max (figures_of nodes id).gt (widest_gap nodes ids)
+-- how far apart beats and ticks are: the greatest gaps of the nodes
+abbrev pub gaps_together : List PlanNode → List ℕ → Gaps
+gaps_together nodes ids = gaps_with (gap_together nodes ids) (ticks_together nodes ids)
 
 -- a root that can be wired: its leaves are streams of the schema
 pub record CanWireRoot (schema : Schema) (nodes : List PlanNode) (r : Root) : Type 0 where
@@ -80,7 +80,7 @@ pub record IsRightFor (schema : Schema) (nodes : List PlanNode) (gaps : Gaps) (n
 
 -- the netlist of roots: the ports of the schema, with the tick where the plan reads the time, and of each result, at most
 -- what the plan counts for each node that they reach once and for each output, and over beats that keep the greatest
--- gap a right run for each of them
+-- gaps a right run for each of them
 pub record AreWired (schema : Schema) (nodes : List PlanNode) (roots : List Root) (net : Net) : Type 0 where
   pub name : net.name ≡ Some (codes "q__many")
   pub ports : port_shapes net ≡ many_ports (reads_time nodes) schema nodes roots
@@ -89,4 +89,4 @@ pub record AreWired (schema : Schema) (nodes : List PlanNode) (roots : List Root
       ≤ 64 * (lean_of_reached nodes (ids_of roots) + sum_by (output_part nodes) (ids_of roots))
       + keys_of_reached nodes (ids_of roots)
   pub memories : memory_bits_of net ≤ store_of_reached nodes (ids_of roots)
-  pub each : AllByRecursion (IsRightFor schema nodes (even_gaps (widest_gap nodes (ids_of roots))) net) roots
+  pub each : AllByRecursion (IsRightFor schema nodes (gaps_together nodes (ids_of roots)) net) roots

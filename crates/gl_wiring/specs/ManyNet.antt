@@ -1,7 +1,6 @@
 -- What the nodes and ports of several results' netlist are, before it is finished.
 use Rattle.std.specs.Prelude.{◌≡◌, ℕ, ◌+◌, ◌*◌, ◌≤◌, List, length, Option, Some, slice_get}
 use Rattle.std.specs.List.{AllByRecursion, flat_map, sum_by}
-use Rattle.gl_algebra.specs.FigureTable.{figures_of}
 use Rattle.gl_algebra.specs.Shapes.{kinds_of}
 use Rattle.gl_algebra.specs.Views.{reads_time}
 use Rattle.gl_algebra.specs.declared.node.PlanNode.{PlanNode}
@@ -17,6 +16,8 @@ use Rattle.gl_wiring.specs.Emitted.{Extends, Puts}
 use Rattle.gl_wiring.specs.Many.{ids_of, many_ports, naming_at, root_outputs}
 use Rattle.gl_wiring.specs.Output.{IsOutput}
 use Rattle.gl_wiring.specs.PlanNet.{IsRootNet}
+use Rattle.gl_wiring.specs.Roots.{alone_figures}
+use Rattle.gl_root_gaps.specs.Together.{ticks_alone}
 use Rattle.gl_wiring.specs.Put.{HasColumns}
 use Rattle.gl_wiring.specs.declared.many.Root.{Root}
 
@@ -52,7 +53,8 @@ pub record AreShownBy (nodes : List PlanNode) (table : List (Option Emitted)) (o
 -- the circuits of all roots between the wires of the streams, and an output for each
 pub record IsManyNet (schema : Schema) (nodes : List PlanNode) (roots : List Root) (net : Net) : Type 0 where
   pub each : AllByRecursion (λ (r : Root).
-      IsRootNet schema nodes r.id (figures_of nodes r.id) 0 (naming_at r) r.names.columns net) roots
+      IsRootNet schema nodes r.id (alone_figures nodes r.id) (ticks_alone nodes r.id) (naming_at r) r.names.columns net)
+      roots
   pub reset : HasReset net
   pub ports : port_shapes net ≡ many_ports (reads_time nodes) schema nodes roots
   pub size : size_of net ≤ weight_of_reached nodes (ids_of roots) + sum_by (output_part nodes) (ids_of roots)

@@ -1,13 +1,15 @@
--- What the circuit of a plan's root is: over one stream its wire gives the root's results, with the root's spare
--- copies, and where its ticks are farther apart than tuples.
-use Rattle.std.specs.Prelude.{ℕ, ◌+◌, ◌*◌, List, Option, unwrap_or}
+-- What circuits owe over one stream: that of a node where its ticks are farther apart than tuples, and that of a plan's
+-- root, with the root's spare copies.
+use Rattle.std.specs.Prelude.{◌≡◌, ℕ, ◌+◌, ◌*◌, List, Option, Some, unwrap_or}
 use Rattle.gl_algebra.specs.declared.figures.Figures.{Figures}
 use Rattle.gl_root_gaps.specs.declared.TickGaps.{TickGaps}
 use Rattle.gl_algebra.specs.declared.node.PlanNode.{PlanNode}
 use Rattle.gl_algebra.specs.Cost.{keys_of, lean_of, store_of}
 use Rattle.gl_algebra.specs.Results.{IsPlanResult}
 use Rattle.gl_algebra.specs.Roots.{further_keys, further_lean, further_store, further_weight, root_figures}
+use Rattle.gl_algebra.specs.FigureTable.{figures_of}
 use Rattle.gl_root_gaps.specs.Roots.{gap_of, gap_with, tick_gaps_at, ticks_of}
+use Rattle.gl_root_gaps.specs.Together.{ticks_alone}
 use Rattle.gl_algebra.specs.Weights.{weight_of}
 use Rattle.gl_net.specs.declared.node.Bit.{Bit}
 use Rattle.gl_net.specs.Net.{Net, Run, IsRun, Keeps}
@@ -36,6 +38,23 @@ ServesOnceBy f ticks nodes root tick leaves e run =
 -- these figures, with the gap of ticks that are farther apart
 abbrev pub gapped : Option TickGaps → Figures → Figures
 gapped it f = record f { gt = gap_with it f.gt }
+
+-- the figures of a node with the gap of its tuples, where ticks are farther apart
+abbrev pub alone_figures : List PlanNode → ℕ → Figures
+alone_figures nodes id = gapped (tick_gaps_at nodes id) (figures_of nodes id)
+
+-- by those, and how far apart its ticks are
+abbrev pub ServesAlone : List PlanNode → ℕ → Option Bit → List Wire → Emitted → Run → Type 0
+ServesAlone nodes id = ServesOnceBy (alone_figures nodes id) (ticks_alone nodes id) nodes id
+
+-- a node's ticks are farther apart than tuples
+abbrev pub HasTicks : List PlanNode → ℕ → Type 0
+HasTicks nodes id = (it : TickGaps) × (tick_gaps_at nodes id ≡ Some it)
+
+-- a circuit gives a node's results over one stream, where the node's ticks are farther apart than tuples
+pub record GivesOnce (nodes : List PlanNode) (id : ℕ) (net : Net) (tick : Option Bit) (leaves : List Wire) (e : Emitted)
+    : Type 0 where
+  pub serves : HasTicks nodes id → (run : Run) → IsRun net run → ServesAlone nodes id tick leaves e run
 
 -- the figures of the root, and how far apart ticks are
 abbrev pub once_figures : List PlanNode → ℕ → Figures

@@ -11,6 +11,7 @@ use Rattle.gl_wire.specs.declared.emitted.Emitted.{Emitted}
 use Rattle.gl_wire.specs.declared.wire.Wire.{Wire}
 use Rattle.gl_wire.specs.Costs.{Cost, CostsAtMost}
 use Rattle.gl_wiring.specs.Put.{CanPut, Gives, IsPutBehind}
+use Rattle.gl_wiring.specs.Roots.{GivesOnce}
 
 abbrev pub is_marked : List Bool → ℕ → Bool
 is_marked marks id = get_or marks id false
@@ -33,12 +34,13 @@ pub record CanPutMarked (nodes : List PlanNode) (figures : List Figures) (marks 
       → AllByRecursion (λ child. is_marked marks child ≡ true) (children_of node)
   pub can : (id : ℕ) → is_marked marks id ≡ true → CanPut nodes figures id net tick leaves
 
--- an entry of a table is a circuit that gives a node's results
+-- an entry of a table is a circuit that gives a node's results, and over one stream where its ticks are farther apart
 pub record HasCircuit (nodes : List PlanNode) (net : Net) (tick : Option Bit) (leaves : List Wire)
     (table : List (Option Emitted)) (id : ℕ) : Type 0 where
   pub circuit : Emitted
   pub there : slice_get table id ≡ Some (Some circuit)
   pub gives : Gives nodes id net tick leaves circuit
+  pub once : GivesOnce nodes id net tick leaves circuit
 
 -- so are those of all children of a node
 abbrev pub HaveChildren : List PlanNode → ℕ → Net → Option Bit → List Wire → List (Option Emitted) → Type 0
@@ -59,3 +61,4 @@ pub record IsSlot (nodes : List PlanNode) (id : ℕ) (old new : Net) (tick : Opt
     (marked : Bool) (slot : Option Emitted) : Type 0 where
   pub over : marked ≡ false → (slot ≡ None) × (new ≡ old)
   pub once : marked ≡ true → (e : Emitted) × (slot ≡ Some e) × IsPutBehind nodes id old new tick leaves e
+      × GivesOnce nodes id new tick leaves e

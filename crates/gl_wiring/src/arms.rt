@@ -4,6 +4,7 @@ ghost use Rattle.std.specs.Prelude.{◌≡◌, ◌<◌, None, Some, slice_get, I
 ghost use Rattle.gl_algebra.specs.declared.node.PlanNode.TheVariants.{Compute, Select, Project, Frames, Aggregate, Union, Merge, Beside};
 ghost use Rattle.gl_wire.specs.Faults.{no_faults};
 ghost use Rattle.gl_wiring.specs.Put.{IsPutBehind};
+ghost use Rattle.gl_wiring.specs.Roots.{GivesOnce};
 ghost use Rattle.gl_wiring.specs.Tables.{HasCircuit};
 ghost use Rattle.gl_wiring.specs.Words.{HaveWords};
 
@@ -56,8 +57,10 @@ pub(crate) fn compute_node(
     requires node { slice_get site.plan.now id ≡ Some (Compute child ops.now) }
     requires there { HasCircuit site.plan.now net.old site.tick site.leaves.now table.now child }
     requires words { HaveWords site.plan.now net.old site.words.now }
-    ensures { let s = site.entry in
+    ensures put { let s = site.entry in
         IfOk result (λ e. IsPutBehind s.plan.now id net.old net.new s.tick s.leaves.now e) }
+    ensures once { let s = site.entry in
+        IfOk result (λ e. GivesOnce s.plan.now id net.new s.tick s.leaves.now e) }
 {
     laws_below();
     let below = circuit_at(site.alloc, table, child)?;
@@ -83,8 +86,10 @@ pub(crate) fn select_node(
 ) -> Result<Emitted, Memory>
     requires node { slice_get site.plan.now id ≡ Some (Select child column) }
     requires there { HasCircuit site.plan.now net.old site.tick site.leaves.now table.now child }
-    ensures { let s = site.entry in
+    ensures put { let s = site.entry in
         IfOk result (λ e. IsPutBehind s.plan.now id net.old net.new s.tick s.leaves.now e) }
+    ensures once { let s = site.entry in
+        IfOk result (λ e. GivesOnce s.plan.now id net.new s.tick s.leaves.now e) }
 {
     laws_below();
     let below = circuit_at(site.alloc, table, child)?;
@@ -104,8 +109,10 @@ pub(crate) fn project_node(
     requires node { slice_get site.plan.now id ≡ Some (Project child items.now) }
     requires there { HasCircuit site.plan.now net.old site.tick site.leaves.now table.now child }
     requires words { HaveWords site.plan.now net.old site.words.now }
-    ensures { let s = site.entry in
+    ensures put { let s = site.entry in
         IfOk result (λ e. IsPutBehind s.plan.now id net.old net.new s.tick s.leaves.now e) }
+    ensures once { let s = site.entry in
+        IfOk result (λ e. GivesOnce s.plan.now id net.new s.tick s.leaves.now e) }
 {
     laws_below();
     let below = circuit_at(site.alloc, table, child)?;

@@ -3,6 +3,7 @@
 ghost use Rattle.std.specs.Prelude.{◌≡◌, IfOk, Some, false, option_map, slice_get};
 ghost use Rattle.gl_wiring.specs.Copies.{is_over};
 ghost use Rattle.gl_wiring.specs.Put.{CanPut, IsPutBehind};
+ghost use Rattle.gl_wiring.specs.Roots.{GivesOnce};
 ghost use Rattle.gl_wiring.specs.Tables.{HaveChildren};
 ghost use Rattle.gl_wiring.specs.Words.{HaveWords};
 
@@ -42,8 +43,10 @@ pub(crate) fn put_behind(
     requires can { CanPut site.plan.now site.figures.now id net.old site.tick site.leaves.now }
     requires children { HaveChildren site.plan.now id net.old site.tick site.leaves.now table.now }
     requires words { HaveWords site.plan.now net.old site.words.now }
-    ensures { let s = site.entry in
+    ensures put { let s = site.entry in
         IfOk result (λ e. IsPutBehind s.plan.now id net.old net.new s.tick s.leaves.now e) }
+    ensures once { let s = site.entry in
+        IfOk result (λ e. GivesOnce s.plan.now id net.new s.tick s.leaves.now e) }
 {
     laws_below();
     match site.plan.node(id) {

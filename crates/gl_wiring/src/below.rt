@@ -2,6 +2,7 @@
 
 ghost use Rattle.gl_wiring.specs.Below.{LawsBelow};
 
+use gl_above::laws::rows_serve_once;
 use gl_algebra::laws as plans;
 use gl_figures::reach_laws::once_is_less;
 use gl_frames_parted::laws::key_frames_are_counted;
@@ -29,6 +30,7 @@ pub fn laws_below()
     wires::steady_serves();
     wires::totals_come_with_ends();
     wires::unspaced_is_apart();
+    rows_serve_once();
     begins_behind();
     running_serves();
     frames_are_counted();

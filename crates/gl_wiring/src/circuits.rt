@@ -3,6 +3,7 @@
 ghost use Rattle.std.specs.Prelude.{IfOk};
 ghost use Rattle.gl_wiring.specs.Put.{CanPut, IsPut};
 ghost use Rattle.gl_wiring.specs.Reached.{AreReached, CanPutAll};
+ghost use Rattle.gl_wiring.specs.Roots.{GivesOnce};
 ghost use Rattle.gl_wiring.specs.Words.{HaveWords};
 
 use crate::below::laws_below;
@@ -38,8 +39,10 @@ pub fn put_reached(net: &mut NetBuilder, site: Site<'_>, roots: &[PlanId]) -> Re
 pub fn put_circuit(net: &mut NetBuilder, site: Site<'_>, id: PlanId) -> Result<Emitted, Memory>
     requires can { CanPut site.plan.now site.figures.now id net.old site.tick site.leaves.now }
     requires words { HaveWords site.plan.now net.old site.words.now }
-    ensures { let s = site.entry in
+    ensures put { let s = site.entry in
         IfOk result (λ e. IsPut s.plan.now id net.old net.new s.tick s.leaves.now e) }
+    ensures once { let s = site.entry in
+        IfOk result (λ e. GivesOnce s.plan.now id net.new s.tick s.leaves.now e) }
 {
     laws_below();
     let table = put_reached(net, site, from_ref(&id))?;

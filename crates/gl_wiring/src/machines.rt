@@ -6,7 +6,7 @@ use gl_net::NetBuilder;
 use gl_partition::Partitioning;
 use gl_spare::SpareRotation;
 use gl_ticks::RootTicked;
-use gl_windows::{Rotation, Ticked};
+use gl_windows::Rotation;
 use gl_wire::Emitted;
 use gl_wire_registers::{Front, OverCopies};
 use std::alloc::Global;
@@ -17,9 +17,7 @@ pub enum CopyMachine {
     /// That of windows.
     Windows(Rotation),
     /// That of windows of time.
-    Times(Ticked),
-    /// That of windows of time that nothing stands above.
-    TimesOnce(RootTicked),
+    Times(RootTicked),
     /// That of groups.
     Groups(Grouping),
     /// That of windows of each group.
@@ -39,7 +37,6 @@ impl OverCopies for CopyMachine {
         match self {
             CopyMachine::Windows(machine) => machine.front(alloc, net, source),
             CopyMachine::Times(machine) => machine.front(alloc, net, source),
-            CopyMachine::TimesOnce(machine) => machine.front(alloc, net, source),
             CopyMachine::Groups(machine) => machine.front(alloc, net, source),
             CopyMachine::Partitions(machine) => machine.front(alloc, net, source),
             CopyMachine::Spare(machine) => machine.front(alloc, net, source),
@@ -56,7 +53,6 @@ impl OverCopies for CopyMachine {
         match self {
             CopyMachine::Windows(machine) => machine.back(alloc, net, front, copies),
             CopyMachine::Times(machine) => machine.back(alloc, net, front, copies),
-            CopyMachine::TimesOnce(machine) => machine.back(alloc, net, front, copies),
             CopyMachine::Groups(machine) => machine.back(alloc, net, front, copies),
             CopyMachine::Partitions(machine) => machine.back(alloc, net, front, copies),
             CopyMachine::Spare(machine) => machine.back(alloc, net, front, copies),

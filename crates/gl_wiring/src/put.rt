@@ -3,6 +3,7 @@
 ghost use Rattle.std.specs.Prelude.{◌≡◌, ◌<◌, ◌≤◌, ◌∷◌, [], IfOk, Some, length, true};
 ghost use Rattle.gl_figures.specs.Marks.{AreMarks};
 ghost use Rattle.gl_wiring.specs.Put.{CanPut, IsPut, IsPutBehind};
+ghost use Rattle.gl_wiring.specs.Roots.{GivesOnce};
 ghost use Rattle.gl_wiring.specs.Tables.{ArePutTo, CanPutMarked, HaveChildren, IsSlot};
 ghost use Rattle.gl_wiring.specs.Groups.{IsGroupNode};
 ghost use Rattle.gl_wiring.specs.Partitions.{IsPartitionNode};
@@ -31,6 +32,7 @@ use crate::windows::WindowOf;
 use gl_algebra::{PlanId, PlanNode};
 use gl_bits::{Listed, Memory};
 use gl_net::{NetBuilder, Note};
+use gl_ticks::RootTicked;
 use gl_windows::Ticked;
 use gl_wire::{Emitted, Wire};
 use gl_wire_registers::OverCopies as _;
@@ -136,8 +138,10 @@ fn put_over(
     requires can { CanPut site.plan.now site.figures.now id net.old site.tick site.leaves.now }
     requires children { HaveChildren site.plan.now id net.old site.tick site.leaves.now table.now }
     requires words { HaveWords site.plan.now net.old site.words.now }
-    ensures { let s = site.entry in
+    ensures put { let s = site.entry in
         IfOk result (λ e. IsPutBehind s.plan.now id net.old net.new s.tick s.leaves.now e) }
+    ensures once { let s = site.entry in
+        IfOk result (λ e. GivesOnce s.plan.now id net.new s.tick s.leaves.now e) }
 {
     match site.plan.node(id) {
         PlanNode::Window { .. } => {
@@ -202,8 +206,10 @@ fn put_time_window(
     requires children { HaveChildren site.plan.now window.id net.old site.tick site.leaves.now
         table.now }
     requires words { HaveWords site.plan.now net.old site.words.now }
-    ensures { let s = site.entry in IfOk result (λ e.
+    ensures put { let s = site.entry in IfOk result (λ e.
         IsPutBehind s.plan.now window.id net.old net.new s.tick s.leaves.now e) }
+    ensures once { let s = site.entry in IfOk result (λ e.
+        GivesOnce s.plan.now window.id net.new s.tick s.leaves.now e) }
 {
     laws_below();
     let Some(tick) = site.tick else {
@@ -211,7 +217,9 @@ fn put_time_window(
     };
     let source = circuit_at(site.alloc, table, window.source)?;
     let rotation = window.rotation(site);
-    let machine = CopyMachine::Times(Ticked { rotation, tick });
+    let machine = CopyMachine::Times(RootTicked {
+        ticked: Ticked { rotation, tick },
+    });
     let e = put_over_copies(net, site, window.body, machine, source)?;
     Ok(e)
 }

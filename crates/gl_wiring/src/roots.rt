@@ -1,4 +1,4 @@
-//! The circuit of a plan's root: windows with spare copies of their body where it has some, windows of time, or the node's own.
+//! The circuit of a plan's root: windows with spare copies of their body where it has some, or the node's own.
 
 ghost use Rattle.std.specs.Prelude.{◌≡◌, IfOk, None};
 ghost use Rattle.gl_algebra.specs.Roots.{spare_at};
@@ -10,7 +10,6 @@ ghost use Rattle.gl_wiring.specs.Machines.{CanBe, machine_of};
 ghost use Rattle.gl_wiring.specs.Put.{CanPut};
 ghost use Rattle.gl_wiring.specs.Roots.{IsRootPut};
 ghost use Rattle.gl_wiring.specs.SpareWindows.{IsSpareWindow};
-ghost use Rattle.gl_wiring.specs.TimeWindows.{IsTimeWindow};
 ghost use Rattle.gl_wiring.specs.Words.{HaveWords};
 
 use crate::below::laws_below;
@@ -20,13 +19,10 @@ use crate::notes::note_circuit;
 use crate::put::put_over_copies;
 use crate::site::Site;
 use crate::spare_windows::SpareWindowOf;
-use crate::time_windows::TimeWindowOf;
 use crate::windows::WindowOf;
 use gl_algebra::{PlanId, PlanNode, Spare};
 use gl_bits::Memory;
 use gl_net::{NetBuilder, Note};
-use gl_ticks::RootTicked;
-use gl_windows::Ticked;
 use gl_wire::Emitted;
 
 /// Adds the circuit of a root behind the leaves, and gives its wire and its lines: what the root owes over one stream.
@@ -57,7 +53,7 @@ pub(crate) fn put_root(
     }
 }
 
-// Adds the circuit of a root without spare copies: windows of time, over ticks that may be farther apart than tuples, or the node's own.
+// Adds the circuit of a root without spare copies: its node's own.
 fn put_unspared(net: &mut NetBuilder, site: Site<'_>, root: PlanId) -> Result<Emitted, Memory>
     requires can { CanPut site.plan.now site.figures.now root net.old site.tick site.leaves.now }
     requires none { spare_at site.plan.now root ≡ None }
@@ -66,16 +62,8 @@ fn put_unspared(net: &mut NetBuilder, site: Site<'_>, root: PlanId) -> Result<Em
         IfOk result (λ e. IsRootPut s.plan.now root net.old net.new s.tick s.leaves.now e) }
 {
     laws_below();
-    match site.plan.node(root) {
-        PlanNode::TimeWindow { .. } => {
-            let window = TimeWindowOf::at(site.plan, root);
-            put_times(net, site, window)
-        }
-        _ => {
-            let e = put_circuit(net, site, root)?;
-            Ok(e)
-        }
-    }
+    let e = put_circuit(net, site, root)?;
+    Ok(e)
 }
 
 // A machine over copies of a body, told as the operator with this number.
@@ -120,29 +108,5 @@ fn put_spare(net: &mut NetBuilder, site: Site<'_>, w: SpareWindowOf) -> Result<E
     let rotation = w.rotation(site);
     let machine = CopyMachine::Spare(rotation);
     let e = put_machine(net, site, window.id, window.body, machine, source)?;
-    Ok(e)
-}
-
-// Adds that of windows of time: their machine, with the line of ticks, behind the circuit of their stream.
-#[tactic(auto, using(crate::proofs::CanLemmas::put_columns))]
-fn put_times(net: &mut NetBuilder, site: Site<'_>, w: TimeWindowOf) -> Result<Emitted, Memory>
-    requires node { IsTimeWindow site.plan.now w }
-    requires can { CanPut site.plan.now site.figures.now w.id net.old site.tick
-        site.leaves.now }
-    requires none { spare_at site.plan.now w.id ≡ None }
-    requires words { HaveWords site.plan.now net.old site.words.now }
-    ensures { let s = site.entry in IfOk result (λ e.
-        IsRootPut s.plan.now w.id net.old net.new s.tick s.leaves.now e) }
-{
-    laws_below();
-    let Some(tick) = site.tick else {
-        unreachable!()
-    };
-    let source = put_circuit(net, site, w.source)?;
-    let rotation = w.rotation(site);
-    let machine = CopyMachine::TimesOnce(RootTicked {
-        ticked: Ticked { rotation, tick },
-    });
-    let e = put_machine(net, site, w.id, w.body, machine, source)?;
     Ok(e)
 }

@@ -4,7 +4,7 @@ use Rattle.gl_query_check.specs.declared.checking.Checked.{Checked}
 use Rattle.gl_query_texts.specs.Lists.{HasStatements}
 use Rattle.gl_plan.specs.Together.{ArePlanned, statements_of}
 use Rattle.gl_many.specs.declared.compiling.Many.{Many}
-use Rattle.gl_many.specs.Meets.{MeetTogether, shared_gap}
+use Rattle.gl_many.specs.Meets.{MeetTogether, shared_gaps}
 use Rattle.gl_many.specs.Queries.{trees_of}
 use Rattle.gl_many.proofs.Made.{are_compiled, are_queries}
 use Rattle.gl_many.proofs.Reading.{all_over, can_stand, has_trees}
@@ -80,7 +80,7 @@ returns-clause-compiled c =
     let planned = c.in_ok-planned.planned in
     let text = c.in_ok-planned.text in
     let is = subst (λ (all : List Checked). ArePlanned schema (statements_of all) planned) c.as_slice.ensures c.in_ok-planned.ensures.planned in
-    let meets = subst (λ (all : List Checked). MeetTogether schema (statements_of all) (shared_gap schema (statements_of all)) text.items) c.as_slice.ensures
+    let meets = subst (λ (all : List Checked). MeetTogether schema (statements_of all) (shared_gaps schema (statements_of all)) text.items) c.as_slice.ensures
     c.in_ok-planned.ensures.meets in
     let laws : Laws = record {
       columns = c.accepted_have_real_columns.ensures;

@@ -13,7 +13,7 @@ execute_many-requires g c =
     let m = c.args.many.now in
     let faces = c.as_slice.ensures.value ∙ c.in-Ok.ensures ∙ ap (λ (x : Schema). faces_of x (statements_of c.statements.result.now)) c.schema-schema.ensures ∙ ap (λ (x : List Checked). faces_of m.schema (statements_of x)) c.statements.ensures in
     let latency = c.longest-latency.ensures ∙ ap greatest c.deref.ensures.value ∙ ap (λ (x : PlannedSeveral). greatest x.latencies.items) c.planned.ensures in
-    can_run_many c.accepted_have_real_columns.ensures c.inputs_are_ports.ensures m (plain_beats c.args.beats.now) c.text.result.now c.schema-schema.result.now c.as_slice.result.now c.longest-latency.result c.args.start c.requires.many c.requires.beats c.requires.gap c.text.ensures c.schema-schema.ensures faces latency
+    can_run_many c.accepted_have_real_columns.ensures c.inputs_are_ports.ensures m (plain_beats c.args.beats.now) c.text.result.now c.schema-schema.result.now c.as_slice.result.now c.longest-latency.result c.args.start c.requires.many c.requires.beats c.requires.gaps c.text.ensures c.schema-schema.ensures faces latency
 
 pub returns : goal.returns
 returns g c =

@@ -10,7 +10,9 @@ use Rattle.gl_algebra.specs.Weights.{weight_of}
 use Rattle.gl_elaborate.specs.Levels.{level_of}
 use Rattle.gl_elaborate.specs.Plans.{Several, placed, stream_node}
 use Rattle.gl_plan.specs.Worked.{counts, counts_of_one, latencies_in, prices, sums_of_one, trade_schema}
-use Rattle.gl_plan.specs.Together.{gap_together, weight_together}
+use Rattle.gl_root_gaps.specs.Roots.{tick_gaps_at}
+use Rattle.gl_root_gaps.specs.Together.{gap_together}
+use Rattle.gl_plan.specs.Together.{weight_together}
 use Rattle.gl_plan.proofs.several_laws.worked_several.Goals as goal
 
 -- the joint plan of two queries
@@ -33,7 +35,7 @@ unfolding added level_of nodewise value_to_depth figures_of shape_of
 apart = refl
 
 close : gap_together (both prices counts).nodes (both prices counts).roots ≡ 1
-unfolding added level_of nodewise value_to_depth figures_of shape_of
+unfolding added level_of nodewise value_to_depth figures_of shape_of tick_gaps_at
 close = refl
 
 heavy : weight_together (both prices counts).nodes (both prices counts).roots ≡ 236

@@ -17,6 +17,7 @@ returns c = record {
   steady_serves = c.steady_serves.ensures;
   totals_come_with_ends = c.totals_come_with_ends.ensures;
   unspaced_is_apart = c.unspaced_is_apart.ensures;
+  rows_serve_once = c.rows_serve_once.ensures;
   begins_behind = c.begins_behind.ensures;
   running_settles = c.running_serves.ensures.settles;
   running_keeps_pace = c.running_serves.ensures.pace;

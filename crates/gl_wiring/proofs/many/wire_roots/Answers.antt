@@ -1,11 +1,10 @@
 use Rattle.std.proofs.Common.{◌≤◌, ◌∙◌, codes, ℕ, sym, subst, refl, arith}
 use Rattle.gl_algebra.specs.Views.{reads_time}
 use Rattle.gl_net.specs.Finished.{IsName}
-use Rattle.gl_gaps.specs.Keeps.{even_gaps}
-use Rattle.gl_wiring.specs.Many.{AreWired, ids_of, result_names, widest_gap}
+use Rattle.gl_wiring.specs.Many.{AreWired, gaps_together, ids_of, result_names}
 use Rattle.gl_wiring.specs.PortNames.{module_names, results_ports}
 use Rattle.gl_wiring.proofs.Finishing.{apart_in, finished_in}
-use Rattle.gl_wiring.proofs.ManyLemmas.{all_close, all_named, all_right, many_are}
+use Rattle.gl_wiring.proofs.ManyLemmas.{all_close, all_named, all_right, far_together, many_are}
 use Rattle.gl_wiring.proofs.ManyNames.{many_named, many_names-distinct}
 use Rattle.gl_wiring.proofs.many.wire_roots.Goals as goal
 
@@ -41,14 +40,15 @@ returns c =
     let names = module_names ticks s (results_ports (result_names roots)) in
     let named = all_named s nodes roots can.each in
     let unlike = apart_in names net (many_names-distinct ticks s (result_names roots) can.schema' named can.distinct) (many_are ticks net s nodes roots can.each is.ports) in
-    let gap = widest_gap nodes (ids_of roots) in
-    let self : gap ≤ gap = omega arith in
+    let gaps = gaps_together nodes (ids_of roots) in
+    let self : gaps.of_beats ≤ gaps.of_beats = omega arith in
     let wired : AreWired s nodes roots net = record {
       name = e.extends.module_name ∙ c.in_ok-module.ensures.module_name;
       ports = is.ports;
       size = is.size;
       registers = is.registers;
       memories = is.memories;
-      each = all_right c.laws_below.ensures s nodes (even_gaps gap) net unlike roots is.each (all_close nodes roots gap self);
+      each = all_right c.laws_below.ensures s nodes gaps net unlike roots is.each
+          (all_close nodes roots gaps.of_beats gaps.of_ticks self (far_together nodes (ids_of roots)));
     } in
     subst (AreWired s nodes roots) (sym c.finish.ensures) wired

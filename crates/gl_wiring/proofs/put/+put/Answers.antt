@@ -6,12 +6,14 @@ use Rattle.gl_wire.specs.Wire.{widths}
 use Rattle.gl_wire_registers.proofs.FrontLemmas.{fronts_kept}
 use Rattle.gl_wiring.specs.Copies.{AreBodies}
 use Rattle.gl_wiring.specs.Machines.{machine_of}
+use Rattle.gl_wiring.proofs.AboveLemmas.{none_if}
 use Rattle.gl_wiring.proofs.CanLemmas.{second_before, second_within}
 use Rattle.gl_wiring.proofs.CopyLemmas.{bodies_copies, bodies_more, bodies_none, can_copies, can_copy}
 use Rattle.gl_wiring.proofs.GroupLemmas as groups
 use Rattle.gl_wiring.proofs.MarkedLemmas.{marked_kept, one_marked}
 use Rattle.gl_wiring.proofs.PartitionLemmas as partitions
 use Rattle.gl_wiring.proofs.TableLemmas.{children_there, is_there, one_is_put, root_is_there, slot_next, taken_gives}
+use Rattle.gl_wiring.proofs.TickedLemmas.{ticked_once}
 use Rattle.gl_wiring.proofs.TimeWindowLemmas as times
 use Rattle.gl_wiring.proofs.WindowLemmas as windows
 use Rattle.gl_wiring.proofs.WordLemmas.{have_words}
@@ -148,9 +150,15 @@ put_time_window-put_over_copies-requires t c =
       ),
     )
 
-pub put_time_window-returns : goal.put_time_window-returns
-put_time_window-returns t c =
+pub put_time_window-returns-clause-put : goal.put_time_window-returns-clause-put
+put_time_window-returns-clause-put t c =
     rw c.in-Some.is (times.time_put c.laws_below.ensures c.args.site.plan.now c.args.window c.args.site.planned c.requires.node c.args.net.now c.put_over_copies.new.net c.in-Some.tick
+    c.args.site.leaves.now c.in_ok-source.source c.in_ok-e.e c.requires.can.leaved
+    (rw c.in-Some.is at (taken_gives (c.requires.children _ c.requires.node).0 c.in_ok-source.ensures)) (rw c.rotation-rotation.ensures.value at c.in_ok-e.ensures))
+
+pub put_time_window-returns-clause-once : goal.put_time_window-returns-clause-once
+put_time_window-returns-clause-once t c =
+    rw c.in-Some.is (ticked_once c.laws_below.ensures c.args.site.plan.now c.args.window c.args.site.planned c.requires.node c.args.net.now c.put_over_copies.new.net c.in-Some.tick
     c.args.site.leaves.now c.in_ok-source.source c.in_ok-e.e c.requires.can.leaved
     (rw c.in-Some.is at (taken_gives (c.requires.children _ c.requires.node).0 c.in_ok-source.ensures)) (rw c.rotation-rotation.ensures.value at c.in_ok-e.ensures))
 
@@ -294,17 +302,9 @@ put_over_copies-returns t c = record {
 }
 
 pub put_over-at-window-requires : goal.put_over-at-window-requires
-put_over-at-window-requires t c = (
-  record {
-    id = c.args.id;
-    source = c.in-Window.source;
-    body = c.in-Window.body;
-    size = c.in-Window.size;
-    advance = c.in-Window.advance;
-  },
-  refl,
-  c.node.ensures.node ∙ ap Some c.in-Window.is,
-)
+put_over-at-window-requires t c =
+    let w = c.in-Window in
+    (record { id = c.args.id; source = w.source; body = w.body; size = w.size; advance = w.advance }, refl, c.node.ensures.node ∙ ap Some w.is)
 
 pub put_over-put_window-requires : goal.put_over-put_window-requires
 put_over-put_window-requires t c =
@@ -312,17 +312,9 @@ put_over-put_window-requires t c =
     (omega (arith, at.id), (at.node, (rw at.id c.requires.can, (rw at.id c.requires.children, c.requires.words))))
 
 pub put_over-at-window-requires-in-TimeWindow : goal.put_over-at-window-requires-in-TimeWindow
-put_over-at-window-requires-in-TimeWindow t c = (
-  record {
-    id = c.args.id;
-    source = c.in-TimeWindow.source;
-    body = c.in-TimeWindow.body;
-    size = c.in-TimeWindow.size;
-    advance = c.in-TimeWindow.advance;
-  },
-  refl,
-  c.node.ensures.node ∙ ap Some c.in-TimeWindow.is,
-)
+put_over-at-window-requires-in-TimeWindow t c =
+    let w = c.in-TimeWindow in
+    (record { id = c.args.id; source = w.source; body = w.body; size = w.size; advance = w.advance }, refl, c.node.ensures.node ∙ ap Some w.is)
 
 pub put_over-put_time_window-requires : goal.put_over-put_time_window-requires
 put_over-put_time_window-requires t c =
@@ -390,3 +382,18 @@ put_copies-loop-wire-preserved t c =
     rw (c.in_ok-push.ensures.ok, c.note-in-loop-wire.ensures) (bodies_more c.args.site.plan.now c.args.body c.args.net.now c.loop-wire.net c.put_root_of.new.net c.args.wires.now
     c.loop-wire.wire-index c.loop-wire.copies c.wire-item.result c.in_ok-copy.copy c.loop-wire.invariant at
     (rw (c.note.ensures, c.from_ref.ensures.value) at c.in_ok-copy.ensures))
+
+pub put_over-returns-in-Window-clause-once : goal.put_over-returns-in-Window-clause-once
+put_over-returns-in-Window-clause-once t c =
+    none_if c.args.site.plan.now c.args.id (Window c.in-Window.source c.in-Window.body c.in-Window.size c.in-Window.advance)
+    c.put_window.new.net c.args.site.tick c.args.site.leaves.now c.put_window.result c.node.ensures.plan (c.node.ensures.node ∙ ap Some c.in-Window.is) (λ f v. refl)
+
+pub put_over-returns-in-Group-clause-once : goal.put_over-returns-in-Group-clause-once
+put_over-returns-in-Group-clause-once t c =
+    none_if c.args.site.plan.now c.args.id (Group c.in-Group.source c.in-Group.body c.in-Group.key c.in-Group.groups)
+    c.put_group.new.net c.args.site.tick c.args.site.leaves.now c.put_group.result c.node.ensures.plan (c.node.ensures.node ∙ ap Some c.in-Group.is) (λ f v. refl)
+
+pub put_over-returns-in-Partition-clause-once : goal.put_over-returns-in-Partition-clause-once
+put_over-returns-in-Partition-clause-once t c =
+    none_if c.args.site.plan.now c.args.id (Partition c.in-Partition.source c.in-Partition.body c.in-Partition.key c.in-Partition.groups c.in-Partition.size c.in-Partition.advance)
+    c.put_partition.new.net c.args.site.tick c.args.site.leaves.now c.put_partition.result c.node.ensures.plan (c.node.ensures.node ∙ ap Some c.in-Partition.is) (λ f v. refl)

@@ -17,7 +17,7 @@ put_circuit-requires c =
 
 pub put_machine-requires : goal.put_machine-requires
 put_machine-requires c =
-    let x = c.in_ok-source.ensures.gives in
+    let x = c.in_ok-source.ensures.put.gives in
     record {
       numbers = c.rotation-rotation.ensures.is;
       wire = x.wire;
@@ -26,10 +26,10 @@ put_machine-requires c =
       tick = tt;
       stands = spare_stands c.laws_below.ensures c.args.site.plan.now c.args.w c.args.site.planned c.requires.node c.args.site.figures.now c.args.net.now c.args.site.tick c.args.site.leaves.now
           (widths c.in_ok-source.source.wire.columns) c.requires.can x.same_widths;
-      words = have_words c.args.site.plan.now c.args.net.now c.put_circuit.new.net c.args.site.words.now c.in_ok-source.ensures.keeps c.requires.words;
+      words = have_words c.args.site.plan.now c.args.net.now c.put_circuit.new.net c.args.site.words.now c.in_ok-source.ensures.put.keeps c.requires.words;
     }
 
 pub returns : goal.returns
 returns c =
     spare_put c.laws_below.ensures c.args.site.plan.now c.args.w c.args.site.planned c.requires.node c.args.net.now c.put_circuit.new.net c.put_machine.new.net c.args.site.tick
-    c.args.site.leaves.now c.in_ok-source.source c.in_ok-e.e c.in_ok-source.ensures (rw c.rotation-rotation.ensures.value at c.in_ok-e.ensures)
+    c.args.site.leaves.now c.in_ok-source.source c.in_ok-e.e c.in_ok-source.ensures.put (rw c.rotation-rotation.ensures.value at c.in_ok-e.ensures)
