@@ -1,7 +1,9 @@
 -- Items over the rows of each slot, side by side.
-use Rattle.std.proofs.Common.{◌≡◌, ℕ, zero, suc, ◌+◌, ◌-◌, ◌≤◌, List, [], ◌∷◌, ◌++◌, map, Option, Some, Bool, true, false, refl, sym, ap, ◌∙◌, subst, arith}
-use Rattle.std.specs.Prelude.{if◌then◌else◌, nat_eq, sum_by}
-use Rattle.std.proofs.lemmas.List.{map-append}
+use Rattle.std.proofs.Common.{◌≡◌, ℕ, zero, suc, ◌+◌, ◌-◌, ◌≤◌, List, [], ◌∷◌, ◌++◌, length, map, Option, Some, Bool, true, false, refl, sym, ap, ◌∙◌, subst, arith}
+use Rattle.std.specs.Prelude.{if◌then◌else◌, nat_eq, slice_get, sum_by}
+use Rattle.std.proofs.lemmas.List.{length-map, map-append}
+use Rattle.std.proofs.lemmas.Option.{same_Some}
+use Rattle.gl_bits.proofs.AllLists.{get_mapped}
 use Rattle.std.proofs.lemmas.List.Sums.{sum_by-append, sum_by-cons}
 use Rattle.gl_algebra.specs.Columns.{kind_of_frame}
 use Rattle.gl_algebra.specs.Frames.{delay_of_frame}
@@ -14,7 +16,8 @@ use Rattle.gl_net.specs.Net.{Keeps, Net, Run}
 use Rattle.gl_net.proofs.Determined.{keeps_then}
 use Rattle.gl_net.proofs.Growth.{same_keeps}
 use Rattle.gl_wire.specs.Costs.{Cost}
-use Rattle.gl_wire.specs.Wire.{line_at}
+use Rattle.gl_wire.specs.Wire.{line_at, row_at}
+use Rattle.gl_values.specs.Results.{Row}
 use Rattle.gl_wire.proofs.ColumnLemmas.{AreBuses-none, AreBuses-push, bit_kept, bus_kept, buses_kept, row_at-none, row_at-push, widths-push}
 use Rattle.gl_wire.proofs.StageLemmas.{line_first}
 use Rattle.gl_wire_lanes.specs.Lanes.{Lane, row_in}
@@ -164,6 +167,43 @@ items_none net input count cycles = record {
   buses = AreBuses-none net;
   same_widths = refl;
   row = λ run r ends told counts c v. row_at-none run (suc c + cycles);
+}
+
+-- the column of an item that is there tells it once more, and nothing is put
+pub item_again : (old net : Net) (input : SlotInput) (count : Bus) (cycles : ℕ) (items : List PlanFrame) (item : PlanFrame) (bs : List Bus) (place : ℕ) (b : Bus) → AreSlotItemsIn old net input count cycles items bs
+    → slice_get items place ≡ Some item → slice_get bs place ≡ Some b
+    → IsSlotItemIn net net (cost_of_slot_item_late input.rows.slot.width input.source.kinds.now cycles item) cycles (width_of (kind_of_frame input.source.kinds.now item))
+    (λ sets xs. value_of_frame sets input.source.kinds.now xs item) input count b
+unfolding row_at
+item_again old net input count cycles items item bs place b all at there =
+    let kinds = input.source.kinds.now in
+    let width_there : slice_get (frames_widths kinds items) place ≡ Some (width_of (kind_of_frame kinds item)) =
+    get_mapped width_of (map (kind_of_frame kinds) items) place (kind_of_frame kinds item) (get_mapped (kind_of_frame kinds) items place item at) in
+    record {
+      keeps = same_keeps net;
+      cost = record { nodes = omega arith; registers = omega arith; memories = omega arith };
+      bus = all.buses.each place b there;
+      same_width = same_Some _ _ (sym (get_mapped (λ (x : Bus). x.width) bs place b there) ∙ ap (λ (l : List ℕ). slice_get l place) all.same_widths ∙ width_there);
+      tells = λ run r ends told counts c v.
+          let xs = slot_here run input.rows ends (rows_in run input) (suc c) in
+          same_Some _ _ (sym (get_mapped (λ (x : Bus). run.at (suc c + cycles) x.node) bs place b there)
+          ∙ ap (λ (l : Row). slice_get l place) (all.row run r ends told counts c v)
+          ∙ get_mapped (value_of_frame run.held kinds xs) items place item at);
+    }
+
+pub items_many : (old net : Net) (input : SlotInput) (count : Bus) (cycles : ℕ) (items : List PlanFrame) (bs : List Bus) → AreSlotItemsIn old net input count cycles items bs → length bs ≡ length items
+items_many old net input count cycles items bs all =
+    let kinds = input.source.kinds.now in
+    sym (length-map bs (λ (x : Bus). x.width)) ∙ ap length all.same_widths ∙ length-map (map (kind_of_frame kinds) items) width_of ∙ length-map items (kind_of_frame kinds)
+
+-- in the netlist that there is
+pub items_stand : (old net : Net) (input : SlotInput) (count : Bus) (cycles : ℕ) (items : List PlanFrame) (bs : List Bus) → AreSlotItemsIn old net input count cycles items bs → AreSlotItemsIn net net input count cycles items bs
+items_stand old net input count cycles items bs all = record {
+  keeps = same_keeps net;
+  cost = record { nodes = omega arith; registers = omega arith; memories = omega arith };
+  buses = all.buses;
+  same_widths = all.same_widths;
+  row = all.row;
 }
 
 pub items_more : (old mid new : Net) (input : SlotInput) (count : Bus) (cycles : ℕ) (items : List PlanFrame) (item : PlanFrame) (bs : List Bus) (b : Bus) → AreSlotItemsIn old mid input count cycles items bs

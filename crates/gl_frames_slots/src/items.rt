@@ -1,7 +1,7 @@
 //! Items over the rows of each slot: the row's own value, lags, sums, counts, averages, extremes
 //! and last values.
 
-ghost use Rattle.std.specs.Prelude.{◌+◌, ◌-◌, ◌≤◌, ◌^◌, All, IfOk, Some};
+ghost use Rattle.std.specs.Prelude.{◌+◌, ◌-◌, ◌≤◌, ◌^◌, All, IfOk, Some, length, take};
 ghost use Rattle.gl_algebra.specs.Columns.{BackFits, ConditionFits, FrameAggFits, FrameFits, OperandFits, kind_of_frame, kind_of_frame_agg, kind_of_operand};
 ghost use Rattle.gl_algebra.specs.Known.{FrameAggKnown, FrameKnown, OperandKnown};
 ghost use Rattle.gl_algebra.specs.Frames.{delay_of_frame, delay_of_frames, delay_over};
@@ -28,6 +28,7 @@ use gl_algebra::frames::delay_of_frame;
 use gl_algebra::{Operand, PlanFrame, PlanFrameAgg};
 use gl_bits::Memory;
 use gl_frames_stages::delay::put_late;
+use gl_frames_stages::frames::first_place;
 use gl_frames_stages::slide::put_or_none;
 use gl_frames_wire::Reach;
 use gl_net::{Bus, Buses, NetBuilder, Note};
@@ -286,7 +287,50 @@ fn put_slot_part(
     Ok(bus)
 }
 
-/// Some items over the rows of each slot, by one count of its rows, `cycles` cycles behind each row.
+// Items, of which the first have a column each.
+#[derive(Clone, Copy)]
+struct Made<'a> {
+    items: &'a [PlanFrame],
+    buses: &'a [Bus],
+}
+
+// An item behind others that are made: the column of an equal one, or its own.
+fn put_slot_once(
+    net: &mut NetBuilder,
+    input: SlotInput,
+    count: Bus,
+    item: PlanFrame,
+    cycles: u32,
+    made: Made<'_>,
+) -> Result<Bus, Memory>
+    requires input { HasSlotInput net.old input }
+    requires count { IsBus net.old count }
+    requires item { FrameFits input.source.kinds.now item }
+    requires known { FrameKnown (widths input.source.words.now) item }
+    requires slot_item { IsSlotItem (count.width - 1) item }
+    requires few { count.width ≤ 18 }
+    requires some { 1 ≤ count.width }
+    requires address { input.rows.slot.width + count.width ≤ 33 }
+    requires kinds { All IsKind input.source.kinds.now }
+    requires late { delay_of_frame input.source.kinds.now item ≤ cycles }
+    requires most { cycles ≤ 2 ^ 16 }
+    requires within { length made.buses.now ≤ length made.items.now }
+    requires made { AreSlotItemsIn net.old net.old input count cycles
+        (take (length made.buses.now) made.items.now) made.buses.now }
+    ensures { IfOk result (
+        let kinds = input.entry.source.kinds.now in
+        IsSlotItemIn net.old net.new (cost_of_slot_item_late input.entry.rows.slot.width kinds cycles item)
+        cycles (width_of (kind_of_frame kinds item)) (λ sets rows. value_of_frame sets kinds rows item) input.entry count) }
+{
+    let place = first_place(made.items, &item);
+    if place < made.buses.len() {
+        return Ok(made.buses[place]);
+    }
+    put_slot_part(net, input, count, item, cycles, made.buses.len())
+}
+
+/// Some items over the rows of each slot, by one count of its rows, `cycles` cycles behind each row. Equal items have one
+/// column.
 pub fn put_slot_items(
     alloc: Global,
     net: &mut NetBuilder,
@@ -311,7 +355,11 @@ pub fn put_slot_items(
 {
     let mut all = Buses::new(alloc);
     for item in items {
-        let bus = put_slot_part(net, input, count, *item, cycles, all.len())?;
+        let made = Made {
+            items,
+            buses: all.as_slice(),
+        };
+        let bus = put_slot_once(net, input, count, *item, cycles, made)?;
         all.push(bus)?;
     }
     Ok(all)

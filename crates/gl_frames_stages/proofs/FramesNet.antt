@@ -1,8 +1,10 @@
 -- Items side by side, as late as the slowest, and the wire behind them.
-use Rattle.std.proofs.Common.{◌≡◌, ℕ, suc, ◌+◌, ◌-◌, ◌≤◌, List, [], ◌∷◌, ◌++◌, map, Some, None, Bool, true, false, refl, sym, ap, ◌∙◌, subst, arith}
-use Rattle.std.specs.Prelude.{if◌then◌else◌, sum_by}
-use Rattle.std.proofs.lemmas.List.{map-append}
+use Rattle.std.proofs.Common.{◌≡◌, ℕ, zero, suc, ◌+◌, ◌-◌, ◌≤◌, ◌<◌, List, [], ◌∷◌, ◌++◌, length, map, take, Some, None, Bool, true, false, refl, sym, ap, ◌∙◌, subst, arith}
+use Rattle.std.specs.Prelude.{if◌then◌else◌, slice_get, sum_by}
+use Rattle.std.proofs.lemmas.List.{length-map, map-append}
 use Rattle.std.proofs.lemmas.List.Sums.{sum_by-append, sum_by-cons}
+use Rattle.std.proofs.lemmas.Option.{same_Some}
+use Rattle.gl_bits.proofs.AllLists.{get_mapped}
 use Rattle.gl_algebra.specs.Columns.{kind_of_frame}
 use Rattle.gl_algebra.specs.Frames.{delay_of_frame, delay_of_frames}
 use Rattle.gl_algebra.specs.Results.{row_of_frames, value_of_frame}
@@ -94,6 +96,52 @@ items_more old mid new cycles input items item bs b all one =
           row_at-push run (suc c + cycles) bs b ∙ ap (λ l. l ++ run.at (suc c + cycles) b.node ∷ []) (all.row run (one.keeps.runs run r) c v)
           ∙ ap (λ n. row_of_frames run.held kinds items rows ++ n ∷ []) (one.tells run r c v) ∙ sym (map-append (value_of_frame run.held kinds rows) items (item ∷ []));
     }
+
+-- ---- an item that is there already
+
+-- its column tells it once more, and nothing is put
+pub item_again : (old net : Net) (cycles : ℕ) (input : Input) (items : List PlanFrame) (item : PlanFrame) (bs : List Bus) (place : ℕ) (b : Bus) → AreItemsIn old net cycles input items bs
+    → slice_get items place ≡ Some item → slice_get bs place ≡ Some b
+    → IsItemIn net net (cost_of_item_late input.source.kinds.now cycles item) cycles (width_of (kind_of_frame input.source.kinds.now item)) (λ sets rows. value_of_frame sets input.source.kinds.now rows item) input b
+unfolding row_at
+item_again old net cycles input items item bs place b all at there =
+    let kinds = input.source.kinds.now in
+    let width_there : slice_get (frames_widths kinds items) place ≡ Some (width_of (kind_of_frame kinds item)) =
+    get_mapped width_of (map (kind_of_frame kinds) items) place (kind_of_frame kinds item) (get_mapped (kind_of_frame kinds) items place item at) in
+    record {
+      keeps = same_keeps net;
+      cost = record { nodes = omega arith; registers = omega arith; memories = omega arith };
+      bus = all.buses.each place b there;
+      same_width = same_Some _ _ (sym (get_mapped (λ (x : Bus). x.width) bs place b there) ∙ ap (λ (l : List ℕ). slice_get l place) all.same_widths ∙ width_there);
+      tells = λ run r c v.
+          let rows = column_of run input.lines (rows_by run input) (suc c) in
+          same_Some _ _ (sym (get_mapped (λ (x : Bus). run.at (suc c + cycles) x.node) bs place b there)
+          ∙ ap (λ (l : Row). slice_get l place) (all.row run r c v)
+          ∙ get_mapped (value_of_frame run.held kinds rows) items place item at);
+    }
+
+-- as many columns as items
+pub items_many : (old net : Net) (cycles : ℕ) (input : Input) (items : List PlanFrame) (bs : List Bus) → AreItemsIn old net cycles input items bs → length bs ≡ length items
+items_many old net cycles input items bs all =
+    let kinds = input.source.kinds.now in
+    sym (length-map bs (λ (x : Bus). x.width)) ∙ ap length all.same_widths ∙ length-map (map (kind_of_frame kinds) items) width_of ∙ length-map items (kind_of_frame kinds)
+
+-- what stands in front of a place stands there among all
+pub taken_at : (items : List PlanFrame) (n place : ℕ) → place < n → slice_get (take n items) place ≡ slice_get items place
+taken_at items zero place h = absurd (omega (arith, h))
+taken_at [] (suc n) place h = refl
+taken_at (x ∷ items) (suc n) zero h = refl
+taken_at (x ∷ items) (suc n) (suc place) h = taken_at items n place (omega (arith, h))
+
+-- in the netlist that there is
+pub items_stand : (old net : Net) (cycles : ℕ) (input : Input) (items : List PlanFrame) (bs : List Bus) → AreItemsIn old net cycles input items bs → AreItemsIn net net cycles input items bs
+items_stand old net cycles input items bs all = record {
+  keeps = same_keeps net;
+  cost = record { nodes = omega arith; registers = omega arith; memories = omega arith };
+  buses = all.buses;
+  same_widths = all.same_widths;
+  row = all.row;
+}
 
 -- ---- the wire
 

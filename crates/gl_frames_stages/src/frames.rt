@@ -1,6 +1,6 @@
 //! A select of frames: all items of each row, so many cycles behind it.
 
-ghost use Rattle.std.specs.Prelude.{◌≡◌, ◌≤◌, ◌^◌, All, IfOk, Some, map};
+ghost use Rattle.std.specs.Prelude.{◌≡◌, ◌≤◌, ◌^◌, ◌⊎◌, All, IfOk, Some, length, map, slice_get, take};
 ghost use Rattle.gl_algebra.specs.Columns.{FrameFits, kind_of_frame};
 ghost use Rattle.gl_algebra.specs.Known.{FrameKnown};
 ghost use Rattle.gl_algebra.specs.FigureTable.{delayed, settled};
@@ -92,7 +92,48 @@ fn put_part(
     Ok(bus)
 }
 
-/// Some items `cycles` cycles behind each row, which are no fewer than the slowest takes.
+/// The first place of an item among others, or how many they are.
+pub fn first_place(items: &[PlanFrame], item: &PlanFrame) -> usize
+    ensures { (slice_get items.now result ≡ Some item.now) ⊎ (result ≡ length items.now) }
+{
+    for at in 0..items.len() {
+        if items[at] == *item {
+            return at;
+        }
+    }
+    items.len()
+}
+
+// An item behind others that are made: the column of an equal one, or its own.
+fn put_once(
+    net: &mut NetBuilder,
+    input: Input,
+    items: &[PlanFrame],
+    item: PlanFrame,
+    cycles: u32,
+    made: &[Bus],
+) -> Result<Bus, Memory>
+    requires input { HasInput net.old input }
+    requires kinds { All IsKind input.source.kinds.now }
+    requires item { FrameFits input.source.kinds.now item }
+    requires known { FrameKnown (widths input.source.words.now) item }
+    requires late { delay_of_frame input.source.kinds.now item ≤ cycles }
+    requires most { cycles ≤ 2 ^ 16 }
+    requires within { length made.now ≤ length items.now }
+    requires made { AreItemsIn net.old net.old cycles input (take (length made.now) items.now) made.now }
+    ensures { IfOk result (
+        let kinds = input.entry.source.kinds.now in
+        IsItemIn net.old net.new (cost_of_item_late kinds cycles item) cycles
+        (width_of (kind_of_frame kinds item)) (λ sets rows. value_of_frame sets kinds rows item) input.entry) }
+{
+    let place = first_place(items, &item);
+    if place < made.len() {
+        return Ok(made[place]);
+    }
+    put_part(net, input, item, cycles, made.len())
+}
+
+/// Some items `cycles` cycles behind each row, which are no fewer than the slowest takes. Equal items have one column.
 pub fn put_items(
     alloc: Global,
     net: &mut NetBuilder,
@@ -110,7 +151,7 @@ pub fn put_items(
 {
     let mut all = Buses::new(alloc);
     for item in items {
-        let bus = put_part(net, input, *item, cycles, all.len())?;
+        let bus = put_once(net, input, items, *item, cycles, all.as_slice())?;
         all.push(bus)?;
     }
     Ok(all)
